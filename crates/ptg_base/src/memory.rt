@@ -1,0 +1,17 @@
+use std::alloc::{AllocError, AllocFailed};
+
+/// There was no memory: the one answer that every call which takes memory may give.
+#[derive(Clone, Copy, Debug, PartialEq, Eq)]
+pub struct OutOfMemory;
+
+impl From<AllocError> for OutOfMemory {
+    fn from(_e: AllocError) -> OutOfMemory {
+        OutOfMemory
+    }
+}
+
+impl<T: Drop> From<AllocFailed<T>> for OutOfMemory {
+    fn from(_e: AllocFailed<T>) -> OutOfMemory {
+        OutOfMemory
+    }
+}
