@@ -1,4 +1,4 @@
-ghost use Rattle.std.specs.Prelude.{◌≡◌, [], ◌∷◌, ◌++◌, length, OnOk, OnErr};
+ghost use Rattle.std.specs.Prelude.{◌≡◌, ◌<◌, [], ◌∷◌, ◌++◌, length, OnOk, OnErr, IsTrue, ◌↔◌, slice_get, slice_index_or};
 
 use crate::memory::OutOfMemory;
 use std::alloc::Global;
@@ -32,6 +32,27 @@ impl<T> Row<T> {
         ensures { result.now ≡ self.now }
     {
         self.items.as_slice()
+    }
+
+    pub fn len(&self) -> usize
+        ensures { result ≡ length self.now }
+    {
+        self.items.len()
+    }
+
+    pub fn is_empty(&self) -> bool
+        ensures { IsTrue result ↔ (self.now ≡ []) }
+    {
+        self.items.is_empty()
+    }
+
+    /// The value at a place, counted from 0.
+    pub fn get(&self, at: usize) -> &T
+        requires { at < length self.now }
+        ensures value { Some result.now ≡ slice_get self.now at }
+        ensures item { (x : T) → result.now ≡ slice_index_or self.now at x }
+    {
+        &self.items[at]
     }
 }
 
