@@ -1,4 +1,4 @@
-ghost use Rattle.std.specs.Prelude.{◌≡◌, ◌<◌, [], ◌∷◌, ◌++◌, length, OnOk, OnErr, IsTrue, ◌↔◌, slice_get, slice_index_or};
+ghost use Rattle.std.specs.Prelude.{◌≡◌, ◌<◌, [], ◌∷◌, ◌++◌, length, OnOk, OnErr, IsTrue, ◌↔◌, slice_get, slice_index_or, slice_set};
 
 use crate::memory::OutOfMemory;
 use std::alloc::Global;
@@ -26,6 +26,13 @@ impl<T> Row<T> {
         Row {
             items: Vec::new(alloc),
         }
+    }
+
+    /// The row of these values.
+    pub fn of(items: Vec<T>) -> Row<T>
+        ensures { result ≡ items.items }
+    {
+        Row { items }
     }
 
     pub fn as_slice(&self) -> &[T]
@@ -63,6 +70,25 @@ impl<T: Drop> Row<T> {
         ensures err { OnErr result (self.new ≡ self.old) }
     {
         self.items.push(value)?;
+        Ok(())
+    }
+
+    /// Puts a value in the place of the one there.
+    pub fn set(&mut self, at: usize, value: T)
+        requires { at < length self.old }
+        ensures { self.new ≡ slice_set self.old at value }
+    {
+        self.items[at] = value;
+    }
+}
+
+impl<T: Copy> Row<T> {
+    /// Adds these values at the end, in order. An `Err` changes nothing.
+    pub fn append(&mut self, values: &[T]) -> Result<(), OutOfMemory>
+        ensures ok { OnOk result (self.new ≡ self.old ++ values.now) }
+        ensures err { OnErr result (self.new ≡ self.old) }
+    {
+        self.items.extend_from_slice(values)?;
         Ok(())
     }
 }
