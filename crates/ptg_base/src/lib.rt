@@ -2,9 +2,15 @@
 #![tactic(auto)]
 
 mod memory;
+mod place;
 mod row;
+mod task;
 mod text;
+mod tile;
 
 pub use memory::OutOfMemory;
+pub use place::Place;
 pub use row::Row;
+pub use task::TaskId;
 pub use text::Text;
+pub use tile::Tile;
