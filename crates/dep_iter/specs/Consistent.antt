@@ -1,6 +1,6 @@
 -- Consistent jobs. Source: PaRSEC (2013): each out edge has its in edge and each in edge its out edge; the rest is this project's own choice.
-use Rattle.std.specs.Prelude.{◌≡◌, ◌≢◌, ℕ, ◌≤◌, ◌<◌, ℤ, pos, ◌≤ℤ◌, ◌<ℤ◌, List, [], length, map, flat_map, Result, Ok, Err, Option, Some, None, slice_get, IfSome, IsSomeAnd, Contains, ◌↔◌, All}
-use Rattle.std.specs.List.{IsDistinct}
+use Rattle.std.specs.Prelude.{◌≡◌, ◌≢◌, ℕ, ◌≤◌, ◌<◌, ℤ, pos, ◌≤ℤ◌, ◌<ℤ◌, List, [], length, map, flat_map, Result, Ok, Err, Option, Some, None, slice_get, IfSome, IsSomeAnd, ◌↔◌}
+use Rattle.ptg_base.specs.Lists.{IsIn, HasNoRepeats}
 use Rattle.ptg_base.specs.Task.{Task}
 use Rattle.ptg_base.specs.declared.place.Place.{Place}
 use Rattle.ptg_base.specs.declared.edge.Edge.{Edge}
@@ -40,7 +40,7 @@ IsGoodItem P (item.Write w) = HasPlace P w.place
 pub record IsWell (P : Plan) (t : Task) : Type 0 where
   pub affinity : (p : Place) × (affinity_of P t ≡ Ok p) × HasPlace P p
   pub source : (s : Source) × (source_of P t ≡ Ok s) × IsGoodSource P s
-  pub items : (is : List Item) × (items_of P t ≡ Ok is) × ((i : Item) → Contains is i → IsGoodItem P i)
+  pub items : (is : List Item) × (items_of P t ≡ Ok is) × ((i : Item) → IsIn i is → IsGoodItem P i)
 
 -- the edges into all tasks, those out of all tasks, all items, and the places that are written
 abbrev pub all_in : Plan → List Edge
@@ -62,8 +62,8 @@ pub record IsConsistent (P : Plan) : Type 0 where
   pub few_edges : length (all_in P) ≤ 4000000
   pub few_items : length (all_items P) ≤ 4000000
   -- no place is written twice
-  pub written_once : IsDistinct (all_written P)
+  pub written_once : HasNoRepeats (all_written P)
   -- no edge stands twice, and each one stands at both of its ends
-  pub no_twice_in : IsDistinct (all_in P)
-  pub no_twice_out : IsDistinct (all_out P)
-  pub at_both_ends : (e : Edge) → Contains (all_in P) e ↔ Contains (all_out P) e
+  pub no_twice_in : HasNoRepeats (all_in P)
+  pub no_twice_out : HasNoRepeats (all_out P)
+  pub at_both_ends : (e : Edge) → IsIn e (all_in P) ↔ IsIn e (all_out P)

@@ -1,10 +1,11 @@
 -- In edges: where the tile of a task comes from. Source: DAGuE (Parallel Computing, 2012): of a flow's in dependences the first that holds is active.
-use Rattle.std.specs.Prelude.{◌≡◌, ℕ, ℤ, pos, ◌==ℤ◌, List, [], ◌∷◌, length, Result, Ok, Err, Option, Some, None, if◌then◌else◌}
+use Rattle.std.specs.Prelude.{◌≡◌, ℕ, ℤ, pos, List, [], ◌∷◌, length, Result, Ok, Err, Option, Some, None, if◌then◌else◌}
 use Rattle.ptg_base.specs.Task.{Task}
 use Rattle.ptg_base.specs.declared.place.Place.{Place}
 use Rattle.ptg_base.specs.declared.edge.Edge.{Edge}
 use Rattle.term_core.specs.declared.fault.ExprFault.{ExprFault}
 use Rattle.term_core.specs.Term.{Term}
+use Rattle.term_core.specs.Arith.{holds}
 use Rattle.term_core.specs.Value.{value}
 use Rattle.plan_core.specs.declared.class.Target.{Target}
 use Rattle.plan_core.specs.declared.class.Target.TheVariants as target
@@ -18,7 +19,7 @@ use Rattle.dep_iter.specs.Space.{task_of}
 -- the target of a dependence under these locals: yes where there is no guard or it is not 0, else no, if there is one
 abbrev pub chosen_by : DepPlan → Option Term → List ℤ → Result (Option Target) ExprFault
 chosen_by d None env = Ok (Some d.yes)
-chosen_by d (Some c) env = value c env >>= λ v. Ok (if v ==ℤ pos 0 then d.no else Some d.yes)
+chosen_by d (Some c) env = value c env >>= λ v. Ok (if holds v then Some d.yes else d.no)
 
 abbrev pub chosen : DepPlan → List ℤ → Result (Option Target) ExprFault
 chosen d env = chosen_by d d.guard env
@@ -35,14 +36,15 @@ abbrev pub source_at : Task → Target → Result Source ExprFault
 source_at t (target.Task e) = value e t.params >>= λ v. Ok (source.Task (edge (task_of v) t))
 source_at t (target.Element c e) = value e t.params >>= λ i. Ok (source.Place (place c i))
 
+-- what a chosen target is, or else what the later dependences give
+abbrev pub taken_or : Task → Result Source ExprFault → Option Target → Result Source ExprFault
+taken_or t later None = later
+taken_or t later (Some x) = source_at t x
+
 -- the source by the first of these dependences that holds; later guards are not evaluated
 abbrev pub first_source : List DepPlan → Task → Result Source ExprFault
 first_source [] t = Ok source.Nothing
-first_source (d ∷ ds) t = chosen d t.params >>= λ c. taken c
-  where
-    taken : Option Target → Result Source ExprFault
-    taken None = first_source ds t
-    taken (Some x) = source_at t x
+first_source (d ∷ ds) t = chosen d t.params >>= λ c. taken_or t (first_source ds t) c
 
 -- where the tile of a task comes from
 unfoldable pub source_of : Plan → Task → Result Source ExprFault

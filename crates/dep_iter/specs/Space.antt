@@ -1,10 +1,11 @@
 -- Ranges, and the tasks of a job. Source: DAGuE (Parallel Computing, 2012), where a task is named by its class and its parameters.
-use Rattle.std.specs.Prelude.{◌≡◌, ℕ, zero, suc, ℤ, pos, negsuc, ◌+ℤ◌, ◌-ℤ◌, List, [], ◌∷◌, map, Result, Ok, Err, IsOk, Contains}
+use Rattle.std.specs.Prelude.{◌≡◌, ℕ, zero, suc, ℤ, pos, negsuc, ◌+ℤ◌, ◌-ℤ◌, List, [], ◌∷◌, map, Result, Ok, Err, IsOk}
 use Rattle.ptg_base.specs.Task.{Task}
 use Rattle.term_core.specs.declared.fault.ExprFault.{ExprFault}
 use Rattle.term_core.specs.Value.{value}
-use Rattle.term_core.specs.declared.statement.Range.{Range}
+use Rattle.term_core.specs.declared.body.Range.{Range}
 use Rattle.plan_core.specs.declared.plan.Plan.{Plan}
+use Rattle.ptg_base.specs.Lists.{IsIn}
 use Rattle.dep_iter.specs.Steps.{◌>>=◌}
 
 -- that many whole numbers, from lo on
@@ -45,4 +46,4 @@ abbrev pub IsSound : Plan → Type 0
 IsSound P = IsOk (range_values P.space [])
 
 abbrev pub IsTask : Plan → Task → Type 0
-IsTask P t = Contains (space P) t
+IsTask P t = IsIn t (space P)

@@ -3,8 +3,8 @@ use Rattle.std.specs.Prelude.{ℕ, Bool, true, ◌&&◌, nat_lt, List, length, O
 use Rattle.std.specs.List.{list_all}
 use Rattle.term_core.specs.Term.{Term}
 use Rattle.term_core.specs.Value.{is_closed}
-use Rattle.term_core.specs.Body.{is_well_made as is_body_well_made}
-use Rattle.term_core.specs.declared.statement.Range.{Range}
+use Rattle.term_core.specs.WellMade.{is_well_made as is_body_well_made}
+use Rattle.term_core.specs.declared.body.Range.{Range}
 use Rattle.plan_core.specs.declared.class.Target.{Target}
 use Rattle.plan_core.specs.declared.class.Target.TheVariants.{Task, Element}
 use Rattle.plan_core.specs.declared.class.DepPlan.{DepPlan}
