@@ -1,3 +1,4 @@
+pub mod Counting
 pub mod Same
 pub mod Spelled
 pub mod Tokens
@@ -9,4 +10,3 @@ pub mod Only
 pub mod Passes
 pub mod Sound
 pub mod Whole
-pub mod CountedLimit

@@ -3,10 +3,12 @@
 
 mod code;
 mod fault;
+mod limit;
 mod next;
 mod sort;
 
 pub use code::Code;
 pub use fault::ReadError;
+pub use limit::expression_limit;
 pub use next::{expect, is_next};
 pub use sort::Sort;
