@@ -1,14 +1,14 @@
 -- What a text begins with.
-use Rattle.std.proofs.Common.{◌≡◌, ℕ, zero, suc, Bool, true, false, List, [], ◌∷◌, refl, ◌⊎◌, inl, inr, sym, ap, ◌∙◌}
+use Rattle.std.proofs.Common.{◌≡◌, ℕ, suc, Bool, true, false, List, [], ◌∷◌, refl, ◌⊎◌, inl, inr, sym, ◌∙◌}
 use Rattle.std.specs.Prelude.{Option, Some, None, ◌&&◌, ◌||◌, not}
 use Rattle.std.proofs.lemmas.Bool.{and_parts, and_from, or_cases, or_parts, or_left, or_right, not-true, both_ways}
 use Rattle.grammar_core.specs.declared.sort.Sort.{Sort}
 use Rattle.jdf_lex.specs.declared.token.Token.{Token}
 use Rattle.grammar_core.specs.declared.code.Code.{Code}
-use Rattle.grammar_core.specs.Sorts.{sort_of, all_sorts, some_is, disjoint}
-use Rattle.grammar_core.specs.Form.{Form, one_of, valued, seq, map, alt, opt, star, pick, behind, limited, Lang, Fault, IsOne, Maybe, Many, Spells}
+use Rattle.grammar_core.specs.Sorts.{sort_of, all_sorts, some_is}
+use Rattle.grammar_core.specs.Form.{Form, one_of, valued, seq, map, alt, opt, star, pick, behind, limited, Lang, Fault, IsOne, Many, Spells}
 use Rattle.grammar_core.specs.Reading.{union, and_if, may_be_empty, first, starts}
-use Rattle.grammar_core.specs.Predictive.{Claims, more, alone, second, is_fine}
+use Rattle.grammar_core.specs.Predictive.{Claims, alone, second, is_fine}
 use Rattle.grammar_core.proofs.Sets.{some_from}
 
 pub stop_left : (a b : Sort → Bool) (s : List Token) → starts (λ k. a k || b k) s ≡ false → starts a s ≡ false
@@ -77,7 +77,7 @@ begins R (seq g k) s t o r h =
       | inr e ↦ elim (begins R k h.0 t.1 h.2 r h.4) [
         | inl u ↦ inl (and_if_right (may_be_empty g) (first g) (first k) s e.1 (rw e.0 u))
         | inr u ↦ inr (e.0 ∙ u.0, and_from (may_be_empty g) (may_be_empty k) e.1 u.1)
-        ]
+      ]
     ]
 begins R (map f g) s t o r h = begins R g s h.0 o r h.1
 begins R (alt g k) s t o r h =
@@ -126,12 +126,12 @@ seconds c R hR a x s ax (seq g k) fine s0 t o r e h =
       | inr (inl u) ↦ elim (begins R k h.0 t.1 h.2 r h.4) [
         | inl v ↦ inl (start_right S1 (λ y. S2 y || S3 y) s (start_left S2 S3 s (start_and (alone a g) (first k) s u.1 (rw u.0 v))))
         | inr v ↦ inr (inl (u.0 ∙ v.0, or_left _ _ (and_from (alone a g) (may_be_empty k) u.1 v.1)))
-        ]
+      ]
       | inr (inr u) ↦ elim (seconds c R hR a x s ax k f'.0 h.0 t.1 h.2 r (sym u.0 ∙ e) h.4) [
         | inl v ↦ inl (start_right S1 (λ y. S2 y || S3 y) s (start_right S2 S3 s (start_and (may_be_empty g) (second c a k) s u.1 v)))
         | inr (inl v) ↦ inr (inl (v.0, or_right _ _ (and_from (may_be_empty g) (alone a k) u.1 v.1)))
         | inr (inr v) ↦ inr (inr (u.0 ∙ v.0, and_from (may_be_empty g) (may_be_empty k) u.1 v.1))
-        ]
+      ]
     ]
 seconds c R hR a x s ax (map f g) fine s0 t o r e h = seconds c R hR a x s ax g fine s0 h.0 o r e h.1
 seconds c R hR a x s ax (alt g k) fine s0 t o r e h =
@@ -142,12 +142,12 @@ seconds c R hR a x s ax (alt g k) fine s0 t o r e h =
         | inl u ↦ inl (start_left (second c a g) (second c a k) s u)
         | inr (inl u) ↦ inr (inl (u.0, or_left _ _ u.1))
         | inr (inr u) ↦ inr (inr (u.0, or_left _ _ u.1))
-        ]
+      ]
       | inr w ↦ elim (seconds c R hR a x s ax k f'.0 s0 t o r e w) [
         | inl u ↦ inl (start_right (second c a g) (second c a k) s u)
         | inr (inl u) ↦ inr (inl (u.0, or_right _ _ u.1))
         | inr (inr u) ↦ inr (inr (u.0, or_right _ _ u.1))
-        ]
+      ]
     ]
 seconds c R hR a x s ax (pick q g k) fine s0 t o r e h =
     let f = and_parts (is_fine c g) _ fine in
@@ -157,12 +157,12 @@ seconds c R hR a x s ax (pick q g k) fine s0 t o r e h =
         | inl u ↦ inl (start_left (second c a g) (second c a k) s u)
         | inr (inl u) ↦ inr (inl (u.0, or_left _ _ u.1))
         | inr (inr u) ↦ inr (inr (u.0, or_left _ _ u.1))
-        ]
+      ]
       | inr w ↦ elim (seconds c R hR a x s ax k f'.0 s0 t o r e w) [
         | inl u ↦ inl (start_right (second c a g) (second c a k) s u)
         | inr (inl u) ↦ inr (inl (u.0, or_right _ _ u.1))
         | inr (inr u) ↦ inr (inr (u.0, or_right _ _ u.1))
-        ]
+      ]
     ]
 seconds c R hR a x s ax (opt g) fine s0 None o r e h = inr (inr (h.0, refl))
 seconds c R hR a x s ax (opt g) fine s0 (Some t) o r e h =
@@ -177,7 +177,7 @@ seconds c R hR a x s ax (star full g) fine s0 (t ∷ ts) o r e h =
       | inr (inl u) ↦ elim (many_begins full (Spells R g) (first g) (λ s t o r u. inl (surely_begins R g never s t o r u)) 1 ts h.0 h.2 r h.4) [
         | inl v ↦ inl (start_right (second c a g) (λ y. alone a g && first g y) s (start_and (alone a g) (first g) s u.1 (rw u.0 v)))
         | inr v ↦ inr (inl (u.0 ∙ v, u.1))
-        ]
+      ]
       | inr (inr u) ↦ absurd (both_ways (may_be_empty g) never u.1)
     ]
 seconds c R hR a x s ax (behind q n) fine s0 t o r e h =

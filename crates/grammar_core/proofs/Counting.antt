@@ -55,13 +55,26 @@ module _ (q : Sort → Bool) where
         let ns : 128 - k ≡ suc (128 - (k + 1)) = omega (arith, e) in
         let tail : drop (suc i) s ≡ drop (i + 1) s = ap (λ (j : ℕ). drop j s) (sym (add-one i)) in
         let step = counts (512 - (i + 1)) (128 - (k + 1)) (get_or s i d) (drop (suc i) s) t in
-        omega (arith, same, ap (λ (c : ℕ). limit_at q c (128 - k) (drop i s)) caps, ap (λ (n : ℕ). limit_at q (suc (512 - (i + 1))) n (drop i s)) ns,
-          ap (limit_at q (suc (512 - (i + 1))) (suc (128 - (k + 1)))) (drop-cons s i d h), step, ap (limit_at q (512 - (i + 1)) (128 - (k + 1))) tail)
+        omega (
+          arith,
+          same,
+          ap (λ (c : ℕ). limit_at q c (128 - k) (drop i s)) caps,
+          ap (λ (n : ℕ). limit_at q (suc (512 - (i + 1))) n (drop i s)) ns,
+          ap (limit_at q (suc (512 - (i + 1))) (suc (128 - (k + 1)))) (drop-cons s i d h),
+          step,
+          ap (limit_at q (512 - (i + 1)) (128 - (k + 1))) tail,
+        )
 
     pub one_passed : (d : Token) → i < length s → i < 512 → q (sort_of (get_or s i d)) ≡ false → i + 1 + limit_at q (512 - (i + 1)) (128 - k) (drop (i + 1) s) ≡ total
     one_passed d h m f =
         let caps : 512 - i ≡ suc (512 - (i + 1)) = omega (arith, m) in
         let tail : drop (suc i) s ≡ drop (i + 1) s = ap (λ (j : ℕ). drop j s) (sym (add-one i)) in
         let step = passes (512 - (i + 1)) (128 - k) (get_or s i d) (drop (suc i) s) f in
-        omega (arith, same, ap (λ (c : ℕ). limit_at q c (128 - k) (drop i s)) caps,
-          ap (limit_at q (suc (512 - (i + 1))) (128 - k)) (drop-cons s i d h), step, ap (limit_at q (512 - (i + 1)) (128 - k)) tail)
+        omega (
+          arith,
+          same,
+          ap (λ (c : ℕ). limit_at q c (128 - k) (drop i s)) caps,
+          ap (limit_at q (suc (512 - (i + 1))) (128 - k)) (drop-cons s i d h),
+          step,
+          ap (limit_at q (512 - (i + 1)) (128 - k)) tail,
+        )

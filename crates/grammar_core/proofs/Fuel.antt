@@ -1,15 +1,14 @@
 -- The bounds on how far reading goes are never met.
-use Rattle.std.proofs.Common.{◌≡◌, ℕ, zero, suc, ◌<◌, ◌≤◌, Bool, true, false, cond, List, [], ◌∷◌, length, Result, Ok, Err, ◌⊎◌, refl, inl, inr, arith, ap, sym, ◌∙◌}
-use Rattle.std.specs.Prelude.{Option, Some, None, ◌&&◌, ◌||◌}
-use Rattle.std.proofs.lemmas.Bool.{and_cases, or_parts, cases_Bool}
+use Rattle.std.proofs.Common.{◌≡◌, ℕ, zero, suc, ◌<◌, ◌≤◌, Bool, false, cond, List, [], ◌∷◌, length, Result, Ok, Err, refl, inl, inr, arith, ap}
+use Rattle.std.specs.Prelude.{Option, Some, None}
+use Rattle.std.proofs.lemmas.Bool.{and_cases, or_parts}
 use Rattle.jdf_lex.specs.declared.token.Token.{Token}
 use Rattle.grammar_core.specs.declared.code.Code.{Code}
-use Rattle.grammar_core.specs.declared.code.Code.TheVariants.{Syntax}
 use Rattle.grammar_core.specs.declared.sort.Sort.{Sort}
 use Rattle.grammar_core.specs.Sorts.{sort_of}
 use Rattle.grammar_core.specs.Form.{Form, one_of, valued, seq, map, alt, opt, star, pick, behind, limited}
 use Rattle.grammar_core.specs.Reading.{◌>>=◌, Read, Stop, refuse, check, judge, may_be_empty, first, starts, picks, token_at, many_at, run, names_at, name_at}
-use Rattle.grammar_core.proofs.Steps.{bind_ok, bind_err, chosen, ok_is, token_ok, refuse_ok, check_ok, judge_ok}
+use Rattle.grammar_core.proofs.Steps.{bind_ok, chosen, ok_is, token_ok, refuse_ok, check_ok, judge_ok}
 
 -- what is left is no longer than what there was
 abbrev pub Shrinks : {A : Type 0} → (List Token → Read A) → Type 0
@@ -89,7 +88,7 @@ unfolding many_at
 many_agrees m full q p p' same h zero i s le = refl
 many_agrees m full q p p' same h (suc n) i s le =
     let one : (p s >>= λ a. many_at full q p (suc i) n a.1 >>= λ more. Ok (a.0 ∷ more.0, more.1)) ≡ (p' s >>= λ a. many_at full q p' (suc i) n a.1 >>= λ more. Ok (a.0 ∷ more.0, more.1)) =
-        bind_same (p s) (p' s) _ _ (same s le) (λ a e. ap (λ (r : Read _). r >>= λ more. Ok (a.0 ∷ more.0, more.1)) (many_agrees m full q p p' same h n (suc i) a.1 (omega (arith, h s a e)))) in
+    bind_same (p s) (p' s) _ _ (same s le) (λ a e. ap (λ (r : Read _). r >>= λ more. Ok (a.0 ∷ more.0, more.1)) (many_agrees m full q p p' same h n (suc i) a.1 (omega (arith, h s a e)))) in
     ap (λ (r : Read _). cond (starts q s) (refuse (full i) s r) (Ok ([], s))) one
 
 run_agrees : {N : Type 0} {Tree : N → Type 0} (m : ℕ) (p p' : (n : N) → List Token → Read (Tree n)) → ((n : N) (s : List Token) → length s < m → p n s ≡ p' n s) → ((n : N) → Shrinks (p n)) → {A : Type 0} (g : Form N Tree A) (s : List Token) → length s ≤ m → run p g s ≡ run p' g s
@@ -98,7 +97,7 @@ run_agrees m p p' same h (valued q good c) s le = refl
 run_agrees m p p' same h (limited l c g) s le = ap (λ (r : Read _). judge (l.at s) c s r) (run_agrees m p p' same h g s le)
 run_agrees m p p' same h (seq g k) s le =
     bind_same (run p g s) (run p' g s) _ _ (run_agrees m p p' same h g s le) (λ a e.
-      ap (λ (r : Read _). r >>= λ b. Ok ((a.0, b.0), b.1)) (run_agrees m p p' same h k a.1 (omega (arith, (run_shrinks p h g s a e).0))))
+    ap (λ (r : Read _). r >>= λ b. Ok ((a.0, b.0), b.1)) (run_agrees m p p' same h k a.1 (omega (arith, (run_shrinks p h g s a e).0))))
 run_agrees m p p' same h (map f g) s le = ap (λ (r : Read _). r >>= λ a. Ok (f a.0, a.1)) (run_agrees m p p' same h g s le)
 run_agrees m p p' same h (alt g k) s le = rw (run_agrees m p p' same h g s le, run_agrees m p p' same h k s le) refl
 run_agrees m p p' same h (pick q g k) s le = rw (run_agrees m p p' same h g s le, run_agrees m p p' same h k s le) refl
@@ -141,7 +140,7 @@ many_stable full q p h (suc n) zero i [] le le' = refl
 many_stable full q p h (suc n) zero i (x ∷ s) le le' = absurd (omega arith)
 many_stable full q p h (suc n) (suc n') i s le le' =
     ap (λ (r : Read _). cond (starts q s) (refuse (full i) s r) (Ok ([], s)))
-      (bind_same (p s) (p s) _ _ refl (λ a e. ap (λ (r : Read _). r >>= λ more. Ok (a.0 ∷ more.0, more.1)) (many_stable full q p h n n' (suc i) a.1 (omega (arith, h s a e)) (omega (arith, h s a e)))))
+    (bind_same (p s) (p s) _ _ refl (λ a e. ap (λ (r : Read _). r >>= λ more. Ok (a.0 ∷ more.0, more.1)) (many_stable full q p h n n' (suc i) a.1 (omega (arith, h s a e)) (omega (arith, h s a e)))))
 
 -- One more of many.
 pub many_is : {A : Type 0} (full : ℕ → Option Code) (q : Sort → Bool) (p : List Token → Read A) → Moves p → (i : ℕ) (s : List Token) → many_at full q p i (length s) s ≡ cond (starts q s) (refuse (full i) s (p s >>= λ a. many_at full q p (suc i) (length a.1) a.1 >>= λ more. Ok (a.0 ∷ more.0, more.1))) (Ok ([], s))
@@ -149,4 +148,4 @@ unfolding many_at
 many_is full q p h i [] = refl
 many_is full q p h i (x ∷ s) =
     ap (λ (r : Read _). cond (q (sort_of x)) (refuse (full i) (x ∷ s) r) (Ok ([], x ∷ s)))
-      (bind_same (p (x ∷ s)) (p (x ∷ s)) _ _ refl (λ a e. ap (λ (r : Read _). r >>= λ more. Ok (a.0 ∷ more.0, more.1)) (many_stable full q p h (length s) (length a.1) (suc i) a.1 (omega (arith, h (x ∷ s) a e)) (omega arith))))
+    (bind_same (p (x ∷ s)) (p (x ∷ s)) _ _ refl (λ a e. ap (λ (r : Read _). r >>= λ more. Ok (a.0 ∷ more.0, more.1)) (many_stable full q p h (length s) (length a.1) (suc i) a.1 (omega (arith, h (x ∷ s) a e)) (omega arith))))

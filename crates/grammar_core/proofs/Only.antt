@@ -1,16 +1,16 @@
 -- What a form spells is what reading gives, where nothing follows that would go on with it.
-use Rattle.std.proofs.Common.{◌≡◌, ℕ, zero, suc, ◌+◌, ◌≤◌, ◌<◌, arith, Bool, true, false, cond, List, [], ◌∷◌, length, Result, Ok, Err, refl, ◌⊎◌, inl, inr, sym, ap, ◌∙◌}
+use Rattle.std.proofs.Common.{◌≡◌, ℕ, suc, ◌≤◌, arith, Bool, true, false, cond, List, [], ◌∷◌, length, Ok, Err, refl, inl, inr, ap, ◌∙◌}
 use Rattle.std.specs.Prelude.{Option, Some, None, ◌-◌, nat_lt, ◌&&◌, ◌||◌, not}
-use Rattle.std.proofs.lemmas.Bool.{and_parts, and_from, or_cases, or_parts, or_left, or_right, not-true, both_ways, cases_Bool, cond-true, cond-false, ltb-true}
+use Rattle.std.proofs.lemmas.Bool.{and_parts, and_from, not-true, both_ways, cases_Bool, cond-true, cond-false, ltb-true}
 use Rattle.grammar_core.specs.declared.sort.Sort.{Sort}
 use Rattle.jdf_lex.specs.declared.token.Token.{Token}
 use Rattle.grammar_core.specs.declared.code.Code.{Code}
 use Rattle.grammar_core.specs.Sorts.{sort_of, disjoint, within}
-use Rattle.grammar_core.specs.Form.{Form, one_of, valued, seq, map, alt, opt, star, pick, behind, limited, Lang, Fault, then_fault, or_fault, at_start, bad_unless, cut_at, taken, IsOne, Maybe, Many, Spells}
-use Rattle.grammar_core.specs.Reading.{◌>>=◌, Read, Stop, refuse, check, judge, may_be_empty, first, starts, picks, token_at, many_at, run}
+use Rattle.grammar_core.specs.Form.{Form, one_of, valued, seq, map, alt, opt, star, pick, behind, limited, Lang, Fault, then_fault, or_fault, at_start, bad_unless, cut_at, taken, IsOne, Many, Spells}
+use Rattle.grammar_core.specs.Reading.{◌>>=◌, Read, refuse, check, judge, may_be_empty, first, starts, picks, token_at, many_at, run}
 use Rattle.grammar_core.specs.Predictive.{Claims, more, alone, second, both_first, is_fine}
-use Rattle.grammar_core.proofs.Sets.{starts_disjoint, starts_into, disjoint_at}
-use Rattle.grammar_core.proofs.Begins.{stop_left, stop_right, stop_and, start_left, start_right, begins, surely_begins, many_begins, seconds}
+use Rattle.grammar_core.proofs.Sets.{starts_disjoint, starts_into}
+use Rattle.grammar_core.proofs.Begins.{stop_left, stop_right, stop_and, begins, surely_begins, many_begins, seconds}
 use Rattle.grammar_core.proofs.Fuel.{Shrinks, Moves, run_shrinks, many_is}
 
 token_is : (q : Sort → Bool) (s : List Token) (x : Token) (r : List Token) → IsOne q s x r → token_at q s ≡ Ok (x, r)
@@ -143,8 +143,8 @@ many_only full G p f go moves begin fit only apart i (t ∷ ts) s o r h stops =
     let quiet : starts go m ≡ false = elim (many_begins full G f (λ s t o r u. inl (begin s t o r u)) (suc i) ts m h.2 r h.4) [ inl u ↦ starts_disjoint go f m apart u | inr u ↦ rw u (stop_right f go r stops) ] in
     let le = (fit s t h.1 m h.3).0 in
     let inside : (p s >>= λ a. many_at full f p (suc i) (length a.1) a.1 >>= λ more. Ok (a.0 ∷ more.0, more.1)) ≡ outcome s (t ∷ ts) (then_fault h.1 (taken s m) h.2) r =
-        ap (λ (u : Read _). u >>= λ a. many_at full f p (suc i) (length a.1) a.1 >>= λ more. Ok (a.0 ∷ more.0, more.1)) (only s t h.1 m h.3 quiet)
-        ∙ then_outcome (λ a more. a ∷ more) (λ l. many_at full f p (suc i) (length l) l) s m r t ts h.1 h.2 le rest in
+    ap (λ (u : Read _). u >>= λ a. many_at full f p (suc i) (length a.1) a.1 >>= λ more. Ok (a.0 ∷ more.0, more.1)) (only s t h.1 m h.3 quiet)
+    ∙ then_outcome (λ a more. a ∷ more) (λ l. many_at full f p (suc i) (length l) l) s m r t ts h.1 h.2 le rest in
     many_is full f p moves i s ∙ rw (begin s t h.1 m h.3, h.5) (refuse_outcome (full i) s (t ∷ ts) _ h.1 m h.2 r inside)
 
 one_more : {A : Type 0} (x : Token) (m : List Token) (t : A) (y : Fault) (r : List Token) → outcome m t y r ≡ outcome (x ∷ m) t (then_fault None 1 y) r
@@ -165,10 +165,10 @@ only c R p shrinks fit firsts known (seq g k) fine s t o r h stops =
     let m = h.0 in
     let over = stop_left (more c k) (λ x. may_be_empty k && more c g x) r stops in
     let quiet : starts (more c g) m ≡ false =
-        elim (begins R k m t.1 h.2 r h.4) [
-          | inl u ↦ starts_disjoint (more c g) (first k) m f'.1 u
-          | inr u ↦ rw u.0 (stop_and (may_be_empty k) (more c g) r (stop_right (more c k) (λ x. may_be_empty k && more c g x) r stops) u.1)
-        ] in
+    elim (begins R k m t.1 h.2 r h.4) [
+      | inl u ↦ starts_disjoint (more c g) (first k) m f'.1 u
+      | inr u ↦ rw u.0 (stop_and (may_be_empty k) (more c g) r (stop_right (more c k) (λ x. may_be_empty k && more c g x) r stops) u.1)
+    ] in
     let le = (fits R fit g s t.0 h.1 m h.3).0 in
     rw (only c R p shrinks fit firsts known g f.0 s t.0 h.1 m h.3 quiet, h.5) (then_outcome (λ a b. (a, b)) (run p k) s m r t.0 t.1 h.1 h.2 le (only c R p shrinks fit firsts known k f'.0 m t.1 h.2 r h.4 over))
 only c R p shrinks fit firsts known (map f g) fine s t o r h stops =
@@ -183,10 +183,10 @@ only c R p shrinks fit firsts known (alt g k) fine s t o r h stops =
       | inr u ↦
           let over = stop_right (more c g) rest r stops in
           let other : starts (first g) s ≡ false =
-              elim (begins R k s t o r u) [
-                | inl v ↦ starts_disjoint (first g) (first k) s f''.1 v
-                | inr v ↦ rw v.0 (stop_and (may_be_empty k) (first g) r (stop_right (more c k) (λ x. may_be_empty k && first g x) r over) v.1)
-              ] in
+          elim (begins R k s t o r u) [
+            | inl v ↦ starts_disjoint (first g) (first k) s f''.1 v
+            | inr v ↦ rw v.0 (stop_and (may_be_empty k) (first g) r (stop_right (more c k) (λ x. may_be_empty k && first g x) r over) v.1)
+          ] in
           rw other (only c R p shrinks fit firsts known k f'.0 s t o r u (stop_left (more c k) (λ x. may_be_empty k && first g x) r over))
     ]
 only c R p shrinks fit firsts known (pick q g k) fine s t o r h stops =
@@ -205,11 +205,11 @@ only c R p shrinks fit firsts known (pick q g k) fine s t o r h stops =
           let ht = head_tail (first g) s b in
           let x = ht.0 in let m = ht.1 in
           let after : first k (sort_of x) ≡ true → starts q m ≡ true = λ e.
-              elim (seconds c R firsts both x m (and_from (first g (sort_of x)) (first k (sort_of x)) ht.3 e) g f1.0 s t o r ht.2 u) [
-                | inl v ↦ starts_into (second c both g) q m f7.0 v
-                | inr (inl v) ↦ absurd (both_ways (alone both g) (not-true (alone both g) f5.0) v.1)
-                | inr (inr v) ↦ absurd (both_ways (may_be_empty g) (not-true (may_be_empty g) f3.0) v.1)
-              ] in
+          elim (seconds c R firsts both x m (and_from (first g (sort_of x)) (first k (sort_of x)) ht.3 e) g f1.0 s t o r ht.2 u) [
+            | inl v ↦ starts_into (second c both g) q m f7.0 v
+            | inr (inl v) ↦ absurd (both_ways (alone both g) (not-true (alone both g) f5.0) v.1)
+            | inr (inr v) ↦ absurd (both_ways (may_be_empty g) (not-true (may_be_empty g) f3.0) v.1)
+          ] in
           let chosen : picks (first g) (first k) q s ≡ true = rw ht.2 (pick_left (first g) (first k) q x m ht.3 after) in
           rw chosen (only c R p shrinks fit firsts known g f1.0 s t o r u (stop_left (more c g) (more c k) r stops))
       | inr u ↦
@@ -217,11 +217,11 @@ only c R p shrinks fit firsts known (pick q g k) fine s t o r h stops =
           let ht = head_tail (first k) s b in
           let x = ht.0 in let m = ht.1 in
           let after : first g (sort_of x) ≡ true → starts q m ≡ false = λ e.
-              elim (seconds c R firsts both x m (and_from (first g (sort_of x)) (first k (sort_of x)) e ht.3) k f2.0 s t o r ht.2 u) [
-                | inl v ↦ elim (cases_Bool (starts q m)) [ inl w ↦ absurd (both_ways (starts (second c both k) m) (starts_disjoint (second c both k) q m f8.0 w) v) | inr w ↦ w ]
-                | inr (inl v) ↦ absurd (both_ways (alone both k) (not-true (alone both k) f6.0) v.1)
-                | inr (inr v) ↦ absurd (both_ways (may_be_empty k) (not-true (may_be_empty k) f4.0) v.1)
-              ] in
+          elim (seconds c R firsts both x m (and_from (first g (sort_of x)) (first k (sort_of x)) e ht.3) k f2.0 s t o r ht.2 u) [
+            | inl v ↦ elim (cases_Bool (starts q m)) [ inl w ↦ absurd (both_ways (starts (second c both k) m) (starts_disjoint (second c both k) q m f8.0 w) v) | inr w ↦ w ]
+            | inr (inl v) ↦ absurd (both_ways (alone both k) (not-true (alone both k) f6.0) v.1)
+            | inr (inr v) ↦ absurd (both_ways (may_be_empty k) (not-true (may_be_empty k) f4.0) v.1)
+          ] in
           let chosen : picks (first g) (first k) q s ≡ false = rw ht.2 (pick_right (first g) (first k) q x m ht.3 after) in
           rw chosen (only c R p shrinks fit firsts known k f2.0 s t o r u (stop_right (more c g) (more c k) r stops))
     ]

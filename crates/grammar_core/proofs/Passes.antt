@@ -1,19 +1,19 @@
 -- Where the next token may begin a form, reading passes it.
-use Rattle.std.proofs.Common.{◌≡◌, ℕ, zero, suc, ◌+◌, ◌<◌, ◌≤◌, Bool, true, false, cond, List, [], ◌∷◌, ◌++◌, length, Result, Ok, Err, refl, ◌⊎◌, inl, inr, sym, ap, ◌∙◌, arith, subst}
+use Rattle.std.proofs.Common.{◌≡◌, ℕ, zero, suc, ◌<◌, ◌≤◌, Bool, true, false, List, [], ◌∷◌, length, Ok, Err, refl, inl, inr, sym, ap, ◌∙◌, arith}
 use Rattle.std.specs.Prelude.{Option, Some, None, ◌-◌, nat_lt, ◌&&◌, ◌||◌, not}
 use Rattle.std.proofs.lemmas.Bool.{and_parts, and_from, or_cases, not-true, both_ways, cases_Bool, le-ltb}
 use Rattle.grammar_core.specs.declared.sort.Sort.{Sort}
 use Rattle.jdf_lex.specs.declared.token.Token.{Token}
 use Rattle.grammar_core.specs.declared.code.Code.{Code}
 use Rattle.grammar_core.specs.declared.code.Code.TheVariants.{Syntax}
-use Rattle.grammar_core.specs.Sorts.{sort_of, all_sorts, some_is, disjoint, within}
+use Rattle.grammar_core.specs.Sorts.{sort_of, all_sorts, some_is, disjoint}
 use Rattle.grammar_core.specs.Form.{Form, one_of, valued, seq, map, alt, opt, star, pick, behind, limited}
-use Rattle.grammar_core.specs.Reading.{◌>>=◌, Read, Stop, refuse, check, judge, may_be_empty, first, starts, picks, token_at, many_at, run}
-use Rattle.grammar_core.specs.Predictive.{Claims, more, is_fine, both_first, is_none, is_limit, are_limits, is_safe, alone, second}
-use Rattle.grammar_core.proofs.Steps.{bind_ok, bind_err, chosen, ok_is, no_ok, token_ok, token_err, refuse_ok, refuse_err, check_ok, check_err, judge_ok, judge_err}
+use Rattle.grammar_core.specs.Reading.{◌>>=◌, Read, Stop, refuse, check, may_be_empty, first, starts, picks, token_at, many_at, run}
+use Rattle.grammar_core.specs.Predictive.{Claims, more, is_fine, is_none, is_limit, are_limits, is_safe}
+use Rattle.grammar_core.proofs.Steps.{bind_ok, bind_err, chosen, ok_is, no_ok, token_ok, token_err, refuse_ok, refuse_err, check_err, judge_ok, judge_err}
 use Rattle.grammar_core.proofs.Sets.{starts_disjoint}
 use Rattle.grammar_core.proofs.Begins.{stop_left, stop_right, and_if_stop, and_if_cases, start_cases}
-use Rattle.grammar_core.proofs.Fuel.{Shrinks, Moves, many_shrinks, run_shrinks, many_is}
+use Rattle.grammar_core.proofs.Fuel.{Shrinks, many_shrinks, run_shrinks, many_is}
 
 -- a fault lies no further back than where reading began
 abbrev pub FaultsWithin : {A : Type 0} → (List Token → Read A) → Type 0
@@ -34,9 +34,9 @@ many_faults full f p h l (suc k) i s n e =
           | inr a ↦ elim (bind_err (many_at full f p (suc i) k a.0.1) (λ more. Ok (a.0.0 ∷ more.0, more.1)) n a.2) [
             | inl v ↦ let one = many_faults full f p h l k (suc i) a.0.1 n v in let two = h s a.0 a.1 in omega (arith, one, two)
             | inr v ↦ absurd (no_ok _ n v.2)
-            ]
           ]
         ]
+      ]
       | inr u ↦ absurd (no_ok _ n u.1)
     ]
 
@@ -59,7 +59,7 @@ run_faults p h l (seq g k) s n e =
       | inr a ↦ elim (bind_err (run p k a.0.1) (λ b. Ok ((a.0.0, b.0), b.1)) n a.2) [
         | inl u ↦ let one = run_faults p h l k a.0.1 n u in let two = (run_shrinks p h g s a.0 a.1).0 in omega (arith, one, two)
         | inr u ↦ absurd (no_ok _ n u.2)
-        ]
+      ]
     ]
 run_faults p h l (map f g) s n e = elim (bind_err (run p g s) (λ a. Ok (f a.0, a.1)) n e) [ inl u ↦ run_faults p h l g s n u | inr u ↦ absurd (no_ok _ n u.2) ]
 run_faults p h l (alt g k) s n e = elim (chosen (starts (first g) s) (run p g s) (run p k s) (Err n) e) [ inl u ↦ run_faults p h l g s n u.1 | inr u ↦ run_faults p h l k s n u.1 ]
@@ -149,12 +149,13 @@ module _ {N : Type 0} {Tree : N → Type 0} (c : Claims N) (p : (n : N) → List
 
   pub passes : (w : Bool) (b0 : Sort → Bool) {A : Type 0} (g : Form N Tree A) → is_fine c g ≡ true → is_safe w b0 g ≡ true → (s : List Token) → (w ≡ false → starts b0 s ≡ true) → starts (first g) s ≡ true → Passes w (run p g) s
   passes w b0 (one_of q) fine safe s at b = (λ n e y. absurd (token_passes q s b n e), λ x e. let t = ap (λ (y : List Token). length y) (token_ok q s x e).0 in omega (arith, t))
-  passes w b0 (valued q good d) fine safe s at b =
-      (λ n e y. elim (bind_err (token_at q s) (check good d s) n e) [
-        | inl u ↦ absurd (token_passes q s b n u)
-        | inr a ↦ absurd (bad w safe at y (check_err good d s a.0 n a.2).1)
-      ],
-      λ x e. (run_shrinks p h (valued q good d) s x e).1 refl)
+  passes w b0 (valued q good d) fine safe s at b = (
+    λ n e y. elim (bind_err (token_at q s) (check good d s) n e) [
+      | inl u ↦ absurd (token_passes q s b n u)
+      | inr a ↦ absurd (bad w safe at y (check_err good d s a.0 n a.2).1)
+    ],
+    λ x e. (run_shrinks p h (valued q good d) s x e).1 refl,
+  )
     where
       bad : (w : Bool) → (w || disjoint b0 q) ≡ true → (w ≡ false → starts b0 s ≡ true) → {n : Stop} → (w ≡ true → n.1 ≡ Syntax) → n ≡ (length s, d) → ⊥
       bad true safe at y e = not_limit d (ap (λ (x : Stop). x.1) (sym e) ∙ y refl) (and_parts (some_is q all_sorts) (is_limit d) fine).1
@@ -162,13 +163,14 @@ module _ {N : Type 0} {Tree : N → Type 0} (c : Claims N) (p : (n : N) → List
   passes w b0 (limited d d0 g) fine safe s at b =
       let one = passes w b0 g fine safe s at b in
       let some : 1 ≤ length s = full_list (first g) s b in
-      let least = d.one s in
-      (λ n e y. elim (judge_err (d.at s) d0 s (run p g s) n e) [
-        | inl u ↦ let t = first_is u.3 in omega (arith, t)
-        | inr (inl u) ↦ let t = first_is u.3 in omega (arith, t)
-        | inr (inr u) ↦ one.0 n u.0 y
-      ],
-      λ x e. one.1 x (judge_ok (d.at s) d0 s (run p g s) x e).0)
+      let least = d.one s in (
+        λ n e y. elim (judge_err (d.at s) d0 s (run p g s) n e) [
+          | inl u ↦ let t = first_is u.3 in omega (arith, t)
+          | inr (inl u) ↦ let t = first_is u.3 in omega (arith, t)
+          | inr (inr u) ↦ one.0 n u.0 y
+        ],
+        λ x e. one.1 x (judge_ok (d.at s) d0 s (run p g s) x e).0,
+      )
   passes w b0 (seq {A = A1} {B = B1} g k) fine safe s at b =
       let f = and_parts (is_fine c g) _ fine in
       let f' = and_parts (is_fine c k) _ f.1 in
@@ -176,38 +178,41 @@ module _ {N : Type 0} {Tree : N → Type 0} (c : Claims N) (p : (n : N) → List
       let R : A1 × List Token → Read (A1 × B1) = λ a. run p k a.1 >>= λ b. Ok ((a.0, b.0), b.1) in
       elim (cases_Bool (starts (first g) s)) [
         | inl t ↦
-            let one = passes w b0 g f.0 sf.0 s at t in
-            (λ n e y. elim (bind_err (run p g s) R n e) [
-              | inl u ↦ one.0 n u y
-              | inr a ↦ elim (bind_err (run p k a.0.1) (λ b. Ok ((a.0.0, b.0), b.1)) n a.2) [
-                | inl u ↦ let x = run_faults p h l k a.0.1 n u in let y = one.1 a.0 a.1 in omega (arith, x, y)
-                | inr u ↦ absurd (no_ok _ n u.2)
+            let one = passes w b0 g f.0 sf.0 s at t in (
+              λ n e y. elim (bind_err (run p g s) R n e) [
+                | inl u ↦ one.0 n u y
+                | inr a ↦ elim (bind_err (run p k a.0.1) (λ b. Ok ((a.0.0, b.0), b.1)) n a.2) [
+                  | inl u ↦ let x = run_faults p h l k a.0.1 n u in let y = one.1 a.0 a.1 in omega (arith, x, y)
+                  | inr u ↦ absurd (no_ok _ n u.2)
                 ]
-            ],
-            λ x e.
-              let a = bind_ok (run p g s) R x e in
-              let b = bind_ok (run p k a.0.1) (λ b. Ok ((a.0.0, b.0), b.1)) x a.2 in
-              let same = ok_is ((a.0.0, b.0.0), b.0.1) x b.2 in
-              let y = one.1 a.0 a.1 in let z = (run_shrinks p h k a.0.1 b.0 b.1).0 in
-              rw (← same) (omega (arith, y, z)))
+              ],
+              λ x e.
+                  let a = bind_ok (run p g s) R x e in
+                  let b = bind_ok (run p k a.0.1) (λ b. Ok ((a.0.0, b.0), b.1)) x a.2 in
+                  let same = ok_is ((a.0.0, b.0.0), b.0.1) x b.2 in
+                  let y = one.1 a.0 a.1 in let z = (run_shrinks p h k a.0.1 b.0 b.1).0 in
+                  rw (← same) (omega (arith, y, z)),
+            )
         | inr t ↦
             let u : (may_be_empty g ≡ true) × (starts (first k) s ≡ true) = elim (and_if_cases (may_be_empty g) (first g) (first k) s b) [ inl w ↦ absurd (both_ways (starts (first g) s) t w) | inr w ↦ w ] in
             let a = stays g f.0 s t u.0 in
             let two = passes w b0 k f'.0 sf.1 s at u.1 in
-            let goes : run p (seq g k) s ≡ (run p k s >>= λ b. Ok ((a.0, b.0), b.1)) = rw a.1 refl in
-            (λ n e y. elim (bind_err (run p k s) (λ b. Ok ((a.0, b.0), b.1)) n (sym goes ∙ e)) [ inl v ↦ two.0 n v y | inr v ↦ absurd (no_ok _ n v.2) ],
-            λ x e.
-              let b = bind_ok (run p k s) (λ b. Ok ((a.0, b.0), b.1)) x (sym goes ∙ e) in
-              let same = ok_is ((a.0, b.0.0), b.0.1) x b.2 in
-              rw (← same) (two.1 b.0 b.1))
+            let goes : run p (seq g k) s ≡ (run p k s >>= λ b. Ok ((a.0, b.0), b.1)) = rw a.1 refl in (
+              λ n e y. elim (bind_err (run p k s) (λ b. Ok ((a.0, b.0), b.1)) n (sym goes ∙ e)) [ inl v ↦ two.0 n v y | inr v ↦ absurd (no_ok _ n v.2) ],
+              λ x e.
+                  let b = bind_ok (run p k s) (λ b. Ok ((a.0, b.0), b.1)) x (sym goes ∙ e) in
+                  let same = ok_is ((a.0, b.0.0), b.0.1) x b.2 in
+                  rw (← same) (two.1 b.0 b.1),
+            )
       ]
   passes w b0 (map f g) fine safe s at b =
-      let one = passes w b0 g fine safe s at b in
-      (λ n e y. elim (bind_err (run p g s) (λ a. Ok (f a.0, a.1)) n e) [ inl v ↦ one.0 n v y | inr v ↦ absurd (no_ok _ n v.2) ],
-      λ x e.
-        let a = bind_ok (run p g s) (λ a. Ok (f a.0, a.1)) x e in
-        let same = ok_is (f a.0.0, a.0.1) x a.2 in
-        rw (← same) (one.1 a.0 a.1))
+      let one = passes w b0 g fine safe s at b in (
+        λ n e y. elim (bind_err (run p g s) (λ a. Ok (f a.0, a.1)) n e) [ inl v ↦ one.0 n v y | inr v ↦ absurd (no_ok _ n v.2) ],
+        λ x e.
+            let a = bind_ok (run p g s) (λ a. Ok (f a.0, a.1)) x e in
+            let same = ok_is (f a.0.0, a.0.1) x a.2 in
+            rw (← same) (one.1 a.0 a.1),
+      )
   passes w b0 (alt g k) fine safe s at b =
       let f = and_parts (is_fine c g) _ fine in
       let f' = and_parts (is_fine c k) _ f.1 in
@@ -223,24 +228,26 @@ module _ {N : Type 0} {Tree : N → Type 0} (c : Claims N) (p : (n : N) → List
       let f' = and_parts (is_fine c k) _ f.1 in
       let sf = and_parts (is_safe w b0 g) (is_safe w b0 k) safe in
       let f3 = and_parts (not (may_be_empty g)) _ f'.1 in
-      let full = not-true (may_be_empty k) (and_parts (not (may_be_empty k)) _ f3.1).0 in
-      (λ n e y. elim (chosen (picks (first g) (first k) q s) (run p g s) (run p k s) (Err n) e) [
-        | inl u ↦ (passes w b0 g f.0 sf.0 s at (picked_left (first g) (first k) q s u.0)).0 n u.1 y
-        | inr u ↦ (passes w b0 k f'.0 sf.1 s at (picked_right (first g) (first k) q s u.0 b)).0 n u.1 y
-      ],
-      λ x e. elim (chosen (picks (first g) (first k) q s) (run p g s) (run p k s) (Ok x) e) [
-        | inl u ↦ (run_shrinks p h g s x u.1).1 (not-true (may_be_empty g) f3.0)
-        | inr u ↦ (run_shrinks p h k s x u.1).1 full
-      ])
+      let full = not-true (may_be_empty k) (and_parts (not (may_be_empty k)) _ f3.1).0 in (
+        λ n e y. elim (chosen (picks (first g) (first k) q s) (run p g s) (run p k s) (Err n) e) [
+          | inl u ↦ (passes w b0 g f.0 sf.0 s at (picked_left (first g) (first k) q s u.0)).0 n u.1 y
+          | inr u ↦ (passes w b0 k f'.0 sf.1 s at (picked_right (first g) (first k) q s u.0 b)).0 n u.1 y
+        ],
+        λ x e. elim (chosen (picks (first g) (first k) q s) (run p g s) (run p k s) (Ok x) e) [
+          | inl u ↦ (run_shrinks p h g s x u.1).1 (not-true (may_be_empty g) f3.0)
+          | inr u ↦ (run_shrinks p h k s x u.1).1 full
+        ],
+      )
   passes w b0 (opt g) fine safe s at b =
       let f = and_parts (is_fine c g) _ fine in
       let one = passes w b0 g f.0 safe s at b in
-      let goes : run p (opt g) s ≡ (run p g s >>= λ a. Ok (Some a.0, a.1)) = rw b refl in
-      (λ n e y. elim (bind_err (run p g s) (λ a. Ok (Some a.0, a.1)) n (sym goes ∙ e)) [ inl v ↦ one.0 n v y | inr v ↦ absurd (no_ok _ n v.2) ],
-      λ x e.
-        let a = bind_ok (run p g s) (λ a. Ok (Some a.0, a.1)) x (sym goes ∙ e) in
-        let same = ok_is (Some a.0.0, a.0.1) x a.2 in
-        rw (← same) (one.1 a.0 a.1))
+      let goes : run p (opt g) s ≡ (run p g s >>= λ a. Ok (Some a.0, a.1)) = rw b refl in (
+        λ n e y. elim (bind_err (run p g s) (λ a. Ok (Some a.0, a.1)) n (sym goes ∙ e)) [ inl v ↦ one.0 n v y | inr v ↦ absurd (no_ok _ n v.2) ],
+        λ x e.
+            let a = bind_ok (run p g s) (λ a. Ok (Some a.0, a.1)) x (sym goes ∙ e) in
+            let same = ok_is (Some a.0.0, a.0.1) x a.2 in
+            rw (← same) (one.1 a.0 a.1),
+      )
   passes w b0 (star {A = A1} full g) fine safe s at b =
       let f = and_parts (is_fine c g) _ fine in
       let sf = and_parts (is_safe w b0 g) _ safe in
@@ -249,29 +256,31 @@ module _ {N : Type 0} {Tree : N → Type 0} (c : Claims N) (p : (n : N) → List
       let rest : A1 × List Token → Read (List A1) = λ a. many_at full (first g) (run p g) 1 (length a.1) a.1 >>= λ more. Ok (a.0 ∷ more.0, more.1) in
       let goes : run p (star full g) s ≡ refuse (full 0) s (run p g s >>= rest) = many_is full (first g) (run p g) (λ s' x e'. (run_shrinks p h g s' x e').1 never) 0 s ∙ rw b refl in
       let limits = (and_parts (disjoint (more c g) (first g)) _ (and_parts (not (may_be_empty g)) _ f.1).1).1 in
-      let later : FaultsWithin (λ l. many_at full (first g) (run p g) 1 (length l) l) = λ l' n e. many_faults full (first g) (run p g) (λ s' x e'. (run_shrinks p h g s' x e').0) (run_faults p h l g) (length l') 1 l' n e in
-      (λ n e y. elim (refuse_err (full 0) s (run p g s >>= rest) n (sym goes ∙ e)) [
-        | inl u ↦ absurd (full_bad w (full 0) u.0 sf.1 limits y u.1 u.2)
-        | inr ge ↦ elim (bind_err (run p g s) rest n ge.1) [
-        | inl v ↦ one.0 n v y
-        | inr a ↦ elim (bind_err (many_at full (first g) (run p g) 1 (length a.0.1) a.0.1) (λ more. Ok (a.0.0 ∷ more.0, more.1)) n a.2) [
-          | inl v ↦ let x = later a.0.1 n v in let y = one.1 a.0 a.1 in omega (arith, x, y)
-          | inr v ↦ absurd (no_ok _ n v.2)
+      let later : FaultsWithin (λ l. many_at full (first g) (run p g) 1 (length l) l) = λ l' n e. many_faults full (first g) (run p g) (λ s' x e'. (run_shrinks p h g s' x e').0) (run_faults p h l g) (length l') 1 l' n e in (
+        λ n e y. elim (refuse_err (full 0) s (run p g s >>= rest) n (sym goes ∙ e)) [
+          | inl u ↦ absurd (full_bad w (full 0) u.0 sf.1 limits y u.1 u.2)
+          | inr ge ↦ elim (bind_err (run p g s) rest n ge.1) [
+            | inl v ↦ one.0 n v y
+            | inr a ↦ elim (bind_err (many_at full (first g) (run p g) 1 (length a.0.1) a.0.1) (λ more. Ok (a.0.0 ∷ more.0, more.1)) n a.2) [
+              | inl v ↦ let x = later a.0.1 n v in let y = one.1 a.0 a.1 in omega (arith, x, y)
+              | inr v ↦ absurd (no_ok _ n v.2)
+            ]
           ]
-        ]
-      ],
-      λ x e.
-        let a = bind_ok (run p g s) rest x (refuse_ok (full 0) s (run p g s >>= rest) x (sym goes ∙ e)).1 in
-        let d = bind_ok (many_at full (first g) (run p g) 1 (length a.0.1) a.0.1) (λ more. Ok (a.0.0 ∷ more.0, more.1)) x a.2 in
-        let same = ok_is (a.0.0 ∷ d.0.0, d.0.1) x d.2 in
-        let y = one.1 a.0 a.1 in let z = many_shrinks full (first g) (run p g) (λ s' x e'. (run_shrinks p h g s' x e').0) (length a.0.1) 1 a.0.1 d.0 d.1 in
-        rw (← same) (omega (arith, y, z)))
-  passes w b0 (behind q m) fine safe s at b =
-      (λ n e y. elim (bind_err (token_at q s) (λ t. p m t.1) n e) [
-        | inl u ↦ absurd (token_passes q s b n u)
-        | inr a ↦ let t = ap (λ (y : List Token). length y) (token_ok q s a.0 a.1).0 in let x = l m a.0.1 n a.2 in omega (arith, t, x)
-      ],
-      λ x e. (run_shrinks p h (behind q m) s x e).1 refl)
+        ],
+        λ x e.
+            let a = bind_ok (run p g s) rest x (refuse_ok (full 0) s (run p g s >>= rest) x (sym goes ∙ e)).1 in
+            let d = bind_ok (many_at full (first g) (run p g) 1 (length a.0.1) a.0.1) (λ more. Ok (a.0.0 ∷ more.0, more.1)) x a.2 in
+            let same = ok_is (a.0.0 ∷ d.0.0, d.0.1) x d.2 in
+            let y = one.1 a.0 a.1 in let z = many_shrinks full (first g) (run p g) (λ s' x e'. (run_shrinks p h g s' x e').0) (length a.0.1) 1 a.0.1 d.0 d.1 in
+            rw (← same) (omega (arith, y, z)),
+      )
+  passes w b0 (behind q m) fine safe s at b = (
+    λ n e y. elim (bind_err (token_at q s) (λ t. p m t.1) n e) [
+      | inl u ↦ absurd (token_passes q s b n u)
+      | inr a ↦ let t = ap (λ (y : List Token). length y) (token_ok q s a.0 a.1).0 in let x = l m a.0.1 n a.2 in omega (arith, t, x)
+    ],
+    λ x e. (run_shrinks p h (behind q m) s x e).1 refl,
+  )
 
 -- where only Syntax counts, each form is safe
 pub safe_true : {N : Type 0} {Tree : N → Type 0} (b0 : Sort → Bool) {A : Type 0} (g : Form N Tree A) → is_safe true b0 g ≡ true

@@ -1,5 +1,5 @@
 -- The derived test on two sorts is that of their codes.
-use Rattle.std.proofs.Common.{◌≡◌, ℕ, Bool, refl, ap, ◌∙◌}
+use Rattle.std.proofs.Common.{◌≡◌, ℕ, refl, ap, ◌∙◌}
 use Rattle.std.specs.Prelude.{◌==◌}
 use denote.Enum.Bare.{sameb}
 use denote.Enum.Declared.{tag_of}

@@ -1,16 +1,16 @@
 -- What reading gives is spelled so, what it refuses can be completed up to the fault, and neither looks further than one token on.
-use Rattle.std.proofs.Common.{◌≡◌, ◌≢◌, ℕ, zero, suc, ◌+◌, ◌-◌, ◌<◌, ◌≤◌, Bool, true, false, cond, List, [], ◌∷◌, ◌++◌, length, Result, Ok, Err, refl, ◌⊎◌, inl, inr, sym, ap, ◌∙◌, append_assoc, length-append, arith, subst}
-use Rattle.std.specs.Prelude.{Option, Some, None, nat_lt, ◌&&◌, ◌||◌, not}
-use Rattle.std.proofs.lemmas.Bool.{and_parts, and_from, or_cases, or_parts, or_left, or_right, not-true, both_ways, cases_Bool, cond-true, cond-false, le-ltb, lt-ltb, ltb-true, ltb-false, cases_lt}
+use Rattle.std.proofs.Common.{◌≡◌, ◌≢◌, ℕ, zero, suc, ◌+◌, ◌-◌, ◌<◌, ◌≤◌, Bool, true, false, cond, List, [], ◌∷◌, ◌++◌, length, Ok, Err, refl, ◌⊎◌, inl, inr, sym, ap, ◌∙◌, append_assoc, length-append, arith, subst}
+use Rattle.std.specs.Prelude.{Option, Some, None, nat_lt, ◌&&◌, not}
+use Rattle.std.proofs.lemmas.Bool.{and_parts, and_from, or_cases, not-true, cases_Bool, le-ltb, lt-ltb, ltb-true, ltb-false, cases_lt}
 use Rattle.grammar_core.specs.declared.sort.Sort.{Sort}
 use Rattle.jdf_lex.specs.declared.token.Token.{Token}
 use Rattle.grammar_core.specs.declared.code.Code.{Code}
-use Rattle.grammar_core.specs.declared.code.Code.TheVariants.{Syntax, BadNumber, ExprTooLong, TooManyClasses, TooManyParams, TooManyLocals, TooManyFlows, TooManyDeps}
+use Rattle.grammar_core.specs.declared.code.Code.TheVariants.{Syntax}
 use Rattle.grammar_core.proofs.Tokens.{token_of, sort_of_token}
 use Rattle.grammar_core.specs.Sorts.{sort_of, all_sorts, some_is, disjoint, within}
 use Rattle.grammar_core.specs.Form.{Limit, Form, one_of, valued, seq, map, alt, opt, star, pick, behind, limited, Lang, Fault, then_fault, or_fault, at_start, bad_unless, cut_at, taken, IsFrom, IsOne, Maybe, Many, Spells}
 use Rattle.grammar_core.specs.Reading.{◌>>=◌, Read, Stop, refuse, check, judge, may_be_empty, first, starts, picks, token_at, many_at, run}
-use Rattle.grammar_core.specs.Predictive.{Claims, more, alone, second, both_first, is_fine, is_safe, is_limit, has_plain}
+use Rattle.grammar_core.specs.Predictive.{Claims, more, alone, second, both_first, is_fine, is_safe, has_plain}
 use Rattle.grammar_core.proofs.Sets.{some_at}
 use Rattle.grammar_core.proofs.Steps.{bind_ok, bind_err, chosen, ok_is, no_ok, token_ok, token_err, refuse_ok, refuse_err, check_ok, check_err, judge_ok, judge_err}
 use Rattle.grammar_core.proofs.Fuel.{Shrinks, Moves, run_shrinks, many_is}
@@ -151,15 +151,22 @@ token_sound q s h =
     record {
       took = λ x e. token_took q s x e;
       stopped = λ n e.
-        let t = token_err q s n e in
-        let one = one_text q h in
-        let syntax = second_is t.0 in
-        record {
-          word = []; rest = s; parts = refl; left = sym (first_is t.0); more = one.0 ∷ []; tree = one.0; fault = λ z. None;
-          late = λ z. late_syntax n.1 0 None syntax tt; extends = λ d. absurd (d syntax);
-          spells = λ z. (one.1 z, refl);
-          same = λ r same. token_refuses q r (sym (starts_same q s r same) ∙ t.1) ∙ ap (λ (c : Code). Err (length r, c)) (sym syntax);
-        };
+          let t = token_err q s n e in
+          let one = one_text q h in
+          let syntax = second_is t.0 in
+          record {
+            word = [];
+            rest = s;
+            parts = refl;
+            left = sym (first_is t.0);
+            more = one.0 ∷ [];
+            tree = one.0;
+            fault = λ z. None;
+            late = λ z. late_syntax n.1 0 None syntax tt;
+            extends = λ d. absurd (d syntax);
+            spells = λ z. (one.1 z, refl);
+            same = λ r same. token_refuses q r (sym (starts_same q s r same) ∙ t.1) ∙ ap (λ (c : Code). Err (length r, c)) (sym syntax);
+          };
     }
 
 abbrev Valued : (Sort → Bool) → (Token → Bool) → Code → Lang Token
@@ -169,35 +176,48 @@ valued_sound : (q : Sort → Bool) (good : Token → Bool) (c : Code) (s : List 
 valued_sound q good c s h =
     record {
       took = λ x e.
-        let a = bind_ok (token_at q s) (check good c s) x e in
-        let t = token_ok q s a.0 a.1 in
-        let k = check_ok good c s a.0 x a.2 in
-        subst (λ (y : Token × List Token). Took (Valued q good c) (λ l. token_at q l >>= check good c l) s y) k.1
+          let a = bind_ok (token_at q s) (check good c s) x e in
+          let t = token_ok q s a.0 a.1 in
+          let k = check_ok good c s a.0 x a.2 in
+          subst (λ (y : Token × List Token). Took (Valued q good c) (λ l. token_at q l >>= check good c l) s y) k.1
           (record { word = a.0.0 ∷ []; parts = t.0; spells = λ z. ((refl, t.1), rw k.0 refl); same = λ r h. rw (t.1, k.0) refl });
       stopped = λ n e.
-        elim (bind_err (token_at q s) (check good c s) n e) [
-          | inl u ↦
-              let t = token_err q s n u in
-              let one = one_text q h in
-              let syntax = second_is t.0 in
-              record {
-                word = []; rest = s; parts = refl; left = sym (first_is t.0); more = one.0 ∷ []; tree = one.0; fault = λ z. bad_unless (good one.0) c;
-                late = λ z. late_syntax n.1 0 _ syntax (from_zero (bad_unless (good one.0) c)); extends = λ d. absurd (d syntax);
-                spells = λ z. (one.1 z, refl);
-                same = λ r same. rw (token_refuses q r (sym (starts_same q s r same) ∙ t.1)) (ap (λ (c : Code). Err (length r, c)) (sym syntax));
-              }
-          | inr a ↦
-              let t = token_ok q s a.0 a.1 in
-              let k = check_err good c s a.0 n a.2 in
-              let code = second_is k.1 in
-              record {
-                word = []; rest = s; parts = refl; left = sym (first_is k.1); more = a.0.0 ∷ []; tree = a.0.0; fault = λ z. Some (0, c);
-                late = λ z. subst (λ (d : Code). Late d 0 (Some (0, c))) (sym code) (late_here c 0);
-                extends = λ d. record { head = a.0.0; rest_tail = a.0.1; more_tail = []; rest_is = t.0; more_is = refl };
-                spells = λ z. ((refl, t.1), rw k.0 refl);
-                same = λ r same. bad_again a.0.0 a.0.1 r t.0 t.1 k.0 same ∙ ap (λ (d : Code). Err (length r, d)) (sym code);
-              }
-        ];
+          elim (bind_err (token_at q s) (check good c s) n e) [
+            | inl u ↦
+                let t = token_err q s n u in
+                let one = one_text q h in
+                let syntax = second_is t.0 in
+                record {
+                  word = [];
+                  rest = s;
+                  parts = refl;
+                  left = sym (first_is t.0);
+                  more = one.0 ∷ [];
+                  tree = one.0;
+                  fault = λ z. bad_unless (good one.0) c;
+                  late = λ z. late_syntax n.1 0 _ syntax (from_zero (bad_unless (good one.0) c));
+                  extends = λ d. absurd (d syntax);
+                  spells = λ z. (one.1 z, refl);
+                  same = λ r same. rw (token_refuses q r (sym (starts_same q s r same) ∙ t.1)) (ap (λ (c : Code). Err (length r, c)) (sym syntax));
+                }
+            | inr a ↦
+                let t = token_ok q s a.0 a.1 in
+                let k = check_err good c s a.0 n a.2 in
+                let code = second_is k.1 in
+                record {
+                  word = [];
+                  rest = s;
+                  parts = refl;
+                  left = sym (first_is k.1);
+                  more = a.0.0 ∷ [];
+                  tree = a.0.0;
+                  fault = λ z. Some (0, c);
+                  late = λ z. subst (λ (d : Code). Late d 0 (Some (0, c))) (sym code) (late_here c 0);
+                  extends = λ d. record { head = a.0.0; rest_tail = a.0.1; more_tail = []; rest_is = t.0; more_is = refl };
+                  spells = λ z. ((refl, t.1), rw k.0 refl);
+                  same = λ r same. bad_again a.0.0 a.0.1 r t.0 t.1 k.0 same ∙ ap (λ (d : Code). Err (length r, d)) (sym code);
+                }
+          ];
     }
   where
     bad_again : (x : Token) (m r : List Token) → s ≡ x ∷ m → q (sort_of x) ≡ true → good x ≡ false → SameHead s r → (token_at q r >>= check good c r) ≡ Err (length r, c)
@@ -221,7 +241,8 @@ both_spells G H w m z n a b x y e g h = (m, x, y, g, h, ap (λ (k : ℕ). then_f
 both_text : {A B : Type 0} (G : Lang A) (H : Lang B) → Text G → Text H → Text (Both G H)
 both_text G H g h =
     record {
-      word = g.word ++ h.word; tree = (g.tree, h.tree);
+      word = g.word ++ h.word;
+      tree = (g.tree, h.tree);
       fault = λ z. then_fault (g.fault (h.word ++ z)) (length g.word) (h.fault z);
       spells = λ z. rw append_assoc (both_spells G H g.word (h.word ++ z) z (length g.word) g.tree h.tree _ _ refl (g.spells (h.word ++ z)) (h.spells z));
     }
@@ -234,31 +255,35 @@ module _ {A B : Type 0} (G : Lang A) (H : Lang B) (p : List Token → Read A) (q
         parts = g.parts ∙ ap (λ (l : List Token). g.word ++ l) h.parts ∙ sym (append_assoc g.word h.word x.1);
         spells = λ z. rw (append_assoc, is) (both_spells G H g.word (h.word ++ z) z (length g.word) a.0 x.0.1 None None refl (g.spells (h.word ++ z)) (h.spells z));
         same = λ r same.
-          let ahead : SameHead a.1 (h.word ++ r) = rw h.parts (same_head_behind h.word x.1 r same) in
-          rw (append_assoc, g.same (h.word ++ r) ahead, h.same r same, is) refl;
+            let ahead : SameHead a.1 (h.word ++ r) = rw h.parts (same_head_behind h.word x.1 r same) in
+            rw (append_assoc, g.same (h.word ++ r) ahead, h.same r same, is) refl;
       }
 
   both_stopped_first : (s : List Token) (n : Stop) → Stopped G p s n → Text H → Stopped (Both G H) (both_at p q) s n
   both_stopped_first s n g h =
       record {
-        word = g.word; rest = g.rest; parts = g.parts; left = g.left;
+        word = g.word;
+        rest = g.rest;
+        parts = g.parts;
+        left = g.left;
         more = g.more ++ h.word;
         tree = (g.tree, h.tree);
         fault = λ z. then_fault (g.fault (h.word ++ z)) (length (g.word ++ g.more)) (h.fault z);
         late = λ z. late_then n.1 (length g.word) (length (g.word ++ g.more)) _ _ (omega (arith, length-append g.word g.more)) (g.late (h.word ++ z));
         extends = λ d. extends_more g.rest g.more h.word (g.extends d);
         spells = λ z.
-          let g' : G ((g.word ++ g.more) ++ (h.word ++ z)) g.tree (g.fault (h.word ++ z)) (h.word ++ z) = rw append_assoc (g.spells (h.word ++ z)) in
-          let both = both_spells G H (g.word ++ g.more) (h.word ++ z) z (length (g.word ++ g.more)) g.tree h.tree _ _ refl g' (h.spells z) in
-          let along : (g.word ++ g.more) ++ (h.word ++ z) ≡ g.word ++ ((g.more ++ h.word) ++ z) = append_assoc g.word g.more (h.word ++ z) ∙ ap (λ (l : List Token). g.word ++ l) (sym (append_assoc g.more h.word z)) in
-          subst (λ (l : List Token). Both G H l (g.tree, h.tree) (then_fault (g.fault (h.word ++ z)) (length (g.word ++ g.more)) (h.fault z)) z) along both;
+            let g' : G ((g.word ++ g.more) ++ (h.word ++ z)) g.tree (g.fault (h.word ++ z)) (h.word ++ z) = rw append_assoc (g.spells (h.word ++ z)) in
+            let both = both_spells G H (g.word ++ g.more) (h.word ++ z) z (length (g.word ++ g.more)) g.tree h.tree _ _ refl g' (h.spells z) in
+            let along : (g.word ++ g.more) ++ (h.word ++ z) ≡ g.word ++ ((g.more ++ h.word) ++ z) = append_assoc g.word g.more (h.word ++ z) ∙ ap (λ (l : List Token). g.word ++ l) (sym (append_assoc g.more h.word z)) in
+            subst (λ (l : List Token). Both G H l (g.tree, h.tree) (then_fault (g.fault (h.word ++ z)) (length (g.word ++ g.more)) (h.fault z)) z) along both;
         same = λ r same. rw (g.same r same) refl;
       }
 
   both_stopped_second : (s : List Token) (n : Stop) (a : A × List Token) → Took G p s a → Stopped H q a.1 n → Stopped (Both G H) (both_at p q) s n
   both_stopped_second s n a g h =
       record {
-        word = g.word ++ h.word; rest = h.rest;
+        word = g.word ++ h.word;
+        rest = h.rest;
         parts = g.parts ∙ ap (λ (l : List Token). g.word ++ l) h.parts ∙ sym (append_assoc g.word h.word h.rest);
         left = h.left;
         more = h.more;
@@ -268,28 +293,27 @@ module _ {A B : Type 0} (G : Lang A) (H : Lang B) (p : List Token → Read A) (q
         extends = h.extends;
         spells = λ z. rw append_assoc (both_spells G H g.word (h.word ++ (h.more ++ z)) z (length g.word) a.0 h.tree None _ refl (g.spells (h.word ++ (h.more ++ z))) (h.spells z));
         same = λ r same.
-          let ahead : SameHead a.1 (h.word ++ r) = rw h.parts (same_head_behind h.word h.rest r same) in
-          rw (append_assoc, g.same (h.word ++ r) ahead, h.same r same) refl;
+            let ahead : SameHead a.1 (h.word ++ r) = rw h.parts (same_head_behind h.word h.rest r same) in
+            rw (append_assoc, g.same (h.word ++ r) ahead, h.same r same) refl;
       }
 
   both_sound : (s : List Token) → Sound G p s → ((m : List Token) → Sound H q m) → Text H → Sound (Both G H) (both_at p q) s
   both_sound s g h text =
       record {
         took = λ x e.
-          let a = bind_ok (p s) (λ a. q a.1 >>= λ b. Ok ((a.0, b.0), b.1)) x e in
-          let b = bind_ok (q a.0.1) (λ b. Ok ((a.0.0, b.0), b.1)) x a.2 in
-          let same = ok_is ((a.0.0, b.0.0), b.0.1) x b.2 in
-          subst (λ (y : (A × B) × List Token). Took (Both G H) (both_at p q) s y) same (both_took s ((a.0.0, b.0.0), b.0.1) a.0 (g.took a.0 a.1) ((h a.0.1).took b.0 b.1) refl);
+            let a = bind_ok (p s) (λ a. q a.1 >>= λ b. Ok ((a.0, b.0), b.1)) x e in
+            let b = bind_ok (q a.0.1) (λ b. Ok ((a.0.0, b.0), b.1)) x a.2 in
+            let same = ok_is ((a.0.0, b.0.0), b.0.1) x b.2 in
+            subst (λ (y : (A × B) × List Token). Took (Both G H) (both_at p q) s y) same (both_took s ((a.0.0, b.0.0), b.0.1) a.0 (g.took a.0 a.1) ((h a.0.1).took b.0 b.1) refl);
         stopped = λ n e.
-          elim (bind_err (p s) (λ a. q a.1 >>= λ b. Ok ((a.0, b.0), b.1)) n e) [
-            | inl u ↦ both_stopped_first s n (g.stopped n u) text
-            | inr a ↦ elim (bind_err (q a.0.1) (λ b. Ok ((a.0.0, b.0), b.1)) n a.2) [
-              | inl u ↦ both_stopped_second s n a.0 (g.took a.0 a.1) ((h a.0.1).stopped n u)
-              | inr b ↦ absurd (no_ok _ n b.2)
+            elim (bind_err (p s) (λ a. q a.1 >>= λ b. Ok ((a.0, b.0), b.1)) n e) [
+              | inl u ↦ both_stopped_first s n (g.stopped n u) text
+              | inr a ↦ elim (bind_err (q a.0.1) (λ b. Ok ((a.0.0, b.0), b.1)) n a.2) [
+                | inl u ↦ both_stopped_second s n a.0 (g.took a.0 a.1) ((h a.0.1).stopped n u)
+                | inr b ↦ absurd (no_ok _ n b.2)
               ]
-          ];
+            ];
       }
-
 
 -- ---- a choice by what comes next
 
@@ -318,15 +342,15 @@ alt_sound : {A : Type 0} (G H : Lang A) (p q : List Token → Read A) (f : Sort 
 alt_sound G H p q f s g h =
     record {
       took = λ x e.
-        elim (chosen (starts f s) (p s) (q s) (Ok x) e) [
-          | inl u ↦ let t = g.took x u.1 in left_took G H p q (starts f) s x t (λ r same. starts_along f s t.word x.1 r true t.parts same u.0)
-          | inr u ↦ let t = h.took x u.1 in right_took G H p q (starts f) s x t (λ r same. starts_along f s t.word x.1 r false t.parts same u.0)
-        ];
+          elim (chosen (starts f s) (p s) (q s) (Ok x) e) [
+            | inl u ↦ let t = g.took x u.1 in left_took G H p q (starts f) s x t (λ r same. starts_along f s t.word x.1 r true t.parts same u.0)
+            | inr u ↦ let t = h.took x u.1 in right_took G H p q (starts f) s x t (λ r same. starts_along f s t.word x.1 r false t.parts same u.0)
+          ];
       stopped = λ n e.
-        elim (chosen (starts f s) (p s) (q s) (Err n) e) [
-          | inl u ↦ let t = g.stopped n u.1 in left_stopped G H p q (starts f) s n t (λ r same. starts_along f s t.word t.rest r true t.parts same u.0)
-          | inr u ↦ let t = h.stopped n u.1 in right_stopped G H p q (starts f) s n t (λ r same. starts_along f s t.word t.rest r false t.parts same u.0)
-        ];
+          elim (chosen (starts f s) (p s) (q s) (Err n) e) [
+            | inl u ↦ let t = g.stopped n u.1 in left_stopped G H p q (starts f) s n t (λ r same. starts_along f s t.word t.rest r true t.parts same u.0)
+            | inr u ↦ let t = h.stopped n u.1 in right_stopped G H p q (starts f) s n t (λ r same. starts_along f s t.word t.rest r false t.parts same u.0)
+          ];
     }
 
 -- ---- another tree
@@ -338,18 +362,18 @@ map_sound : {A B : Type 0} (f : A → B) (G : Lang A) (p : List Token → Read A
 map_sound f G p s g =
     record {
       took = λ x e.
-        let a = bind_ok (p s) (λ a. Ok (f a.0, a.1)) x e in
-        let same = ok_is (f a.0.0, a.0.1) x a.2 in
-        let t = g.took a.0 a.1 in
-        subst (λ (y : _ × List Token). Took (Mapped f G) (λ l. p l >>= λ a. Ok (f a.0, a.1)) s y) same
+          let a = bind_ok (p s) (λ a. Ok (f a.0, a.1)) x e in
+          let same = ok_is (f a.0.0, a.0.1) x a.2 in
+          let t = g.took a.0 a.1 in
+          subst (λ (y : _ × List Token). Took (Mapped f G) (λ l. p l >>= λ a. Ok (f a.0, a.1)) s y) same
           (record { word = t.word; parts = t.parts; spells = λ z. (a.0.0, t.spells z, refl); same = λ r same. rw (t.same r same) refl });
       stopped = λ n e.
-        elim (bind_err (p s) (λ a. Ok (f a.0, a.1)) n e) [
-          | inl u ↦
-              let t = g.stopped n u in
-              record { word = t.word; rest = t.rest; parts = t.parts; left = t.left; more = t.more; tree = f t.tree; fault = t.fault; late = t.late; extends = t.extends; spells = λ z. (t.tree, t.spells z, refl); same = λ r same. rw (t.same r same) refl }
-          | inr u ↦ absurd (no_ok _ n u.2)
-        ];
+          elim (bind_err (p s) (λ a. Ok (f a.0, a.1)) n e) [
+            | inl u ↦
+                let t = g.stopped n u in
+                record { word = t.word; rest = t.rest; parts = t.parts; left = t.left; more = t.more; tree = f t.tree; fault = t.fault; late = t.late; extends = t.extends; spells = λ z. (t.tree, t.spells z, refl); same = λ r same. rw (t.same r same) refl }
+            | inr u ↦ absurd (no_ok _ n u.2)
+          ];
     }
 
 -- ---- maybe one
@@ -358,28 +382,28 @@ opt_sound : {A : Type 0} (G : Lang A) (p : List Token → Read A) (f : Sort → 
 opt_sound {A} G p f s g =
     record {
       took = λ x e.
-        elim (chosen (starts f s) (p s >>= λ a. Ok (Some a.0, a.1)) (Ok (None, s)) (Ok x) e) [
-          | inl u ↦
-              let a = bind_ok (p s) (λ a. Ok (Some a.0, a.1)) x u.1 in
-              let same = ok_is (Some a.0.0, a.0.1) x a.2 in
-              let t = g.took a.0 a.1 in
-              subst (λ (y : Option A × List Token). Took (Maybe G) (λ l. cond (starts f l) (p l >>= λ a. Ok (Some a.0, a.1)) (Ok (None, l))) s y) same
+          elim (chosen (starts f s) (p s >>= λ a. Ok (Some a.0, a.1)) (Ok (None, s)) (Ok x) e) [
+            | inl u ↦
+                let a = bind_ok (p s) (λ a. Ok (Some a.0, a.1)) x u.1 in
+                let same = ok_is (Some a.0.0, a.0.1) x a.2 in
+                let t = g.took a.0 a.1 in
+                subst (λ (y : Option A × List Token). Took (Maybe G) (λ l. cond (starts f l) (p l >>= λ a. Ok (Some a.0, a.1)) (Ok (None, l))) s y) same
                 (record { word = t.word; parts = t.parts; spells = t.spells; same = λ r same. rw (starts_along f s t.word a.0.1 r true t.parts same u.0, t.same r same) refl })
-          | inr u ↦
-              let same = ok_is (None, s) x u.1 in
-              subst (λ (y : Option A × List Token). Took (Maybe G) (λ l. cond (starts f l) (p l >>= λ a. Ok (Some a.0, a.1)) (Ok (None, l))) s y) same
+            | inr u ↦
+                let same = ok_is (None, s) x u.1 in
+                subst (λ (y : Option A × List Token). Took (Maybe G) (λ l. cond (starts f l) (p l >>= λ a. Ok (Some a.0, a.1)) (Ok (None, l))) s y) same
                 (record { word = []; parts = refl; spells = λ z. (refl, refl); same = λ r same. rw (starts_along f s [] s r false refl same u.0) refl })
-        ];
+          ];
       stopped = λ n e.
-        elim (chosen (starts f s) (p s >>= λ a. Ok (Some a.0, a.1)) (Ok (None, s)) (Err n) e) [
-          | inl u ↦ elim (bind_err (p s) (λ a. Ok (Some a.0, a.1)) n u.1) [
-            | inl v ↦
-                let t = g.stopped n v in
-                record { word = t.word; rest = t.rest; parts = t.parts; left = t.left; more = t.more; tree = Some t.tree; fault = t.fault; late = t.late; extends = t.extends; spells = t.spells; same = λ r same. rw (starts_along f s t.word t.rest r true t.parts same u.0, t.same r same) refl }
-            | inr v ↦ absurd (no_ok _ n v.2)
+          elim (chosen (starts f s) (p s >>= λ a. Ok (Some a.0, a.1)) (Ok (None, s)) (Err n) e) [
+            | inl u ↦ elim (bind_err (p s) (λ a. Ok (Some a.0, a.1)) n u.1) [
+              | inl v ↦
+                  let t = g.stopped n v in
+                  record { word = t.word; rest = t.rest; parts = t.parts; left = t.left; more = t.more; tree = Some t.tree; fault = t.fault; late = t.late; extends = t.extends; spells = t.spells; same = λ r same. rw (starts_along f s t.word t.rest r true t.parts same u.0, t.same r same) refl }
+              | inr v ↦ absurd (no_ok _ n v.2)
             ]
-          | inr u ↦ absurd (no_ok _ n u.1)
-        ];
+            | inr u ↦ absurd (no_ok _ n u.1)
+          ];
     }
 
 -- ---- one of two, by the token after the next
@@ -400,7 +424,7 @@ picks_along a b q s [] (x ∷ r) (y ∷ r') t e same full is =
             let one : picks a b q (x ∷ r) ≡ false = rw (bt, af) refl in
             let two : picks a b q (y ∷ r') ≡ false = rw (← same, bt, af) refl in
             two ∙ sym one ∙ at
-        ]
+      ]
       | inr bf ↦
           let one : picks a b q (x ∷ r) ≡ a (sort_of x) = rw bf refl in
           let two : picks a b q (y ∷ r') ≡ a (sort_of x) = rw (← same, bf) refl in
@@ -416,15 +440,15 @@ pick_sound : {A : Type 0} (G H : Lang A) (p q : List Token → Read A) (a b f : 
 pick_sound G H p q a b f s g h pg ph =
     record {
       took = λ x e.
-        elim (chosen (picks a b f s) (p s) (q s) (Ok x) e) [
-          | inl u ↦ let t = g.took x u.1 in left_took G H p q (picks a b f) s x t (λ r same. picks_along a b f s t.word x.1 r true t.parts same (λ w sa sb. let lt = (pg sa sb).1 x u.1 in let k = ap (λ (l : List Token). length l) (t.parts ∙ ap (λ (v : List Token). v ++ x.1) w) in omega (arith, lt, k)) u.0)
-          | inr u ↦ let t = h.took x u.1 in right_took G H p q (picks a b f) s x t (λ r same. picks_along a b f s t.word x.1 r false t.parts same (λ w sa sb. let lt = (ph sb sa).1 x u.1 in let k = ap (λ (l : List Token). length l) (t.parts ∙ ap (λ (v : List Token). v ++ x.1) w) in omega (arith, lt, k)) u.0)
-        ];
+          elim (chosen (picks a b f s) (p s) (q s) (Ok x) e) [
+            | inl u ↦ let t = g.took x u.1 in left_took G H p q (picks a b f) s x t (λ r same. picks_along a b f s t.word x.1 r true t.parts same (λ w sa sb. let lt = (pg sa sb).1 x u.1 in let k = ap (λ (l : List Token). length l) (t.parts ∙ ap (λ (v : List Token). v ++ x.1) w) in omega (arith, lt, k)) u.0)
+            | inr u ↦ let t = h.took x u.1 in right_took G H p q (picks a b f) s x t (λ r same. picks_along a b f s t.word x.1 r false t.parts same (λ w sa sb. let lt = (ph sb sa).1 x u.1 in let k = ap (λ (l : List Token). length l) (t.parts ∙ ap (λ (v : List Token). v ++ x.1) w) in omega (arith, lt, k)) u.0)
+          ];
       stopped = λ n e.
-        elim (chosen (picks a b f s) (p s) (q s) (Err n) e) [
-          | inl u ↦ let t = g.stopped n u.1 in left_stopped G H p q (picks a b f) s n t (λ r same. picks_along a b f s t.word t.rest r true t.parts same (λ w sa sb. let lt = (pg sa sb).0 n u.1 (λ e. absurd cc) in let k = ap (λ (l : List Token). length l) (t.parts ∙ ap (λ (v : List Token). v ++ t.rest) w) in let d = t.left in omega (arith, lt, k, d)) u.0)
-          | inr u ↦ let t = h.stopped n u.1 in right_stopped G H p q (picks a b f) s n t (λ r same. picks_along a b f s t.word t.rest r false t.parts same (λ w sa sb. let lt = (ph sb sa).0 n u.1 (λ e. absurd cc) in let k = ap (λ (l : List Token). length l) (t.parts ∙ ap (λ (v : List Token). v ++ t.rest) w) in let d = t.left in omega (arith, lt, k, d)) u.0)
-        ];
+          elim (chosen (picks a b f s) (p s) (q s) (Err n) e) [
+            | inl u ↦ let t = g.stopped n u.1 in left_stopped G H p q (picks a b f) s n t (λ r same. picks_along a b f s t.word t.rest r true t.parts same (λ w sa sb. let lt = (pg sa sb).0 n u.1 (λ e. absurd cc) in let k = ap (λ (l : List Token). length l) (t.parts ∙ ap (λ (v : List Token). v ++ t.rest) w) in let d = t.left in omega (arith, lt, k, d)) u.0)
+            | inr u ↦ let t = h.stopped n u.1 in right_stopped G H p q (picks a b f) s n t (λ r same. picks_along a b f s t.word t.rest r false t.parts same (λ w sa sb. let lt = (ph sb sa).0 n u.1 (λ e. absurd cc) in let k = ap (λ (l : List Token). length l) (t.parts ∙ ap (λ (v : List Token). v ++ t.rest) w) in let d = t.left in omega (arith, lt, k, d)) u.0)
+          ];
     }
 
 -- ---- many
@@ -491,41 +515,49 @@ module _ {A : Type 0} (full : ℕ → Option Code) (G : Lang A) (p : List Token 
         parts = g.parts ∙ ap (λ (l : List Token). g.word ++ l) h.parts ∙ sym (append_assoc g.word h.word b.1);
         spells = λ z. rw append_assoc (many_spells i g.word (h.word ++ z) z (length g.word) a.0 b.0 None None none refl (g.spells (h.word ++ z)) (h.spells z));
         same = λ r same.
-          let ahead : SameHead a.1 (h.word ++ r) = rw h.parts (same_head_behind h.word b.1 r same) in
-          let go : starts f (g.word ++ (h.word ++ r)) ≡ true = starts_along f s g.word a.1 (h.word ++ r) true g.parts ahead t in
-          rw append_assoc (many_is full f p moves i (g.word ++ (h.word ++ r)) ∙ rw (go, none, g.same (h.word ++ r) ahead, h.same r same) refl);
+            let ahead : SameHead a.1 (h.word ++ r) = rw h.parts (same_head_behind h.word b.1 r same) in
+            let go : starts f (g.word ++ (h.word ++ r)) ≡ true = starts_along f s g.word a.1 (h.word ++ r) true g.parts ahead t in
+            rw append_assoc (many_is full f p moves i (g.word ++ (h.word ++ r)) ∙ rw (go, none, g.same (h.word ++ r) ahead, h.same r same) refl);
       }
 
   many_stopped : (i : ℕ) (s : List Token) (n : Stop) (a : A × List Token) → starts f s ≡ true → full i ≡ None → Took G p s a → Stopped (Many full G (suc i)) (many (suc i)) a.1 n → Stopped (Many full G i) (many i) s n
   many_stopped i s n a t none g h =
       record {
-        word = g.word ++ h.word; rest = h.rest;
+        word = g.word ++ h.word;
+        rest = h.rest;
         parts = g.parts ∙ ap (λ (l : List Token). g.word ++ l) h.parts ∙ sym (append_assoc g.word h.word h.rest);
-        left = h.left; more = h.more; tree = a.0 ∷ h.tree;
+        left = h.left;
+        more = h.more;
+        tree = a.0 ∷ h.tree;
         fault = λ z. then_fault None (length g.word) (h.fault z);
         late = λ z. late_behind n.1 (length (g.word ++ h.word)) (length h.word) (length g.word) (h.fault z) (length-append g.word h.word) (h.late z);
         extends = h.extends;
         spells = λ z. rw append_assoc (many_spells i g.word (h.word ++ (h.more ++ z)) z (length g.word) a.0 h.tree None _ none refl (g.spells (h.word ++ (h.more ++ z))) (h.spells z));
         same = λ r same.
-          let ahead : SameHead a.1 (h.word ++ r) = rw h.parts (same_head_behind h.word h.rest r same) in
-          let go : starts f (g.word ++ (h.word ++ r)) ≡ true = starts_along f s g.word a.1 (h.word ++ r) true g.parts ahead t in
-          rw append_assoc (many_is full f p moves i (g.word ++ (h.word ++ r)) ∙ rw (go, none, g.same (h.word ++ r) ahead, h.same r same) refl);
+            let ahead : SameHead a.1 (h.word ++ r) = rw h.parts (same_head_behind h.word h.rest r same) in
+            let go : starts f (g.word ++ (h.word ++ r)) ≡ true = starts_along f s g.word a.1 (h.word ++ r) true g.parts ahead t in
+            rw append_assoc (many_is full f p moves i (g.word ++ (h.word ++ r)) ∙ rw (go, none, g.same (h.word ++ r) ahead, h.same r same) refl);
       }
 
   one_stopped : (i : ℕ) (s : List Token) (n : Stop) → starts f s ≡ true → full i ≡ None → Stopped G p s n → Stopped (Many full G i) (many i) s n
   one_stopped i s n t none g =
       record {
-        word = g.word; rest = g.rest; parts = g.parts; left = g.left; more = g.more; tree = g.tree ∷ [];
+        word = g.word;
+        rest = g.rest;
+        parts = g.parts;
+        left = g.left;
+        more = g.more;
+        tree = g.tree ∷ [];
         fault = λ z. then_fault (g.fault z) (length (g.word ++ g.more)) None;
         late = λ z. late_then n.1 (length g.word) (length (g.word ++ g.more)) _ None (omega (arith, length-append g.word g.more)) (g.late z);
         extends = g.extends;
         spells = λ z.
-          let g' : G ((g.word ++ g.more) ++ z) g.tree (g.fault z) z = rw append_assoc (g.spells z) in
-          let many' = many_spells i (g.word ++ g.more) z z (length (g.word ++ g.more)) g.tree [] (g.fault z) None none refl g' (refl, refl) in
-          subst (λ (l : List Token). Many full G i l (g.tree ∷ []) (then_fault (g.fault z) (length (g.word ++ g.more)) None) z) (append_assoc g.word g.more z) many';
+            let g' : G ((g.word ++ g.more) ++ z) g.tree (g.fault z) z = rw append_assoc (g.spells z) in
+            let many' = many_spells i (g.word ++ g.more) z z (length (g.word ++ g.more)) g.tree [] (g.fault z) None none refl g' (refl, refl) in
+            subst (λ (l : List Token). Many full G i l (g.tree ∷ []) (then_fault (g.fault z) (length (g.word ++ g.more)) None) z) (append_assoc g.word g.more z) many';
         same = λ r same.
-          let go : starts f (g.word ++ r) ≡ true = starts_along f s g.word g.rest r true g.parts same t in
-          many_is full f p moves i (g.word ++ r) ∙ rw (go, none, g.same r same) refl;
+            let go : starts f (g.word ++ r) ≡ true = starts_along f s g.word g.rest r true g.parts same t in
+            many_is full f p moves i (g.word ++ r) ∙ rw (go, none, g.same r same) refl;
       }
 
   too_many : (i : ℕ) (s : List Token) (n : Stop) (c : Code) → starts f s ≡ true → full i ≡ Some c → n ≡ (length s, c) → Stopped (Many full G i) (many i) s n
@@ -534,14 +566,19 @@ module _ {A : Type 0} (full : ℕ → Option Code) (G : Lang A) (p : List Token 
       let l = led G p x m moves (pass (x ∷ m) t) (sound (x ∷ m)) in
       let code = second_is e in
       record {
-        word = []; rest = x ∷ m; parts = refl; left = sym (first_is e); more = x ∷ l.more; tree = l.tree ∷ [];
+        word = [];
+        rest = x ∷ m;
+        parts = refl;
+        left = sym (first_is e);
+        more = x ∷ l.more;
+        tree = l.tree ∷ [];
         fault = λ z. Some (0, c);
         late = λ z. subst (λ (d : Code). Late d 0 (Some (0, c))) (sym code) (late_here c 0);
         extends = λ d. record { head = x; rest_tail = m; more_tail = l.more; rest_is = refl; more_is = refl };
         spells = λ z. (z, l.fault z, None, l.spells z, (refl, refl), ap (λ (d : Option Code). then_fault (or_fault (at_start d) (l.fault z)) (taken (x ∷ (l.more ++ z)) z) None) (sym is));
         same = λ r same.
-          let go : starts f r ≡ true = sym (starts_same f (x ∷ m) r same) ∙ t in
-          many_is full f p moves i r ∙ rw (go, is) (ap (λ (d : Code). Err (length r, d)) (sym code));
+            let go : starts f r ≡ true = sym (starts_same f (x ∷ m) r same) ∙ t in
+            many_is full f p moves i r ∙ rw (go, is) (ap (λ (d : Code). Err (length r, d)) (sym code));
       }
 
   none_took : (i : ℕ) (s : List Token) → starts f s ≡ false → Took (Many full G i) (many i) s ([], s)
@@ -551,29 +588,29 @@ module _ {A : Type 0} (full : ℕ → Option Code) (G : Lang A) (p : List Token 
   many_step i s later =
       record {
         took = λ x e.
-          elim (chosen (starts f s) (refuse (full i) s (p s >>= rest_of i)) (Ok ([], s)) (Ok x) (sym (many_is full f p moves i s) ∙ e)) [
-            | inl u ↦
-                let ge = refuse_ok (full i) s (p s >>= rest_of i) x u.1 in
-                let a = bind_ok (p s) (rest_of i) x ge.1 in
-                let b = bind_ok (many (suc i) a.0.1) (λ more. Ok (a.0.0 ∷ more.0, more.1)) x a.2 in
-                let same = ok_is (a.0.0 ∷ b.0.0, b.0.1) x b.2 in
-                subst (λ (y : List A × List Token). Took (Many full G i) (many i) s y) same (many_took i s a.0 b.0 u.0 ge.0 ((sound s).took a.0 a.1) ((later a.0.1 (moves s a.0 a.1)).took b.0 b.1))
-            | inr u ↦ subst (λ (y : List A × List Token). Took (Many full G i) (many i) s y) (ok_is ([], s) x u.1) (none_took i s u.0)
-          ];
+            elim (chosen (starts f s) (refuse (full i) s (p s >>= rest_of i)) (Ok ([], s)) (Ok x) (sym (many_is full f p moves i s) ∙ e)) [
+              | inl u ↦
+                  let ge = refuse_ok (full i) s (p s >>= rest_of i) x u.1 in
+                  let a = bind_ok (p s) (rest_of i) x ge.1 in
+                  let b = bind_ok (many (suc i) a.0.1) (λ more. Ok (a.0.0 ∷ more.0, more.1)) x a.2 in
+                  let same = ok_is (a.0.0 ∷ b.0.0, b.0.1) x b.2 in
+                  subst (λ (y : List A × List Token). Took (Many full G i) (many i) s y) same (many_took i s a.0 b.0 u.0 ge.0 ((sound s).took a.0 a.1) ((later a.0.1 (moves s a.0 a.1)).took b.0 b.1))
+              | inr u ↦ subst (λ (y : List A × List Token). Took (Many full G i) (many i) s y) (ok_is ([], s) x u.1) (none_took i s u.0)
+            ];
         stopped = λ n e.
-          elim (chosen (starts f s) (refuse (full i) s (p s >>= rest_of i)) (Ok ([], s)) (Err n) (sym (many_is full f p moves i s) ∙ e)) [
-            | inl u ↦ elim (refuse_err (full i) s (p s >>= rest_of i) n u.1) [
-              | inl v ↦ too_many i s n v.0 u.0 v.1 v.2
-              | inr ge ↦ elim (bind_err (p s) (rest_of i) n ge.1) [
-                | inl v ↦ one_stopped i s n u.0 ge.0 ((sound s).stopped n v)
-                | inr a ↦ elim (bind_err (many (suc i) a.0.1) (λ more. Ok (a.0.0 ∷ more.0, more.1)) n a.2) [
-                  | inl v ↦ many_stopped i s n a.0 u.0 ge.0 ((sound s).took a.0 a.1) ((later a.0.1 (moves s a.0 a.1)).stopped n v)
-                  | inr v ↦ absurd (no_ok _ n v.2)
+            elim (chosen (starts f s) (refuse (full i) s (p s >>= rest_of i)) (Ok ([], s)) (Err n) (sym (many_is full f p moves i s) ∙ e)) [
+              | inl u ↦ elim (refuse_err (full i) s (p s >>= rest_of i) n u.1) [
+                | inl v ↦ too_many i s n v.0 u.0 v.1 v.2
+                | inr ge ↦ elim (bind_err (p s) (rest_of i) n ge.1) [
+                  | inl v ↦ one_stopped i s n u.0 ge.0 ((sound s).stopped n v)
+                  | inr a ↦ elim (bind_err (many (suc i) a.0.1) (λ more. Ok (a.0.0 ∷ more.0, more.1)) n a.2) [
+                    | inl v ↦ many_stopped i s n a.0 u.0 ge.0 ((sound s).took a.0 a.1) ((later a.0.1 (moves s a.0 a.1)).stopped n v)
+                    | inr v ↦ absurd (no_ok _ n v.2)
                   ]
                 ]
               ]
-            | inr u ↦ absurd (no_ok _ n u.1)
-          ];
+              | inr u ↦ absurd (no_ok _ n u.1)
+            ];
       }
 
   many_sound : (m i : ℕ) (s : List Token) → length s ≤ m → Sound (Many full G i) (many i) s
@@ -589,39 +626,51 @@ behind_sound : {A : Type 0} (q : Sort → Bool) (G : Lang A) (p : List Token →
 behind_sound q G p some g text s =
     record {
       took = λ x e.
-        let a = bind_ok (token_at q s) (λ y. p y.1) x e in
-        let t = token_ok q s a.0 a.1 in
-        let b = (g a.0.1).took x a.2 in
-        record {
-          word = a.0.0 ∷ b.word;
-          parts = t.0 ∙ ap (λ (l : List Token). a.0.0 ∷ l) b.parts;
-          spells = λ z. (a.0.0, b.word ++ z, None, (refl, t.1), b.spells z, refl);
-          same = λ r same. rw (t.1, b.same r same) refl;
-        };
+          let a = bind_ok (token_at q s) (λ y. p y.1) x e in
+          let t = token_ok q s a.0 a.1 in
+          let b = (g a.0.1).took x a.2 in
+          record {
+            word = a.0.0 ∷ b.word;
+            parts = t.0 ∙ ap (λ (l : List Token). a.0.0 ∷ l) b.parts;
+            spells = λ z. (a.0.0, b.word ++ z, None, (refl, t.1), b.spells z, refl);
+            same = λ r same. rw (t.1, b.same r same) refl;
+          };
       stopped = λ n e.
-        elim (bind_err (token_at q s) (λ y. p y.1) n e) [
-          | inl u ↦
-              let t = token_err q s n u in
-              let one = one_text q some in
-              let syntax = second_is t.0 in
-              record {
-                word = []; rest = s; parts = refl; left = sym (first_is t.0); more = one.0 ∷ text.word; tree = text.tree; fault = λ z. then_fault None 1 (text.fault z);
-                late = λ z. late_syntax n.1 0 _ syntax (from_zero (then_fault None 1 (text.fault z))); extends = λ d. absurd (d syntax);
-                spells = λ z. (one.0, text.word ++ z, text.fault z, one.1 (text.word ++ z), text.spells z, refl);
-                same = λ r same. rw (token_refuses q r (sym (starts_same q s r same) ∙ t.1)) (ap (λ (c : Code). Err (length r, c)) (sym syntax));
-              }
-          | inr a ↦
-              let t = token_ok q s a.0 a.1 in
-              let b = (g a.0.1).stopped n a.2 in
-              record {
-                word = a.0.0 ∷ b.word; rest = b.rest;
-                parts = t.0 ∙ ap (λ (l : List Token). a.0.0 ∷ l) b.parts;
-                left = b.left; more = b.more; tree = b.tree; fault = λ z. then_fault None 1 (b.fault z);
-                late = λ z. late_behind n.1 (suc (length b.word)) (length b.word) 1 (b.fault z) (omega arith) (b.late z); extends = b.extends;
-                spells = λ z. (a.0.0, b.word ++ (b.more ++ z), b.fault z, (refl, t.1), b.spells z, refl);
-                same = λ r same. rw (t.1, b.same r same) refl;
-              }
-        ];
+          elim (bind_err (token_at q s) (λ y. p y.1) n e) [
+            | inl u ↦
+                let t = token_err q s n u in
+                let one = one_text q some in
+                let syntax = second_is t.0 in
+                record {
+                  word = [];
+                  rest = s;
+                  parts = refl;
+                  left = sym (first_is t.0);
+                  more = one.0 ∷ text.word;
+                  tree = text.tree;
+                  fault = λ z. then_fault None 1 (text.fault z);
+                  late = λ z. late_syntax n.1 0 _ syntax (from_zero (then_fault None 1 (text.fault z)));
+                  extends = λ d. absurd (d syntax);
+                  spells = λ z. (one.0, text.word ++ z, text.fault z, one.1 (text.word ++ z), text.spells z, refl);
+                  same = λ r same. rw (token_refuses q r (sym (starts_same q s r same) ∙ t.1)) (ap (λ (c : Code). Err (length r, c)) (sym syntax));
+                }
+            | inr a ↦
+                let t = token_ok q s a.0 a.1 in
+                let b = (g a.0.1).stopped n a.2 in
+                record {
+                  word = a.0.0 ∷ b.word;
+                  rest = b.rest;
+                  parts = t.0 ∙ ap (λ (l : List Token). a.0.0 ∷ l) b.parts;
+                  left = b.left;
+                  more = b.more;
+                  tree = b.tree;
+                  fault = λ z. then_fault None 1 (b.fault z);
+                  late = λ z. late_behind n.1 (suc (length b.word)) (length b.word) 1 (b.fault z) (omega arith) (b.late z);
+                  extends = b.extends;
+                  spells = λ z. (a.0.0, b.word ++ (b.more ++ z), b.fault z, (refl, t.1), b.spells z, refl);
+                  same = λ r same. rw (t.1, b.same r same) refl;
+                }
+          ];
     }
 
 -- ---- at most so many tokens
@@ -682,12 +731,13 @@ module _ {A : Type 0} (L : Limit) (c : Code) (G : Lang A) (p : List Token → Re
       let n : length s - length x.1 ≡ length t.word = ap (λ (l : List Token). length l - length x.1) t.parts ∙ taken_is t.word x.1 in
       let fits : (z : List Token) → length t.word ≤ L.at (t.word ++ z) = λ z. L.keeps t.word x.1 z (subst (λ (l : List Token). length t.word ≤ L.at l) t.parts (omega (arith, n, le))) in
       record {
-        word = t.word; parts = t.parts;
+        word = t.word;
+        parts = t.parts;
         spells = λ z. (None, t.spells z, sym (cut_none (L.at (t.word ++ z)) c (taken (t.word ++ z) z) (let k = taken_is t.word z in let f = fits z in omega (arith, k, f))));
         same = λ r same.
-          let k = taken_is t.word r in let f = fits r in
-          let low : nat_lt (L.at (t.word ++ r)) (length (t.word ++ r) - length r) ≡ false = le-ltb _ _ (omega (arith, k, f)) in
-          rw (t.same r same, low) refl;
+            let k = taken_is t.word r in let f = fits r in
+            let low : nat_lt (L.at (t.word ++ r)) (length (t.word ++ r) - length r) ≡ false = le-ltb _ _ (omega (arith, k, f)) in
+            rw (t.same r same, low) refl;
       }
 
   judge_inside : (s : List Token) (n : Stop) → p s ≡ Err n → length s - n.0 ≤ L.at s → Stopped (Limited L c G) judged s n
@@ -696,7 +746,12 @@ module _ {A : Type 0} (L : Limit) (c : Code) (G : Lang A) (p : List Token → Re
       let m : length s - n.0 ≡ length t.word = ap (λ (l : List Token). length l - n.0) t.parts ∙ ap (λ (k : ℕ). length (t.word ++ t.rest) - k) (sym t.left) ∙ taken_is t.word t.rest in
       let fits : (z : List Token) → length t.word ≤ L.at (t.word ++ z) = λ z. L.keeps t.word t.rest z (subst (λ (l : List Token). length t.word ≤ L.at l) t.parts (omega (arith, m, le))) in
       record {
-        word = t.word; rest = t.rest; parts = t.parts; left = t.left; more = t.more; tree = t.tree;
+        word = t.word;
+        rest = t.rest;
+        parts = t.parts;
+        left = t.left;
+        more = t.more;
+        tree = t.tree;
         fault = λ z. cut_at (L.at (t.word ++ (t.more ++ z))) c (taken (t.word ++ (t.more ++ z)) z) (t.fault z);
         late = λ z. record {
           from = cut_from _ c (taken (t.word ++ (t.more ++ z)) z) (length t.word) (t.fault z) (fits (t.more ++ z)) (t.late z).from;
@@ -705,9 +760,9 @@ module _ {A : Type 0} (L : Limit) (c : Code) (G : Lang A) (p : List Token → Re
         extends = t.extends;
         spells = λ z. (t.fault z, t.spells z, refl);
         same = λ r same.
-          let k = taken_is t.word r in let f = fits r in
-          let low : nat_lt (L.at (t.word ++ r)) (length (t.word ++ r) - length r) ≡ false = le-ltb _ _ (omega (arith, k, f)) in
-          rw (t.same r same, low) refl;
+            let k = taken_is t.word r in let f = fits r in
+            let low : nat_lt (L.at (t.word ++ r)) (length (t.word ++ r) - length r) ≡ false = le-ltb _ _ (omega (arith, k, f)) in
+            rw (t.same r same, low) refl;
       }
 
   -- past the limit, whatever follows
@@ -736,17 +791,17 @@ module _ {A : Type 0} (L : Limit) (c : Code) (G : Lang A) (p : List Token → Re
           let t = (sound (u ++ y ∷ r)).took x e in
           let n : length (u ++ y ∷ r) - length x.1 ≡ length t.word = ap (λ (l : List Token). length l - length x.1) t.parts ∙ taken_is t.word x.1 in
           let never : length (u ++ y ∷ r) - length x.1 ≤ length u → ⊥ = λ le.
-              let m = meets t.word x.1 t.parts (omega (arith, n, le)) in
-              let k = ok (x.0, m.0 ++ y ∷ v) (ap p m.2 ∙ t.same (m.0 ++ y ∷ v) m.1) in
-              omega (arith, k, m.3) in
+          let m = meets t.word x.1 t.parts (omega (arith, n, le)) in
+          let k = ok (x.0, m.0 ++ y ∷ v) (ap p m.2 ∙ t.same (m.0 ++ y ∷ v) m.1) in
+          omega (arith, k, m.3) in
           rw (e, high (length (u ++ y ∷ r) - length x.1) never) out
       go (Err d) e =
           let t = (sound (u ++ y ∷ r)).stopped d e in
           let n : length (u ++ y ∷ r) - d.0 ≡ length t.word = ap (λ (l : List Token). length l - d.0) t.parts ∙ ap (λ (k : ℕ). length (t.word ++ t.rest) - k) (sym t.left) ∙ taken_is t.word t.rest in
           let never : length (u ++ y ∷ r) - d.0 ≤ length u → ⊥ = λ le.
-              let m = meets t.word t.rest t.parts (omega (arith, n, le)) in
-              let k = err (length (m.0 ++ y ∷ v), d.1) (ap p m.2 ∙ t.same (m.0 ++ y ∷ v) m.1) in
-              omega (arith, k, m.3) in
+          let m = meets t.word t.rest t.parts (omega (arith, n, le)) in
+          let k = err (length (m.0 ++ y ∷ v), d.1) (ap p m.2 ∙ t.same (m.0 ++ y ∷ v) m.1) in
+          omega (arith, k, m.3) in
           rw (e, high (length (u ++ y ∷ r) - d.0) never) out
 
   -- a text that is longer than its limit
@@ -764,21 +819,25 @@ module _ {A : Type 0} (L : Limit) (c : Code) (G : Lang A) (p : List Token → Re
       let back = length-append v rest in
       let code = second_is is in
       record {
-        word = u; rest = y ∷ (v ++ rest); parts = whole;
+        word = u;
+        rest = y ∷ (v ++ rest);
+        parts = whole;
         left = let f = first_is is in omega (arith, f, all, long, k.4, back);
-        more = y ∷ (v ++ more); tree = tree; fault = λ z. Some (length u, c);
+        more = y ∷ (v ++ more);
+        tree = tree;
+        fault = λ z. Some (length u, c);
         late = λ z. subst (λ (d : Code). Late d (length u) (Some (length u, c))) (sym code) (late_here c (length u));
         extends = λ d. record { head = y; rest_tail = v ++ rest; more_tail = v ++ more; rest_is = refl; more_is = refl };
         spells = λ z.
-          let along : u ++ ((y ∷ (v ++ more)) ++ z) ≡ word ++ (more ++ z) =
-              ap (λ (l : List Token). u ++ (y ∷ l)) (append_assoc v more z) ∙ sym (append_assoc u (y ∷ v) (more ++ z)) ∙ ap (λ (l : List Token). l ++ (more ++ z)) (sym k.3) in
-          let g : G (u ++ ((y ∷ (v ++ more)) ++ z)) tree (fault z) z = subst (λ (l : List Token). G l tree (fault z) z) (sym along) (spells z) in
-          let size : taken (u ++ ((y ∷ (v ++ more)) ++ z)) z ≡ length word + length more = ap (λ (l : List Token). taken l z) along ∙ omega (arith, length-append word (more ++ z), length-append more z) in
-          let lim : L.at (u ++ ((y ∷ (v ++ more)) ++ z)) ≡ length u = at ((v ++ more) ++ z) in
-          (fault z, g, sym (ap (λ (l : ℕ). cut_at l c (taken (u ++ ((y ∷ (v ++ more)) ++ z)) z) (fault z)) lim ∙ cut_here (length u) c _ (fault z) (omega (arith, size, long)) (from_less (length word) (suc (length u)) (fault z) (omega (arith, long)) (from z))));
+            let along : u ++ ((y ∷ (v ++ more)) ++ z) ≡ word ++ (more ++ z) =
+            ap (λ (l : List Token). u ++ (y ∷ l)) (append_assoc v more z) ∙ sym (append_assoc u (y ∷ v) (more ++ z)) ∙ ap (λ (l : List Token). l ++ (more ++ z)) (sym k.3) in
+            let g : G (u ++ ((y ∷ (v ++ more)) ++ z)) tree (fault z) z = subst (λ (l : List Token). G l tree (fault z) z) (sym along) (spells z) in
+            let size : taken (u ++ ((y ∷ (v ++ more)) ++ z)) z ≡ length word + length more = ap (λ (l : List Token). taken l z) along ∙ omega (arith, length-append word (more ++ z), length-append more z) in
+            let lim : L.at (u ++ ((y ∷ (v ++ more)) ++ z)) ≡ length u = at ((v ++ more) ++ z) in
+            (fault z, g, sym (ap (λ (l : ℕ). cut_at l c (taken (u ++ ((y ∷ (v ++ more)) ++ z)) z) (fault z)) lim ∙ cut_here (length u) c _ (fault z) (omega (arith, size, long)) (from_less (length word) (suc (length u)) (fault z) (omega (arith, long)) (from z))));
         same = λ r same. again u y (v ++ rest) r whole at same
-          (λ x e. let f = ok x e in omega (arith, f, back)) (λ d e. let f = err d e in omega (arith, f, back))
-          ∙ ap (λ (d : Code). Err (length r, d)) (sym code);
+            (λ x e. let f = ok x e in omega (arith, f, back)) (λ d e. let f = err d e in omega (arith, f, back))
+            ∙ ap (λ (d : Code). Err (length r, d)) (sym code);
       }
     where
       from_less : (w m : ℕ) (o : Fault) → m ≤ w → IsFrom w o → IsFrom m o
@@ -795,23 +854,23 @@ module _ {A : Type 0} (L : Limit) (c : Code) (G : Lang A) (p : List Token → Re
       record {
         took = λ x e. let j = judge_ok (L.at s) c s (p s) x e in judge_took s x j.0 (ltb-false _ _ j.1);
         stopped = λ n e.
-          elim (judge_err (L.at s) c s (p s) n e) [
-            | inl u ↦
-                let t = (sound s).took u.0 u.1 in
-                let k : length s - length u.0.1 ≡ length t.word = ap (λ (l : List Token). length l - length u.0.1) t.parts ∙ taken_is t.word u.0.1 in
-                let lt = ltb-true _ _ u.2 in
-                judge_past s n t.word u.0.1 [] u.0.0 (λ z. None) t.parts (omega (arith, k, lt)) u.3 (λ z. tt) t.spells
+            elim (judge_err (L.at s) c s (p s) n e) [
+              | inl u ↦
+                  let t = (sound s).took u.0 u.1 in
+                  let k : length s - length u.0.1 ≡ length t.word = ap (λ (l : List Token). length l - length u.0.1) t.parts ∙ taken_is t.word u.0.1 in
+                  let lt = ltb-true _ _ u.2 in
+                  judge_past s n t.word u.0.1 [] u.0.0 (λ z. None) t.parts (omega (arith, k, lt)) u.3 (λ z. tt) t.spells
                   (λ x e'. let same = ok_is u.0 x (sym u.1 ∙ e') in let f = ap (λ (y : A × List Token). length y.1) same in omega (arith, f))
                   (λ d e'. absurd (no_ok u.0 d (sym u.1 ∙ e')))
-            | inr (inl u) ↦
-                let t = (sound s).stopped u.0 u.1 in
-                let k : length s - u.0.0 ≡ length t.word = ap (λ (l : List Token). length l - u.0.0) t.parts ∙ ap (λ (m : ℕ). length (t.word ++ t.rest) - m) (sym t.left) ∙ taken_is t.word t.rest in
-                let lt = ltb-true _ _ u.2 in
-                judge_past s n t.word t.rest t.more t.tree t.fault t.parts (omega (arith, k, lt)) u.3 (λ z. (t.late z).from) t.spells
+              | inr (inl u) ↦
+                  let t = (sound s).stopped u.0 u.1 in
+                  let k : length s - u.0.0 ≡ length t.word = ap (λ (l : List Token). length l - u.0.0) t.parts ∙ ap (λ (m : ℕ). length (t.word ++ t.rest) - m) (sym t.left) ∙ taken_is t.word t.rest in
+                  let lt = ltb-true _ _ u.2 in
+                  judge_past s n t.word t.rest t.more t.tree t.fault t.parts (omega (arith, k, lt)) u.3 (λ z. (t.late z).from) t.spells
                   (λ x e'. absurd (no_ok x u.0 (sym e' ∙ u.1)))
                   (λ d e'. let same : u.0 ≡ d = err_is u.0 d (sym u.1 ∙ e') in let f = ap (λ (y : Stop). y.0) same in omega (arith, f, t.left))
-            | inr (inr u) ↦ judge_inside s n u.0 (ltb-false _ _ u.1)
-          ];
+              | inr (inr u) ↦ judge_inside s n u.0 (ltb-false _ _ u.1)
+            ];
       }
     where
       err_is : (a b : Stop) → failed {A = A} a ≡ Err b → a ≡ b
@@ -896,13 +955,13 @@ run_sound c R p shrink faults names known (pick q g h) fine s =
     let f' = and_parts (is_fine c h) _ f.1 in
     let safe = pick_safe c q g h fine in
     pick_sound (Spells R g) (Spells R h) (run p g) (run p h) (first g) (first h) q s (run_sound c R p shrink faults names known g f.0 s) (run_sound c R p shrink faults names known h f'.0 s)
-      (λ sa sb. passes c p shrink faults false (both_first g h) g f.0 safe.0 s (λ _. both_starts g h s sa sb) sa) (λ sb sa. passes c p shrink faults false (both_first g h) h f'.0 safe.1 s (λ _. both_starts g h s sa sb) sb)
+    (λ sa sb. passes c p shrink faults false (both_first g h) g f.0 safe.0 s (λ _. both_starts g h s sa sb) sa) (λ sb sa. passes c p shrink faults false (both_first g h) h f'.0 safe.1 s (λ _. both_starts g h s sa sb) sb)
 run_sound c R p shrink faults names known (opt g) fine s = opt_sound (Spells R g) (run p g) (first g) s (run_sound c R p shrink faults names known g (and_parts (is_fine c g) _ fine).0 s)
 run_sound c R p shrink faults names known (star full g) fine s =
     let f = and_parts (is_fine c g) _ fine in
     let never = not-true (may_be_empty g) (and_parts (not (may_be_empty g)) _ f.1).0 in
     many_sound full (Spells R g) (run p g) (first g) (λ s' x e. (run_shrinks p shrink g s' x e).1 never) (run_sound c R p shrink faults names known g f.0)
-      (λ s' t. passes c p shrink faults true (λ _. false) g f.0 (safe_true (λ _. false) g) s' (λ e. absurd cc) t) (length s) 0 s (omega arith)
+    (λ s' t. passes c p shrink faults true (λ _. false) g f.0 (safe_true (λ _. false) g) s' (λ e. absurd cc) t) (length s) 0 s (omega arith)
 run_sound c R p shrink faults names known (behind q n) fine s = behind_sound q (R n) (p n) fine (known n) (names n) s
 
 -- ---- reading a window
@@ -955,13 +1014,13 @@ module _ {A : Type 0} (L : Limit) (c : Code) (G : Lang A) (p : List Token → Re
           let k = (sound s).took x e in
           let n : length s - length x.1 ≡ length k.word = ap (λ (l : List Token). length l - length x.1) k.parts ∙ taken_is k.word x.1 in
           let never : length s - length x.1 ≤ L.at s → ⊥ = λ le.
-              let u = left_of k.word x.1 k.parts (omega (arith, n, le)) in
-              no_tree x.0 u.0 u.3 (ap p u.1 ∙ k.same u.0 (back u.0 x.1 u.2 u.3)) in
+          let u = left_of k.word x.1 k.parts (omega (arith, n, le)) in
+          no_tree x.0 u.0 u.3 (ap p u.1 ∙ k.same u.0 (back u.0 x.1 u.2 u.3)) in
           rw (e, lt-ltb _ _ (above (length s - length x.1) (L.at s) (L.at s) refl never)) refl
       go (Err d) e =
           let k = (sound s).stopped d e in
           let n : length s - d.0 ≡ length k.word = ap (λ (l : List Token). length l - d.0) k.parts ∙ ap (λ (m : ℕ). length (k.word ++ k.rest) - m) (sym k.left) ∙ taken_is k.word k.rest in
           let never : length s - d.0 ≤ L.at s → ⊥ = λ le.
-              let u = left_of k.word k.rest k.parts (omega (arith, n, le)) in
-              no_fault (length u.0, d.1) u.3 (ap p u.1 ∙ k.same u.0 (back u.0 k.rest u.2 u.3)) in
+          let u = left_of k.word k.rest k.parts (omega (arith, n, le)) in
+          no_fault (length u.0, d.1) u.3 (ap p u.1 ∙ k.same u.0 (back u.0 k.rest u.2 u.3)) in
           rw (e, lt-ltb _ _ (above (length s - d.0) (L.at s) (L.at s) refl never)) refl

@@ -1,5 +1,5 @@
 -- The sort that a table has for a spelling.
-use Rattle.std.proofs.Common.{◌≡◌, ℕ, suc, ◌+◌, ◌<◌, Bool, true, false, List, [], ◌∷◌, length, drop, get_or, map, refl, sym, ap, ◌∙◌, cond, Bor, add-one}
+use Rattle.std.proofs.Common.{◌≡◌, ℕ, suc, ◌+◌, ◌<◌, Bool, true, false, List, length, drop, get_or, map, ap, ◌∙◌, cond, Bor, add-one}
 use Rattle.std.proofs.Math.Seq.{drop-cons}
 use Rattle.std.specs.Str.{bytes_eq}
 use Rattle.grammar_core.specs.declared.sort.Sort.{Sort}

@@ -1,30 +1,30 @@
 -- A grammar whose names are fine is read exactly, with the first fault.
-use Rattle.std.proofs.Common.{◌≡◌, ◌≢◌, ℕ, zero, suc, ◌+◌, ◌-◌, ◌<◌, ◌≤◌, Bool, true, false, cond, List, [], ◌∷◌, ◌++◌, length, take, drop, Result, Ok, Err, refl, ◌⊎◌, inl, inr, sym, ap, ◌∙◌, append_assoc, arith, subst}
-use Rattle.std.specs.Prelude.{Option, Some, None, nat_lt, ◌&&◌, ◌||◌, ◌==◌, not}
-use Rattle.std.proofs.lemmas.Bool.{and_parts, not-true, both_ways, cases_Bool, eqb-true, eqb-false, cases_lt, cases_order}
-use Rattle.std.proofs.lemmas.List.{take_at, drop_at, length-append, append-nil, nil_from_length, take-append-drop, take-take, take-append-le, length-take-le}
-use Rattle.grammar_core.specs.declared.sort.Sort.{Sort}
+use Rattle.std.proofs.Common.{◌≡◌, ◌≢◌, ℕ, zero, suc, ◌+◌, ◌-◌, ◌<◌, ◌≤◌, Bool, true, false, cond, List, [], ◌∷◌, ◌++◌, length, take, drop, Result, Ok, Err, refl, inl, inr, sym, ap, ◌∙◌, append_assoc, arith, subst}
+use Rattle.std.specs.Prelude.{Option, Some, None, nat_lt, ◌==◌, not}
+use Rattle.std.proofs.lemmas.Bool.{and_parts, not-true, both_ways, eqb-true, eqb-false, cases_lt, cases_order}
+use Rattle.std.proofs.lemmas.List.{take_at, drop_at, length-append, nil_from_length, take-append-drop, take-take, take-append-le, length-take-le}
 use Rattle.jdf_lex.specs.declared.token.Token.{Token}
 use Rattle.grammar_core.specs.Sorts.{within}
 use Rattle.grammar_core.specs.declared.code.Code.{Code}
-use Rattle.grammar_core.specs.declared.code.Code.TheVariants.{Syntax, BadNumber, ExprTooLong, TooManyClasses, TooManyParams, TooManyLocals, TooManyFlows, TooManyDeps}
+use Rattle.grammar_core.specs.declared.code.Code.TheVariants.{Syntax}
 use Rattle.grammar_core.specs.Form.{Form, one_of, valued, seq, map, alt, opt, star, pick, behind, limited, Lang, Fault, then_fault, or_fault, at_start, bad_unless, cut_at, taken, Many, IsFrom, Spells, NameWithin, Derived, IsText, Begins, IsSyntaxFault, IsLimitFault, IsFirstFault}
-use Rattle.grammar_core.specs.Reading.{◌>>=◌, Read, Stop, may_be_empty, first, starts, run, names_at, name_at, reading, whole}
+use Rattle.grammar_core.specs.Reading.{Stop, may_be_empty, first, starts, names_at, name_at, reading, whole}
 use Rattle.grammar_core.specs.Predictive.{Claims, more, is_limit, are_limits, is_fine, has_plain, are_names}
 use Rattle.grammar_core.proofs.Sets.{starts_into, starts_within}
 use Rattle.grammar_core.proofs.Steps.{bind_ok, bind_err, chosen, ok_is, no_ok}
 use Rattle.grammar_core.proofs.Begins.{surely_begins}
-use Rattle.grammar_core.proofs.Fuel.{Shrinks, names_shrink, names_stable, name_is, name_shrinks, run_shrinks}
+use Rattle.grammar_core.proofs.Fuel.{names_shrink, names_stable, name_is, name_shrinks, run_shrinks}
 use Rattle.grammar_core.proofs.Passes.{FaultsWithin, run_faults}
 use Rattle.grammar_core.proofs.Only.{only, outcome, Fits, fits}
-use Rattle.grammar_core.proofs.Sound.{SameHead, Took, Stopped, Sound, Late, Extends, Text, plain_text, run_sound, front}
+use Rattle.grammar_core.proofs.Sound.{SameHead, Stopped, Sound, Text, plain_text, run_sound, front}
 
 -- two cuts with rests of one length are one
 same_cut : (w w' r r' : List Token) → w ++ r ≡ w' ++ r' → length r ≡ length r' → (w ≡ w') × (r ≡ r')
 same_cut w w' r r' e l =
-    let n : length w ≡ length w' = omega (arith, length-append w r, length-append w' r', ap (λ (s : List Token). length s) e) in
-    (sym (take_at w r (length w') n) ∙ ap (λ (s : List Token). take (length w') s) e ∙ take_at w' r' (length w') refl,
-    sym (drop_at w r (length w') n) ∙ ap (λ (s : List Token). drop (length w') s) e ∙ drop_at w' r' (length w') refl)
+    let n : length w ≡ length w' = omega (arith, length-append w r, length-append w' r', ap (λ (s : List Token). length s) e) in (
+      sym (take_at w r (length w') n) ∙ ap (λ (s : List Token). take (length w') s) e ∙ take_at w' r' (length w') refl,
+      sym (drop_at w r (length w') n) ∙ ap (λ (s : List Token). drop (length w') s) e ∙ drop_at w' r' (length w') refl,
+    )
 
 from_zero : (o : Fault) → IsFrom 0 o
 from_zero None = tt
@@ -146,9 +146,9 @@ module _ {N : Type 0} {Tree : N → Type 0} (body : (n : N) → Form N Tree (Tre
       record {
         took = λ x e. absurd cc;
         stopped = λ m e.
-          let k : m ≡ (length s, Syntax) = cc in
-          let f = ap (λ (y : Stop). y.0) k in let d = ap (λ (y : Stop). y.1) k in
-          record { word = []; rest = s; parts = refl; left = sym f; more = text.word; tree = text.tree; fault = text.fault; late = λ z. record { from = from_zero (text.fault z); exact = λ h. absurd (h d) }; extends = λ h. absurd (h d); spells = text.spells; same = λ r h. ap (λ (c : Code). Err (length r, c)) (sym d) };
+            let k : m ≡ (length s, Syntax) = cc in
+            let f = ap (λ (y : Stop). y.0) k in let d = ap (λ (y : Stop). y.1) k in
+            record { word = []; rest = s; parts = refl; left = sym f; more = text.word; tree = text.tree; fault = text.fault; late = λ z. record { from = from_zero (text.fault z); exact = λ h. absurd (h d) }; extends = λ h. absurd (h d); spells = text.spells; same = λ r h. ap (λ (c : Code). Err (length r, c)) (sym d) };
       }
   names_sound (suc k) n s = run_sound c (NameWithin body (suc k)) (names_at body k) (names_shrink body k) (names_fault k) (within_text k) (names_sound k) (body n) (name_fine n) s
 
@@ -159,30 +159,39 @@ module _ {N : Type 0} {Tree : N → Type 0} (body : (n : N) → Form N Tree (Tre
       let k = suc (length s) in
       record {
         took = λ x e.
-          let t = (names_sound k n s).took x e in
-          record {
-            word = t.word; parts = t.parts;
-            spells = λ z. record { depth = suc k; spells = t.spells z };
-            same = λ r h.
-              let k' = suc (length s + length (t.word ++ r)) in
-              let u = (names_sound k' n s).took x (names_stable body k' k n s (omega arith) (omega arith) ∙ e) in
-              let cut = same_cut u.word t.word x.1 x.1 (sym u.parts ∙ t.parts) refl in
-              let at : names_at body k' n (t.word ++ r) ≡ Ok (x.0, r) = subst (λ (w : List Token). names_at body k' n (w ++ r) ≡ Ok (x.0, r)) cut.0 (u.same r h) in
-              names_stable body (suc (length (t.word ++ r))) k' n (t.word ++ r) (omega arith) (omega arith) ∙ at;
-          };
+            let t = (names_sound k n s).took x e in
+            record {
+              word = t.word;
+              parts = t.parts;
+              spells = λ z. record { depth = suc k; spells = t.spells z };
+              same = λ r h.
+                  let k' = suc (length s + length (t.word ++ r)) in
+                  let u = (names_sound k' n s).took x (names_stable body k' k n s (omega arith) (omega arith) ∙ e) in
+                  let cut = same_cut u.word t.word x.1 x.1 (sym u.parts ∙ t.parts) refl in
+                  let at : names_at body k' n (t.word ++ r) ≡ Ok (x.0, r) = subst (λ (w : List Token). names_at body k' n (w ++ r) ≡ Ok (x.0, r)) cut.0 (u.same r h) in
+                  names_stable body (suc (length (t.word ++ r))) k' n (t.word ++ r) (omega arith) (omega arith) ∙ at;
+            };
         stopped = λ m e.
-          let t = (names_sound k n s).stopped m e in
-          record {
-            word = t.word; rest = t.rest; parts = t.parts; left = t.left; more = t.more; tree = t.tree; fault = t.fault; late = t.late; extends = t.extends;
-            spells = λ z. record { depth = suc k; spells = t.spells z };
-            same = λ r h.
-              let k' = suc (length s + length (t.word ++ r)) in
-              let u = (names_sound k' n s).stopped m (names_stable body k' k n s (omega arith) (omega arith) ∙ e) in
-              let cut = same_cut u.word t.word u.rest t.rest (sym u.parts ∙ t.parts) (u.left ∙ sym t.left) in
-              let h' : SameHead u.rest r = subst (λ (f : List Token). SameHead f r) (sym cut.1) h in
-              let at : names_at body k' n (t.word ++ r) ≡ Err (length r, m.1) = subst (λ (w : List Token). names_at body k' n (w ++ r) ≡ Err (length r, m.1)) cut.0 (u.same r h') in
-              names_stable body (suc (length (t.word ++ r))) k' n (t.word ++ r) (omega arith) (omega arith) ∙ at;
-          };
+            let t = (names_sound k n s).stopped m e in
+            record {
+              word = t.word;
+              rest = t.rest;
+              parts = t.parts;
+              left = t.left;
+              more = t.more;
+              tree = t.tree;
+              fault = t.fault;
+              late = t.late;
+              extends = t.extends;
+              spells = λ z. record { depth = suc k; spells = t.spells z };
+              same = λ r h.
+                  let k' = suc (length s + length (t.word ++ r)) in
+                  let u = (names_sound k' n s).stopped m (names_stable body k' k n s (omega arith) (omega arith) ∙ e) in
+                  let cut = same_cut u.word t.word u.rest t.rest (sym u.parts ∙ t.parts) (u.left ∙ sym t.left) in
+                  let h' : SameHead u.rest r = subst (λ (f : List Token). SameHead f r) (sym cut.1) h in
+                  let at : names_at body k' n (t.word ++ r) ≡ Err (length r, m.1) = subst (λ (w : List Token). names_at body k' n (w ++ r) ≡ Err (length r, m.1)) cut.0 (u.same r h') in
+                  names_stable body (suc (length (t.word ++ r))) k' n (t.word ++ r) (omega arith) (omega arith) ∙ at;
+            };
       }
 
   name_faults : (n : N) → FaultsWithin (name_at body n)
@@ -229,7 +238,7 @@ module _ {N : Type 0} {Tree : N → Type 0} (body : (n : N) → Form N Tree (Tre
           | inr a ↦ elim (chosen (length a.0.1 == 0) (Ok a.0.0) (Err (length a.0.1, Syntax)) (Err n) a.2) [
             | inl v ↦ absurd (no_ok a.0.0 n v.1)
             | inr v ↦ let left : (length a.0.1, Syntax) ≡ n = stop_is v.1 in let f = ap (λ (y : Stop). y.0) left in let k = (run_shrinks (name_at body) (name_shrinks body) g s a.0 a.1).0 in omega (arith, f, k)
-            ]
+          ]
         ]
 
     -- what a text makes of reading
@@ -304,7 +313,7 @@ module _ {N : Type 0} {Tree : N → Type 0} (body : (n : N) → Form N Tree (Tre
                 let full : length a.0.1 ≡ 0 → ⊥ = eqb-false (length a.0.1) 0 v.0 in
                 let fault = syntax_fault s k.word a.0.1 [] a.0.0 None k.parts tt (k.spells []) (λ r t o h text. full (empty a.0.1 r h (ends (k.word ++ r) t o text (a.0.0, r) (k.same r h)))) in
                 subst (λ (m : Stop). IsFirstFault body g s (length s - m.0) m.1) is fault
-            ]
+          ]
         ]
       where
         empty : (f r : List Token) → SameHead f r → length r ≡ 0 → length f ≡ 0

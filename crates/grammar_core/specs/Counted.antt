@@ -1,5 +1,5 @@
 -- The limit of an expression: so many tokens, and so many among them that are counted.
-use Rattle.std.proofs.Common.{◌≡◌, ℕ, zero, suc, ◌≤◌, Bool, true, false, cond, List, [], ◌∷◌, ◌++◌, length, refl, ap, arith}
+use Rattle.std.proofs.Common.{◌≡◌, ℕ, zero, suc, ◌≤◌, Bool, true, false, cond, List, [], ◌∷◌, ◌++◌, length, refl, arith}
 use Rattle.std.specs.Prelude.{◌||◌, if◌then◌else◌}
 use Rattle.jdf_lex.specs.declared.token.Token.{Token}
 use Rattle.grammar_core.specs.declared.sort.Sort.{Sort}
@@ -80,6 +80,8 @@ module _ (q : Sort → Bool) where
 abbrev pub expression_limit : Limit
 expression_limit =
     record {
-      at = limit_at is_counted 512 128; one = limit_one is_counted 511 127;
-      keeps = λ w r r' h. limit_keeps is_counted w 512 128 r r' h; stays = λ w x r r' h. limit_stays is_counted w 512 128 x r r' h;
+      at = limit_at is_counted 512 128;
+      one = limit_one is_counted 511 127;
+      keeps = λ w r r' h. limit_keeps is_counted w 512 128 r r' h;
+      stays = λ w x r r' h. limit_stays is_counted w 512 128 x r r' h;
     }

@@ -1,4 +1,4 @@
--- Grammars as data, what they spell, and the first fault of what they spell.
+-- Grammars as data: what they spell, and the first fault of what they spell. Nothing here says how a text is read.
 use Rattle.std.specs.Prelude.{◌≡◌, ℕ, zero, suc, Bool, true, false, List, [], ◌∷◌, Option, Some, None, ◌⊎◌, ◌++◌, ◌≤◌, ◌<◌, ◌+◌, ◌-◌, length, take, nat_lt, if◌then◌else◌}
 use Rattle.jdf_lex.specs.declared.token.Token.{Token}
 use Rattle.grammar_core.specs.declared.sort.Sort.{Sort}
@@ -6,14 +6,14 @@ use Rattle.grammar_core.specs.Sorts.{sort_of}
 use Rattle.grammar_core.specs.declared.code.Code.{Code}
 use Rattle.grammar_core.specs.declared.code.Code.TheVariants.{Syntax}
 
--- how many of the tokens a text may have, which depends on no more of them
+-- How many tokens a text may have: `at s` is the place in s of the token that is too many. It depends on no token behind that place.
 pub record Limit : Type 0 where
   pub at : List Token → ℕ
   pub one : (s : List Token) → 1 ≤ at s
   pub keeps : (w r r' : List Token) → length w ≤ at (w ++ r) → length w ≤ at (w ++ r')
   pub stays : (w : List Token) (x : Token) (r r' : List Token) → at (w ++ x ∷ r) ≡ length w → at (w ++ x ∷ r') ≡ length w
 
--- A form of text that is read to a tree of type A. N names what recurs, Tree its trees.
+-- A form of text whose trees have type A. N are the names of what recurs, and Tree n is the type of the trees of n.
 pub data Form (N : Type 0) (Tree : N → Type 0) : Type 0 → Type 1 where
   -- a token of such a sort
   one_of : (Sort → Bool) → Form N Tree Token
@@ -43,36 +43,44 @@ then_fault (Some f) n o = Some f
 then_fault None n None = None
 then_fault None n (Some f) = Some (n + f.0, f.1)
 
+-- the first of two faults at one place
 abbrev pub or_fault : Fault → Fault → Fault
 or_fault None o = o
 or_fault (Some f) o = Some f
 
+-- a fault at the first token, where there is one
 abbrev pub at_start : Option Code → Fault
 at_start None = None
 at_start (Some c) = Some (0, c)
 
+-- a fault at the first token, unless it is good
 abbrev pub bad_unless : Bool → Code → Fault
 bad_unless true c = None
 bad_unless false c = Some (0, c)
 
--- where a text of n tokens passes a limit, before its own fault
+-- A text of n tokens passes the limit l: the fault is there, unless the text has one of its own before it or at it.
 abbrev pub cut_at : ℕ → Code → ℕ → Fault → Fault
 cut_at l c n None = if nat_lt l n then Some (l, c) else None
 cut_at l c n (Some f) = if nat_lt l f.0 then Some (l, c) else Some f
 
+-- how many tokens stand before the rest r
 abbrev pub taken : List Token → List Token → ℕ
 taken s r = length s - length r
 
+-- the tokens s are one of these sorts, and the rest
 abbrev pub IsOne : (Sort → Bool) → List Token → Token → List Token → Type 0
 IsOne q s x r = (s ≡ x ∷ r) × (q (sort_of x) ≡ true)
 
+-- a language: which tokens, up to which rest, are a text with which tree and which first fault
 abbrev pub Lang : Type 0 → Type 1
 Lang A = List Token → A → Fault → List Token → Type 0
 
+-- a text or nothing
 abbrev pub Maybe : {A : Type 0} → Lang A → List Token → Option A → Fault → List Token → Type 0
 Maybe G s None o r = (s ≡ r) × (o ≡ None)
 Maybe G s (Some a) o r = G s a o r
 
+-- texts one after the other, the first of which has number i
 abbrev pub Many : {A : Type 0} → (ℕ → Option Code) → Lang A → ℕ → List Token → List A → Fault → List Token → Type 0
 Many full G i s [] o r = (s ≡ r) × (o ≡ None)
 Many full G i s (a ∷ more) o r = (m : List Token) × (x y : Fault) × G s a x m × Many full G (suc i) m more y r × (o ≡ then_fault (or_fault (at_start (full i)) x) (taken s m) y)
@@ -127,6 +135,7 @@ pub record IsLimitFault {N : Type 0} {Tree : N → Type 0} (body : (n : N) → F
   pub within : place < length s
   pub there : Begins body g (take (place + 1) s) (Some (place, c))
 
+-- This is the first fault of the tokens.
 abbrev pub IsFirstFault : {N : Type 0} {Tree : N → Type 0} → ((n : N) → Form N Tree (Tree n)) → {A : Type 0} → Form N Tree A → List Token → ℕ → Code → Type 0
 IsFirstFault body g s place Syntax = IsSyntaxFault body g s place
 IsFirstFault body g s place c = IsLimitFault body g s place c

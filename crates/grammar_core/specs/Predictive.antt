@@ -1,8 +1,8 @@
 -- Which grammars one token of lookahead reads.
-use Rattle.std.specs.Prelude.{◌≡◌, Option, Some, None, Bool, true, false, ◌&&◌, ◌||◌, not}
+use Rattle.std.specs.Prelude.{Option, Some, None, Bool, true, false, ◌&&◌, ◌||◌, not}
 use Rattle.grammar_core.specs.declared.sort.Sort.{Sort}
 use Rattle.grammar_core.specs.declared.code.Code.{Code}
-use Rattle.grammar_core.specs.declared.code.Code.TheVariants.{Syntax, BadNumber, ExprTooLong, TooManyClasses, TooManyParams, TooManyLocals, TooManyFlows, TooManyDeps}
+use Rattle.grammar_core.specs.declared.code.Code.TheVariants.{Syntax}
 use Rattle.grammar_core.specs.Sorts.{all_sorts, some_is, disjoint, within}
 use Rattle.grammar_core.specs.Form.{Form, one_of, valued, seq, map, alt, opt, star, pick, behind, limited}
 use Rattle.grammar_core.specs.Reading.{may_be_empty, first}
@@ -51,17 +51,21 @@ second c a (star full g) k = second c a g k || (alone a g && first g k)
 second c a (behind q n) k = some_is (λ x. a x && q x) all_sorts && c.firsts n k
 second c a (limited l d g) k = second c a g k
 
+-- the sorts that both may begin with
 abbrev pub both_first : {N : Type 0} {Tree : N → Type 0} {A : Type 0} → Form N Tree A → Form N Tree A → Sort → Bool
 both_first g h k = first g k && first h k
 
+-- is there none
 abbrev pub is_none : {A : Type 0} → Option A → Bool
 is_none None = true
 is_none (Some x) = false
 
+-- is it a limit's code
 abbrev pub is_limit : Code → Bool
 is_limit Syntax = false
 is_limit _ = true
 
+-- a limit's code, or none
 abbrev pub are_limits : Option Code → Bool
 are_limits None = true
 are_limits (Some d) = is_limit d

@@ -1,5 +1,5 @@
 -- Reading from left to right, with one token of lookahead.
-use Rattle.std.specs.Prelude.{◌≡◌, ℕ, zero, suc, Bool, true, false, List, [], ◌∷◌, Option, Some, None, ◌-◌, length, nat_lt, Result, Ok, Err, if◌then◌else◌, ◌&&◌, ◌||◌, ◌==◌}
+use Rattle.std.specs.Prelude.{ℕ, zero, suc, Bool, true, false, List, [], ◌∷◌, Option, Some, None, ◌-◌, length, nat_lt, Result, Ok, Err, if◌then◌else◌, ◌&&◌, ◌||◌, ◌==◌}
 use Rattle.jdf_lex.specs.declared.token.Token.{Token}
 use Rattle.grammar_core.specs.declared.sort.Sort.{Sort}
 use Rattle.grammar_core.specs.Sorts.{sort_of}
@@ -14,6 +14,7 @@ Stop = ℕ × Code
 abbrev pub Read : Type 0 → Type 0
 Read A = Result (A × List Token) Stop
 
+-- the next step, at what was read
 infixl 10 ◌>>=◌
 abbrev pub ◌>>=◌ : {A B : Type 0} → Result A Stop → (A → Result B Stop) → Result B Stop
 (Ok x) >>= f = f x
@@ -32,6 +33,7 @@ may_be_empty (star full g) = true
 may_be_empty (behind q n) = false
 may_be_empty (limited l c g) = may_be_empty g
 
+-- in one of two sets
 abbrev pub union : (Sort → Bool) → (Sort → Bool) → Sort → Bool
 union a b k = a k || b k
 
@@ -63,10 +65,12 @@ abbrev pub picks : (Sort → Bool) → (Sort → Bool) → (Sort → Bool) → L
 picks a b q [] = false
 picks a b q (x ∷ s) = if b (sort_of x) then (a (sort_of x) && starts q s) else a (sort_of x)
 
+-- a token of such a sort, and the rest
 abbrev pub token_at : (Sort → Bool) → List Token → Read Token
 token_at q [] = Err (0, Syntax)
 token_at q (x ∷ s) = if q (sort_of x) then Ok (x, s) else Err (length (x ∷ s), Syntax)
 
+-- what is read of s, unless it is too many
 abbrev pub refuse : {A : Type 0} → Option Code → List Token → Read A → Read A
 refuse None s r = r
 refuse (Some c) s r = Err (length s, c)
@@ -76,6 +80,7 @@ unfoldable pub many_at : {A : Type 0} → (ℕ → Option Code) → (Sort → Bo
 many_at full q p i zero s = Ok ([], s)
 many_at full q p i (suc n) s = if starts q s then refuse (full i) s (p s >>= λ a. many_at full q p (suc i) n a.1 >>= λ more. Ok (a.0 ∷ more.0, more.1)) else Ok ([], s)
 
+-- the token that was read at the front of s, where it is good
 abbrev pub check : (Token → Bool) → Code → List Token → Token × List Token → Read Token
 check good c s x = if good x.0 then Ok x else Err (length s, c)
 

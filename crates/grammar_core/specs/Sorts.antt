@@ -16,9 +16,11 @@ spelled (w ∷ ws) text other = if bytes_eq w.0 text then w.1 else spelled ws te
 unfoldable pub words : List (List ℕ × Sort)
 words = (codes "type", TypeWord) ∷ (codes "int", Int) ∷ (codes "if", If) ∷ (codes "else", Else) ∷ (codes "for", For) ∷ (codes "trap", Trap) ∷ (codes "extern", Extern) ∷ (codes "BODY", Body) ∷ (codes "END", End) ∷ (codes "READ", Read) ∷ (codes "WRITE", Write) ∷ (codes "RW", Rw) ∷ (codes "CTL", Ctl) ∷ (codes "NEW", New) ∷ (codes "NULL", Null) ∷ []
 
+-- the marks
 unfoldable pub marks : List (List ℕ × Sort)
 marks = (codes "(", LeftParen) ∷ (codes ")", RightParen) ∷ (codes "[", LeftBracket) ∷ (codes "]", RightBracket) ∷ (codes "{", LeftBrace) ∷ (codes "}", RightBrace) ∷ (codes ",", Comma) ∷ (codes ";", Semicolon) ∷ (codes ":", Colon) ∷ (codes "?", Question) ∷ (codes "=", Assign) ∷ (codes "..", Dots) ∷ (codes "<-", Inward) ∷ (codes "->", Outward) ∷ (codes "+", Plus) ∷ (codes "-", Minus) ∷ (codes "*", Star) ∷ (codes "/", Slash) ∷ (codes "%", Percent) ∷ (codes "==", Equal) ∷ (codes "!=", NotEqual) ∷ (codes "<", Less) ∷ (codes "<=", AtMost) ∷ (codes ">", Greater) ∷ (codes ">=", AtLeast) ∷ (codes "&", And) ∷ (codes "&&", AndAnd) ∷ (codes "|", Or) ∷ (codes "||", OrOr) ∷ (codes "!", Not) ∷ []
 
+-- the sort of a token of this kind and spelling
 abbrev pub sort_by : TokenKind → List ℕ → Sort
 sort_by kinds.Name text = spelled words text Name
 sort_by kinds.Number text = Number
@@ -32,6 +34,7 @@ sort_by kinds.Other text = Other
 unfoldable pub sort_of : Token → Sort
 sort_of x = sort_by x.kind x.text
 
+-- sorts by number, to compare them
 abbrev pub code_of : Sort → ℕ
 code_of Name = 0
 code_of TypeWord = 1
@@ -85,6 +88,7 @@ code_of Or = 48
 code_of OrOr = 49
 code_of Not = 50
 
+-- each sort, by number
 abbrev pub all_sorts : List Sort
 all_sorts = Name ∷ TypeWord ∷ Int ∷ If ∷ Else ∷ For ∷ Trap ∷ Number ∷ Quoted ∷ Raw ∷ OptionLine ∷ Other ∷ Extern ∷ Body ∷ End ∷ Read ∷ Write ∷ Rw ∷ Ctl ∷ New ∷ Null ∷ LeftParen ∷ RightParen ∷ LeftBracket ∷ RightBracket ∷ LeftBrace ∷ RightBrace ∷ Comma ∷ Semicolon ∷ Colon ∷ Question ∷ Assign ∷ Dots ∷ Inward ∷ Outward ∷ Plus ∷ Minus ∷ Star ∷ Slash ∷ Percent ∷ Equal ∷ NotEqual ∷ Less ∷ AtMost ∷ Greater ∷ AtLeast ∷ And ∷ AndAnd ∷ Or ∷ OrOr ∷ Not ∷ []
 
@@ -92,10 +96,12 @@ all_sorts = Name ∷ TypeWord ∷ Int ∷ If ∷ Else ∷ For ∷ Trap ∷ Numbe
 abbrev pub is : Sort → Sort → Bool
 is a b = code_of a == code_of b
 
+-- each sort of a list is in the set
 abbrev pub all_are : (Sort → Bool) → List Sort → Bool
 all_are p [] = true
 all_are p (k ∷ ks) = p k && all_are p ks
 
+-- some sort of a list is in the set
 abbrev pub some_is : (Sort → Bool) → List Sort → Bool
 some_is p [] = false
 some_is p (k ∷ ks) = p k || some_is p ks

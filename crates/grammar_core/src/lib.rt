@@ -6,6 +6,8 @@ mod fault;
 mod limit;
 mod next;
 mod sort;
+#[cfg(test)]
+mod tests;
 
 pub use code::Code;
 pub use fault::ReadError;

@@ -18,7 +18,8 @@ fn is_counted(sort: Sort) -> bool
     ensures { result ≡ is_counted sort }
 {
     match sort {
-        Sort::Name | Sort::TypeWord | Sort::Int | Sort::If | Sort::Else | Sort::For | Sort::Trap => true,
+        Sort::Name | Sort::TypeWord | Sort::Int | Sort::If | Sort::Else | Sort::For | Sort::Trap =>
+            true,
         Sort::Number | Sort::Question => true,
         Sort::Plus | Sort::Minus | Sort::Star | Sort::Slash | Sort::Percent => true,
         Sort::Equal | Sort::NotEqual => true,
