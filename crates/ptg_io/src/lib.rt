@@ -1,0 +1,18 @@
+//! Whole files in, bytes out, with the faults of the outside counted.
+#![tactic(auto)]
+
+mod file;
+mod files;
+mod loading;
+mod memory_files;
+mod memory_sink;
+mod sink;
+mod writing;
+
+pub use file::File;
+pub use files::{Failed, Files};
+pub use loading::{LoadFault, load};
+pub use memory_files::MemFiles;
+pub use memory_sink::MemSink;
+pub use sink::Sink;
+pub use writing::write_all;
