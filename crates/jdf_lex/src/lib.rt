@@ -2,7 +2,9 @@
 #![tactic(auto)]
 
 mod fault;
+mod lex;
 mod token;
 
 pub use fault::{JdfCode, JdfFault, JdfRefusal};
+pub use lex::tokens;
 pub use token::{Lexed, Spot, Token, TokenKind};
