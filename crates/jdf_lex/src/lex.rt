@@ -6,7 +6,7 @@ ghost use Rattle.jdf_lex.specs.declared.token.Token.{Token};
 ghost use Rattle.jdf_lex.specs.Tokens.{IsLexed, not_built};
 
 use crate::fault::JdfRefusal;
-use crate::token::Lexed;
+use crate::token::{Lexed, Spot};
 use std::alloc::Global;
 
 /// The tokens of a text, of which there are at most 1000000. A text that has no such tokens is refused.
@@ -20,4 +20,11 @@ pub fn tokens(alloc: Global, text: &str) -> Result<Lexed, JdfRefusal>
     ensures refused { (fault : JdfFault) → result ≡ Err (Fault fault) → (fault ≡ not_built) × ((tokens : List Token) (end : Spot) → IsLexed text.now tokens end → length tokens ≤ 1000000 → ⊥) }
 {
     Err(JdfRefusal::OutOfMemory)
+}
+
+/// A place in a text.
+#[derive(Clone, Copy, Debug)]
+pub struct Cursor {
+    pub at: usize,
+    pub spot: Spot,
 }
