@@ -1,4 +1,5 @@
 use Rattle.std.proofs.Common.{[]}
+use Rattle.jdf_lex.proofs.Front.{one_more}
 use Rattle.jdf_lex.proofs.Once.{one_list_behind}
 use Rattle.jdf_lex.proofs.laws.one_list_of_tokens.Goals as goal
 
