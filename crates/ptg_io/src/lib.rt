@@ -24,10 +24,15 @@ mod tests {
     use std::alloc::Global;
     use std::test::Fail;
 
+    /// So many bytes, all of them 7.
+    fn sevens(alloc: Global, count: usize) -> Result<Vec<u8>, Fail> {
+        Ok(vec![in alloc; 7u8; count]?)
+    }
+
     /// A file `a` of 100,000 bytes, all of them 7, in files whose reads with these numbers fail.
     fn one_file(alloc: Global, fails: Vec<u64>) -> Result<MemFiles, Fail> {
         let name = Text::of(alloc, b"a")?;
-        let bytes = Row::of(vec![in alloc; 7u8; 100000]?);
+        let bytes = Row::of(sevens(alloc, 100000)?);
         let mut files = Row::new(alloc);
         files.push(File::new(name, bytes))?;
         Ok(MemFiles::new(alloc, files, Row::of(fails))?)
@@ -63,7 +68,7 @@ mod tests {
     #[test]
     fn a_failing_third_write_leaves_two_pieces(rt: HostRuntime) -> Result<(), Fail> {
         let alloc = rt.alloc();
-        let bytes = vec![in alloc; 7u8; 10000]?;
+        let bytes = sevens(alloc, 10000)?;
         let mut good = MemSink::new(alloc, Row::new(alloc));
         assert_eq!(rt; write_all(&mut good, bytes.as_slice()), Ok(()));
         assert_eq!(rt; good.bytes().len(), 10000);

@@ -32,11 +32,7 @@ impl Model for MemFiles {
 
 impl MemFiles {
     /// These files; the reads with these numbers, counted from 1, will fail.
-    pub fn new(
-        alloc: Global,
-        files: Row<File>,
-        fails: Row<u64>,
-    ) -> Result<MemFiles, OutOfMemory>
+    pub fn new(alloc: Global, files: Row<File>, fails: Row<u64>) -> Result<MemFiles, OutOfMemory>
         ensures told { IfOk result (λ held. ⟦<MemFiles as Files>⟧.told held ≡ Some files) }
         ensures no_faults { IfOk result (λ held. (name : List ℕ) → ⟦<MemFiles as Files>⟧.faults held name ≡ 0) }
         ensures start { IfOk result (λ held. held.reads ≡ 0) }
