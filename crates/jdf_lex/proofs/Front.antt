@@ -7,7 +7,7 @@ use Rattle.std.proofs.lemmas.List.Sums.{prefix_len_stops, prefix_len-le-length}
 use Rattle.jdf_lex.specs.declared.token.TokenKind.{TokenKind}
 use Rattle.jdf_lex.specs.declared.token.TokenKind.TheVariants.{Name, Number, Quoted, Raw, OptionLine, Mark, Other}
 use Rattle.jdf_lex.specs.Tokens.{is_letter, is_digit, is_part, is_mark, is_spelling, begins_unbuilt, long_marks}
-use Rattle.jdf_lex.specs.Reading.{mark_len, mark_of_len, front_word}
+use Rattle.jdf_lex.specs.Reading.{mark_len, mark_of_len, front_word, is_no_lf}
 use Rattle.jdf_lex.proofs.Words.{passes_both, is_among, mark_fronts, begins_mark, mark_begins, mark_is_no_part, spelling_is_some}
 
 -- ---- tests, fronts that pass
@@ -30,7 +30,7 @@ pub prefix_passes : (q : ℕ → Bool) (xs : List ℕ) → list_all q (take (pre
 prefix_passes q [] = refl
 prefix_passes q (x ∷ xs) =
     elim (cases_Bool (q x)) [
-      inl passes ↦ subst (λ n. list_all q (take n (x ∷ xs)) ≡ true) (prefix_more q x xs passes) (and_from (q x) (list_all q (take (prefix_len q xs) xs)) passes (prefix_passes q xs))
+      | inl passes ↦ subst (λ n. list_all q (take n (x ∷ xs)) ≡ true) (prefix_more q x xs passes) (and_from (q x) (list_all q (take (prefix_len q xs) xs)) passes (prefix_passes q xs))
       | inr fails ↦ subst (λ n. list_all q (take n (x ∷ xs)) ≡ true) (prefix_none q x xs fails) refl
     ]
 
@@ -38,10 +38,10 @@ prefix_passes q (x ∷ xs) =
 pub prefix_stops : (q : ℕ → Bool) (xs : List ℕ) (m : ℕ) (ys : List ℕ) → drop (prefix_len q xs) xs ≡ m ∷ ys → q m ≡ true → ⊥
 prefix_stops q xs m ys e passes =
     elim (cases_lt (prefix_len q xs) (length xs)) [
-      inl within ↦
-        let split = drop_more xs (prefix_len q xs) 0 within in
-        let same : get_or xs (prefix_len q xs) 0 ≡ m = cc (split, e) in
-        both_ways (q m) (sym (ap q same) ∙ prefix_len_stops q xs 0 within) passes
+      | inl within ↦
+          let split = drop_more xs (prefix_len q xs) 0 within in
+          let same : get_or xs (prefix_len q xs) 0 ≡ m = cc (split, e) in
+          both_ways (q m) (sym (ap q same) ∙ prefix_len_stops q xs 0 within) passes
       | inr past ↦ let none = drop_all (prefix_len q xs) xs past in cc (none, e)
     ]
 
@@ -127,17 +127,17 @@ lone_longest k a (m ∷ more) after e spelled = absurd (cc)
 pub mark_is_front : (a : ℕ) (bs : List ℕ) (n : ℕ) → is_part a ≡ false → mark_len (a ∷ bs) ≡ n → 0 < n → IsFront (a ∷ bs) Mark n
 mark_is_front a [] n none e some =
     elim (chosen (is_mark (a ∷ [])) 1 0 n e) [
-      inl short ↦ subst (λ len. IsFront (a ∷ []) Mark len) short.1 (record { some = omega arith; within = omega arith; spelled = short.0; longest = λ k more after. lone_longest k a more after })
+      | inl short ↦ subst (λ len. IsFront (a ∷ []) Mark len) short.1 (record { some = omega arith; within = omega arith; spelled = short.0; longest = λ k more after. lone_longest k a more after })
       | inr nothing ↦ let is : 0 ≡ n = nothing.1 in absurd (omega arith)
     ]
 mark_is_front a (b ∷ rest) n none e some =
     elim (chosen (is_mark (a ∷ b ∷ [])) 2 (cond (is_mark (a ∷ [])) 1 0) n e) [
-      inl long ↦ subst (λ len. IsFront (a ∷ b ∷ rest) Mark len) long.1 (record { some = omega arith; within = omega arith; spelled = long.0; longest = long_longest a b rest none })
+      | inl long ↦ subst (λ len. IsFront (a ∷ b ∷ rest) Mark len) long.1 (record { some = omega arith; within = omega arith; spelled = long.0; longest = long_longest a b rest none })
       | inr not_long ↦
-        elim (chosen (is_mark (a ∷ [])) 1 0 n not_long.1) [
-          inl short ↦ subst (λ len. IsFront (a ∷ b ∷ rest) Mark len) short.1 (record { some = omega arith; within = omega arith; spelled = short.0; longest = short_longest a b rest none not_long.0 })
-          | inr nothing ↦ let is : 0 ≡ n = nothing.1 in absurd (omega arith)
-        ]
+          elim (chosen (is_mark (a ∷ [])) 1 0 n not_long.1) [
+            | inl short ↦ subst (λ len. IsFront (a ∷ b ∷ rest) Mark len) short.1 (record { some = omega arith; within = omega arith; spelled = short.0; longest = short_longest a b rest none not_long.0 })
+            | inr nothing ↦ let is : 0 ≡ n = nothing.1 in absurd (omega arith)
+          ]
     ]
 
 abbrev Found : Type 0
@@ -163,10 +163,10 @@ mark_found : (a : ℕ) (bs : List ℕ) (k : TokenKind) (n : ℕ) → is_part a �
 mark_found a bs k n none e =
     let len = mark_len (a ∷ bs) in
     elim (chosen (eqb len 0) no_word (word_of Mark len) (word_of k n) e) [
-      inl nothing ↦ absurd (let never : no_word ≡ word_of k n = nothing.1 in cc)
+      | inl nothing ↦ absurd (let never : no_word ≡ word_of k n = nothing.1 in cc)
       | inr found ↦
-        let apart : len ≡ 0 → ⊥ = eqb-false len 0 found.0 in
-        at_word (a ∷ bs) Mark k len n (mark_is_front a bs len none refl (omega (arith, apart))) found.1
+          let apart : len ≡ 0 → ⊥ = eqb-false len 0 found.0 in
+          at_word (a ∷ bs) Mark k len n (mark_is_front a bs len none refl (omega (arith, apart))) found.1
     ]
 
 -- What is found is the longest word, and no form that isn't built begins there.
@@ -177,17 +177,18 @@ front_found (b ∷ bs) k n e =
     let number : Found = word_of Number (1 + prefix_len is_part bs) in
     let mark : Found = mark_of_len (mark_len (b ∷ bs)) in
     elim (chosen (begins_unbuilt (b ∷ bs)) no_word (cond (is_letter b) name (cond (is_digit b) number mark)) (word_of k n) e) [
-      inl unbuilt ↦ absurd (let never : no_word ≡ word_of k n = unbuilt.1 in cc)
-      | inr built ↦
-        (built.0,
-          elim (chosen (is_letter b) name (cond (is_digit b) number mark) (word_of k n) built.1) [
-            inl letter ↦ at_word (b ∷ bs) Name k (1 + prefix_len is_part bs) n (name_is_front b bs letter.0) letter.1
-            | inr no_letter ↦
+      | inl unbuilt ↦ absurd (let never : no_word ≡ word_of k n = unbuilt.1 in cc)
+      | inr built ↦ (
+        built.0,
+        elim (chosen (is_letter b) name (cond (is_digit b) number mark) (word_of k n) built.1) [
+          | inl letter ↦ at_word (b ∷ bs) Name k (1 + prefix_len is_part bs) n (name_is_front b bs letter.0) letter.1
+          | inr no_letter ↦
               elim (chosen (is_digit b) number mark (word_of k n) no_letter.1) [
-                inl digit ↦ at_word (b ∷ bs) Number k (1 + prefix_len is_part bs) n (number_is_front b bs digit.0) digit.1
+                | inl digit ↦ at_word (b ∷ bs) Number k (1 + prefix_len is_part bs) n (number_is_front b bs digit.0) digit.1
                 | inr no_digit ↦ mark_found b bs k n (or_from (is_letter b) (is_digit b) no_letter.0 no_digit.0) no_digit.1
               ]
-          ])
+        ],
+      )
     ]
 
 -- ---- what is not found
@@ -196,7 +197,7 @@ no_mark_len : (a : ℕ) (bs : List ℕ) → mark_of_len (mark_len (a ∷ bs)) �
 no_mark_len a bs e =
     let len = mark_len (a ∷ bs) in
     elim (chosen (eqb len 0) no_word (word_of Mark len) no_word e) [
-      inl nothing ↦ eqb-true len 0 nothing.0
+      | inl nothing ↦ eqb-true len 0 nothing.0
       | inr found ↦ absurd (let never : word_of Mark len ≡ no_word = found.1 in cc)
     ]
 
@@ -204,14 +205,15 @@ no_mark : (a : ℕ) (word left bs : List ℕ) → mark_len (a ∷ bs) ≡ 0 → 
 no_mark a [] left [] e is mark = omega (arith, sym (cond-true (is_mark (a ∷ [])) 1 0 mark) ∙ e)
 no_mark a [] left (b ∷ bs) e is mark =
     elim (chosen (is_mark (a ∷ b ∷ [])) 2 (cond (is_mark (a ∷ [])) 1 0) 0 e) [
-      inl long ↦ let never : 2 ≡ 0 = long.1 in omega arith
+      | inl long ↦ let never : ◌≡◌ {A = ℕ} 2 0 = long.1 in omega arith
       | inr short ↦ omega (arith, sym (cond-true (is_mark (a ∷ [])) 1 0 mark) ∙ short.1)
     ]
 no_mark a (c ∷ []) left [] e is mark = cc
 no_mark a (c ∷ []) left (b ∷ bs) e is mark =
     let same : c ≡ b = cc in
     let long : is_mark (a ∷ b ∷ []) ≡ true = sym (ap (λ z. is_mark (a ∷ z ∷ [])) same) ∙ mark in
-    omega (arith, sym (cond-true (is_mark (a ∷ b ∷ [])) 2 (cond (is_mark (a ∷ [])) 1 0) long) ∙ e)
+    let two : cond (is_mark (a ∷ b ∷ [])) 2 (cond (is_mark (a ∷ [])) 1 0) ≡ 2 = cond-true (is_mark (a ∷ b ∷ [])) 2 (cond (is_mark (a ∷ [])) 1 0) long in
+    omega (arith, two, e)
 no_mark a (c ∷ d ∷ word) left bs e is mark = false≢true mark
 
 -- Where nothing is found, no word stands, unless a form that isn't built begins there.
@@ -226,21 +228,18 @@ front_none (b ∷ bs) (c ∷ word) left k e is built spelled =
     let tails : bs ≡ word ++ left = cc in
     let here : is_spelling k (b ∷ word) ≡ true = subst (λ z. is_spelling k (z ∷ word) ≡ true) same spelled in
     let tests : cond (is_letter b) name (cond (is_digit b) number mark) ≡ no_word =
-        sym (cond-false (begins_unbuilt (b ∷ bs)) no_word (cond (is_letter b) name (cond (is_digit b) number mark)) built) ∙ e in
+    sym (cond-false (begins_unbuilt (b ∷ bs)) no_word (cond (is_letter b) name (cond (is_digit b) number mark)) built) ∙ e in
     elim (chosen (is_letter b) name (cond (is_digit b) number mark) no_word tests) [
-      inl letter ↦ let never : name ≡ no_word = letter.1 in cc
+      | inl letter ↦ let never : name ≡ no_word = letter.1 in cc
       | inr no_letter ↦
-        elim (chosen (is_digit b) number mark no_word no_letter.1) [
-          inl digit ↦ let never : number ≡ no_word = digit.1 in cc
-          | inr no_digit ↦
-            no_mark b word left bs (no_mark_len b bs no_digit.1) tails (mark_goes_on k b word (or_from (is_letter b) (is_digit b) no_letter.0 no_digit.0) here)
-        ]
+          elim (chosen (is_digit b) number mark no_word no_letter.1) [
+            | inl digit ↦ let never : number ≡ no_word = digit.1 in cc
+            | inr no_digit ↦
+                no_mark b word left bs (no_mark_len b bs no_digit.1) tails (mark_goes_on k b word (or_from (is_letter b) (is_digit b) no_letter.0 no_digit.0) here)
+          ]
     ]
 
 -- ---- no word holds an LF
-
-abbrev pub is_no_lf : ℕ → Bool
-is_no_lf b = not (eqb b 10)
 
 part_is_no_lf : (b : ℕ) → is_part b ≡ true → is_no_lf b ≡ true
 part_is_no_lf b part =

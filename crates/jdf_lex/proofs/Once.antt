@@ -60,16 +60,16 @@ length_nil more none a = ap (λ m. a ++ m) none ∙ append-nil a
 pub same_word : (before v x w y : List ℕ) (t u : Token) → v ++ x ≡ w ++ y → IsToken before v x t → IsToken before w y u → v ≡ w
 same_word before v x w y t u same one other =
     elim (cases_lt (length w) (length v)) [
-      inl longer ↦
-        let front = longer_front w y v x (sym same) (omega arith) in
-        let spelled : is_spelling t.kind (w ++ front.0) ≡ true = subst (λ word. is_spelling t.kind word ≡ true) front.1 one.spelled in
-        let none : front.0 ≡ [] = other.longest t.kind front.0 x front.2 spelled in
-        front.1 ∙ length_nil front.0 none w
+      | inl longer ↦
+          let front = longer_front w y v x (sym same) (omega arith) in
+          let spelled : is_spelling t.kind (w ++ front.0) ≡ true = subst (λ word. is_spelling t.kind word ≡ true) front.1 one.spelled in
+          let none : front.0 ≡ [] = other.longest t.kind front.0 x front.2 spelled in
+          front.1 ∙ length_nil front.0 none w
       | inr shorter ↦
-        let front = longer_front v x w y same shorter in
-        let spelled : is_spelling u.kind (v ++ front.0) ≡ true = subst (λ word. is_spelling u.kind word ≡ true) front.1 other.spelled in
-        let none : front.0 ≡ [] = one.longest u.kind front.0 y front.2 spelled in
-        sym (front.1 ∙ length_nil front.0 none v)
+          let front = longer_front v x w y same shorter in
+          let spelled : is_spelling u.kind (v ++ front.0) ≡ true = subst (λ word. is_spelling u.kind word ≡ true) front.1 other.spelled in
+          let none : front.0 ≡ [] = one.longest u.kind front.0 y front.2 spelled in
+          sym (front.1 ∙ length_nil front.0 none v)
     ]
 
 -- a word at a place is one token
@@ -109,3 +109,6 @@ one_list_behind before rest (t ∷ ts) (u ∷ us) end other_end one other =
     let at_left : IsLexedBehind ((before ++ one.0) ++ one.1) one.2 us other_end = subst (λ z. IsLexedBehind ((before ++ one.0) ++ one.1) z us other_end) (sym parts.2) moved in
     let later = one_list_behind ((before ++ one.0) ++ one.1) one.2 ts us end other_end one.6 at_left in
     (λ i. parts.3 i ∷ later.0 i, later.1)
+
+pub one_list : OneListOfTokens
+one_list text tokens others end other_end one other = one_list_behind [] text tokens others end other_end one other

@@ -11,7 +11,7 @@ pub passes_both : {X : Type 0} (p q : X → Bool) (xs : List X) → list_any p x
 passes_both p q [] some all = absurd (false≢true some)
 passes_both p q (x ∷ xs) some all =
     elim (or_cases (p x) (list_any p xs) some) [
-      inl here ↦ (x, here, (and_parts (q x) (list_all q xs) all).0)
+      | inl here ↦ (x, here, (and_parts (q x) (list_all q xs) all).0)
       | inr later ↦ passes_both p q xs later (and_parts (q x) (list_all q xs) all).1
     ]
 
@@ -75,12 +75,12 @@ digit_is_no_letter b letter digit =
     let low : 48 ≤ b = leb-true 48 b (and_parts (leb 48 b) (leb b 57) digit).0 in
     let high : b ≤ 57 = leb-true b 57 (and_parts (leb 48 b) (leb b 57) digit).1 in
     elim (or_cases (leb 65 b && leb b 90) ((leb 97 b && leb b 122) || eqb b 95) letter) [
-      inl upper ↦ let above : 65 ≤ b = leb-true 65 b (and_parts (leb 65 b) (leb b 90) upper).0 in omega arith
+      | inl upper ↦ let above : 65 ≤ b = leb-true 65 b (and_parts (leb 65 b) (leb b 90) upper).0 in omega arith
       | inr rest ↦
-        elim (or_cases (leb 97 b && leb b 122) (eqb b 95) rest) [
-          inl lower ↦ let above : 97 ≤ b = leb-true 97 b (and_parts (leb 97 b) (leb b 122) lower).0 in omega arith
-          | inr same ↦ let is : b ≡ 95 = eqb-true b 95 same in omega arith
-        ]
+          elim (or_cases (leb 97 b && leb b 122) (eqb b 95) rest) [
+            | inl lower ↦ let above : 97 ≤ b = leb-true 97 b (and_parts (leb 97 b) (leb b 122) lower).0 in omega arith
+            | inr same ↦ let is : b ≡ 95 = eqb-true b 95 same in omega arith
+          ]
     ]
 
 -- ---- a word is spelled as one kind at most

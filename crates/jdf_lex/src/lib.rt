@@ -2,6 +2,7 @@
 #![tactic(auto)]
 
 mod bytes;
+mod cursor;
 mod fault;
 mod laws;
 mod lex;

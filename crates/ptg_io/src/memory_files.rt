@@ -1,6 +1,6 @@
-ghost use Rattle.std.specs.Prelude.{◌≡◌, ◌<◌, ◌≤◌, List, ℕ, Option, Some, length, IfOk, IfSome};
+ghost use Rattle.std.specs.Prelude.{◌≡◌, ◌<◌, ◌≤◌, ◌+◌, ◌⊎◌, ◌↔◌, min, List, ℕ, Option, Some, None, length, Contains, IfOk, IfSome, OnErr, IsErr};
 ghost use Rattle.ptg_io.specs.Faults.{Rose};
-ghost use Rattle.ptg_io.specs.Files.{IsPiece};
+ghost use Rattle.ptg_io.specs.Files.{IsPiece, ReadsPiece};
 ghost use Rattle.ptg_io.specs.Memory.{place_of, count_at, failed_reads};
 
 use crate::file::File;
@@ -32,11 +32,7 @@ impl Model for MemFiles {
 
 impl MemFiles {
     /// These files; the reads with these numbers, counted from 1, will fail.
-    pub fn new(
-        alloc: Global,
-        files: Row<File>,
-        fails: Row<u64>,
-    ) -> Result<MemFiles, OutOfMemory>
+    pub fn new(alloc: Global, files: Row<File>, fails: Row<u64>) -> Result<MemFiles, OutOfMemory>
         ensures told { IfOk result (λ held. ⟦<MemFiles as Files>⟧.told held ≡ Some files) }
         ensures no_faults { IfOk result (λ held. (name : List ℕ) → ⟦<MemFiles as Files>⟧.faults held name ≡ 0) }
         ensures start { IfOk result (λ held. held.reads ≡ 0) }
@@ -58,7 +54,21 @@ impl Files for MemFiles {
 
     ghost faults = { failed_reads };
 
-    fn read(&mut self, name: &str, from: u64, into: &mut [u8]) -> Result<usize, Failed> {
+    fn read(&mut self, name: &str, from: u64, into: &mut [u8]) -> Result<usize, Failed>
+        requires { 0 < length into.old }
+        ensures stays { Some self.new.files ≡ Some self.old.files }
+        ensures within { IfOk result (λ n. n ≤ length into.new) }
+        ensures given { (files : List (List ℕ × List ℕ)) → Some self.old.files ≡ Some files →
+            IfOk result (λ n. ReadsPiece files name.now from n into.new) }
+        ensures grows { (other : List ℕ) → failed_reads self.old other ≤ failed_reads self.new other }
+        ensures failed { OnErr result (Rose (failed_reads self.old name.now) (failed_reads self.new name.now)) }
+
+        // The chosen reads fail, and those of a name that is lacking.
+        ensures refused { IsErr result ↔
+            (Contains self.old.fails self.new.reads ⊎ (place_of self.old.files name.now ≡ None)) }
+        ensures counted { self.new.reads ≡ min (self.old.reads + 1) 18446744073709551615 }
+        ensures fails { self.new.fails ≡ self.old.fails }
+    {
         self.reads = self.reads.saturating_add(1);
         let place = place_of(self.all.as_slice(), name.as_bytes());
         let fails = self.chosen.as_slice().contains(&self.reads);

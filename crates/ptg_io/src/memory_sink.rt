@@ -1,4 +1,6 @@
-ghost use Rattle.std.specs.Prelude.{◌≡◌, [], Some};
+ghost use Rattle.std.specs.Prelude.{◌≡◌, ◌<◌, ◌≤◌, ◌+◌, min, [], Some, length, take, Contains, IfOk, OnErr, IsErr};
+ghost use Rattle.ptg_io.specs.Faults.{Rose};
+ghost use Rattle.ptg_io.specs.Sink.{appended};
 
 use crate::files::Failed;
 use crate::sink::Sink;
@@ -49,7 +51,21 @@ impl Sink for MemSink {
 
     ghost faults = { λ m. m.failed };
 
-    fn write(&mut self, piece: &[u8]) -> Result<usize, Failed> {
+    fn write(&mut self, piece: &[u8]) -> Result<usize, Failed>
+        requires { 0 < length piece.now }
+        ensures some { IfOk result (λ n. 1 ≤ n) }
+        ensures within { IfOk result (λ n. n ≤ length piece.now) }
+        ensures ok { IfOk result (λ n. Some self.new.bytes ≡ appended (Some self.old.bytes) (take n piece.now)) }
+        ensures kept { OnErr result (Some self.new.bytes ≡ Some self.old.bytes) }
+        ensures grows { self.old.failed ≤ self.new.failed }
+        ensures failed { OnErr result (Rose self.old.failed self.new.failed) }
+
+        // It takes the piece whole. The chosen writes fail, and else one fails for want of memory alone.
+        ensures whole { IfOk result (λ n. n ≡ length piece.now) }
+        ensures chosen { Contains self.old.fails self.new.writes → IsErr result }
+        ensures counted { self.new.writes ≡ min (self.old.writes + 1) 18446744073709551615 }
+        ensures fails { self.new.fails ≡ self.old.fails }
+    {
         self.writes = self.writes.saturating_add(1);
         let fails = self.chosen.as_slice().contains(&self.writes);
         if fails || self.content.append(piece).is_err() {
