@@ -1,2 +1,4 @@
+pub mod Data
+pub mod Fields
 pub mod Place
 pub mod Whole

@@ -3,6 +3,8 @@
 
 mod fault;
 mod given;
+mod read;
 
 pub use fault::{DataCode, DataFault, DataRefusal};
 pub use given::{Coll, Given, Int};
+pub use read::read_data;
