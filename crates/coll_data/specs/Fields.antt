@@ -12,10 +12,14 @@ is_letter b = (nat_le 65 b && nat_le b 90) || ((nat_le 97 b && nat_le b 122) || 
 abbrev pub is_digit : ℕ → Bool
 is_digit b = nat_le 48 b && nat_le b 57
 
+-- What may stand in a name behind its first byte.
+abbrev pub is_part : ℕ → Bool
+is_part b = is_letter b || is_digit b
+
 -- A name is a letter and then letters and digits.
 abbrev pub is_name : List ℕ → Bool
 is_name [] = false
-is_name (b ∷ bs) = is_letter b && list_all (λ c. is_letter c || is_digit c) bs
+is_name (b ∷ bs) = is_letter b && list_all is_part bs
 
 -- One digit or more.
 abbrev pub are_digits : List ℕ → Bool

@@ -2,7 +2,10 @@
 #![tactic(auto)]
 
 mod fault;
+mod field;
 mod given;
+mod growing;
+mod parts;
 mod read;
 
 pub use fault::{DataCode, DataFault, DataRefusal};
