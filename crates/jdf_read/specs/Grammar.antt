@@ -210,14 +210,18 @@ class_of name x =
       body = x.1.1.1.1.0; finish = x.1.1.1.1.1;
     }
 
--- The last name before the "(" is the class's, and those before it are globals.
-abbrev pub jdf_of : List Word → Word → List Word → Rest → Jdf
-jdf_of globals name [] x = record { globals = globals; class = class_of name x }
-jdf_of globals name (next ∷ more) x = jdf_of (globals ++ name ∷ []) next more x
+-- The last of these names is the class's, and those before it are globals.
+abbrev pub headed : List Word → Word → List Word → List Word × Word
+headed globals name [] = (globals, name)
+headed globals name (next ∷ more) = headed (globals ++ name ∷ []) next more
+
+-- heading = name* name, the globals and the class's name
+unfoldable pub heading : Grammar (List Word × Word)
+heading = map (λ x. headed [] x.0 x.1) (seq (name Class) (star any (name Class)))
 
 -- file = name* class, and class = name rest
 unfoldable pub file : Grammar Jdf
-file = map (λ x. jdf_of [] x.0 x.1.0 x.1.1) (seq (name Class) (seq (star any (name Class)) rest))
+file = map (λ x. record { globals = x.0.0; class = class_of x.0.1 x.1 }) (seq heading rest)
 
 -- what recurs
 unfoldable pub inner : (part : Part) → Grammar (TreeOf part)

@@ -2,6 +2,8 @@
 #![tactic(auto)]
 
 mod expression;
+mod name;
+mod number;
 mod part;
 mod read;
 mod tree;
