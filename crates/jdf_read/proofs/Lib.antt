@@ -1,3 +1,5 @@
 pub mod Digits
 pub mod Fine
 pub mod Named
+pub mod Loops
+pub mod Window

@@ -89,13 +89,13 @@ reference Body = map named (seq (name Body) (opt index))
 unfoldable pub atom : Part → Grammar Expression
 atom part = alt number (alt (reference part) (parens part))
 
+abbrev pub operator_by : Sort → BinOp
+operator_by sort.Plus = Add
+operator_by sort.Minus = Sub
+operator_by _ = Eq
+
 abbrev pub operator_of : Token → BinOp
-operator_of x = by_sort (sort_of x)
-  where
-    by_sort : Sort → BinOp
-    by_sort sort.Plus = Add
-    by_sort sort.Minus = Sub
-    by_sort _ = Eq
+operator_of x = operator_by (sort_of x)
 
 -- operators group to the left
 abbrev pub grouped : Expression → List (BinOp × Expression) → Expression

@@ -4,6 +4,7 @@
 mod expression;
 mod name;
 mod number;
+mod operators;
 mod part;
 mod read;
 mod tree;

@@ -1,0 +1,22 @@
+-- The forms of the expressions whose operators have one rank.
+use Rattle.std.specs.Prelude.{Bool}
+use Rattle.grammar_core.specs.declared.sort.Sort.{Sort}
+use Rattle.grammar_core.specs.declared.sort.Sort.TheVariants as sort
+use Rattle.grammar_core.specs.Sorts.{is}
+use Rattle.jdf_read.specs.declared.part.Part.{Part}
+use Rattle.jdf_read.specs.declared.part.Rank.{Rank}
+use Rattle.jdf_read.specs.declared.part.Rank.TheVariants.{Equal, Sum}
+use Rattle.jdf_read.specs.Expression.{Expression}
+use Rattle.jdf_read.specs.Grammar.{Grammar, atom, sum, expr, is_sum}
+
+abbrev pub operators_of : Rank → Sort → Bool
+operators_of Equal k = is sort.Equal k
+operators_of Sum k = is_sum k
+
+abbrev pub operand_of : Rank → Part → Grammar Expression
+operand_of Equal part = sum part
+operand_of Sum part = atom part
+
+abbrev pub of_rank : Rank → Part → Grammar Expression
+of_rank Equal part = expr part
+of_rank Sum part = sum part
