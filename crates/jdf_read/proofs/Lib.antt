@@ -2,4 +2,5 @@ pub mod Digits
 pub mod Fine
 pub mod Named
 pub mod Loops
+pub mod Lists
 pub mod Window

@@ -65,7 +65,7 @@ any_index {A} q p (suc n) i j s = ap (λ (r : Read (List A)). cond (starts q s) 
 unfoldable pub many_of : {A : Type 0} → Form Part TreeOf A → List Token → Read (List A)
 many_of g s = reading inner (star any g) s
 
-many_of_is : {A : Type 0} (g : Form Part TreeOf A) → may_be_empty g ≡ false → (s : List Token) → many_of g s ≡ cond (starts (first g) s) (reading inner g s >>= λ a. many_of g a.1 >>= λ more. Ok (a.0 ∷ more.0, more.1)) (Ok ([], s))
+pub many_of_is : {A : Type 0} (g : Form Part TreeOf A) → may_be_empty g ≡ false → (s : List Token) → many_of g s ≡ cond (starts (first g) s) (reading inner g s >>= λ a. many_of g a.1 >>= λ more. Ok (a.0 ∷ more.0, more.1)) (Ok ([], s))
 unfolding many_of
 many_of_is {A} g full s =
     many_is any (first g) (reading inner g) (λ s' x e. (run_shrinks (name_at inner) (name_shrinks inner) g s' x e).1 full) 0 s
