@@ -1,6 +1,7 @@
 //! Names, tasks, places and tiles, with their order.
 #![tactic(auto)]
 
+mod edge;
 mod memory;
 mod place;
 mod row;
@@ -8,6 +9,7 @@ mod task;
 mod text;
 mod tile;
 
+pub use edge::{Edge, Item, WriteBack};
 pub use memory::OutOfMemory;
 pub use place::Place;
 pub use row::Row;

@@ -1,0 +1,5 @@
+pub mod Steps
+pub mod Space
+pub mod Sources
+pub mod Items
+pub mod Consistent

@@ -1,0 +1,4 @@
+pub mod Fits
+pub mod Backward
+pub mod Final
+pub mod Answer

@@ -1,0 +1,8 @@
+//! What a job computes, and the run of a job on one thread.
+#![tactic(auto)]
+
+mod outcome;
+mod run;
+
+pub use outcome::{Outcome, TrapRow, WaitRow};
+pub use run::run_one;

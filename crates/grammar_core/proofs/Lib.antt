@@ -1,0 +1,12 @@
+pub mod Counting
+pub mod Same
+pub mod Spelled
+pub mod Tokens
+pub mod Sets
+pub mod Begins
+pub mod Steps
+pub mod Fuel
+pub mod Only
+pub mod Passes
+pub mod Sound
+pub mod Whole

@@ -1,0 +1,6 @@
+pub mod Sorts
+pub mod Form
+pub mod Reading
+pub mod Predictive
+pub mod Counted
+pub mod Gives

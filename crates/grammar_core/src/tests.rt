@@ -1,0 +1,42 @@
+use crate::{Sort, expect, expression_limit, is_next};
+use jdf_lex::{Spot, Token, TokenKind};
+use ptg_base::Text;
+use std::alloc::Global;
+use std::test::Fail;
+
+fn token(alloc: Global, kind: TokenKind, text: &[u8]) -> Result<Token, Fail> {
+    Ok(Token {
+        kind,
+        text: Text::of(alloc, text)?,
+        start: 0,
+        end: 0,
+        spot: Spot { line: 1, column: 1 },
+    })
+}
+
+#[test]
+fn sorts(rt: HostRuntime) -> Result<(), Fail> {
+    let body = token(rt.alloc(), TokenKind::Name, b"BODY")?;
+    assert_eq!(rt; Sort::of(&body), Sort::Body);
+    let name = token(rt.alloc(), TokenKind::Name, b"body")?;
+    assert_eq!(rt; Sort::of(&name), Sort::Name);
+    let arrow = token(rt.alloc(), TokenKind::Mark, b"->")?;
+    assert_eq!(rt; Sort::of(&arrow), Sort::Outward);
+    let number = token(rt.alloc(), TokenKind::Number, b"17")?;
+    assert_eq!(rt; Sort::of(&number), Sort::Number);
+    Ok(())
+}
+
+#[test]
+fn next_token(rt: HostRuntime) -> Result<(), Fail> {
+    let mut tokens = Vec::new(rt.alloc());
+    tokens.push(token(rt.alloc(), TokenKind::Mark, b"(")?)?;
+    tokens.push(token(rt.alloc(), TokenKind::Mark, b")")?)?;
+    assert!(rt; is_next(&tokens, Sort::LeftParen));
+    assert!(rt; !is_next(&tokens, Sort::RightParen));
+    assert_eq!(rt; expression_limit(&tokens), 512);
+    let (first, rest) = expect(&tokens, Sort::LeftParen)?;
+    assert_eq!(rt; first.text.bytes(), b"(".as_slice());
+    assert_eq!(rt; rest.len(), 1);
+    Ok(())
+}

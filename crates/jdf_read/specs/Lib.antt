@@ -1,0 +1,6 @@
+pub mod Expression
+pub mod ExpressionCode
+pub mod NodeExpression
+pub mod Numbers
+pub mod Grammar
+pub mod Jdf

@@ -1,0 +1,23 @@
+-- Numbers as they are written.
+use Rattle.std.specs.Prelude.{ℕ, ◌+◌, ◌-◌, ◌*◌, nat_le, Bool, true, false, not, ◌&&◌, ◌||◌, ◌==◌, List, [], ◌∷◌}
+use Rattle.std.specs.List.{list_all}
+use Rattle.jdf_lex.specs.Tokens.{is_digit}
+
+-- the number that these digits continue
+abbrev pub continued : ℕ → List ℕ → ℕ
+continued n [] = n
+continued n (b ∷ bs) = continued (10 * n + (b - 48)) bs
+
+-- the number of these digits, in decimal
+abbrev pub decimal : List ℕ → ℕ
+decimal digits = continued 0 digits
+
+-- no 0 at the front, unless it is the whole number
+abbrev pub has_no_zero_before : List ℕ → Bool
+has_no_zero_before [] = true
+has_no_zero_before (b ∷ []) = true
+has_no_zero_before (b ∷ c ∷ bs) = not (b == 48)
+
+-- A number stands in an expression as decimal digits, without a leading 0 unless it is 0, and is at most 2^63 - 1.
+unfoldable pub is_number : List ℕ → Bool
+is_number text = has_no_zero_before text && (list_all is_digit text && nat_le (decimal text) 9223372036854775807)

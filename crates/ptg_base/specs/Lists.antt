@@ -1,0 +1,12 @@
+-- Words on lists of tasks, edges and places.
+use Rattle.std.specs.Prelude.{◌≡◌, ◌⊎◌, List, [], ◌∷◌}
+
+-- x is one of the list
+abbrev pub IsIn : {A : Type 0} → A → List A → Type 0
+IsIn x [] = ⊥
+IsIn x (y ∷ ys) = (x ≡ y) ⊎ IsIn x ys
+
+-- nothing stands twice in the list
+abbrev pub HasNoRepeats : {A : Type 0} → List A → Type 0
+HasNoRepeats [] = Unit {0}
+HasNoRepeats (x ∷ xs) = (IsIn x xs → ⊥) × HasNoRepeats xs

@@ -1,0 +1,7 @@
+pub mod Term
+pub mod TermCode
+pub mod NodeTerm
+pub mod Arith
+pub mod Value
+pub mod Trap
+pub mod WellMade

@@ -1,0 +1,153 @@
+ghost use Rattle.std.specs.Prelude.{◌≡◌, ◌+ℤ◌, ◌-ℤ◌, ◌*ℤ◌, int_div, int_rem};
+ghost use Rattle.term_core.specs.Arith.{fitted, divided, truth, holds, arithmetic, unary_value, decided};
+
+use crate::fault::ExprFault;
+use crate::operator::{BinOp, UnOp};
+
+fn sum(a: i64, b: i64) -> Result<i64, ExprFault>
+    ensures { result ≡ fitted (a +ℤ b) }
+{
+    match a.checked_add(b) {
+        Some(z) => Ok(z),
+        None => Err(ExprFault::Overflow),
+    }
+}
+
+fn difference(a: i64, b: i64) -> Result<i64, ExprFault>
+    ensures { result ≡ fitted (a -ℤ b) }
+{
+    match a.checked_sub(b) {
+        Some(z) => Ok(z),
+        None => Err(ExprFault::Overflow),
+    }
+}
+
+fn product(a: i64, b: i64) -> Result<i64, ExprFault>
+    ensures { result ≡ fitted (a *ℤ b) }
+{
+    match a.checked_mul(b) {
+        Some(z) => Ok(z),
+        None => Err(ExprFault::Overflow),
+    }
+}
+
+fn quotient(a: i64, b: i64) -> Result<i64, ExprFault>
+    ensures { result ≡ divided a b (int_div a b) }
+{
+    if b == 0 {
+        return Err(ExprFault::Divide);
+    }
+    match a.checked_div(b) {
+        Some(z) => Ok(z),
+        None => Err(ExprFault::Overflow),
+    }
+}
+
+fn remainder(a: i64, b: i64) -> Result<i64, ExprFault>
+    ensures { result ≡ divided a b (int_rem a b) }
+{
+    if b == 0 {
+        return Err(ExprFault::Divide);
+    }
+    match a.checked_rem(b) {
+        Some(z) => Ok(z),
+        None => Err(ExprFault::Overflow),
+    }
+}
+
+fn number(condition: bool) -> i64
+    ensures { result ≡ truth condition }
+{
+    if condition { 1 } else { 0 }
+}
+
+/// What the operator gives of the two numbers.
+pub fn arith(op: BinOp, a: i64, b: i64) -> Result<i64, ExprFault>
+    ensures { result ≡ arithmetic op a b }
+{
+    match op {
+        BinOp::Add => sum(a, b),
+        BinOp::Sub => difference(a, b),
+        BinOp::Mul => product(a, b),
+        BinOp::Div => quotient(a, b),
+        BinOp::Rem => remainder(a, b),
+        BinOp::Eq => Ok(number(a == b)),
+        BinOp::Ne => Ok(number(a != b)),
+        BinOp::Lt => Ok(number(a < b)),
+        BinOp::Le => Ok(number(a <= b)),
+        BinOp::Gt => Ok(number(a > b)),
+        BinOp::Ge => Ok(number(a >= b)),
+        BinOp::And => Ok(number(a != 0 && b != 0)),
+        BinOp::Or => Ok(number(a != 0 || b != 0)),
+    }
+}
+
+/// What the operator gives of the number after it.
+pub fn unary(op: UnOp, a: i64) -> Result<i64, ExprFault>
+    ensures { result ≡ unary_value op a }
+{
+    match op {
+        UnOp::Neg => match a.checked_neg() {
+            Some(z) => Ok(z),
+            None => Err(ExprFault::Overflow),
+        },
+        UnOp::Not => Ok(number(a == 0)),
+    }
+}
+
+/// The value of an operation that its left side alone decides.
+pub fn decide(op: BinOp, a: i64) -> Option<i64>
+    ensures { result ≡ decided op a }
+{
+    match op {
+        BinOp::And => { if a == 0 { Some(0) } else { None } }
+        BinOp::Or => { if a == 0 { None } else { Some(1) } }
+        _ => None,
+    }
+}
+
+#[cfg(test)]
+mod tests {
+    use super::*;
+
+    #[test]
+    fn numbers(rt: HostRuntime) {
+        for (op, a, b, want) in [
+            (BinOp::Add, 2, 3, Ok(5)),
+            (BinOp::Add, i64::MAX, 1, Err(ExprFault::Overflow)),
+            (BinOp::Sub, i64::MIN, 1, Err(ExprFault::Overflow)),
+            (BinOp::Mul, 4611686018427387904, 2, Err(ExprFault::Overflow)),
+            (BinOp::Mul, -3, 4, Ok(-12)),
+            (BinOp::Div, -7, 2, Ok(-3)),
+            (BinOp::Rem, -7, 2, Ok(-1)),
+            (BinOp::Rem, 7, -2, Ok(1)),
+            (BinOp::Div, 1, 0, Err(ExprFault::Divide)),
+            (BinOp::Rem, 1, 0, Err(ExprFault::Divide)),
+            (BinOp::Div, i64::MIN, -1, Err(ExprFault::Overflow)),
+            (BinOp::Rem, i64::MIN, -1, Err(ExprFault::Overflow)),
+        ] {
+            assert_eq!(rt; arith(op, a, b), want, "{op:?} {a} {b}");
+        }
+        assert_eq!(rt; unary(UnOp::Neg, i64::MIN), Err(ExprFault::Overflow));
+        assert_eq!(rt; unary(UnOp::Not, -4), Ok(0));
+    }
+
+    #[test]
+    fn conditions(rt: HostRuntime) {
+        for (op, a, b, want) in [
+            (BinOp::Eq, 2, 2, 1),
+            (BinOp::Ne, 2, 2, 0),
+            (BinOp::Lt, -1, 2, 1),
+            (BinOp::Le, 2, 2, 1),
+            (BinOp::Gt, -1, 2, 0),
+            (BinOp::Ge, 1, 2, 0),
+            (BinOp::And, 5, 0, 0),
+            (BinOp::Or, 0, -1, 1),
+        ] {
+            assert_eq!(rt; arith(op, a, b), Ok(want), "{op:?} {a} {b}");
+        }
+        assert_eq!(rt; decide(BinOp::And, 0), Some(0));
+        assert_eq!(rt; decide(BinOp::Or, 3), Some(1));
+        assert_eq!(rt; decide(BinOp::And, 3), None);
+    }
+}

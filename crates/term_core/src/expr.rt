@@ -1,0 +1,102 @@
+ghost use Rattle.std.specs.Prelude.{◌≡◌, IfOk};
+ghost use Rattle.term_core.specs.Term.{Num, Local, Elem, Unary, Binary, Choose};
+ghost use Rattle.term_core.specs.NodeTerm.{term_of};
+
+use crate::operator::{BinOp, UnOp};
+use ptg_base::OutOfMemory;
+use std::alloc::Global;
+use std::marker::Model;
+
+/// An expression over the locals of a task, seen as its tree and not as where that lies in memory.
+#[derive(Debug, Drop)]
+pub struct Expr {
+    pub(crate) node: Node,
+}
+
+/// One operation of an expression, and its operands.
+#[derive(Debug, Drop)]
+pub enum Node {
+    /// A number.
+    Num(i64),
+    /// The local of this number.
+    Local(u16),
+    /// An element of the tile of the flow of this number.
+    Elem(u8, Box<Node>),
+    Unary(UnOp, Box<Node>),
+    Binary(BinOp, Box<Node>, Box<Node>),
+    /// `c ? a : b`
+    Choose(Box<Node>, Box<Node>, Box<Node>),
+}
+
+impl Model for Expr {
+    ghost use Rattle.term_core.specs.Term.{Term};
+    ghost use Rattle.term_core.specs.TermCode.{term_code};
+
+    ghost Value = { Term };
+
+    ghost coded = { term_code };
+
+    ghost use Rattle.term_core.specs.NodeTerm.{term_of};
+
+    ghost view = { λ e. term_of e.node };
+}
+
+impl Expr {
+    pub fn num(z: i64) -> Expr
+        ensures { result ≡ Num z }
+    {
+        Expr { node: Node::Num(z) }
+    }
+
+    pub fn local(number: u16) -> Expr
+        ensures { result ≡ Local number }
+    {
+        Expr {
+            node: Node::Local(number),
+        }
+    }
+
+    pub fn elem(alloc: Global, flow: u8, at: Expr) -> Result<Expr, OutOfMemory>
+        ensures { IfOk result (λ e. e ≡ Elem flow at) }
+    {
+        Ok(Expr {
+            node: Node::Elem(flow, Box::new(alloc, at.node)?),
+        })
+    }
+
+    pub fn unary(alloc: Global, op: UnOp, a: Expr) -> Result<Expr, OutOfMemory>
+        ensures { IfOk result (λ e. e ≡ Unary op a) }
+    {
+        Ok(Expr {
+            node: Node::Unary(op, Box::new(alloc, a.node)?),
+        })
+    }
+
+    pub fn binary(alloc: Global, op: BinOp, a: Expr, b: Expr) -> Result<Expr, OutOfMemory>
+        ensures { IfOk result (λ e. e ≡ Binary op a b) }
+    {
+        Ok(Expr {
+            node: Node::Binary(op, Box::new(alloc, a.node)?, Box::new(alloc, b.node)?),
+        })
+    }
+
+    /// `c ? a : b`
+    pub fn choose(alloc: Global, c: Expr, a: Expr, b: Expr) -> Result<Expr, OutOfMemory>
+        ensures { IfOk result (λ e. e ≡ Choose c a b) }
+    {
+        Ok(Expr {
+            node: Node::Choose(
+                Box::new(alloc, c.node)?,
+                Box::new(alloc, a.node)?,
+                Box::new(alloc, b.node)?,
+            ),
+        })
+    }
+
+    /// The operation at the root, for the crates that go down the tree.
+    pub fn node(&self) -> &Node
+        ensures { term_of result.now ≡ self.now }
+    {
+        &self.node
+    }
+}

@@ -1,0 +1,16 @@
+//! Expressions, their values, and the statements of bodies.
+#![tactic(auto)]
+
+mod arithmetic;
+mod body;
+mod evaluate;
+mod expr;
+mod fault;
+mod operator;
+
+pub use arithmetic::{arith, decide, unary};
+pub use body::{Body, Range, Stmt, Trap};
+pub use evaluate::{eval, local};
+pub use expr::{Expr, Node};
+pub use fault::ExprFault;
+pub use operator::{BinOp, UnOp};
