@@ -57,7 +57,7 @@ pub next_within : (P : Plan) (G : Given) (lo : ℤ) (n : ℕ) (S : List (Option 
 unfolding ended_within
 next_within P G lo n S k y r kn h e =
     ended_on-more P G (task_at lo k) (known lo S) (ended_within P G (count S)) (source_of P (task_at lo k))
-        (λ d is x. known_within P G lo n S d.from x r kn (source_task P lo n k d r h is)) y e
+    (λ d is x. known_within P G lo n S d.from x r kn (source_task P lo n k d r h is)) y e
 
 known_set_at : (P : Plan) (G : Given) (lo : ℤ) (S : List (Option Ended)) (k : ℕ) (y : Ended) → IsKnown P G lo S → k < length S → ended_within P G (suc (count S)) (task_at lo k) ≡ Some y →
     (j : ℕ) (x : Ended) → (j ≡ k) ⊎ (j ≢ k) → get_or (set S k (Some y)) j None ≡ Some x → ended_within P G (suc (count S)) (task_at lo j) ≡ Some x
@@ -74,7 +74,7 @@ known_set_at P G lo S k y kn h w j x (inr ne) is =
 pub known_set : (P : Plan) (G : Given) (lo : ℤ) (n : ℕ) (S : List (Option Ended)) (k : ℕ) (y : Ended) → IsRange P lo n → IsKnown P G lo S → length S ≡ n → k < n → get_or S k None ≡ None → next P G lo S (task_at lo k) ≡ Some y → IsKnown P G lo (set S k (Some y))
 known_set P G lo n S k y r kn len h none e = record {
   at = λ j x is.
-    let c : count (set S k (Some y)) ≡ suc (count S) = count_set S k y (omega arith) none in
-    subst (λ m. ended_within P G m (task_at lo j) ≡ Some x) (sym c)
-      (known_set_at P G lo S k y kn (omega arith) (next_within P G lo n S k y r kn h e) j x (cases_eq j k) is)
+      let c : count (set S k (Some y)) ≡ suc (count S) = count_set S k y (omega arith) none in
+      subst (λ m. ended_within P G m (task_at lo j) ≡ Some x) (sym c)
+      (known_set_at P G lo S k y kn (omega arith) (next_within P G lo n S k y r kn h e) j x (cases_eq j k) is);
 }

@@ -45,6 +45,6 @@ list_of_range f d lo (x ∷ xs) h =
     let z : lo +ℤ pos 0 ≡ lo = omega (arith, ints) in
     let first : x ≡ f (task_of lo) = h 0 (omega arith) ∙ ap (λ v. f (task_of v)) z in
     let more : (k : ℕ) → k < length xs → get_or xs k d ≡ f (task_at (lo +ℤ pos 1) k) =
-        λ k lt. let y : lo +ℤ pos (suc k) ≡ (lo +ℤ pos 1) +ℤ pos k = omega (arith, ints) in h (suc k) (omega arith) ∙ ap (λ v. f (task_of v)) y in
+    λ k lt. let y : lo +ℤ pos (suc k) ≡ (lo +ℤ pos 1) +ℤ pos k = omega (arith, ints) in h (suc k) (omega arith) ∙ ap (λ v. f (task_of v)) y in
     let rest : xs ≡ map f (map task_of (numbers_from (lo +ℤ pos 1) (length xs))) = list_of_range f d (lo +ℤ pos 1) xs more in
     cc

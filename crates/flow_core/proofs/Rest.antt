@@ -55,10 +55,10 @@ unfolding ended_within
 never P G lo n S r kn rest zero k h none = refl
 never P G lo n S r kn rest (suc m) k h none =
     ended_on-less P G (task_at lo k) (known lo S) (ended_within P G m) (source_of P (task_at lo k))
-        (λ e is z.
-            let p : (j : ℕ) × (j < n) × (e.from ≡ task_at lo j) = task_place P lo n e.from r (source_task P lo n k e r h is) in
-            output_known P G lo S m e.from z kn p.0 p.2 (λ no. never P G lo n S r kn rest m p.0 p.1 no))
-        (rest.at k h none)
+    (λ e is z.
+    let p : (j : ℕ) × (j < n) × (e.from ≡ task_at lo j) = task_place P lo n e.from r (source_task P lo n k e r h is) in
+    output_known P G lo S m e.from z kn p.0 p.2 (λ no. never P G lo n S r kn rest m p.0 p.1 no))
+    (rest.at k h none)
 
 at_rest : (P : Plan) (G : Given) (lo : ℤ) (S : List (Option Ended)) → IsRange P lo (length S) → IsKnown P G lo S → IsAtRest P G lo S (length S) →
     (k : ℕ) → k < length S → (o : Option Ended) → get_or S k None ≡ o → o ≡ ended P G (task_at lo k)
@@ -72,5 +72,5 @@ at_rest P G lo S r kn rest k h (Some x) is =
 pub all_known : (P : Plan) (G : Given) (lo : ℤ) (S : List (Option Ended)) → IsRange P lo (length S) → IsKnown P G lo S → IsAtRest P G lo S (length S) → S ≡ map (λ t. ended P G t) (space P)
 all_known P G lo S r kn rest =
     let a : S ≡ map (λ t. ended P G t) (map task_of (numbers_from lo (length S))) =
-        list_of_range (λ t. ended P G t) None lo S (λ k h. at_rest P G lo S r kn rest k h (get_or S k None) refl) in
+    list_of_range (λ t. ended P G t) None lo S (λ k h. at_rest P G lo S r kn rest k h (get_or S k None) refl) in
     a ∙ ap (map (λ t. ended P G t)) (sym r.tasks)
