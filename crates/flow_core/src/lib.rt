@@ -3,6 +3,7 @@
 
 mod outcome;
 mod run;
+mod state;
 
 pub use outcome::{Outcome, TrapRow, WaitRow};
 pub use run::run_one;
