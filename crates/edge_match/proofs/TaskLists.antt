@@ -1,6 +1,6 @@
 -- The tasks of a range.
 use Rattle.std.proofs.Common.{◌≡◌, ℕ, zero, suc, ◌+◌, ◌<◌, ◌≤◌, ℤ, pos, ◌+ℤ◌, ◌≤ℤ◌, List, [], ◌∷◌, map, length, drop, slice_index_or, refl, sym, ap, ◌∙◌, subst, arith, add-one}
-use Rattle.std.proofs.lemmas.List.{length-map, drop-map}
+use Rattle.std.proofs.lemmas.List.{length-map, drop-map, drop_all}
 use Rattle.ptg_base.specs.Lists.{IsIn, HasNoRepeats}
 use Rattle.ptg_base.specs.Task.{Task}
 use Rattle.dep_iter.specs.Space.{task_of, numbers_from, count_between, numbers_between}
@@ -65,3 +65,7 @@ one_task v w e = ap (λ (t : Task). slice_index_or t.params 0 (pos 0)) e
 pub HasNoRepeats-tasks_between : (lo hi : ℤ) → HasNoRepeats (tasks_between lo hi)
 unfolding tasks_between
 HasNoRepeats-tasks_between lo hi = HasNoRepeats-map task_of one_task (numbers_between lo hi) (HasNoRepeats-numbers_from lo (count_between lo hi))
+
+-- no task is left after the last
+pub drop-tasks_end : (lo hi : ℤ) (n k : ℕ) → n ≡ count_between lo hi → n ≤ k → drop k (tasks_between lo hi) ≡ []
+drop-tasks_end lo hi n k e h = let all = length-tasks_between lo hi in drop_all k (tasks_between lo hi) (omega arith)

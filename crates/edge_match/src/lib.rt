@@ -1,7 +1,6 @@
 //! Whether a job is consistent: its tasks, their sources and items, and the two ends of each edge.
 #![tactic(auto)]
 
-mod decide;
 mod edges;
 mod fault;
 mod gathered;
@@ -9,7 +8,6 @@ mod good;
 mod meeting;
 mod tasks;
 mod totals;
-mod written;
 
 
 pub use fault::{MatchCode, MatchFault, MatchRefusal};
