@@ -1,0 +1,78 @@
+-- The meaning of a run: what is to be said for words and files, whatever the machine.
+use Rattle.std.specs.Prelude.{◌≡◌, ◌⊎◌, ℕ, List, Option, Some, None}
+use Rattle.ptg_io.specs.Files.{file_of}
+use Rattle.ptg_words.specs.declared.order.Order.{Order}
+use Rattle.ptg_words.specs.declared.order.Order.TheVariants.{Run}
+use Rattle.ptg_words.specs.Words.{Orders}
+use Rattle.jdf_lex.specs.Tokens as jdf
+use Rattle.jdf_read.specs.declared.tree.Jdf.{Jdf}
+use Rattle.jdf_read.specs.Jdf.{IsJdf}
+use Rattle.coll_data.specs.declared.given.Given.{Given}
+use Rattle.coll_data.specs.Data as coll
+use Rattle.coll_data.specs.Data.{IsData}
+use Rattle.plan_core.specs.declared.plan.Plan.{Plan}
+use Rattle.flow_check.specs.Names.{IsMissing}
+use Rattle.flow_check.specs.Planned.{IsPlan}
+use Rattle.dep_iter.specs.Consistent.{IsConsistent}
+use Rattle.flow_core.specs.Answer.{answer}
+use Rattle.ptg_top.specs.declared.verdict.Verdict.{Verdict}
+use Rattle.ptg_top.specs.declared.verdict.Verdict.TheVariants as say
+use Rattle.ptg_top.specs.Stages.{Entries, HasTree, HasData, HasPlan}
+
+-- the words order nothing
+abbrev pub IsNoOrder : List (List ℕ) → Type 0
+IsNoOrder words = (order : Order) → Orders words order → ⊥
+
+-- there is no JDF file, or with a JDF there is no data file
+abbrev pub IsNoFile : List (List ℕ) → Entries → List ℕ → Type 0
+IsNoFile words files name =
+    (((tiles : List ℕ) × Orders words (Run name tiles)) ⊎ ((J : Jdf) × HasTree words files name J)) × (file_of files name ≡ None)
+
+-- the JDF file is not the text of a tree
+pub record IsNoTree (words : List (List ℕ)) (files : Entries) : Type 0 where
+  pub jdf : List ℕ
+  pub tiles : List ℕ
+  pub order : Orders words (Run jdf tiles)
+  pub bytes : List ℕ
+  pub file : file_of files jdf ≡ Some bytes
+  pub none : (J : Jdf) → IsJdf bytes J → ⊥
+
+-- with a JDF, the data file spells no data
+pub record IsNoData (words : List (List ℕ)) (files : Entries) : Type 0 where
+  pub jdf : Jdf
+  pub tiles : List ℕ
+  pub tree : HasTree words files tiles jdf
+  pub bytes : List ℕ
+  pub file : file_of files tiles ≡ Some bytes
+  pub none : (G : Given) → IsData bytes G → ⊥
+
+-- the data do not give a global of the JDF
+pub record IsLacking (words : List (List ℕ)) (files : Entries) : Type 0 where
+  pub jdf : Jdf
+  pub given : Given
+  pub known : HasData words files jdf given
+  pub lacking : IsMissing jdf given
+
+-- the data give each global, and yet the names make no plan
+pub record IsNoPlan (words : List (List ℕ)) (files : Entries) : Type 0 where
+  pub jdf : Jdf
+  pub given : Given
+  pub known : HasData words files jdf given
+  pub named : IsMissing jdf given → ⊥
+  pub none : (P : Plan) → IsPlan jdf given P → ⊥
+
+-- What is to be said for words and files: the first refusal in the order words, JDF file, its text, data file, its text,
+-- missing global, names, consistency; else the answer of the job.
+abbrev pub Means : List (List ℕ) → Entries → Verdict → Type 0
+Means words files say.Usage = IsNoOrder words
+Means words files (say.Unread name) = IsNoFile words files name
+Means words files (say.Jdf fault) = (fault ≡ jdf.not_built) × (IsNoTree words files ⊎ IsNoPlan words files)
+Means words files (say.Data fault) = (fault ≡ coll.not_built) × (IsNoData words files ⊎ IsLacking words files)
+Means words files (say.Match fault) = (G : Given) × (P : Plan) × HasPlan words files G P × (IsConsistent P → ⊥)
+Means words files (say.Answer P outcome) = (G : Given) × HasPlan words files G P × IsConsistent P × (outcome ≡ answer P G)
+
+-- whose name may be told as unread: the JDF file's, or the data file's once the JDF is the text of a tree, where the files are told
+abbrev pub MayBeUnread : List (List ℕ) → Option Entries → List ℕ → Type 0
+MayBeUnread words told name =
+    ((tiles : List ℕ) × Orders words (Run name tiles))
+    ⊎ ((jdf : List ℕ) × Orders words (Run jdf name) × ((files : Entries) → told ≡ Some files → (J : Jdf) × HasTree words files name J))

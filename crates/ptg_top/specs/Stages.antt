@@ -1,0 +1,39 @@
+-- How far the words and the files lead: to a tree, to data, to a plan.
+use Rattle.std.specs.Prelude.{◌≡◌, ℕ, List, Some}
+use Rattle.ptg_io.specs.Files.{file_of}
+use Rattle.ptg_words.specs.declared.order.Order.TheVariants.{Run}
+use Rattle.ptg_words.specs.Words.{Orders}
+use Rattle.jdf_read.specs.declared.tree.Jdf.{Jdf}
+use Rattle.jdf_read.specs.Jdf.{IsJdf}
+use Rattle.coll_data.specs.declared.given.Given.{Given}
+use Rattle.coll_data.specs.Data.{IsData}
+use Rattle.plan_core.specs.declared.plan.Plan.{Plan}
+use Rattle.flow_check.specs.Names.{IsMissing}
+use Rattle.flow_check.specs.Planned.{IsPlan}
+
+-- files by name
+abbrev pub Entries : Type 0
+Entries = List (List ℕ × List ℕ)
+
+-- the words order to run a job with the data file of this name, and its JDF file is the text of this tree
+pub record HasTree (words : List (List ℕ)) (files : Entries) (tiles : List ℕ) (J : Jdf) : Type 0 where
+  pub jdf : List ℕ
+  pub order : Orders words (Run jdf tiles)
+  pub bytes : List ℕ
+  pub file : file_of files jdf ≡ Some bytes
+  pub tree : IsJdf bytes J
+
+-- and its data file spells these data
+pub record HasData (words : List (List ℕ)) (files : Entries) (J : Jdf) (G : Given) : Type 0 where
+  pub tiles : List ℕ
+  pub tree : HasTree words files tiles J
+  pub bytes : List ℕ
+  pub file : file_of files tiles ≡ Some bytes
+  pub spelled : IsData bytes G
+
+-- and the data give each global of the JDF, and both make this plan
+pub record HasPlan (words : List (List ℕ)) (files : Entries) (G : Given) (P : Plan) : Type 0 where
+  pub jdf : Jdf
+  pub known : HasData words files jdf G
+  pub named : IsMissing jdf G → ⊥
+  pub plan : IsPlan jdf G P

@@ -1,0 +1,69 @@
+-- Why a step of the program stops.
+use Rattle.std.specs.Prelude.{◌≡◌, ◌⊎◌, ℕ, List, Option, Some}
+use Rattle.ptg_io.specs.Faults.{Rose}
+use Rattle.ptg_io.specs.Files.{file_of}
+use Rattle.jdf_lex.specs.Tokens as jdf
+use Rattle.jdf_read.specs.declared.tree.Jdf.{Jdf}
+use Rattle.jdf_read.specs.Jdf.{IsJdf}
+use Rattle.coll_data.specs.declared.given.Given.{Given}
+use Rattle.coll_data.specs.Data as coll
+use Rattle.coll_data.specs.Data.{IsData}
+use Rattle.plan_core.specs.declared.plan.Plan.{Plan}
+use Rattle.flow_check.specs.Names.{IsMissing}
+use Rattle.flow_check.specs.Planned.{IsPlan}
+use Rattle.dep_iter.specs.Consistent.{IsConsistent}
+use Rattle.flow_core.specs.Answer.{answer}
+use Rattle.ptg_top.specs.declared.verdict.Verdict.{Verdict}
+use Rattle.ptg_top.specs.declared.verdict.Verdict.TheVariants as say
+use Rattle.ptg_top.specs.declared.stages.Stop.{Stop}
+use Rattle.ptg_top.specs.declared.stages.Stop.TheVariants.{Said, Memory}
+use Rattle.ptg_top.specs.Stages.{Entries}
+
+-- the file of this name, where the files are told, has none of what P says
+abbrev pub HasNone : {A : Type 0} → (List ℕ → A → Type 0) → Option Entries → List ℕ → Type 0
+HasNone {A} P told name = (files : Entries) → told ≡ Some files → (bytes : List ℕ) × (file_of files name ≡ Some bytes) × ((a : A) → P bytes a → ⊥)
+
+-- a JDF file leads no further: a read of it failed, or it is not the text of a tree
+abbrev pub TreeSaid : Option Entries → ℕ → ℕ → List ℕ → Verdict → Type 0
+TreeSaid told old new name v = ((v ≡ say.Unread name) × Rose old new) ⊎ ((v ≡ say.Jdf jdf.not_built) × HasNone IsJdf told name)
+
+abbrev pub TreeStop : Option Entries → ℕ → ℕ → List ℕ → Stop → Type 0
+TreeStop told old new name (Said v) = TreeSaid told old new name v
+TreeStop told old new name Memory = Unit {0}
+
+-- a data file leads no further: a read of it failed, or it spells no data
+abbrev pub DataSaid : Option Entries → ℕ → ℕ → List ℕ → Verdict → Type 0
+DataSaid told old new name v = ((v ≡ say.Unread name) × Rose old new) ⊎ ((v ≡ say.Data coll.not_built) × HasNone IsData told name)
+
+abbrev pub DataStop : Option Entries → ℕ → ℕ → List ℕ → Stop → Type 0
+DataStop told old new name (Said v) = DataSaid told old new name v
+DataStop told old new name Memory = Unit {0}
+
+-- a tree and data make no plan: the data lack a global, or the names do not fit
+abbrev pub PlanSaid : Jdf → Given → Verdict → Type 0
+PlanSaid J G v =
+    ((v ≡ say.Data coll.not_built) × IsMissing J G)
+    ⊎ ((v ≡ say.Jdf jdf.not_built) × (IsMissing J G → ⊥) × ((P : Plan) → IsPlan J G P → ⊥))
+
+abbrev pub PlanStop : Jdf → Given → Stop → Type 0
+PlanStop J G (Said v) = PlanSaid J G v
+PlanStop J G Memory = Unit {0}
+
+-- what is said of a plan: it is not consistent, or it is and has this answer
+abbrev pub AnswerSaid : Plan → Given → Verdict → Type 0
+AnswerSaid P G (say.Match fault) = IsConsistent P → ⊥
+AnswerSaid P G (say.Answer Q outcome) = (Q ≡ P) × IsConsistent P × (outcome ≡ answer P G)
+AnswerSaid P G say.Usage = ⊥
+AnswerSaid P G (say.Unread name) = ⊥
+AnswerSaid P G (say.Jdf fault) = ⊥
+AnswerSaid P G (say.Data fault) = ⊥
+
+-- a file could not be read
+abbrev pub IsUnread : List ℕ → Stop → Type 0
+IsUnread name (Said v) = v ≡ say.Unread name
+IsUnread name Memory = Unit {0}
+
+-- a text has none of what P says, and this is said of it
+abbrev pub TextStop : {A : Type 0} → Verdict → (A → Type 0) → Stop → Type 0
+TextStop {A} said P (Said v) = (v ≡ said) × ((a : A) → P a → ⊥)
+TextStop said P Memory = Unit {0}

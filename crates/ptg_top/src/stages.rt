@@ -1,0 +1,172 @@
+//! From files to a tree, to data, to a plan, to an answer: each step with its refusal.
+
+ghost use Rattle.std.specs.Prelude.{◌≡◌, ◌⊎◌, ◌≤◌, ℕ, List, Some, Err, IfOk, IfErr, MatchResult};
+ghost use Rattle.std.specs.Str.{IsUtf8};
+ghost use Rattle.ptg_io.specs.Faults.{Rose};
+ghost use Rattle.ptg_io.specs.Files.{file_of};
+ghost use Rattle.jdf_lex.specs.Tokens as jdf;
+ghost use Rattle.jdf_read.specs.declared.tree.Jdf.{Jdf};
+ghost use Rattle.jdf_read.specs.Jdf.{IsJdf};
+ghost use Rattle.coll_data.specs.declared.given.Given.{Given};
+ghost use Rattle.coll_data.specs.Data as coll;
+ghost use Rattle.coll_data.specs.Data.{IsData};
+ghost use Rattle.coll_data.specs.Whole.{HasWholeTiles};
+ghost use Rattle.plan_core.specs.declared.plan.Plan.{Plan};
+ghost use Rattle.flow_check.specs.Names.{IsMissing};
+ghost use Rattle.flow_check.specs.Planned.{IsPlan};
+ghost use Rattle.dep_iter.specs.Consistent.{IsConsistent};
+ghost use Rattle.flow_core.specs.Fits.{Fits};
+ghost use Rattle.flow_core.specs.Answer.{answer};
+ghost use Rattle.ptg_top.specs.declared.verdict.Verdict.TheVariants as say;
+ghost use Rattle.ptg_top.specs.Stages.{Entries};
+ghost use Rattle.ptg_top.specs.Steps.{TreeStop, DataStop, PlanStop, AnswerSaid, IsUnread, TextStop};
+
+use crate::verdict::Verdict;
+use coll_data::{DataCode, DataFault, DataRefusal, Given, read_data};
+use edge_match::{MatchRefusal, match_edges};
+use flow_check::{check, missing};
+use flow_core::run_one;
+use jdf_lex::{JdfCode, JdfFault, JdfRefusal, Spot};
+use jdf_read::{Jdf, read_first};
+use plan_core::Plan;
+use ptg_base::{OutOfMemory, Row, Text};
+use ptg_io::{Files, LoadFault, load};
+use std::alloc::Global;
+
+/// Why a step did not lead on.
+#[derive(Debug, Drop)]
+pub enum Stop {
+    /// This is to be said.
+    Said(Verdict),
+    Memory,
+}
+
+// The one refusal of a JDF so far.
+fn jdf_fault() -> JdfFault
+    ensures { result ≡ jdf.not_built }
+{
+    JdfFault {
+        spot: Spot { line: 1, column: 1 },
+        code: JdfCode::NotBuilt,
+    }
+}
+
+// The one refusal of data so far.
+fn data_fault() -> DataFault
+    ensures { result ≡ coll.not_built }
+{
+    DataFault {
+        row: 0,
+        code: DataCode::NotBuilt,
+    }
+}
+
+// The name of a file as text.
+fn name_of(word: &Text) -> &str
+    requires { IsUtf8 word.now }
+    ensures { result.now ≡ word.now }
+{
+    match std::str::from_utf8(word.bytes()) {
+        Ok(name) => name,
+        Err(_) => unreachable!(),
+    }
+}
+
+/// The tree of the JDF file of this name.
+pub fn tree_of<F: Files>(alloc: Global, name: &Text, files: &mut F) -> Result<Jdf, Stop>
+    requires { IsUtf8 name.now }
+    ensures stays { F.told files.new ≡ F.told files.old }
+    ensures grows { (other : List ℕ) → F.faults files.old other ≤ F.faults files.new other }
+    ensures found { (entries : Entries) → F.told files.old ≡ Some entries →
+        IfOk result (λ J. (bytes : List ℕ) × (file_of entries name.now ≡ Some bytes) × IsJdf bytes J) }
+    ensures stopped { IfErr result (TreeStop (F.told files.old) (F.faults files.old name.now) (F.faults files.new name.now) name.now) }
+{
+    match load(alloc, files, name_of(name)) {
+        Ok(bytes) => tree(alloc, bytes.as_slice()),
+        Err(LoadFault::TooLong) => Err(Stop::Said(Verdict::Jdf(jdf_fault()))),
+        Err(LoadFault::Failed) => Err(unread(alloc, name)),
+        Err(LoadFault::OutOfMemory) => Err(Stop::Memory),
+    }
+}
+
+// That the file of this name could not be read.
+fn unread(alloc: Global, name: &Text) -> Stop
+    ensures { IsUnread name.now result }
+{
+    match Text::of(alloc, name.bytes()) {
+        Ok(name) => Stop::Said(Verdict::Unread(name)),
+        Err(OutOfMemory) => Stop::Memory,
+    }
+}
+
+// The tree of a text.
+fn tree(alloc: Global, bytes: &[u8]) -> Result<Jdf, Stop>
+    ensures { MatchResult result (IsJdf bytes.now) (TextStop (say.Jdf jdf.not_built) (IsJdf bytes.now)) }
+{
+    match read_first(alloc, bytes) {
+        Ok(tree) => Ok(tree),
+        Err(JdfRefusal::Fault(fault)) => Err(Stop::Said(Verdict::Jdf(fault))),
+        Err(JdfRefusal::OutOfMemory) => Err(Stop::Memory),
+    }
+}
+
+/// The data of the file of this name.
+pub fn data_of<F: Files>(alloc: Global, name: &Text, files: &mut F) -> Result<Given, Stop>
+    requires { IsUtf8 name.now }
+    ensures stays { F.told files.new ≡ F.told files.old }
+    ensures grows { (other : List ℕ) → F.faults files.old other ≤ F.faults files.new other }
+    ensures whole { IfOk result HasWholeTiles }
+    ensures found { (entries : Entries) → F.told files.old ≡ Some entries →
+        IfOk result (λ G. (bytes : List ℕ) × (file_of entries name.now ≡ Some bytes) × IsData bytes G) }
+    ensures stopped { IfErr result (DataStop (F.told files.old) (F.faults files.old name.now) (F.faults files.new name.now) name.now) }
+{
+    match load(alloc, files, name_of(name)) {
+        Ok(bytes) => data(alloc, bytes.as_slice()),
+        Err(LoadFault::TooLong) => Err(Stop::Said(Verdict::Data(data_fault()))),
+        Err(LoadFault::Failed) => Err(unread(alloc, name)),
+        Err(LoadFault::OutOfMemory) => Err(Stop::Memory),
+    }
+}
+
+// The data of a text.
+fn data(alloc: Global, bytes: &[u8]) -> Result<Given, Stop>
+    ensures whole { IfOk result HasWholeTiles }
+    ensures spelled { MatchResult result (IsData bytes.now) (TextStop (say.Data coll.not_built) (IsData bytes.now)) }
+{
+    match read_data(alloc, bytes) {
+        Ok(given) => Ok(given),
+        Err(DataRefusal::Fault(fault)) => Err(Stop::Said(Verdict::Data(fault))),
+        Err(DataRefusal::OutOfMemory) => Err(Stop::Memory),
+    }
+}
+
+/// The plan of a tree with data.
+pub fn plan_of(alloc: Global, jdf: &Jdf, given: &Given) -> Result<Plan, Stop>
+    ensures named { IfOk result (λ P. IsMissing jdf.now given.now → ⊥) }
+    ensures plan { IfOk result (IsPlan jdf.now given.now) }
+    ensures stopped { IfErr result (PlanStop jdf.now given.now) }
+{
+    if missing(jdf, given) {
+        return Err(Stop::Said(Verdict::Data(data_fault())));
+    }
+    match check(alloc, jdf, given) {
+        Ok(plan) => Ok(plan),
+        Err(JdfRefusal::Fault(fault)) => Err(Stop::Said(Verdict::Jdf(fault))),
+        Err(JdfRefusal::OutOfMemory) => Err(Stop::Memory),
+    }
+}
+
+/// What is to be said of a plan with its data.
+pub fn answer_of(alloc: Global, plan: Plan, given: Given) -> Result<Verdict, Stop>
+    requires { Fits plan given }
+    ensures { MatchResult result (AnswerSaid plan given) (λ stop. stop ≡ Stop.Memory) }
+{
+    match match_edges(alloc, plan) {
+        Ok(matched) => match run_one(alloc, &matched, given) {
+            Ok(outcome) => Ok(Verdict::Answer(matched, outcome)),
+            Err(OutOfMemory) => Err(Stop::Memory),
+        },
+        Err((MatchRefusal::Fault(fault), _plan)) => Ok(Verdict::Match(fault)),
+        Err((MatchRefusal::OutOfMemory, _plan)) => Err(Stop::Memory),
+    }
+}

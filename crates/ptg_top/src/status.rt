@@ -1,0 +1,42 @@
+/// How a run of the program ended; the exit status of its process is `code`.
+#[derive(Clone, Copy, Debug, PartialEq, Eq)]
+pub enum Status {
+    /// All tasks ran, and the data with what they wrote were printed.
+    Complete,
+    /// The words are no command.
+    Usage,
+    /// The JDF was refused.
+    JdfRefused,
+    /// The data were refused.
+    DataRefused,
+    /// The job is not consistent.
+    Inconsistent,
+    /// Some task trapped.
+    Trapped,
+    /// Some task could not run.
+    Stalled,
+    /// A file could not be read.
+    ReadFault,
+    /// The output could not be written.
+    WriteFault,
+    /// There was no memory. Nothing was written.
+    OutOfMemory,
+}
+
+impl Status {
+    /// The exit status of the process.
+    pub fn code(self) -> u8 {
+        match self {
+            Status::Complete => 0,
+            Status::Usage => 1,
+            Status::JdfRefused => 2,
+            Status::DataRefused => 3,
+            Status::Inconsistent => 4,
+            Status::Trapped => 5,
+            Status::Stalled => 6,
+            Status::ReadFault => 7,
+            Status::WriteFault => 8,
+            Status::OutOfMemory => 9,
+        }
+    }
+}
