@@ -12,7 +12,7 @@ use Rattle.grammar_core.specs.Reading.{first, starts, picks}
 use Rattle.grammar_core.specs.Predictive.{is_fine, are_names}
 use Rattle.grammar_core.proofs.Whole.{LimitsOnly}
 use Rattle.jdf_read.specs.Ranks.{is_target}
-use Rattle.jdf_read.specs.Grammar.{number, parens, index, reference, atom, sum, expr, outer, call, target, unguarded, guarded, arrow, dep, stmt, param, range, affinity, flow, body, rest, heading, file, inner, claims, goes_on_target}
+use Rattle.jdf_read.specs.Grammar.{number, parens, index, reference, atom, sum, expr, outer, call, target, unguarded, guarded, arrow, dep, deps, stmt, param, range, affinity, flow, body, rest, heading, file, inner, claims, goes_on_target}
 
 pub inner_fine : (part : Part) → are_names inner claims part ≡ true
 unfolding inner expr sum atom number reference index parens
@@ -20,7 +20,7 @@ inner_fine Class = refl
 inner_fine Body = refl
 
 pub file_fine : is_fine claims file ≡ true
-unfolding file heading rest body flow affinity range param stmt dep arrow guarded unguarded target call outer expr sum atom number reference index parens
+unfolding file heading rest body flow affinity range param stmt deps dep arrow guarded unguarded target call outer expr sum atom number reference index parens
 file_fine = refl
 
 pub outer_fine : (part : Part) → is_fine claims (outer part) ≡ true

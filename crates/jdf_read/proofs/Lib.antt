@@ -1,5 +1,6 @@
 pub mod Digits
 pub mod Fine
+pub mod Heading
 pub mod Named
 pub mod Loops
 pub mod Lists

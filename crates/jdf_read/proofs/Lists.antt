@@ -100,7 +100,7 @@ few i h = go (nat_le 16 i) (grind (arith, nat_tests))
     go b e = rw e refl
 
 pub deps_begin : (s : List Token) → so_far [] (deps_from 0 s) ≡ reading inner deps s
-unfolding deps_from
+unfolding deps_from deps
 deps_begin s = so_far_nothing (deps_from 0 s)
 
 pub deps_go_on : (old : List DepTree) (s : List Token) (x : DepTree) (next : List Token) (total : Read (List DepTree)) (new : List DepTree) → new ≡ old ++ x ∷ [] → length old < 16 → starts is_arrow s ≡ true → reading inner dep s ≡ Ok (x, next)

@@ -167,7 +167,8 @@ dep = map dep_of (seq arrow (pick goes_on_target unguarded guarded))
 abbrev pub too_many_deps : ℕ → Option Code
 too_many_deps i = if nat_le 16 i then Some TooManyDeps else None
 
-abbrev pub deps : Grammar (List DepTree)
+-- deps = dep*
+unfoldable pub deps : Grammar (List DepTree)
 deps = star too_many_deps dep
 
 -- stmt = name "[" expr "]" "=" expr ";"
