@@ -1,4 +1,5 @@
 pub mod Digits
+pub mod File
 pub mod Fine
 pub mod Heading
 pub mod Named
