@@ -1,6 +1,6 @@
 -- The laws of whole texts, for the file.
-use Rattle.std.proofs.Common.{◌≡◌, ℕ, zero, suc, ◌≤◌, Bool, true, false, cond, List, Ok, Err, Result, subst, refl, sym, ap, ◌∙◌}
-use Rattle.std.specs.Prelude.{Option, Some, None, nat_le, ◌⊎◌, length}
+use Rattle.std.proofs.Common.{◌≡◌, ℕ, ◌≤◌, Bool, true, false, cond, List, Ok, Err, Result, subst, refl, sym, ap, ◌∙◌}
+use Rattle.std.specs.Prelude.{Some, None, nat_le, ◌⊎◌, length}
 use Rattle.std.proofs.Common.{inl, inr}
 use Rattle.jdf_lex.specs.declared.token.Spot.{Spot}
 use Rattle.jdf_lex.specs.declared.token.Token.{Token}
@@ -141,8 +141,12 @@ pub read_is : (bytes text : List ℕ) (lexed : Lexed) (slice : List Token) (jdf 
     → IsLexed text lexed.tokens lexed.end × (length lexed.tokens ≤ 1000000) → slice ≡ lexed.tokens → whole inner file slice ≡ Ok jdf → IsJdf bytes jdf
 read_is bytes text lexed slice jdf short utf8 is slices e =
     record {
-      short = short; utf8 = utf8.1; tokens = lexed.tokens; end = lexed.end;
-      lexed = subst (λ (t : List ℕ). IsLexed t lexed.tokens lexed.end) utf8.0 is.0; few = is.1;
+      short = short;
+      utf8 = utf8.1;
+      tokens = lexed.tokens;
+      end = lexed.end;
+      lexed = subst (λ (t : List ℕ). IsLexed t lexed.tokens lexed.end) utf8.0 is.0;
+      few = is.1;
       text = found lexed.tokens jdf (ap (whole inner file) (sym slices) ∙ e);
     }
 

@@ -1,18 +1,18 @@
 -- The names before the class, as a loop reads them.
-use Rattle.std.proofs.Common.{◌≡◌, ◌<◌, Bool, true, false, cond, List, [], ◌∷◌, ◌++◌, length, Result, Ok, Err, refl, sym, ap, ◌∙◌, subst}
+use Rattle.std.proofs.Common.{◌≡◌, ◌<◌, true, false, cond, List, [], ◌∷◌, ◌++◌, length, Ok, Err, refl, sym, ap, ◌∙◌, subst}
 use Rattle.jdf_lex.specs.declared.token.Token.{Token}
 use Rattle.grammar_core.specs.declared.fault.ReadError.{ReadError}
 use Rattle.grammar_core.specs.declared.fault.ReadError.TheVariants as errors
-use Rattle.grammar_core.specs.Form.{Form, seq, map, star}
-use Rattle.grammar_core.specs.Reading.{◌>>=◌, Read, first, starts, name_at, reading}
+use Rattle.grammar_core.specs.Form.{star}
+use Rattle.grammar_core.specs.Reading.{◌>>=◌, Read, starts, name_at, reading}
 use Rattle.grammar_core.specs.Gives.{Fails}
 use Rattle.grammar_core.proofs.Fuel.{name_shrinks, run_shrinks}
 use Rattle.jdf_read.specs.declared.part.Part.TheVariants.{Class}
 use Rattle.jdf_read.specs.declared.expression.Word.{Word}
 use Rattle.jdf_read.specs.declared.tree.ClassTree.{ClassTree}
 use Rattle.jdf_read.specs.declared.tree.Jdf.{Jdf}
-use Rattle.jdf_read.specs.Grammar.{TreeOf, inner, any, names, name, Rest, rest, class_of, class_named, headed, heading, file}
-use Rattle.jdf_read.proofs.Loops.{applied, pair_with, regroup, many_of, many_of_is, fails_before}
+use Rattle.jdf_read.specs.Grammar.{inner, any, names, name, Rest, rest, class_of, class_named, headed, heading, file}
+use Rattle.jdf_read.proofs.Loops.{applied, regroup, many_of, many_of_is, fails_before}
 
 -- the globals so far and the last name, and what is still read
 unfoldable pub headed_so_far : List Word → Word → Read (List Word) → Read (List Word × Word)

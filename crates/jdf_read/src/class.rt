@@ -30,7 +30,10 @@ fn param(alloc: Global, tokens: &[Token]) -> Result<(Word, &[Token]), ReadError>
 
 // `name "=" expr ".." expr`
 #[tactic(auto, unfolding(crate::specs::Grammar::range))]
-fn range(alloc: Global, tokens: &[Token]) -> Result<((Word, ExprTree, ExprTree), &[Token]), ReadError>
+fn range(
+    alloc: Global,
+    tokens: &[Token],
+) -> Result<((Word, ExprTree, ExprTree), &[Token]), ReadError>
     ensures { Gives (λ x. (x.0, x.1.now)) result (reading inner range tokens.now) }
 {
     let (local, rest) = name(alloc, Part::Class, tokens)?;

@@ -1,4 +1,4 @@
-use Rattle.std.proofs.Common.{◌≡◌, ◌<◌, ◌+◌, ◌∷◌, [], length, ap, sym, ◌∙◌, true, arith}
+use Rattle.std.proofs.Common.{◌≡◌, ◌<◌, ◌∷◌, [], length, ap, sym, ◌∙◌, true, arith}
 use Rattle.std.proofs.lemmas.List.{length-append}
 use Rattle.grammar_core.specs.Reading.{starts}
 use Rattle.jdf_read.specs.Grammar.{is_arrow}

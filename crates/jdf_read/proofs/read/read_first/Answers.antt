@@ -1,7 +1,5 @@
-use Rattle.std.proofs.Common.{◌≡◌, Ok, Err, ap, inl, inr, arith}
+use Rattle.std.proofs.Common.{Ok, ap, inl, arith}
 use Rattle.jdf_read.specs.declared.tree.Jdf.{Jdf}
-use Rattle.grammar_core.specs.Reading.{whole}
-use Rattle.jdf_read.specs.Grammar.{inner, file}
 use Rattle.jdf_read.proofs.File.{read_is, tree_is, one_tree, no_tree, one_refusal}
 use Rattle.jdf_read.proofs.read.read_first.Goals as goal
 
