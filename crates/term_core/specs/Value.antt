@@ -6,7 +6,7 @@ use Rattle.term_core.specs.Term.{Term, Num, Local, Elem, Unary, Binary, Choose}
 use Rattle.term_core.specs.Arith.{holds, arithmetic, unary_value, decided}
 
 -- what follows a value; a fault stays as it is
-abbrev pub after : {F : Type 0} → Result ℤ F → (ℤ → Result ℤ F) → Result ℤ F
+abbrev pub after : {A B F : Type 0} → Result A F → (A → Result B F) → Result B F
 after (Ok x) next = next x
 after (Err e) next = Err e
 

@@ -105,3 +105,49 @@ pub fn decide(op: BinOp, a: i64) -> Option<i64>
         _ => None,
     }
 }
+
+#[cfg(test)]
+mod tests {
+    use super::*;
+
+    #[test]
+    fn numbers(rt: HostRuntime) {
+        for (op, a, b, want) in [
+            (BinOp::Add, 2, 3, Ok(5)),
+            (BinOp::Add, i64::MAX, 1, Err(ExprFault::Overflow)),
+            (BinOp::Sub, i64::MIN, 1, Err(ExprFault::Overflow)),
+            (BinOp::Mul, 4611686018427387904, 2, Err(ExprFault::Overflow)),
+            (BinOp::Mul, -3, 4, Ok(-12)),
+            (BinOp::Div, -7, 2, Ok(-3)),
+            (BinOp::Rem, -7, 2, Ok(-1)),
+            (BinOp::Rem, 7, -2, Ok(1)),
+            (BinOp::Div, 1, 0, Err(ExprFault::Divide)),
+            (BinOp::Rem, 1, 0, Err(ExprFault::Divide)),
+            (BinOp::Div, i64::MIN, -1, Err(ExprFault::Overflow)),
+            (BinOp::Rem, i64::MIN, -1, Err(ExprFault::Overflow)),
+        ] {
+            assert_eq!(rt; arith(op, a, b), want, "{op:?} {a} {b}");
+        }
+        assert_eq!(rt; unary(UnOp::Neg, i64::MIN), Err(ExprFault::Overflow));
+        assert_eq!(rt; unary(UnOp::Not, -4), Ok(0));
+    }
+
+    #[test]
+    fn conditions(rt: HostRuntime) {
+        for (op, a, b, want) in [
+            (BinOp::Eq, 2, 2, 1),
+            (BinOp::Ne, 2, 2, 0),
+            (BinOp::Lt, -1, 2, 1),
+            (BinOp::Le, 2, 2, 1),
+            (BinOp::Gt, -1, 2, 0),
+            (BinOp::Ge, 1, 2, 0),
+            (BinOp::And, 5, 0, 0),
+            (BinOp::Or, 0, -1, 1),
+        ] {
+            assert_eq!(rt; arith(op, a, b), Ok(want), "{op:?} {a} {b}");
+        }
+        assert_eq!(rt; decide(BinOp::And, 0), Some(0));
+        assert_eq!(rt; decide(BinOp::Or, 3), Some(1));
+        assert_eq!(rt; decide(BinOp::And, 3), None);
+    }
+}

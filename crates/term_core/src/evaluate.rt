@@ -57,3 +57,30 @@ fn eval_node(node: &Node, env: &[i64]) -> Result<i64, ExprFault>
         },
     }
 }
+
+#[cfg(test)]
+mod tests {
+    use super::*;
+    use crate::operator::{BinOp, UnOp};
+    use ptg_base::OutOfMemory;
+
+    /// `a || 1 / 0` goes to the right only where a is 0, and `a ? !a : 1 / a` takes one side alone.
+    #[test]
+    fn only_what_is_needed(rt: HostRuntime) -> Result<(), OutOfMemory> {
+        let alloc = rt.alloc();
+        let by_zero = Expr::binary(alloc, BinOp::Div, Expr::num(1), Expr::num(0))?;
+        let either = Expr::binary(alloc, BinOp::Or, Expr::local(0), by_zero)?;
+        assert_eq!(rt; eval(&either, &[4]), Ok(1));
+        assert_eq!(rt; eval(&either, &[0]), Err(ExprFault::Divide));
+        let inverse = Expr::binary(alloc, BinOp::Div, Expr::num(1), Expr::local(0))?;
+        let chosen = Expr::choose(
+            alloc,
+            Expr::local(0),
+            Expr::unary(alloc, UnOp::Not, Expr::local(0))?,
+            inverse,
+        )?;
+        assert_eq!(rt; eval(&chosen, &[9]), Ok(0));
+        assert_eq!(rt; eval(&chosen, &[0]), Err(ExprFault::Divide));
+        Ok(())
+    }
+}

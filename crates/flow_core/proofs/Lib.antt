@@ -1,0 +1,4 @@
+pub mod Within
+pub mod Places
+pub mod Known
+pub mod Rest

@@ -1,0 +1,5 @@
+pub mod Fits
+pub mod Backward
+pub mod Final
+pub mod Answer
+pub mod States

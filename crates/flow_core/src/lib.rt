@@ -1,0 +1,9 @@
+//! What a job computes, and the run of a job on one thread.
+#![tactic(auto)]
+
+mod outcome;
+mod run;
+mod state;
+
+pub use outcome::{Outcome, TrapRow, WaitRow};
+pub use run::run_one;

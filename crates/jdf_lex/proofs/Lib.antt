@@ -1,0 +1,5 @@
+pub mod Front
+pub mod Going
+pub mod Once
+pub mod Spots
+pub mod Words

@@ -1,0 +1,21 @@
+use Rattle.std.specs.Prelude.{◌≡◌, ℕ, ◌<◌, ◌≤◌, List, [], ◌∷◌, length, take, drop, Option, None, Some, if◌then◌else◌}
+use Rattle.std.specs.Str.{bytes_eq}
+
+-- The bytes of the first file with this name. A file is its name and its bytes.
+abbrev pub file_of : List (List ℕ × List ℕ) → List ℕ → Option (List ℕ)
+file_of [] name = None
+file_of (file ∷ files) name = if bytes_eq file.0 name then Some file.1 else file_of files name
+
+-- A read of a file from a place gave n bytes: the buffer begins with that many of the bytes from there on.
+-- It gave none only at or past the end.
+pub record IsPiece (bytes : List ℕ) (from n : ℕ) (buffer : List ℕ) : Type 0 where
+  pub piece : take n buffer ≡ take n (drop from bytes)
+  pub end : n ≡ 0 → length bytes ≤ from
+
+-- A read of n bytes of the file with this name, which is there.
+abbrev pub ReadsPiece : List (List ℕ × List ℕ) → List ℕ → ℕ → ℕ → List ℕ → Type 0
+ReadsPiece files name from n buffer = (bytes : List ℕ) × (file_of files name ≡ Some bytes) × IsPiece bytes from n buffer
+
+-- The file with this name is there and has more bytes than this.
+abbrev pub IsLonger : List (List ℕ × List ℕ) → List ℕ → ℕ → Type 0
+IsLonger files name limit = (bytes : List ℕ) × (file_of files name ≡ Some bytes) × (limit < length bytes)

@@ -1,0 +1,32 @@
+use Rattle.std.specs.Prelude.{ℕ, List, Option, None, Some, slice_index, position}
+use Rattle.std.specs.Str.{bytes_eq}
+
+-- The place of the first file with this name, counted from 0.
+abbrev pub place_of : List (List ℕ × List ℕ) → List ℕ → Option ℕ
+place_of files name = position (λ file. bytes_eq file.0 name) files
+
+-- The count of a file by its place, or that of the names that are lacking.
+abbrev pub count_at : List ℕ → ℕ → Option ℕ → ℕ
+count_at failed lacking None = lacking
+count_at failed lacking (Some place) = slice_index failed place
+
+-- What files in memory are: the files as names and bytes; for each, how many of its reads failed, and how many
+-- of a name that is lacking; the number of the reads so far; and the numbers of the reads that fail, from 1.
+pub record Held : Type 0 where
+  pub files : List (List ℕ × List ℕ)
+  pub failed : List ℕ
+  pub lacking : ℕ
+  pub reads : ℕ
+  pub fails : List ℕ
+
+-- How many reads of this name failed.
+abbrev pub failed_reads : Held → List ℕ → ℕ
+failed_reads held name = count_at held.failed held.lacking (place_of held.files name)
+
+-- What a sink in memory is: the bytes written; how many writes failed; the number of the writes so far; and the
+-- numbers of the writes that fail, from 1.
+pub record Written : Type 0 where
+  pub bytes : List ℕ
+  pub failed : ℕ
+  pub writes : ℕ
+  pub fails : List ℕ

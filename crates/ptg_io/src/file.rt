@@ -1,0 +1,42 @@
+ghost use Rattle.std.specs.Prelude.{◌≡◌};
+
+use ptg_base::{Row, Text};
+use std::marker::Model;
+
+/// A file in memory, seen as its name and its bytes.
+#[derive(Debug, Drop)]
+pub struct File {
+    label: Text,
+    content: Row<u8>,
+}
+
+impl Model for File {
+    ghost use Rattle.std.specs.Prelude.{List, ℕ};
+
+    ghost Value = { List ℕ × List ℕ };
+
+    ghost view = { λ f. (f.label, f.content) };
+}
+
+impl File {
+    pub fn new(name: Text, bytes: Row<u8>) -> File
+        ensures { result ≡ (name, bytes) }
+    {
+        File {
+            label: name,
+            content: bytes,
+        }
+    }
+
+    pub fn name(&self) -> &[u8]
+        ensures { result.now ≡ self.now.0 }
+    {
+        self.label.bytes()
+    }
+
+    pub fn bytes(&self) -> &[u8]
+        ensures { result.now ≡ self.now.1 }
+    {
+        self.content.as_slice()
+    }
+}

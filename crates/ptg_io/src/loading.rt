@@ -1,0 +1,136 @@
+ghost use Rattle.std.specs.Prelude.{◌≡◌, ◌<◌, ◌≤◌, List, ℕ, length, vec_len, IfOk, OnOk, IsErrOf, IsTrue, IsFalse};
+ghost use Rattle.ptg_io.specs.Faults.{Rose};
+ghost use Rattle.ptg_io.specs.Files.{file_of, IsLonger};
+ghost use Rattle.ptg_io.specs.Load.{IsSoFar};
+ghost use Rattle.ptg_io.specs.declared.loading.LoadFault.TheVariants.{Failed, OutOfMemory};
+
+use crate::files::{self, Files};
+use ptg_base::Row;
+use std::alloc::{AllocError, AllocFailed, Global};
+
+/// How many bytes are asked for at once.
+const PIECE: usize = 65536;
+
+/// How many bytes a file may have.
+const LIMIT: usize = 16777216;
+
+/// Why a file was not loaded.
+#[derive(Clone, Copy, Debug, PartialEq, Eq)]
+pub enum LoadFault {
+    /// A read failed.
+    Failed,
+    /// The file has more than 16 MiB.
+    TooLong,
+    OutOfMemory,
+}
+
+impl From<files::Failed> for LoadFault {
+    ghost from_gives = { λ _ e. e ≡ Failed };
+
+    fn from(_e: files::Failed) -> LoadFault {
+        LoadFault::Failed
+    }
+}
+
+impl From<AllocError> for LoadFault {
+    ghost from_gives = { λ _ e. e ≡ OutOfMemory };
+
+    fn from(_e: AllocError) -> LoadFault {
+        LoadFault::OutOfMemory
+    }
+}
+
+impl<T: Drop> From<AllocFailed<T>> for LoadFault {
+    ghost from_gives = { λ _ e. e ≡ OutOfMemory };
+
+    fn from(_e: AllocFailed<T>) -> LoadFault {
+        LoadFault::OutOfMemory
+    }
+}
+
+/// The bytes of a file, read in pieces up to its end. One byte more than 16 MiB, and it is too long.
+pub fn load<F: Files>(alloc: Global, files: &mut F, name: &str) -> Result<Row<u8>, LoadFault>
+    ensures stays { F.told files.new ≡ F.told files.old }
+    ensures grows { (other : List ℕ) → F.faults files.old other ≤ F.faults files.new other }
+    ensures given { (entries : List (List ℕ × List ℕ)) → F.told files.old ≡ Some entries →
+        IfOk result (λ bytes. file_of entries name.now ≡ Some bytes) }
+    ensures bounded { IfOk result (λ bytes. length bytes ≤ 16777216) }
+    ensures failed { IsErrOf result LoadFault.Failed →
+        Rose (F.faults files.old name.now) (F.faults files.new name.now) }
+    ensures too_long { IsErrOf result LoadFault.TooLong →
+        (entries : List (List ℕ × List ℕ)) → F.told files.old ≡ Some entries →
+        IsLonger entries name.now 16777216 }
+{
+    let mut piece = zeros(alloc, PIECE)?;
+    let bytes = read_all(alloc, files, name, piece.as_mut_slice())?;
+    Ok(Row::of(bytes))
+}
+
+/// So many zeros.
+fn zeros(alloc: Global, count: usize) -> Result<Vec<u8>, AllocError>
+    ensures { IfOk result (λ zeros. length zeros.items ≡ count) }
+{
+    vec![in alloc; 0u8; count]
+}
+
+/// The bytes of a file, read through this buffer.
+fn read_all<F: Files>(
+    alloc: Global,
+    files: &mut F,
+    name: &str,
+    piece: &mut [u8],
+) -> Result<Vec<u8>, LoadFault>
+    requires { 0 < length piece.old }
+    ensures stays { F.told files.new ≡ F.told files.old }
+    ensures grows { (other : List ℕ) → F.faults files.old other ≤ F.faults files.new other }
+    ensures given { (entries : List (List ℕ × List ℕ)) → F.told files.old ≡ Some entries →
+        IfOk result (λ bytes. file_of entries name.now ≡ Some bytes.items) }
+    ensures bounded { IfOk result (λ bytes. vec_len bytes ≤ 16777216) }
+    ensures failed { IsErrOf result LoadFault.Failed →
+        Rose (F.faults files.old name.now) (F.faults files.new name.now) }
+    ensures too_long { IsErrOf result LoadFault.TooLong →
+        (entries : List (List ℕ × List ℕ)) → F.told files.old ≡ Some entries →
+        IsLonger entries name.now 16777216 }
+{
+    let mut bytes = Vec::new(alloc);
+    'pieces: loop {
+        if !read_on(files, name, piece, &mut bytes)? {
+            return Ok(bytes);
+        }
+    }
+}
+
+/// Reads the next piece of a file and adds it. Answers whether there may be more.
+fn read_on<F: Files>(
+    files: &mut F,
+    name: &str,
+    piece: &mut [u8],
+    bytes: &mut Vec<u8>,
+) -> Result<bool, LoadFault>
+    requires room { 0 < length piece.old }
+    requires bounded { vec_len bytes.old ≤ 16777216 }
+    requires so_far { IsSoFar (F.told files.old) name.now bytes.old.items }
+    ensures stays { F.told files.new ≡ F.told files.old }
+    ensures grows { (other : List ℕ) → F.faults files.old other ≤ F.faults files.new other }
+    ensures still_bounded { OnOk result (vec_len bytes.new ≤ 16777216) }
+    ensures still { OnOk result (IsSoFar (F.told files.new) name.now bytes.new.items) }
+    ensures more { IfOk result (λ more. IsTrue more → vec_len bytes.old < vec_len bytes.new) }
+    ensures end { IfOk result (λ more. IsFalse more →
+        (entries : List (List ℕ × List ℕ)) → F.told files.old ≡ Some entries →
+        file_of entries name.now ≡ Some bytes.new.items) }
+    ensures failed { IsErrOf result LoadFault.Failed →
+        Rose (F.faults files.old name.now) (F.faults files.new name.now) }
+    ensures too_long { IsErrOf result LoadFault.TooLong →
+        (entries : List (List ℕ × List ℕ)) → F.told files.old ≡ Some entries →
+        IsLonger entries name.now 16777216 }
+{
+    let n = files.read(name, bytes.len() as u64, piece)?;
+    if n == 0 {
+        return Ok(false);
+    }
+    if n > LIMIT - bytes.len() {
+        return Err(LoadFault::TooLong);
+    }
+    bytes.extend_from_slice(&piece[..n])?;
+    Ok(true)
+}

@@ -1,0 +1,123 @@
+ghost use Rattle.std.specs.Prelude.{◌≡◌, ◌<◌, ◌≤◌, ◌+◌, ◌⊎◌, ◌↔◌, min, List, ℕ, Option, Some, None, length, Contains, IfOk, IfSome, OnErr, IsErr};
+ghost use Rattle.ptg_io.specs.Faults.{Rose};
+ghost use Rattle.ptg_io.specs.Files.{IsPiece, ReadsPiece};
+ghost use Rattle.ptg_io.specs.Memory.{place_of, count_at, failed_reads};
+
+use crate::file::File;
+use crate::files::{Failed, Files};
+use ptg_base::{OutOfMemory, Row};
+use std::alloc::Global;
+use std::marker::Model;
+
+/// Files in memory. They give as much as fits into the buffer; of their reads, those with chosen numbers fail.
+#[derive(Debug, Drop)]
+pub struct MemFiles {
+    all: Row<File>,
+    failed: Row<u64>,
+    lacking: u64,
+    reads: u64,
+    chosen: Row<u64>,
+}
+
+impl Model for MemFiles {
+    ghost use Rattle.std.specs.Prelude.{◌≡◌, length};
+    ghost use Rattle.ptg_io.specs.Memory.{Held};
+
+    ghost Value = { Held };
+
+    ghost view = { λ m. record { files = m.all; failed = m.failed; lacking = m.lacking; reads = m.reads; fails = m.chosen } };
+
+    ghost invariant = { λ m. length m.failed ≡ length m.all };
+}
+
+impl MemFiles {
+    /// These files; the reads with these numbers, counted from 1, will fail.
+    pub fn new(alloc: Global, files: Row<File>, fails: Row<u64>) -> Result<MemFiles, OutOfMemory>
+        ensures told { IfOk result (λ held. ⟦<MemFiles as Files>⟧.told held ≡ Some files) }
+        ensures no_faults { IfOk result (λ held. (name : List ℕ) → ⟦<MemFiles as Files>⟧.faults held name ≡ 0) }
+        ensures start { IfOk result (λ held. held.reads ≡ 0) }
+        ensures fails { IfOk result (λ held. held.fails ≡ fails) }
+    {
+        let failed = vec![in alloc; 0u64; files.len()]?;
+        Ok(MemFiles {
+            all: files,
+            failed: Row::of(failed),
+            lacking: 0,
+            reads: 0,
+            chosen: fails,
+        })
+    }
+}
+
+impl Files for MemFiles {
+    ghost told = { λ m. Some m.files };
+
+    ghost faults = { failed_reads };
+
+    fn read(&mut self, name: &str, from: u64, into: &mut [u8]) -> Result<usize, Failed>
+        requires { 0 < length into.old }
+        ensures stays { Some self.new.files ≡ Some self.old.files }
+        ensures within { IfOk result (λ n. n ≤ length into.new) }
+        ensures given { (files : List (List ℕ × List ℕ)) → Some self.old.files ≡ Some files →
+            IfOk result (λ n. ReadsPiece files name.now from n into.new) }
+        ensures grows { (other : List ℕ) → failed_reads self.old other ≤ failed_reads self.new other }
+        ensures failed { OnErr result (Rose (failed_reads self.old name.now) (failed_reads self.new name.now)) }
+
+        // The chosen reads fail, and those of a name that is lacking.
+        ensures refused { IsErr result ↔
+            (Contains self.old.fails self.new.reads ⊎ (place_of self.old.files name.now ≡ None)) }
+        ensures counted { self.new.reads ≡ min (self.old.reads + 1) 18446744073709551615 }
+        ensures fails { self.new.fails ≡ self.old.fails }
+    {
+        self.reads = self.reads.saturating_add(1);
+        let place = place_of(self.all.as_slice(), name.as_bytes());
+        let fails = self.chosen.as_slice().contains(&self.reads);
+        match place {
+            Some(at) if !fails => Ok(copy_piece(self.all.get(at).bytes(), from, into)),
+            _ => {
+                count_fault(&mut self.failed, &mut self.lacking, place);
+                Err(Failed)
+            }
+        }
+    }
+}
+
+/// The place of the first file with this name.
+fn place_of(files: &[File], name: &[u8]) -> Option<usize>
+    ensures { result ≡ place_of files.now name.now }
+{
+    files.iter().position(|file| file.name() == name)
+}
+
+/// Counts a failed read of the file at a place, or of a name that is lacking.
+fn count_fault(failed: &mut Row<u64>, lacking: &mut u64, place: Option<usize>)
+    requires { IfSome place (λ at. at < length failed.old) }
+    ensures length { length failed.new ≡ length failed.old }
+    ensures grows { (other : Option ℕ) → count_at failed.old lacking.old other ≤ count_at failed.new lacking.new other }
+    ensures rose { Rose (count_at failed.old lacking.old place) (count_at failed.new lacking.new place) }
+{
+    match place {
+        Some(at) => {
+            let count = failed.as_slice()[at];
+            failed.set(at, count.saturating_add(1));
+        }
+        None => {
+            *lacking = lacking.saturating_add(1);
+        }
+    }
+}
+
+/// Puts the bytes from a place on into a buffer, as many as fit.
+fn copy_piece(bytes: &[u8], from: u64, into: &mut [u8]) -> usize
+    requires { 0 < length into.old }
+    ensures within { result ≤ length into.new }
+    ensures given { IsPiece bytes.now from result into.new }
+{
+    if from >= bytes.len() as u64 {
+        return 0;
+    }
+    let start = from as usize;
+    let n = into.len().min(bytes.len() - start);
+    into[..n].copy_from_slice(&bytes[start..start + n]);
+    n
+}

@@ -1,0 +1,77 @@
+ghost use Rattle.std.specs.Prelude.{◌≡◌, ◌<◌, ◌≤◌, ◌+◌, min, [], Some, length, take, Contains, IfOk, OnErr, IsErr};
+ghost use Rattle.ptg_io.specs.Faults.{Rose};
+ghost use Rattle.ptg_io.specs.Sink.{appended};
+
+use crate::files::Failed;
+use crate::sink::Sink;
+use ptg_base::Row;
+use std::alloc::Global;
+use std::marker::Model;
+
+/// A sink in memory. It takes each piece whole; of its writes, those with chosen numbers fail.
+#[derive(Debug, Drop)]
+pub struct MemSink {
+    content: Row<u8>,
+    failed: u64,
+    writes: u64,
+    chosen: Row<u64>,
+}
+
+impl Model for MemSink {
+    ghost use Rattle.ptg_io.specs.Memory.{Written};
+
+    ghost Value = { Written };
+
+    ghost view = { λ m. record { bytes = m.content; failed = m.failed; writes = m.writes; fails = m.chosen } };
+}
+
+impl MemSink {
+    /// A sink with no bytes; the writes with these numbers, counted from 1, will fail.
+    pub fn new(alloc: Global, fails: Row<u64>) -> MemSink
+        ensures { result ≡ record { bytes = []; failed = 0; writes = 0; fails = fails } }
+    {
+        MemSink {
+            content: Row::new(alloc),
+            failed: 0,
+            writes: 0,
+            chosen: fails,
+        }
+    }
+
+    /// The bytes written so far.
+    pub fn bytes(&self) -> &[u8]
+        ensures { ⟦<MemSink as Sink>⟧.bytes self.now ≡ Some result.now }
+    {
+        self.content.as_slice()
+    }
+}
+
+impl Sink for MemSink {
+    ghost bytes = { λ m. Some m.bytes };
+
+    ghost faults = { λ m. m.failed };
+
+    fn write(&mut self, piece: &[u8]) -> Result<usize, Failed>
+        requires { 0 < length piece.now }
+        ensures some { IfOk result (λ n. 1 ≤ n) }
+        ensures within { IfOk result (λ n. n ≤ length piece.now) }
+        ensures ok { IfOk result (λ n. Some self.new.bytes ≡ appended (Some self.old.bytes) (take n piece.now)) }
+        ensures kept { OnErr result (Some self.new.bytes ≡ Some self.old.bytes) }
+        ensures grows { self.old.failed ≤ self.new.failed }
+        ensures failed { OnErr result (Rose self.old.failed self.new.failed) }
+
+        // It takes the piece whole. The chosen writes fail, and else one fails for want of memory alone.
+        ensures whole { IfOk result (λ n. n ≡ length piece.now) }
+        ensures chosen { Contains self.old.fails self.new.writes → IsErr result }
+        ensures counted { self.new.writes ≡ min (self.old.writes + 1) 18446744073709551615 }
+        ensures fails { self.new.fails ≡ self.old.fails }
+    {
+        self.writes = self.writes.saturating_add(1);
+        let fails = self.chosen.as_slice().contains(&self.writes);
+        if fails || self.content.append(piece).is_err() {
+            self.failed = self.failed.saturating_add(1);
+            return Err(Failed);
+        }
+        Ok(piece.len())
+    }
+}

@@ -1,0 +1,24 @@
+ghost use Rattle.std.specs.Prelude.{◌≡◌, ◌<◌, ◌≤◌, List, ℕ, Option, length, take, IfOk, OnErr};
+ghost use Rattle.ptg_io.specs.Faults.{Rose};
+ghost use Rattle.ptg_io.specs.Sink.{appended};
+
+use crate::files::Failed;
+
+/// A place that bytes are written to.
+pub trait Sink {
+    /// The bytes written so far, where the sink tells them.
+    ghost bytes: { Self → Option (List ℕ) };
+
+    /// How many writes failed so far.
+    ghost faults: { Self → ℕ };
+
+    /// Appends the first bytes of a piece, at least one, and tells how many. A failed write appends nothing.
+    fn write(&mut self, piece: &[u8]) -> Result<usize, Failed>
+        requires { 0 < length piece.now }
+        ensures some { IfOk result (λ n. 1 ≤ n) }
+        ensures within { IfOk result (λ n. n ≤ length piece.now) }
+        ensures ok { IfOk result (λ n. bytes self.new ≡ appended (bytes self.old) (take n piece.now)) }
+        ensures kept { OnErr result (bytes self.new ≡ bytes self.old) }
+        ensures grows { faults self.old ≤ faults self.new }
+        ensures failed { OnErr result (Rose (faults self.old) (faults self.new)) };
+}

@@ -1,0 +1,25 @@
+ghost use Rattle.std.specs.Prelude.{◌≡◌, ◌<◌, ◌≤◌, ℕ, length, take, OnOk, OnErr};
+ghost use Rattle.ptg_io.specs.Faults.{Rose};
+ghost use Rattle.ptg_io.specs.Sink.{appended};
+
+use crate::files::Failed;
+use crate::sink::Sink;
+
+/// How many bytes are written at once, if the sink takes that many.
+const PIECE: usize = 4096;
+
+/// Appends all of the bytes, piece by piece. On `Err` some first bytes went out, and not all.
+pub fn write_all<O: Sink>(sink: &mut O, bytes: &[u8]) -> Result<(), Failed>
+    ensures ok { OnOk result (O.bytes sink.new ≡ appended (O.bytes sink.old) bytes.now) }
+    ensures prefix { OnErr result ((n : ℕ) × (n < length bytes.now) ×
+        (O.bytes sink.new ≡ appended (O.bytes sink.old) (take n bytes.now))) }
+    ensures grows { O.faults sink.old ≤ O.faults sink.new }
+    ensures failed { OnErr result (Rose (O.faults sink.old) (O.faults sink.new)) }
+{
+    let mut done = 0;
+    while done < bytes.len() {
+        let end = bytes.len().min(done.saturating_add(PIECE));
+        done += sink.write(&bytes[done..end])?;
+    }
+    Ok(())
+}

@@ -1,0 +1,8 @@
+//! What the words of the command line order.
+#![tactic(auto)]
+
+mod order;
+mod reading;
+
+pub use order::{Order, WordsRefusal};
+pub use reading::words;
