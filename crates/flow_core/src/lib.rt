@@ -2,6 +2,7 @@
 #![tactic(auto)]
 
 mod outcome;
+mod rounds;
 mod run;
 mod state;
 
