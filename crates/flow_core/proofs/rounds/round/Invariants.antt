@@ -7,5 +7,5 @@ invariant-loop-k l = record {
   known : IsKnown l.plan l.given l.lo l.states;
   more : l.more ≡ true → count l.initial.states < count l.states;
   same : l.more ≡ false → l.states ≡ l.initial.states;
-  rest : l.more ≡ false → IsAtRest l.plan l.given l.lo l.states l.k
+  rest : l.more ≡ false → IsAtRest l.plan l.given l.lo l.states l.k;
 }
