@@ -2,7 +2,12 @@
 #![tactic(auto)]
 
 mod fault;
+mod field;
 mod given;
+mod growing;
+mod parts;
+mod read;
 
 pub use fault::{DataCode, DataFault, DataRefusal};
 pub use given::{Coll, Given, Int};
+pub use read::read_data;

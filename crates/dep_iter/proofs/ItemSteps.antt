@@ -1,6 +1,7 @@
 -- How the items of the dependences follow one another.
-use Rattle.std.proofs.Common.{◌≡◌, ℕ, ◌+◌, ◌<◌, List, [], ◌∷◌, ◌++◌, length, take, get_or, Option, Result, Ok, Err, refl, ap, ◌∙◌, sym, add-one, append_assoc, append-nil}
+use Rattle.std.proofs.Common.{◌≡◌, ℕ, ◌+◌, ◌<◌, List, [], ◌∷◌, ◌++◌, length, take, drop, get_or, Option, IsOk, IfErr, Result, Ok, Err, refl, ap, ◌∙◌, sym, add-one, append_assoc, append-nil}
 use Rattle.std.proofs.Math.Seq.{take-suc}
+use Rattle.std.proofs.lemmas.List.{take-append-drop}
 use Rattle.ptg_base.specs.Task.{Task}
 use Rattle.ptg_base.specs.declared.edge.Item.{Item}
 use Rattle.term_core.specs.declared.fault.ExprFault.{ExprFault}
@@ -8,7 +9,7 @@ use Rattle.plan_core.specs.declared.class.Target.{Target}
 use Rattle.plan_core.specs.declared.class.DepPlan.{DepPlan}
 use Rattle.dep_iter.specs.Steps.{◌>>=◌}
 use Rattle.dep_iter.specs.Sources.{chosen}
-use Rattle.dep_iter.specs.Items.{items_at, items_from, all_items, joined}
+use Rattle.dep_iter.specs.Items.{items_at, items_from, all_items, joined, listed}
 
 step-joined : (h a b : Result (List Item) ExprFault) →
     (h >>= λ here. joined a b >>= λ more. Ok (here ++ more)) ≡ joined (h >>= λ here. a >>= λ more. Ok (here ++ more)) b
@@ -48,3 +49,18 @@ all_items-take ds k d t h e =
     let more : take (k + 1) ds ≡ take k ds ++ (d ∷ []) = rw add-one (take-suc ds k d h ∙ ap (λ x. take k ds ++ (x ∷ [])) (sym e)) in
     ap (λ l. all_items l t) more ∙ all_items-append (take k ds) (d ∷ []) t
     ∙ ap (joined (all_items (take k ds) t)) (step-alone (chosen d t.params) (λ c. items_at t c))
+
+first_fault : (a rest : Result (List Item) ExprFault) (fault : ExprFault) → IsOk a → joined (joined a (Err fault)) rest ≡ Err fault
+first_fault (Ok xs) rest fault ok = refl
+first_fault (Err e) rest fault ok = cc
+
+-- the first dependence with a fault
+pub all_items-fault : (ds : List DepPlan) (k : ℕ) (t : Task) (r : Result (Option Item) ExprFault) →
+    all_items (take (k + 1) ds) t ≡ joined (all_items (take k ds) t) (listed r) →
+    IfErr r (λ fault. IsOk (all_items (take k ds) t) → all_items ds t ≡ Err fault)
+all_items-fault ds k t (Ok i) e = tt
+all_items-fault ds k t (Err fault) e = λ ok.
+    ap (λ l. all_items l t) (sym (take-append-drop (k + 1) ds))
+    ∙ all_items-append (take (k + 1) ds) (drop (k + 1) ds) t
+    ∙ ap (λ (a : Result (List Item) ExprFault). joined a (all_items (drop (k + 1) ds) t)) e
+    ∙ first_fault (all_items (take k ds) t) (all_items (drop (k + 1) ds) t) fault ok

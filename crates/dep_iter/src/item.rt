@@ -1,6 +1,6 @@
-ghost use Rattle.std.specs.Prelude.{◌≡◌, ◌+◌, ◌<◌, length, take, slice_get, Some};
+ghost use Rattle.std.specs.Prelude.{◌≡◌, ◌+◌, ◌<◌, length, take, slice_get, IfErr, IsOk, Err, Some};
 ghost use Rattle.plan_core.specs.declared.class.DepPlan.{DepPlan as Dependence};
-ghost use Rattle.dep_iter.specs.Items.{item_at, items_from, all_items, joined, listed};
+ghost use Rattle.dep_iter.specs.Items.{item_at, items_from, items_of, all_items, joined, listed};
 
 use crate::dependence::is_first;
 use crate::place::column_place;
@@ -52,6 +52,8 @@ pub fn item_at(plan: &Plan, t: &TaskId, k: usize) -> Result<Option<Item>, ExprFa
     requires { k < length plan.now.class.outs }
     ensures this { (d : Dependence) → slice_get plan.now.class.outs k ≡ Some d → items_from d t.now ≡ listed result }
     ensures next { all_items (take (k + 1) plan.now.class.outs) t.now ≡ joined (all_items (take k plan.now.class.outs) t.now) (listed result) }
+    // The first fault is that of the task.
+    ensures fault { IfErr result (λ fault. IsOk (all_items (take k plan.now.class.outs) t.now) → items_of plan.now t.now ≡ Err fault) }
 {
     item_from(plan.class.outs.get(k), t)
 }

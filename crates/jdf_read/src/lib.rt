@@ -1,9 +1,14 @@
 //! Reads the text of a JDF into its tree.
 #![tactic(auto)]
 
+mod dependence;
 mod expression;
+mod name;
+mod number;
+mod operators;
 mod part;
 mod read;
+mod statement;
 mod tree;
 
 pub use expression::{ExprNode, ExprTree, Word};
