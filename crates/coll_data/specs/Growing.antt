@@ -8,15 +8,7 @@ use Rattle.coll_data.specs.Data.{Draft, opened}
 abbrev pub draft_of : Growing → Draft
 draft_of all = record { elems = all.elems; ints = all.ints; colls = all.colls.items; given = all.given.items; tiles = all.tiles }
 
--- The tile begins with the numbers that the fields spell, of which there are some and not too many, and has zeros behind them.
-pub record Opens (elems : ℕ) (fields : List (List ℕ)) (tile : List ℤ) : Type 0 where
-  pub numbers : List ℤ
-  pub whole : AreWhole fields numbers
-  pub some : 1 ≤ length numbers
-  pub few : length numbers ≤ elems
-  pub made : tile ≡ opened elems numbers
-
--- The same of the fields so far.
+-- The tile begins with the numbers that these fields spell, and has zeros behind them.
 pub record IsOpening (elems : ℕ) (fields : List (List ℕ)) (tile : List ℤ) : Type 0 where
   pub numbers : List ℤ
   pub whole : AreWhole fields numbers

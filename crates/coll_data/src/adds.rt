@@ -1,8 +1,8 @@
-ghost use Rattle.std.specs.Prelude.{◌≡◌, ◌∷◌, [], true, false, map, codes, Err, OnOk, IsTrue, ℕ, IfSome, IfNone};
+ghost use Rattle.std.specs.Prelude.{◌≡◌, ◌∷◌, [], true, false, map, codes, length, Err, OnOk, IsTrue, ℕ, IfSome, IfNone};
 ghost use Rattle.coll_data.specs.declared.fault.DataFault.{DataFault};
 ghost use Rattle.coll_data.specs.declared.fault.DataRefusal.TheVariants.{Fault};
 ghost use Rattle.coll_data.specs.Fields.{is_name};
-ghost use Rattle.coll_data.specs.Data.{AddsInt, AddsColl, AddsTile, Draft, IsNew, not_built};
+ghost use Rattle.coll_data.specs.Data.{AddsInt, AddsColl, AddsTile, Draft, IsNew, IsFree, not_built};
 ghost use Rattle.coll_data.specs.Growing.{draft_of, HasRoom};
 
 use crate::fault::DataRefusal;
@@ -76,5 +76,51 @@ pub fn add_coll(alloc: Global, all: &mut Growing, name: &[u8], number: &[u8]) ->
     all.colls.push(Coll { name, tiles })?;
     all.given.push(flags)?;
     all.tiles += count;
+    Ok(())
+}
+
+/// The collection of this name and its tile of this index, where no line gave that yet.
+fn free_tile(all: &Growing, name: &[u8], number: &[u8]) -> Option<(usize, usize)>
+    ensures some { IfSome result (λ slot. IsFree (draft_of all.now) name.now number.now slot.0 slot.1) }
+    ensures none { IfNone result ((at place : ℕ) → IsFree (draft_of all.now) name.now number.now at place → ⊥) }
+{
+    let at = coll_at(all.colls.as_slice(), name)?;
+    let place = whole(number)?;
+    if place < 0 {
+        return None;
+    }
+    let place = place as usize;
+    if place >= all.colls[at].tiles.len() {
+        return None;
+    }
+    let flags = all.given.get(at)?;
+    if place >= flags.len() {
+        return None;
+    }
+    if *flags.get(place) {
+        return None;
+    }
+    Some((at, place))
+}
+
+/// Adds the opening values of a tile.
+pub fn add_tile(
+    alloc: Global,
+    all: &mut Growing,
+    name: &[u8],
+    number: &[u8],
+    values: &[&[u8]],
+) -> Result<(), DataRefusal>
+    ensures ok { OnOk result (AddsTile (draft_of all.old) (codes "tile" ∷ name.now ∷ number.now ∷ map (λ field. field.now) values.now) (draft_of all.new)) }
+    ensures refused { (fault : DataFault) → result ≡ Err (Fault fault) → (fault ≡ not_built) × ((new : Draft) → AddsTile (draft_of all.old) (codes "tile" ∷ name.now ∷ number.now ∷ map (λ field. field.now) values.now) new → ⊥) }
+{
+    let Some((at, place)) = free_tile(all, name, number) else {
+        return Err(not_built());
+    };
+    let tile = opened_tile(alloc, all.elems, values)?;
+    let coll = &mut all.colls[at];
+    coll.tiles.set(place, tile);
+    let flags = &mut all.given[at];
+    flags.set(place, true);
     Ok(())
 }

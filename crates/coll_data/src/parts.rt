@@ -4,8 +4,7 @@ ghost use Rattle.coll_data.specs.declared.fault.DataFault.{DataFault};
 ghost use Rattle.coll_data.specs.declared.fault.DataRefusal.TheVariants.{Fault};
 ghost use Rattle.coll_data.specs.declared.given.Coll.{Coll};
 ghost use Rattle.coll_data.specs.declared.given.Int.{Int};
-ghost use Rattle.coll_data.specs.Data.{AddsInt, AddsColl, AddsTile, Draft, not_built};
-ghost use Rattle.coll_data.specs.Growing.{draft_of, Opens};
+ghost use Rattle.coll_data.specs.Data.{Opens, not_built};
 
 use crate::fault::{DataCode, DataFault, DataRefusal};
 use crate::field::{is_name, is_word, whole};
