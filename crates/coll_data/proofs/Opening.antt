@@ -2,8 +2,8 @@
 use Rattle.std.proofs.Common.{Bor, map, ◌≡◌, ℕ, suc, zero, ◌+◌, ◌-◌, ◌<◌, ◌≤◌, ℤ, pos, List, [], ◌∷◌, ◌++◌, length, take, get_or, set, replicate, refl, sym, ◌∙◌, ap, subst, arith, append_assoc, length-append}
 use Rattle.std.proofs.lemmas.List.{take_more, take_all, set_at, length_push, length-replicate, length-take-le, length-map, get_or-map}
 use Rattle.coll_data.specs.Fields.{IsWhole, AreWhole}
-use Rattle.coll_data.specs.Data.{opened}
-use Rattle.coll_data.specs.Growing.{Opens, IsOpening}
+use Rattle.coll_data.specs.Data.{opened, Opens}
+use Rattle.coll_data.specs.Growing.{IsOpening}
 
 pub whole_length : (fields : List (List ℕ)) (numbers : List ℤ) → AreWhole fields numbers → length fields ≡ length numbers
 whole_length [] [] all = refl

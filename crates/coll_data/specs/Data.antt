@@ -57,31 +57,41 @@ pub record AddsColl (old : Draft) (fields : List (List ℕ)) (new : Draft) : Typ
 abbrev pub opened : ℕ → List ℤ → List ℤ
 opened elems numbers = numbers ++ replicate (elems - length numbers) (pos 0)
 
--- `tile,NAME,i,v0,..`: the values of a tile that no line before gave, in the collection of that name.
+-- A tile of the values that the fields spell, some and not too many, and of zeros behind them.
+pub record Opens (elems : ℕ) (fields : List (List ℕ)) (tile : List ℤ) : Type 0 where
+  pub numbers : List ℤ
+  pub whole : AreWhole fields numbers
+  pub some : 1 ≤ length numbers
+  pub few : length numbers ≤ elems
+  pub made : tile ≡ opened elems numbers
+
+-- The collection of this name has a tile of this index, and no line gave it yet.
+pub record IsFree (draft : Draft) (name number : List ℕ) (at place : ℕ) : Type 0 where
+  pub coll : Coll
+  pub flags : List Bool
+  pub known : position (λ (c : Coll). bytes_eq c.name name) draft.colls ≡ Some at
+  pub found : slice_get draft.colls at ≡ Some coll
+  pub marks : slice_get draft.given at ≡ Some flags
+  pub index : IsWhole number (pos place)
+  pub inside : place < length coll.tiles
+  pub once : slice_get flags place ≡ Some false
+
+-- `tile,NAME,i,v0,..`: the opening values of a tile.
 pub record AddsTile (old : Draft) (fields : List (List ℕ)) (new : Draft) : Type 0 where
   pub name : List ℕ
   pub number : List ℕ
   pub values : List (List ℕ)
   pub at : ℕ
-  pub coll : Coll
   pub place : ℕ
-  pub flags : List Bool
-  pub numbers : List ℤ
+  pub tile : List ℤ
   pub spelled : fields ≡ codes "tile" ∷ name ∷ number ∷ values
-  pub known : position (λ (c : Coll). bytes_eq c.name name) old.colls ≡ Some at
-  pub found : slice_get old.colls at ≡ Some coll
-  pub marks : slice_get old.given at ≡ Some flags
-  pub index : IsWhole number (pos place)
-  pub inside : place < length coll.tiles
-  pub once : slice_get flags place ≡ Some false
-  pub whole : AreWhole values numbers
-  pub some : 1 ≤ length numbers
-  pub few : length numbers ≤ old.elems
+  pub free : IsFree old name number at place
+  pub opens : Opens old.elems values tile
   pub adds :
     new
     ≡ record old {
-      colls = slice_set old.colls at (record coll { tiles = slice_set coll.tiles place (opened old.elems numbers) });
-      given = slice_set old.given at (slice_set flags place true);
+      colls = slice_set old.colls at (record free.coll { tiles = slice_set free.coll.tiles place tile });
+      given = slice_set old.given at (slice_set free.flags place true);
     }
 
 -- A line of these fields makes the new data of the old ones.

@@ -1,6 +1,7 @@
 //! The data of a job: integers, and collections of tiles.
 #![tactic(auto)]
 
+mod adds;
 mod fault;
 mod field;
 mod given;

@@ -4,8 +4,7 @@ ghost use Rattle.coll_data.specs.declared.fault.DataFault.{DataFault};
 ghost use Rattle.coll_data.specs.declared.fault.DataRefusal.TheVariants.{Fault};
 ghost use Rattle.coll_data.specs.declared.given.Coll.{Coll};
 ghost use Rattle.coll_data.specs.declared.given.Int.{Int};
-ghost use Rattle.coll_data.specs.Data.{AddsInt, AddsColl, AddsTile, Draft, not_built};
-ghost use Rattle.coll_data.specs.Growing.{draft_of, Opens};
+ghost use Rattle.coll_data.specs.Data.{Opens, not_built};
 
 use crate::fault::{DataCode, DataFault, DataRefusal};
 use crate::field::{is_name, is_word, whole};
@@ -22,13 +21,19 @@ pub fn not_built() -> DataRefusal
     })
 }
 
-fn has_int(ints: &[Int], name: &[u8]) -> bool
+pub fn has_int(ints: &[Int], name: &[u8]) -> bool
     ensures { result ≡ list_any (λ (int : Int). bytes_eq int.name name.now) ints.now }
 {
     ints.iter().any(|int| is_word(int.name.bytes(), name))
 }
 
-fn coll_at(colls: &[Coll], name: &[u8]) -> Option<usize>
+pub fn has_coll(colls: &[Coll], name: &[u8]) -> bool
+    ensures { result ≡ list_any (λ (coll : Coll). bytes_eq coll.name name.now) colls.now }
+{
+    colls.iter().any(|coll| is_word(coll.name.bytes(), name))
+}
+
+pub fn coll_at(colls: &[Coll], name: &[u8]) -> Option<usize>
     ensures { result ≡ position (λ (coll : Coll). bytes_eq coll.name name.now) colls.now }
 {
     colls
@@ -38,7 +43,7 @@ fn coll_at(colls: &[Coll], name: &[u8]) -> Option<usize>
 
 /// Tiles of zeros.
 #[tactic(auto, using(std::proofs::lemmas::List::replicate_more))]
-fn zero_tiles(alloc: Global, count: u32, elems: u32) -> Result<Row<Tile>, OutOfMemory>
+pub fn zero_tiles(alloc: Global, count: u32, elems: u32) -> Result<Row<Tile>, OutOfMemory>
     ensures { IfOk result (λ tiles. tiles ≡ replicate count (replicate elems (pos 0))) }
 {
     let mut tiles = Row::new(alloc);
@@ -49,7 +54,7 @@ fn zero_tiles(alloc: Global, count: u32, elems: u32) -> Result<Row<Tile>, OutOfM
 }
 
 /// A tile of the values that these fields spell, and of zeros behind them.
-fn opened_tile(alloc: Global, elems: u32, values: &[&[u8]]) -> Result<Tile, DataRefusal>
+pub fn opened_tile(alloc: Global, elems: u32, values: &[&[u8]]) -> Result<Tile, DataRefusal>
     ensures ok { IfOk result (λ tile. Opens elems (map (λ field. field.now) values.now) tile) }
     ensures refused { (fault : DataFault) → result ≡ Err (Fault fault) → (fault ≡ not_built) × ((tile : List ℤ) → Opens elems (map (λ field. field.now) values.now) tile → ⊥) }
 {

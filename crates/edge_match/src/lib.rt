@@ -8,6 +8,7 @@ mod good;
 mod meeting;
 mod tasks;
 mod totals;
+mod written;
 
 
 pub use fault::{MatchCode, MatchFault, MatchRefusal};

@@ -2,3 +2,4 @@ pub mod Within
 pub mod Places
 pub mod Known
 pub mod Rest
+pub mod Ends

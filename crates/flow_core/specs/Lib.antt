@@ -3,3 +3,4 @@ pub mod Backward
 pub mod Final
 pub mod Answer
 pub mod States
+pub mod Progress

@@ -1,5 +1,5 @@
 -- How the tasks of a job have ended so far, while it runs.
-use Rattle.std.specs.Prelude.{◌≡◌, ℕ, ◌<◌, ℤ, pos, negsuc, ◌+ℤ◌, ◌-ℤ◌, ◌≤ℤ◌, List, length, map, count_by, Option, Some, None, is_some, slice_index_or}
+use Rattle.std.specs.Prelude.{◌≡◌, ℕ, ◌<◌, ◌≤◌, ℤ, pos, negsuc, ◌+ℤ◌, ◌-ℤ◌, ◌≤ℤ◌, List, length, map, count_by, Option, Some, None, is_some, slice_index_or}
 use Rattle.ptg_base.specs.Task.{Task}
 use Rattle.plan_core.specs.declared.plan.Plan.{Plan}
 use Rattle.coll_data.specs.declared.given.Given.{Given}
@@ -12,7 +12,7 @@ use Rattle.flow_core.specs.Backward.{Ended, input, ended_on, ended_within}
 pub record IsRange (P : Plan) (lo : ℤ) (n : ℕ) : Type 0 where
   pub consistent : IsConsistent P
   pub tasks : space P ≡ map task_of (numbers_from lo n)
-  pub least : pos 0 ≤ℤ (lo +ℤ pos 9223372036854775808)
+  pub few : n ≤ 1000000
   pub most : (lo +ℤ pos n) ≤ℤ pos 9223372036854775808
 
 -- the task at this place of the range

@@ -2,6 +2,9 @@
 #![tactic(auto)]
 
 mod outcome;
+mod range;
+mod rounds;
+mod rows;
 mod run;
 mod state;
 

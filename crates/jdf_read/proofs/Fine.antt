@@ -2,7 +2,7 @@
 use Rattle.std.proofs.Common.{◌≡◌, true, cond, List, [], ◌∷◌, refl}
 use Rattle.jdf_read.specs.declared.part.Part.{Part}
 use Rattle.jdf_read.specs.declared.part.Part.TheVariants.{Class, Body}
-use Rattle.std.specs.Prelude.{Bool, false, ◌&&◌, ◌||◌}
+use Rattle.std.specs.Prelude.{Bool, ◌&&◌, ◌||◌}
 use Rattle.jdf_lex.specs.declared.token.Token.{Token}
 use Rattle.grammar_core.specs.declared.sort.Sort.{Sort}
 use Rattle.grammar_core.specs.declared.sort.Sort.TheVariants.{Name, LeftParen}
@@ -10,9 +10,8 @@ use Rattle.grammar_core.specs.Sorts.{is, sort_of}
 use Rattle.grammar_core.specs.Counted.{is_name}
 use Rattle.grammar_core.specs.Reading.{first, starts, picks}
 use Rattle.grammar_core.specs.Predictive.{is_fine, are_names}
-use Rattle.grammar_core.proofs.Whole.{LimitsOnly}
 use Rattle.jdf_read.specs.Ranks.{is_target}
-use Rattle.jdf_read.specs.Grammar.{number, parens, index, reference, atom, sum, expr, outer, call, target, unguarded, guarded, arrow, dep, stmt, param, range, affinity, flow, body, rest, heading, file, inner, claims, goes_on_target}
+use Rattle.jdf_read.specs.Grammar.{number, parens, index, reference, atom, sum, expr, outer, call, target, unguarded, guarded, arrow, dep, deps, stmt, param, range, affinity, flow, body, rest, heading, file, inner, claims, goes_on_target}
 
 pub inner_fine : (part : Part) → are_names inner claims part ≡ true
 unfolding inner expr sum atom number reference index parens
@@ -20,7 +19,7 @@ inner_fine Class = refl
 inner_fine Body = refl
 
 pub file_fine : is_fine claims file ≡ true
-unfolding file heading rest body flow affinity range param stmt dep arrow guarded unguarded target call outer expr sum atom number reference index parens
+unfolding file heading rest body flow affinity range param stmt deps dep arrow guarded unguarded target call outer expr sum atom number reference index parens
 file_fine = refl
 
 pub outer_fine : (part : Part) → is_fine claims (outer part) ≡ true

@@ -1,26 +1,24 @@
 -- Lists, one after the other, as a loop reads them.
-use Rattle.std.proofs.Common.{◌≡◌, ℕ, zero, suc, ◌+◌, ◌<◌, ◌≤◌, Bool, true, false, cond, List, [], ◌∷◌, ◌++◌, length, Result, Ok, Err, refl, sym, ap, ◌∙◌, append_assoc, subst, arith}
-use Rattle.std.specs.Prelude.{Option, Some, None, nat_le}
+use Rattle.std.proofs.Common.{◌≡◌, ℕ, suc, ◌<◌, Bool, true, false, cond, List, [], ◌∷◌, ◌++◌, length, Ok, Err, refl, sym, ap, ◌∙◌, append_assoc, arith}
+use Rattle.std.specs.Prelude.{Some, None, nat_le}
 use Rattle.std.proofs.lemmas.List.{append-nil, length-append}
 use Rattle.std.proofs.lemmas.Bool.Decides.{nat_tests}
 use Rattle.jdf_lex.specs.declared.token.Token.{Token}
-use Rattle.grammar_core.specs.declared.code.Code.{Code}
 use Rattle.grammar_core.specs.declared.code.Code.TheVariants.{TooManyDeps}
 use Rattle.grammar_core.specs.declared.sort.Sort.{Sort}
 use Rattle.grammar_core.specs.declared.fault.ReadError.{ReadError}
 use Rattle.grammar_core.specs.declared.fault.ReadError.TheVariants as errors
-use Rattle.grammar_core.specs.Form.{Form, one_of, seq, map, star, pick}
-use Rattle.grammar_core.specs.Reading.{Stop, ◌>>=◌, Read, may_be_empty, first, starts, picks, refuse, token_at, many_at, name_at, reading}
+use Rattle.grammar_core.specs.Form.{Form, star, pick}
+use Rattle.grammar_core.specs.Reading.{◌>>=◌, Read, may_be_empty, first, starts, picks, refuse, many_at, name_at, reading}
 use Rattle.grammar_core.specs.Gives.{Fails}
 use Rattle.grammar_core.proofs.Fuel.{name_shrinks, run_shrinks, many_is}
 use Rattle.jdf_read.specs.declared.part.Part.{Part}
-use Rattle.jdf_read.specs.declared.part.Part.TheVariants.{Class, Body}
-use Rattle.jdf_read.specs.declared.expression.Word.{Word}
+use Rattle.jdf_read.specs.declared.part.Part.TheVariants.{Body}
 use Rattle.jdf_read.specs.declared.tree.DepTree.{DepTree}
-use Rattle.jdf_read.specs.Grammar.{TreeOf, inner, any, names, name, Choice, unguarded, guarded, arrow, is_arrow, goes_on_target, dep_of, dep, too_many_deps, deps, stmt}
+use Rattle.jdf_read.specs.Grammar.{TreeOf, inner, any, names, Choice, unguarded, guarded, arrow, is_arrow, goes_on_target, dep_of, dep, too_many_deps, deps, stmt}
 use Rattle.jdf_read.specs.Ranks.{is_target}
 use Rattle.jdf_read.proofs.Fine.{begins_target}
-use Rattle.jdf_read.proofs.Loops.{applied, pair_with, regroup, many_of, many_of_is, fails_before}
+use Rattle.jdf_read.proofs.Loops.{applied, regroup, many_of, many_of_is}
 
 -- what was read before, and what is still read
 unfoldable pub so_far : {A : Type 0} → List A → Read (List A) → Read (List A)
@@ -100,7 +98,7 @@ few i h = go (nat_le 16 i) (grind (arith, nat_tests))
     go b e = rw e refl
 
 pub deps_begin : (s : List Token) → so_far [] (deps_from 0 s) ≡ reading inner deps s
-unfolding deps_from
+unfolding deps_from deps
 deps_begin s = so_far_nothing (deps_from 0 s)
 
 pub deps_go_on : (old : List DepTree) (s : List Token) (x : DepTree) (next : List Token) (total : Read (List DepTree)) (new : List DepTree) → new ≡ old ++ x ∷ [] → length old < 16 → starts is_arrow s ≡ true → reading inner dep s ≡ Ok (x, next)
@@ -108,7 +106,7 @@ pub deps_go_on : (old : List DepTree) (s : List Token) (x : DepTree) (next : Lis
 deps_go_on old s x next total new e h t r before =
     let n : length new ≡ suc (length old) = ap (λ (l : List DepTree). length l) e ∙ (length-append old (x ∷ []) ∙ omega arith) in
     let one : so_far old (deps_from (length old) s) ≡ so_far new (deps_from (length new) next) =
-        ap (λ (q : Read (List DepTree)). so_far old q) (deps_step (length old) s) ∙ rw (t, few (length old) h, r, n, e) (one_more old x (deps_from (suc (length old)) next)) in
+    ap (λ (q : Read (List DepTree)). so_far old q) (deps_step (length old) s) ∙ rw (t, few (length old) h, r, n, e) (one_more old x (deps_from (suc (length old)) next)) in
     sym one ∙ before
 
 pub deps_fail : (e : ReadError) (old : List DepTree) (s : List Token) (total : Read (List DepTree)) → length old < 16 → starts is_arrow s ≡ true → Fails e (reading inner dep s) → so_far old (deps_from (length old) s) ≡ total → Fails e total

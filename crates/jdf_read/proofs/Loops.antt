@@ -1,17 +1,15 @@
 -- Reading one after the other, as a loop does.
-use Rattle.std.proofs.Common.{◌≡◌, ℕ, zero, suc, ◌<◌, ◌≤◌, Bool, true, false, cond, List, [], ◌∷◌, ◌++◌, length, Result, Ok, Err, refl, sym, ap, ◌∙◌, append_assoc, subst}
+use Rattle.std.proofs.Common.{◌≡◌, ℕ, zero, suc, ◌<◌, ◌≤◌, Bool, true, false, cond, List, [], ◌∷◌, length, Result, Ok, Err, refl, sym, ap, ◌∙◌, subst}
 use Rattle.std.specs.Prelude.{Option, Some, None}
-use Rattle.std.proofs.lemmas.List.{append-nil}
 use Rattle.jdf_lex.specs.declared.token.Token.{Token}
 use Rattle.term_core.specs.declared.operator.BinOp.{BinOp}
-use Rattle.grammar_core.specs.declared.code.Code.{Code}
 use Rattle.grammar_core.specs.declared.sort.Sort.{Sort}
 use Rattle.grammar_core.specs.declared.sort.Sort.TheVariants as sort
 use Rattle.grammar_core.specs.Sorts.{is}
 use Rattle.grammar_core.specs.declared.fault.ReadError.{ReadError}
 use Rattle.grammar_core.specs.declared.fault.ReadError.TheVariants as errors
 use Rattle.grammar_core.specs.Form.{Form, one_of, seq, map, opt, star}
-use Rattle.grammar_core.specs.Reading.{Stop, ◌>>=◌, Read, may_be_empty, first, starts, refuse, token_at, many_at, name_at, reading}
+use Rattle.grammar_core.specs.Reading.{Stop, ◌>>=◌, Read, may_be_empty, first, starts, token_at, many_at, name_at, reading}
 use Rattle.grammar_core.specs.Gives.{Fails}
 use Rattle.grammar_core.proofs.Fuel.{name_shrinks, run_shrinks, many_is}
 use Rattle.jdf_read.specs.declared.part.Part.{Part}

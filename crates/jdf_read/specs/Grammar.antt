@@ -1,5 +1,5 @@
 -- The grammar of the texts that are built so far.
-use Rattle.std.specs.Prelude.{ℕ, pos, Bool, true, false, nat_le, List, [], ◌∷◌, ◌++◌, Option, Some, None, ◌||◌, if◌then◌else◌}
+use Rattle.std.specs.Prelude.{ℕ, pos, Bool, nat_le, List, [], ◌∷◌, ◌++◌, Option, Some, None, ◌||◌, if◌then◌else◌}
 use Rattle.jdf_lex.specs.declared.token.Spot.{Spot}
 use Rattle.jdf_lex.specs.declared.token.Token.{Token}
 use Rattle.term_core.specs.declared.operator.BinOp.{BinOp}
@@ -167,7 +167,8 @@ dep = map dep_of (seq arrow (pick goes_on_target unguarded guarded))
 abbrev pub too_many_deps : ℕ → Option Code
 too_many_deps i = if nat_le 16 i then Some TooManyDeps else None
 
-abbrev pub deps : Grammar (List DepTree)
+-- deps = dep*
+unfoldable pub deps : Grammar (List DepTree)
 deps = star too_many_deps dep
 
 -- stmt = name "[" expr "]" "=" expr ";"
@@ -207,11 +208,17 @@ rest = seq param (seq range (seq affinity (seq flow body)))
 abbrev pub class_of : Word → Rest → ClassTree
 class_of name x =
     record {
-      name = name; param = x.0;
-      local = x.1.0.0; lo = x.1.0.1; hi = x.1.0.2;
-      affinity = x.1.1.0.0; affinity_arg = x.1.1.0.1;
-      flow = x.1.1.1.0.0; deps = x.1.1.1.0.1;
-      body = x.1.1.1.1.0; finish = x.1.1.1.1.1;
+      name = name;
+      param = x.0;
+      local = x.1.0.0;
+      lo = x.1.0.1;
+      hi = x.1.0.2;
+      affinity = x.1.1.0.0;
+      affinity_arg = x.1.1.0.1;
+      flow = x.1.1.1.0.0;
+      deps = x.1.1.1.0.1;
+      body = x.1.1.1.1.0;
+      finish = x.1.1.1.1.1;
     }
 
 -- the class of this name

@@ -1,6 +1,7 @@
 //! Reads the text of a JDF into its tree.
 #![tactic(auto)]
 
+mod class;
 mod dependence;
 mod expression;
 mod name;

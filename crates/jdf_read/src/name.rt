@@ -43,7 +43,11 @@ fn word_of(alloc: Global, token: &Token) -> Result<Word, OutOfMemory>
 }
 
 /// A name, and the rest.
-pub(crate) fn name(alloc: Global, part: Part, tokens: &[Token]) -> Result<(Word, &[Token]), ReadError>
+pub(crate) fn name(
+    alloc: Global,
+    part: Part,
+    tokens: &[Token],
+) -> Result<(Word, &[Token]), ReadError>
     ensures { Gives (λ x. (x.0, x.1.now)) result (reading inner (name part) tokens.now) }
 {
     match tokens.split_first() {

@@ -103,7 +103,12 @@ fn operator_at(rank: Rank, tokens: &[Token]) -> Option<(BinOp, &[Token])>
 }
 
 #[cycle(expression)]
-fn operand(alloc: Global, part: Part, rank: Rank, tokens: &[Token]) -> Result<(ExprTree, &[Token]), ReadError>
+fn operand(
+    alloc: Global,
+    part: Part,
+    rank: Rank,
+    tokens: &[Token],
+) -> Result<(ExprTree, &[Token]), ReadError>
     ensures { Gives (λ x. (x.0, x.1.now)) result (reading inner (operand_of rank part) tokens.now) }
 {
     match rank {
@@ -114,7 +119,12 @@ fn operand(alloc: Global, part: Part, rank: Rank, tokens: &[Token]) -> Result<(E
 
 #[cycle(expression)]
 #[tactic(auto, using(crate::proofs::Loops::ranked_is, crate::proofs::Loops::tail_ends, crate::proofs::Loops::tail_goes_on, crate::proofs::Loops::reading_shrinks, crate::proofs::Loops::operator_shrinks))]
-fn ranked(alloc: Global, part: Part, rank: Rank, tokens: &[Token]) -> Result<(ExprTree, &[Token]), ReadError>
+fn ranked(
+    alloc: Global,
+    part: Part,
+    rank: Rank,
+    tokens: &[Token],
+) -> Result<(ExprTree, &[Token]), ReadError>
     ensures { Gives (λ x. (x.0, x.1.now)) result (reading inner (of_rank rank part) tokens.now) }
 {
     let (mut left, mut rest) = operand(alloc, part, rank, tokens)?;
@@ -127,7 +137,11 @@ fn ranked(alloc: Global, part: Part, rank: Rank, tokens: &[Token]) -> Result<(Ex
 }
 
 #[cycle(expression)]
-fn expression(alloc: Global, part: Part, tokens: &[Token]) -> Result<(ExprTree, &[Token]), ReadError>
+fn expression(
+    alloc: Global,
+    part: Part,
+    tokens: &[Token],
+) -> Result<(ExprTree, &[Token]), ReadError>
     ensures { Gives (λ x. (x.0, x.1.now)) result (reading inner (expr part) tokens.now) }
 {
     ranked(alloc, part, Rank::Equal, tokens)
@@ -135,7 +149,11 @@ fn expression(alloc: Global, part: Part, tokens: &[Token]) -> Result<(ExprTree, 
 
 /// An outermost expression, and the rest. It is read in a window, so that no text makes the recursion deep.
 #[tactic(auto, using(crate::proofs::Window::outer_short, crate::proofs::Window::outer_slice, crate::proofs::Window::outer_fault, crate::proofs::Window::outer_cut, crate::proofs::Window::expr_within, crate::proofs::Loops::reading_shrinks))]
-pub(crate) fn outer(alloc: Global, part: Part, tokens: &[Token]) -> Result<(ExprTree, &[Token]), ReadError>
+pub(crate) fn outer(
+    alloc: Global,
+    part: Part,
+    tokens: &[Token],
+) -> Result<(ExprTree, &[Token]), ReadError>
     ensures { Gives (λ x. (x.0, x.1.now)) result (reading inner (outer part) tokens.now) }
 {
     let limit = expression_limit(tokens);
@@ -147,7 +165,10 @@ pub(crate) fn outer(alloc: Global, part: Part, tokens: &[Token]) -> Result<(Expr
         Ok((tree, rest)) if !rest.is_empty() => Ok((tree, &tokens[window.len() - rest.len()..])),
         Ok(_) => Err(ReadError::Fault(tokens.len() - limit, Code::ExprTooLong)),
         Err(ReadError::Memory) => Err(ReadError::Memory),
-        Err(ReadError::Fault(0, _)) => Err(ReadError::Fault(tokens.len() - limit, Code::ExprTooLong)),
+        Err(ReadError::Fault(0, _)) => Err(ReadError::Fault(
+            tokens.len() - limit,
+            Code::ExprTooLong,
+        )),
         Err(ReadError::Fault(left, code)) => Err(ReadError::Fault(left + behind.len(), code)),
     }
 }

@@ -1,4 +1,4 @@
-use Rattle.std.proofs.Common.{◌≡◌, ◌⊎◌, inl, inr, arith, ap, pos, ◌∙◌, w64}
+use Rattle.std.proofs.Common.{inl, inr, arith, ap, pos, ◌∙◌, w64}
 use Rattle.std.proofs.lemmas.Int.{to_z_pos}
 use Rattle.jdf_read.proofs.Digits.{bad_digit, too_large, all_fit}
 use Rattle.jdf_read.proofs.number.value_of.Goals as goal
@@ -7,10 +7,10 @@ use Rattle.jdf_read.proofs.number.value_of.Goals.{then-byte-lt48-via-then-byte-l
 pub returns-then-byte-lt48 : goal.returns-then-byte-lt48
 returns-then-byte-lt48 c =
     bad_digit c.args.text.now c.loop-byte.byte-index c.loop-byte.invariant.digits c.loop-byte-test.true
-      (elim c.then-byte-lt48.branch [
-        | then-byte-lt48-via-then-byte-lt48 w ↦ inl w.if-byte-lt48.true
-        | then-byte-lt48-via-else-byte-lt48+then-byte-gt57 w ↦ inr w.if-byte-gt57.true
-      ])
+    (elim c.then-byte-lt48.branch [
+      | then-byte-lt48-via-then-byte-lt48 w ↦ inl w.if-byte-lt48.true
+      | then-byte-lt48-via-else-byte-lt48+then-byte-gt57 w ↦ inr w.if-byte-gt57.true
+    ])
 
 pub returns-then-value-digit : goal.returns-then-value-digit
 returns-then-value-digit c =
