@@ -1,3 +1,4 @@
 pub mod Stages
 pub mod Meaning
 pub mod Steps
+pub mod Reports

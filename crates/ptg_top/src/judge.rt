@@ -1,1 +1,113 @@
-//! The verdict.
+//! The verdict on words and files.
+
+ghost use Rattle.std.specs.Prelude.{◌≡◌, ◌↔◌, ◌≤◌, ℕ, List, Some, IfOk, Ok};
+ghost use Rattle.std.specs.Str.{IsUtf8};
+ghost use Rattle.ptg_top.specs.declared.verdict.Verdict.TheVariants as say;
+ghost use Rattle.ptg_top.specs.Stages.{Entries};
+ghost use Rattle.ptg_words.specs.Words.{Orders};
+ghost use Rattle.ptg_top.specs.Reports.{Reports, Says, Judged, TreeAt, AreTexts, IsSaid, jdf_name, tiles_name};
+
+use crate::stages::{Stop, answer_of, data_of, plan_of, tree_of};
+use crate::verdict::Verdict;
+use jdf_read::Jdf;
+use ptg_base::{OutOfMemory, Text};
+use ptg_io::Files;
+use ptg_words::{Order, WordsRefusal, words};
+use std::alloc::Global;
+
+/// What is to be said for words and files.
+pub fn judge<F: Files>(
+    alloc: Global,
+    list: &[Text],
+    files: &mut F,
+) -> Result<Verdict, OutOfMemory>
+    ensures stays { F.told files.new ≡ F.told files.old }
+    ensures grows { (other : List ℕ) → F.faults files.old other ≤ F.faults files.new other }
+    ensures judged { IfOk result (λ v. Judged list.now (F.told files.old) (F.faults files.old) (F.faults files.new) v) }
+{
+    match words(alloc, list) {
+        Ok(order) => carry_out(alloc, &order, files),
+        Err(WordsRefusal::Usage) => Ok(Verdict::Usage),
+        Err(WordsRefusal::OutOfMemory) => Err(OutOfMemory),
+    }
+}
+
+// What is to be said for an order.
+fn carry_out<F: Files>(
+    alloc: Global,
+    order: &Order,
+    files: &mut F,
+) -> Result<Verdict, OutOfMemory>
+    requires { AreTexts order.now }
+    ensures stays { F.told files.new ≡ F.told files.old }
+    ensures grows { (other : List ℕ) → F.faults files.old other ≤ F.faults files.new other }
+    ensures judged { (words : List (List ℕ)) → Orders words order.now
+        → IfOk result (λ v. Judged words (F.told files.old) (F.faults files.old) (F.faults files.new) v) }
+{
+    let steps = run(alloc, jdf_name(order), tiles_name(order), files);
+    said(steps)
+}
+
+// The name of the JDF file of an order.
+fn jdf_name(order: &Order) -> &Text
+    ensures { result.now ≡ jdf_name order.now }
+{
+    match order {
+        Order::Run(jdf, _) => jdf,
+    }
+}
+
+// The name of the data file of an order.
+fn tiles_name(order: &Order) -> &Text
+    ensures { result.now ≡ tiles_name order.now }
+{
+    match order {
+        Order::Run(_, tiles) => tiles,
+    }
+}
+
+// What is said, whether a step stopped or all led on.
+fn said(steps: Result<Verdict, Stop>) -> Result<Verdict, OutOfMemory>
+    ensures { IfOk result (IsSaid steps) }
+{
+    match steps {
+        Ok(verdict) => Ok(verdict),
+        Err(Stop::Said(verdict)) => Ok(verdict),
+        Err(Stop::Memory) => Err(OutOfMemory),
+    }
+}
+
+// What is to be said of the job of these files.
+fn run<F: Files>(
+    alloc: Global,
+    jdf: &Text,
+    tiles: &Text,
+    files: &mut F,
+) -> Result<Verdict, Stop>
+    requires jdf_text { IsUtf8 jdf.now }
+    requires tiles_text { IsUtf8 tiles.now }
+    ensures stays { F.told files.new ≡ F.told files.old }
+    ensures grows { (other : List ℕ) → F.faults files.old other ≤ F.faults files.new other }
+    ensures said { Says (Reports (F.told files.old) (F.faults files.old) (F.faults files.new) jdf.now tiles.now) result }
+{
+    let tree = tree_of(alloc, jdf, files)?;
+    with_tree(alloc, &tree, tiles, files)
+}
+
+// What is to be said of a job whose JDF was read.
+fn with_tree<F: Files>(
+    alloc: Global,
+    tree: &Jdf,
+    tiles: &Text,
+    files: &mut F,
+) -> Result<Verdict, Stop>
+    requires { IsUtf8 tiles.now }
+    ensures stays { F.told files.new ≡ F.told files.old }
+    ensures grows { (other : List ℕ) → F.faults files.old other ≤ F.faults files.new other }
+    ensures said { (jdf : List ℕ) → ((entries : Entries) → F.told files.old ≡ Some entries → TreeAt entries jdf tree.now)
+        → Says (Reports (F.told files.old) (F.faults files.old) (F.faults files.new) jdf tiles.now) result }
+{
+    let given = data_of(alloc, tiles, files)?;
+    let plan = plan_of(alloc, tree, &given)?;
+    answer_of(alloc, plan, given)
+}
