@@ -1,5 +1,4 @@
-use crate::{ExprNode, Jdf, TargetTree, read_first};
-use jdf_lex::JdfRefusal;
+use crate::{ExprNode, TargetTree, read_first};
 use std::test::Fail;
 use term_core::BinOp;
 
@@ -10,50 +9,37 @@ const CHAIN: &[u8] =
 fn reads_a_chain(rt: HostRuntime) -> Result<(), Fail> {
     let jdf = read_first(rt.alloc(), CHAIN)?;
     assert_eq!(rt; jdf.globals.len(), 2);
-    assert_eq!(rt; jdf.globals.get(1).text.bytes(), b"A".as_slice());
-    let class = &jdf.class;
-    assert_eq!(rt; class.name.text.bytes(), b"step".as_slice());
-    assert_eq!(rt; class.name.spot.line, 3);
-    assert_eq!(rt; class.local.spot.line, 4);
-    assert_eq!(rt; class.finish.line, 10);
-    assert!(rt; matches!(class.lo.node(), ExprNode::Num(0, _)));
-    assert!(rt; matches!(class.hi.node(), ExprNode::Binary(BinOp::Sub, _, _)));
-    assert_eq!(rt; class.deps.len(), 2);
-    let first = class.deps.get(0);
-    assert!(rt; first.inward && first.guard.is_some());
-    assert!(rt; matches!(first.yes, TargetTree::Element(_, _)));
-    assert!(rt; matches!(first.no, Some(TargetTree::Task(_, _, _))));
-    let second = class.deps.get(1);
-    assert!(rt; !second.inward && second.guard.is_none() && second.no.is_none());
-    assert_eq!(rt; class.body.len(), 1);
-    let value = &class.body.get(0).value;
-    assert!(rt; matches!(value.node(), ExprNode::Binary(BinOp::Add, _, _)));
+    assert_eq!(rt; jdf.class.name.text.bytes(), b"step".as_slice());
+    assert_eq!(rt; jdf.class.local.spot.line, 4);
+    assert!(rt; matches!(jdf.class.hi.node(), ExprNode::Binary(BinOp::Sub, _, _)));
+    assert_eq!(rt; jdf.class.deps.len(), 2);
+    assert!(rt; matches!(jdf.class.deps.get(0).no, Some(TargetTree::Task(_, _, _))));
+    assert_eq!(rt; jdf.class.body.len(), 1);
+    assert_eq!(rt; jdf.class.finish.line, 10);
     Ok(())
 }
 
-fn is_refused(answer: Result<Jdf, JdfRefusal>) -> bool {
-    matches!(answer, Err(JdfRefusal::Fault(_)))
-}
-
+// Whether the text is read.
 #[test]
-fn refuses(rt: HostRuntime) {
-    let alloc = rt.alloc();
-    assert!(rt; is_refused(read_first(alloc, b"")));
-    assert!(rt; is_refused(read_first(alloc, b"\xff")));
-    assert!(rt; is_refused(read_first(alloc, b"s(k) k = 0 .. 9 : A(k) RW T BODY")));
-    assert!(rt; is_refused(read_first(alloc, b"s(k) k = 00 .. 9 : A(k) RW T BODY END")));
-    assert!(rt;
-        is_refused(read_first(
-            alloc,
-            b"s(k) k = 0 .. 9223372036854775808 : A(k) RW T BODY END"
-        ))
-    );
-    assert!(rt; is_refused(read_first(alloc, b"s(k) k = 0 .. 9 : A(k) RW T BODY if[0] = 1; END")));
-    assert!(rt;
-        read_first(
-            alloc,
-            b"s(k) k = 0 .. 9223372036854775807 : A(k) RW T BODY END"
-        )
-        .is_ok()
-    );
+fn reads_or_refuses(rt: HostRuntime) {
+    for (text, reads) in [
+        (
+            "s(k) k = 0 .. 9223372036854775807 : A(k) RW T BODY END",
+            true,
+        ),
+        (
+            "s(k) k = 0 .. 9223372036854775808 : A(k) RW T BODY END",
+            false,
+        ),
+        ("s(k) k = 00 .. 9 : A(k) RW T BODY END", false),
+        ("s(k) k = 0 .. 9 : A(k) RW T BODY", false),
+        ("s(k) k = 0 .. 9 : A(k) RW T BODY if[0] = 1; END", false),
+        ("", false),
+    ] {
+        assert_eq!(rt;
+            read_first(rt.alloc(), text.as_bytes()).is_ok(),
+            reads,
+            "{text}"
+        );
+    }
 }
