@@ -1,0 +1,9 @@
+//! What the program prints: the text of an answer or of a refusal, in pieces of 4,096 bytes.
+#![tactic(auto)]
+
+mod fields;
+mod numbers;
+mod pieces;
+mod printing;
+
+pub use printing::report;
