@@ -1,2 +1,6 @@
+pub mod Data
+pub mod Fields
+pub mod Growing
 pub mod Place
+pub mod Reading
 pub mod Whole

@@ -1,8 +1,14 @@
 //! The data of a job: integers, and collections of tiles.
 #![tactic(auto)]
 
+mod adds;
 mod fault;
+mod field;
 mod given;
+mod growing;
+mod parts;
+mod read;
 
 pub use fault::{DataCode, DataFault, DataRefusal};
 pub use given::{Coll, Given, Int};
+pub use read::read_data;

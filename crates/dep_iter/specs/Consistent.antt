@@ -1,10 +1,9 @@
 -- Consistent jobs. Source: PaRSEC (2013): each out edge has its in edge and each in edge its out edge; the rest is this project's own choice.
-use Rattle.std.specs.Prelude.{◌≡◌, ◌≢◌, ℕ, ◌≤◌, ◌<◌, ℤ, pos, ◌≤ℤ◌, ◌<ℤ◌, List, [], length, map, flat_map, Result, Ok, Err, Option, Some, None, slice_get, IfSome, IsSomeAnd, ◌↔◌}
+use Rattle.std.specs.Prelude.{◌≡◌, ◌≤◌, pos, ◌≤ℤ◌, ◌<ℤ◌, List, length, map, flat_map, Result, Ok, slice_get, IsSomeAnd, ◌↔◌}
 use Rattle.ptg_base.specs.Lists.{IsIn, HasNoRepeats}
 use Rattle.ptg_base.specs.Task.{Task}
 use Rattle.ptg_base.specs.declared.place.Place.{Place}
 use Rattle.ptg_base.specs.declared.edge.Edge.{Edge}
-use Rattle.ptg_base.specs.declared.edge.WriteBack.{WriteBack}
 use Rattle.ptg_base.specs.declared.edge.Item.{Item}
 use Rattle.ptg_base.specs.declared.edge.Item.TheVariants as item
 use Rattle.term_core.specs.declared.fault.ExprFault.{ExprFault}

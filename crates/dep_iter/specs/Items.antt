@@ -1,5 +1,5 @@
 -- Out edges and write-backs: where the tile of a task goes. Of the out dependences all that hold are active.
-use Rattle.std.specs.Prelude.{◌≡◌, ℤ, List, [], ◌∷◌, ◌++◌, Result, Ok, Err, Option, Some, None}
+use Rattle.std.specs.Prelude.{List, [], ◌∷◌, ◌++◌, Result, Ok, Err, Option, Some, None}
 use Rattle.ptg_base.specs.Task.{Task}
 use Rattle.ptg_base.specs.declared.edge.Edge.{Edge}
 use Rattle.ptg_base.specs.declared.edge.WriteBack.{WriteBack}
@@ -23,6 +23,22 @@ item_at t (target.Element c e) = value e t.params >>= λ i. Ok (item.Write (reco
 abbrev pub items_at : Task → Option Target → Result (List Item) ExprFault
 items_at t None = Ok []
 items_at t (Some x) = item_at t x >>= λ i. Ok (i ∷ [])
+
+-- the item of one dependence, if it holds
+abbrev pub items_from : DepPlan → Task → Result (List Item) ExprFault
+items_from d t = chosen d t.params >>= λ c. items_at t c
+
+-- the items of the first and then those of the second
+abbrev pub joined : Result (List Item) ExprFault → Result (List Item) ExprFault → Result (List Item) ExprFault
+joined first second = first >>= λ before. second >>= λ here. Ok (before ++ here)
+
+-- an item that may be missing, as a list of at most one
+abbrev pub held : Option Item → List Item
+held None = []
+held (Some i) = i ∷ []
+
+abbrev pub listed : Result (Option Item) ExprFault → Result (List Item) ExprFault
+listed r = r >>= λ i. Ok (held i)
 
 -- the items of all of these dependences that hold, in order
 abbrev pub all_items : List DepPlan → Task → Result (List Item) ExprFault

@@ -1,5 +1,5 @@
 -- In edges: where the tile of a task comes from. Source: DAGuE (Parallel Computing, 2012): of a flow's in dependences the first that holds is active.
-use Rattle.std.specs.Prelude.{◌≡◌, ℕ, ℤ, pos, List, [], ◌∷◌, length, Result, Ok, Err, Option, Some, None, if◌then◌else◌}
+use Rattle.std.specs.Prelude.{ℕ, ℤ, pos, List, [], ◌∷◌, length, Result, Ok, Option, Some, None, Bool, true, false}
 use Rattle.ptg_base.specs.Task.{Task}
 use Rattle.ptg_base.specs.declared.place.Place.{Place}
 use Rattle.ptg_base.specs.declared.edge.Edge.{Edge}
@@ -16,10 +16,15 @@ use Rattle.dep_iter.specs.declared.source.Source.TheVariants as source
 use Rattle.dep_iter.specs.Steps.{◌>>=◌}
 use Rattle.dep_iter.specs.Space.{task_of}
 
+-- the target of a dependence whose guard holds or does not
+abbrev pub choice : DepPlan → Bool → Option Target
+choice d true = Some d.yes
+choice d false = d.no
+
 -- the target of a dependence under these locals: yes where there is no guard or it is not 0, else no, if there is one
 abbrev pub chosen_by : DepPlan → Option Term → List ℤ → Result (Option Target) ExprFault
 chosen_by d None env = Ok (Some d.yes)
-chosen_by d (Some c) env = value c env >>= λ v. Ok (if holds v then Some d.yes else d.no)
+chosen_by d (Some c) env = value c env >>= λ v. Ok (choice d (holds v))
 
 abbrev pub chosen : DepPlan → List ℤ → Result (Option Target) ExprFault
 chosen d env = chosen_by d d.guard env

@@ -1,5 +1,5 @@
 -- Ranges, and the tasks of a job. Source: DAGuE (Parallel Computing, 2012), where a task is named by its class and its parameters.
-use Rattle.std.specs.Prelude.{◌≡◌, ℕ, zero, suc, ℤ, pos, negsuc, ◌+ℤ◌, ◌-ℤ◌, List, [], ◌∷◌, map, Result, Ok, Err, IsOk}
+use Rattle.std.specs.Prelude.{ℕ, zero, suc, ℤ, pos, negsuc, ◌+ℤ◌, ◌-ℤ◌, List, [], ◌∷◌, map, Result, Ok, Err, IsOk}
 use Rattle.ptg_base.specs.Task.{Task}
 use Rattle.term_core.specs.declared.fault.ExprFault.{ExprFault}
 use Rattle.term_core.specs.Value.{value}

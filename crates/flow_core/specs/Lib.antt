@@ -2,3 +2,5 @@ pub mod Fits
 pub mod Backward
 pub mod Final
 pub mod Answer
+pub mod States
+pub mod Progress

@@ -2,7 +2,11 @@
 #![tactic(auto)]
 
 mod outcome;
+mod range;
+mod rounds;
+mod rows;
 mod run;
+mod state;
 
 pub use outcome::{Outcome, TrapRow, WaitRow};
 pub use run::run_one;

@@ -1,14 +1,14 @@
 -- The word that `front_word` finds is the longest spelling there, and where it finds none there is none.
-use Rattle.std.proofs.Common.{◌≡◌, ℕ, suc, ◌+◌, ◌<◌, ◌≤◌, Bool, true, false, not, cond, ◌&&◌, ◌||◌, ◌⊎◌, eqb, List, [], ◌∷◌, ◌++◌, length, take, drop, get_or, Option, Some, None, refl, sym, ◌∙◌, ap, subst, inl, inr, arith}
-use Rattle.std.specs.List.{list_any, list_all, prefix_len}
-use Rattle.std.proofs.lemmas.Bool.{and_parts, and_from, both_ways, cases_lt, cases_Bool, false≢true, or_from, or_left, or_right, not-true, eqb-true, eqb-false, cond-true, cond-false, not_from_false, false_from_ne_true}
+use Rattle.std.proofs.Common.{◌≡◌, ℕ, suc, ◌+◌, ◌<◌, ◌≤◌, Bool, true, false, cond, ◌&&◌, ◌⊎◌, eqb, List, [], ◌∷◌, ◌++◌, length, take, drop, get_or, Option, Some, None, refl, sym, ◌∙◌, ap, subst, inl, inr, arith}
+use Rattle.std.specs.List.{list_all, prefix_len}
+use Rattle.std.proofs.lemmas.Bool.{and_parts, and_from, both_ways, cases_lt, cases_Bool, false≢true, or_from, or_left, or_right, eqb-true, eqb-false, cond-true, cond-false, not_from_false, false_from_ne_true}
 use Rattle.std.proofs.lemmas.List.{drop_more, drop_all}
 use Rattle.std.proofs.lemmas.List.Sums.{prefix_len_stops, prefix_len-le-length}
 use Rattle.jdf_lex.specs.declared.token.TokenKind.{TokenKind}
 use Rattle.jdf_lex.specs.declared.token.TokenKind.TheVariants.{Name, Number, Quoted, Raw, OptionLine, Mark, Other}
 use Rattle.jdf_lex.specs.Tokens.{is_letter, is_digit, is_part, is_mark, is_spelling, begins_unbuilt, long_marks}
 use Rattle.jdf_lex.specs.Reading.{mark_len, mark_of_len, front_word, is_no_lf}
-use Rattle.jdf_lex.proofs.Words.{passes_both, is_among, mark_fronts, begins_mark, mark_begins, mark_is_no_part, spelling_is_some}
+use Rattle.jdf_lex.proofs.Words.{passes_both, is_among, mark_fronts, mark_begins, mark_is_no_part, spelling_is_some}
 
 -- ---- tests, fronts that pass
 
@@ -212,7 +212,7 @@ no_mark a (c ∷ []) left [] e is mark = cc
 no_mark a (c ∷ []) left (b ∷ bs) e is mark =
     let same : c ≡ b = cc in
     let long : is_mark (a ∷ b ∷ []) ≡ true = sym (ap (λ z. is_mark (a ∷ z ∷ [])) same) ∙ mark in
-    let two : cond (is_mark (a ∷ b ∷ [])) 2 (cond (is_mark (a ∷ [])) 1 0) ≡ 2 = cond-true (is_mark (a ∷ b ∷ [])) 2 (cond (is_mark (a ∷ [])) 1 0) long in
+    let two : ◌≡◌ {A = ℕ} (cond (is_mark (a ∷ b ∷ [])) 2 (cond (is_mark (a ∷ [])) 1 0)) 2 = cond-true (is_mark (a ∷ b ∷ [])) 2 (cond (is_mark (a ∷ [])) 1 0) long in
     omega (arith, two, e)
 no_mark a (c ∷ d ∷ word) left bs e is mark = false≢true mark
 

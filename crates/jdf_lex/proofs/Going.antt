@@ -1,9 +1,9 @@
 -- From blank to token and on: what stands behind a place completes the tokens before it.
-use Rattle.std.proofs.Common.{◌≡◌, ℕ, ◌+◌, ◌-◌, ◌<◌, ◌≤◌, Bool, true, false, ◌&&◌, List, [], ◌∷◌, ◌++◌, length, take, drop, get_or, Option, Some, None, refl, sym, ◌∙◌, ap, subst, inl, inr, arith, append_assoc, length-append, length-drop}
+use Rattle.std.proofs.Common.{◌≡◌, ℕ, ◌+◌, ◌-◌, ◌<◌, ◌≤◌, true, List, [], ◌∷◌, ◌++◌, length, take, drop, get_or, Some, None, refl, sym, ◌∙◌, ap, subst, arith, append_assoc, length-append, length-drop}
 use Rattle.std.specs.List.{list_all, prefix_len, slice_range}
 use Rattle.std.proofs.Math.Seq.{take-add}
-use Rattle.std.proofs.lemmas.Bool.{and_parts, and_from, both_ways, cases_lt}
-use Rattle.std.proofs.lemmas.List.{append-nil, append_cancel_left, take-append-drop, drop-drop, drop_more, drop_all, take_all, length-take-le, get_or-drop, length_push}
+use Rattle.std.proofs.lemmas.Bool.{and_parts, and_from, both_ways}
+use Rattle.std.proofs.lemmas.List.{append-nil, take-append-drop, drop-drop, drop_more, drop_all, length-take-le, get_or-drop, length_push}
 use Rattle.std.proofs.lemmas.List.Sums.{prefix_len_stops}
 use Rattle.std.proofs.lemmas.List.Folds.{list_all-append}
 use Rattle.jdf_lex.specs.declared.cursor.Cursor.{Cursor}
@@ -13,7 +13,7 @@ use Rattle.jdf_lex.specs.declared.token.TokenKind.{TokenKind}
 use Rattle.jdf_lex.specs.Tokens.{is_blank, is_spelling, begins_unbuilt, spot_after, IsToken, IsLexedBehind, IsLexed}
 use Rattle.jdf_lex.specs.Reading.{front_word, IsAt, IsLexedFrom, IsTokenAt, GoesOn, IsPastBlanks, IsReady}
 use Rattle.jdf_lex.proofs.Front.{front_found, front_none, prefix_passes}
-use Rattle.jdf_lex.proofs.Once.{longer_front, word_is_no_blank, blanks_have_no_word, same_parts}
+use Rattle.jdf_lex.proofs.Once.{word_is_no_blank, blanks_have_no_word, same_parts}
 use Rattle.jdf_lex.proofs.Words.{spelling_is_some}
 
 all_parts : (xs ys : List ℕ) → list_all is_blank (xs ++ ys) ≡ true → (list_all is_blank xs ≡ true) × (list_all is_blank ys ≡ true)

@@ -1,12 +1,12 @@
 -- A text has one list of tokens: two of them begin behind the same blanks, with the same word, which is the longest.
-use Rattle.std.proofs.Common.{◌≡◌, ℕ, ◌+◌, ◌<◌, ◌≤◌, Bool, true, false, ◌&&◌, ◌⊎◌, List, [], ◌∷◌, ◌++◌, length, refl, sym, ◌∙◌, ap, subst, inl, inr, arith, append_assoc, length-append, IsTrue}
+use Rattle.std.proofs.Common.{◌≡◌, ℕ, ◌≤◌, true, List, [], ◌∷◌, ◌++◌, length, refl, sym, ◌∙◌, ap, subst, inl, inr, arith}
 use Rattle.std.specs.List.{list_all}
-use Rattle.std.proofs.lemmas.Bool.{and_parts, and_from, both_ways, cases_lt}
+use Rattle.std.proofs.lemmas.Bool.{and_parts, both_ways, cases_lt}
 use Rattle.std.proofs.lemmas.List.{append_cancel_left, append-nil}
 use Rattle.jdf_lex.specs.declared.token.Spot.{Spot}
 use Rattle.jdf_lex.specs.declared.token.Token.{Token}
 use Rattle.jdf_lex.specs.declared.token.TokenKind.{TokenKind}
-use Rattle.jdf_lex.specs.Tokens.{is_blank, is_spelling, IsToken, IsLexedBehind, IsLexed, OneListOfTokens}
+use Rattle.jdf_lex.specs.Tokens.{is_blank, is_spelling, IsToken, IsLexedBehind, OneListOfTokens}
 use Rattle.jdf_lex.proofs.Words.{begins_word, spelling_begins, spelling_is_some, blank_begins_none, one_kind}
 
 -- of two fronts of a list the shorter begins the longer

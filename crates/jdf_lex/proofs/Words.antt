@@ -1,7 +1,7 @@
 -- Facts about the spellings of words: with which bytes they begin, and that a word is spelled as one kind at most.
-use Rattle.std.proofs.Common.{◌≡◌, ℕ, ◌+◌, ◌<◌, ◌≤◌, Bool, true, false, not, cond, ◌&&◌, ◌||◌, eqb, leb, List, [], ◌∷◌, ◌++◌, length, refl, sym, ◌∙◌, ap, subst, inl, inr, ⊎_elim, arith, rules, tests}
+use Rattle.std.proofs.Common.{◌≡◌, ℕ, ◌≤◌, Bool, true, false, not, ◌&&◌, ◌||◌, eqb, leb, List, [], ◌∷◌, refl, sym, ◌∙◌, ap, inl, inr, arith}
 use Rattle.std.specs.List.{list_any, list_all}
-use Rattle.std.proofs.lemmas.Bool.{or_cases, and_parts, and_from, or_left, or_right, false≢true, leb-true, eqb-true, both_ways, not-true}
+use Rattle.std.proofs.lemmas.Bool.{or_cases, and_parts, or_left, or_right, false≢true, leb-true, eqb-true, both_ways, not-true}
 use Rattle.jdf_lex.specs.declared.token.TokenKind.{TokenKind}
 use Rattle.jdf_lex.specs.declared.token.TokenKind.TheVariants.{Name, Number, Quoted, Raw, OptionLine, Mark, Other}
 use Rattle.jdf_lex.specs.Tokens.{is_letter, is_digit, is_part, is_blank, short_marks, long_marks, is_mark, is_spelling}

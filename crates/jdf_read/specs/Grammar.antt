@@ -1,5 +1,5 @@
 -- The grammar of the texts that are built so far.
-use Rattle.std.specs.Prelude.{ℕ, pos, Bool, true, false, nat_le, List, [], ◌∷◌, ◌++◌, Option, Some, None, ◌||◌, if◌then◌else◌}
+use Rattle.std.specs.Prelude.{ℕ, pos, Bool, nat_le, List, [], ◌∷◌, ◌++◌, Option, Some, None, ◌||◌, if◌then◌else◌}
 use Rattle.jdf_lex.specs.declared.token.Spot.{Spot}
 use Rattle.jdf_lex.specs.declared.token.Token.{Token}
 use Rattle.term_core.specs.declared.operator.BinOp.{BinOp}
@@ -89,13 +89,13 @@ reference Body = map named (seq (name Body) (opt index))
 unfoldable pub atom : Part → Grammar Expression
 atom part = alt number (alt (reference part) (parens part))
 
+abbrev pub operator_by : Sort → BinOp
+operator_by sort.Plus = Add
+operator_by sort.Minus = Sub
+operator_by _ = Eq
+
 abbrev pub operator_of : Token → BinOp
-operator_of x = by_sort (sort_of x)
-  where
-    by_sort : Sort → BinOp
-    by_sort sort.Plus = Add
-    by_sort sort.Minus = Sub
-    by_sort _ = Eq
+operator_of x = operator_by (sort_of x)
 
 -- operators group to the left
 abbrev pub grouped : Expression → List (BinOp × Expression) → Expression
@@ -135,35 +135,40 @@ target = map target_of (seq (name Class) (seq (opt (name Class)) call))
 
 -- how a dependence goes on behind its arrow: a guard, and where it leads then and else
 abbrev pub Choice : Type 0
-Choice = Option Expression × (TargetTree × Option TargetTree)
+Choice = Option Expression × TargetTree × Option TargetTree
 
 -- unguarded = target
 unfoldable pub unguarded : Grammar Choice
-unguarded = map (λ x. (None, (x, None))) target
+unguarded = map (λ x. (None, x, None)) target
 
 -- guarded = expr "?" target (":" target)?
 unfoldable pub guarded : Grammar Choice
-guarded = map (λ x. (Some x.0, x.1)) (seq (outer Class) (after sort.Question (seq target (opt (after sort.Colon target)))))
+guarded = map (λ x. (Some x.0, x.1.0, x.1.1)) (seq (outer Class) (after sort.Question (seq target (opt (after sort.Colon target)))))
 
 abbrev pub is_arrow : Sort → Bool
 is_arrow k = is sort.Inward k || is sort.Outward k
+
+-- arrow = "<-" | "->", and whether it is the first
+unfoldable pub arrow : Grammar Bool
+arrow = map (λ x. is sort.Inward (sort_of x)) (one_of is_arrow)
 
 -- a name before a name or "(" begins a target
 abbrev pub goes_on_target : Sort → Bool
 goes_on_target k = is_name k || is sort.LeftParen k
 
-abbrev pub dep_of : Token × Choice → DepTree
-dep_of x = record { inward = is sort.Inward (sort_of x.0); guard = x.1.0; yes = x.1.1.0; no = x.1.1.1 }
+abbrev pub dep_of : Bool × Choice → DepTree
+dep_of x = record { inward = x.0; guard = x.1.0; yes = x.1.1; no = x.1.2 }
 
 -- dep = ("<-" | "->") (target | expr "?" target (":" target)?)
 unfoldable pub dep : Grammar DepTree
-dep = map dep_of (seq (one_of is_arrow) (pick goes_on_target unguarded guarded))
+dep = map dep_of (seq arrow (pick goes_on_target unguarded guarded))
 
 -- at most 16 dependences
 abbrev pub too_many_deps : ℕ → Option Code
 too_many_deps i = if nat_le 16 i then Some TooManyDeps else None
 
-abbrev pub deps : Grammar (List DepTree)
+-- deps = dep*
+unfoldable pub deps : Grammar (List DepTree)
 deps = star too_many_deps dep
 
 -- stmt = name "[" expr "]" "=" expr ";"
@@ -177,8 +182,8 @@ unfoldable pub param : Grammar Word
 param = after sort.LeftParen (before sort.RightParen (name Class))
 
 -- range = name "=" expr ".." expr
-unfoldable pub range : Grammar (Word × (Expression × Expression))
-range = seq (name Class) (seq (after sort.Assign (outer Class)) (after sort.Dots (outer Class)))
+unfoldable pub range : Grammar (Word × Expression × Expression)
+range = map (λ x. (x.0, x.1.0, x.1.1)) (seq (name Class) (seq (after sort.Assign (outer Class)) (after sort.Dots (outer Class))))
 
 -- affinity = ":" name "(" expr ")"
 unfoldable pub affinity : Grammar (Word × Expression)
@@ -194,7 +199,7 @@ body = after sort.Body (seq (star any stmt) (map (λ x. x.spot) (word sort.End))
 
 -- what a class is behind its name
 abbrev pub Rest : Type 0
-Rest = Word × ((Word × (Expression × Expression)) × ((Word × Expression) × ((Word × List DepTree) × (List StmtTree × Spot))))
+Rest = Word × ((Word × Expression × Expression) × ((Word × Expression) × ((Word × List DepTree) × (List StmtTree × Spot))))
 
 -- rest = param range affinity flow body
 unfoldable pub rest : Grammar Rest
@@ -203,21 +208,35 @@ rest = seq param (seq range (seq affinity (seq flow body)))
 abbrev pub class_of : Word → Rest → ClassTree
 class_of name x =
     record {
-      name = name; param = x.0;
-      local = x.1.0.0; lo = x.1.0.1.0; hi = x.1.0.1.1;
-      affinity = x.1.1.0.0; affinity_arg = x.1.1.0.1;
-      flow = x.1.1.1.0.0; deps = x.1.1.1.0.1;
-      body = x.1.1.1.1.0; finish = x.1.1.1.1.1;
+      name = name;
+      param = x.0;
+      local = x.1.0.0;
+      lo = x.1.0.1;
+      hi = x.1.0.2;
+      affinity = x.1.1.0.0;
+      affinity_arg = x.1.1.0.1;
+      flow = x.1.1.1.0.0;
+      deps = x.1.1.1.0.1;
+      body = x.1.1.1.1.0;
+      finish = x.1.1.1.1.1;
     }
 
--- The last name before the "(" is the class's, and those before it are globals.
-abbrev pub jdf_of : List Word → Word → List Word → Rest → Jdf
-jdf_of globals name [] x = record { globals = globals; class = class_of name x }
-jdf_of globals name (next ∷ more) x = jdf_of (globals ++ name ∷ []) next more x
+-- the class of this name
+abbrev pub class_named : Word → Grammar ClassTree
+class_named name = map (class_of name) rest
+
+-- The last of these names is the class's, and those before it are globals.
+abbrev pub headed : List Word → Word → List Word → List Word × Word
+headed globals name [] = (globals, name)
+headed globals name (next ∷ more) = headed (globals ++ name ∷ []) next more
+
+-- heading = name* name, the globals and the class's name
+unfoldable pub heading : Grammar (List Word × Word)
+heading = map (λ x. headed [] x.0 x.1) (seq (name Class) (star any (name Class)))
 
 -- file = name* class, and class = name rest
 unfoldable pub file : Grammar Jdf
-file = map (λ x. jdf_of [] x.0 x.1.0 x.1.1) (seq (name Class) (seq (star any (name Class)) rest))
+file = map (λ x. record { globals = x.0.0; class = class_of x.0.1 x.1 }) (seq heading rest)
 
 -- what recurs
 unfoldable pub inner : (part : Part) → Grammar (TreeOf part)

@@ -3,4 +3,5 @@ pub mod ExpressionCode
 pub mod NodeExpression
 pub mod Numbers
 pub mod Grammar
+pub mod Ranks
 pub mod Jdf

@@ -1,5 +1,5 @@
 -- Numbers as they are written.
-use Rattle.std.specs.Prelude.{ℕ, ◌+◌, ◌-◌, ◌*◌, nat_le, Bool, true, false, not, ◌&&◌, ◌||◌, ◌==◌, List, [], ◌∷◌}
+use Rattle.std.specs.Prelude.{ℕ, ◌+◌, ◌-◌, ◌*◌, nat_le, Bool, false, not, ◌&&◌, ◌==◌, List, [], ◌∷◌}
 use Rattle.std.specs.List.{list_all}
 use Rattle.jdf_lex.specs.Tokens.{is_digit}
 
@@ -12,12 +12,16 @@ continued n (b ∷ bs) = continued (10 * n + (b - 48)) bs
 abbrev pub decimal : List ℕ → ℕ
 decimal digits = continued 0 digits
 
--- no 0 at the front, unless it is the whole number
-abbrev pub has_no_zero_before : List ℕ → Bool
-has_no_zero_before [] = true
-has_no_zero_before (b ∷ []) = true
-has_no_zero_before (b ∷ c ∷ bs) = not (b == 48)
+-- a 0 at the front of a longer number
+abbrev pub has_zero_before : List ℕ → Bool
+has_zero_before [] = false
+has_zero_before (b ∷ []) = false
+has_zero_before (b ∷ c ∷ bs) = b == 48
+
+-- digits alone, and a number of at most 2^63 - 1
+unfoldable pub fits : List ℕ → Bool
+fits text = list_all is_digit text && nat_le (decimal text) 9223372036854775807
 
 -- A number stands in an expression as decimal digits, without a leading 0 unless it is 0, and is at most 2^63 - 1.
 unfoldable pub is_number : List ℕ → Bool
-is_number text = has_no_zero_before text && (list_all is_digit text && nat_le (decimal text) 9223372036854775807)
+is_number text = not (has_zero_before text) && fits text

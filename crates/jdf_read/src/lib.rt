@@ -1,9 +1,15 @@
 //! Reads the text of a JDF into its tree.
 #![tactic(auto)]
 
+mod class;
+mod dependence;
 mod expression;
+mod name;
+mod number;
+mod operators;
 mod part;
 mod read;
+mod statement;
 mod tree;
 
 pub use expression::{ExprNode, ExprTree, Word};

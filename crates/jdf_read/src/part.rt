@@ -4,3 +4,10 @@ pub enum Part {
     Class,
     Body,
 }
+
+/// Operators of one rank, from the loosest.
+#[derive(Clone, Copy, Debug, PartialEq, Eq)]
+pub enum Rank {
+    Equal,
+    Sum,
+}

@@ -5,5 +5,7 @@ mod fields;
 mod numbers;
 mod pieces;
 mod printing;
+mod refusal_line;
 
 pub use printing::report;
+pub use refusal_line::{Line, refusal};

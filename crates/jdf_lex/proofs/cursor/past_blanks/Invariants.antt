@@ -1,4 +1,4 @@
-use Rattle.std.proofs.Common.{◌≡◌, ℕ, ◌+◌, ◌-◌, length, drop}
+use Rattle.std.proofs.Common.{◌≡◌, ◌+◌, ◌-◌, length, drop}
 use Rattle.std.specs.List.{prefix_len}
 use Rattle.jdf_lex.specs.Tokens.{is_blank}
 use Rattle.jdf_lex.specs.Reading.{IsAt}

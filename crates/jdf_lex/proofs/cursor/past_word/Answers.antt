@@ -1,4 +1,4 @@
-use Rattle.std.proofs.Common.{ℕ, arith, ap}
+use Rattle.std.proofs.Common.{arith, ap}
 use Rattle.jdf_lex.specs.declared.token.Spot.{Spot}
 use Rattle.jdf_lex.proofs.Spots.{column_bound, at_word}
 use Rattle.jdf_lex.proofs.cursor.past_word.Goals as goal

@@ -1,11 +1,9 @@
-use Rattle.std.proofs.Common.{◌≡◌, ℕ, ◌<◌, ◌≤◌, length, drop, Result, Err, None, sym, ◌∙◌, ap, arith}
-use Rattle.std.proofs.lemmas.Result.{err_from_is_err_and, IfOk-at_ok}
-use Rattle.jdf_lex.specs.declared.fault.JdfFault.{JdfFault}
+use Rattle.std.proofs.Common.{◌≡◌, ◌<◌, ◌≤◌, length, Result, Err, sym, ◌∙◌, ap, arith}
+use Rattle.std.proofs.lemmas.Result.{err_from_is_err_and}
 use Rattle.jdf_lex.specs.declared.fault.JdfRefusal.{JdfRefusal}
 use Rattle.jdf_lex.specs.declared.token.Lexed.{Lexed}
 use Rattle.jdf_lex.specs.declared.fault.JdfRefusal.TheVariants.{Fault}
 use Rattle.jdf_lex.specs.Tokens.{not_built}
-use Rattle.jdf_lex.specs.Reading.{front_word}
 use Rattle.jdf_lex.proofs.Going.{ready_first, ready_next, lexed_at_end, too_many_tokens, no_tokens_here}
 use Rattle.jdf_lex.proofs.lex.lex.Goals as goal
 

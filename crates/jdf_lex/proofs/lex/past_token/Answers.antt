@@ -1,4 +1,4 @@
-use Rattle.std.proofs.Common.{◌≡◌, ℕ, ◌+◌, ◌-◌, true, sym, subst, arith}
+use Rattle.std.proofs.Common.{◌≡◌, ◌+◌, ◌-◌, true, subst, arith}
 use Rattle.std.specs.List.{list_all, slice_range}
 use Rattle.jdf_lex.specs.Reading.{is_no_lf}
 use Rattle.jdf_lex.proofs.Front.{spelling_has_no_lf}

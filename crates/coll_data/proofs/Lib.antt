@@ -1,0 +1,4 @@
+pub mod Digits
+pub mod Opening
+pub mod Refusals
+pub mod Tiles

@@ -1,0 +1,19 @@
+ghost use Rattle.std.specs.Prelude.{◌≤◌};
+
+use crate::given::{Coll, Int};
+use ptg_base::Row;
+
+/// The data of the lines so far.
+#[derive(Drop)]
+pub struct Growing {
+    pub elems: u32,
+    pub ints: Row<Int>,
+    pub colls: Vec<Coll>,
+    /// For each tile of each collection whether a line gave its values.
+    pub given: Vec<Row<bool>>,
+    /// The number of tiles of all collections.
+    pub tiles: u32,
+    ghost some: { 1 ≤ elems },
+    ghost few: { elems ≤ 4096 },
+    ghost room: { tiles ≤ 16777216 },
+}

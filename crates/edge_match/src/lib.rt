@@ -1,0 +1,14 @@
+//! Whether a job is consistent: its tasks, their sources and items, and the two ends of each edge.
+#![tactic(auto)]
+
+mod edges;
+mod fault;
+mod gathered;
+mod good;
+mod meeting;
+mod tasks;
+mod totals;
+mod written;
+
+
+pub use fault::{MatchCode, MatchFault, MatchRefusal};

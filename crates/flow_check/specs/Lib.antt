@@ -1,0 +1,3 @@
+pub mod Names
+pub mod Planned
+pub mod Resolves

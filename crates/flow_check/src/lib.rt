@@ -1,0 +1,12 @@
+//! Whether the names of a JDF fit one another and the data, and the plan that they make.
+#![tactic(auto)]
+
+mod checking;
+mod dependence;
+mod expression;
+mod names;
+mod scope;
+mod stop;
+
+pub use checking::check;
+pub use names::missing;

@@ -1,0 +1,35 @@
+use ptg_io::{Failed, Sink};
+use std::io::Write;
+
+/// Standard output, or any other writer. Nothing is told of what it holds.
+#[derive(Drop)]
+pub struct OsSink<W: Write + Drop> {
+    writer: W,
+    // How many writes failed.
+    faults: u64,
+}
+
+impl<W: Write + Drop> OsSink<W> {
+    pub fn new(writer: W) -> Self {
+        OsSink { writer, faults: 0 }
+    }
+}
+
+impl<W: Write + Drop> Sink for OsSink<W> {
+    ghost use Rattle.std.specs.Prelude.{None};
+
+    ghost bytes = { λ _. None };
+
+    ghost faults = { λ sink. sink.faults };
+
+    fn write(&mut self, piece: &[u8]) -> Result<usize, Failed> {
+        match self.writer.write(piece) {
+            // A writer that takes nothing would be asked for ever.
+            Ok(n) if n > 0 => Ok(n),
+            _ => {
+                self.faults = self.faults.saturating_add(1);
+                Err(Failed)
+            }
+        }
+    }
+}
