@@ -1,7 +1,7 @@
 -- The parts of a line, in the order in which they are put.
 use lib.Signed.{le_z}
 use Rattle.std.proofs.lemmas.Int.{ints}
-use Rattle.std.proofs.Common.{◌≡◌, ℕ, ℤ, pos, negsuc, nat_abs, false, true, List, [], ◌∷◌, ◌++◌, map, flat_map, sym, ap, ◌∙◌, refl, append_assoc, arith}
+use Rattle.std.proofs.Common.{◌≡◌, ℕ, ℤ, pos, negsuc, nat_abs, false, List, [], ◌∷◌, ◌++◌, map, flat_map, sym, ap, ◌∙◌, refl, append_assoc, arith}
 use Rattle.std.specs.List.{join_with_byte}
 use Rattle.std.specs.Fmt.{decimal, signed_decimal}
 use Rattle.std.proofs.lemmas.List.Concat.{flat_map-append}
@@ -31,14 +31,14 @@ line_parts word before numbers after =
     let A = map field_text after in
     let comma : List ℕ → List ℕ = λ field. 44 ∷ field in
     let cut : flat_map comma (B ++ (N ++ A)) ≡ flat_map comma B ++ (flat_map comma N ++ flat_map comma A) =
-        flat_map-append comma B (N ++ A) ∙ ap (λ t. flat_map comma B ++ t) (flat_map-append comma N A) in
+    flat_map-append comma B (N ++ A) ∙ ap (λ t. flat_map comma B ++ t) (flat_map-append comma N A) in
     let texts : flat_map comma B ++ (flat_map comma N ++ flat_map comma A) ≡ flat_map (λ field. 44 ∷ field_text field) before ++ (flat_map (λ n. 44 ∷ signed_decimal n) numbers ++ flat_map (λ field. 44 ∷ field_text field) after) =
-        simp (flat_map_map comma field_text before, flat_map_map comma signed_decimal numbers, flat_map_map comma field_text after) in
+    simp (flat_map_map comma field_text before, flat_map_map comma signed_decimal numbers, flat_map_map comma field_text after) in
     let b = flat_map (λ field. 44 ∷ field_text field) before in
     let n = flat_map (λ k. 44 ∷ signed_decimal k) numbers in
     let a = flat_map (λ field. 44 ∷ field_text field) after in
     let whole : line (word ∷ (B ++ (N ++ A))) ≡ (word ++ (b ++ (n ++ a))) ++ 10 ∷ [] =
-        ap (λ t. t ++ 10 ∷ []) (joined word (B ++ (N ++ A)) ∙ ap (λ t. word ++ t) (cut ∙ texts)) in
+    ap (λ t. t ++ 10 ∷ []) (joined word (B ++ (N ++ A)) ∙ ap (λ t. word ++ t) (cut ∙ texts)) in
     whole ∙ apart word b n a (10 ∷ [])
 
 -- a negative integer is written with a sign

@@ -1,6 +1,6 @@
 -- Loops that put the texts of the items of a list, one after another.
 use Rattle.std.specs.Prelude.{IsErr}
-use Rattle.std.proofs.Common.{◌≡◌, ℕ, ◌+◌, ◌<◌, ◌≤◌, List, [], ◌∷◌, ◌++◌, length, get_or, take, drop, flat_map, Option, Result, sym, ap, subst, ◌∙◌, refl, zero-add}
+use Rattle.std.proofs.Common.{◌≡◌, ℕ, ◌+◌, ◌<◌, ◌≤◌, List, [], ◌∷◌, ◌++◌, length, get_or, take, drop, flat_map, Option, Result, sym, ap, ◌∙◌, refl, zero-add}
 use Rattle.std.proofs.lemmas.List.{take_more, take_all, take-append-drop}
 use Rattle.std.specs.List.{enumerate_from}
 use Rattle.std.proofs.lemmas.List.FromFn.{get_or-enumerate_from}
@@ -12,14 +12,14 @@ use Rattle.report_text.proofs.Putting.{HasPut, HasFailed, append_nil, puts_then,
 each_more : {X : Type 0} (f : X → List ℕ) (xs : List X) (i : ℕ) (d : X) → i < length xs → flat_map f (take (i + 1) xs) ≡ flat_map f (take i xs) ++ f (get_or xs i d)
 each_more f xs i d within =
     ap (λ ys. flat_map f ys) (take_more xs i d within)
-        ∙ flat_map-append f (take i xs) (get_or xs i d ∷ [])
-        ∙ ap (λ t. flat_map f (take i xs) ++ t) (append_nil (f (get_or xs i d)))
+    ∙ flat_map-append f (take i xs) (get_or xs i d ∷ [])
+    ∙ ap (λ t. flat_map f (take i xs) ++ t) (append_nil (f (get_or xs i d)))
 
 each_split : {X : Type 0} (f : X → List ℕ) (xs : List X) (i : ℕ) (d : X) → i < length xs → flat_map f xs ≡ (flat_map f (take i xs) ++ f (get_or xs i d)) ++ flat_map f (drop (i + 1) xs)
 each_split f xs i d within =
     ap (λ ys. flat_map f ys) (sym (take-append-drop (i + 1) xs))
-        ∙ flat_map-append f (take (i + 1) xs) (drop (i + 1) xs)
-        ∙ ap (λ t. t ++ flat_map f (drop (i + 1) xs)) (each_more f xs i d within)
+    ∙ flat_map-append f (take (i + 1) xs) (drop (i + 1) xs)
+    ∙ ap (λ t. t ++ flat_map f (drop (i + 1) xs)) (each_more f xs i d within)
 
 -- one more item
 pub loop_more : {S : Type 0} {bytes : S → Option (List ℕ)} {faults : S → ℕ} {s s1 s2 : S} {k k1 k2 : List ℕ} {X : Type 0} (f : X → List ℕ) (xs : List X) (i : ℕ) (d x : X) → i < length xs → x ≡ get_or xs i d → HasPut bytes faults s k s1 k1 (flat_map f (take i xs)) → HasPut bytes faults s1 k1 s2 k2 (f x) → HasPut bytes faults s k s2 k2 (flat_map f (take (i + 1) xs))

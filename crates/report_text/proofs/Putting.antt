@@ -1,5 +1,5 @@
 -- Calls that put texts, one after another.
-use Rattle.std.proofs.Common.{◌≡◌, ℕ, ◌+◌, ◌≤◌, ◌<◌, List, [], ◌∷◌, ◌++◌, length, take, drop, Option, None, Some, Result, Ok, Err, sym, ap, subst, ◌∙◌, refl, arith, append_assoc, length-append, inl, inr}
+use Rattle.std.proofs.Common.{◌≡◌, ℕ, ◌≤◌, List, [], ◌∷◌, ◌++◌, length, take, drop, Option, None, Some, Result, Ok, Err, sym, ap, subst, ◌∙◌, refl, arith, append_assoc, length-append, inl, inr}
 use Rattle.std.specs.Prelude.{IsErr, OnOk, OnErr}
 use Rattle.std.proofs.Math.Seq.{take-append_seam}
 use Rattle.std.proofs.lemmas.Bool.{false≢true}
@@ -51,7 +51,7 @@ puts_nothing bytes faults sink kept = record {
   cut = tt;
   onward = precedes_itself (bytes sink);
   grows = omega arith;
-  failed = tt
+  failed = tt;
 }
 
 then_of : {S : Type 0} (bytes : S → Option (List ℕ)) (faults : S → ℕ) (s : S) (k : List ℕ) (s1 : S) (k1 : List ℕ) (s2 : S) (k2 : List ℕ) (t u : List ℕ) (result : Result (Unit {0}) Failed) → HasPut bytes faults s k s1 k1 t → Puts bytes faults result s1 k1 s2 k2 u → Puts bytes faults result s k s2 k2 (t ++ u)
@@ -60,14 +60,14 @@ then_of bytes faults s k s1 k1 s2 k2 t u (Ok x) first then = record {
   cut = tt;
   onward = precedes_through (bytes s) (bytes s1) (bytes s2) first.onward then.onward;
   grows = omega (arith, first.grows, then.grows);
-  failed = tt
+  failed = tt;
 }
 then_of bytes faults s k s1 k1 s2 k2 t u (Err e) first then = record {
   ok = tt;
   cut = subst (λ (w : Option (List ℕ)). Precedes (bytes s2) w) (ap (λ w. appended w u) first.ok ∙ appended_twice (appended (bytes s) k) t u) then.cut;
   onward = precedes_through (bytes s) (bytes s1) (bytes s2) first.onward then.onward;
   grows = omega (arith, first.grows, then.grows);
-  failed = rose_from (faults s) (faults s1) (faults s2) first.grows then.failed
+  failed = rose_from (faults s) (faults s1) (faults s2) first.grows then.failed;
 }
 
 cut_of : {S : Type 0} (bytes : S → Option (List ℕ)) (faults : S → ℕ) (s : S) (k : List ℕ) (s1 : S) (k1 k2 : List ℕ) (t u : List ℕ) (failure : Failed) (result : Result (Unit {0}) Failed) → HasFailed bytes faults failure s k s1 k1 t → IsErr result → Puts bytes faults result s k s1 k2 (t ++ u)
@@ -77,7 +77,7 @@ cut_of bytes faults s k s1 k1 k2 t u failure (Err e) failed err = record {
   cut = subst (λ (w : Option (List ℕ)). Precedes (bytes s1) w) (appended_twice (appended (bytes s) k) t u) (precedes_more (bytes s1) (appended (appended (bytes s) k) t) u failed.cut);
   onward = failed.onward;
   grows = failed.grows;
-  failed = failed.failed
+  failed = failed.failed;
 }
 
 -- a call, and then another, of any result
@@ -95,7 +95,7 @@ puts_kept {bytes = bytes} {faults} {s} {s1} {k} {k1} {t} u put = record {
   cut = tt;
   onward = put.onward;
   grows = put.grows;
-  failed = tt
+  failed = tt;
 }
 
 -- what is kept goes out
@@ -105,7 +105,7 @@ puts_all k out grew = record {
   cut = tt;
   onward = (k, sym out);
   grows = grew;
-  failed = tt
+  failed = tt;
 }
 
 -- some of what is kept goes out, and then no more
@@ -115,7 +115,7 @@ puts_some {bytes = bytes} {s = s} k k1 n out grew rose = record {
   cut = (drop n k, ap (λ w. appended w (drop n k)) out ∙ appended_twice (bytes s) (take n k) (drop n k) ∙ ap (λ w. appended (bytes s) w) (take-append-drop n k) ∙ sym (appended_nil (appended (bytes s) k)));
   onward = (take n k, sym out);
   grows = grew;
-  failed = rose
+  failed = rose;
 }
 
 -- what went out is some first bytes of the text

@@ -5,7 +5,6 @@ use Rattle.term_core.specs.declared.body.Trap.{Trap}
 use Rattle.term_core.specs.declared.body.Trap.TheVariants.{Overflow, Divide, Index, Absent, Budget}
 use Rattle.plan_core.specs.declared.plan.Plan.{Plan}
 use Rattle.coll_data.specs.declared.given.Coll.{Coll}
-use Rattle.coll_data.specs.declared.given.Given.{Given}
 use Rattle.flow_core.specs.declared.outcome.TrapRow.{TrapRow}
 use Rattle.flow_core.specs.declared.outcome.WaitRow.{WaitRow}
 use Rattle.flow_core.specs.declared.outcome.Outcome.{Outcome}

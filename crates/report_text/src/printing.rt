@@ -69,7 +69,14 @@ fn put_trapped<O: Sink>(
     ensures { Puts O.bytes O.faults result sink.old out.old sink.new out.new
         (line (codes "trapped" ∷ decimal (length rows.now) ∷ []) ++ flat_map (trap_line class.now) rows.now) }
 {
-    put_line(sink, out, b"trapped", &[Field::Number(rows.len() as u64)], &[], &[])?;
+    put_line(
+        sink,
+        out,
+        b"trapped",
+        &[Field::Number(rows.len() as u64)],
+        &[],
+        &[],
+    )?;
     put_traps(sink, out, class, rows)
 }
 
@@ -85,7 +92,14 @@ fn put_stalled<O: Sink>(
     ensures { Puts O.bytes O.faults result sink.old out.old sink.new out.new
         (line (codes "stalled" ∷ decimal ran ∷ decimal total ∷ []) ++ flat_map (wait_line class.now) rows.now) }
 {
-    put_line(sink, out, b"stalled", &[Field::Number(ran), Field::Number(total)], &[], &[])?;
+    put_line(
+        sink,
+        out,
+        b"stalled",
+        &[Field::Number(ran), Field::Number(total)],
+        &[],
+        &[],
+    )?;
     put_waits(sink, out, class, rows)
 }
 
@@ -160,7 +174,14 @@ fn put_trap<O: Sink>(
     ensures { Puts O.bytes O.faults result sink.old out.old sink.new out.new (trap_line class.now row.now) }
 {
     let cause = [Field::Word(cause(row.cause))];
-    put_line(sink, out, b"trap", &[Field::Word(class)], row.task.params(), &cause)
+    put_line(
+        sink,
+        out,
+        b"trap",
+        &[Field::Word(class)],
+        row.task.params(),
+        &cause,
+    )
 }
 
 /// The word of a trap.
@@ -203,5 +224,12 @@ fn put_wait<O: Sink>(
     let params = row.task.params();
     let arrived = row.arrived as u64;
     let goal = row.goal as u64;
-    put_line(sink, out, b"wait", &[Field::Word(class)], params, &[Field::Number(arrived), Field::Number(goal)])
+    put_line(
+        sink,
+        out,
+        b"wait",
+        &[Field::Word(class)],
+        params,
+        &[Field::Number(arrived), Field::Number(goal)],
+    )
 }

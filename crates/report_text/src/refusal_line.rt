@@ -47,15 +47,36 @@ fn put_refusal<O: Sink>(sink: &mut O, out: &mut Pieces, line: &Line) -> Result<(
                 Field::Number(fault.spot.line as u64),
                 Field::Number(fault.spot.column as u64),
             ];
-            put_line(sink, out, b"refused", &place, &[], &[Field::Word(jdf_code(fault.code))])
+            put_line(
+                sink,
+                out,
+                b"refused",
+                &place,
+                &[],
+                &[Field::Word(jdf_code(fault.code))],
+            )
         }
         Line::Rows(fault) => {
             let fields = [Field::Number(fault.row), Field::Word(data_code(fault.code))];
             put_line(sink, out, b"data", &fields, &[], &[])
         }
-        Line::Match => put_line(sink, out, b"inconsistent", &[Field::Word(b"NotBuilt")], &[], &[]),
+        Line::Match => put_line(
+            sink,
+            out,
+            b"inconsistent",
+            &[Field::Word(b"NotBuilt")],
+            &[],
+            &[],
+        ),
         Line::Unread(name) => {
-            put_line(sink, out, b"unread", &[Field::Word(name.as_bytes())], &[], &[])
+            put_line(
+                sink,
+                out,
+                b"unread",
+                &[Field::Word(name.as_bytes())],
+                &[],
+                &[],
+            )
         }
     }
 }

@@ -1,4 +1,4 @@
-use Rattle.std.proofs.Common.{◌≡◌, ℤ, pos, ◌∷◌, get_or, w64, arith, rules}
+use Rattle.std.proofs.Common.{ℤ, pos, ◌∷◌, get_or, w64, arith, rules}
 use mir.Val.{to_z, of_z, SFits}
 use Rattle.std.specs.Fmt.{signed_decimal}
 use Rattle.std.proofs.lemmas.Int.{to_z-of_z}

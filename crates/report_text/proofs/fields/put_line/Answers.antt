@@ -1,6 +1,4 @@
-use Rattle.std.proofs.Common.{◌++◌, [], ◌∷◌, flat_map, refl}
-use Rattle.std.specs.Fmt.{signed_decimal}
-use Rattle.report_text.specs.Field.{field_text}
+use Rattle.std.proofs.Common.{[], ◌∷◌, refl}
 use Rattle.report_text.proofs.Lines.{line_parts}
 use Rattle.report_text.proofs.Putting.{puts_cut, puts_then}
 use Rattle.report_text.proofs.fields.put_line.Goals as goal

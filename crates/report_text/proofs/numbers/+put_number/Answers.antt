@@ -1,5 +1,4 @@
-use Rattle.std.proofs.Common.{◌≡◌, ◌+◌, ◌/◌, ◌%◌, ◌++◌, [], ◌∷◌, refl, arith}
-use Rattle.std.specs.Fmt.{decimal}
+use Rattle.std.proofs.Common.{◌+◌, ◌%◌, [], ◌∷◌, arith}
 use Rattle.std.proofs.lemmas.Fmt.{decimal_digit, decimal_step}
 use Rattle.report_text.proofs.Putting.{puts_cut, puts_then}
 use Rattle.report_text.proofs.numbers.+put_number.Goals as goal

@@ -1,4 +1,4 @@
-use Rattle.std.proofs.Common.{◌≡◌, ◌++◌, [], ◌∷◌, w64, ℤ, nat_abs, false, refl, sym, ap, ◌∙◌}
+use Rattle.std.proofs.Common.{◌≡◌, w64, ℤ, nat_abs, false, refl, sym, ap, ◌∙◌}
 use lib.Signed.{le_z}
 use lib.IntN.{pos}
 use mir.Val.{to_z, of_z}

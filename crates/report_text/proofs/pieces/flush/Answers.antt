@@ -1,5 +1,5 @@
-use Rattle.std.proofs.Common.{refl, [], sym, subst, List, ℕ}
-use Rattle.report_text.proofs.Putting.{puts_all, puts_some, puts_cut}
+use Rattle.std.proofs.Common.{refl, []}
+use Rattle.report_text.proofs.Putting.{puts_some, puts_cut}
 use Rattle.report_text.proofs.pieces.flush.Goals as goal
 
 pub returns-in_err-write_all-clause-puts : goal.returns-in_err-write_all-clause-puts

@@ -1,4 +1,4 @@
-use Rattle.std.proofs.Common.{◌≡◌, ◌<◌, ◌≤◌, ℕ, ℤ, List, length, get_or, arith}
+use Rattle.std.proofs.Common.{◌<◌, ◌≤◌, ℕ, ℤ, List, length, arith}
 use Rattle.std.specs.List.{enumerate_from}
 use Rattle.std.proofs.lemmas.List.FromFn.{length-enumerate_from}
 use Rattle.report_text.specs.Printed.{tile_line}
