@@ -11,6 +11,7 @@ use jdf_lex::{JdfCode, JdfFault};
 use ptg_io::{Failed, Sink};
 
 /// Why a job was not run.
+#[derive(Clone, Copy, Debug)]
 pub enum Line<'a> {
     /// The words of the command line are no command.
     Usage,
