@@ -23,5 +23,5 @@ range_between P lo hi con is h below = record {
   consistent = con;
   tasks = is ∙ ap (λ n. map task_of (numbers_from lo n)) (count_is lo hi h);
   few = few_between P lo hi con is h;
-  most = omega (arith, ints)
+  most = omega (arith, ints);
 }

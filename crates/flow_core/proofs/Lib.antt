@@ -3,3 +3,6 @@ pub mod Places
 pub mod Known
 pub mod Rest
 pub mod Ends
+pub mod Laid
+pub mod Put
+pub mod Writes
