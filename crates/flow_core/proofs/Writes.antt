@@ -1,5 +1,6 @@
 -- The write-backs of a task, one out dependence after another.
 use Rattle.std.proofs.Common.{◌≡◌, ◌≢◌, ℕ, zero, suc, ◌+◌, ◌<◌, ◌≤◌, List, [], ◌∷◌, ◌++◌, length, take, Bool, true, false, ◌||◌, Option, Some, None, Result, Ok, Err, arith, refl, sym, ◌∙◌, ap, subst, append-nil}
+use Rattle.std.proofs.lemmas.List.{take_all}
 use Rattle.std.specs.Prelude.{ℤ, pos, IsOk, if◌then◌else◌}
 use Rattle.std.specs.List.{list_any}
 use Rattle.ptg_base.specs.Task.{Task}
@@ -56,9 +57,19 @@ writes_more P t k r here ok is next =
     ap (λ l. writes_among (or_none l)) (next ∙ ap (joined (all_items (take k P.class.outs) t)) is)
     ∙ writes_joined (all_items (take k P.class.outs) t) here (prefix_ok P.class.outs k t ok)
 
+or_false : (b : Bool) → (b || false) ≡ b
+or_false true = refl
+or_false false = refl
+
+or_assoc : (a b c : Bool) → (a || (b || c)) ≡ ((a || b) || c)
+or_assoc true b c = refl
+or_assoc false b c = refl
+
 any_more : (ws : List WriteBack) (w : WriteBack) (q : Place) → list_any (λ v. is_place v.place q) (ws ++ w ∷ []) ≡ list_any (λ v. is_place v.place q) ws || is_place w.place q
-any_more [] w q = ?
-any_more (v ∷ ws) w q = ?
+any_more [] w q = or_false (is_place w.place q)
+any_more (v ∷ ws) w q =
+    let or_first : Bool → Bool = λ b. is_place v.place q || b in
+    ap or_first (any_more ws w q) ∙ or_assoc (is_place v.place q) (list_any (λ u. is_place u.place q) ws) (is_place w.place q)
 
 one_more : (x : List ℤ) (a b : Bool) → first_of_two (if b then Some x else None) (if a then Some x else None) ≡ (if a || b then Some x else None)
 one_more x true true = refl
@@ -75,3 +86,19 @@ laid_more ws w x xs =
 
 pub laid_nothing : (x : List ℤ) (xs : List Coll) → laid_colls (tile_where [] x) 0 xs ≡ xs
 laid_nothing x xs = laid_colls-none (tile_where [] x) 0 xs (λ j k a b. refl)
+
+pub laid_one_more : (P : Plan) (t : Task) (k : ℕ) (w : WriteBack) (x : List ℤ) (xs before after : List Coll) → before ≡ laid_colls (tile_where (writes_upto P t k) x) 0 xs →
+    writes_upto P t (k + 1) ≡ writes_upto P t k ++ w ∷ [] → after ≡ laid_colls (tile_at w.place x) 0 before → after ≡ laid_colls (tile_where (writes_upto P t (k + 1)) x) 0 xs
+laid_one_more P t k w x xs before after e f g =
+    g ∙ ap (λ (cs : List Coll). laid_colls (tile_at w.place x) 0 cs) e ∙ laid_more (writes_upto P t k) w x xs
+    ∙ ap (λ (ws : List WriteBack). laid_colls (tile_where ws x) 0 xs) (sym f)
+
+pub laid_no_more : (P : Plan) (t : Task) (k : ℕ) (x : List ℤ) (xs before after : List Coll) → before ≡ laid_colls (tile_where (writes_upto P t k) x) 0 xs →
+    writes_upto P t (k + 1) ≡ writes_upto P t k ++ [] → after ≡ before → after ≡ laid_colls (tile_where (writes_upto P t (k + 1)) x) 0 xs
+laid_no_more P t k x xs before after e f g =
+    g ∙ e ∙ ap (λ (ws : List WriteBack). laid_colls (tile_where ws x) 0 xs) (sym (append-nil (writes_upto P t k)) ∙ sym f)
+
+-- all dependences
+pub writes_all : (P : Plan) (t : Task) (k : ℕ) → length P.class.outs ≤ k → writes_upto P t k ≡ write_backs P t
+unfolding items_of
+writes_all P t k h = ap (λ (ds : List DepPlan). writes_among (or_none (all_items ds t))) (take_all k P.class.outs h)
