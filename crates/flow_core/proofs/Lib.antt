@@ -6,3 +6,5 @@ pub mod Ends
 pub mod Laid
 pub mod Put
 pub mod Writes
+pub mod All
+pub mod Order

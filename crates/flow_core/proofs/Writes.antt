@@ -82,7 +82,7 @@ pub laid_more : (ws : List WriteBack) (w : WriteBack) (x : List ℤ) (xs : List 
 laid_more ws w x xs =
     laid_colls-two (tile_at w.place x) (tile_where ws x) 0 xs
     ∙ laid_colls-same (λ q. first_of_two (tile_at w.place x q) (tile_where ws x q)) (tile_where (ws ++ w ∷ []) x) 0 xs
-        (λ q. one_more x (list_any (λ v. is_place v.place q) ws) (is_place w.place q) ∙ ap (λ (b : Bool). if b then Some x else None) (sym (any_more ws w q)))
+    (λ q. one_more x (list_any (λ v. is_place v.place q) ws) (is_place w.place q) ∙ ap (λ (b : Bool). if b then Some x else None) (sym (any_more ws w q)))
 
 pub laid_nothing : (x : List ℤ) (xs : List Coll) → laid_colls (tile_where [] x) 0 xs ≡ xs
 laid_nothing x xs = laid_colls-none (tile_where [] x) 0 xs (λ j k a b. refl)

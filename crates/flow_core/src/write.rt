@@ -88,8 +88,12 @@ fn write_all(
     let mut k = states.len();
     while k > 0 {
         k -= 1;
-        if let Some(tile) = given_tile(&states[k]) {
-            write_back(alloc, plan, &task(plan, lo, states.len(), k), tile, colls)?;
+        match given_tile(&states[k]) {
+            Some(tile) => {
+                let t = task(plan, lo, states.len(), k);
+                write_back(alloc, plan, &t, tile, colls)?;
+            }
+            None => {}
         }
     }
     Ok(())

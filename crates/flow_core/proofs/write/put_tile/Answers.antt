@@ -12,4 +12,4 @@ returns c =
     let j : c.args.place.now.j ≡ pos 0 = omega (arith, ints) in
     let l : c.args.place.now.coll < length c.args.colls.now = omega arith in
     put_place c.args.place.now (nat_abs c.args.place.now.i) c.args.tile c.args.colls.now c.index-colls-coll.result c.put_at.new.tiles i j l
-        (simp to_z-of_z at c.put_at.ensures)
+    (simp to_z-of_z at c.put_at.ensures)
