@@ -8,3 +8,4 @@ pub mod Put
 pub mod Writes
 pub mod All
 pub mod Order
+pub mod Presence
