@@ -9,3 +9,4 @@ pub mod Writes
 pub mod All
 pub mod Order
 pub mod Presence
+pub mod RowsOfAnswer
