@@ -10,3 +10,4 @@ pub mod All
 pub mod Order
 pub mod Presence
 pub mod RowsOfAnswer
+pub mod Complete
