@@ -1,13 +1,10 @@
 -- The write-backs of all tasks, from the last task to the first.
-use Rattle.std.proofs.Common.{◌≡◌, ◌≢◌, ℕ, zero, suc, ◌+◌, ◌-◌, ◌<◌, ◌≤◌, List, [], ◌∷◌, ◌++◌, length, drop, get_or, Bool, true, false, Option, Some, None, Result, Ok, Err, arith, refl, sym, ◌∙◌, ap, subst}
-use Rattle.std.specs.Prelude.{ℤ, pos, ◌+ℤ◌, IsOk, IsSome, if◌then◌else◌}
+use Rattle.std.proofs.Common.{◌≡◌, ℕ, ◌+◌, ◌<◌, ◌≤◌, List, [], ◌∷◌, length, drop, get_or, Bool, true, false, Option, Some, None, Result, Ok, Err, arith, refl, sym, ◌∙◌, ap}
+use Rattle.std.specs.Prelude.{ℤ, pos, ◌+ℤ◌, IsOk, if◌then◌else◌}
 use Rattle.std.specs.List.{list_any}
 use Rattle.std.proofs.lemmas.List.{drop_more, drop_all}
 use Rattle.std.proofs.lemmas.Int.{ints}
-use Rattle.ptg_base.specs.Task.{Task}
 use Rattle.ptg_base.specs.Lists.{IsIn}
-use Rattle.ptg_base.specs.declared.place.Place.{Place}
-use Rattle.ptg_base.specs.declared.edge.WriteBack.{WriteBack}
 use Rattle.ptg_base.specs.declared.edge.Item.{Item}
 use Rattle.term_core.specs.declared.fault.ExprFault.{ExprFault}
 use Rattle.plan_core.specs.declared.plan.Plan.{Plan}

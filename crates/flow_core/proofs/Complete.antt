@@ -1,5 +1,5 @@
 -- A run of all tasks, and the answer in each of its cases.
-use Rattle.std.proofs.Common.{◌≡◌, ◌≢◌, ℕ, zero, suc, ◌+◌, ◌<◌, ◌≤◌, List, [], ◌∷◌, ◌++◌, length, map, get_or, Bool, true, false, cond, Option, Some, None, unwrap_or, Result, Ok, Err, is_some, arith, refl, sym, ◌∙◌, ap, subst}
+use Rattle.std.proofs.Common.{◌≡◌, ◌≢◌, ℕ, zero, suc, ◌+◌, ◌<◌, ◌≤◌, List, [], ◌∷◌, ◌++◌, length, map, get_or, Bool, true, false, cond, Option, Some, None, unwrap_or, Ok, Err, is_some, arith, refl, sym, ◌∙◌, ap, subst}
 use Rattle.std.specs.Prelude.{ℤ, pos, ◌+ℤ◌, IsSome, ◌==◌, if◌then◌else◌}
 use Rattle.std.proofs.lemmas.Bool.Decides.{Decides-eqb}
 use Rattle.std.proofs.lemmas.List.Sums.{sum_by-cons, count_by-le-length}
@@ -94,9 +94,9 @@ unfolding final
 final_is P G lo S r e =
     let f : Task → Option Ended = λ t. ended P G t in
     let a : (q : Place) → writes_from P lo S q ≡ written_by P G (space P) q =
-        λ q. ap (λ (s : List (Option Ended)). writes_from P lo s q) (e ∙ ap (map f) r.tasks) ∙ written_range P G lo (length S) q ∙ ap (λ (T : List Task). written_by P G T q) (sym r.tasks) in
+    λ q. ap (λ (s : List (Option Ended)). writes_from P lo s q) (e ∙ ap (map f) r.tasks) ∙ written_range P G lo (length S) q ∙ ap (λ (T : List Task). written_by P G T q) (sym r.tasks) in
     let b : laid_colls (writes_from P lo S) 0 G.colls ≡ final_colls P G 0 G.colls =
-        laid_colls-same (writes_from P lo S) (written_by P G (space P)) 0 G.colls a ∙ colls_final P G 0 G.colls in
+    laid_colls-same (writes_from P lo S) (written_by P G (space P)) 0 G.colls a ∙ colls_final P G 0 G.colls in
     let make : List Coll → Given = λ cs. record { elems = G.elems; ints = G.ints; colls = cs } in
     ap make b
 

@@ -1,16 +1,10 @@
 -- Tiles laid over others, one at a time.
-use Rattle.std.proofs.Common.{◌≡◌, ◌≢◌, ℕ, zero, suc, ◌+◌, ◌-◌, ◌<◌, ◌≤◌, ◌⊎◌, inl, inr, List, [], ◌∷◌, ◌++◌, length, get_or, set, Bool, true, false, cond, ◌||◌, Option, Some, None, unwrap_or, arith, refl, sym, ◌∙◌, ap, subst, get_or-set_same, get_or-set_other, length-set}
-use Rattle.std.specs.Prelude.{ℤ, pos, if◌then◌else◌}
-use Rattle.std.specs.List.{list_any}
-use Rattle.std.proofs.lemmas.List.{same_lists}
-use Rattle.std.proofs.lemmas.Bool.{cases_eq}
-use Rattle.std.proofs.lemmas.Int.{ints}
+use Rattle.std.proofs.Common.{◌≡◌, ℕ, zero, suc, ◌+◌, ◌<◌, ◌≤◌, List, [], ◌∷◌, length, get_or, Option, Some, None, unwrap_or, arith, refl, ◌∙◌, ap}
+use Rattle.std.specs.Prelude.{ℤ, pos}
 use Rattle.ptg_base.specs.declared.place.Place.{Place}
-use Rattle.ptg_base.specs.declared.edge.WriteBack.{WriteBack}
 use Rattle.coll_data.specs.declared.given.Coll.{Coll}
 use Rattle.dep_iter.specs.Sources.{place}
-use Rattle.flow_core.specs.Final.{is_place}
-use Rattle.flow_core.specs.Laid.{laid_tiles, laid_coll, laid_colls, tile_at, tile_where, first_of_two}
+use Rattle.flow_core.specs.Laid.{laid_tiles, laid_coll, laid_colls, first_of_two}
 
 -- what is laid is one thing by what it has at each place
 laid_tiles-same : (h g : Place → Option (List ℤ)) (c i : ℕ) (ts : List (List ℤ)) → ((q : Place) → h q ≡ g q) → laid_tiles h c i ts ≡ laid_tiles g c i ts

@@ -1,6 +1,6 @@
 -- Rows that come in the order of a range are in task order.
-use Rattle.std.proofs.Common.{◌≡◌, ◌≢◌, ℕ, zero, suc, ◌+◌, ◌<◌, ◌≤◌, ◌⊎◌, inl, inr, List, [], ◌∷◌, ◌++◌, map, Bool, true, false, ◌&&◌, ◌||◌, arith, refl, sym, ◌∙◌, ap, subst}
-use Rattle.std.specs.Prelude.{ℤ, pos, ◌+ℤ◌, ◌<ℤ◌, int_lt, flat_map, nat_lt, ◌==◌, if◌then◌else◌}
+use Rattle.std.proofs.Common.{◌≡◌, ℕ, zero, suc, ◌⊎◌, inl, inr, List, [], ◌∷◌, ◌++◌, map, Bool, true, false, ◌&&◌, ◌||◌, arith, refl, sym, ◌∙◌, ap, subst}
+use Rattle.std.specs.Prelude.{ℤ, pos, ◌+ℤ◌, ◌<ℤ◌, int_lt, flat_map, if◌then◌else◌}
 use Rattle.std.specs.Ordering.{int_eq}
 use Rattle.std.proofs.lemmas.Bool.Decides.{Decides-int_eq}
 use Rattle.std.proofs.lemmas.Int.{ints}
@@ -43,7 +43,7 @@ unfolding numbers_from
 insert_first {A} task g x v w zero of h e = refl
 insert_first {A} task g x v w (suc n) of h e =
     insert_step task x v w (g (task_of w)) (flat_map g (map task_of (numbers_from (w +ℤ pos 1) n))) h e
-        (insert_first task g x v (w +ℤ pos 1) n of (omega (arith, ints)) e) (of (task_of w))
+    (insert_first task g x v (w +ℤ pos 1) n of (omega (arith, ints)) e) (of (task_of w))
 
 order_step : {A : Type 0} (task : A → Task) (v : ℤ) (here rest : List A) → in_task_order task rest ≡ rest → ((x : A) → task x ≡ task_of v → insert_by task x rest ≡ x ∷ rest) →
     (here ≡ []) ⊎ ((y : A) × (here ≡ y ∷ []) × (task y ≡ task_of v)) → in_task_order task (here ++ rest) ≡ here ++ rest
@@ -59,4 +59,4 @@ unfolding numbers_from
 in_order {A} task g v zero of = refl
 in_order {A} task g v (suc n) of =
     order_step task v (g (task_of v)) (flat_map g (map task_of (numbers_from (v +ℤ pos 1) n))) (in_order task g (v +ℤ pos 1) n of)
-        (λ x e. insert_first task g x v (v +ℤ pos 1) n of (omega (arith, ints)) e) (of (task_of v))
+    (λ x e. insert_first task g x v (v +ℤ pos 1) n of (omega (arith, ints)) e) (of (task_of v))

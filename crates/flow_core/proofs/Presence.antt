@@ -1,19 +1,18 @@
 -- A body keeps the tile that it starts on.
-use Rattle.std.proofs.Common.{◌≡◌, ℕ, zero, suc, ◌-◌, List, [], ◌∷◌, Bool, true, false, Option, Some, None, Result, Ok, Err, refl, sym, ◌∙◌, ap, subst}
-use Rattle.std.specs.Prelude.{ℤ, pos, ◌==◌, IsSome, slice_set, if◌then◌else◌}
+use Rattle.std.proofs.Common.{◌≡◌, ℕ, zero, suc, ◌-◌, List, [], ◌∷◌, Bool, true, false, Option, Some, None, Result, Ok, Err, refl, sym, ◌∙◌, subst}
+use Rattle.std.specs.Prelude.{ℤ, ◌==◌, IsSome, slice_set, if◌then◌else◌}
 use Rattle.ptg_base.specs.Task.{Task}
 use Rattle.term_core.specs.Value.{after}
-use Rattle.term_core.specs.declared.body.Body.{Body}
 use Rattle.term_core.specs.declared.body.Stmt.{Stmt}
 use Rattle.term_core.specs.declared.body.Stmt.TheVariants.{Put}
 use Rattle.term_core.specs.declared.body.Trap.{Trap}
 use Rattle.term_core.specs.declared.body.Trap.TheVariants.{Budget}
-use Rattle.body_eval.specs.Element.{tile_of, written}
+use Rattle.body_eval.specs.Element.{written}
 use Rattle.body_eval.specs.Meaning.{body_value, put, statement_meaning, run, body_meaning, task_budget}
 use Rattle.plan_core.specs.declared.plan.Plan.{Plan}
 use Rattle.coll_data.specs.declared.given.Given.{Given}
 use Rattle.dep_iter.specs.Sources.{source_of}
-use Rattle.flow_core.specs.Backward.{Ended, output, input, ended_on, ended_within}
+use Rattle.flow_core.specs.Backward.{output, input, ended_on, ended_within}
 
 -- one tile, and no more
 abbrev IsTile : List (Option (List ℤ)) → Type 0

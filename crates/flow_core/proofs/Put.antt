@@ -1,6 +1,6 @@
 -- One tile laid at its place.
-use Rattle.std.proofs.Common.{◌≡◌, ◌≢◌, ℕ, zero, suc, ◌+◌, ◌-◌, ◌<◌, ◌≤◌, ◌⊎◌, inl, inr, List, [], ◌∷◌, length, get_or, set, Bool, true, false, ◌&&◌, Option, Some, None, unwrap_or, arith, refl, sym, ◌∙◌, ap, subst, get_or-set_same, get_or-set_other, length-set}
-use Rattle.std.specs.Prelude.{ℤ, pos, negsuc, ◌<ℤ◌, ◌==◌, if◌then◌else◌}
+use Rattle.std.proofs.Common.{◌≡◌, ◌≢◌, ℕ, ◌+◌, ◌<◌, ◌≤◌, ◌⊎◌, inl, inr, List, length, get_or, set, Bool, true, false, ◌&&◌, Option, Some, None, unwrap_or, arith, refl, sym, ◌∙◌, ap, subst, get_or-set_same, get_or-set_other, length-set}
+use Rattle.std.specs.Prelude.{ℤ, pos, ◌<ℤ◌, ◌==◌, if◌then◌else◌}
 use Rattle.std.specs.Ordering.{int_eq}
 use Rattle.std.proofs.lemmas.List.{same_lists, get_or_default}
 use Rattle.std.proofs.lemmas.Bool.{cases_eq}

@@ -1,20 +1,17 @@
 -- The rows of an answer, from how all tasks end.
-use Rattle.std.proofs.Common.{◌≡◌, ◌≢◌, ℕ, zero, suc, ◌+◌, ◌<◌, ◌≤◌, ◌⊎◌, inl, inr, List, [], ◌∷◌, ◌++◌, length, map, get_or, Bool, true, false, cond, Option, Some, None, Result, Ok, Err, is_some, arith, refl, sym, ◌∙◌, ap, subst}
-use Rattle.std.specs.Prelude.{ℤ, pos, ◌+ℤ◌, count_by, flat_map, filter, IsSome, nat_lt, if◌then◌else◌}
-use Rattle.std.specs.List.{sum_by}
+use Rattle.std.proofs.Common.{◌≡◌, ℕ, zero, suc, ◌+◌, ◌<◌, ◌⊎◌, inl, inr, List, [], ◌∷◌, ◌++◌, length, map, get_or, Bool, true, false, cond, Option, Some, None, Result, Ok, Err, is_some, arith, refl, sym, ◌∙◌, ap, subst}
+use Rattle.std.specs.Prelude.{ℤ, pos, ◌+ℤ◌, count_by, flat_map, nat_lt, if◌then◌else◌}
 use Rattle.std.proofs.lemmas.Int.{ints}
-use Rattle.std.proofs.lemmas.List.Sums.{length-filter, sum_by-cons, count_by-le-length}
+use Rattle.std.proofs.lemmas.List.Sums.{length-filter, sum_by-cons}
 use Rattle.ptg_base.specs.Task.{Task}
-use Rattle.ptg_base.specs.Lists.{IsIn}
 use Rattle.ptg_base.specs.TaskOrder.{in_task_order}
 use Rattle.ptg_base.specs.declared.edge.Edge.{Edge}
 use Rattle.term_core.specs.declared.fault.ExprFault.{ExprFault}
-use Rattle.term_core.specs.declared.body.Trap.{Trap}
 use Rattle.plan_core.specs.declared.plan.Plan.{Plan}
 use Rattle.coll_data.specs.declared.given.Given.{Given}
 use Rattle.dep_iter.specs.declared.source.Source.{Source}
 use Rattle.dep_iter.specs.declared.source.Source.TheVariants as source
-use Rattle.dep_iter.specs.Sources.{source_of, edges_from, in_edges, goal}
+use Rattle.dep_iter.specs.Sources.{source_of, edges_from, goal}
 use Rattle.dep_iter.specs.Space.{space, task_of, numbers_from, IsTask}
 use Rattle.flow_core.specs.declared.outcome.TrapRow.{TrapRow}
 use Rattle.flow_core.specs.declared.outcome.WaitRow.{WaitRow}
@@ -23,8 +20,8 @@ use Rattle.flow_core.specs.Backward.{Ended, output, ended}
 use Rattle.flow_core.specs.States.{IsRange, task_at, known, count}
 use Rattle.flow_core.specs.Progress.{traps_from, arrived_known, waits_known, waits_from}
 use Rattle.flow_core.proofs.Known.{task_place, source_task}
-use Rattle.flow_core.proofs.Order.{IsOfTask, in_order}
-use Rattle.flow_core.proofs.Places.{known_at, in_range}
+use Rattle.flow_core.proofs.Order.{in_order}
+use Rattle.flow_core.proofs.Places.{known_at}
 
 -- the tasks of a range
 abbrev pub tasks : ℤ → ℕ → List Task
@@ -79,7 +76,7 @@ arrived_by P f g (Err fault) same = refl
 arrived_is : (P : Plan) (G : Given) (lo : ℤ) (S : List (Option Ended)) (k : ℕ) → IsRange P lo (length S) → S ≡ map (λ t. ended P G t) (space P) → k < length S → arrived_known P lo S (task_at lo k) ≡ arrived P G (task_at lo k)
 arrived_is P G lo S k r e h =
     arrived_by P (known lo S) (λ t. ended P G t) (source_of P (task_at lo k))
-        (λ d is. known_is P G lo S d.from r e (source_task P lo (length S) k d r h is))
+    (λ d is. known_is P G lo S d.from r e (source_task P lo (length S) k d r h is))
 
 waits_row : (P : Plan) (G : Given) (lo : ℤ) (S : List (Option Ended)) (t : Task) (o : Option Ended) → arrived_known P lo S t ≡ arrived P G t → waits_known P lo S t o ≡ wait_rows P G t o
 waits_row P G lo S t (Some e) a = refl
@@ -96,9 +93,9 @@ waits_flat P G lo S f v (suc n) h =
     let here : arrived_known P lo S (task_of v) ≡ arrived P G (task_of v) = subst (λ w. arrived_known P lo S (task_of w) ≡ arrived P G (task_of w)) z (h 0 (omega arith)) in
     let first : waits_known P lo S (task_of v) (f (task_of v)) ≡ wait_rows P G (task_of v) (f (task_of v)) = waits_row P G lo S (task_of v) (f (task_of v)) here in
     let rest : waits_from P lo S (v +ℤ pos 1) (map f (tasks (v +ℤ pos 1) n)) ≡ flat_map (λ t. wait_rows P G t (f t)) (tasks (v +ℤ pos 1) n) =
-        waits_flat P G lo S f (v +ℤ pos 1) n
-            (λ k lt. let y : v +ℤ pos (suc k) ≡ (v +ℤ pos 1) +ℤ pos k = omega (arith, ints) in
-                subst (λ w. arrived_known P lo S (task_of w) ≡ arrived P G (task_of w)) y (h (suc k) (omega arith))) in
+    waits_flat P G lo S f (v +ℤ pos 1) n
+    (λ k lt. let y : v +ℤ pos (suc k) ≡ (v +ℤ pos 1) +ℤ pos k = omega (arith, ints) in
+    subst (λ w. arrived_known P lo S (task_of w) ≡ arrived P G (task_of w)) y (h (suc k) (omega arith))) in
     ap (λ (l : List WaitRow). l ++ waits_from P lo S (v +ℤ pos 1) (map f (tasks (v +ℤ pos 1) n))) first
     ∙ ap (λ (l : List WaitRow). wait_rows P G (task_of v) (f (task_of v)) ++ l) rest
 

@@ -1,11 +1,10 @@
 -- The write-backs of a task, one out dependence after another.
-use Rattle.std.proofs.Common.{◌≡◌, ◌≢◌, ℕ, zero, suc, ◌+◌, ◌<◌, ◌≤◌, List, [], ◌∷◌, ◌++◌, length, take, Bool, true, false, ◌||◌, Option, Some, None, Result, Ok, Err, arith, refl, sym, ◌∙◌, ap, subst, append-nil}
+use Rattle.std.proofs.Common.{◌≡◌, ℕ, zero, suc, ◌+◌, ◌≤◌, List, [], ◌∷◌, ◌++◌, length, take, Bool, true, false, ◌||◌, Option, Some, None, Result, Ok, Err, refl, sym, ◌∙◌, ap, append-nil}
 use Rattle.std.proofs.lemmas.List.{take_all}
-use Rattle.std.specs.Prelude.{ℤ, pos, IsOk, if◌then◌else◌}
+use Rattle.std.specs.Prelude.{ℤ, IsOk, if◌then◌else◌}
 use Rattle.std.specs.List.{list_any}
 use Rattle.ptg_base.specs.Task.{Task}
 use Rattle.ptg_base.specs.declared.place.Place.{Place}
-use Rattle.ptg_base.specs.declared.edge.Edge.{Edge}
 use Rattle.ptg_base.specs.declared.edge.WriteBack.{WriteBack}
 use Rattle.ptg_base.specs.declared.edge.Item.{Item}
 use Rattle.ptg_base.specs.declared.edge.Item.TheVariants as item
@@ -15,8 +14,8 @@ use Rattle.plan_core.specs.declared.class.DepPlan.{DepPlan}
 use Rattle.plan_core.specs.declared.plan.Plan.{Plan}
 use Rattle.coll_data.specs.declared.given.Coll.{Coll}
 use Rattle.dep_iter.specs.Steps.{◌>>=◌}
-use Rattle.dep_iter.specs.Sources.{chosen, place}
-use Rattle.dep_iter.specs.Items.{items_at, all_items, items_of, or_none, writes_among, joined, listed, write_backs}
+use Rattle.dep_iter.specs.Sources.{chosen}
+use Rattle.dep_iter.specs.Items.{items_at, all_items, items_of, or_none, writes_among, joined, write_backs}
 use Rattle.flow_core.specs.Final.{is_place}
 use Rattle.flow_core.specs.Laid.{laid_colls, tile_at, tile_where, first_of_two, writes_upto}
 use Rattle.flow_core.proofs.Laid.{laid_colls-same, laid_colls-two, laid_colls-none}

@@ -1,5 +1,5 @@
 -- Tiles that are laid over those of collections.
-use Rattle.std.specs.Prelude.{ℕ, suc, ◌+◌, ℤ, pos, Bool, List, [], ◌∷◌, take, Option, Some, None, unwrap_or, if◌then◌else◌}
+use Rattle.std.specs.Prelude.{ℕ, suc, ℤ, pos, List, [], ◌∷◌, take, Option, Some, None, unwrap_or, if◌then◌else◌}
 use Rattle.std.specs.List.{list_any}
 use Rattle.ptg_base.specs.Task.{Task}
 use Rattle.ptg_base.specs.declared.place.Place.{Place}
@@ -8,7 +8,7 @@ use Rattle.plan_core.specs.declared.plan.Plan.{Plan}
 use Rattle.coll_data.specs.declared.given.Coll.{Coll}
 use Rattle.dep_iter.specs.Sources.{place}
 use Rattle.dep_iter.specs.Items.{all_items, or_none, writes_among}
-use Rattle.flow_core.specs.Final.{is_place, is_written_by}
+use Rattle.flow_core.specs.Final.{is_place}
 
 -- the tiles of a collection from index i on, each with what h has for its place, if it has something
 abbrev pub laid_tiles : (Place → Option (List ℤ)) → ℕ → ℕ → List (List ℤ) → List (List ℤ)

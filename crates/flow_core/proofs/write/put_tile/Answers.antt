@@ -1,4 +1,4 @@
-use Rattle.std.proofs.Common.{◌≡◌, ◌<◌, length, set, get_or, arith, rules, SFits, w64}
+use Rattle.std.proofs.Common.{◌≡◌, ◌<◌, length, arith, rules, SFits, w64}
 use Rattle.std.specs.Prelude.{pos, nat_abs}
 use Rattle.std.proofs.lemmas.Int.{ints, to_z-of_z}
 use Rattle.flow_core.proofs.Put.{put_place}

@@ -1,8 +1,7 @@
-use Rattle.std.proofs.Common.{◌≡◌, ◌≤◌, List, [], ◌∷◌, Some, Ok, refl, sym, ◌∙◌, ap, arith, subst}
+use Rattle.std.proofs.Common.{List, sym, ◌∙◌, ap, arith}
 use Rattle.std.specs.Prelude.{ℤ}
 use Rattle.ptg_base.specs.declared.edge.WriteBack.{WriteBack}
-use Rattle.coll_data.specs.declared.given.Coll.{Coll}
-use Rattle.flow_core.specs.Laid.{laid_colls, tile_at, tile_where, writes_upto}
+use Rattle.flow_core.specs.Laid.{laid_colls, tile_at, tile_where}
 use Rattle.flow_core.proofs.Writes.{laid_nothing, laid_one_more, laid_no_more, writes_all}
 use Rattle.flow_core.proofs.write.write_back.Goals as goal
 use Rattle.flow_core.proofs.write.write_back.Goals.{in-Some+in_ok-copy, in_default}
