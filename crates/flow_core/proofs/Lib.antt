@@ -11,3 +11,5 @@ pub mod Order
 pub mod Presence
 pub mod RowsOfAnswer
 pub mod Complete
+pub mod Targets
+pub mod Tried

@@ -5,3 +5,4 @@ pub mod Answer
 pub mod States
 pub mod Progress
 pub mod Laid
+pub mod Pending
