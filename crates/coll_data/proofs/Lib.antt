@@ -1,4 +1,5 @@
 pub mod Digits
+pub mod Lines
 pub mod Opening
 pub mod Refusals
 pub mod Tiles

@@ -6,6 +6,7 @@ mod fault;
 mod field;
 mod given;
 mod growing;
+mod line;
 mod parts;
 mod read;
 
