@@ -22,13 +22,13 @@ tile_word old new word rest adds = second word (codes "tile") rest (adds.name �
 apart : (a b : List ℕ) → a ≡ b → (get_or a 0 0 ≡ get_or b 0 0)
 apart a b same = ap (λ z. get_or z 0 0) same
 
-int_is_no_coll : codes "int" ≡ codes "coll" → ⊥
+pub int_is_no_coll : codes "int" ≡ codes "coll" → ⊥
 int_is_no_coll same = let heads : ◌≡◌ {A = ℕ} 105 99 = apart (codes "int") (codes "coll") same in omega arith
 
-int_is_no_tile : codes "int" ≡ codes "tile" → ⊥
+pub int_is_no_tile : codes "int" ≡ codes "tile" → ⊥
 int_is_no_tile same = let heads : ◌≡◌ {A = ℕ} 105 116 = apart (codes "int") (codes "tile") same in omega arith
 
-coll_is_no_tile : codes "coll" ≡ codes "tile" → ⊥
+pub coll_is_no_tile : codes "coll" ≡ codes "tile" → ⊥
 coll_is_no_tile same = let heads : ◌≡◌ {A = ℕ} 99 116 = apart (codes "coll") (codes "tile") same in omega arith
 
 -- ---- a line that begins with a word is of that word's kind

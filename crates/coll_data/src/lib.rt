@@ -6,10 +6,12 @@ mod fault;
 mod field;
 mod given;
 mod growing;
+mod laws;
 mod line;
 mod parts;
 mod read;
 
 pub use fault::{DataCode, DataFault, DataRefusal};
 pub use given::{Coll, Given, Int};
+pub use laws::one_data;
 pub use read::read_data;
