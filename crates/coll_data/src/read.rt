@@ -5,6 +5,7 @@ ghost use Rattle.coll_data.specs.declared.fault.DataRefusal.TheVariants.{Fault, 
 ghost use Rattle.coll_data.specs.declared.given.Given.{Given};
 ghost use Rattle.coll_data.specs.Data.{IsData, IsElems, begun, data_of, fields_of, not_built};
 ghost use Rattle.coll_data.specs.Growing.{draft_of};
+ghost use Rattle.coll_data.specs.Reading.{HasNoData};
 ghost use Rattle.coll_data.specs.Whole.{HasWholeTiles};
 
 use crate::fault::DataRefusal;
@@ -80,6 +81,28 @@ fn finish(all: Growing) -> Given
     }
 }
 
+fn read(alloc: Global, bytes: &[u8]) -> Result<Given, DataRefusal>
+    ensures found { IfOk result (λ given. IsData bytes.now given) }
+    ensures refused { (fault : DataFault) → result ≡ Err (Fault fault) → (fault ≡ not_built) × HasNoData bytes.now }
+{
+    if bytes.len() > 16_777_216 {
+        return Err(not_built());
+    }
+    let Some((first, behind)) = next_line(bytes) else {
+        return Err(not_built());
+    };
+    let mut all = start(alloc, first)?;
+    let mut rest = behind;
+    while rest.len() > 0 {
+        let Some((line, left)) = next_line(rest) else {
+            return Err(not_built());
+        };
+        add_line(alloc, &mut all, line)?;
+        rest = left;
+    }
+    Ok(finish(all))
+}
+
 /// The data that a text spells. A text that spells none is refused.
 pub fn read_data(alloc: Global, bytes: &[u8]) -> Result<Given, DataRefusal>
     // What is found the text spells.
@@ -91,5 +114,5 @@ pub fn read_data(alloc: Global, bytes: &[u8]) -> Result<Given, DataRefusal>
     // It is refused only where it spells none.
     ensures refused { (fault : DataFault) → result ≡ Err (Fault fault) → (fault ≡ not_built) × ((given : Given) → IsData bytes.now given → ⊥) }
 {
-    Err(DataRefusal::OutOfMemory)
+    read(alloc, bytes)
 }
