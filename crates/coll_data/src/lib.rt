@@ -9,6 +9,7 @@ mod growing;
 mod laws;
 mod line;
 mod parts;
+mod place;
 mod read;
 
 pub use fault::{DataCode, DataFault, DataRefusal};
