@@ -1,8 +1,8 @@
 -- A text is cut at its first LF, and the first line says how many numbers a tile has.
-use Rattle.std.proofs.Common.{Bor, ◌≡◌, ℕ, ◌+◌, ◌-◌, ◌<◌, ◌≤◌, Bool, true, false, not, cond, eqb, ltb, ◌⊎◌, ℤ, pos, negsuc, nat_abs, int_lt, w64, to_z, of_z, List, [], ◌∷◌, length, take, drop, get_or, codes, Option, Some, None, refl, sym, ◌∙◌, ap, subst, inl, inr, arith}
+use Rattle.std.proofs.Common.{Bor, ◌≡◌, ℕ, ◌+◌, ◌-◌, ◌<◌, ◌≤◌, Bool, true, false, not, cond, eqb, ltb, ◌⊎◌, ℤ, pos, negsuc, nat_abs, int_lt, w64, to_z, of_z, List, [], ◌∷◌, length, take, drop, get_or, codes, Some, None, refl, sym, ◌∙◌, ap, subst, inl, inr, arith}
 use Rattle.std.specs.List.{slice_split, position, position_or_len, All}
 use Rattle.std.proofs.lemmas.Bool.{ltb-true, ltb-false, not-true, false≢true}
-use Rattle.std.proofs.lemmas.Int.{to_z-of_z, ints}
+use Rattle.std.proofs.lemmas.Int.{to_z-of_z}
 use Rattle.std.proofs.lemmas.List.{take_rest}
 use Rattle.std.proofs.lemmas.List.Splits.{slice_split_first, slice_split_none}
 use Rattle.std.proofs.lemmas.List.Sums.{prefix_len_passes}
@@ -24,11 +24,12 @@ cut : (text : List ℕ) (n : ℕ) → position is_lf text ≡ Some n → (n < le
 cut text n found =
     let m = position_or_len is_lf text in
     elim (chosen (ltb m (length text)) (Some m) None (Some n) found) [
-      inl here ↦
-        let within : m < length text = ltb-true m (length text) here.0 in
-        let same : m ≡ n = same_place m n here.1 in
-        (omega (arith, within, same),
-          slice_split_first is_lf text 0 within ∙ (λ i. take (same i) text ∷ slice_split is_lf (drop (same i + 1) text)))
+      | inl here ↦
+          let within : m < length text = ltb-true m (length text) here.0 in
+          let same : m ≡ n = same_place m n here.1 in (
+            omega (arith, within, same),
+            slice_split_first is_lf text 0 within ∙ (λ i. take (same i) text ∷ slice_split is_lf (drop (same i + 1) text)),
+          )
       | inr gone ↦ let never : None ≡ Some n = gone.1 in cc
     ]
 
@@ -41,12 +42,12 @@ pub no_line : (text : List ℕ) → None ≡ position is_lf text → slice_split
 no_line text none =
     let m = position_or_len is_lf text in
     elim (chosen (ltb m (length text)) (Some m) None None (sym none)) [
-      inl here ↦ let never : Some m ≡ None = here.1 in cc
+      | inl here ↦ let never : Some m ≡ None = here.1 in cc
       | inr gone ↦
-        let past : length text ≤ m = ltb-false m (length text) gone.0 in
-        let all : All (λ b. is_lf b ≡ false) text = λ k d within.
-            not-true (is_lf (get_or text k d)) (prefix_len_passes (λ b. not (is_lf b)) text k d (omega (arith, past, within))) in
-        slice_split_none is_lf text all
+          let past : length text ≤ m = ltb-false m (length text) gone.0 in
+          let all : All (λ b. is_lf b ≡ false) text = λ k d within.
+          not-true (is_lf (get_or text k d)) (prefix_len_passes (λ b. not (is_lf b)) text k d (omega (arith, past, within))) in
+          slice_split_none is_lf text all
     ]
 
 -- ---- the first line

@@ -1,6 +1,6 @@
 -- From line to line: what the rest of a text makes of the data so far.
-use Rattle.std.proofs.Common.{◌≡◌, ℕ, ◌+◌, ◌<◌, ◌≤◌, eqb, List, [], ◌∷◌, ◌++◌, length, refl, sym, ◌∙◌, ap, subst, arith, length-append}
-use Rattle.std.specs.List.{slice_split, count_by}
+use Rattle.std.proofs.Common.{◌≡◌, ℕ, ◌<◌, ◌≤◌, List, [], ◌∷◌, ◌++◌, length, refl, sym, ◌∙◌, ap, subst, arith, length-append}
+use Rattle.std.specs.List.{slice_split}
 use Rattle.std.proofs.lemmas.List.{nil_from_length}
 use Rattle.std.proofs.lemmas.List.Splits.{length-slice_split}
 use Rattle.coll_data.specs.declared.given.Given.{Given}
@@ -38,7 +38,7 @@ first_lined text line left other lines cut lined =
 pub continues_first : (text first left : List ℕ) (elems : ℕ) (draft : Draft) → length text ≤ 16777216 → IsCut text first left → IsElems (fields_of first) elems → draft ≡ begun elems → Continues text draft left
 continues_first text first left elems draft small cut is begins = record {
   whole = λ lines last lined adds.
-    (small, first ∷ lines, cons_lined text first left lines cut lined, (elems, last, is, subst (λ d. AddsAll d lines last) begins adds, refl));
+      (small, first ∷ lines, cons_lined text first left lines cut lined, (elems, last, is, subst (λ d. AddsAll d lines last) begins adds, refl));
   others = λ given spelled. from_lines given spelled.1 spelled.2 spelled.3;
 }
   where

@@ -1,5 +1,5 @@
 -- Which line it is, by its first field.
-use Rattle.std.proofs.Common.{Bor, map, take, drop, ◌-◌, ◌≡◌, ℕ, ◌+◌, ◌<◌, ◌≤◌, Bool, true, false, eqb, List, [], ◌∷◌, length, get_or, codes, bytes_eq, refl, sym, ◌∙◌, ap, subst, inl, inr, arith}
+use Rattle.std.proofs.Common.{Bor, take, drop, ◌-◌, ◌≡◌, ℕ, ◌<◌, ◌≤◌, Bool, true, List, [], ◌∷◌, length, get_or, codes, bytes_eq, sym, ◌∙◌, ap, subst, inl, inr, arith}
 use Rattle.std.specs.Cmp.Lexicographic.{same_text}
 use Rattle.std.proofs.lemmas.List.{take_rest, nil_from_length}
 use Rattle.coll_data.proofs.Opening.{texts_of, field_at}

@@ -1,14 +1,13 @@
 -- A text spells one data at most: each line makes one new data of the old ones.
-use Rattle.std.proofs.Common.{◌≡◌, ℕ, ◌+◌, ◌<◌, ◌≤◌, Bool, true, false, ◌⊎◌, ℤ, pos, neg_ℤ, List, [], ◌∷◌, ◌++◌, length, get_or, set, slice_get, bytes_eq, replicate, codes, Option, Some, None, refl, sym, ◌∙◌, ap, subst, inl, inr, arith, IsTrue}
-use Rattle.std.specs.List.{slice_split, position}
+use Rattle.std.proofs.Common.{◌≡◌, ℕ, ◌+◌, true, false, ◌⊎◌, ℤ, pos, neg_ℤ, List, [], ◌∷◌, ◌++◌, set, slice_get, bytes_eq, replicate, codes, Some, refl, sym, ◌∙◌, ap, subst, inl, inr, IsTrue}
+use Rattle.std.specs.List.{position}
 use Rattle.std.proofs.lemmas.Bool.{false≢true}
 use Rattle.std.proofs.lemmas.List.{append_cancel_right}
 use Rattle.coll_data.specs.declared.given.Coll.{Coll}
 use Rattle.coll_data.specs.declared.given.Given.{Given}
-use Rattle.coll_data.specs.declared.given.Int.{Int}
-use Rattle.coll_data.specs.Data.{Draft, AddsInt, AddsColl, AddsTile, Adds, AddsAll, IsFree, Opens, IsElems, AreData, IsData, IsLined, OneData, opened, begun, data_of, fields_of}
+use Rattle.coll_data.specs.Data.{Draft, AddsInt, AddsColl, AddsTile, Adds, AddsAll, IsFree, IsElems, AreData, OneData, opened, begun, data_of, fields_of}
 use Rattle.coll_data.specs.Fields.{are_digits, digits_value, IsWhole, AreWhole}
-use Rattle.coll_data.proofs.Lines.{int_word, coll_word, tile_word, only_int, only_coll, only_tile, int_is_no_coll, int_is_no_tile, coll_is_no_tile}
+use Rattle.coll_data.proofs.Lines.{int_is_no_coll, int_is_no_tile, coll_is_no_tile}
 
 -- ---- whole numbers
 
@@ -64,12 +63,12 @@ coll_once old a b fields one other =
     let same = same_three (codes "coll") one.name one.number (codes "coll") other.name other.number [] [] (sym one.spelled ∙ other.spelled) in
     let count : one.count ≡ other.count = count_once one.number other.number one.count other.count same.1 one.whole other.whole in
     one.adds
-      ∙ (λ i. record old {
-        colls = old.colls ++ record { name = same.0 i; tiles = replicate (count i) (replicate old.elems (pos 0)) } ∷ [];
-        given = old.given ++ replicate (count i) false ∷ [];
-        tiles = old.tiles + count i;
-      })
-      ∙ sym other.adds
+    ∙ (λ i. record old {
+      colls = old.colls ++ record { name = same.0 i; tiles = replicate (count i) (replicate old.elems (pos 0)) } ∷ [];
+      given = old.given ++ replicate (count i) false ∷ [];
+      tiles = old.tiles + count i;
+    })
+    ∙ sym other.adds
 
 same_some : {X : Type 0} (x y : X) → Some x ≡ Some y → x ≡ y
 same_some x y same = cc
@@ -89,15 +88,15 @@ tile_once old a b fields one other =
     let same = same_three (codes "tile") one.name one.number (codes "tile") other.name other.number one.values other.values (sym one.spelled ∙ other.spelled) in
     let parts = free_once old one.name other.name one.number other.number one.at other.at one.place other.place same.0 same.1 one.free other.free in
     let tile : one.tile ≡ other.tile =
-        one.opens.made
-          ∙ ap (opened old.elems) (numbers_once other.values one.opens.numbers other.opens.numbers (subst (λ v. AreWhole v one.opens.numbers) same.2 one.opens.whole) other.opens.whole)
-          ∙ sym other.opens.made in
+    one.opens.made
+    ∙ ap (opened old.elems) (numbers_once other.values one.opens.numbers other.opens.numbers (subst (λ v. AreWhole v one.opens.numbers) same.2 one.opens.whole) other.opens.whole)
+    ∙ sym other.opens.made in
     one.adds
-      ∙ (λ i. record old {
-        colls = set old.colls (parts.0 i) (record (parts.2 i) { tiles = set (parts.2 i).tiles (parts.1 i) (tile i) });
-        given = set old.given (parts.0 i) (set (parts.3 i) (parts.1 i) true);
-      })
-      ∙ sym other.adds
+    ∙ (λ i. record old {
+      colls = set old.colls (parts.0 i) (record (parts.2 i) { tiles = set (parts.2 i).tiles (parts.1 i) (tile i) });
+      given = set old.given (parts.0 i) (set (parts.3 i) (parts.1 i) true);
+    })
+    ∙ sym other.adds
 
 same_word : (fields : List (List ℕ)) (word other : List ℕ) (rest more : List (List ℕ)) → fields ≡ word ∷ rest → fields ≡ other ∷ more → word ≡ other
 same_word fields word other rest more one two = let both : word ∷ rest ≡ other ∷ more = sym one ∙ two in cc

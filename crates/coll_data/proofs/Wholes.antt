@@ -1,9 +1,9 @@
 -- Each tile of what a text spells has as many numbers as the first line says.
-use Rattle.std.proofs.Common.{◌≡◌, ℕ, suc, zero, ◌+◌, ◌-◌, ◌<◌, ◌≤◌, ℤ, pos, List, [], ◌∷◌, ◌++◌, length, set, slice_get, replicate, Option, Some, None, refl, sym, ◌∙◌, ap, subst, inl, inr, arith}
+use Rattle.std.proofs.Common.{◌≡◌, ℕ, suc, zero, ◌≤◌, ℤ, pos, List, [], ◌∷◌, ◌++◌, length, set, slice_get, replicate, Some, refl, sym, ◌∙◌, ap, subst, inl, inr, arith}
 use Rattle.std.proofs.lemmas.List.{length-replicate}
 use Rattle.coll_data.specs.declared.given.Coll.{Coll}
 use Rattle.coll_data.specs.declared.given.Given.{Given}
-use Rattle.coll_data.specs.Data.{Draft, AddsInt, AddsColl, AddsTile, Adds, AddsAll, AreData, IsData, begun, data_of, fields_of}
+use Rattle.coll_data.specs.Data.{Draft, Adds, AddsAll, AreData, IsData, begun, data_of, fields_of}
 use Rattle.coll_data.specs.Whole as tiles
 use Rattle.coll_data.proofs.Opening.{length_opened}
 
@@ -39,7 +39,7 @@ add_is_whole : (elems : ℕ) (old new : Draft) (fields : List (List ℕ)) → Is
 add_is_whole elems old new fields is (inl int) = subst (IsWholeDraft elems) (sym int.adds) (record { size = is.size; whole = is.whole })
 add_is_whole elems old new fields is (inr (inl coll)) =
     let zeros : tiles.AreWhole elems (replicate coll.count (replicate old.elems (pos 0))) =
-        subst (λ n. tiles.AreWhole elems (replicate coll.count (replicate n (pos 0)))) (sym is.size) (zeros_are_whole elems coll.count) in
+    subst (λ n. tiles.AreWhole elems (replicate coll.count (replicate n (pos 0)))) (sym is.size) (zeros_are_whole elems coll.count) in
     subst (IsWholeDraft elems) (sym coll.adds)
     (record { size = is.size; whole = push_is_whole elems old.colls (record { name = coll.name; tiles = replicate coll.count (replicate old.elems (pos 0)) }) is.whole zeros })
 add_is_whole elems old new fields is (inr (inr tile)) =

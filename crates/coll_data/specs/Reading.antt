@@ -1,5 +1,5 @@
 -- What the private calls of this crate give, in the words of the data.
-use Rattle.std.specs.Prelude.{◌≡◌, ℕ, ◌+◌, ◌^◌, ◌&&◌, nat_le, Option, Some, None, List, [], ◌∷◌, map, if◌then◌else◌}
+use Rattle.std.specs.Prelude.{◌≡◌, ℕ, ◌&&◌, nat_le, Option, Some, None, List, if◌then◌else◌}
 use Rattle.coll_data.specs.declared.given.Given.{Given}
 use Rattle.coll_data.specs.Data.{Draft, AddsAll, IsData, IsLined, data_of}
 use Rattle.coll_data.specs.Fields.{are_digits, digits_value}

@@ -1,4 +1,4 @@
-use Rattle.std.proofs.Common.{◌≡◌, ℕ, ◌-◌, List, [], ◌∷◌, length, take, drop, codes, subst}
+use Rattle.std.proofs.Common.{◌-◌, [], ◌∷◌, length, take, drop, codes, subst}
 use Rattle.std.proofs.lemmas.Result.{on_ok_weaker}
 use Rattle.coll_data.specs.Data.{Adds}
 use Rattle.coll_data.specs.Growing.{draft_of}
@@ -11,8 +11,8 @@ returns-then-is_word-clause-ok c =
     let fields = c.args.fields.now in
     on_ok_weaker c.add_tile.result
     (adds_tile (draft_of c.args.all.now) (draft_of c.add_tile.new.all) (texts_of fields) (field_at fields 0)
-      (field_at fields 1 ∷ field_at fields 2 ∷ texts_of (take (length fields - 3) (drop 3 fields)))
-      (three_fields fields c.in-len3-up.len_at_least) (is_the_word (field_at fields 0) (codes "tile") c.is_word.result c.is_word.ensures c.if-is_word.true))
+    (field_at fields 1 ∷ field_at fields 2 ∷ texts_of (take (length fields - 3) (drop 3 fields)))
+    (three_fields fields c.in-len3-up.len_at_least) (is_the_word (field_at fields 0) (codes "tile") c.is_word.result c.is_word.ensures c.if-is_word.true))
     c.add_tile.ensures.ok
 
 pub returns-then-is_word-2-clause-ok : goal.returns-then-is_word-2-clause-ok
@@ -20,7 +20,7 @@ returns-then-is_word-2-clause-ok c =
     let fields = c.args.fields.now in
     on_ok_weaker c.add_int.result
     (adds_int (draft_of c.args.all.now) (draft_of c.add_int.new.all) (texts_of fields) (field_at fields 0) (field_at fields 1 ∷ field_at fields 2 ∷ [])
-      (three_alone fields c.in-len3-up.len_at_least c.if-values-gt0.false) (is_the_word (field_at fields 0) (codes "int") c.is_word-2.result c.is_word-2.ensures c.if-is_word-2.true))
+    (three_alone fields c.in-len3-up.len_at_least c.if-values-gt0.false) (is_the_word (field_at fields 0) (codes "int") c.is_word-2.result c.is_word-2.ensures c.if-is_word-2.true))
     c.add_int.ensures.ok
 
 pub returns-then-is_word-2-clause-refused : goal.returns-then-is_word-2-clause-refused
@@ -37,7 +37,7 @@ returns-then-is_word-3-clause-ok c =
     let fields = c.args.fields.now in
     on_ok_weaker c.add_coll.result
     (adds_coll (draft_of c.args.all.now) (draft_of c.add_coll.new.all) (texts_of fields) (field_at fields 0) (field_at fields 1 ∷ field_at fields 2 ∷ [])
-      (three_alone fields c.in-len3-up.len_at_least c.if-values-gt0.false) (is_the_word (field_at fields 0) (codes "coll") c.is_word-3.result c.is_word-3.ensures c.if-is_word-3.true))
+    (three_alone fields c.in-len3-up.len_at_least c.if-values-gt0.false) (is_the_word (field_at fields 0) (codes "coll") c.is_word-3.result c.is_word-3.ensures c.if-is_word-3.true))
     c.add_coll.ensures.ok
 
 pub returns-then-is_word-3-clause-refused : goal.returns-then-is_word-3-clause-refused

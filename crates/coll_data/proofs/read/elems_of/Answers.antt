@@ -1,4 +1,4 @@
-use Rattle.std.proofs.Common.{codes, sym, ◌∙◌, arith}
+use Rattle.std.proofs.Common.{codes}
 use Rattle.coll_data.proofs.Cuts.{two_fields, elems_found}
 use Rattle.coll_data.proofs.Lines.{is_the_word}
 use Rattle.coll_data.proofs.Opening.{texts_of, field_at}

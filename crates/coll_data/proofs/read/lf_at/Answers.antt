@@ -1,4 +1,4 @@
-use Rattle.std.proofs.Common.{ℕ, eqb, rules, tests}
+use Rattle.std.proofs.Common.{eqb, rules, tests}
 use Rattle.std.proofs.lemmas.Iterator.{YieldsList-from_slice}
 use Rattle.std.proofs.lemmas.Iterator.Search.{position_from_yields_List}
 use Rattle.coll_data.proofs.read.lf_at.Goals as goal

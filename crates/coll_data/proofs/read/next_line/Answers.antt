@@ -1,4 +1,4 @@
-use Rattle.std.proofs.Common.{sym, ◌∙◌, arith}
+use Rattle.std.proofs.Common.{sym, ◌∙◌}
 use Rattle.coll_data.proofs.Cuts.{cut_line, no_line}
 use Rattle.coll_data.proofs.read.next_line.Goals as goal
 

@@ -1,4 +1,4 @@
-use Rattle.std.proofs.Common.{◌≡◌, ◌<◌, ◌≤◌, length, Result, Err, sym, ◌∙◌, arith}
+use Rattle.std.proofs.Common.{sym, ◌∙◌}
 use Rattle.std.proofs.lemmas.Result.{err_from_is_err_and}
 use Rattle.coll_data.specs.Growing.{draft_of}
 use Rattle.coll_data.proofs.Going.{continues_first, continues_next, no_first, no_next, no_end, data_at_end}
