@@ -1,5 +1,5 @@
 -- A job is consistent where each task is met, there are few items, and no place is written twice; and only there.
-use Rattle.std.proofs.Common.{◌≡◌, ℕ, ◌≤◌, List, [], ◌∷◌, length, ◌⊎◌, inl, inr, ⊎_elim, refl, sym, ap, ◌∙◌, subst, arith, Result, Ok, Err, ◌↔◌}
+use Rattle.std.proofs.Common.{◌≡◌, ◌≤◌, List, [], ◌∷◌, length, inl, inr, refl, sym, subst, arith, Result, Ok, Err}
 use Rattle.std.specs.List.{flat_map}
 use Rattle.ptg_base.specs.Lists.{IsIn, HasNoRepeats}
 use Rattle.ptg_base.specs.Task.{Task}
@@ -14,7 +14,7 @@ use Rattle.dep_iter.specs.declared.source.Source.TheVariants as source
 use Rattle.dep_iter.specs.Space.{space, IsSound, IsTask}
 use Rattle.dep_iter.specs.Sources.{source_of, edges_from, in_edges}
 use Rattle.dep_iter.specs.Items.{items_of, or_none, items, edges_among, out_edges}
-use Rattle.dep_iter.specs.Consistent.{HasPlace, affinity_of, IsGoodSource, IsGoodItem, IsWell, IsConsistent, all_in, all_out, all_items, all_written}
+use Rattle.dep_iter.specs.Consistent.{HasPlace, affinity_of, IsGoodSource, IsGoodItem, IsWell, IsConsistent, all_in, all_out}
 use Rattle.edge_match.specs.Meeting.{Each, IsGiven, IsTaken, IsGoodAffinity, IsMetFrom, IsMetTo, IsMet, places_written}
 use Rattle.edge_match.proofs.Lists.{IsIn-flat_map, flat_map-IsIn, HasNoRepeats-flat_map, flat_map-HasNoRepeats}
 use Rattle.edge_match.proofs.EdgeEnds.{in_edges-to, out_edges-from, edges_among-IsIn, in_edges-once, in_edges-few}
@@ -44,7 +44,7 @@ met-well : (P : Plan) (t : Task) → IsMet P t → IsWell P t
 met-well P t m = record {
   affinity = affinity-well P (affinity_of P t) m.affinity;
   source = source-well P (source_of P t) m.source;
-  items = items-well P (items_of P t) m.items
+  items = items-well P (items_of P t) m.items;
 }
 
 given-of : (P : Plan) (r : Result Source ExprFault) → IsMetFrom P r → Each (IsGiven P) (edges_from r)
@@ -101,7 +101,7 @@ consistent_from P sound few once each few_items written =
       no_twice_in = HasNoRepeats-flat_map (in_edges P) (λ e. e.to) (space P) once (λ t i. in_edges-once P t) (in_edges-to P);
       no_twice_out = HasNoRepeats-flat_map (out_edges P) (λ e. e.from) (space P) once
           (λ t i. differ-of P (items_of P t) (met t i).items) (out_edges-from P);
-      at_both_ends = λ e. (in-out P met e, out-in P met e)
+      at_both_ends = λ e. (in-out P met e, out-in P met e);
     }
 
 affinity-good : (P : Plan) (r : Result Place ExprFault) (p : Place) → r ≡ Ok p → HasPlace P p → IsGoodAffinity P r
@@ -124,7 +124,7 @@ met_in P c t i =
       affinity = affinity-good P (affinity_of P t) w.affinity.0 w.affinity.1 w.affinity.2;
       source = source-met P (source_of P t) w.source.0 w.source.1 w.source.2 (Each-from (IsGiven P) (in_edges P t) (given P c t i));
       items = items-met P (items_of P t) w.items.0 w.items.1 w.items.2 (Each-from (IsTaken P) (out_edges P t) (taken P c t i))
-          (flat_map-HasNoRepeats (out_edges P) t (space P) c.no_twice_out i)
+          (flat_map-HasNoRepeats (out_edges P) t (space P) c.no_twice_out i);
     }
   where
     given : (P : Plan) → IsConsistent P → (t : Task) → IsTask P t → (e : Edge) → IsIn e (in_edges P t) → IsGiven P e

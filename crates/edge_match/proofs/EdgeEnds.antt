@@ -1,5 +1,5 @@
 -- Each edge into a task ends there, and each edge out of a task begins there.
-use Rattle.std.proofs.Common.{◌≡◌, ℕ, ◌≤◌, ◌+◌, ℤ, List, [], ◌∷◌, ◌++◌, length, ◌⊎◌, inl, inr, ⊎_elim, refl, sym, ap, ◌∙◌, subst, arith, Result, Ok, Err, Option, Some, None}
+use Rattle.std.proofs.Common.{◌≡◌, ℕ, ◌≤◌, ℤ, List, [], ◌∷◌, ◌++◌, length, ◌⊎◌, inl, inr, ⊎_elim, refl, sym, ap, subst, arith, Result, Ok, Err, Option, Some, None}
 use Rattle.std.specs.List.{flat_map}
 use Rattle.std.proofs.lemmas.List.{length-append}
 use Rattle.ptg_base.specs.Lists.{IsIn, HasNoRepeats}
@@ -18,7 +18,7 @@ use Rattle.dep_iter.specs.declared.source.Source.TheVariants as source
 use Rattle.dep_iter.specs.Steps.{◌>>=◌}
 use Rattle.dep_iter.specs.Space.{task_of}
 use Rattle.dep_iter.specs.Sources.{chosen, edge, place, source_at, taken_or, first_source, source_of, edges_from, in_edges}
-use Rattle.dep_iter.specs.Items.{item_at, items_at, all_items, items_of, or_none, items, edges_among, out_edges}
+use Rattle.dep_iter.specs.Items.{items_at, all_items, items_of, or_none, items, edges_among, out_edges}
 use Rattle.edge_match.proofs.Lists.{IsIn-append}
 
 -- the source that a target is

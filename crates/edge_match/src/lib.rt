@@ -11,6 +11,5 @@ mod tasks;
 mod totals;
 mod written;
 
-
 pub use decide::match_edges;
 pub use fault::{MatchCode, MatchFault, MatchRefusal};
