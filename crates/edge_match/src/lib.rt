@@ -11,5 +11,8 @@ mod tasks;
 mod totals;
 mod written;
 
+#[cfg(test)]
+mod tests;
+
 pub use decide::match_edges;
 pub use fault::{MatchCode, MatchFault, MatchRefusal};
