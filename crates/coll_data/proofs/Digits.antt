@@ -1,11 +1,11 @@
 -- The value of digits, from left to right, and which whole number a field spells.
-use Rattle.std.proofs.Common.{◌≡◌, ℕ, suc, ◌+◌, ◌-◌, ◌*◌, ◌^◌, ◌<◌, ◌≤◌, Bool, true, false, cond, ◌&&◌, leb, ◌⊎◌, ℤ, pos, negsuc, neg_ℤ, List, [], ◌∷◌, ◌++◌, length, take, drop, get_or, Option, Some, None, refl, sym, ◌∙◌, ap, subst, inl, inr, arith, length-append, IsTrue, append_assoc}
+use Rattle.std.proofs.Common.{◌≡◌, ℕ, ◌+◌, ◌-◌, ◌*◌, ◌^◌, ◌<◌, ◌≤◌, true, ◌&&◌, leb, List, [], ◌∷◌, ◌++◌, length, take, drop, get_or, Some, None, refl, sym, ◌∙◌, ap, arith, append_assoc}
 use Rattle.std.specs.List.{list_all}
-use Rattle.std.proofs.lemmas.Bool.{and_parts, and_from, and_right, both_ways, false≢true, leb-true, lt-leb, cond-false}
-use Rattle.std.proofs.lemmas.List.{take_more, take_all, length_push, append-nil, take-append-drop}
+use Rattle.std.proofs.lemmas.Bool.{and_from, and_right, lt-leb, cond-false}
+use Rattle.std.proofs.lemmas.List.{take_more, length_push, append-nil, take-append-drop}
 use Rattle.std.proofs.lemmas.List.Folds.{list_all-append}
 use Rattle.std.proofs.lemmas.Grind.{pow_more}
-use Rattle.coll_data.specs.Fields.{is_digit, are_digits, digits_value, IsWhole}
+use Rattle.coll_data.specs.Fields.{is_digit, are_digits, digits_value}
 use Rattle.coll_data.specs.Reading.{small_value}
 
 pub digits_push : (digits : List ℕ) (b : ℕ) → digits_value (digits ++ b ∷ []) ≡ 10 * digits_value digits + (b - 48)

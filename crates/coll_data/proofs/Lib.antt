@@ -1,4 +1,9 @@
+pub mod Cuts
 pub mod Digits
+pub mod Going
+pub mod Lines
+pub mod Once
 pub mod Opening
 pub mod Refusals
 pub mod Tiles
+pub mod Wholes

@@ -32,8 +32,8 @@ opened_more elems numbers z room =
     let left : elems - length numbers ≡ suc (elems - length (numbers ++ z ∷ [])) = omega (arith, length_push numbers z) in
     let zeros = replicate (elems - length (numbers ++ z ∷ [])) (pos 0) in
     ap (λ n. set (numbers ++ replicate n (pos 0)) (length numbers) z) left
-      ∙ set_at numbers (pos 0) zeros z (length numbers) refl
-      ∙ sym (append_assoc numbers (z ∷ []) zeros)
+    ∙ set_at numbers (pos 0) zeros z (length numbers) refl
+    ∙ sym (append_assoc numbers (z ∷ []) zeros)
 
 pub opening_length : (elems : ℕ) (fields : List (List ℕ)) (tile : List ℤ) → IsOpening elems fields tile → length fields ≤ elems → length tile ≡ elems
 opening_length elems fields tile opening few =
@@ -53,7 +53,7 @@ opening_more elems fields i d z tile next within few opening one is =
     let front : length (take i fields) ≡ i = length-take-le i fields (omega arith) in
     let size : length opening.numbers ≡ i = sym (whole_length (take i fields) opening.numbers opening.whole) ∙ front in
     let made : next ≡ opened elems (opening.numbers ++ z ∷ []) =
-        is ∙ ap (λ t. set t i z) opening.made ∙ ap (λ n. set (opened elems opening.numbers) n z) (sym size) ∙ opened_more elems opening.numbers z (omega arith) in
+    is ∙ ap (λ t. set t i z) opening.made ∙ ap (λ n. set (opened elems opening.numbers) n z) (sym size) ∙ opened_more elems opening.numbers z (omega arith) in
     record {
       numbers = opening.numbers ++ z ∷ [];
       whole = subst (λ fs. AreWhole fs (opening.numbers ++ z ∷ [])) (sym (take_more fields i d within)) (whole_push (take i fields) opening.numbers (get_or fields i d) z opening.whole one);

@@ -1,5 +1,5 @@
 -- A tile is put in its place of the data.
-use Rattle.std.proofs.Common.{◌≡◌, ℕ, suc, zero, ◌+◌, ◌<◌, ◌≤◌, Bool, true, false, ℤ, List, [], ◌∷◌, length, get_or, set, slice_get, codes, Option, Some, None, refl, sym, ◌∙◌, ap, subst, arith}
+use Rattle.std.proofs.Common.{◌≡◌, ℕ, suc, zero, ◌<◌, Bool, true, ℤ, List, [], ◌∷◌, length, get_or, set, slice_get, codes, Some, refl, sym, ◌∙◌, ap, subst, arith}
 use Rattle.coll_data.specs.declared.given.Coll.{Coll}
 use Rattle.coll_data.specs.Data.{Draft, IsFree, Opens, AddsTile}
 

@@ -1,6 +1,6 @@
 -- The data that a text spells. The form is this project's own choice: lines of fields joined by commas, read from the
 -- first to the last, each adding to the data before it.
-use Rattle.std.specs.Prelude.{◌≡◌, ℕ, ◌+◌, ◌-◌, ◌*◌, ◌<◌, ◌≤◌, Bool, true, false, ◌==◌, ◌⊎◌, ℤ, pos, List, [], ◌∷◌, ◌++◌, length, replicate, slice_get, slice_set, bytes_eq, codes, Option, Some, position, IsTrue, IsFalse}
+use Rattle.std.specs.Prelude.{◌≡◌, ℕ, ◌+◌, ◌-◌, ◌*◌, ◌<◌, ◌≤◌, Bool, true, false, ◌==◌, ◌⊎◌, ℤ, pos, List, [], ◌∷◌, ◌++◌, length, replicate, slice_get, slice_set, bytes_eq, codes, Some, position, IsTrue, IsFalse}
 use Rattle.std.specs.List.{list_any, slice_split}
 use Rattle.coll_data.specs.declared.fault.DataCode.TheVariants.{NotBuilt}
 use Rattle.coll_data.specs.declared.fault.DataFault.{DataFault}
@@ -46,12 +46,12 @@ pub record AddsColl (old : Draft) (fields : List (List ℕ)) (new : Draft) : Typ
   pub few : count ≤ 65536
   pub room : (old.tiles + count) * old.elems ≤ 16777216
   pub adds :
-    new
-    ≡ record old {
-      colls = old.colls ++ record { name = name; tiles = replicate count (replicate old.elems (pos 0)) } ∷ [];
-      given = old.given ++ replicate count false ∷ [];
-      tiles = old.tiles + count;
-    }
+      new
+      ≡ record old {
+        colls = old.colls ++ record { name = name; tiles = replicate count (replicate old.elems (pos 0)) } ∷ [];
+        given = old.given ++ replicate count false ∷ [];
+        tiles = old.tiles + count;
+      }
 
 -- These numbers open a tile, and the rest of its numbers are 0.
 abbrev pub opened : ℕ → List ℤ → List ℤ
@@ -88,11 +88,11 @@ pub record AddsTile (old : Draft) (fields : List (List ℕ)) (new : Draft) : Typ
   pub free : IsFree old name number at place
   pub opens : Opens old.elems values tile
   pub adds :
-    new
-    ≡ record old {
-      colls = slice_set old.colls at (record free.coll { tiles = slice_set free.coll.tiles place tile });
-      given = slice_set old.given at (slice_set free.flags place true);
-    }
+      new
+      ≡ record old {
+        colls = slice_set old.colls at (record free.coll { tiles = slice_set free.coll.tiles place tile });
+        given = slice_set old.given at (slice_set free.flags place true);
+      }
 
 -- A line of these fields makes the new data of the old ones.
 abbrev pub Adds : Draft → List (List ℕ) → Draft → Type 0

@@ -36,7 +36,7 @@ abbrev pub IsWhole : List ℕ → ℤ → Type 0
 IsWhole field z =
     FitsSigned w64 z
     × ((IsTrue (are_digits field) × (z ≡ pos (digits_value field)))
-      ⊎ ((digits : List ℕ) × (field ≡ 45 ∷ digits) × IsTrue (are_digits digits) × (z ≡ neg_ℤ (pos (digits_value digits)))))
+    ⊎ ((digits : List ℕ) × (field ≡ 45 ∷ digits) × IsTrue (are_digits digits) × (z ≡ neg_ℤ (pos (digits_value digits)))))
 
 -- The fields spell these numbers, each its own.
 abbrev pub AreWhole : List (List ℕ) → List ℤ → Type 0

@@ -1,5 +1,5 @@
 -- The data of the lines so far, as the code has them, and what its calls make of them.
-use Rattle.std.specs.Prelude.{◌≡◌, ℕ, ◌+◌, ◌*◌, ◌≤◌, ℤ, pos, List, length}
+use Rattle.std.specs.Prelude.{◌≡◌, ℕ, ◌+◌, ◌*◌, ◌≤◌, ℤ, pos, List}
 use Rattle.coll_data.specs.declared.growing.Growing.{Growing}
 use Rattle.coll_data.specs.Fields.{IsWhole, AreWhole}
 use Rattle.coll_data.specs.Data.{Draft, opened}

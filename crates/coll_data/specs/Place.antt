@@ -1,7 +1,6 @@
 -- The tile at a place.
-use Rattle.std.specs.Prelude.{ℕ, ℤ, pos, negsuc, List, Option, Some, None, slice_get, option_and_then}
+use Rattle.std.specs.Prelude.{ℤ, pos, negsuc, List, Option, None, slice_get, option_and_then}
 use Rattle.ptg_base.specs.declared.place.Place.{Place}
-use Rattle.coll_data.specs.declared.given.Coll.{Coll}
 use Rattle.coll_data.specs.declared.given.Given.{Given}
 
 -- what a list has at a whole number: nothing below 0 or past its end

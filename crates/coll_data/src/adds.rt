@@ -28,7 +28,12 @@ fn may_name(all: &Growing, name: &[u8]) -> bool
 }
 
 /// Adds the integer of a line.
-pub fn add_int(alloc: Global, all: &mut Growing, name: &[u8], number: &[u8]) -> Result<(), DataRefusal>
+pub fn add_int(
+    alloc: Global,
+    all: &mut Growing,
+    name: &[u8],
+    number: &[u8],
+) -> Result<(), DataRefusal>
     ensures ok { OnOk result (AddsInt (draft_of all.old) (codes "int" ∷ name.now ∷ number.now ∷ []) (draft_of all.new)) }
     ensures refused { (fault : DataFault) → result ≡ Err (Fault fault) → (fault ≡ not_built) × ((new : Draft) → AddsInt (draft_of all.old) (codes "int" ∷ name.now ∷ number.now ∷ []) new → ⊥) }
 {
@@ -60,7 +65,12 @@ fn count_of(all: &Growing, number: &[u8]) -> Option<u32>
 }
 
 /// Adds the collection of a line.
-pub fn add_coll(alloc: Global, all: &mut Growing, name: &[u8], number: &[u8]) -> Result<(), DataRefusal>
+pub fn add_coll(
+    alloc: Global,
+    all: &mut Growing,
+    name: &[u8],
+    number: &[u8],
+) -> Result<(), DataRefusal>
     ensures ok { OnOk result (AddsColl (draft_of all.old) (codes "coll" ∷ name.now ∷ number.now ∷ []) (draft_of all.new)) }
     ensures refused { (fault : DataFault) → result ≡ Err (Fault fault) → (fault ≡ not_built) × ((new : Draft) → AddsColl (draft_of all.old) (codes "coll" ∷ name.now ∷ number.now ∷ []) new → ⊥) }
 {

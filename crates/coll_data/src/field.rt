@@ -53,7 +53,11 @@ fn small_value(digits: &[u8]) -> Option<u64>
             return None;
         }
     }
-    if digits.is_empty() { None } else { Some(value as u64) }
+    if digits.is_empty() {
+        None
+    } else {
+        Some(value as u64)
+    }
 }
 
 /// The whole number that a field spells.

@@ -1,5 +1,5 @@
 -- Members of lists, and lists in which nothing stands twice.
-use Rattle.std.proofs.Common.{◌≡◌, ℕ, ◌+◌, ◌<◌, ◌≤◌, suc, List, [], ◌∷◌, ◌++◌, map, length, ◌⊎◌, inl, inr, ⊎_elim, refl, sym, ap, ◌∙◌, subst, arith}
+use Rattle.std.proofs.Common.{◌≡◌, List, [], ◌∷◌, ◌++◌, map, ◌⊎◌, inl, inr, ⊎_elim, refl, sym, ap, ◌∙◌, subst}
 use Rattle.std.specs.List.{flat_map}
 use Rattle.ptg_base.specs.Lists.{IsIn, HasNoRepeats}
 
@@ -43,9 +43,10 @@ AreApart xs ys = (x : _) → IsIn x xs → IsIn x ys → ⊥
 
 pub HasNoRepeats-append : {A : Type 0} (xs ys : List A) → HasNoRepeats xs → HasNoRepeats ys → AreApart xs ys → HasNoRepeats (xs ++ ys)
 HasNoRepeats-append [] ys a b apart = b
-HasNoRepeats-append (x ∷ xs) ys a b apart =
-    ((λ h. ⊎_elim (λ i. a.0 i) (λ i. apart x (inl refl) i) (IsIn-append x xs ys h)),
-     HasNoRepeats-append xs ys a.1 b (λ y i j. apart y (inr i) j))
+HasNoRepeats-append (x ∷ xs) ys a b apart = (
+  (λ h. ⊎_elim (λ i. a.0 i) (λ i. apart x (inl refl) i) (IsIn-append x xs ys h)),
+  HasNoRepeats-append xs ys a.1 b (λ y i j. apart y (inr i) j),
+)
 
 pub HasNoRepeats-left : {A : Type 0} (xs ys : List A) → HasNoRepeats (xs ++ ys) → HasNoRepeats xs
 HasNoRepeats-left [] ys h = tt
@@ -62,9 +63,10 @@ HasNoRepeats-apart (x ∷ xs) ys h y (inr i) j = HasNoRepeats-apart xs ys h.1 y 
 
 pub HasNoRepeats-map : {A B : Type 0} (f : A → B) → ((x y : A) → f x ≡ f y → x ≡ y) → (xs : List A) → HasNoRepeats xs → HasNoRepeats (map f xs)
 HasNoRepeats-map f one [] h = tt
-HasNoRepeats-map f one (x ∷ xs) h =
-    ((λ i. let r = map-IsIn f (f x) xs i in h.0 (subst (λ v. IsIn v xs) (sym (one x r.0 r.2)) r.1)),
-     HasNoRepeats-map f one xs h.1)
+HasNoRepeats-map f one (x ∷ xs) h = (
+  (λ i. let r = map-IsIn f (f x) xs i in h.0 (subst (λ v. IsIn v xs) (sym (one x r.0 r.2)) r.1)),
+  HasNoRepeats-map f one xs h.1,
+)
 
 -- pieces that name where they come from have nothing in common
 pub HasNoRepeats-flat_map : {A B : Type 0} (f : A → List B) (from : B → A) (xs : List A) → HasNoRepeats xs →

@@ -1,8 +1,8 @@
 -- The numbers from one on.
-use Rattle.std.proofs.Common.{◌≡◌, ◌≢◌, ℕ, zero, suc, ◌+◌, ◌<◌, ◌≤◌, ℤ, pos, negsuc, ◌+ℤ◌, ◌-ℤ◌, ◌≤ℤ◌, ◌<ℤ◌, List, [], ◌∷◌, length, drop, ◌⊎◌, inl, inr, ⊎_elim, refl, sym, ap, ◌∙◌, subst, arith, add-one}
+use Rattle.std.proofs.Common.{◌≡◌, ℕ, zero, suc, ◌<◌, ℤ, pos, ◌+ℤ◌, ◌≤ℤ◌, ◌<ℤ◌, ◌∷◌, length, drop, ◌⊎◌, inl, inr, ⊎_elim, refl, ap, ◌∙◌, arith}
 use Rattle.std.proofs.lemmas.Int.{ints}
 use Rattle.ptg_base.specs.Lists.{IsIn, HasNoRepeats}
-use Rattle.dep_iter.specs.Space.{numbers_from, count_between, numbers_between}
+use Rattle.dep_iter.specs.Space.{numbers_from, count_between}
 
 pub length-numbers_from : (lo : ℤ) (n : ℕ) → length (numbers_from lo n) ≡ n
 unfolding numbers_from

@@ -1,5 +1,5 @@
 -- Sets of places: what is in them, and what is new to them.
-use Rattle.std.proofs.Common.{◌≡◌, ℕ, Bool, true, false, cond, ◌&&◌, ◌||◌, ◌+◌, ◌<◌, length, drop, get_or, suc, add-one, drop-cons, not, List, [], ◌∷◌, ◌++◌, map, ◌⊎◌, inl, inr, ⊎_elim, refl, sym, ap, ◌∙◌, subst, IsTrue, ◌↔◌, int_eq, ℤ}
+use Rattle.std.proofs.Common.{◌≡◌, ℕ, Bool, true, false, cond, ◌&&◌, ◌||◌, ◌+◌, ◌<◌, length, drop, get_or, suc, add-one, drop-cons, not, List, [], ◌∷◌, ◌++◌, ◌⊎◌, inl, inr, ⊎_elim, refl, sym, ap, ◌∙◌, subst, IsTrue, ◌↔◌, int_eq, ℤ}
 use Rattle.std.specs.List.{list_any, flat_map}
 use Rattle.std.specs.Bool.{Decides, OnTrue}
 use Rattle.std.proofs.lemmas.Bool.Decides.{Decides-eqb, Decides-int_eq, Decides-and, Decides-like}
@@ -72,11 +72,14 @@ true_cond false b (inr e) = e
 -- the set after an insertion
 pub adds_one : (p : Place) (seen now : List Place) →
     ((q : Place) → list_any (place_eq q) now ≡ cond (place_eq p q) true (list_any (place_eq q) seen)) → Adds seen (p ∷ []) now
-adds_one p seen now e = record { each = λ q.
-    ((λ i. ⊎_elim (λ same. inr (inl (sym ((place_eq-Decides p q).0 same)))) (λ found. inl (list_any-IsIn q seen found))
+adds_one p seen now e = record {
+  each = λ q. (
+    (λ i. ⊎_elim (λ same. inr (inl (sym ((place_eq-Decides p q).0 same)))) (λ found. inl (list_any-IsIn q seen found))
         (cond_true (place_eq p q) (list_any (place_eq q) seen) (sym (e q) ∙ IsIn-list_any q now i))),
-     (λ j. list_any-IsIn q now (e q ∙ true_cond (place_eq p q) (list_any (place_eq q) seen)
-        (⊎_elim (λ i. inr (IsIn-list_any q seen i)) (λ k. inl ((place_eq-Decides p q).1 (sym (only q p k)))) j)))) }
+    (λ j. list_any-IsIn q now (e q ∙ true_cond (place_eq p q) (list_any (place_eq q) seen)
+        (⊎_elim (λ i. inr (IsIn-list_any q seen i)) (λ k. inl ((place_eq-Decides p q).1 (sym (only q p k)))) j))),
+  );
+}
   where
     only : (q p : Place) → IsIn q (p ∷ []) → q ≡ p
     only q p (inl same) = same
@@ -86,13 +89,13 @@ adds_one p seen now e = record { each = λ q.
 pub AreNew-append : (seen ps rest now : List Place) → AreNew seen ps → Adds seen ps now → AreNew seen (ps ++ rest) → AreNew now rest
 AreNew-append seen ps rest now first adds all = record {
   once = HasNoRepeats-right ps rest all.once;
-  unseen = λ p i j. ⊎_elim (λ s. all.unseen p (IsIn-right p ps rest i) s) (λ k. HasNoRepeats-apart ps rest all.once p k i) ((adds.each p).0 j)
+  unseen = λ p i j. ⊎_elim (λ s. all.unseen p (IsIn-right p ps rest i) s) (λ k. HasNoRepeats-apart ps rest all.once p k i) ((adds.each p).0 j);
 }
 
 pub append-AreNew : (seen ps rest now : List Place) → AreNew seen ps → Adds seen ps now → AreNew now rest → AreNew seen (ps ++ rest)
 append-AreNew seen ps rest now first adds later = record {
   once = HasNoRepeats-append ps rest first.once later.once (λ p i j. later.unseen p j ((adds.each p).1 (inr i)));
-  unseen = λ p i s. ⊎_elim (λ a. first.unseen p a s) (λ b. later.unseen p b ((adds.each p).1 (inl s))) (IsIn-append p ps rest i)
+  unseen = λ p i s. ⊎_elim (λ a. first.unseen p a s) (λ b. later.unseen p b ((adds.each p).1 (inl s))) (IsIn-append p ps rest i);
 }
 
 pub AreNew-left : (seen ps rest : List Place) → AreNew seen (ps ++ rest) → AreNew seen ps
@@ -127,9 +130,10 @@ places_among-drop xs k x h e =
 -- a fact that says that the places from here on are new, after some of them
 pub new_step : (X : Type 0) (seen whole ps rest now : List Place) → whole ≡ ps ++ rest → AreNew seen ps → Adds seen ps now →
     X ↔ AreNew seen whole → X ↔ AreNew now rest
-new_step X seen whole ps rest now e first adds same =
-    ((λ x. AreNew-append seen ps rest now first adds (subst (AreNew seen) e (same.0 x))),
-     (λ h. same.1 (subst (AreNew seen) (sym e) (append-AreNew seen ps rest now first adds h))))
+new_step X seen whole ps rest now e first adds same = (
+  (λ x. AreNew-append seen ps rest now first adds (subst (AreNew seen) e (same.0 x))),
+  (λ h. same.1 (subst (AreNew seen) (sym e) (append-AreNew seen ps rest now first adds h))),
+)
 
 -- and it fails where the first ones are not
 pub new_fails : (X : Type 0) (seen whole ps rest : List Place) → whole ≡ ps ++ rest → (AreNew seen ps → ⊥) → X ↔ AreNew seen whole → X → ⊥
@@ -138,23 +142,27 @@ new_fails X seen whole ps rest e h same x = h (AreNew-left seen ps rest (subst (
 -- a fact that says that a place was seen or comes from here on, after some of the places
 pub kept_step : (X : Type 0) (p : Place) (seen whole ps rest now : List Place) → whole ≡ ps ++ rest → Adds seen ps now →
     X ↔ (IsIn p seen ⊎ IsIn p whole) → X ↔ (IsIn p now ⊎ IsIn p rest)
-kept_step X p seen whole ps rest now e adds same =
-    ((λ x. ⊎_elim (λ s. inl ((adds.each p).1 (inl s)))
-        (λ w. ⊎_elim (λ a. inl ((adds.each p).1 (inr a))) (λ b. inr b) (IsIn-append p ps rest (subst (IsIn p) e w))) (same.0 x)),
-     (λ h. same.1 (⊎_elim (λ n. ⊎_elim (λ s. inl s) (λ a. inr (subst (IsIn p) (sym e) (IsIn-left p ps rest a))) ((adds.each p).0 n))
-        (λ b. inr (subst (IsIn p) (sym e) (IsIn-right p ps rest b))) h)))
+kept_step X p seen whole ps rest now e adds same = (
+  (λ x. ⊎_elim (λ s. inl ((adds.each p).1 (inl s)))
+      (λ w. ⊎_elim (λ a. inl ((adds.each p).1 (inr a))) (λ b. inr b) (IsIn-append p ps rest (subst (IsIn p) e w))) (same.0 x)),
+  (λ h. same.1 (⊎_elim (λ n. ⊎_elim (λ s. inl s) (λ a. inr (subst (IsIn p) (sym e) (IsIn-left p ps rest a))) ((adds.each p).0 n))
+      (λ b. inr (subst (IsIn p) (sym e) (IsIn-right p ps rest b))) h)),
+)
 
 -- all places are seen at the end
 pub kept_all : (ps seen now last : List Place) → last ≡ [] →
     ((p : Place) → (IsIn p seen ⊎ IsIn p ps) ↔ (IsIn p now ⊎ IsIn p last)) → Adds seen ps now
-kept_all ps seen now last e same = record { each = λ p.
-    ((λ i. (same p).1 (inl i)), (λ h. ⊎_elim (λ n. n) (λ l. absurd (subst (IsIn p) e l)) ((same p).0 h))) }
+kept_all ps seen now last e same = record {
+  each = λ p.
+      ((λ i. (same p).1 (inl i)), (λ h. ⊎_elim (λ n. n) (λ l. absurd (subst (IsIn p) e l)) ((same p).0 h)));
+}
 
 -- the answer of an insertion
 pub is_new : (p : Place) (seen : List Place) (new : Bool) → new ≡ not (list_any (place_eq p) seen) → IsTrue new ↔ AreNew seen (p ∷ [])
-is_new p seen new e =
-    ((λ h. AreNew-one seen p (λ i. true_not (list_any (place_eq p) seen) new e h (IsIn-list_any p seen i))),
-     (λ h. not_true (list_any (place_eq p) seen) new e (λ f. h.unseen p (inl refl) (list_any-IsIn p seen f))))
+is_new p seen new e = (
+  (λ h. AreNew-one seen p (λ i. true_not (list_any (place_eq p) seen) new e h (IsIn-list_any p seen i))),
+  (λ h. not_true (list_any (place_eq p) seen) new e (λ f. h.unseen p (inl refl) (list_any-IsIn p seen f))),
+)
 
 pub on_true : (b : Bool) (P : Type 0) → OnTrue b P → b ≡ true → P
 on_true true P h e = h

@@ -1,9 +1,9 @@
 -- The tasks of a range.
-use Rattle.std.proofs.Common.{◌≡◌, ℕ, zero, suc, ◌+◌, ◌<◌, ◌≤◌, ℤ, pos, ◌+ℤ◌, ◌≤ℤ◌, List, [], ◌∷◌, map, length, drop, slice_index_or, refl, sym, ap, ◌∙◌, subst, arith, add-one}
+use Rattle.std.proofs.Common.{◌≡◌, ℕ, suc, ◌+◌, ◌<◌, ◌≤◌, ℤ, pos, ◌+ℤ◌, ◌≤ℤ◌, List, [], ◌∷◌, map, length, drop, slice_index_or, refl, sym, ap, ◌∙◌, subst, arith, add-one}
 use Rattle.std.proofs.lemmas.List.{length-map, drop-map, drop_all}
 use Rattle.ptg_base.specs.Lists.{IsIn, HasNoRepeats}
 use Rattle.ptg_base.specs.Task.{Task}
-use Rattle.dep_iter.specs.Space.{task_of, numbers_from, count_between, numbers_between}
+use Rattle.dep_iter.specs.Space.{task_of, count_between, numbers_between}
 use Rattle.edge_match.specs.Tasks.{tasks_between}
 use Rattle.edge_match.proofs.Lists.{IsIn-map, map-IsIn, HasNoRepeats-map}
 use Rattle.edge_match.proofs.Numbers.{length-numbers_from, drop-numbers_from, IsIn-from, IsIn-to, IsIn-numbers_from, count_between-above, count_between-below, HasNoRepeats-numbers_from}

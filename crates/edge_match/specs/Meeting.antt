@@ -1,5 +1,5 @@
 -- What each task of a consistent job keeps: what it needs is there, and its edges stand at their other ends.
-use Rattle.std.specs.Prelude.{◌≡◌, List, [], ◌∷◌, map, flat_map, Result, Ok, Err}
+use Rattle.std.specs.Prelude.{List, [], ◌∷◌, map, flat_map, Result, Ok, Err}
 use Rattle.ptg_base.specs.Lists.{IsIn, HasNoRepeats}
 use Rattle.ptg_base.specs.Task.{Task}
 use Rattle.ptg_base.specs.declared.place.Place.{Place}

@@ -1,5 +1,5 @@
 -- Places that were seen, and those that are new to them.
-use Rattle.std.specs.Prelude.{◌≡◌, List, [], ◌∷◌, ◌⊎◌, ◌↔◌}
+use Rattle.std.specs.Prelude.{List, ◌⊎◌, ◌↔◌}
 use Rattle.ptg_base.specs.Lists.{IsIn, HasNoRepeats}
 use Rattle.ptg_base.specs.declared.place.Place.{Place}
 

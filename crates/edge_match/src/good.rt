@@ -4,8 +4,8 @@ ghost use Rattle.dep_iter.specs.Consistent.{affinity_of, IsGoodSource, IsGoodIte
 ghost use Rattle.edge_match.specs.Tasks.{tasks_between};
 ghost use Rattle.edge_match.specs.Meeting.{Each, IsGoodAffinity};
 
-use crate::tasks::{has_task, Tasks};
-use dep_iter::{affinity_of, has_place, Source};
+use crate::tasks::{Tasks, has_task};
+use dep_iter::{Source, affinity_of, has_place};
 use plan_core::Plan;
 use ptg_base::{Item, TaskId};
 

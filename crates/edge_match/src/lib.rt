@@ -1,6 +1,7 @@
 //! Whether a job is consistent: its tasks, their sources and items, and the two ends of each edge.
 #![tactic(auto)]
 
+mod decide;
 mod edges;
 mod fault;
 mod gathered;
@@ -10,5 +11,8 @@ mod tasks;
 mod totals;
 mod written;
 
+#[cfg(test)]
+mod tests;
 
+pub use decide::match_edges;
 pub use fault::{MatchCode, MatchFault, MatchRefusal};

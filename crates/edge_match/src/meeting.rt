@@ -9,7 +9,7 @@ use crate::edges::{are_different, has_edge, same_edge};
 use crate::gathered::{items, items_of};
 use crate::good::{are_good_items, has_good_affinity, is_good_source};
 use crate::tasks::Tasks;
-use dep_iter::{source_of, Source};
+use dep_iter::{Source, source_of};
 use plan_core::Plan;
 use ptg_base::{Edge, Item, OutOfMemory, TaskId};
 use std::alloc::Global;
@@ -29,12 +29,7 @@ fn is_given(alloc: Global, plan: &Plan, source: &Source) -> Result<bool, OutOfMe
 }
 
 /// Whether the source of a task is there, and its edge leaves the task where it begins.
-fn is_met_from(
-    alloc: Global,
-    plan: &Plan,
-    tasks: &Tasks,
-    t: &TaskId,
-) -> Result<bool, OutOfMemory>
+fn is_met_from(alloc: Global, plan: &Plan, tasks: &Tasks, t: &TaskId) -> Result<bool, OutOfMemory>
     requires { space plan.now ≡ tasks_between tasks.now.lo tasks.now.hi }
     ensures { IfOk result (λ yes. IsTrue yes ↔ IsMetFrom plan.now (source_of plan.now t.now)) }
 {

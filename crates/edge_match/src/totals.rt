@@ -6,7 +6,7 @@ ghost use Rattle.edge_match.specs.Meeting.{Each, IsMet};
 
 use crate::gathered::items;
 use crate::meeting::is_met;
-use crate::tasks::{task_at, Tasks};
+use crate::tasks::{Tasks, task_at};
 use plan_core::Plan;
 use ptg_base::OutOfMemory;
 use std::alloc::Global;

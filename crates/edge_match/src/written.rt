@@ -7,7 +7,7 @@ ghost use Rattle.edge_match.specs.Meeting.{places_among, places_written};
 ghost use Rattle.edge_match.specs.Places.{AreNew, Adds};
 
 use crate::gathered::items;
-use crate::tasks::{task_at, Tasks};
+use crate::tasks::{Tasks, task_at};
 use plan_core::Plan;
 use ptg_base::{Item, OutOfMemory, Place, TaskId};
 use std::alloc::Global;

@@ -1,5 +1,5 @@
 -- A range from its ends.
-use Rattle.std.proofs.Common.{◌≡◌, ℕ, ◌+◌, ◌-◌, ◌<◌, ◌≤◌, length, map, arith, refl, sym, ◌∙◌, ap, subst}
+use Rattle.std.proofs.Common.{◌≡◌, ◌+◌, ◌≤◌, length, map, arith, refl, ◌∙◌, ap}
 use Rattle.std.specs.Prelude.{ℤ, pos, ◌+ℤ◌, ◌-ℤ◌, ◌≤ℤ◌, ◌<ℤ◌, unsigned_abs}
 use Rattle.std.proofs.lemmas.Int.{ints}
 use Rattle.plan_core.specs.declared.plan.Plan.{Plan}
@@ -23,5 +23,5 @@ range_between P lo hi con is h below = record {
   consistent = con;
   tasks = is ∙ ap (λ n. map task_of (numbers_from lo n)) (count_is lo hi h);
   few = few_between P lo hi con is h;
-  most = omega (arith, ints)
+  most = omega (arith, ints);
 }

@@ -1,6 +1,6 @@
 -- One more task that is known to have ended.
-use Rattle.std.proofs.Common.{◌≡◌, ◌≢◌, ℕ, zero, suc, ◌+◌, ◌-◌, ◌<◌, ◌≤◌, ◌⊎◌, inl, inr, List, [], ◌∷◌, length, map, get_or, set, Bool, true, false, cond, Option, Some, None, Result, Ok, Err, is_some, arith, refl, sym, ◌∙◌, ap, subst, get_or-set_same, get_or-set_other, add-one}
-use Rattle.std.specs.Prelude.{ℤ, pos, ◌+ℤ◌, ◌-ℤ◌, count_by, IsTrue}
+use Rattle.std.proofs.Common.{◌≡◌, ◌≢◌, ℕ, suc, ◌+◌, ◌<◌, ◌⊎◌, inl, inr, List, length, get_or, set, cond, Option, Some, None, Result, Ok, is_some, arith, sym, ◌∙◌, ap, subst, get_or-set_same, get_or-set_other}
+use Rattle.std.specs.Prelude.{ℤ}
 use Rattle.std.proofs.lemmas.Bool.{cases_eq}
 use Rattle.std.proofs.lemmas.List.Sums.{sum_by-set}
 use Rattle.ptg_base.specs.Task.{Task}
@@ -12,9 +12,9 @@ use Rattle.term_core.specs.declared.fault.ExprFault.{ExprFault}
 use Rattle.dep_iter.specs.declared.source.Source.{Source}
 use Rattle.dep_iter.specs.declared.source.Source.TheVariants as source
 use Rattle.dep_iter.specs.Sources.{source_of}
-use Rattle.dep_iter.specs.Space.{space, task_of, numbers_from, IsTask}
-use Rattle.dep_iter.specs.Consistent.{IsConsistent, IsWell, IsGoodSource}
-use Rattle.flow_core.specs.Backward.{Ended, output, input, ended_on, ended_within}
+use Rattle.dep_iter.specs.Space.{IsTask}
+use Rattle.dep_iter.specs.Consistent.{IsGoodSource}
+use Rattle.flow_core.specs.Backward.{Ended, ended_within}
 use Rattle.flow_core.specs.States.{IsRange, IsKnown, task_at, known, next, count}
 use Rattle.flow_core.proofs.Within.{ended_on-more, within_suc}
 use Rattle.flow_core.proofs.Places.{known_at, place_of, in_range}

@@ -3,3 +3,13 @@ pub mod Places
 pub mod Known
 pub mod Rest
 pub mod Ends
+pub mod Laid
+pub mod Put
+pub mod Writes
+pub mod All
+pub mod Order
+pub mod Presence
+pub mod RowsOfAnswer
+pub mod Complete
+pub mod Targets
+pub mod Tried

@@ -1,5 +1,5 @@
 -- The places of the tasks in their range.
-use Rattle.std.proofs.Common.{◌≡◌, ℕ, zero, suc, ◌+◌, ◌-◌, ◌<◌, ◌≤◌, ◌⊎◌, inl, inr, List, [], ◌∷◌, length, map, get_or, Option, Some, None, arith, refl, sym, ◌∙◌, ap, subst}
+use Rattle.std.proofs.Common.{◌≡◌, ℕ, zero, suc, ◌<◌, inl, inr, List, [], ◌∷◌, length, map, get_or, Option, None, arith, refl, sym, ◌∙◌, ap, subst}
 use Rattle.std.specs.Prelude.{ℤ, pos, ◌+ℤ◌, ◌-ℤ◌}
 use Rattle.std.proofs.lemmas.Int.{ints}
 use Rattle.ptg_base.specs.Task.{Task}
@@ -7,7 +7,7 @@ use Rattle.ptg_base.specs.Lists.{IsIn}
 use Rattle.plan_core.specs.declared.plan.Plan.{Plan}
 use Rattle.dep_iter.specs.Space.{space, task_of, numbers_from}
 use Rattle.flow_core.specs.Backward.{Ended}
-use Rattle.flow_core.specs.States.{IsRange, task_at, param, at_place, known}
+use Rattle.flow_core.specs.States.{IsRange, task_at, at_place, known}
 
 pub known_at : (lo : ℤ) (S : List (Option Ended)) (k : ℕ) → known lo S (task_at lo k) ≡ get_or S k None
 known_at lo S k = let e : (lo +ℤ pos k) -ℤ lo ≡ pos k = omega (arith, ints) in ap (at_place S) e
@@ -48,3 +48,7 @@ list_of_range f d lo (x ∷ xs) h =
     λ k lt. let y : lo +ℤ pos (suc k) ≡ (lo +ℤ pos 1) +ℤ pos k = omega (arith, ints) in h (suc k) (omega arith) ∙ ap (λ v. f (task_of v)) y in
     let rest : xs ≡ map f (map task_of (numbers_from (lo +ℤ pos 1) (length xs))) = list_of_range f d (lo +ℤ pos 1) xs more in
     cc
+
+-- how many tasks a job has
+pub range_count : (P : Plan) (lo : ℤ) (n : ℕ) → IsRange P lo n → length (space P) ≡ n
+range_count P lo n r = ap length r.tasks ∙ length_range lo n

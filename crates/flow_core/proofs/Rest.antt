@@ -1,6 +1,6 @@
 -- Where no other task can run, what is known is how all tasks end.
-use Rattle.std.proofs.Common.{◌≡◌, ◌≢◌, ℕ, zero, suc, ◌+◌, ◌-◌, ◌<◌, ◌≤◌, List, [], ◌∷◌, length, map, get_or, Option, Some, None, Result, Ok, Err, is_some, arith, refl, sym, ◌∙◌, ap, subst}
-use Rattle.std.specs.Prelude.{ℤ, pos, ◌+ℤ◌}
+use Rattle.std.proofs.Common.{◌≡◌, ℕ, zero, suc, ◌<◌, ◌≤◌, List, length, map, get_or, Option, Some, None, Result, Ok, Err, is_some, arith, refl, sym, ◌∙◌, ap, subst}
+use Rattle.std.specs.Prelude.{ℤ}
 use Rattle.std.proofs.lemmas.List.Sums.{count_by-le-length}
 use Rattle.ptg_base.specs.Task.{Task}
 use Rattle.ptg_base.specs.declared.edge.Edge.{Edge}
@@ -10,9 +10,9 @@ use Rattle.term_core.specs.declared.fault.ExprFault.{ExprFault}
 use Rattle.dep_iter.specs.declared.source.Source.{Source}
 use Rattle.dep_iter.specs.declared.source.Source.TheVariants as source
 use Rattle.dep_iter.specs.Sources.{source_of}
-use Rattle.dep_iter.specs.Space.{space, task_of, numbers_from, IsTask}
+use Rattle.dep_iter.specs.Space.{space, task_of, numbers_from}
 use Rattle.flow_core.specs.Backward.{Ended, output, input, ended_on, ended_within, ended}
-use Rattle.flow_core.specs.States.{IsRange, IsKnown, IsAtRest, task_at, known, next, count}
+use Rattle.flow_core.specs.States.{IsRange, IsKnown, IsAtRest, task_at, known, count}
 use Rattle.flow_core.proofs.Within.{within_le, within_one}
 use Rattle.flow_core.proofs.Places.{known_at, list_of_range, length_range}
 use Rattle.flow_core.proofs.Known.{task_place, source_task}

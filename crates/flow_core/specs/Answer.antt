@@ -1,8 +1,7 @@
 -- The answer of a job: all tasks that trap; else the final data, where all tasks run; else the stall, with the discovered tasks that wait.
-use Rattle.std.specs.Prelude.{ℕ, ◌<◌, nat_lt, Bool, true, false, ◌==◌, ◌&&◌, List, [], ◌∷◌, length, filter, flat_map, count_by, Ok, Err, Option, Some, None, is_some, if◌then◌else◌}
+use Rattle.std.specs.Prelude.{ℕ, nat_lt, ◌==◌, List, [], ◌∷◌, length, filter, flat_map, count_by, Ok, Err, Option, Some, None, is_some, if◌then◌else◌}
 use Rattle.ptg_base.specs.Task.{Task}
 use Rattle.ptg_base.specs.TaskOrder.{in_task_order}
-use Rattle.ptg_base.specs.declared.edge.Edge.{Edge}
 use Rattle.plan_core.specs.declared.plan.Plan.{Plan}
 use Rattle.coll_data.specs.declared.given.Given.{Given}
 use Rattle.dep_iter.specs.Space.{space}

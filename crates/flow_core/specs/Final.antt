@@ -1,5 +1,5 @@
 -- The data after a complete run: each place that a task writes back to has that task's tile, each other place its opening tile.
-use Rattle.std.specs.Prelude.{ℕ, suc, ℤ, pos, Bool, ◌==◌, ◌&&◌, List, [], ◌∷◌, Option, Some, None, unwrap_or, if◌then◌else◌}
+use Rattle.std.specs.Prelude.{ℕ, suc, ℤ, pos, Bool, ◌==◌, ◌&&◌, List, [], ◌∷◌, Option, None, unwrap_or, if◌then◌else◌}
 use Rattle.std.specs.List.{list_any}
 use Rattle.std.specs.Ordering.{int_eq}
 use Rattle.ptg_base.specs.Task.{Task}

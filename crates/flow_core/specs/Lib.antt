@@ -4,3 +4,5 @@ pub mod Final
 pub mod Answer
 pub mod States
 pub mod Progress
+pub mod Laid
+pub mod Pending

@@ -7,6 +7,7 @@ mod rounds;
 mod rows;
 mod run;
 mod state;
+mod write;
 
 pub use outcome::{Outcome, TrapRow, WaitRow};
 pub use run::run_one;

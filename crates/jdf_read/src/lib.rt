@@ -10,6 +10,8 @@ mod operators;
 mod part;
 mod read;
 mod statement;
+#[cfg(test)]
+mod tests;
 mod tree;
 
 pub use expression::{ExprNode, ExprTree, Word};

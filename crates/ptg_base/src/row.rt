@@ -35,6 +35,13 @@ impl<T> Row<T> {
         Row { items }
     }
 
+    /// The values alone.
+    pub fn into_vec(self) -> Vec<T>
+        ensures { result.items ≡ self }
+    {
+        self.items
+    }
+
     pub fn as_slice(&self) -> &[T]
         ensures { result.now ≡ self.now }
     {

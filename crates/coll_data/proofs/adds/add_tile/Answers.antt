@@ -1,7 +1,5 @@
-use Rattle.std.proofs.Common.{◌≡◌, ◌<◌, ℕ, List, length, Result, Err, arith, sym, ◌∙◌, ap, subst}
+use Rattle.std.proofs.Common.{◌<◌, length, arith, sym, ◌∙◌, subst}
 use Rattle.std.proofs.lemmas.Result.{err_from_is_err_and}
-use Rattle.coll_data.specs.declared.fault.DataRefusal.{DataRefusal}
-use Rattle.coll_data.specs.declared.fault.DataRefusal.TheVariants.{Fault}
 use Rattle.coll_data.specs.Growing.{draft_of}
 use Rattle.coll_data.proofs.Opening.{texts_of}
 use Rattle.coll_data.proofs.Refusals.{refused, passed_on}

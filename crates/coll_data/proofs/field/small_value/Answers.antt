@@ -1,5 +1,4 @@
-use Rattle.std.proofs.Common.{◌≡◌, ◌+◌, ◌<◌, take, true, sym, ◌∙◌, arith}
-use Rattle.coll_data.specs.Fields.{is_digit, digits_value}
+use Rattle.std.proofs.Common.{◌+◌, sym, ◌∙◌, arith}
 use Rattle.coll_data.proofs.Digits.{value_more, all_more, none_of_large}
 use Rattle.coll_data.proofs.field.small_value.Goals as goal
 

@@ -1,4 +1,4 @@
-use Rattle.std.proofs.Common.{◌≡◌, ◌<◌, ◌≤◌, ℕ, ℤ, List, [], length, map, take, set, get_or, w64, sym, ◌∙◌, ap, subst, arith}
+use Rattle.std.proofs.Common.{◌≡◌, [], set, get_or, w64, sym, ◌∙◌, ap, subst, arith}
 use Rattle.std.proofs.lemmas.Int.{to_z-of_z}
 use Rattle.coll_data.specs.Fields.{IsWhole}
 use Rattle.coll_data.proofs.Opening.{texts_of, field_at, text_at, texts_size, opens_size, opens_none, opening_more, opens_of}
@@ -21,8 +21,8 @@ returns-in_default-clause-refused c =
     let same : get_or (texts_of values) c.loop-i.i [] ≡ field_at values c.loop-i.i = text_at values c.loop-i.i c.loop-i-test.true in
     refused c.not_built-in_default.result c.not_built-in_default.ensures
     (λ tile opens.
-      opens_none c.args.elems (texts_of values) tile c.loop-i.i [] (omega (arith, texts_size values))
-      (λ z whole. c.in_default.ensures.none z (subst (λ field. IsWhole field z) same whole)) opens)
+    opens_none c.args.elems (texts_of values) tile c.loop-i.i [] (omega (arith, texts_size values))
+    (λ z whole. c.in_default.ensures.none z (subst (λ field. IsWhole field z) same whole)) opens)
 
 pub loop-i-preserved : goal.loop-i-preserved
 loop-i-preserved c =

@@ -1,5 +1,5 @@
-use Rattle.std.proofs.Common.{◌≡◌, ◌↔◌, IsTrue, ◌≤ℤ◌, ◌<ℤ◌, arith, rules, w64, FitsSigned}
-use Rattle.std.proofs.lemmas.Int.{ints, to_z-of_z}
+use Rattle.std.proofs.Common.{◌≤ℤ◌, ◌<ℤ◌, arith, rules, w64, FitsSigned}
+use Rattle.std.proofs.lemmas.Int.{ints}
 use Rattle.edge_match.proofs.TaskLists.{IsIn-numbers_between, numbers_between-from, numbers_between-to}
 use Rattle.edge_match.proofs.tasks.has_number.Goals as goal
 

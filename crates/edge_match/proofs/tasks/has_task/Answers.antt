@@ -1,8 +1,7 @@
-use Rattle.std.proofs.Common.{◌≡◌, ◌↔◌, IsTrue, length, arith, rules, pos, slice_index_or, subst, ap, sym, ◌∙◌, w64, FitsSigned}
+use Rattle.std.proofs.Common.{◌≡◌, length, arith, rules, pos, slice_index_or, subst, ap, sym, w64, FitsSigned}
 use Rattle.std.proofs.lemmas.Int.{to_z-of_z}
 use Rattle.ptg_base.specs.Lists.{IsIn}
 use Rattle.dep_iter.specs.Space.{numbers_between}
-use Rattle.edge_match.specs.Tasks.{tasks_between}
 use Rattle.edge_match.proofs.TaskLists.{IsIn-tasks_between, tasks_between-IsIn}
 use Rattle.edge_match.proofs.tasks.has_task.Goals as goal
 
@@ -24,6 +23,7 @@ returns c =
     let fits : FitsSigned w64 v = search rules in
     let same = ap length c.params-params.ensures.same in
     let first : v ≡ slice_index_or c.args.t.now.params 0 (pos 0) = ap (λ ps. slice_index_or ps 0 (pos 0)) c.params-params.ensures.same in
-    let found = simp to_z-of_z at c.has_number.ensures in
-    ((λ h. IsIn-tasks_between t.lo t.hi c.args.t.now (omega arith) (omega arith) (subst (λ x. IsIn x (numbers_between t.lo t.hi)) first (found.0 h))),
-     (λ i. found.1 (subst (λ x. IsIn x (numbers_between t.lo t.hi)) (sym first) (tasks_between-IsIn t.lo t.hi c.args.t.now i).within)))
+    let found = simp to_z-of_z at c.has_number.ensures in (
+      (λ h. IsIn-tasks_between t.lo t.hi c.args.t.now (omega arith) (omega arith) (subst (λ x. IsIn x (numbers_between t.lo t.hi)) first (found.0 h))),
+      (λ i. found.1 (subst (λ x. IsIn x (numbers_between t.lo t.hi)) (sym first) (tasks_between-IsIn t.lo t.hi c.args.t.now i).within)),
+    )

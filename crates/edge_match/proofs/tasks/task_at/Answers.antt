@@ -1,4 +1,4 @@
-use Rattle.std.proofs.Common.{◌≡◌, ◌∙◌, ◌<◌, ◌≤◌, ◌∷◌, [], ap, sym, arith, drop, ◌+◌, ℤ, pos, ◌+ℤ◌, ◌≤ℤ◌, subst, rules, w64, FitsSigned, to_z, of_z}
+use Rattle.std.proofs.Common.{◌≡◌, ◌∙◌, ◌<◌, ◌∷◌, ap, sym, arith, drop, ◌+◌, pos, ◌+ℤ◌, ◌≤ℤ◌, subst, rules, w64, FitsSigned, to_z, of_z}
 use Rattle.std.proofs.lemmas.Int.{ints}
 use Rattle.dep_iter.specs.Space.{count_between, task_of}
 use Rattle.edge_match.specs.Tasks.{tasks_between}

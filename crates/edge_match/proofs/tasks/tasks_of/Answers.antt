@@ -1,6 +1,5 @@
-use Rattle.std.proofs.Common.{◌≡◌, ◌∙◌, ◌<◌, ◌≤◌, length, ap, sym, arith, rules, w64, FitsSigned}
+use Rattle.std.proofs.Common.{◌∙◌, length, ap, arith, rules, w64, FitsSigned}
 use Rattle.std.proofs.lemmas.Int.{to_z-of_z}
-use Rattle.dep_iter.specs.Space.{count_between, space}
 use Rattle.edge_match.specs.Tasks.{tasks_between}
 use Rattle.edge_match.proofs.TaskLists.{length-tasks_between}
 use Rattle.edge_match.proofs.tasks.tasks_of.Goals as goal

@@ -9,5 +9,5 @@ abbrev pub invariant-loop-k : goal.invariant-loop-k
 invariant-loop-k l = record {
   so_far : length (flat_map (items l.plan) (tasks_between l.tasks.lo l.tasks.hi))
       ≡ l.total + length (flat_map (items l.plan) (drop l.k (tasks_between l.tasks.lo l.tasks.hi)));
-  few : l.total ≤ 4000000
+  few : l.total ≤ 4000000;
 }

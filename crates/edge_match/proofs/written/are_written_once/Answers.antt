@@ -1,4 +1,4 @@
-use Rattle.std.proofs.Common.{◌≡◌, ◌+◌, ◌∙◌, [], ◌∷◌, ◌++◌, drop, ap, arith, subst, sym, refl}
+use Rattle.std.proofs.Common.{◌≡◌, ◌+◌, ◌∙◌, [], drop, ap, arith, subst, sym, refl}
 use Rattle.ptg_base.specs.Lists.{HasNoRepeats}
 use Rattle.edge_match.specs.Tasks.{tasks_between}
 use Rattle.edge_match.specs.Meeting.{places_among, places_written}
@@ -13,10 +13,12 @@ returns-then-not-branch c =
     let t = c.args.tasks.now in
     let p = c.args.plan.now in
     let here = ap (places_written p) c.task_at-t.ensures ∙ places_written-cons p c.task_at-t.result (drop (c.loop-k.k + 1) (tasks_between t.lo t.hi)) in
-    let found = c.in_ok-put_task.ensures.new in
-    ((λ h. cc), (λ x. absurd (new_fails (HasNoRepeats (places_written p (tasks_between t.lo t.hi))) c.loop-k.seen.keys _
-    (places_among (items p c.task_at-t.result)) _ here
-    (λ n. both_false c.in_ok-put_task.field-0 (found.1 n) c.if-not-branch.true) c.loop-k.invariant x)))
+    let found = c.in_ok-put_task.ensures.new in (
+      (λ h. cc),
+      (λ x. absurd (new_fails (HasNoRepeats (places_written p (tasks_between t.lo t.hi))) c.loop-k.seen.keys _
+          (places_among (items p c.task_at-t.result)) _ here
+          (λ n. both_false c.in_ok-put_task.field-0 (found.1 n) c.if-not-branch.true) c.loop-k.invariant x)),
+    )
 
 pub loop-k-preserved : goal.loop-k-preserved
 loop-k-preserved c =

@@ -10,5 +10,5 @@ abbrev pub invariant-loop-item : goal.invariant-loop-item
 invariant-loop-item l = record {
   new : AreNew l.initial.seen.keys (places_among l.gathered) ↔ AreNew l.seen.keys (places_among (drop l.item-index l.gathered));
   kept : (p : Place) → (IsIn p l.initial.seen.keys ⊎ IsIn p (places_among l.gathered))
-      ↔ (IsIn p l.seen.keys ⊎ IsIn p (places_among (drop l.item-index l.gathered)))
+      ↔ (IsIn p l.seen.keys ⊎ IsIn p (places_among (drop l.item-index l.gathered)));
 }

@@ -1,8 +1,6 @@
-use Rattle.std.proofs.Common.{◌≡◌, ◌≤◌, ◌+◌, SFits, w64, rules, arith, map, ap, sym, subst, ◌∙◌}
-use Rattle.std.specs.Prelude.{pos, ◌-ℤ◌, ◌≤ℤ◌, ◌<ℤ◌, unsigned_abs}
+use Rattle.std.proofs.Common.{◌≡◌, SFits, w64, rules, arith}
+use Rattle.std.specs.Prelude.{pos, ◌-ℤ◌, ◌<ℤ◌, unsigned_abs}
 use Rattle.std.proofs.lemmas.Int.{ints, to_z-of_z}
-use Rattle.dep_iter.specs.Space.{space, task_of, numbers_between}
-use Rattle.flow_core.specs.States.{IsRange}
 use Rattle.flow_core.proofs.Ends.{few_between, range_between}
 use Rattle.flow_core.proofs.range.range_of.Goals as goal
 

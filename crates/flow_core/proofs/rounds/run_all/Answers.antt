@@ -1,8 +1,7 @@
-use Rattle.std.proofs.Common.{◌≡◌, List, length, take, drop, ◌++◌, get_or, map, Option, Some, None, refl, sym, ◌∙◌, ap, arith, rules, subst, SFits, w64, Ok}
+use Rattle.std.proofs.Common.{◌≡◌, length, drop, sym, ◌∙◌, ap, arith, subst, SFits, w64, Ok}
 use Rattle.std.proofs.lemmas.Int.{to_z-of_z}
 use Rattle.std.proofs.lemmas.List.{take_at}
 use Rattle.std.proofs.lemmas.Grind.{common_steps}
-use Rattle.flow_core.specs.Backward.{Ended}
 use Rattle.flow_core.specs.States.{IsRange, IsKnown, IsAtRest}
 use Rattle.flow_core.proofs.Rest.{all_known}
 use Rattle.flow_core.proofs.rounds.run_all.Goals as goal

@@ -1,9 +1,8 @@
-use Rattle.std.proofs.Common.{◌≡◌, List, length, get_or, Option, Some, None, refl, sym, ◌∙◌, ap, arith, rules, SFits, w64}
+use Rattle.std.proofs.Common.{◌≡◌, length, get_or, Some, None, refl, sym, ◌∙◌, ap, arith, SFits, w64}
 use Rattle.std.proofs.lemmas.List.{get_or_read}
 use Rattle.std.proofs.lemmas.Grind.{common_steps}
 use Rattle.std.proofs.lemmas.Int.{to_z-of_z}
-use Rattle.flow_core.specs.Backward.{Ended}
-use Rattle.flow_core.specs.States.{IsRange, IsKnown, task_at, next}
+use Rattle.flow_core.specs.States.{task_at, next}
 use Rattle.flow_core.proofs.Known.{known_set}
 use Rattle.flow_core.proofs.rounds.step.Goals as goal
 

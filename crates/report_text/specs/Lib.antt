@@ -1,0 +1,4 @@
+pub mod Puts
+pub mod Field
+pub mod Printed
+pub mod Refusal
