@@ -2,3 +2,4 @@ pub mod Stages
 pub mod Meaning
 pub mod Steps
 pub mod Reports
+pub mod Headline

@@ -2,8 +2,12 @@
 #![tactic(auto)]
 
 mod judge;
+mod program;
 mod stages;
 mod status;
+mod telling;
 mod verdict;
 
+pub use program::ptg_main;
 pub use status::Status;
+pub use verdict::Verdict;

@@ -22,7 +22,7 @@ pub enum Line<'a> {
     /// The edges of the job do not fit each other.
     Match,
     /// The file with this name could not be read.
-    Unread(&'a str),
+    Unread(&'a [u8]),
 }
 
 /// Prints a refusal. On `Err` some first bytes of it went out.
@@ -74,7 +74,7 @@ fn put_refusal<O: Sink>(sink: &mut O, out: &mut Pieces, line: &Line) -> Result<(
                 sink,
                 out,
                 b"unread",
-                &[Field::Word(name.as_bytes())],
+                &[Field::Word(name)],
                 &[],
                 &[],
             )

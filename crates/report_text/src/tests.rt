@@ -136,7 +136,7 @@ fn each_refusal_has_its_line(rt: HostRuntime) -> Result<(), Fail> {
     refusal(&Line::Jdf(jdf), &mut sink)?;
     refusal(&Line::Rows(rows), &mut sink)?;
     refusal(&Line::Match, &mut sink)?;
-    refusal(&Line::Unread("a b.jdf"), &mut sink)?;
+    refusal(&Line::Unread(b"a b.jdf"), &mut sink)?;
     let text =
         b"usage\nrefused,12,3,NotBuilt\ndata,4,NotBuilt\ninconsistent,NotBuilt\nunread,a b.jdf\n";
     assert_eq!(rt; sink.bytes(), text.as_slice());
@@ -151,11 +151,11 @@ fn a_failing_third_write_leaves_two_pieces(rt: HostRuntime) -> Result<(), Fail> 
         name.push('a')?;
     }
     let mut good = MemSink::new(alloc, Row::new(alloc));
-    assert_eq!(rt; refusal(&Line::Unread(name.as_str()), &mut good), Ok(()));
+    assert_eq!(rt; refusal(&Line::Unread(name.as_bytes()), &mut good), Ok(()));
     assert_eq!(rt; good.bytes().len(), 8212);
     let mut bad = MemSink::new(alloc, Row::of(vec![in alloc; 3]?));
     assert_eq!(rt;
-        refusal(&Line::Unread(name.as_str()), &mut bad),
+        refusal(&Line::Unread(name.as_bytes()), &mut bad),
         Err(Failed)
     );
     assert_eq!(rt; bad.bytes().len(), 8192);

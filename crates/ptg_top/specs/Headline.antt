@@ -1,0 +1,70 @@
+-- What is printed for a verdict, and what a run of the program promises.
+use Rattle.std.specs.Prelude.{◌≡◌, ◌⊎◌, ℕ, ◌++◌, List, [], ◌∷◌, Option, Some, codes}
+use Rattle.ptg_io.specs.Faults.{Rose}
+use Rattle.ptg_io.specs.Sink.{appended}
+use Rattle.flow_core.specs.declared.outcome.Outcome.{Outcome}
+use Rattle.flow_core.specs.declared.outcome.Outcome.TheVariants as outcome
+use Rattle.report_text.specs.Printed.{line, outcome_text}
+use Rattle.report_text.specs.Refusal.{refusal_text}
+use Rattle.report_text.specs.declared.refusal_line.Line.TheVariants as line_of
+use Rattle.report_text.specs.Puts.{HasPrefix}
+use Rattle.ptg_top.specs.declared.status.Status.{Status}
+use Rattle.ptg_top.specs.declared.status.Status.TheVariants.{Complete, Usage, JdfRefused, DataRefused, Inconsistent, Trapped, Stalled, ReadFault, WriteFault, OutOfMemory}
+use Rattle.ptg_top.specs.declared.verdict.Verdict.{Verdict}
+use Rattle.ptg_top.specs.declared.verdict.Verdict.TheVariants as say
+use Rattle.ptg_top.specs.Stages.{Entries}
+use Rattle.ptg_top.specs.Meaning.{Means}
+use Rattle.ptg_top.specs.Reports.{Judged}
+
+-- the line that names a file which could not be read
+abbrev pub unread_line : List ℕ → List ℕ
+unread_line name = line (codes "unread" ∷ name ∷ [])
+
+-- what is printed for a verdict
+abbrev pub text_of : Verdict → List ℕ
+text_of say.Usage = refusal_text line_of.Usage
+text_of (say.Unread name) = unread_line name
+text_of (say.Jdf fault) = refusal_text (line_of.Jdf fault)
+text_of (say.Data fault) = refusal_text (line_of.Rows fault)
+text_of (say.Match fault) = refusal_text line_of.Match
+text_of (say.Answer P answer) = outcome_text P answer
+
+abbrev pub status_of_outcome : Outcome → Status
+status_of_outcome (outcome.Complete count given) = Complete
+status_of_outcome (outcome.Trapped rows) = Trapped
+status_of_outcome (outcome.Stalled ran total rows) = Stalled
+
+-- and its status
+abbrev pub status_of : Verdict → Status
+status_of say.Usage = Usage
+status_of (say.Unread name) = ReadFault
+status_of (say.Jdf fault) = JdfRefused
+status_of (say.Data fault) = DataRefused
+status_of (say.Match fault) = Inconsistent
+status_of (say.Answer P answer) = status_of_outcome answer
+
+-- the statuses of a verdict that no fault of the outside took the place of
+abbrev pub IsExact : Status → Type 0
+IsExact Complete = Unit {0}
+IsExact Usage = Unit {0}
+IsExact JdfRefused = Unit {0}
+IsExact DataRefused = Unit {0}
+IsExact Inconsistent = Unit {0}
+IsExact Trapped = Unit {0}
+IsExact Stalled = Unit {0}
+IsExact ReadFault = ⊥
+IsExact WriteFault = ⊥
+IsExact OutOfMemory = ⊥
+
+-- the sink grew by exactly what words and files mean, and this is its status
+pub record Prints (words : List (List ℕ)) (files : Entries) (before after : Option (List ℕ)) (status : Status) : Type 0 where
+  pub verdict : Verdict
+  pub means : Means words files verdict
+  pub text : after ≡ appended before (text_of verdict)
+  pub status : status ≡ status_of verdict
+
+-- a failed write cut off what was due: what the words and files mean, or the name of a file of which a read failed
+pub record IsCut (words : List (List ℕ)) (told : Option Entries) (old new : List ℕ → ℕ) (before after : Option (List ℕ)) : Type 0 where
+  pub verdict : Verdict
+  pub due : Judged words told old new verdict
+  pub prefix : HasPrefix before after (text_of verdict)

@@ -1,0 +1,57 @@
+//! The program.
+
+ghost use Rattle.std.specs.Prelude.{◌≡◌, ◌⊎◌, ◌≤◌, ℕ, List, Some};
+ghost use Rattle.ptg_io.specs.Faults.{Rose};
+ghost use Rattle.ptg_io.specs.Sink.{appended};
+ghost use Rattle.ptg_top.specs.Stages.{Entries};
+ghost use Rattle.ptg_top.specs.Meaning.{IsNoOrder, MayBeUnread};
+ghost use Rattle.ptg_top.specs.Headline.{IsExact, Prints, IsCut, unread_line};
+
+use crate::judge::judge;
+use crate::status::Status;
+use crate::telling::{status, tell};
+use ptg_base::{OutOfMemory, Text};
+use ptg_io::{Failed, Files, Sink};
+use std::alloc::Global;
+
+/// Does what the words order, with these files, and prints the answer.
+///
+/// Whatever the JDF and the data, `run JDF DATA` prints exactly the answer of the sequential dataflow meaning, with its
+/// status: the refusal, the final collections, all trapped tasks, or a stall with its waiting discovered tasks. Only a
+/// counted fault of reading or writing, or want of memory, takes its place.
+pub fn ptg_main<F: Files, O: Sink>(
+    alloc: Global,
+    words: &[Text],
+    files: &mut F,
+    out: &mut O,
+) -> Status
+    // Where the files are told: exactly the text and the status that words and files mean.
+    ensures exact { (entries : Entries) → F.told files.old ≡ Some entries → IsExact result →
+        Prints words.now entries (O.bytes out.old) (O.bytes out.new) result }
+    // A read fault comes only where a read of the name that is printed failed, and that name may be the data file's only behind a JDF.
+    ensures unread { result ≡ Status.ReadFault → (name : List ℕ)
+        × Rose (F.faults files.old name) (F.faults files.new name)
+        × MayBeUnread words.now (F.told files.old) name
+        × (O.bytes out.new ≡ appended (O.bytes out.old) (unread_line name)) }
+    // A write fault comes only where a write failed, and then a front of what was due was written.
+    ensures cut { result ≡ Status.WriteFault → Rose (O.faults out.old) (O.faults out.new)
+        × IsCut words.now (F.told files.old) (F.faults files.old) (F.faults files.new) (O.bytes out.old) (O.bytes out.new) }
+    // Where memory is wanting nothing is written.
+    ensures silent { result ≡ Status.OutOfMemory → O.bytes out.new ≡ O.bytes out.old }
+    // Where no read and no write failed: what words and files mean, unless memory is wanting.
+    ensures complete { (entries : Entries) → F.told files.old ≡ Some entries
+        → ((name : List ℕ) → Rose (F.faults files.old name) (F.faults files.new name) → ⊥)
+        → (Rose (O.faults out.old) (O.faults out.new) → ⊥)
+        → Prints words.now entries (O.bytes out.old) (O.bytes out.new) result ⊎ (result ≡ Status.OutOfMemory) }
+    // Whatever the files: usage is answered only to words that order nothing, and to those nothing else, unless a write failed or memory is wanting.
+    ensures usage_only { result ≡ Status.Usage → IsNoOrder words.now }
+    ensures usage { IsNoOrder words.now → (result ≡ Status.Usage) ⊎ ((result ≡ Status.WriteFault) ⊎ (result ≡ Status.OutOfMemory)) }
+{
+    match judge(alloc, words, files) {
+        Ok(verdict) => match tell(&verdict, out) {
+            Ok(()) => status(&verdict),
+            Err(Failed) => Status::WriteFault,
+        },
+        Err(OutOfMemory) => Status::OutOfMemory,
+    }
+}

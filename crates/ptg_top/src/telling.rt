@@ -1,0 +1,54 @@
+//! A verdict, printed.
+
+ghost use Rattle.std.specs.Prelude.{◌≡◌, ◌≤◌, OnOk, OnErr};
+ghost use Rattle.ptg_io.specs.Faults.{Rose};
+ghost use Rattle.ptg_io.specs.Sink.{appended};
+ghost use Rattle.report_text.specs.Puts.{HasPrefix};
+ghost use Rattle.ptg_top.specs.Headline.{text_of, status_of, status_of_outcome};
+
+use crate::status::Status;
+use crate::verdict::Verdict;
+use flow_core::Outcome;
+use ptg_io::{Failed, Sink};
+use report_text::{Line, refusal, report};
+
+/// Prints a verdict. On `Err` some first bytes of its text went out.
+pub fn tell<O: Sink>(verdict: &Verdict, out: &mut O) -> Result<(), Failed>
+    ensures ok { OnOk result (O.bytes out.new ≡ appended (O.bytes out.old) (text_of verdict.now)) }
+    ensures prefix { OnErr result (HasPrefix (O.bytes out.old) (O.bytes out.new) (text_of verdict.now)) }
+    ensures grows { O.faults out.old ≤ O.faults out.new }
+    ensures failed { OnErr result (Rose (O.faults out.old) (O.faults out.new)) }
+{
+    match verdict {
+        Verdict::Usage => refusal(&Line::Usage, out),
+        Verdict::Unread(name) => refusal(&Line::Unread(name.bytes()), out),
+        Verdict::Jdf(fault) => refusal(&Line::Jdf(*fault), out),
+        Verdict::Data(fault) => refusal(&Line::Rows(*fault), out),
+        Verdict::Match(_) => refusal(&Line::Match, out),
+        Verdict::Answer(matched, outcome) => report(matched.plan(), outcome, out),
+    }
+}
+
+/// The status of a verdict whose text went out.
+pub fn status(verdict: &Verdict) -> Status
+    ensures { result ≡ status_of verdict.now }
+{
+    match verdict {
+        Verdict::Usage => Status::Usage,
+        Verdict::Unread(_) => Status::ReadFault,
+        Verdict::Jdf(_) => Status::JdfRefused,
+        Verdict::Data(_) => Status::DataRefused,
+        Verdict::Match(_) => Status::Inconsistent,
+        Verdict::Answer(_, outcome) => status_of_outcome(outcome),
+    }
+}
+
+fn status_of_outcome(outcome: &Outcome) -> Status
+    ensures { result ≡ status_of_outcome outcome.now }
+{
+    match outcome {
+        Outcome::Complete(_, _) => Status::Complete,
+        Outcome::Trapped(_) => Status::Trapped,
+        Outcome::Stalled(_, _, _) => Status::Stalled,
+    }
+}
