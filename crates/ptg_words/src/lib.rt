@@ -6,3 +6,6 @@ mod reading;
 
 pub use order::{Order, WordsRefusal};
 pub use reading::words;
+
+#[cfg(test)]
+mod tests;
