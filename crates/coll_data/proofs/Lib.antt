@@ -1,6 +1,8 @@
 pub mod Cuts
 pub mod Digits
 pub mod Going
+pub mod Keys
+pub mod Known
 pub mod Lines
 pub mod Once
 pub mod Opening

@@ -1,5 +1,11 @@
 -- The data of the lines so far, as the code has them, and what its calls make of them.
-use Rattle.std.specs.Prelude.{◌≡◌, ℕ, ◌+◌, ◌*◌, ◌≤◌, ℤ, pos, List}
+use Rattle.std.specs.Prelude.{◌≡◌, ℕ, ◌+◌, ◌*◌, ◌≤◌, ℤ, pos, Bool, List, Option, Some, None, position, bytes_eq, if◌then◌else◌}
+use Rattle.std.specs.List.{list_any}
+use Rattle.coll_data.specs.declared.given.Coll.{Coll}
+use Rattle.coll_data.specs.declared.given.Int.{Int}
+use Rattle.coll_data.specs.declared.names.Known.{Known}
+use Rattle.coll_data.specs.declared.names.Known.TheVariants.{Integer, Collection}
+use Rattle.coll_data.specs.Names.{found}
 use Rattle.coll_data.specs.declared.growing.Growing.{Growing}
 use Rattle.coll_data.specs.Fields.{IsWhole, AreWhole}
 use Rattle.coll_data.specs.Data.{Draft, opened}
@@ -20,3 +26,16 @@ pub record HasRoom (draft : Draft) (number : List ℕ) (count : ℕ) : Type 0 wh
   pub some : 1 ≤ count
   pub few : count ≤ 65536
   pub room : (draft.tiles + count) * draft.elems ≤ 16777216
+
+-- A place, or else an integer if there is one.
+abbrev pub place_or_integer : Option ℕ → Bool → Option Known
+place_or_integer (Some at) integer = Some (Collection at)
+place_or_integer None integer = if integer then Some Integer else None
+
+-- What a name stands for.
+abbrev pub meaning : List Int → List Coll → List ℕ → Option Known
+meaning ints colls n = place_or_integer (position (λ (coll : Coll). bytes_eq coll.name n) colls) (list_any (λ (int : Int). bytes_eq int.name n) ints)
+
+-- The names are those of the integers and the collections.
+abbrev pub IsKeyed : Growing → Type 0
+IsKeyed all = (n : List ℕ) → found all.names n ≡ meaning all.ints all.colls.items n

@@ -1,30 +1,42 @@
-ghost use Rattle.std.specs.Prelude.{◌≡◌, ◌∷◌, [], true, false, map, codes, length, Err, OnOk, IsTrue, ℕ, IfSome, IfNone};
+ghost use Rattle.std.specs.Prelude.{◌≡◌, ◌∷◌, [], true, false, map, codes, length, bytes_eq, position, Err, OnOk, IsTrue, ℕ, IfSome, IfNone};
 ghost use Rattle.coll_data.specs.declared.fault.DataFault.{DataFault};
 ghost use Rattle.coll_data.specs.declared.fault.DataRefusal.TheVariants.{Fault};
+ghost use Rattle.coll_data.specs.declared.given.Coll.{Coll};
 ghost use Rattle.coll_data.specs.Fields.{is_name};
 ghost use Rattle.coll_data.specs.Data.{AddsInt, AddsColl, AddsTile, Draft, IsNew, IsFree, not_built};
-ghost use Rattle.coll_data.specs.Growing.{draft_of, HasRoom};
+ghost use Rattle.coll_data.specs.Growing.{draft_of, HasRoom, IsKeyed};
 
 use crate::fault::DataRefusal;
 use crate::field::{is_name, whole};
 use crate::given::{Coll, Int};
 use crate::growing::Growing;
-use crate::parts::{coll_at, has_coll, has_int, not_built, opened_tile, zero_tiles};
+use crate::names::Known;
+use crate::parts::{not_built, opened_tile, zero_tiles};
 use ptg_base::{Row, Text};
 use std::alloc::Global;
 
 /// Whether a further integer or collection may have this name.
 fn may_name(all: &Growing, name: &[u8]) -> bool
+    requires { IsKeyed all.now }
     ensures yes { result ≡ true → IsTrue (is_name name.now) × IsNew (draft_of all.now) name.now }
     ensures no { result ≡ false → IsTrue (is_name name.now) → IsNew (draft_of all.now) name.now → ⊥ }
 {
     if !is_name(name) {
         return false;
     }
-    if has_int(all.ints.as_slice(), name) {
-        return false;
+    all.names.find(name).is_none()
+}
+
+/// The place of the collection of this name.
+fn coll_at(all: &Growing, name: &[u8]) -> Option<usize>
+    requires { IsKeyed all.now }
+    ensures { result ≡ position (λ (coll : Coll). bytes_eq coll.name name.now) all.now.colls.items }
+{
+    match all.names.find(name) {
+        Some(Known::Collection(at)) => Some(at),
+        Some(Known::Integer) => None,
+        None => None,
     }
-    !has_coll(all.colls.as_slice(), name)
 }
 
 /// Adds the integer of a line.
@@ -34,6 +46,8 @@ pub fn add_int(
     name: &[u8],
     number: &[u8],
 ) -> Result<(), DataRefusal>
+    requires { IsKeyed all.old }
+    ensures keyed { OnOk result (IsKeyed all.new) }
     ensures ok { OnOk result (AddsInt (draft_of all.old) (codes "int" ∷ name.now ∷ number.now ∷ []) (draft_of all.new)) }
     ensures refused { (fault : DataFault) → result ≡ Err (Fault fault) → (fault ≡ not_built) × ((new : Draft) → AddsInt (draft_of all.old) (codes "int" ∷ name.now ∷ number.now ∷ []) new → ⊥) }
 {
@@ -43,6 +57,7 @@ pub fn add_int(
     let Some(value) = whole(number) else {
         return Err(not_built());
     };
+    all.names.put(alloc, name, Known::Integer)?;
     let name = Text::of(alloc, name)?;
     all.ints.push(Int { name, value })?;
     Ok(())
@@ -71,6 +86,8 @@ pub fn add_coll(
     name: &[u8],
     number: &[u8],
 ) -> Result<(), DataRefusal>
+    requires { IsKeyed all.old }
+    ensures keyed { OnOk result (IsKeyed all.new) }
     ensures ok { OnOk result (AddsColl (draft_of all.old) (codes "coll" ∷ name.now ∷ number.now ∷ []) (draft_of all.new)) }
     ensures refused { (fault : DataFault) → result ≡ Err (Fault fault) → (fault ≡ not_built) × ((new : Draft) → AddsColl (draft_of all.old) (codes "coll" ∷ name.now ∷ number.now ∷ []) new → ⊥) }
 {
@@ -80,6 +97,8 @@ pub fn add_coll(
     let Some(count) = count_of(all, number) else {
         return Err(not_built());
     };
+    let place = all.colls.len();
+    all.names.put(alloc, name, Known::Collection(place))?;
     let name = Text::of(alloc, name)?;
     let tiles = zero_tiles(alloc, count, all.elems)?;
     let flags = Row::of(vec![in alloc; false; count as usize]?);
@@ -91,10 +110,11 @@ pub fn add_coll(
 
 /// The collection of this name and its tile of this index, where no line gave that yet.
 fn free_tile(all: &Growing, name: &[u8], number: &[u8]) -> Option<(usize, usize)>
+    requires { IsKeyed all.now }
     ensures some { IfSome result (λ slot. IsFree (draft_of all.now) name.now number.now slot.0 slot.1) }
     ensures none { IfNone result ((at place : ℕ) → IsFree (draft_of all.now) name.now number.now at place → ⊥) }
 {
-    let at = coll_at(all.colls.as_slice(), name)?;
+    let at = coll_at(all, name)?;
     let place = whole(number)?;
     if place < 0 {
         return None;
@@ -121,6 +141,8 @@ pub fn add_tile(
     number: &[u8],
     values: &[&[u8]],
 ) -> Result<(), DataRefusal>
+    requires { IsKeyed all.old }
+    ensures keyed { OnOk result (IsKeyed all.new) }
     ensures ok { OnOk result (AddsTile (draft_of all.old) (codes "tile" ∷ name.now ∷ number.now ∷ map (λ field. field.now) values.now) (draft_of all.new)) }
     ensures refused { (fault : DataFault) → result ≡ Err (Fault fault) → (fault ≡ not_built) × ((new : Draft) → AddsTile (draft_of all.old) (codes "tile" ∷ name.now ∷ number.now ∷ map (λ field. field.now) values.now) new → ⊥) }
 {

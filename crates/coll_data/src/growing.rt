@@ -1,6 +1,7 @@
 ghost use Rattle.std.specs.Prelude.{◌≤◌};
 
 use crate::given::{Coll, Int};
+use crate::names::Names;
 use ptg_base::Row;
 
 /// The data of the lines so far.
@@ -13,6 +14,8 @@ pub struct Growing {
     pub given: Vec<Row<bool>>,
     /// The number of tiles of all collections.
     pub tiles: u32,
+    /// What each name of these stands for.
+    pub names: Names,
     ghost some: { 1 ≤ elems },
     ghost few: { elems ≤ 4096 },
     ghost room: { tiles ≤ 16777216 },

@@ -8,6 +8,7 @@ mod given;
 mod growing;
 mod laws;
 mod line;
+mod names;
 mod parts;
 mod place;
 mod read;

@@ -2,7 +2,7 @@ ghost use Rattle.std.specs.Prelude.{◌≡◌, map, Err, OnOk};
 ghost use Rattle.coll_data.specs.declared.fault.DataFault.{DataFault};
 ghost use Rattle.coll_data.specs.declared.fault.DataRefusal.TheVariants.{Fault};
 ghost use Rattle.coll_data.specs.Data.{Adds, Draft, fields_of, not_built};
-ghost use Rattle.coll_data.specs.Growing.{draft_of};
+ghost use Rattle.coll_data.specs.Growing.{draft_of, IsKeyed};
 
 use crate::adds::{add_coll, add_int, add_tile};
 use crate::fault::DataRefusal;
@@ -12,6 +12,8 @@ use crate::parts::not_built;
 use std::alloc::Global;
 
 fn add_fields(alloc: Global, all: &mut Growing, fields: &[&[u8]]) -> Result<(), DataRefusal>
+    requires { IsKeyed all.old }
+    ensures keyed { OnOk result (IsKeyed all.new) }
     ensures ok { OnOk result (Adds (draft_of all.old) (map (λ field. field.now) fields.now) (draft_of all.new)) }
     ensures refused { (fault : DataFault) → result ≡ Err (Fault fault) → (fault ≡ not_built) × ((new : Draft) → Adds (draft_of all.old) (map (λ field. field.now) fields.now) new → ⊥) }
 {
@@ -35,6 +37,8 @@ fn add_fields(alloc: Global, all: &mut Growing, fields: &[&[u8]]) -> Result<(), 
 
 /// Adds what a line says.
 pub fn add_line(alloc: Global, all: &mut Growing, line: &[u8]) -> Result<(), DataRefusal>
+    requires { IsKeyed all.old }
+    ensures keyed { OnOk result (IsKeyed all.new) }
     ensures ok { OnOk result (Adds (draft_of all.old) (fields_of line.now) (draft_of all.new)) }
     ensures refused { (fault : DataFault) → result ≡ Err (Fault fault) → (fault ≡ not_built) × ((new : Draft) → Adds (draft_of all.old) (fields_of line.now) new → ⊥) }
 {

@@ -8,7 +8,6 @@ ghost use Rattle.coll_data.specs.Data.{Opens, not_built};
 
 use crate::fault::{DataCode, DataFault, DataRefusal};
 use crate::field::{is_name, is_word, whole};
-use crate::given::{Coll, Int};
 use ptg_base::{OutOfMemory, Row, Text, Tile};
 use std::alloc::Global;
 
@@ -19,26 +18,6 @@ pub fn not_built() -> DataRefusal
         row: 0,
         code: DataCode::NotBuilt,
     })
-}
-
-pub fn has_int(ints: &[Int], name: &[u8]) -> bool
-    ensures { result ≡ list_any (λ (int : Int). bytes_eq int.name name.now) ints.now }
-{
-    ints.iter().any(|int| is_word(int.name.bytes(), name))
-}
-
-pub fn has_coll(colls: &[Coll], name: &[u8]) -> bool
-    ensures { result ≡ list_any (λ (coll : Coll). bytes_eq coll.name name.now) colls.now }
-{
-    colls.iter().any(|coll| is_word(coll.name.bytes(), name))
-}
-
-pub fn coll_at(colls: &[Coll], name: &[u8]) -> Option<usize>
-    ensures { result ≡ position (λ (coll : Coll). bytes_eq coll.name name.now) colls.now }
-{
-    colls
-        .iter()
-        .position(|coll| is_word(coll.name.bytes(), name))
 }
 
 /// Tiles of zeros.

@@ -4,7 +4,7 @@ ghost use Rattle.coll_data.specs.declared.fault.DataFault.{DataFault};
 ghost use Rattle.coll_data.specs.declared.fault.DataRefusal.TheVariants.{Fault, OutOfMemory};
 ghost use Rattle.coll_data.specs.declared.given.Given.{Given};
 ghost use Rattle.coll_data.specs.Data.{IsData, IsElems, begun, data_of, fields_of, not_built};
-ghost use Rattle.coll_data.specs.Growing.{draft_of};
+ghost use Rattle.coll_data.specs.Growing.{draft_of, IsKeyed};
 ghost use Rattle.coll_data.specs.Reading.{HasNoData};
 ghost use Rattle.coll_data.specs.Whole.{HasWholeTiles};
 
@@ -13,6 +13,7 @@ use crate::field::{fields_of, is_word, whole};
 use crate::given::Given;
 use crate::growing::Growing;
 use crate::line::add_line;
+use crate::names::Names;
 use crate::parts::not_built;
 use ptg_base::Row;
 use std::alloc::Global;
@@ -56,6 +57,7 @@ fn elems_of(fields: &[&[u8]]) -> Option<u32>
 /// The data of the first line.
 fn start(alloc: Global, line: &[u8]) -> Result<Growing, DataRefusal>
     ensures ok { IfOk result (λ all. IsElems (fields_of line.now) all.elems × (draft_of all ≡ begun all.elems)) }
+    ensures keyed { IfOk result (λ all. IsKeyed all) }
     ensures refused { (fault : DataFault) → result ≡ Err (Fault fault) → (fault ≡ not_built) × ((elems : ℕ) → IsElems (fields_of line.now) elems → ⊥) }
 {
     let fields = fields_of(alloc, line)?;
@@ -68,6 +70,7 @@ fn start(alloc: Global, line: &[u8]) -> Result<Growing, DataRefusal>
         colls: Vec::new(alloc),
         given: Vec::new(alloc),
         tiles: 0,
+        names: Names::new(alloc),
     })
 }
 

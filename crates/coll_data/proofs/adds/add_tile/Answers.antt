@@ -1,5 +1,8 @@
-use Rattle.std.proofs.Common.{◌<◌, length, arith, sym, ◌∙◌, subst}
+use Rattle.std.proofs.Common.{refl, ◌<◌, length, arith, sym, ◌∙◌, subst}
 use Rattle.std.proofs.lemmas.Result.{err_from_is_err_and}
+use Rattle.coll_data.specs.declared.given.Coll.{Coll}
+use Rattle.coll_data.specs.Names.{found}
+use Rattle.coll_data.proofs.Known.{tile_meaning}
 use Rattle.coll_data.specs.Growing.{draft_of}
 use Rattle.coll_data.proofs.Opening.{texts_of}
 use Rattle.coll_data.proofs.Refusals.{refused, passed_on}
@@ -39,3 +42,10 @@ returns-clause-ok c =
     tile_added (draft_of c.args.all.now) c.args.name.now c.args.number.now (texts_of c.args.values.now) c.in-Some.at c.in-Some.place c.in_ok-tile.tile
     c.index_mut-coll.result.now c.index_mut-flags.result.now c.set.new.self c.set-2.new.self c.in-Some.ensures.some c.in_ok-tile.ensures.ok
     c.index_mut-coll.ensures.value c.index_mut-flags.ensures.value c.set.ensures c.set-2.ensures
+
+pub returns-clause-keyed : goal.returns-clause-keyed
+returns-clause-keyed c = λ n.
+    let all = c.args.all.now in
+    let lent = c.index_mut-coll.result.now in
+    let coll : Coll = record { name = lent.name; tiles = c.set.new.self } in
+    tile_meaning all.ints all.colls.items c.in-Some.at coll lent n (found all.names n) refl c.index_mut-coll.ensures.value (c.requires n)
