@@ -50,10 +50,13 @@ fn item_from(dependence: &DepPlan, t: &TaskId) -> Result<Option<Item>, ExprFault
 /// The item of the out dependence of this number, counted from 0 in the text's order, if it holds.
 pub fn item_at(plan: &Plan, t: &TaskId, k: usize) -> Result<Option<Item>, ExprFault>
     requires { k < length plan.now.class.outs }
-    ensures this { (d : Dependence) → slice_get plan.now.class.outs k ≡ Some d → items_from d t.now ≡ listed result }
-    ensures next { all_items (take (k + 1) plan.now.class.outs) t.now ≡ joined (all_items (take k plan.now.class.outs) t.now) (listed result) }
+    ensures this { (d : Dependence) → slice_get plan.now.class.outs k ≡ Some d →
+        items_from d t.now ≡ listed result }
+    ensures next { all_items (take (k + 1) plan.now.class.outs) t.now
+        ≡ joined (all_items (take k plan.now.class.outs) t.now) (listed result) }
     // The first fault is that of the task.
-    ensures fault { IfErr result (λ fault. IsOk (all_items (take k plan.now.class.outs) t.now) → items_of plan.now t.now ≡ Err fault) }
+    ensures fault { IfErr result (λ fault.
+        IsOk (all_items (take k plan.now.class.outs) t.now) → items_of plan.now t.now ≡ Err fault) }
 {
     item_from(plan.class.outs.get(k), t)
 }

@@ -10,8 +10,10 @@ use term_core::{ExprFault, eval};
 pub fn bounds(plan: &Plan) -> Result<(i64, i64), ExprFault>
     ensures low { IfOk result (λ ends. value plan.now.space.lo [] ≡ Ok ends.0) }
     ensures high { IfOk result (λ ends. value plan.now.space.hi [] ≡ Ok ends.1) }
-    ensures values { IfOk result (λ ends. range_values plan.now.space [] ≡ Ok (numbers_between ends.0 ends.1)) }
-    ensures tasks { IfOk result (λ ends. space plan.now ≡ map task_of (numbers_between ends.0 ends.1)) }
+    ensures values { IfOk result (λ ends.
+        range_values plan.now.space [] ≡ Ok (numbers_between ends.0 ends.1)) }
+    ensures tasks { IfOk result (λ ends.
+        space plan.now ≡ map task_of (numbers_between ends.0 ends.1)) }
     ensures fault { IfErr result (λ e. range_values plan.now.space [] ≡ Err e) }
 {
     let lo = eval(&plan.space.lo, &[])?;

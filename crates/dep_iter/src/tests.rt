@@ -58,8 +58,9 @@ fn one_shape(alloc: Global) -> Result<Row<Shape>, OutOfMemory>
 
 /// A class with the affinity d(k) and these dependences, and no statements.
 fn class_of(alloc: Global, from: DepPlan, to: DepPlan) -> Result<ClassPlan, OutOfMemory>
-    ensures { IfOk result (λ class. (c : Coll) → IsTrue (is_dependence (c ∷ []) from) → IsTrue (is_dependence (c ∷ []) to)
-        → IsTrue (is_well_made class (record { lo = Num (pos 0); hi = Num (pos 3) }) (c ∷ []))) }
+    ensures { IfOk result (λ class. (c : Coll) →
+        IsTrue (is_dependence (c ∷ []) from) → IsTrue (is_dependence (c ∷ []) to) →
+        IsTrue (is_well_made class (record { lo = Num (pos 0); hi = Num (pos 3) }) (c ∷ []))) }
 {
     Ok(ClassPlan {
         name: Text::of(alloc, b"T")?,

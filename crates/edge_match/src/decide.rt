@@ -36,7 +36,8 @@ fn is_consistent(alloc: Global, plan: &Plan) -> Result<bool, OutOfMemory>
 pub fn match_edges(alloc: Global, plan: Plan) -> Result<Matched, (MatchRefusal, Plan)>
     ensures found { IfOk result (λ m. (m ≡ plan) × IsConsistent plan) }
     ensures back { IfErr result (λ e. e.1 ≡ plan) }
-    ensures refused { (f : Fault) (p : Job) → result ≡ Err (refusal.Fault f, p) → IsConsistent plan → ⊥ }
+    ensures refused { (f : Fault) (p : Job) →
+        result ≡ Err (refusal.Fault f, p) → IsConsistent plan → ⊥ }
 {
     match is_consistent(alloc, &plan) {
         Err(_) => Err((MatchRefusal::OutOfMemory, plan)),

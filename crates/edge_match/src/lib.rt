@@ -8,11 +8,10 @@ mod gathered;
 mod good;
 mod meeting;
 mod tasks;
-mod totals;
-mod written;
-
 #[cfg(test)]
 mod tests;
+mod totals;
+mod written;
 
 pub use decide::match_edges;
 pub use fault::{MatchCode, MatchFault, MatchRefusal};

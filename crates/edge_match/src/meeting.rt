@@ -16,7 +16,8 @@ use std::alloc::Global;
 
 /// Whether the edge of a source, if it is one, leaves the task where it begins.
 fn is_given(alloc: Global, plan: &Plan, source: &Source) -> Result<bool, OutOfMemory>
-    ensures { IfOk result (λ yes. IsTrue yes ↔ Each (IsGiven plan.now) (edges_from (Ok source.now))) }
+    ensures { IfOk result (λ yes.
+        IsTrue yes ↔ Each (IsGiven plan.now) (edges_from (Ok source.now))) }
 {
     match source {
         Source::Task(edge) => {
@@ -71,7 +72,8 @@ fn are_taken(plan: &Plan, gathered: &[Item]) -> bool
     true
 }
 
-/// Whether the items of a task lead somewhere, no edge twice, and each edge is the one into the task where it ends.
+/// Whether the items of a task lead somewhere, no edge twice, and each edge is the one into the
+/// task where it ends.
 fn is_met_to(alloc: Global, plan: &Plan, tasks: &Tasks, t: &TaskId) -> Result<bool, OutOfMemory>
     requires { space plan.now ≡ tasks_between tasks.now.lo tasks.now.hi }
     ensures { IfOk result (λ yes. IsTrue yes ↔ IsMetTo plan.now (items_of plan.now t.now)) }

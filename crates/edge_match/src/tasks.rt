@@ -7,7 +7,8 @@ use dep_iter::bounds;
 use plan_core::Plan;
 use ptg_base::TaskId;
 
-/// The tasks of a job, of which there are at most a million: those with a parameter from `lo` up to `hi`.
+/// The tasks of a job, of which there are at most a million: those with a parameter from `lo` up
+/// to `hi`.
 #[derive(Debug, Drop)]
 pub(crate) struct Tasks {
     pub lo: i64,
@@ -56,7 +57,8 @@ pub(crate) fn tasks_of(plan: &Plan) -> Option<Tasks>
 /// The task of this number, counted from 0 in the order of the range.
 pub(crate) fn task_at(tasks: &Tasks, k: u32) -> TaskId
     requires { k < tasks.now.count }
-    ensures { drop k (tasks_between tasks.now.lo tasks.now.hi) ≡ result ∷ drop (k + 1) (tasks_between tasks.now.lo tasks.now.hi) }
+    ensures { drop k (tasks_between tasks.now.lo tasks.now.hi)
+        ≡ result ∷ drop (k + 1) (tasks_between tasks.now.lo tasks.now.hi) }
 {
     let lo = tasks.lo;
     let _hi = tasks.hi;

@@ -58,8 +58,9 @@ fn one_shape(alloc: Global, rows: u32) -> Result<Row<Shape>, OutOfMemory>
 
 /// A class with the affinity d(k) and these dependences, and no statements.
 fn class_of(alloc: Global, from: DepPlan, to: DepPlan) -> Result<ClassPlan, OutOfMemory>
-    ensures { IfOk result (λ class. (c : Coll) → IsTrue (is_dependence (c ∷ []) from) → IsTrue (is_dependence (c ∷ []) to)
-        → IsTrue (is_well_made class (record { lo = Num (pos 0); hi = Num (pos 3) }) (c ∷ []))) }
+    ensures { IfOk result (λ class. (c : Coll) →
+        IsTrue (is_dependence (c ∷ []) from) → IsTrue (is_dependence (c ∷ []) to) →
+        IsTrue (is_well_made class (record { lo = Num (pos 0); hi = Num (pos 3) }) (c ∷ []))) }
 {
     Ok(ClassPlan {
         name: Text::of(alloc, b"T")?,
@@ -89,7 +90,8 @@ fn chain(alloc: Global, last: i64, rows: u32) -> Result<Plan, OutOfMemory> {
 
 #[test]
 fn decides(rt: HostRuntime) -> Result<(), OutOfMemory> {
-    // The chain; T(3) waits for T(2), which writes; T(3) gives to T(4); no d(3) for the affinity of T(3).
+    // The chain; T(3) waits for T(2), which writes; T(3) gives to T(4); T(3) has the affinity d(3),
+    // which is not there.
     let jobs = [(3, 4, true), (2, 4, false), (4, 4, false), (3, 3, false)];
     for (last, rows, want) in jobs {
         let plan = chain(rt.alloc(), last, rows)?;

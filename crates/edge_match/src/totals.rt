@@ -13,7 +13,8 @@ use std::alloc::Global;
 
 /// Whether the tasks have at most four million items in all.
 pub(crate) fn has_few_items(alloc: Global, plan: &Plan, tasks: &Tasks) -> Result<bool, OutOfMemory>
-    ensures { IfOk result (λ yes. IsTrue yes ↔ (length (flat_map (items plan.now) (tasks_between tasks.now.lo tasks.now.hi)) ≤ 4000000)) }
+    ensures { IfOk result (λ yes. IsTrue yes ↔
+        (length (flat_map (items plan.now) (tasks_between tasks.now.lo tasks.now.hi)) ≤ 4000000)) }
 {
     let mut total = 0usize;
     for k in 0..tasks.count {
@@ -30,7 +31,8 @@ pub(crate) fn has_few_items(alloc: Global, plan: &Plan, tasks: &Tasks) -> Result
 /// Whether each task has what it needs, and its edges stand at their other ends.
 pub(crate) fn are_met(alloc: Global, plan: &Plan, tasks: &Tasks) -> Result<bool, OutOfMemory>
     requires { space plan.now ≡ tasks_between tasks.now.lo tasks.now.hi }
-    ensures { IfOk result (λ yes. IsTrue yes ↔ Each (IsMet plan.now) (tasks_between tasks.now.lo tasks.now.hi)) }
+    ensures { IfOk result (λ yes. IsTrue yes ↔
+        Each (IsMet plan.now) (tasks_between tasks.now.lo tasks.now.hi)) }
 {
     for k in 0..tasks.count {
         let t = task_at(tasks, k);

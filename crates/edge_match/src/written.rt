@@ -24,10 +24,13 @@ fn put_place(seen: &mut HashSet<Place>, place: Place) -> Result<bool, OutOfMemor
     }
 }
 
-/// Adds the place that an item writes, if it does, to those that were seen, and says whether it is new.
+/// Adds the place that an item writes, if it does, to those that were seen.
+/// It says whether the place is new.
 fn put_item(seen: &mut HashSet<Place>, item: &Item) -> Result<bool, OutOfMemory>
-    ensures new { IfOk result (λ new. IsTrue new ↔ AreNew seen.old.keys (places_among (item.now ∷ []))) }
-    ensures kept { IfOk result (λ new. OnTrue new (Adds seen.old.keys (places_among (item.now ∷ [])) seen.new.keys)) }
+    ensures new { IfOk result (λ new.
+        IsTrue new ↔ AreNew seen.old.keys (places_among (item.now ∷ []))) }
+    ensures kept { IfOk result (λ new. OnTrue new
+        (Adds seen.old.keys (places_among (item.now ∷ [])) seen.new.keys)) }
 {
     match item {
         Item::Edge(_) => Ok(true),
@@ -38,10 +41,13 @@ fn put_item(seen: &mut HashSet<Place>, item: &Item) -> Result<bool, OutOfMemory>
     }
 }
 
-/// Adds the places that these items write to those that were seen, and says whether each is new.
+/// Adds the places that these items write to those that were seen.
+/// It says whether each is new.
 fn put_places(seen: &mut HashSet<Place>, gathered: &[Item]) -> Result<bool, OutOfMemory>
-    ensures new { IfOk result (λ new. IsTrue new ↔ AreNew seen.old.keys (places_among gathered.now)) }
-    ensures kept { IfOk result (λ new. OnTrue new (Adds seen.old.keys (places_among gathered.now) seen.new.keys)) }
+    ensures new { IfOk result (λ new.
+        IsTrue new ↔ AreNew seen.old.keys (places_among gathered.now)) }
+    ensures kept { IfOk result (λ new. OnTrue new
+        (Adds seen.old.keys (places_among gathered.now) seen.new.keys)) }
 {
     for item in gathered {
         if !put_item(seen, item)? {
@@ -51,15 +57,18 @@ fn put_places(seen: &mut HashSet<Place>, gathered: &[Item]) -> Result<bool, OutO
     Ok(true)
 }
 
-/// Adds the places that a task writes to those that were seen, and says whether each is new.
+/// Adds the places that a task writes to those that were seen.
+/// It says whether each is new.
 fn put_task(
     alloc: Global,
     plan: &Plan,
     t: &TaskId,
     seen: &mut HashSet<Place>,
 ) -> Result<bool, OutOfMemory>
-    ensures new { IfOk result (λ new. IsTrue new ↔ AreNew seen.old.keys (places_among (items plan.now t.now))) }
-    ensures kept { IfOk result (λ new. OnTrue new (Adds seen.old.keys (places_among (items plan.now t.now)) seen.new.keys)) }
+    ensures new { IfOk result (λ new.
+        IsTrue new ↔ AreNew seen.old.keys (places_among (items plan.now t.now))) }
+    ensures kept { IfOk result (λ new. OnTrue new
+        (Adds seen.old.keys (places_among (items plan.now t.now)) seen.new.keys)) }
 {
     let gathered = items(alloc, plan, t)?;
     let new = put_places(seen, gathered.as_slice())?;
@@ -72,7 +81,8 @@ pub(crate) fn are_written_once(
     plan: &Plan,
     tasks: &Tasks,
 ) -> Result<bool, OutOfMemory>
-    ensures { IfOk result (λ yes. IsTrue yes ↔ HasNoRepeats (places_written plan.now (tasks_between tasks.now.lo tasks.now.hi))) }
+    ensures { IfOk result (λ yes. IsTrue yes ↔
+        HasNoRepeats (places_written plan.now (tasks_between tasks.now.lo tasks.now.hi))) }
 {
     let mut seen: HashSet<Place> = HashSet::new(alloc);
     for k in 0..tasks.count {
