@@ -28,6 +28,7 @@ use Rattle.jdf_read.specs.Numbers.{decimal, is_number}
 abbrev pub TreeOf : Part → Type 0
 TreeOf part = Expression
 
+-- a form of text of this grammar
 abbrev pub Grammar : Type 0 → Type 1
 Grammar A = Form Part TreeOf A
 
@@ -52,15 +53,19 @@ abbrev pub names : Part → Sort → Bool
 names Class k = is_name k
 names Body k = is sort.Name k || is sort.TypeWord k
 
+-- the name that a token is
 abbrev pub word_of : Token → Word
 word_of x = record { text = x.text; spot = x.spot }
 
+-- a name, as the words of this part are
 abbrev pub name : Part → Grammar Word
 name part = map word_of (one_of (names part))
 
+-- the number that a token is
 abbrev pub number_at : Token → Expression
 number_at x = Num (pos (decimal x.text)) x.spot
 
+-- may the number stand in an expression
 abbrev pub is_good : Token → Bool
 is_good x = is_number x.text
 
@@ -76,6 +81,7 @@ parens part = before sort.RightParen (behind (is sort.LeftParen) part)
 unfoldable pub index : Grammar Expression
 index = before sort.RightBracket (behind (is sort.LeftBracket) Body)
 
+-- a name alone, or an element of a flow
 abbrev pub named : Word × Option Expression → Expression
 named (w, None) = Name w
 named (w, Some a) = Elem w a
@@ -89,11 +95,13 @@ reference Body = map named (seq (name Body) (opt index))
 unfoldable pub atom : Part → Grammar Expression
 atom part = alt number (alt (reference part) (parens part))
 
+-- the operator of a mark, where the mark is one of the three
 abbrev pub operator_by : Sort → BinOp
 operator_by sort.Plus = Add
 operator_by sort.Minus = Sub
 operator_by _ = Eq
 
+-- the operator that a token is
 abbrev pub operator_of : Token → BinOp
 operator_of x = operator_by (sort_of x)
 
@@ -106,6 +114,7 @@ grouped a (x ∷ xs) = grouped (Binary x.0 a x.1) xs
 abbrev pub ranked : (Sort → Bool) → Grammar Expression → Grammar Expression
 ranked ops operand = map (λ x. grouped x.0 x.1) (seq operand (star any (seq (map operator_of (one_of ops)) operand)))
 
+-- the marks of a sum
 abbrev pub is_sum : Sort → Bool
 is_sum k = is sort.Plus k || is sort.Minus k
 
@@ -125,6 +134,7 @@ outer part = limited expression_limit ExprTooLong (expr part)
 unfoldable pub call : Grammar Expression
 call = after sort.LeftParen (before sort.RightParen (outer Class))
 
+-- a name alone is a collection's, and the second of two is a class's
 abbrev pub target_of : Word × (Option Word × Expression) → TargetTree
 target_of (a, (None, e)) = Element a e
 target_of (a, (Some b, e)) = Task a b e
@@ -145,6 +155,7 @@ unguarded = map (λ x. (None, x, None)) target
 unfoldable pub guarded : Grammar Choice
 guarded = map (λ x. (Some x.0, x.1.0, x.1.1)) (seq (outer Class) (after sort.Question (seq target (opt (after sort.Colon target)))))
 
+-- the two arrows
 abbrev pub is_arrow : Sort → Bool
 is_arrow k = is sort.Inward k || is sort.Outward k
 
@@ -156,6 +167,7 @@ arrow = map (λ x. is sort.Inward (sort_of x)) (one_of is_arrow)
 abbrev pub goes_on_target : Sort → Bool
 goes_on_target k = is_name k || is sort.LeftParen k
 
+-- the dependence of an arrow and what stands behind it
 abbrev pub dep_of : Bool × Choice → DepTree
 dep_of x = record { inward = x.0; guard = x.1.0; yes = x.1.1; no = x.1.2 }
 
@@ -205,6 +217,7 @@ Rest = Word × ((Word × Expression × Expression) × ((Word × Expression) × (
 unfoldable pub rest : Grammar Rest
 rest = seq param (seq range (seq affinity (seq flow body)))
 
+-- the class of this name
 abbrev pub class_of : Word → Rest → ClassTree
 class_of name x =
     record {
@@ -221,7 +234,7 @@ class_of name x =
       finish = x.1.1.1.1.1;
     }
 
--- the class of this name
+-- a class behind its name
 abbrev pub class_named : Word → Grammar ClassTree
 class_named name = map (class_of name) rest
 
@@ -242,13 +255,15 @@ file = map (λ x. record { globals = x.0.0; class = class_of x.0.1 x.1 }) (seq h
 unfoldable pub inner : (part : Part) → Grammar (TreeOf part)
 inner part = expr part
 
+-- what an expression begins with
 abbrev pub begins_atom : Part → Sort → Bool
 begins_atom part k = is sort.Number k || names part k || is sort.LeftParen k
 
+-- what an expression goes on with
 abbrev pub goes_on_expr : Part → Sort → Bool
 goes_on_expr Class k = is_sum k || is sort.Equal k
 goes_on_expr Body k = is_sum k || is sort.Equal k || is sort.LeftBracket k
 
--- what an expression begins with, and what it goes on with
+-- both, for what recurs
 abbrev pub claims : Claims Part
 claims = record { firsts = begins_atom; goes_on = goes_on_expr }

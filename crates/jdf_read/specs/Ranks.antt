@@ -12,15 +12,17 @@ use Rattle.jdf_read.specs.declared.part.Rank.TheVariants.{Equal, Sum}
 use Rattle.jdf_read.specs.Expression.{Expression}
 use Rattle.jdf_read.specs.Grammar.{Grammar, atom, sum, expr, is_sum}
 
--- the forms of the expressions whose operators have one rank
+-- the marks of the operators of a rank
 abbrev pub operators_of : Rank → Sort → Bool
 operators_of Equal k = is sort.Equal k
 operators_of Sum k = is_sum k
 
+-- what stands between the operators of a rank
 abbrev pub operand_of : Rank → Part → Grammar Expression
 operand_of Equal part = sum part
 operand_of Sum part = atom part
 
+-- an expression whose outermost operators have this rank
 abbrev pub of_rank : Rank → Part → Grammar Expression
 of_rank Equal part = expr part
 of_rank Sum part = sum part
