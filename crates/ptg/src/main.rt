@@ -5,9 +5,23 @@ mod files;
 mod sink;
 mod words;
 
-use ptg_base::{Row, Text};
+use crate::files::OsFiles;
+use crate::sink::OsSink;
+use crate::words::words;
+use ptg_top::{Status, ptg_main};
+use std::io;
 use std::process::ExitCode;
 
-fn main(_rt: HostRuntime) -> ExitCode {
-    ExitCode::from(0)
+fn main(rt: HostRuntime) -> ExitCode {
+    let alloc = rt.alloc();
+    let Ok(words) = words(&rt, alloc) else {
+        return ExitCode::from(Status::OutOfMemory.code());
+    };
+    let mut files = OsFiles::new(&rt, alloc);
+    let mut out = OsSink::new(io::writer(&rt));
+    let status = ptg_main(alloc, words.as_slice(), &mut files, &mut out);
+    ExitCode::from(status.code())
 }
+
+#[cfg(test)]
+mod tests;

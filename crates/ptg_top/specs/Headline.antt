@@ -61,7 +61,7 @@ pub record Prints (words : List (List ℕ)) (files : Entries) (before after : Op
   pub verdict : Verdict
   pub means : Means words files verdict
   pub text : after ≡ appended before (text_of verdict)
-  pub status : status ≡ status_of verdict
+  pub ends : status ≡ status_of verdict
 
 -- a failed write cut off what was due: what the words and files mean, or the name of a file of which a read failed
 pub record IsCut (words : List (List ℕ)) (told : Option Entries) (old new : List ℕ → ℕ) (before after : Option (List ℕ)) : Type 0 where

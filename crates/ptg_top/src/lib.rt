@@ -11,3 +11,6 @@ mod verdict;
 pub use program::ptg_main;
 pub use status::Status;
 pub use verdict::Verdict;
+
+#[cfg(test)]
+mod tests;
