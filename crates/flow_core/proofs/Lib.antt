@@ -13,3 +13,4 @@ pub mod RowsOfAnswer
 pub mod Complete
 pub mod Targets
 pub mod Tried
+pub mod Pushed

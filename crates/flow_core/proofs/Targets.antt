@@ -40,8 +40,9 @@ in_flat : {X A : Type 0} (g : X → List A) (a : A) (xs : List X) → IsIn a (fl
 in_flat g a [] h = absurd h
 in_flat g a (x ∷ xs) h =
     elim (in_append a (g x) (flat_map g xs) h) [
-      inl i ↦ (x, inl refl, i)
-    | inr j ↦ (let r = in_flat g a xs j in (r.0, inr r.1, r.2)) ]
+      | inl i ↦ (x, inl refl, i)
+      | inr j ↦ (let r = in_flat g a xs j in (r.0, inr r.1, r.2))
+    ]
 
 flat_in : {X A : Type 0} (g : X → List A) (a : A) (x : X) (xs : List X) → IsIn x xs → IsIn a (g x) → IsIn a (flat_map g xs)
 flat_in g a x [] h i = absurd h
@@ -79,7 +80,7 @@ source_to P t e h = first_to P.class.ins t e h
 AllFrom : Task → List Item → Type 0
 AllFrom t is = (e : Edge) → IsIn e (edges_among is) → e.from ≡ t
 
-edges_append : (xs ys : List Item) → edges_among (xs ++ ys) ≡ edges_among xs ++ edges_among ys
+pub edges_append : (xs ys : List Item) → edges_among (xs ++ ys) ≡ edges_among xs ++ edges_among ys
 edges_append [] ys = refl
 edges_append (item.Edge e ∷ xs) ys = ap (λ l. e ∷ l) (edges_append xs ys)
 edges_append (item.Write w ∷ xs) ys = edges_append xs ys

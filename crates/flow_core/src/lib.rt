@@ -2,6 +2,7 @@
 #![tactic(auto)]
 
 mod outcome;
+mod pending;
 mod range;
 mod rounds;
 mod rows;

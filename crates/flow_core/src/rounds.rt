@@ -1,8 +1,9 @@
-ghost use Rattle.std.specs.Prelude.{◌≡◌, ◌<◌, ◌+◌, true, false, length, map, replicate, None, OnOk, IfOk, slice_index_or};
+ghost use Rattle.std.specs.Prelude.{◌≡◌, ◌≢◌, ◌<◌, ◌+◌, ℕ, true, false, length, map, replicate, None, OnOk, IfOk, slice_index_or};
 ghost use Rattle.dep_iter.specs.Space.{space};
 ghost use Rattle.flow_core.specs.Backward.{ended};
-ghost use Rattle.flow_core.specs.States.{IsRange, IsKnown, IsAtRest, task_at, next, count};
+ghost use Rattle.flow_core.specs.States.{IsRange, IsKnown, task_at, next, count};
 
+use crate::pending::run_pending;
 use crate::state::{Ended, next_end};
 use coll_data::Given;
 use plan_core::Plan;
@@ -19,7 +20,7 @@ pub(crate) fn task(plan: &Plan, lo: i64, n: usize, k: usize) -> TaskId
 }
 
 /// Runs the task at a place of the range, if it has not run and can; says whether it ran.
-fn step(
+pub(crate) fn step(
     alloc: Global,
     plan: &Plan,
     given: &Given,
@@ -33,6 +34,8 @@ fn step(
     ensures known { OnOk result (IsKnown plan.now given.now lo states.new) }
     ensures ran { result ≡ Ok true → count states.new ≡ count states.old + 1 }
     ensures same { result ≡ Ok false → states.new ≡ states.old }
+    ensures here { result ≡ Ok true → slice_index_or states.new k None ≢ None }
+    ensures others { (j : ℕ) → j ≢ k → slice_index_or states.new j None ≡ slice_index_or states.old j None }
     ensures still { result ≡ Ok false → slice_index_or states.old k None ≡ None → next plan.now given.now lo states.old (task_at lo k) ≡ None }
 {
     if states[k].is_some() {
@@ -46,29 +49,6 @@ fn step(
             Ok(true)
         }
     }
-}
-
-/// Goes once over the tasks of the range and runs those that can run; says whether one did.
-fn round(
-    alloc: Global,
-    plan: &Plan,
-    given: &Given,
-    lo: i64,
-    states: &mut [Option<Ended>],
-) -> Result<bool, OutOfMemory>
-    requires range { IsRange plan.now lo (length states.old) }
-    requires known { IsKnown plan.now given.now lo states.old }
-    ensures known { OnOk result (IsKnown plan.now given.now lo states.new) }
-    ensures more { result ≡ Ok true → count states.old < count states.new }
-    ensures rest { result ≡ Ok false → IsAtRest plan.now given.now lo states.new (length states.new) }
-{
-    let mut more = false;
-    for k in 0..states.len() {
-        if step(alloc, plan, given, lo, states, k)? {
-            more = true;
-        }
-    }
-    Ok(more)
 }
 
 /// What is known before a task has run.
@@ -94,6 +74,6 @@ pub(crate) fn run_all(
     ensures { IfOk result (λ states. states.items ≡ map (λ t. ended plan.now given.now t) (space plan.now)) }
 {
     let mut states = nothing(alloc, n)?;
-    while round(alloc, plan, given, lo, states.as_mut_slice())? {}
+    run_pending(alloc, plan, given, lo, states.as_mut_slice())?;
     Ok(states)
 }
