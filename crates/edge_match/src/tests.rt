@@ -96,7 +96,7 @@ fn decides(rt: HostRuntime) -> Result<(), OutOfMemory> {
     for (last, rows, want) in jobs {
         let plan = chain(rt.alloc(), last, rows)?;
         let found = match match_edges(rt.alloc(), plan) {
-            Ok(_) => true,
+            Ok(matched) => matched.plan().elems == 1,
             Err((MatchRefusal::Fault(_), _)) => false,
             Err((MatchRefusal::OutOfMemory, _)) => return Err(OutOfMemory),
         };
