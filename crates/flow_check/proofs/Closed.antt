@@ -168,4 +168,4 @@ plan_fits J G class space colls e r s =
     let l = both_is (λ outs statements. (outs, statements)) (deps_of J G false) (body_of J G) k.1 k.3 in
     let same : map shape_of G.colls ≡ colls = cc in
     rw (← h.4, ← k.4, ← l.4, ← same) (and_from _ _ (range_fits J G space r) (and_from _ _ (affinity_fits J G h.0 h.2)
-      (and_from _ _ (deps_fit J G (filter (goes true) J.class.deps) k.0 k.2) (and_from _ _ (deps_fit J G (filter (goes false) J.class.deps) l.0 l.2) (body_fits J G J.class.body l.1 l.3)))))
+    (and_from _ _ (deps_fit J G (filter (goes true) J.class.deps) k.0 k.2) (and_from _ _ (deps_fit J G (filter (goes false) J.class.deps) l.0 l.2) (body_fits J G J.class.body l.1 l.3)))))

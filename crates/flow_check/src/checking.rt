@@ -89,7 +89,13 @@ fn affinity(alloc: Global, jdf: &Jdf, given: &Given) -> Result<(u32, Expr), Stop
     let Some(number) = global_coll(jdf, given, jdf.class.affinity.text.bytes()) else {
         return Err(Stop::Unfit);
     };
-    let index = resolve(alloc, jdf, given, Seen::Local, jdf.class.affinity_arg.node())?;
+    let index = resolve(
+        alloc,
+        jdf,
+        given,
+        Seen::Local,
+        jdf.class.affinity_arg.node(),
+    )?;
     Ok((collection_number(number)?, index))
 }
 

@@ -3,9 +3,8 @@ ghost use Rattle.std.specs.Prelude.{IfSome, ◌≤◌, length};
 use ptg_base::Text;
 use ptg_io::{Failed, Files};
 use std::alloc::Global;
-use std::fs;
 use std::io::{Read, Seek, SeekFrom};
-use std::rt;
+use std::{fs, rt};
 
 /// The files of the system. Nothing is told of what they hold.
 #[derive(Drop)]
@@ -83,7 +82,12 @@ fn stands_at<F>(opened: &Opened<F>, name: &str, from: u64) -> bool {
     opened.place == from && opened.name.bytes() == name.as_bytes()
 }
 
-fn open_at<R: rt::Files>(system: &R, alloc: Global, name: &str, from: u64) -> Option<Opened<R::File>> {
+fn open_at<R: rt::Files>(
+    system: &R,
+    alloc: Global,
+    name: &str,
+    from: u64,
+) -> Option<Opened<R::File>> {
     let text = Text::of(alloc, name.as_bytes()).ok()?;
     let mut file = fs::open(system, name).ok()?;
     if from > 0 {

@@ -1,9 +1,8 @@
 use crate::files::OsFiles;
 use crate::sink::OsSink;
 use ptg_io::{Failed, Files, Sink};
-use std::env;
-use std::fs;
 use std::test::Fail;
+use std::{env, fs};
 
 #[test]
 fn files_pass_bytes_on(rt: HostRuntime) -> Result<(), Fail> {
@@ -16,7 +15,13 @@ fn files_pass_bytes_on(rt: HostRuntime) -> Result<(), Fail> {
     };
     let mut files = OsFiles::new(&rt, rt.alloc());
     let mut into = [0u8; 4];
-    for (from, count, bytes) in [(0, 4, b"0123"), (4, 4, b"4567"), (8, 2, b"8967"), (10, 0, b"8967"), (2, 4, b"2345")] {
+    for (from, count, bytes) in [
+        (0, 4, b"0123"),
+        (4, 4, b"4567"),
+        (8, 2, b"8967"),
+        (10, 0, b"8967"),
+        (2, 4, b"2345"),
+    ] {
         assert_eq!(rt; files.read(name, from, &mut into), Ok(count));
         assert_eq!(rt; into.as_slice(), bytes.as_slice());
     }

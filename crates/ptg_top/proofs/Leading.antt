@@ -55,14 +55,13 @@ tree_reports : (told : Option Entries) (old new : List ℕ → ℕ) (jdf tiles :
 tree_reports told old new jdf tiles v (inl h) = unread_reports told old new jdf tiles jdf v h.0 h.1 (inl refl)
 tree_reports told old new jdf tiles v (inr h) =
     jdf_reports told old new jdf tiles jdf_text.not_built v h.0 (λ words files order t.
-      (refl, inl (record { jdf = jdf; tiles = tiles; order = order; bytes = (h.1 files t).0; file = (h.1 files t).1; none = (h.1 files t).2 })))
+    (refl, inl (record { jdf = jdf; tiles = tiles; order = order; bytes = (h.1 files t).0; file = (h.1 files t).1; none = (h.1 files t).2 })))
 
 pub tree_stop_reports : (told : Option Entries) (old new : List ℕ → ℕ) (jdf tiles : List ℕ) (s : Stop) → TreeStop told (old jdf) (new jdf) jdf s → Says (Reports told old new jdf tiles) (Err s)
 tree_stop_reports told old new jdf tiles (Said v) h = tree_reports told old new jdf tiles v h
 tree_stop_reports told old new jdf tiles Memory h = tt
 
 module _ (told : Option Entries) (old new : List ℕ → ℕ) (jdf tiles : List ℕ) (J : Jdf) (tree : (files : Entries) → told ≡ Some files → TreeAt files jdf J) where
-
   has_tree : (words : List (List ℕ)) (files : Entries) → Orders words (Run jdf tiles) → told ≡ Some files → HasTree words files tiles J
   has_tree words files order t = let at = tree files t in record { jdf = jdf; order = order; bytes = at.0; file = at.1; tree = at.2 }
 
@@ -72,14 +71,13 @@ module _ (told : Option Entries) (old new : List ℕ → ℕ) (jdf tiles : List 
       unread_reports told old new jdf tiles tiles v h.0 (rose_since (old tiles) mid (new tiles) le h.1) (inr (refl, λ files t. (J, tree files t)))
   data_reports_of mid v le (inr h) =
       data_reports told old new jdf tiles coll.not_built v h.0 (λ words files order t.
-        (refl, inl (record { jdf = J; tiles = tiles; tree = has_tree words files order t; bytes = (h.1 files t).0; file = (h.1 files t).1; none = (h.1 files t).2 })))
+      (refl, inl (record { jdf = J; tiles = tiles; tree = has_tree words files order t; bytes = (h.1 files t).0; file = (h.1 files t).1; none = (h.1 files t).2 })))
 
   pub data_stop_reports : (mid : ℕ) (s : Stop) → old tiles ≤ mid → DataStop told mid (new tiles) tiles s → Says (Reports told old new jdf tiles) (Err s)
   data_stop_reports mid (Said v) le h = data_reports_of mid v le h
   data_stop_reports mid Memory le h = tt
 
   module _ (G : Given) (known : (files : Entries) → told ≡ Some files → DataAt files tiles G) where
-
     has_data : (words : List (List ℕ)) (files : Entries) → Orders words (Run jdf tiles) → told ≡ Some files → HasData words files J G
     has_data words files order t = let at = known files t in record { tiles = tiles; tree = has_tree words files order t; bytes = at.0; file = at.1; spelled = at.2 }
 
@@ -87,17 +85,16 @@ module _ (told : Option Entries) (old new : List ℕ → ℕ) (jdf tiles : List 
     plan_reports : (v : Verdict) → PlanSaid J G v → Reports told old new jdf tiles v
     plan_reports v (inl h) =
         data_reports told old new jdf tiles coll.not_built v h.0 (λ words files order t.
-          (refl, inr (record { jdf = J; given = G; known = has_data words files order t; lacking = h.1 })))
+        (refl, inr (record { jdf = J; given = G; known = has_data words files order t; lacking = h.1 })))
     plan_reports v (inr h) =
         jdf_reports told old new jdf tiles jdf_text.not_built v h.0 (λ words files order t.
-          (refl, inr (record { jdf = J; given = G; known = has_data words files order t; named = h.1; none = h.2 })))
+        (refl, inr (record { jdf = J; given = G; known = has_data words files order t; named = h.1; none = h.2 })))
 
     pub plan_stop_reports : (s : Stop) → PlanStop J G s → Says (Reports told old new jdf tiles) (Err s)
     plan_stop_reports (Said v) h = plan_reports v h
     plan_stop_reports Memory h = tt
 
     module _ (P : Plan) (named : IsMissing J G → ⊥) (plan : IsPlan J G P) where
-
       has_plan : (words : List (List ℕ)) (files : Entries) → Orders words (Run jdf tiles) → told ≡ Some files → HasPlan words files G P
       has_plan words files order t = record { jdf = J; known = has_data words files order t; named = named; plan = plan }
 
@@ -110,8 +107,8 @@ module _ (told : Option Entries) (old new : List ℕ → ℕ) (jdf tiles : List 
       answer_reports (say.Match fault) h = λ words files order t. (G, P, has_plan words files order t, h)
       answer_reports (say.Answer Q outcome) h =
           λ words files order t.
-            let Meant : Plan → Type 0 = λ p. Means words files (say.Answer p outcome) in
-            subst Meant (sym h.0) (G, has_plan words files order t, h.1, h.2)
+          let Meant : Plan → Type 0 = λ p. Means words files (say.Answer p outcome) in
+          subst Meant (sym h.0) (G, has_plan words files order t, h.1, h.2)
 
       pub answer_result_reports : (r : Result Verdict Stop) → MatchResult r (AnswerSaid P G) (λ stop. stop ≡ Memory) → Says (Reports told old new jdf tiles) r
       answer_result_reports (Ok v) h = answer_reports v h

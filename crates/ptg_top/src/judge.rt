@@ -16,11 +16,7 @@ use ptg_words::{Order, WordsRefusal, words};
 use std::alloc::Global;
 
 /// What is to be said for words and files.
-pub fn judge<F: Files>(
-    alloc: Global,
-    list: &[Text],
-    files: &mut F,
-) -> Result<Verdict, OutOfMemory>
+pub fn judge<F: Files>(alloc: Global, list: &[Text], files: &mut F) -> Result<Verdict, OutOfMemory>
     ensures stays { F.told files.new ≡ F.told files.old }
     ensures grows { (other : List ℕ) → F.faults files.old other ≤ F.faults files.new other }
     ensures judged { IfOk result (λ v. Judged list.now (F.told files.old) (F.faults files.old) (F.faults files.new) v) }
@@ -33,11 +29,7 @@ pub fn judge<F: Files>(
 }
 
 // What is to be said for an order.
-fn carry_out<F: Files>(
-    alloc: Global,
-    order: &Order,
-    files: &mut F,
-) -> Result<Verdict, OutOfMemory>
+fn carry_out<F: Files>(alloc: Global, order: &Order, files: &mut F) -> Result<Verdict, OutOfMemory>
     requires { AreTexts order.now }
     ensures stays { F.told files.new ≡ F.told files.old }
     ensures grows { (other : List ℕ) → F.faults files.old other ≤ F.faults files.new other }
@@ -78,12 +70,7 @@ fn said(steps: Result<Verdict, Stop>) -> Result<Verdict, OutOfMemory>
 }
 
 // What is to be said of the job of these files.
-fn run<F: Files>(
-    alloc: Global,
-    jdf: &Text,
-    tiles: &Text,
-    files: &mut F,
-) -> Result<Verdict, Stop>
+fn run<F: Files>(alloc: Global, jdf: &Text, tiles: &Text, files: &mut F) -> Result<Verdict, Stop>
     requires jdf_text { IsUtf8 jdf.now }
     requires tiles_text { IsUtf8 tiles.now }
     ensures stays { F.told files.new ≡ F.told files.old }

@@ -6,20 +6,21 @@ use ptg_io::{File, MemFiles, MemSink};
 use std::alloc::Global;
 use std::test::Fail;
 
-const CHAIN: &[u8] = b"D\nNB\n\nTask(k)\nk = 0 .. NB\n: D(0)\nRW A <- (k == 0) ? D(0) : A Task(k-1)\n     -> (k == NB) ? D(0) : A Task(k+1)\nBODY\nA[0] = A[0] + 1;\nEND\n";
+const CHAIN: &[u8] =
+    b"D\nNB\n\nTask(k)\nk = 0 .. NB\n: D(0)\nRW A <- (k == 0) ? D(0) : A Task(k-1)\n     -> (k == NB) ? D(0) : A Task(k+1)\nBODY\nA[0] = A[0] + 1;\nEND\n";
 
-const WRITES: &[u8] = b"D\nNB\n\nTask(k)\nk = 0 .. NB\n: D(0)\nWRITE A <- (k == 0) ? D(0) : A Task(k-1)\n     -> (k == NB) ? D(0) : A Task(k+1)\nBODY\nA[0] = A[0] + 1;\nEND\n";
+const WRITES: &[u8] =
+    b"D\nNB\n\nTask(k)\nk = 0 .. NB\n: D(0)\nWRITE A <- (k == 0) ? D(0) : A Task(k-1)\n     -> (k == NB) ? D(0) : A Task(k+1)\nBODY\nA[0] = A[0] + 1;\nEND\n";
 
 // Each task reads the collection, and so the out edges have no in edges.
-const ONE_SIDED: &[u8] = b"D\nNB\n\nTask(k)\nk = 0 .. NB\n: D(0)\nRW A <- D(0)\n     -> (k == NB) ? D(0) : A Task(k+1)\nBODY\nEND\n";
+const ONE_SIDED: &[u8] =
+    b"D\nNB\n\nTask(k)\nk = 0 .. NB\n: D(0)\nRW A <- D(0)\n     -> (k == NB) ? D(0) : A Task(k+1)\nBODY\nEND\n";
 
 // Two tasks that wait for each other.
-const CIRCLE: &[u8] =
-    b"D NB Task(k) k = 0 .. 1 : D(0) RW A <- A Task(1-k) -> A Task(1-k) BODY END";
+const CIRCLE: &[u8] = b"D NB Task(k) k = 0 .. 1 : D(0) RW A <- A Task(1-k) -> A Task(1-k) BODY END";
 
 // Each task stands alone.
-const ALONE: &[u8] =
-    b"D\nNB\n\nTask(k)\nk = 0 .. NB\n: D(0)\nRW A <- D(0)\n-> D(0)\nBODY\nEND\n";
+const ALONE: &[u8] = b"D\nNB\n\nTask(k)\nk = 0 .. NB\n: D(0)\nRW A <- D(0)\n-> D(0)\nBODY\nEND\n";
 
 const DATA: &[u8] = b"elems,1\nint,NB,3\ncoll,D,1\ntile,D,0,5\n";
 
@@ -38,14 +39,8 @@ fn texts(alloc: Global, words: &[&[u8]]) -> Result<Vec<Text>, Fail> {
 // The files `a.jdf` and `b.csv`, of which the reads of these numbers fail.
 fn files(alloc: Global, jdf: &[u8], data: &[u8], fails: &[u64]) -> Result<MemFiles, Fail> {
     let mut held = Row::new(alloc);
-    held.push(File::new(
-        Text::of(alloc, b"a.jdf")?,
-        Row::of(jdf.to_vec(alloc)?),
-    ))?;
-    held.push(File::new(
-        Text::of(alloc, b"b.csv")?,
-        Row::of(data.to_vec(alloc)?),
-    ))?;
+    held.push(File::new(Text::of(alloc, b"a.jdf")?, Row::of(jdf.to_vec(alloc)?)))?;
+    held.push(File::new(Text::of(alloc, b"b.csv")?, Row::of(data.to_vec(alloc)?)))?;
     Ok(MemFiles::new(alloc, held, row(alloc, fails)?)?)
 }
 
@@ -67,15 +62,30 @@ fn jobs(rt: HostRuntime) -> Result<(), Fail> {
     let alloc = rt.alloc();
     let rows: [(&[u8], &[u8], &[u8], u8); 11] = [
         (CHAIN, DATA, b"complete,4\ntile,D,0,9\n", 0),
-        (CHAIN, b"elems,1\nint,NB,0\ncoll,D,1\ntile,D,0,5\n", b"complete,1\ntile,D,0,6\n", 0),
-        (CHAIN, b"elems,1\nint,NB,-1\ncoll,D,1\ntile,D,0,5\n", b"complete,0\ntile,D,0,5\n", 0),
+        (
+            CHAIN,
+            b"elems,1\nint,NB,0\ncoll,D,1\ntile,D,0,5\n",
+            b"complete,1\ntile,D,0,6\n",
+            0,
+        ),
+        (
+            CHAIN,
+            b"elems,1\nint,NB,-1\ncoll,D,1\ntile,D,0,5\n",
+            b"complete,0\ntile,D,0,5\n",
+            0,
+        ),
         (
             CHAIN,
             b"elems,1\nint,NB,3\ncoll,D,1\ntile,D,0,9223372036854775807\n",
             b"trapped,1\ntrap,Task,0,overflow\n",
             5,
         ),
-        (ALONE, b"elems,1\nint,NB,0\ncoll,D,1\ntile,D,0,5\n", b"complete,1\ntile,D,0,5\n", 0),
+        (
+            ALONE,
+            b"elems,1\nint,NB,0\ncoll,D,1\ntile,D,0,5\n",
+            b"complete,1\ntile,D,0,5\n",
+            0,
+        ),
         (CIRCLE, DATA, b"stalled,0,2\n", 6),
         (WRITES, DATA, b"refused,1,1,NotBuilt\n", 2),
         (b"", DATA, b"refused,1,1,NotBuilt\n", 2),
@@ -119,12 +129,48 @@ fn failing_devices(rt: HostRuntime) -> Result<(), Fail> {
     let alloc = rt.alloc();
     let rows: [(&[&[u8]], &[u64], &[u64], &[u8], u8); 7] = [
         // The first read of each file, and the one that would find its end.
-        (&[b"run", b"a.jdf", b"b.csv"], &[1], &[], b"unread,a.jdf\n", 7),
-        (&[b"run", b"a.jdf", b"b.csv"], &[2], &[], b"unread,a.jdf\n", 7),
-        (&[b"run", b"a.jdf", b"b.csv"], &[3], &[], b"unread,b.csv\n", 7),
-        (&[b"run", b"a.jdf", b"b.csv"], &[4], &[], b"unread,b.csv\n", 7),
-        (&[b"run", b"c.jdf", b"b.csv"], &[], &[], b"unread,c.jdf\n", 7),
-        (&[b"run", b"a.jdf", b"c.csv"], &[], &[], b"unread,c.csv\n", 7),
+        (
+            &[b"run", b"a.jdf", b"b.csv"],
+            &[1],
+            &[],
+            b"unread,a.jdf\n",
+            7,
+        ),
+        (
+            &[b"run", b"a.jdf", b"b.csv"],
+            &[2],
+            &[],
+            b"unread,a.jdf\n",
+            7,
+        ),
+        (
+            &[b"run", b"a.jdf", b"b.csv"],
+            &[3],
+            &[],
+            b"unread,b.csv\n",
+            7,
+        ),
+        (
+            &[b"run", b"a.jdf", b"b.csv"],
+            &[4],
+            &[],
+            b"unread,b.csv\n",
+            7,
+        ),
+        (
+            &[b"run", b"c.jdf", b"b.csv"],
+            &[],
+            &[],
+            b"unread,c.jdf\n",
+            7,
+        ),
+        (
+            &[b"run", b"a.jdf", b"c.csv"],
+            &[],
+            &[],
+            b"unread,c.csv\n",
+            7,
+        ),
         (&[b"run", b"a.jdf", b"b.csv"], &[], &[1], b"", 8),
     ];
     for (words, read_fails, write_fails, text, code) in rows {

@@ -5,5 +5,5 @@ use Rattle.ptg_top.proofs.judge.with_tree.Goals as goal
 pub returns-clause-said : goal.returns-clause-said
 returns-clause-said g c jdf at =
     answer_result_reports (g.F.Files.told c.args.files.now) (g.F.Files.faults c.args.files.now) (g.F.Files.faults c.data_of.new.files)
-      jdf c.args.tiles.now c.args.tree.now at c.in_ok-given.given c.in_ok-given.ensures.found
-      c.in_ok-plan.plan c.in_ok-plan.ensures.named c.in_ok-plan.ensures.plan c.answer_of.result c.answer_of.ensures
+    jdf c.args.tiles.now c.args.tree.now at c.in_ok-given.given c.in_ok-given.ensures.found
+    c.in_ok-plan.plan c.in_ok-plan.ensures.named c.in_ok-plan.ensures.plan c.answer_of.result c.answer_of.ensures
