@@ -1,9 +1,9 @@
 -- Resolved parts of a JDF are well made: they name only what there is.
-use Rattle.std.proofs.Common.{◌≡◌, ℕ, suc, ◌<◌, ◌≤◌, List, [], ◌∷◌, length, map, true, false, Bool, cond, refl, sym, ap, ◌∙◌, arith}
+use Rattle.std.proofs.Common.{◌≡◌, ℕ, suc, ◌<◌, List, [], ◌∷◌, length, map, true, false, Bool, cond, refl, arith}
 use Rattle.std.specs.Prelude.{Option, Some, None, option_map, ◌&&◌, nat_lt, filter}
 use Rattle.std.specs.List.{list_all}
 use Rattle.std.specs.Str.{bytes_eq}
-use Rattle.std.proofs.lemmas.Bool.{and_from, and_parts, lt-ltb}
+use Rattle.std.proofs.lemmas.Bool.{and_from, lt-ltb}
 use Rattle.term_core.specs.Term as term
 use Rattle.term_core.specs.Term.{Term}
 use Rattle.term_core.specs.Value.{is_closed, is_closed_with}
@@ -29,7 +29,7 @@ use Rattle.term_core.specs.declared.body.Range.{Range}
 use Rattle.plan_core.specs.WellMade.{is_target, is_guard, is_other, is_dependence, is_well_made}
 use Rattle.std.proofs.lemmas.List.{length-map}
 use Rattle.flow_check.specs.Names.{coll_named, global_coll, global_int, is_declared}
-use Rattle.flow_check.specs.Planned.{Scope, scope, both, name_meaning, sees_local, is_local, is_element, resolved, resolved_if, resolved_target, resolved_dep, resolved_stmt, dep_of, each, shape_of, goes, range_of, affinity_of, deps_of, body_of, class_with, class_of}
+use Rattle.flow_check.specs.Planned.{Scope, scope, both, name_meaning, sees_local, is_element, resolved, resolved_if, resolved_target, resolved_dep, resolved_stmt, dep_of, each, shape_of, goes, range_of, affinity_of, deps_of, body_of, class_with, class_of}
 
 -- how many locals and flows are seen
 abbrev pub locals : Seen → ℕ

@@ -1,7 +1,6 @@
 -- A list that grows by the results for the elements of another.
-use Rattle.std.proofs.Common.{◌≡◌, List, [], ◌∷◌, ◌++◌, refl, append_assoc, ap}
-use Rattle.std.specs.Prelude.{Option, Some, None, option_map}
-use Rattle.flow_check.specs.Planned.{each, both}
+use Rattle.std.proofs.Common.{List, ◌++◌}
+use Rattle.std.specs.Prelude.{Option, Some, None}
 
 -- the results so far and those of what is left
 abbrev pub with_front : {A : Type 0} → List A → Option (List A) → Option (List A)

@@ -1,9 +1,6 @@
 -- What the names of a JDF mean. Source: the JDF documentation; which names may stand where is this project's own choice.
-use Rattle.std.specs.Prelude.{◌≡◌, ◌≢◌, ℕ, suc, ℤ, Bool, true, false, ◌||◌, List, [], ◌∷◌, map, Option, Some, None, is_some, option_map, option_and_then, if◌then◌else◌, IsTrue}
+use Rattle.std.specs.Prelude.{ℕ, suc, ℤ, Bool, true, false, ◌||◌, List, [], ◌∷◌, Option, Some, None, is_some, option_map, if◌then◌else◌, IsTrue}
 use Rattle.std.specs.Str.{bytes_eq}
-use Rattle.term_core.specs.Term as term
-use Rattle.term_core.specs.Term.{Term}
-use Rattle.jdf_read.specs.Expression.{Expression, Num, Name, Elem, Binary}
 use Rattle.jdf_read.specs.declared.Word.{Word}
 use Rattle.jdf_read.specs.declared.tree.Jdf.{Jdf}
 use Rattle.coll_data.specs.declared.given.Int.{Int}

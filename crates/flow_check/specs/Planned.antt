@@ -1,5 +1,5 @@
 -- The plan that a JDF and its data make, where all names fit.
-use Rattle.std.specs.Prelude.{◌≡◌, ℕ, ℤ, Bool, true, false, List, [], ◌∷◌, length, map, filter, not, ◌&&◌, IsTrue, Option, Some, None, option_map, option_and_then, if◌then◌else◌}
+use Rattle.std.specs.Prelude.{◌≡◌, ℕ, Bool, true, false, List, [], ◌∷◌, length, map, filter, not, ◌&&◌, IsTrue, Option, Some, None, option_map, if◌then◌else◌}
 use Rattle.std.specs.Str.{bytes_eq}
 use Rattle.term_core.specs.Term as term
 use Rattle.term_core.specs.Term.{Term}
@@ -10,7 +10,6 @@ use Rattle.jdf_read.specs.declared.tree.TargetTree.{TargetTree}
 use Rattle.jdf_read.specs.declared.tree.TargetTree.TheVariants as tree
 use Rattle.jdf_read.specs.declared.tree.DepTree.{DepTree}
 use Rattle.jdf_read.specs.declared.tree.StmtTree.{StmtTree}
-use Rattle.jdf_read.specs.declared.tree.ClassTree.{ClassTree}
 use Rattle.jdf_read.specs.declared.tree.Jdf.{Jdf}
 use Rattle.coll_data.specs.declared.given.Coll.{Coll}
 use Rattle.coll_data.specs.declared.given.Given.{Given}
