@@ -4,10 +4,10 @@
 mod outcome;
 mod pending;
 mod range;
-mod rounds;
 mod rows;
 mod run;
 mod state;
+mod tasks;
 mod write;
 
 pub use outcome::{Outcome, TrapRow, WaitRow};

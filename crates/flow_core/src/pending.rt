@@ -6,8 +6,8 @@ ghost use Rattle.flow_core.specs.Backward.{ended};
 ghost use Rattle.flow_core.specs.States.{IsRange, IsKnown, task_at};
 ghost use Rattle.flow_core.specs.Pending.{IsPending, AreIn, HaveTargets, edges_upto, work};
 
-use crate::rounds::{step, task};
 use crate::state::Ended;
+use crate::tasks::{step, task};
 use coll_data::Given;
 use dep_iter::item_at;
 use plan_core::Plan;

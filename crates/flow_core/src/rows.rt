@@ -4,8 +4,8 @@ ghost use Rattle.flow_core.specs.States.{IsRange};
 ghost use Rattle.flow_core.specs.Progress.{traps_from, waits_known, waits_from};
 
 use crate::outcome::{TrapRow, WaitRow};
-use crate::rounds::task;
 use crate::state::{Ended, known_tile};
+use crate::tasks::task;
 use dep_iter::{Source, source_of};
 use plan_core::Plan;
 use ptg_base::{OutOfMemory, Row, TaskId};

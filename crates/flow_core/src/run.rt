@@ -7,9 +7,9 @@ ghost use Rattle.flow_core.specs.Answer.{answer};
 
 use crate::outcome::Outcome;
 use crate::range::range_of;
-use crate::rounds::run_all;
 use crate::rows::{ran, traps, waits};
 use crate::state::Ended;
+use crate::tasks::run_all;
 use crate::write::written;
 use coll_data::Given;
 use dep_iter::Matched;

@@ -5,8 +5,8 @@ ghost use Rattle.flow_core.specs.States.{IsRange};
 ghost use Rattle.flow_core.specs.Progress.{writes_from};
 ghost use Rattle.flow_core.specs.Laid.{laid_colls, tile_at, tile_where, writes_upto};
 
-use crate::rounds::task;
 use crate::state::{Ended, given_tile};
+use crate::tasks::task;
 use coll_data::{Coll, Given};
 use dep_iter::item_at;
 use plan_core::Plan;

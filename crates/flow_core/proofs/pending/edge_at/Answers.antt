@@ -1,4 +1,4 @@
-use Rattle.std.proofs.Common.{◌≡◌, [], ◌∷◌, Some, Ok, refl, ap}
+use Rattle.std.proofs.Common.{◌≡◌, [], ◌∷◌, Some, Ok, ap}
 use Rattle.ptg_base.specs.declared.edge.Item.TheVariants as item
 use Rattle.dep_iter.specs.Items.{listed}
 use Rattle.flow_core.proofs.Pushed.{edges_more}

@@ -1,4 +1,4 @@
-use Rattle.std.proofs.Common.{◌≡◌, ◌+◌, List, arith, sym, subst, ap, ◌∙◌, SFits, w64}
+use Rattle.std.proofs.Common.{◌≡◌, List, arith, sym, subst, ap, ◌∙◌, SFits, w64}
 use Rattle.std.specs.Prelude.{IsOk}
 use Rattle.std.proofs.lemmas.Int.{to_z-of_z}
 use Rattle.ptg_base.specs.Task.{Task}

@@ -1,4 +1,4 @@
-use Rattle.std.proofs.Common.{◌≡◌, ◌≢◌, ◌<◌, ℕ, length, get_or, List, Option, Some, None, Ok, arith, sym, ap, subst, SFits, w64}
+use Rattle.std.proofs.Common.{◌≡◌, ℕ, length, get_or, List, Option, None, Ok, arith, sym, ap, subst, SFits, w64}
 use Rattle.std.proofs.lemmas.Int.{to_z-of_z}
 use Rattle.dep_iter.specs.Items.{out_edges}
 use Rattle.flow_core.specs.Backward.{Ended}

@@ -4,7 +4,7 @@ use Rattle.std.proofs.lemmas.Grind.{common_steps}
 use Rattle.std.proofs.lemmas.Int.{to_z-of_z}
 use Rattle.flow_core.specs.States.{task_at, next}
 use Rattle.flow_core.proofs.Known.{known_set}
-use Rattle.flow_core.proofs.rounds.step.Goals as goal
+use Rattle.flow_core.proofs.tasks.step.Goals as goal
 
 pub returns-in-Some-clause-known : goal.returns-in-Some-clause-known
 returns-in-Some-clause-known c =

@@ -1,7 +1,7 @@
 use Rattle.std.proofs.Common.{◌≡◌, length, drop, ◌∙◌, arith}
 use Rattle.std.proofs.lemmas.List.{take_at}
 use Rattle.std.proofs.lemmas.Grind.{common_steps}
-use Rattle.flow_core.proofs.rounds.run_all.Goals as goal
+use Rattle.flow_core.proofs.tasks.run_all.Goals as goal
 
 pub returns : goal.returns
 returns c =
