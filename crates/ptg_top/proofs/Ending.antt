@@ -1,5 +1,5 @@
 -- A verdict that went out whole.
-use Rattle.std.proofs.Common.{◌≡◌, ℕ, List, Some, subst, sym, refl, ap, ◌∙◌, inl}
+use Rattle.std.proofs.Common.{◌≡◌, ℕ, List, Some, subst, refl, ap, ◌∙◌, inl}
 use Rattle.std.specs.Prelude.{Option, ◌⊎◌}
 use Rattle.ptg_io.specs.Faults.{Rose}
 use Rattle.ptg_io.specs.Sink.{appended}

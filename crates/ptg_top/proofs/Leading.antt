@@ -1,6 +1,6 @@
 -- What is said where a step stops, and where all steps lead on.
-use Rattle.std.proofs.Common.{◌≡◌, ℕ, ◌≤◌, List, Some, Result, Ok, Err, refl, sym, ap, subst, inl, inr, arith}
-use Rattle.std.specs.Prelude.{Option, ◌⊎◌, MatchResult, IfOk}
+use Rattle.std.proofs.Common.{◌≡◌, ℕ, ◌≤◌, List, Some, Result, Ok, Err, refl, sym, subst, inl, inr, arith}
+use Rattle.std.specs.Prelude.{Option, MatchResult, IfOk}
 use Rattle.ptg_base.specs.declared.memory.OutOfMemory.{OutOfMemory}
 use Rattle.ptg_io.specs.Faults.{Rose}
 use Rattle.ptg_io.specs.Files.{file_of}
@@ -10,7 +10,6 @@ use Rattle.ptg_words.specs.Words.{Orders}
 use Rattle.jdf_lex.specs.Tokens as jdf_text
 use Rattle.jdf_lex.specs.declared.fault.JdfFault.{JdfFault}
 use Rattle.jdf_read.specs.declared.tree.Jdf.{Jdf}
-use Rattle.jdf_read.specs.Jdf.{IsJdf}
 use Rattle.coll_data.specs.declared.fault.DataFault.{DataFault}
 use Rattle.coll_data.specs.declared.given.Given.{Given}
 use Rattle.coll_data.specs.Data as coll
@@ -19,18 +18,15 @@ use Rattle.coll_data.specs.Whole.{HasWholeTiles}
 use Rattle.plan_core.specs.declared.plan.Plan.{Plan}
 use Rattle.flow_check.specs.Names.{IsMissing}
 use Rattle.flow_check.specs.Planned.{IsPlan}
-use Rattle.dep_iter.specs.Consistent.{IsConsistent}
-use Rattle.flow_core.specs.declared.outcome.Outcome.{Outcome}
 use Rattle.flow_core.specs.Fits.{Fits}
-use Rattle.flow_core.specs.Answer.{answer}
 use Rattle.ptg_top.specs.declared.verdict.Verdict.{Verdict}
 use Rattle.ptg_top.specs.declared.verdict.Verdict.TheVariants as say
 use Rattle.ptg_top.specs.declared.stages.Stop.{Stop}
 use Rattle.ptg_top.specs.declared.stages.Stop.TheVariants.{Said, Memory}
 use Rattle.ptg_top.specs.Stages.{Entries, HasTree, HasData, HasPlan}
-use Rattle.ptg_top.specs.Meaning.{Means, IsNoTree, IsNoData, IsLacking, IsNoPlan, IsNoOrder, MayBeUnread}
-use Rattle.ptg_top.specs.Steps.{HasNone, TreeSaid, TreeStop, DataSaid, DataStop, PlanSaid, PlanStop, AnswerSaid}
-use Rattle.ptg_top.specs.Reports.{TreeAt, Says, IsMeant, IsUnreadOf, Reports, IsTold, Judged, AreTexts, IsSaid, jdf_name, tiles_name}
+use Rattle.ptg_top.specs.Meaning.{Means, MayBeUnread}
+use Rattle.ptg_top.specs.Steps.{TreeSaid, TreeStop, DataSaid, DataStop, PlanSaid, PlanStop, AnswerSaid}
+use Rattle.ptg_top.specs.Reports.{TreeAt, Says, IsMeant, IsUnreadOf, Reports, Judged, AreTexts, IsSaid, jdf_name, tiles_name}
 
 -- the file of this name spells these data
 abbrev pub DataAt : Entries → List ℕ → Given → Type 0

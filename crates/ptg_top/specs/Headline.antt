@@ -1,6 +1,5 @@
 -- What is printed for a verdict, and what a run of the program promises.
-use Rattle.std.specs.Prelude.{◌≡◌, ◌⊎◌, ℕ, ◌++◌, List, [], ◌∷◌, Option, Some, codes}
-use Rattle.ptg_io.specs.Faults.{Rose}
+use Rattle.std.specs.Prelude.{◌≡◌, ℕ, List, [], ◌∷◌, Option, codes}
 use Rattle.ptg_io.specs.Sink.{appended}
 use Rattle.flow_core.specs.declared.outcome.Outcome.{Outcome}
 use Rattle.flow_core.specs.declared.outcome.Outcome.TheVariants as outcome

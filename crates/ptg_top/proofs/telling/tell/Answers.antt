@@ -1,4 +1,4 @@
-use Rattle.std.proofs.Common.{subst, sym, ◌∙◌}
+use Rattle.std.proofs.Common.{subst, sym}
 use Rattle.std.specs.Prelude.{OnErr}
 use Rattle.plan_core.specs.declared.plan.Plan.{Plan}
 use Rattle.report_text.specs.Printed.{outcome_text}
