@@ -97,8 +97,8 @@ fn decides(rt: HostRuntime) -> Result<(), OutOfMemory> {
         let plan = chain(rt.alloc(), last, rows)?;
         let found = match match_edges(rt.alloc(), plan) {
             Ok(matched) => matched.plan().elems == 1,
-            Err((MatchRefusal::Fault(_), _)) => false,
-            Err((MatchRefusal::OutOfMemory, _)) => return Err(OutOfMemory),
+            Err((MatchRefusal::Fault(_fault), _plan)) => false,
+            Err((MatchRefusal::OutOfMemory, _plan)) => return Err(OutOfMemory),
         };
         assert_eq!(rt; found, want, "{last} {rows}");
     }

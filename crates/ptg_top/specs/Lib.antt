@@ -3,3 +3,4 @@ pub mod Meaning
 pub mod Steps
 pub mod Reports
 pub mod Headline
+pub mod Codes

@@ -25,6 +25,10 @@ pub fn ptg_main<F: Files, O: Sink>(
     files: &mut F,
     out: &mut O,
 ) -> Status
+    // The files stay as they are, and no count of faults falls.
+    ensures stays { F.told files.new ≡ F.told files.old }
+    ensures read_faults { (other : List ℕ) → F.faults files.old other ≤ F.faults files.new other }
+    ensures write_faults { O.faults out.old ≤ O.faults out.new }
     // Where the files are told: exactly the text and the status that words and files mean.
     ensures exact { (entries : Entries) → F.told files.old ≡ Some entries → IsExact result →
         Prints words.now entries (O.bytes out.old) (O.bytes out.new) result }

@@ -1,3 +1,6 @@
+ghost use Rattle.std.specs.Prelude.{◌≡◌};
+ghost use Rattle.ptg_top.specs.Codes.{code_of};
+
 /// How a run of the program ended; the exit status of its process is `code`.
 #[derive(Clone, Copy, Debug, PartialEq, Eq)]
 pub enum Status {
@@ -25,7 +28,9 @@ pub enum Status {
 
 impl Status {
     /// The exit status of the process.
-    pub fn code(self) -> u8 {
+    pub fn code(self) -> u8
+        ensures { result ≡ code_of self }
+    {
         match self {
             Status::Complete => 0,
             Status::Usage => 1,

@@ -69,16 +69,7 @@ fn put_refusal<O: Sink>(sink: &mut O, out: &mut Pieces, line: &Line) -> Result<(
             &[],
             &[],
         ),
-        Line::Unread(name) => {
-            put_line(
-                sink,
-                out,
-                b"unread",
-                &[Field::Word(name)],
-                &[],
-                &[],
-            )
-        }
+        Line::Unread(name) => { put_line(sink, out, b"unread", &[Field::Word(name)], &[], &[]) }
     }
 }
 
