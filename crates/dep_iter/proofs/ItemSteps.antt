@@ -5,8 +5,8 @@ use Rattle.std.proofs.lemmas.List.{take-append-drop}
 use Rattle.ptg_base.specs.Task.{Task}
 use Rattle.ptg_base.specs.declared.edge.Item.{Item}
 use Rattle.term_core.specs.declared.fault.ExprFault.{ExprFault}
-use Rattle.plan_core.specs.declared.class.Target.{Target}
-use Rattle.plan_core.specs.declared.class.DepPlan.{DepPlan}
+use Rattle.plan_first.specs.declared.class.Target.{Target}
+use Rattle.plan_first.specs.declared.class.DepPlan.{DepPlan}
 use Rattle.dep_iter.specs.Steps.{◌>>=◌}
 use Rattle.dep_iter.specs.Sources.{chosen}
 use Rattle.dep_iter.specs.Items.{items_at, items_from, all_items, joined, listed}

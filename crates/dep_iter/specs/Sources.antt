@@ -7,10 +7,10 @@ use Rattle.term_core.specs.declared.fault.ExprFault.{ExprFault}
 use Rattle.term_core.specs.Term.{Term}
 use Rattle.term_core.specs.Arith.{holds}
 use Rattle.term_core.specs.Value.{value}
-use Rattle.plan_core.specs.declared.class.Target.{Target}
-use Rattle.plan_core.specs.declared.class.Target.TheVariants as target
-use Rattle.plan_core.specs.declared.class.DepPlan.{DepPlan}
-use Rattle.plan_core.specs.declared.plan.Plan.{Plan}
+use Rattle.plan_first.specs.declared.class.Target.{Target}
+use Rattle.plan_first.specs.declared.class.Target.TheVariants as target
+use Rattle.plan_first.specs.declared.class.DepPlan.{DepPlan}
+use Rattle.plan_first.specs.declared.plan.Plan.{Plan}
 use Rattle.dep_iter.specs.declared.source.Source.{Source}
 use Rattle.dep_iter.specs.declared.source.Source.TheVariants as source
 use Rattle.dep_iter.specs.Steps.{◌>>=◌}

@@ -3,8 +3,8 @@ use Rattle.std.specs.Prelude.{ℕ, zero, suc, ℤ, pos, negsuc, ◌+ℤ◌, ◌-
 use Rattle.ptg_base.specs.Task.{Task}
 use Rattle.term_core.specs.declared.fault.ExprFault.{ExprFault}
 use Rattle.term_core.specs.Value.{value}
-use Rattle.term_core.specs.declared.body.Range.{Range}
-use Rattle.plan_core.specs.declared.plan.Plan.{Plan}
+use Rattle.plan_first.specs.declared.interval.Interval.{Interval}
+use Rattle.plan_first.specs.declared.plan.Plan.{Plan}
 use Rattle.ptg_base.specs.Lists.{IsIn}
 use Rattle.dep_iter.specs.Steps.{◌>>=◌}
 
@@ -26,7 +26,7 @@ abbrev pub numbers_between : ℤ → ℤ → List ℤ
 numbers_between lo hi = numbers_from lo (count_between lo hi)
 
 -- the values of a range under these locals
-abbrev pub range_values : Range → List ℤ → Result (List ℤ) ExprFault
+abbrev pub range_values : Interval → List ℤ → Result (List ℤ) ExprFault
 range_values r env = value r.lo env >>= λ lo. value r.hi env >>= λ hi. Ok (numbers_between lo hi)
 
 -- the task with this parameter

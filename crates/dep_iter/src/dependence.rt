@@ -1,7 +1,7 @@
 ghost use Rattle.std.specs.Prelude.{◌≡◌, OnOk, IfErr, IfOk, Ok, Err};
 ghost use Rattle.dep_iter.specs.Sources.{chosen, choice};
 
-use plan_core::DepPlan;
+use plan_first::DepPlan;
 use term_core::{ExprFault, eval};
 
 /// Whether a dependence goes to its first target: it has no guard, or its guard is not 0.

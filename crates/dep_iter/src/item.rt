@@ -1,11 +1,11 @@
 ghost use Rattle.std.specs.Prelude.{◌≡◌, ◌+◌, ◌<◌, length, take, slice_get, IfErr, IsOk, Err, Some};
-ghost use Rattle.plan_core.specs.declared.class.DepPlan.{DepPlan as Dependence};
+ghost use Rattle.plan_first.specs.declared.class.DepPlan.{DepPlan as Dependence};
 ghost use Rattle.dep_iter.specs.Items.{item_at, items_from, items_of, all_items, joined, listed};
 
 use crate::dependence::is_first;
 use crate::place::column_place;
 use crate::task::{copy_of, task_of};
-use plan_core::{DepPlan, Plan, Target};
+use plan_first::{DepPlan, Plan, Target};
 use ptg_base::{Edge, Item, TaskId, WriteBack};
 use term_core::{ExprFault, eval};
 

@@ -1,6 +1,6 @@
 ghost use Rattle.std.specs.Prelude.{◌≡◌};
 
-use plan_core::Plan;
+use plan_first::Plan;
 use std::marker::Model;
 
 /// A plan that is consistent.
@@ -10,7 +10,7 @@ pub struct Matched {
 }
 
 impl Model for Matched {
-    ghost use Rattle.plan_core.specs.declared.plan.Plan.{Plan};
+    ghost use Rattle.plan_first.specs.declared.plan.Plan.{Plan};
     ghost use Rattle.term_core.specs.contracts.expr.Expr as expr;
     ghost use Rattle.std.specs.Coded.{codes};
 

@@ -2,7 +2,7 @@ ghost use Rattle.std.specs.Prelude.{◌≡◌, IsTrue, ◌↔◌};
 ghost use Rattle.dep_iter.specs.Sources.{place};
 ghost use Rattle.dep_iter.specs.Consistent.{HasPlace, affinity_of};
 
-use plan_core::Plan;
+use plan_first::Plan;
 use ptg_base::{Place, TaskId};
 use term_core::{ExprFault, eval};
 

@@ -2,7 +2,7 @@ ghost use Rattle.std.specs.Prelude.{◌≡◌, [], map, Ok, Err, IfOk, IfErr};
 ghost use Rattle.term_core.specs.Value.{value};
 ghost use Rattle.dep_iter.specs.Space.{range_values, numbers_between, task_of, space};
 
-use plan_core::Plan;
+use plan_first::Plan;
 use term_core::{ExprFault, eval};
 
 /// The ends of the range of the parameter.

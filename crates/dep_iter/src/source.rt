@@ -4,7 +4,7 @@ ghost use Rattle.dep_iter.specs.Sources.{source_at, first_source, source_of};
 use crate::dependence::is_first;
 use crate::place::column_place;
 use crate::task::{copy_of, task_of};
-use plan_core::{DepPlan, Plan, Target};
+use plan_first::{DepPlan, Plan, Target};
 use ptg_base::{Edge, Place, TaskId};
 use term_core::{ExprFault, eval};
 

@@ -1,13 +1,13 @@
 ghost use Rattle.std.specs.Prelude.{◌≡◌, [], ◌∷◌, pos, IfOk, IsTrue};
-ghost use Rattle.plan_core.specs.declared.class.Shape.{Shape as Coll};
-ghost use Rattle.plan_core.specs.WellMade.{is_dependence, is_well_made};
+ghost use Rattle.plan_first.specs.declared.class.Shape.{Shape as Coll};
+ghost use Rattle.plan_first.specs.WellMade.{is_dependence, is_well_made};
 ghost use Rattle.term_core.specs.Term.{Num};
 
 use crate::{Source, affinity_of, bounds, has_place, item_at, same_task, source_of};
-use plan_core::{ClassPlan, DepPlan, Plan, Shape, Target};
+use plan_first::{ClassPlan, DepPlan, Interval, Plan, Shape, Target};
 use ptg_base::{Item, OutOfMemory, Place, Row, TaskId, Text};
 use std::alloc::Global;
-use term_core::{BinOp, Body, Expr, Range};
+use term_core::{BinOp, Body, Expr};
 
 /// `k == 0 ? d(0) : T(k - 1)`
 fn from_before(alloc: Global) -> Result<DepPlan, OutOfMemory>
@@ -79,7 +79,7 @@ fn chain(alloc: Global) -> Result<Plan, OutOfMemory> {
     let colls = one_shape(alloc)?;
     Ok(Plan {
         class,
-        space: Range {
+        space: Interval {
             lo: Expr::num(0),
             hi: Expr::num(3),
         },

@@ -9,10 +9,10 @@ use Rattle.ptg_base.specs.declared.edge.Item.{Item}
 use Rattle.ptg_base.specs.declared.edge.Item.TheVariants as item
 use Rattle.term_core.specs.declared.fault.ExprFault.{ExprFault}
 use Rattle.term_core.specs.Value.{value}
-use Rattle.plan_core.specs.declared.class.Target.{Target}
-use Rattle.plan_core.specs.declared.class.Target.TheVariants as target
-use Rattle.plan_core.specs.declared.class.DepPlan.{DepPlan}
-use Rattle.plan_core.specs.declared.plan.Plan.{Plan}
+use Rattle.plan_first.specs.declared.class.Target.{Target}
+use Rattle.plan_first.specs.declared.class.Target.TheVariants as target
+use Rattle.plan_first.specs.declared.class.DepPlan.{DepPlan}
+use Rattle.plan_first.specs.declared.plan.Plan.{Plan}
 use Rattle.dep_iter.specs.declared.source.Source.{Source}
 use Rattle.dep_iter.specs.declared.source.Source.TheVariants as source
 use Rattle.dep_iter.specs.Steps.{◌>>=◌}

@@ -6,7 +6,7 @@ use Rattle.ptg_base.specs.declared.place.Place.{Place}
 use Rattle.ptg_base.specs.declared.edge.Edge.{Edge}
 use Rattle.ptg_base.specs.declared.edge.Item.{Item}
 use Rattle.term_core.specs.declared.fault.ExprFault.{ExprFault}
-use Rattle.plan_core.specs.declared.plan.Plan.{Plan}
+use Rattle.plan_first.specs.declared.plan.Plan.{Plan}
 use Rattle.dep_iter.specs.declared.source.Source.{Source}
 use Rattle.dep_iter.specs.Sources.{source_of, in_edges, edges_from}
 use Rattle.dep_iter.specs.Items.{items_of, out_edges, edges_among, writes_among, write_backs}

@@ -1,5 +1,5 @@
 ghost use Rattle.std.specs.Prelude.{◌≡◌, IfOk, IfErr, Err, IsTrue, ◌↔◌};
-ghost use Rattle.plan_core.specs.declared.plan.Plan.{Plan as Job};
+ghost use Rattle.plan_first.specs.declared.plan.Plan.{Plan as Job};
 ghost use Rattle.dep_iter.specs.Consistent.{IsConsistent};
 ghost use Rattle.edge_match.specs.declared.fault.MatchFault.{MatchFault as Fault};
 ghost use Rattle.edge_match.specs.declared.fault.MatchRefusal.TheVariants as refusal;
@@ -9,7 +9,7 @@ use crate::tasks::tasks_of;
 use crate::totals::{are_met, has_few_items};
 use crate::written::are_written_once;
 use dep_iter::Matched;
-use plan_core::Plan;
+use plan_first::Plan;
 use ptg_base::OutOfMemory;
 use std::alloc::Global;
 

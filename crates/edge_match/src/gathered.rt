@@ -2,7 +2,7 @@ ghost use Rattle.std.specs.Prelude.{◌≡◌, IfOk, length};
 ghost use Rattle.dep_iter.specs.Items.{items_of, items};
 
 use dep_iter::item_at;
-use plan_core::Plan;
+use plan_first::Plan;
 use ptg_base::{Item, OutOfMemory, Row, TaskId};
 use std::alloc::Global;
 use term_core::ExprFault;

@@ -6,7 +6,7 @@ ghost use Rattle.edge_match.specs.Meeting.{Each, IsGoodAffinity};
 
 use crate::tasks::{Tasks, has_task};
 use dep_iter::{Source, affinity_of, has_place};
-use plan_core::Plan;
+use plan_first::Plan;
 use ptg_base::{Item, TaskId};
 
 /// Whether the affinity of a task has a value and is there.

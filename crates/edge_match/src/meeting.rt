@@ -10,7 +10,7 @@ use crate::gathered::{items, items_of};
 use crate::good::{are_good_items, has_good_affinity, is_good_source};
 use crate::tasks::Tasks;
 use dep_iter::{Source, source_of};
-use plan_core::Plan;
+use plan_first::Plan;
 use ptg_base::{Edge, Item, OutOfMemory, TaskId};
 use std::alloc::Global;
 

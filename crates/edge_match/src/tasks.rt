@@ -4,7 +4,7 @@ ghost use Rattle.dep_iter.specs.Space.{count_between, numbers_between, space, Is
 ghost use Rattle.edge_match.specs.Tasks.{tasks_between};
 
 use dep_iter::bounds;
-use plan_core::Plan;
+use plan_first::Plan;
 use ptg_base::TaskId;
 
 /// The tasks of a job, of which there are at most a million: those with a parameter from `lo` up

@@ -1,13 +1,13 @@
 ghost use Rattle.std.specs.Prelude.{◌≡◌, [], ◌∷◌, pos, IfOk, IsTrue};
-ghost use Rattle.plan_core.specs.declared.class.Shape.{Shape as Coll};
-ghost use Rattle.plan_core.specs.WellMade.{is_dependence, is_well_made};
+ghost use Rattle.plan_first.specs.declared.class.Shape.{Shape as Coll};
+ghost use Rattle.plan_first.specs.WellMade.{is_dependence, is_well_made};
 ghost use Rattle.term_core.specs.Term.{Num};
 
 use crate::{MatchRefusal, match_edges};
-use plan_core::{ClassPlan, DepPlan, Plan, Shape, Target};
+use plan_first::{ClassPlan, DepPlan, Interval, Plan, Shape, Target};
 use ptg_base::{OutOfMemory, Row, Text};
 use std::alloc::Global;
-use term_core::{BinOp, Body, Expr, Range};
+use term_core::{BinOp, Body, Expr};
 
 /// `k == 0 ? d(0) : T(k - 1)`
 fn from_before(alloc: Global) -> Result<DepPlan, OutOfMemory>
@@ -79,7 +79,7 @@ fn chain(alloc: Global, last: i64, rows: u32) -> Result<Plan, OutOfMemory> {
     let colls = one_shape(alloc, rows)?;
     Ok(Plan {
         class,
-        space: Range {
+        space: Interval {
             lo: Expr::num(0),
             hi: Expr::num(3),
         },

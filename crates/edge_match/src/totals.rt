@@ -7,7 +7,7 @@ ghost use Rattle.edge_match.specs.Meeting.{Each, IsMet};
 use crate::gathered::items;
 use crate::meeting::is_met;
 use crate::tasks::{Tasks, task_at};
-use plan_core::Plan;
+use plan_first::Plan;
 use ptg_base::OutOfMemory;
 use std::alloc::Global;
 

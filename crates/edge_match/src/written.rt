@@ -8,7 +8,7 @@ ghost use Rattle.edge_match.specs.Places.{AreNew, Adds};
 
 use crate::gathered::items;
 use crate::tasks::{Tasks, task_at};
-use plan_core::Plan;
+use plan_first::Plan;
 use ptg_base::{Item, OutOfMemory, Place, TaskId};
 use std::alloc::Global;
 use std::collections::HashSet;

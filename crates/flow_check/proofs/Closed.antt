@@ -7,7 +7,7 @@ use Rattle.std.proofs.lemmas.Bool.{and_from, lt-ltb}
 use Rattle.term_core.specs.Term as term
 use Rattle.term_core.specs.Term.{Term}
 use Rattle.term_core.specs.Value.{is_closed, is_closed_with}
-use Rattle.jdf_read.specs.Expression.{Expression, Num, Name, Elem, Binary}
+use Rattle.jdf_first.specs.Expression.{Expression, Num, Name, Elem, Binary}
 use Rattle.coll_data.specs.declared.given.Coll.{Coll}
 use Rattle.coll_data.specs.declared.given.Given.{Given}
 use Rattle.flow_check.specs.declared.scope.Seen.{Seen}
@@ -15,18 +15,18 @@ use Rattle.flow_check.specs.declared.scope.Seen.TheVariants.{Globals, Local, Ele
 use Rattle.term_core.specs.declared.body.Stmt.{Stmt}
 use Rattle.term_core.specs.declared.body.Stmt.TheVariants.{Put}
 use Rattle.term_core.specs.WellMade.{is_statement}
-use Rattle.jdf_read.specs.declared.tree.TargetTree.{TargetTree}
-use Rattle.jdf_read.specs.declared.tree.TargetTree.TheVariants as tree
-use Rattle.jdf_read.specs.declared.tree.DepTree.{DepTree}
-use Rattle.jdf_read.specs.declared.tree.StmtTree.{StmtTree}
-use Rattle.jdf_read.specs.declared.tree.Jdf.{Jdf}
-use Rattle.plan_core.specs.declared.class.Target.{Target}
-use Rattle.plan_core.specs.declared.class.Target.TheVariants as plan
-use Rattle.plan_core.specs.declared.class.DepPlan.{DepPlan}
-use Rattle.plan_core.specs.declared.class.ClassPlan.{ClassPlan}
-use Rattle.plan_core.specs.declared.class.Shape.{Shape}
-use Rattle.term_core.specs.declared.body.Range.{Range}
-use Rattle.plan_core.specs.WellMade.{is_target, is_guard, is_other, is_dependence, is_well_made}
+use Rattle.jdf_first.specs.declared.tree.TargetTree.{TargetTree}
+use Rattle.jdf_first.specs.declared.tree.TargetTree.TheVariants as tree
+use Rattle.jdf_first.specs.declared.tree.DepTree.{DepTree}
+use Rattle.jdf_first.specs.declared.tree.StmtTree.{StmtTree}
+use Rattle.jdf_first.specs.declared.tree.Jdf.{Jdf}
+use Rattle.plan_first.specs.declared.class.Target.{Target}
+use Rattle.plan_first.specs.declared.class.Target.TheVariants as plan
+use Rattle.plan_first.specs.declared.class.DepPlan.{DepPlan}
+use Rattle.plan_first.specs.declared.class.ClassPlan.{ClassPlan}
+use Rattle.plan_first.specs.declared.class.Shape.{Shape}
+use Rattle.plan_first.specs.declared.interval.Interval.{Interval}
+use Rattle.plan_first.specs.WellMade.{is_target, is_guard, is_other, is_dependence, is_well_made}
 use Rattle.std.proofs.lemmas.List.{length-map}
 use Rattle.flow_check.specs.Names.{coll_named, global_coll, global_int, is_declared}
 use Rattle.flow_check.specs.Planned.{Scope, scope, both, name_meaning, sees_local, is_element, resolved, resolved_if, resolved_target, resolved_dep, resolved_stmt, dep_of, each, shape_of, goes, range_of, affinity_of, deps_of, body_of, class_with, class_of}
@@ -155,13 +155,13 @@ affinity_fits J G a e =
     let there : nat_lt h.0 (length (map shape_of G.colls)) ≡ true = rw length-map (lt-ltb h.0 (length G.colls) within) in
     rw (← h.4) (and_from _ _ there (resolved_closed J G Local J.class.affinity_arg h.1 h.3))
 
-range_fits : (J : Jdf) (G : Given) (r : Range) → range_of J G ≡ Some r → (is_closed 0 r.lo && is_closed 0 r.hi) ≡ true
+range_fits : (J : Jdf) (G : Given) (r : Interval) → range_of J G ≡ Some r → (is_closed 0 r.lo && is_closed 0 r.hi) ≡ true
 range_fits J G r e =
     let h = both_is (λ lo hi. record { lo = lo; hi = hi }) (resolved (scope J G Globals) J.class.lo) (resolved (scope J G Globals) J.class.hi) r e in
     rw (← h.4) (and_from _ _ (resolved_closed J G Globals J.class.lo h.0 h.2) (resolved_closed J G Globals J.class.hi h.1 h.3))
 
 -- the parts of a plan fit one another
-pub plan_fits : (J : Jdf) (G : Given) (class : ClassPlan) (space : Range) (colls : List Shape) → class_of J G ≡ Some class → range_of J G ≡ Some space → Some (map shape_of G.colls) ≡ Some colls → is_well_made class space colls ≡ true
+pub plan_fits : (J : Jdf) (G : Given) (class : ClassPlan) (space : Interval) (colls : List Shape) → class_of J G ≡ Some class → range_of J G ≡ Some space → Some (map shape_of G.colls) ≡ Some colls → is_well_made class space colls ≡ true
 plan_fits J G class space colls e r s =
     let h = both_is (class_with J.class.name.text) (affinity_of J G) _ class e in
     let k = both_is (λ ins x. (ins, x)) (deps_of J G true) _ h.1 h.3 in

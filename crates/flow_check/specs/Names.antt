@@ -1,8 +1,8 @@
 -- What the names of a JDF mean. Source: the JDF documentation; which names may stand where is this project's own choice.
 use Rattle.std.specs.Prelude.{ℕ, suc, ℤ, Bool, true, false, ◌||◌, List, [], ◌∷◌, Option, Some, None, is_some, option_map, if◌then◌else◌, IsTrue}
 use Rattle.std.specs.Str.{bytes_eq}
-use Rattle.jdf_read.specs.declared.Word.{Word}
-use Rattle.jdf_read.specs.declared.tree.Jdf.{Jdf}
+use Rattle.jdf_first.specs.declared.Word.{Word}
+use Rattle.jdf_first.specs.declared.tree.Jdf.{Jdf}
 use Rattle.coll_data.specs.declared.given.Int.{Int}
 use Rattle.coll_data.specs.declared.given.Coll.{Coll}
 use Rattle.coll_data.specs.declared.given.Given.{Given}

@@ -5,21 +5,21 @@ use Rattle.term_core.specs.Term as term
 use Rattle.term_core.specs.Term.{Term}
 use Rattle.term_core.specs.declared.body.Stmt.{Stmt}
 use Rattle.term_core.specs.declared.body.Stmt.TheVariants.{Put}
-use Rattle.jdf_read.specs.Expression.{Expression, Num, Name, Elem, Binary}
-use Rattle.jdf_read.specs.declared.tree.TargetTree.{TargetTree}
-use Rattle.jdf_read.specs.declared.tree.TargetTree.TheVariants as tree
-use Rattle.jdf_read.specs.declared.tree.DepTree.{DepTree}
-use Rattle.jdf_read.specs.declared.tree.StmtTree.{StmtTree}
-use Rattle.jdf_read.specs.declared.tree.Jdf.{Jdf}
+use Rattle.jdf_first.specs.Expression.{Expression, Num, Name, Elem, Binary}
+use Rattle.jdf_first.specs.declared.tree.TargetTree.{TargetTree}
+use Rattle.jdf_first.specs.declared.tree.TargetTree.TheVariants as tree
+use Rattle.jdf_first.specs.declared.tree.DepTree.{DepTree}
+use Rattle.jdf_first.specs.declared.tree.StmtTree.{StmtTree}
+use Rattle.jdf_first.specs.declared.tree.Jdf.{Jdf}
 use Rattle.coll_data.specs.declared.given.Coll.{Coll}
 use Rattle.coll_data.specs.declared.given.Given.{Given}
-use Rattle.plan_core.specs.declared.class.Target.{Target}
-use Rattle.plan_core.specs.declared.class.Target.TheVariants as plan
-use Rattle.plan_core.specs.declared.class.DepPlan.{DepPlan}
-use Rattle.term_core.specs.declared.body.Range.{Range}
-use Rattle.plan_core.specs.declared.class.ClassPlan.{ClassPlan}
-use Rattle.plan_core.specs.declared.class.Shape.{Shape}
-use Rattle.plan_core.specs.declared.plan.Plan.{Plan}
+use Rattle.plan_first.specs.declared.class.Target.{Target}
+use Rattle.plan_first.specs.declared.class.Target.TheVariants as plan
+use Rattle.plan_first.specs.declared.class.DepPlan.{DepPlan}
+use Rattle.plan_first.specs.declared.interval.Interval.{Interval}
+use Rattle.plan_first.specs.declared.class.ClassPlan.{ClassPlan}
+use Rattle.plan_first.specs.declared.class.Shape.{Shape}
+use Rattle.plan_first.specs.declared.plan.Plan.{Plan}
 use Rattle.flow_check.specs.declared.scope.Seen.{Seen}
 use Rattle.flow_check.specs.declared.scope.Seen.TheVariants.{Globals, Local, Elements}
 use Rattle.flow_check.specs.Names.{global_int, global_coll, are_distinct}
@@ -104,7 +104,7 @@ abbrev pub shape_of : Coll → Shape
 shape_of c = record { name = c.name; rows = length c.tiles }
 
 -- the range, the affinity and the class of a plan, with their names resolved
-abbrev pub range_of : Jdf → Given → Option Range
+abbrev pub range_of : Jdf → Given → Option Interval
 range_of J G = both (λ lo hi. record { lo = lo; hi = hi }) (resolved (scope J G Globals) J.class.lo) (resolved (scope J G Globals) J.class.hi)
 
 abbrev pub affinity_of : Jdf → Given → Option (ℕ × Term)

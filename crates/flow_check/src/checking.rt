@@ -3,7 +3,7 @@
 ghost use Rattle.std.specs.Prelude.{◌≡◌, ◌↔◌, Some, Err, IfOk, IsTrue, map};
 ghost use Rattle.jdf_lex.specs.declared.fault.JdfFault.{JdfFault};
 ghost use Rattle.jdf_lex.specs.Tokens.{not_built};
-ghost use Rattle.plan_core.specs.declared.plan.Plan.{Plan};
+ghost use Rattle.plan_first.specs.declared.plan.Plan.{Plan};
 ghost use Rattle.flow_check.specs.Names.{IsMissing, are_distinct};
 ghost use Rattle.flow_check.specs.Planned.{IsPlan, shape_of, range_of, affinity_of, class_of};
 ghost use Rattle.flow_check.specs.Resolves.{Resolves};
@@ -14,12 +14,12 @@ use crate::names::is_declared;
 use crate::scope::Seen;
 use crate::stop::Stop;
 use coll_data::{Coll, Given};
+use jdf_first::{Jdf, Word};
 use jdf_lex::{JdfCode, JdfFault, JdfRefusal, Spot};
-use jdf_read::{Jdf, Word};
-use plan_core::{ClassPlan, Plan, Shape};
+use plan_first::{ClassPlan, Interval, Plan, Shape};
 use ptg_base::{Row, Text};
 use std::alloc::Global;
-use term_core::{Body, Expr, Range};
+use term_core::{Body, Expr};
 
 /// The plan of a JDF with its data, where all of its names fit. The data give all of its globals.
 pub fn check(alloc: Global, jdf: &Jdf, given: &Given) -> Result<Plan, JdfRefusal>
@@ -75,12 +75,12 @@ fn is_parameter_defined(jdf: &Jdf) -> bool
     jdf.class.local.text.bytes() == jdf.class.param.text.bytes()
 }
 
-fn range(alloc: Global, jdf: &Jdf, given: &Given) -> Result<Range, Stop>
+fn range(alloc: Global, jdf: &Jdf, given: &Given) -> Result<Interval, Stop>
     ensures { Resolves result (range_of jdf.now given.now) }
 {
     let lo = resolve(alloc, jdf, given, Seen::Globals, jdf.class.lo.node())?;
     let hi = resolve(alloc, jdf, given, Seen::Globals, jdf.class.hi.node())?;
-    Ok(Range { lo, hi })
+    Ok(Interval { lo, hi })
 }
 
 fn affinity(alloc: Global, jdf: &Jdf, given: &Given) -> Result<(u32, Expr), Stop>

@@ -1,7 +1,7 @@
 //! Expressions with their names resolved.
 
 ghost use Rattle.std.specs.Prelude.{◌≡◌, Some, None};
-ghost use Rattle.jdf_read.specs.NodeExpression.{expression_of};
+ghost use Rattle.jdf_first.specs.NodeExpression.{expression_of};
 ghost use Rattle.flow_check.specs.Names.{global_int, global_coll};
 ghost use Rattle.flow_check.specs.Planned.{scope, resolved, name_meaning};
 ghost use Rattle.flow_check.specs.Resolves.{Resolves};
@@ -10,7 +10,7 @@ use crate::names::{coll_named, int_named, is_declared};
 use crate::scope::{Seen, is_element, is_local};
 use crate::stop::Stop;
 use coll_data::Given;
-use jdf_read::{ExprNode, Jdf};
+use jdf_first::{ExprNode, Jdf};
 use std::alloc::Global;
 use term_core::Expr;
 

@@ -4,7 +4,7 @@ ghost use Rattle.std.specs.Prelude.{◌≡◌, ◌↔◌, IsTrue};
 ghost use Rattle.flow_check.specs.Names.{int_named, coll_named, is_declared, is_given, is_lacking, IsMissing};
 
 use coll_data::{Coll, Given, Int};
-use jdf_read::{Jdf, Word};
+use jdf_first::{Jdf, Word};
 
 /// The value of the first integer of this name.
 pub fn int_named(ints: &[Int], name: &[u8]) -> Option<i64>

@@ -4,7 +4,7 @@ ghost use Rattle.std.specs.Prelude.{◌≡◌};
 ghost use Rattle.flow_check.specs.Planned.{scope, is_local, is_element};
 
 use coll_data::Given;
-use jdf_read::Jdf;
+use jdf_first::Jdf;
 
 /// What may be named at a place, beside the integer globals.
 #[derive(Clone, Copy, Debug, PartialEq, Eq)]

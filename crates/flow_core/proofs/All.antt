@@ -7,7 +7,7 @@ use Rattle.std.proofs.lemmas.Int.{ints}
 use Rattle.ptg_base.specs.Lists.{IsIn}
 use Rattle.ptg_base.specs.declared.edge.Item.{Item}
 use Rattle.term_core.specs.declared.fault.ExprFault.{ExprFault}
-use Rattle.plan_core.specs.declared.plan.Plan.{Plan}
+use Rattle.plan_first.specs.declared.plan.Plan.{Plan}
 use Rattle.coll_data.specs.declared.given.Coll.{Coll}
 use Rattle.dep_iter.specs.Space.{task_of}
 use Rattle.dep_iter.specs.Items.{items_of, write_backs}

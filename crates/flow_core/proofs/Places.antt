@@ -4,7 +4,7 @@ use Rattle.std.specs.Prelude.{ℤ, pos, ◌+ℤ◌, ◌-ℤ◌}
 use Rattle.std.proofs.lemmas.Int.{ints}
 use Rattle.ptg_base.specs.Task.{Task}
 use Rattle.ptg_base.specs.Lists.{IsIn}
-use Rattle.plan_core.specs.declared.plan.Plan.{Plan}
+use Rattle.plan_first.specs.declared.plan.Plan.{Plan}
 use Rattle.dep_iter.specs.Space.{space, task_of, numbers_from}
 use Rattle.flow_core.specs.Backward.{Ended}
 use Rattle.flow_core.specs.States.{IsRange, task_at, at_place, known}

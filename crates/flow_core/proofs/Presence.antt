@@ -9,7 +9,7 @@ use Rattle.term_core.specs.declared.body.Trap.{Trap}
 use Rattle.term_core.specs.declared.body.Trap.TheVariants.{Budget}
 use Rattle.body_eval.specs.Element.{written}
 use Rattle.body_eval.specs.Meaning.{body_value, put, statement_meaning, run, body_meaning, task_budget}
-use Rattle.plan_core.specs.declared.plan.Plan.{Plan}
+use Rattle.plan_first.specs.declared.plan.Plan.{Plan}
 use Rattle.coll_data.specs.declared.given.Given.{Given}
 use Rattle.dep_iter.specs.Sources.{source_of}
 use Rattle.flow_core.specs.Backward.{output, input, ended_on, ended_within}

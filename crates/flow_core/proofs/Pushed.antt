@@ -8,8 +8,8 @@ use Rattle.ptg_base.specs.Lists.{IsIn}
 use Rattle.ptg_base.specs.declared.edge.Edge.{Edge}
 use Rattle.ptg_base.specs.declared.edge.Item.{Item}
 use Rattle.term_core.specs.declared.fault.ExprFault.{ExprFault}
-use Rattle.plan_core.specs.declared.class.DepPlan.{DepPlan}
-use Rattle.plan_core.specs.declared.plan.Plan.{Plan}
+use Rattle.plan_first.specs.declared.class.DepPlan.{DepPlan}
+use Rattle.plan_first.specs.declared.plan.Plan.{Plan}
 use Rattle.dep_iter.specs.Items.{all_items, items_of, or_none, edges_among, joined, out_edges}
 use Rattle.flow_core.specs.States.{task_at, param}
 use Rattle.flow_core.specs.Pending.{AreIn, HaveTargets, edges_upto}

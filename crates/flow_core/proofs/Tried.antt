@@ -4,7 +4,7 @@ use Rattle.std.specs.Prelude.{ℤ, OnOk}
 use Rattle.std.proofs.lemmas.Bool.{cases_eq}
 use Rattle.ptg_base.specs.Lists.{IsIn}
 use Rattle.term_core.specs.declared.fault.ExprFault.{ExprFault}
-use Rattle.plan_core.specs.declared.plan.Plan.{Plan}
+use Rattle.plan_first.specs.declared.plan.Plan.{Plan}
 use Rattle.coll_data.specs.declared.given.Given.{Given}
 use Rattle.dep_iter.specs.declared.source.Source.{Source}
 use Rattle.dep_iter.specs.declared.source.Source.TheVariants as source

@@ -5,7 +5,7 @@ use Rattle.term_core.specs.declared.fault.ExprFault.{ExprFault}
 use Rattle.term_core.specs.declared.body.Trap.{Trap}
 use Rattle.body_eval.specs.Element as element
 use Rattle.body_eval.specs.Meaning.{body_meaning}
-use Rattle.plan_core.specs.declared.plan.Plan.{Plan}
+use Rattle.plan_first.specs.declared.plan.Plan.{Plan}
 use Rattle.coll_data.specs.declared.given.Given.{Given}
 use Rattle.coll_data.specs.Place as opening
 use Rattle.dep_iter.specs.declared.source.Source.{Source}

@@ -1,7 +1,7 @@
 -- Data that have a plan's collections and elements.
 use Rattle.std.specs.Prelude.{◌≡◌, length, map}
-use Rattle.plan_core.specs.declared.class.Shape.{Shape}
-use Rattle.plan_core.specs.declared.plan.Plan.{Plan}
+use Rattle.plan_first.specs.declared.class.Shape.{Shape}
+use Rattle.plan_first.specs.declared.plan.Plan.{Plan}
 use Rattle.coll_data.specs.declared.given.Coll.{Coll}
 use Rattle.coll_data.specs.declared.given.Given.{Given}
 use Rattle.coll_data.specs.Whole.{HasWholeTiles}

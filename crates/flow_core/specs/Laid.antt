@@ -4,7 +4,7 @@ use Rattle.std.specs.List.{list_any}
 use Rattle.ptg_base.specs.Task.{Task}
 use Rattle.ptg_base.specs.declared.place.Place.{Place}
 use Rattle.ptg_base.specs.declared.edge.WriteBack.{WriteBack}
-use Rattle.plan_core.specs.declared.plan.Plan.{Plan}
+use Rattle.plan_first.specs.declared.plan.Plan.{Plan}
 use Rattle.coll_data.specs.declared.given.Coll.{Coll}
 use Rattle.dep_iter.specs.Sources.{place}
 use Rattle.dep_iter.specs.Items.{all_items, or_none, writes_among}

@@ -1,7 +1,7 @@
 -- How the tasks of a job have ended so far, while it runs.
 use Rattle.std.specs.Prelude.{◌≡◌, ℕ, ◌<◌, ◌≤◌, ℤ, pos, negsuc, ◌+ℤ◌, ◌-ℤ◌, ◌≤ℤ◌, List, map, count_by, Option, Some, None, is_some, slice_index_or}
 use Rattle.ptg_base.specs.Task.{Task}
-use Rattle.plan_core.specs.declared.plan.Plan.{Plan}
+use Rattle.plan_first.specs.declared.plan.Plan.{Plan}
 use Rattle.coll_data.specs.declared.given.Given.{Given}
 use Rattle.dep_iter.specs.Space.{space, task_of, numbers_from}
 use Rattle.dep_iter.specs.Sources.{source_of}

@@ -10,7 +10,7 @@ use crate::state::Ended;
 use crate::tasks::{step, task};
 use coll_data::Given;
 use dep_iter::item_at;
-use plan_core::Plan;
+use plan_first::Plan;
 use ptg_base::{Edge, Item, OutOfMemory, TaskId};
 use std::alloc::Global;
 use term_core::local;

@@ -2,7 +2,7 @@ ghost use Rattle.dep_iter.specs.Consistent.{IsConsistent};
 ghost use Rattle.flow_core.specs.States.{IsRange};
 
 use dep_iter::bounds;
-use plan_core::Plan;
+use plan_first::Plan;
 
 /// The least parameter of a consistent job, and the number of its tasks.
 pub(crate) fn range_of(plan: &Plan) -> (i64, usize)

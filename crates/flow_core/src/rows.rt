@@ -7,7 +7,7 @@ use crate::outcome::{TrapRow, WaitRow};
 use crate::state::{Ended, known_tile};
 use crate::tasks::task;
 use dep_iter::{Source, source_of};
-use plan_core::Plan;
+use plan_first::Plan;
 use ptg_base::{OutOfMemory, Row, TaskId};
 use std::alloc::Global;
 

@@ -13,7 +13,7 @@ use crate::tasks::run_all;
 use crate::write::written;
 use coll_data::Given;
 use dep_iter::Matched;
-use plan_core::Plan;
+use plan_first::Plan;
 use ptg_base::OutOfMemory;
 use std::alloc::Global;
 

@@ -8,7 +8,7 @@ ghost use Rattle.flow_core.specs.States.{IsRange, task_at, known, next};
 use body_eval::run_body;
 use coll_data::Given;
 use dep_iter::{Source, source_of};
-use plan_core::Plan;
+use plan_first::Plan;
 use ptg_base::{OutOfMemory, Place, TaskId, Tile};
 use std::alloc::Global;
 use term_core::{Trap, local};

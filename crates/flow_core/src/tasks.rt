@@ -6,7 +6,7 @@ ghost use Rattle.flow_core.specs.States.{IsRange, IsKnown, task_at, next, count}
 use crate::pending::run_pending;
 use crate::state::{Ended, next_end};
 use coll_data::Given;
-use plan_core::Plan;
+use plan_first::Plan;
 use ptg_base::{OutOfMemory, TaskId};
 use std::alloc::Global;
 

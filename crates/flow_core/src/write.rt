@@ -9,7 +9,7 @@ use crate::state::{Ended, given_tile};
 use crate::tasks::task;
 use coll_data::{Coll, Given};
 use dep_iter::item_at;
-use plan_core::Plan;
+use plan_first::Plan;
 use ptg_base::{Item, OutOfMemory, Place, Row, TaskId, Tile, WriteBack};
 use std::alloc::Global;
 

@@ -9,13 +9,13 @@ use Rattle.ptg_words.specs.declared.order.Order.{Order}
 use Rattle.ptg_words.specs.Words.{Orders}
 use Rattle.jdf_lex.specs.Tokens as jdf_text
 use Rattle.jdf_lex.specs.declared.fault.JdfFault.{JdfFault}
-use Rattle.jdf_read.specs.declared.tree.Jdf.{Jdf}
+use Rattle.jdf_first.specs.declared.tree.Jdf.{Jdf}
 use Rattle.coll_data.specs.declared.fault.DataFault.{DataFault}
 use Rattle.coll_data.specs.declared.given.Given.{Given}
 use Rattle.coll_data.specs.Data as coll
 use Rattle.coll_data.specs.Data.{IsData}
 use Rattle.coll_data.specs.Whole.{HasWholeTiles}
-use Rattle.plan_core.specs.declared.plan.Plan.{Plan}
+use Rattle.plan_first.specs.declared.plan.Plan.{Plan}
 use Rattle.flow_check.specs.Names.{IsMissing}
 use Rattle.flow_check.specs.Planned.{IsPlan}
 use Rattle.flow_core.specs.Fits.{Fits}

@@ -3,8 +3,8 @@ use Rattle.std.proofs.Common.{◌≡◌, ℕ, List, Some, Result, Ok, Err, inr}
 use Rattle.std.specs.Prelude.{Option, MatchResult, IfErr}
 use Rattle.ptg_io.specs.Files.{file_of}
 use Rattle.jdf_lex.specs.Tokens as jdf
-use Rattle.jdf_read.specs.declared.tree.Jdf.{Jdf}
-use Rattle.jdf_read.specs.Jdf.{IsJdf}
+use Rattle.jdf_first.specs.declared.tree.Jdf.{Jdf}
+use Rattle.jdf_first.specs.Jdf.{IsJdf}
 use Rattle.coll_data.specs.declared.given.Given.{Given}
 use Rattle.coll_data.specs.Data as coll
 use Rattle.coll_data.specs.Data.{IsData}

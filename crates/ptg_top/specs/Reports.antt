@@ -6,8 +6,8 @@ use Rattle.ptg_words.specs.declared.order.Order.TheVariants.{Run}
 use Rattle.ptg_words.specs.declared.order.Order.{Order}
 use Rattle.ptg_words.specs.Words.{Orders}
 use Rattle.std.specs.Str.{IsUtf8}
-use Rattle.jdf_read.specs.declared.tree.Jdf.{Jdf}
-use Rattle.jdf_read.specs.Jdf.{IsJdf}
+use Rattle.jdf_first.specs.declared.tree.Jdf.{Jdf}
+use Rattle.jdf_first.specs.Jdf.{IsJdf}
 use Rattle.ptg_top.specs.declared.verdict.Verdict.{Verdict}
 use Rattle.ptg_top.specs.declared.verdict.Verdict.TheVariants as say
 use Rattle.ptg_top.specs.declared.stages.Stop.{Stop}

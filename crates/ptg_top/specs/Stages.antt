@@ -3,11 +3,11 @@ use Rattle.std.specs.Prelude.{◌≡◌, ℕ, List, Some}
 use Rattle.ptg_io.specs.Files.{file_of}
 use Rattle.ptg_words.specs.declared.order.Order.TheVariants.{Run}
 use Rattle.ptg_words.specs.Words.{Orders}
-use Rattle.jdf_read.specs.declared.tree.Jdf.{Jdf}
-use Rattle.jdf_read.specs.Jdf.{IsJdf}
+use Rattle.jdf_first.specs.declared.tree.Jdf.{Jdf}
+use Rattle.jdf_first.specs.Jdf.{IsJdf}
 use Rattle.coll_data.specs.declared.given.Given.{Given}
 use Rattle.coll_data.specs.Data.{IsData}
-use Rattle.plan_core.specs.declared.plan.Plan.{Plan}
+use Rattle.plan_first.specs.declared.plan.Plan.{Plan}
 use Rattle.flow_check.specs.Names.{IsMissing}
 use Rattle.flow_check.specs.Planned.{IsPlan}
 

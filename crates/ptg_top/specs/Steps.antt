@@ -3,12 +3,12 @@ use Rattle.std.specs.Prelude.{◌≡◌, ◌⊎◌, ℕ, List, Option, Some}
 use Rattle.ptg_io.specs.Faults.{Rose}
 use Rattle.ptg_io.specs.Files.{file_of}
 use Rattle.jdf_lex.specs.Tokens as jdf
-use Rattle.jdf_read.specs.declared.tree.Jdf.{Jdf}
-use Rattle.jdf_read.specs.Jdf.{IsJdf}
+use Rattle.jdf_first.specs.declared.tree.Jdf.{Jdf}
+use Rattle.jdf_first.specs.Jdf.{IsJdf}
 use Rattle.coll_data.specs.declared.given.Given.{Given}
 use Rattle.coll_data.specs.Data as coll
 use Rattle.coll_data.specs.Data.{IsData}
-use Rattle.plan_core.specs.declared.plan.Plan.{Plan}
+use Rattle.plan_first.specs.declared.plan.Plan.{Plan}
 use Rattle.flow_check.specs.Names.{IsMissing}
 use Rattle.flow_check.specs.Planned.{IsPlan}
 use Rattle.dep_iter.specs.Consistent.{IsConsistent}

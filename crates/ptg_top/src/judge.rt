@@ -9,7 +9,7 @@ ghost use Rattle.ptg_top.specs.Reports.{Reports, Says, Judged, TreeAt, AreTexts,
 
 use crate::stages::{Stop, answer_of, data_of, plan_of, tree_of};
 use crate::verdict::Verdict;
-use jdf_read::Jdf;
+use jdf_first::Jdf;
 use ptg_base::{OutOfMemory, Text};
 use ptg_io::Files;
 use ptg_words::{Order, WordsRefusal, words};

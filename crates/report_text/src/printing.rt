@@ -9,7 +9,7 @@ use crate::fields::{Field, put_line};
 use crate::pieces::{Pieces, flush};
 use coll_data::Coll;
 use flow_core::{Outcome, TrapRow, WaitRow};
-use plan_core::Plan;
+use plan_first::Plan;
 use ptg_base::Tile;
 use ptg_io::{Failed, Sink};
 use term_core::Trap;

@@ -2,12 +2,12 @@ use crate::{Line, refusal, report};
 use coll_data::{Coll, DataCode, DataFault, Given};
 use flow_core::{Outcome, TrapRow, WaitRow};
 use jdf_lex::{JdfCode, JdfFault, Spot};
-use plan_core::{ClassPlan, Plan, Shape};
+use plan_first::{ClassPlan, Interval, Plan, Shape};
 use ptg_base::{Row, TaskId, Text, Tile};
 use ptg_io::{Failed, MemSink};
 use std::alloc::Global;
 use std::test::Fail;
-use term_core::{Body, Expr, Range, Trap};
+use term_core::{Body, Expr, Trap};
 
 /// A plan whose class is called `Chain`.
 fn plan(alloc: Global) -> Result<Plan, Fail> {
@@ -20,7 +20,7 @@ fn plan(alloc: Global) -> Result<Plan, Fail> {
             statements: Row::new(alloc),
         },
     };
-    let space = Range {
+    let space = Interval {
         lo: Expr::num(0),
         hi: Expr::num(1),
     };

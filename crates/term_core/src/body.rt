@@ -5,13 +5,6 @@ use crate::expr::Expr;
 use crate::fault::ExprFault;
 use ptg_base::Row;
 
-/// A range of numbers with step 1, both ends in it.
-#[derive(Debug, Drop)]
-pub struct Range {
-    pub lo: Expr,
-    pub hi: Expr,
-}
-
 /// A statement of a body.
 #[derive(Debug, Drop)]
 pub enum Stmt {

@@ -9,7 +9,7 @@ mod fault;
 mod operator;
 
 pub use arithmetic::{arith, decide, unary};
-pub use body::{Body, Range, Stmt, Trap};
+pub use body::{Body, Stmt, Trap};
 pub use evaluate::{eval, local};
 pub use expr::{Expr, Node};
 pub use fault::ExprFault;

@@ -1,6 +1,6 @@
 use Rattle.std.proofs.Common.{subst, sym}
 use Rattle.std.specs.Prelude.{OnErr}
-use Rattle.plan_core.specs.declared.plan.Plan.{Plan}
+use Rattle.plan_first.specs.declared.plan.Plan.{Plan}
 use Rattle.report_text.specs.Printed.{outcome_text}
 use Rattle.report_text.specs.Puts.{HasPrefix}
 use Rattle.ptg_top.specs.declared.verdict.Verdict.{Verdict}

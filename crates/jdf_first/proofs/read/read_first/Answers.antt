@@ -1,0 +1,22 @@
+use Rattle.std.proofs.Common.{Ok, ap, inl, arith}
+use Rattle.jdf_first.specs.declared.tree.Jdf.{Jdf}
+use Rattle.jdf_first.proofs.File.{read_is, tree_is, one_tree, no_tree, one_refusal}
+use Rattle.jdf_first.proofs.read.read_first.Goals as goal
+
+pub returns-in-Ok-whole-clause-found : goal.returns-in-Ok-whole-clause-found
+returns-in-Ok-whole-clause-found c =
+    read_is c.args.bytes.now c.in-Ok.text.now c.in-Ok-tokens.lexed c.as_slice.result.now c.in-Ok-whole.jdf (omega arith) c.in-Ok.ensures.cases c.in-Ok-tokens.ensures.found c.as_slice.ensures c.in-Ok-whole.ensures
+
+pub returns-in-Ok-whole-clause-only : goal.returns-in-Ok-whole-clause-only
+returns-in-Ok-whole-clause-only c jdf j =
+    let e = tree_is c.args.bytes.now c.in-Ok.text.now c.in-Ok-tokens.lexed c.as_slice.result.now c.tokens.result c.in-Ok.ensures.cases.0 c.in-Ok-tokens.is c.tokens.ensures.only c.as_slice.ensures jdf j in
+    inl (ap (λ (t : Jdf). Ok t) (one_tree c.as_slice.result.now c.in-Ok-whole.jdf jdf c.in-Ok-whole.ensures e))
+
+pub returns-clause-only : goal.returns-clause-only
+returns-clause-only c jdf j =
+    let e = tree_is c.args.bytes.now c.in-Ok.text.now c.in-Ok-tokens.lexed c.as_slice.result.now c.tokens.result c.in-Ok.ensures.cases.0 c.in-Ok-tokens.is c.tokens.ensures.only c.as_slice.ensures jdf j in
+    absurd (no_tree c.as_slice.result.now jdf c.in-Err-Fault.field-0 _ _ c.in-Err-Fault.field-0-is c.in-Err-Fault.ensures e)
+
+pub returns-clause-refused : goal.returns-clause-refused
+returns-clause-refused c f r =
+    (one_refusal c.not_built-in-Err-Fault.result f _ c.not_built-in-Err-Fault.ensures r, λ jdf j. let e = tree_is c.args.bytes.now c.in-Ok.text.now c.in-Ok-tokens.lexed c.as_slice.result.now c.tokens.result c.in-Ok.ensures.cases.0 c.in-Ok-tokens.is c.tokens.ensures.only c.as_slice.ensures jdf j in no_tree c.as_slice.result.now jdf c.in-Err-Fault.field-0 _ _ c.in-Err-Fault.field-0-is c.in-Err-Fault.ensures e)

@@ -1,0 +1,10 @@
+-- The tree that nodes in memory make.
+use Rattle.jdf_first.specs.declared.expression.ExprNode.{ExprNode}
+use Rattle.jdf_first.specs.declared.expression.ExprNode.TheVariants as node
+use Rattle.jdf_first.specs.Expression.{Expression, Num, Name, Elem, Binary}
+
+abbrev pub expression_of : ExprNode → Expression
+expression_of (node.Num z spot) = Num z spot
+expression_of (node.Name w) = Name w
+expression_of (node.Elem' w p a) = Elem w (expression_of a)
+expression_of (node.Binary' o p a q b) = Binary o (expression_of a) (expression_of b)

@@ -1,8 +1,0 @@
-//! A job with all its names resolved.
-#![tactic(auto)]
-
-mod class;
-mod plan;
-
-pub use class::{ClassPlan, DepPlan, Shape, Target};
-pub use plan::Plan;
