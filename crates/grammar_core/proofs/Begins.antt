@@ -94,7 +94,7 @@ begins R (opt g) s None o r h = inr (h.0, refl)
 begins R (opt g) s (Some t) o r h = elim (begins R g s t o r h) [ inl e ↦ inl e | inr e ↦ inr (e.0, refl) ]
 begins R (star full g) s ts o r h =
     elim (many_begins full (Spells R g) (first g) (λ s t o r u. elim (begins R g s t o r u) [ inl e ↦ inl e | inr e ↦ inr e.0 ]) 0 ts s o r h) [ inl u ↦ inl u | inr u ↦ inr (u, refl) ]
-begins R (behind q n) s t o r h = inl (one_starts q s h.0 h.1 h.3)
+begins R (behind q n) s t o r h = inl (one_starts q s t.0 h.0 h.2)
 begins R (limited l c g) s t o r h = begins R g s t h.0 r h.1
 
 -- A text that is never empty begins with a sort of the first set.
@@ -181,5 +181,5 @@ seconds c R hR a x s ax (star full g) fine s0 (t ∷ ts) o r e h =
       | inr (inr u) ↦ absurd (both_ways (may_be_empty g) never u.1)
     ]
 seconds c R hR a x s ax (behind q n) fine s0 t o r e h =
-    let same = tail_same x h.0 s h.1 (sym e ∙ h.3.0) in
-    inl (start_and (some_is (λ y. a y && q y) all_sorts) (c.firsts n) s (some_from (λ y. a y && q y) (sort_of x) (and_from (a (sort_of x)) (q (sort_of x)) ax (rw same.0 h.3.1))) (rw same.1 (hR n h.1 t h.2 r h.4)))
+    let same = tail_same x t.0 s h.0 (sym e ∙ h.2.0) in
+    inl (start_and (some_is (λ y. a y && q y) all_sorts) (c.firsts n) s (some_from (λ y. a y && q y) (sort_of x) (and_from (a (sort_of x)) (q (sort_of x)) ax (rw same.0 h.2.1))) (rw same.1 (hR n h.0 t.1 h.1 r h.3)))

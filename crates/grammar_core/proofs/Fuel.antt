@@ -74,10 +74,13 @@ run_shrinks p h (opt g) s x e =
 run_shrinks p h (limited l c g) s x e = run_shrinks p h g s x (judge_ok (l.at s) c s (run p g s) x e).0
 run_shrinks p h (star full g) s x e = (many_shrinks full (first g) (run p g) (λ s' x' e'. (run_shrinks p h g s' x' e').0) (length s) 0 s x e, λ f. absurd cc)
 run_shrinks p h (behind q n) s x e =
-    let a = bind_ok (token_at q s) (λ t. p n t.1) x e in
+    let a = bind_ok (token_at q s) (λ t. p n t.1 >>= λ b. Ok ((t.0, b.0), b.1)) x e in
     let t = token_ok q s a.0 a.1 in
-    let one = h n a.0.1 x a.2 in
-    rw t.0 (omega (arith, one), λ _. omega (arith, one))
+    let b = bind_ok (p n a.0.1) (λ b. Ok ((a.0.0, b.0), b.1)) x a.2 in
+    let same = ok_is ((a.0.0, b.0.0), b.0.1) x b.2 in
+    let one = h n a.0.1 b.0 b.1 in
+    let len = ap (λ (l : List Token). length l) t.0 in
+    rw (← same) (omega (arith, one, len), λ _. omega (arith, one, len))
 
 bind_same : {A B : Type 0} (r r' : Result A Stop) (f f' : A → Result B Stop) → r ≡ r' → ((x : A) → r ≡ Ok x → f x ≡ f' x) → (r >>= f) ≡ (r' >>= f')
 bind_same (Ok x) r' f f' e h = rw (← e) (h x refl)
@@ -104,7 +107,8 @@ run_agrees m p p' same h (pick q g k) s le = rw (run_agrees m p p' same h g s le
 run_agrees m p p' same h (opt g) s le = ap (λ (r : Read _). cond (starts (first g) s) (r >>= λ a. Ok (Some a.0, a.1)) (Ok (None, s))) (run_agrees m p p' same h g s le)
 run_agrees m p p' same h (star full g) s le = many_agrees m full (first g) (run p g) (run p' g) (λ s' le'. run_agrees m p p' same h g s' le') (λ s' x e. (run_shrinks p h g s' x e).0) (length s) 0 s le
 run_agrees m p p' same h (behind q n) s le =
-    bind_same (token_at q s) (token_at q s) (λ x. p n x.1) (λ x. p' n x.1) refl (λ x e. let t = token_ok q s x e in same n x.1 (omega (arith, ap (λ (l : List Token). length l) t.0)))
+    bind_same (token_at q s) (token_at q s) (λ x. p n x.1 >>= λ b. Ok ((x.0, b.0), b.1)) (λ x. p' n x.1 >>= λ b. Ok ((x.0, b.0), b.1)) refl (λ x e.
+    let t = token_ok q s x e in ap (λ (r : Read _). r >>= λ b. Ok ((x.0, b.0), b.1)) (same n x.1 (omega (arith, ap (λ (l : List Token). length l) t.0))))
 
 pub names_shrink : {N : Type 0} {Tree : N → Type 0} (body : (n : N) → Form N Tree (Tree n)) (k : ℕ) (n : N) → Shrinks (names_at body k n)
 unfolding names_at

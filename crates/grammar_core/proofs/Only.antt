@@ -90,10 +90,10 @@ fits R hR (opt g) s None o r h = rw (h.0, h.1) (omega arith, tt)
 fits R hR (opt g) s (Some t) o r h = fits R hR g s t o r h
 fits R hR (star full g) s t o r h = many_fits full (Spells R g) (fits R hR g) 0 t s o r h
 fits R hR (behind q n) s t o r h =
-    let one : Fits s None h.1 = rw h.3.0 (omega arith, tt) in
-    let k : taken s h.1 ≡ 1 = rw h.3.0 (omega arith) in
-    let both = fits_then s h.1 r None h.2 one (hR n h.1 t h.2 r h.4) in
-    rw (h.5, ← k) both
+    let one : Fits s None h.0 = rw h.2.0 (omega arith, tt) in
+    let k : taken s h.0 ≡ 1 = rw h.2.0 (omega arith) in
+    let both = fits_then s h.0 r None h.1 one (hR n h.0 t.1 h.1 r h.3) in
+    rw (h.4, ← k) both
 fits R hR (limited l c g) s t o r h = rw h.2 (fits_cut (l.at s) c s r h.0 (fits R hR g s t h.0 r h.1))
 
 -- reading two forms, one after the other
@@ -147,7 +147,7 @@ many_only full G p f go moves begin fit only apart i (t ∷ ts) s o r h stops =
     ∙ then_outcome (λ a more. a ∷ more) (λ l. many_at full f p (suc i) (length l) l) s m r t ts h.1 h.2 le rest in
     many_is full f p moves i s ∙ rw (begin s t h.1 m h.3, h.5) (refuse_outcome (full i) s (t ∷ ts) _ h.1 m h.2 r inside)
 
-one_more : {A : Type 0} (x : Token) (m : List Token) (t : A) (y : Fault) (r : List Token) → outcome m t y r ≡ outcome (x ∷ m) t (then_fault None 1 y) r
+one_more : {A : Type 0} (x : Token) (m : List Token) (t : A) (y : Fault) (r : List Token) → (outcome m t y r >>= λ b. Ok ((x, b.0), b.1)) ≡ outcome {A = Token × A} (x ∷ m) (x, t) (then_fault None 1 y) r
 one_more x m t None r = refl
 one_more x m t (Some f) r = ap (λ (n : ℕ). Err (n, f.1)) (omega arith)
 
@@ -235,4 +235,4 @@ only c R p shrinks fit firsts known (star full g) fine s t o r h stops =
     let never = not-true (may_be_empty g) f'.0 in
     many_only full (Spells R g) (run p g) (first g) (more c g) (λ s' x e. (run_shrinks p shrinks g s' x e).1 never) (surely_begins R g never) (fits R fit g) (only c R p shrinks fit firsts known g f.0) (and_parts (disjoint (more c g) (first g)) _ f'.1).0 0 t s o r h stops
 only c R p shrinks fit firsts known (behind q n) fine s t o r h stops =
-    rw (token_is q s h.0 h.1 h.3, h.5, h.3.0) (known n h.1 t h.2 r h.4 stops ∙ one_more h.0 h.1 t h.2 r)
+    rw (token_is q s t.0 h.0 h.2, h.4, h.2.0) (ap (λ (u : Read _). u >>= λ b. Ok ((t.0, b.0), b.1)) (known n h.0 t.1 h.1 r h.3 stops) ∙ one_more t.0 h.0 t.1 h.1 r)

@@ -71,9 +71,12 @@ run_faults p h l (opt g) s n e =
     ]
 run_faults p h l (star full g) s n e = many_faults full (first g) (run p g) (λ s' x e'. (run_shrinks p h g s' x e').0) (run_faults p h l g) (length s) 0 s n e
 run_faults p h l (behind q m) s n e =
-    elim (bind_err (token_at q s) (λ t. p m t.1) n e) [
+    elim (bind_err (token_at q s) (λ t. p m t.1 >>= λ b. Ok ((t.0, b.0), b.1)) n e) [
       | inl u ↦ let t = first_is (token_err q s n u).0 in omega (arith, t)
-      | inr a ↦ let t = ap (λ (y : List Token). length y) (token_ok q s a.0 a.1).0 in let one = l m a.0.1 n a.2 in omega (arith, t, one)
+      | inr a ↦ elim (bind_err (p m a.0.1) (λ b. Ok ((a.0.0, b.0), b.1)) n a.2) [
+        | inl v ↦ let t = ap (λ (y : List Token). length y) (token_ok q s a.0 a.1).0 in let one = l m a.0.1 n v in omega (arith, t, one)
+        | inr v ↦ absurd (no_ok _ n v.2)
+        ]
     ]
 
 abbrev pub Passes : Bool → {A : Type 0} → (List Token → Read A) → List Token → Type 0
@@ -275,9 +278,12 @@ module _ {N : Type 0} {Tree : N → Type 0} (c : Claims N) (p : (n : N) → List
             rw (← same) (omega (arith, y, z)),
       )
   passes w b0 (behind q m) fine safe s at b = (
-    λ n e y. elim (bind_err (token_at q s) (λ t. p m t.1) n e) [
+    λ n e y. elim (bind_err (token_at q s) (λ t. p m t.1 >>= λ d. Ok ((t.0, d.0), d.1)) n e) [
       | inl u ↦ absurd (token_passes q s b n u)
-      | inr a ↦ let t = ap (λ (y : List Token). length y) (token_ok q s a.0 a.1).0 in let x = l m a.0.1 n a.2 in omega (arith, t, x)
+      | inr a ↦ elim (bind_err (p m a.0.1) (λ d. Ok ((a.0.0, d.0), d.1)) n a.2) [
+        | inl v ↦ let t = ap (λ (y : List Token). length y) (token_ok q s a.0 a.1).0 in let x = l m a.0.1 n v in omega (arith, t, x)
+        | inr v ↦ absurd (no_ok _ n v.2)
+        ]
     ],
     λ x e. (run_shrinks p h (behind q m) s x e).1 refl,
   )

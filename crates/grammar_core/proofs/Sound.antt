@@ -619,24 +619,25 @@ module _ {A : Type 0} (full : ℕ → Option Code) (G : Lang A) (p : List Token 
 
 -- ---- a name behind a token
 
-abbrev Behind : {A : Type 0} → (Sort → Bool) → Lang A → Lang A
-Behind q G s t o r = (x : Token) × (m : List Token) × (y : Fault) × IsOne q s x m × G m t y r × (o ≡ then_fault None 1 y)
+abbrev Behind : {A : Type 0} → (Sort → Bool) → Lang A → Lang (Token × A)
+Behind q G s t o r = (m : List Token) × (y : Fault) × IsOne q s t.0 m × G m t.1 y r × (o ≡ then_fault None 1 y)
 
-behind_sound : {A : Type 0} (q : Sort → Bool) (G : Lang A) (p : List Token → Read A) → some_is q all_sorts ≡ true → ((s : List Token) → Sound G p s) → Text G → (s : List Token) → Sound (Behind q G) (λ l. token_at q l >>= λ x. p x.1) s
+behind_sound : {A : Type 0} (q : Sort → Bool) (G : Lang A) (p : List Token → Read A) → some_is q all_sorts ≡ true → ((s : List Token) → Sound G p s) → Text G → (s : List Token) → Sound (Behind q G) (λ l. token_at q l >>= λ x. p x.1 >>= λ b. Ok ((x.0, b.0), b.1)) s
 behind_sound q G p some g text s =
     record {
       took = λ x e.
-          let a = bind_ok (token_at q s) (λ y. p y.1) x e in
+          let a = bind_ok (token_at q s) (λ y. p y.1 >>= λ b. Ok ((y.0, b.0), b.1)) x e in
           let t = token_ok q s a.0 a.1 in
-          let b = (g a.0.1).took x a.2 in
-          record {
+          let d = bind_ok (p a.0.1) (λ b. Ok ((a.0.0, b.0), b.1)) x a.2 in
+          let b = (g a.0.1).took d.0 d.1 in
+          rw (← (ok_is ((a.0.0, d.0.0), d.0.1) x d.2)) (record {
             word = a.0.0 ∷ b.word;
             parts = t.0 ∙ ap (λ (l : List Token). a.0.0 ∷ l) b.parts;
-            spells = λ z. (a.0.0, b.word ++ z, None, (refl, t.1), b.spells z, refl);
+            spells = λ z. (b.word ++ z, None, (refl, t.1), b.spells z, refl);
             same = λ r same. rw (t.1, b.same r same) refl;
-          };
+          });
       stopped = λ n e.
-          elim (bind_err (token_at q s) (λ y. p y.1) n e) [
+          elim (bind_err (token_at q s) (λ y. p y.1 >>= λ b. Ok ((y.0, b.0), b.1)) n e) [
             | inl u ↦
                 let t = token_err q s n u in
                 let one = one_text q some in
@@ -647,29 +648,32 @@ behind_sound q G p some g text s =
                   parts = refl;
                   left = sym (first_is t.0);
                   more = one.0 ∷ text.word;
-                  tree = text.tree;
+                  tree = (one.0, text.tree);
                   fault = λ z. then_fault None 1 (text.fault z);
                   late = λ z. late_syntax n.1 0 _ syntax (from_zero (then_fault None 1 (text.fault z)));
                   extends = λ d. absurd (d syntax);
-                  spells = λ z. (one.0, text.word ++ z, text.fault z, one.1 (text.word ++ z), text.spells z, refl);
+                  spells = λ z. (text.word ++ z, text.fault z, one.1 (text.word ++ z), text.spells z, refl);
                   same = λ r same. rw (token_refuses q r (sym (starts_same q s r same) ∙ t.1)) (ap (λ (c : Code). Err (length r, c)) (sym syntax));
                 }
-            | inr a ↦
+            | inr a ↦ elim (bind_err (p a.0.1) (λ b. Ok ((a.0.0, b.0), b.1)) n a.2) [
+              | inl v ↦
                 let t = token_ok q s a.0 a.1 in
-                let b = (g a.0.1).stopped n a.2 in
+                let b = (g a.0.1).stopped n v in
                 record {
                   word = a.0.0 ∷ b.word;
                   rest = b.rest;
                   parts = t.0 ∙ ap (λ (l : List Token). a.0.0 ∷ l) b.parts;
                   left = b.left;
                   more = b.more;
-                  tree = b.tree;
+                  tree = (a.0.0, b.tree);
                   fault = λ z. then_fault None 1 (b.fault z);
                   late = λ z. late_behind n.1 (suc (length b.word)) (length b.word) 1 (b.fault z) (omega arith) (b.late z);
                   extends = b.extends;
-                  spells = λ z. (a.0.0, b.word ++ (b.more ++ z), b.fault z, (refl, t.1), b.spells z, refl);
+                  spells = λ z. (b.word ++ (b.more ++ z), b.fault z, (refl, t.1), b.spells z, refl);
                   same = λ r same. rw (t.1, b.same r same) refl;
                 }
+              | inr v ↦ absurd (no_ok _ n v.2)
+              ]
           ];
     }
 
@@ -895,7 +899,7 @@ texts c R names (star full g) fine = record { word = []; tree = []; fault = λ z
 texts c R names (behind q n) fine =
     let one = one_text q fine in
     let text = names n in
-    record { word = one.0 ∷ text.word; tree = text.tree; fault = λ z. then_fault None 1 (text.fault z); spells = λ z. (one.0, text.word ++ z, text.fault z, one.1 (text.word ++ z), text.spells z, refl) }
+    record { word = one.0 ∷ text.word; tree = (one.0, text.tree); fault = λ z. then_fault None 1 (text.fault z); spells = λ z. (text.word ++ z, text.fault z, one.1 (text.word ++ z), text.spells z, refl) }
 
 -- one without names
 pub plain_text : {N : Type 0} {Tree : N → Type 0} (R : (n : N) → Lang (Tree n)) {A : Type 0} (g : Form N Tree A) → has_plain g ≡ true → Text (Spells R g)

@@ -97,7 +97,7 @@ limits R hR (pick q g k) l s t o r h = elim h [ inl u ↦ limits R hR g l.0 s t 
 limits R hR (opt g) l s None o r h = rw h.1 tt
 limits R hR (opt g) l s (Some t) o r h = limits R hR g l s t o r h
 limits R hR (star full g) l s t o r h = many_limits full (Spells R g) l.1 (limits R hR g l.0) 0 t s o r h
-limits R hR (behind q n) l s t o r h = rw h.5 (not_then None h.2 1 tt (hR n h.1 t h.2 r h.4))
+limits R hR (behind q n) l s t o r h = rw h.4 (not_then None h.1 1 tt (hR n h.0 t.1 h.1 r h.3))
 limits R hR (limited d c g) l s t o r h = rw h.2 (not_cut (d.at s) c (taken s r) h.0 l.1 (limits R hR g l.0 s t h.0 r h.1))
 
 module _ {N : Type 0} {Tree : N → Type 0} (body : (n : N) → Form N Tree (Tree n)) (c : Claims N) (fine : (n : N) → are_names body c n ≡ true) where

@@ -28,8 +28,8 @@ pub data Form (N : Type 0) (Tree : N → Type 0) : Type 0 → Type 1 where
   star : {A : Type 0} → (ℕ → Option Code) → Form N Tree A → Form N Tree (List A)
   -- the first, where the token after the next one is of such a sort, and else the second
   pick : {A : Type 0} → (Sort → Bool) → Form N Tree A → Form N Tree A → Form N Tree A
-  -- a token of such a sort, and a text of that name
-  behind : (Sort → Bool) → (n : N) → Form N Tree (Tree n)
+  -- a token of such a sort, and a text of that name behind it
+  behind : (Sort → Bool) → (n : N) → Form N Tree (Token × Tree n)
   -- at most so many tokens
   limited : {A : Type 0} → Limit → Code → Form N Tree A → Form N Tree A
 
@@ -95,7 +95,7 @@ Spells R (alt g h) s t o r = Spells R g s t o r ⊎ Spells R h s t o r
 Spells R (pick q g h) s t o r = Spells R g s t o r ⊎ Spells R h s t o r
 Spells R (opt g) s t o r = Maybe (Spells R g) s t o r
 Spells R (star full g) s t o r = Many full (Spells R g) 0 s t o r
-Spells R (behind q n) s t o r = (x : Token) × (m : List Token) × (y : Fault) × IsOne q s x m × R n m t y r × (o ≡ then_fault None 1 y)
+Spells R (behind q n) s t o r = (m : List Token) × (y : Fault) × IsOne q s t.0 m × R n m t.1 y r × (o ≡ then_fault None 1 y)
 Spells R (limited l c g) s t o r = (x : Fault) × Spells R g s t x r × (o ≡ cut_at (l.at s) c (taken s r) x)
 
 -- what a name spells with at most k names inside one another

@@ -99,7 +99,7 @@ run p (alt g h) s = if starts (first g) s then run p g s else run p h s
 run p (pick q g h) s = if picks (first g) (first h) q s then run p g s else run p h s
 run p (opt g) s = if starts (first g) s then (run p g s >>= λ a. Ok (Some a.0, a.1)) else Ok (None, s)
 run p (star full g) s = many_at full (first g) (run p g) 0 (length s) s
-run p (behind q n) s = token_at q s >>= λ x. p n x.1
+run p (behind q n) s = token_at q s >>= λ x. p n x.1 >>= λ b. Ok ((x.0, b.0), b.1)
 run p (limited l c g) s = judge (l.at s) c s (run p g s)
 
 -- at most k names inside one another

@@ -73,13 +73,17 @@ is_good x = is_number x.text
 unfoldable pub number : Grammar Expression
 number = map number_at (valued (is sort.Number) is_good BadNumber)
 
+-- an expression behind a word or a mark
+abbrev pub inside : Sort → Part → Grammar Expression
+inside k part = map (λ x. x.1) (behind (is k) part)
+
 -- parens = "(" expr ")"
 unfoldable pub parens : Part → Grammar Expression
-parens part = before sort.RightParen (behind (is sort.LeftParen) part)
+parens part = before sort.RightParen (inside sort.LeftParen part)
 
 -- index = "[" expr "]"
 unfoldable pub index : Grammar Expression
-index = before sort.RightBracket (behind (is sort.LeftBracket) Body)
+index = before sort.RightBracket (inside sort.LeftBracket Body)
 
 -- a name alone, or an element of a flow
 abbrev pub named : Word × Option Expression → Expression
