@@ -6,6 +6,7 @@ mod body;
 mod evaluate;
 mod expr;
 mod fault;
+mod flow;
 mod operator;
 
 pub use arithmetic::{arith, decide, unary};
@@ -13,4 +14,5 @@ pub use body::{Body, Stmt, Trap};
 pub use evaluate::{eval, local};
 pub use expr::{Expr, Node};
 pub use fault::ExprFault;
+pub use flow::FlowKind;
 pub use operator::{BinOp, UnOp};

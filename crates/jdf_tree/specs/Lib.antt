@@ -1,0 +1,10 @@
+pub mod Expression
+pub mod ExpressionCode
+pub mod NodeExpression
+pub mod Numbers
+pub mod Inner
+pub mod Pieces
+pub mod ExpressionGrammar
+pub mod ClassGrammar
+pub mod Grammar
+pub mod Jdf
