@@ -10,3 +10,4 @@ pub mod Only
 pub mod Passes
 pub mod Sound
 pub mod Whole
+pub mod Loops
