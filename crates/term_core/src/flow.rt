@@ -1,0 +1,12 @@
+/// What a flow of a task does with its tile.
+#[derive(Clone, Copy, Debug, PartialEq, Eq)]
+pub enum FlowKind {
+    /// Takes a tile and passes it on unchanged.
+    Read,
+    /// Makes a tile.
+    Write,
+    /// Takes a tile and changes it.
+    Rw,
+    /// Carries order alone, and no tile.
+    Ctl,
+}
