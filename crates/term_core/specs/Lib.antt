@@ -5,3 +5,4 @@ pub mod Arith
 pub mod Value
 pub mod Trap
 pub mod WellMade
+pub mod WellSpace

@@ -1,4 +1,4 @@
-//! Expressions, their values, and the statements of bodies.
+//! Expressions, their values, ranges and spaces over them, and the statements of bodies.
 #![tactic(auto)]
 
 mod arithmetic;
@@ -8,6 +8,7 @@ mod expr;
 mod fault;
 mod flow;
 mod operator;
+mod space;
 
 pub use arithmetic::{arith, decide, unary};
 pub use body::{Body, Stmt, Trap};
@@ -16,3 +17,4 @@ pub use expr::{Expr, Node};
 pub use fault::ExprFault;
 pub use flow::FlowKind;
 pub use operator::{BinOp, UnOp};
+pub use space::{ClassSpace, Def, Params, Range};
