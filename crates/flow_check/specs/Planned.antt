@@ -132,3 +132,7 @@ pub record IsPlan (J : Jdf) (G : Given) (P : Plan) : Type 0 where
   pub space : range_of J G ≡ Some P.space
   pub colls : P.colls ≡ map shape_of G.colls
   pub elems : P.elems ≡ G.elems
+
+-- A JDF and its data make one plan at most.
+abbrev pub OnePlan : Type 0
+OnePlan = (J : Jdf) (G : Given) (P Q : Plan) → IsPlan J G P → IsPlan J G Q → P ≡ Q

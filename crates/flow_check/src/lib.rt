@@ -4,9 +4,11 @@
 mod checking;
 mod dependence;
 mod expression;
+mod laws;
 mod names;
 mod scope;
 mod stop;
 
 pub use checking::check;
+pub use laws::one_plan;
 pub use names::missing;
