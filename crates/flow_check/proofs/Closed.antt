@@ -12,9 +12,9 @@ use Rattle.coll_data.specs.declared.given.Coll.{Coll}
 use Rattle.coll_data.specs.declared.given.Given.{Given}
 use Rattle.flow_check.specs.declared.scope.Seen.{Seen}
 use Rattle.flow_check.specs.declared.scope.Seen.TheVariants.{Globals, Local, Elements}
-use Rattle.term_core.specs.declared.body.Stmt.{Stmt}
-use Rattle.term_core.specs.declared.body.Stmt.TheVariants.{Put}
-use Rattle.term_core.specs.WellMade.{is_statement}
+use Rattle.body_first.specs.declared.body.Stmt.{Stmt}
+use Rattle.body_first.specs.declared.body.Stmt.TheVariants.{Put}
+use Rattle.body_first.specs.WellMade.{is_statement}
 use Rattle.jdf_first.specs.declared.tree.TargetTree.{TargetTree}
 use Rattle.jdf_first.specs.declared.tree.TargetTree.TheVariants as tree
 use Rattle.jdf_first.specs.declared.tree.DepTree.{DepTree}

@@ -3,8 +3,8 @@ use Rattle.std.specs.Prelude.{◌≡◌, ℕ, Bool, true, false, List, [], ◌�
 use Rattle.std.specs.Str.{bytes_eq}
 use Rattle.term_core.specs.Term as term
 use Rattle.term_core.specs.Term.{Term}
-use Rattle.term_core.specs.declared.body.Stmt.{Stmt}
-use Rattle.term_core.specs.declared.body.Stmt.TheVariants.{Put}
+use Rattle.body_first.specs.declared.body.Stmt.{Stmt}
+use Rattle.body_first.specs.declared.body.Stmt.TheVariants.{Put}
 use Rattle.jdf_first.specs.Expression.{Expression, Num, Name, Elem, Binary}
 use Rattle.jdf_first.specs.declared.tree.TargetTree.{TargetTree}
 use Rattle.jdf_first.specs.declared.tree.TargetTree.TheVariants as tree

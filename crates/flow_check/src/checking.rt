@@ -13,13 +13,14 @@ use crate::expression::{global_coll, resolve};
 use crate::names::is_declared;
 use crate::scope::Seen;
 use crate::stop::Stop;
+use body_first::Body;
 use coll_data::{Coll, Given};
 use jdf_first::{Jdf, Word};
 use jdf_lex::{JdfCode, JdfFault, JdfRefusal, Spot};
 use plan_first::{ClassPlan, Interval, Plan, Shape};
 use ptg_base::{Row, Text};
 use std::alloc::Global;
-use term_core::{Body, Expr};
+use term_core::Expr;
 
 /// The plan of a JDF with its data, where all of its names fit. The data give all of its globals.
 pub fn check(alloc: Global, jdf: &Jdf, given: &Given) -> Result<Plan, JdfRefusal>

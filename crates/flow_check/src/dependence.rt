@@ -8,12 +8,13 @@ ghost use Rattle.flow_check.specs.Resolves.{Resolves};
 use crate::expression::{global_coll, resolve};
 use crate::scope::Seen;
 use crate::stop::Stop;
+use body_first::Stmt;
 use coll_data::Given;
 use jdf_first::{DepTree, ExprTree, Jdf, StmtTree, TargetTree};
 use plan_first::{DepPlan, Target};
 use ptg_base::Row;
 use std::alloc::Global;
-use term_core::{Expr, Stmt};
+use term_core::Expr;
 
 fn resolve_guard(
     alloc: Global,

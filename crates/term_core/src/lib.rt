@@ -1,8 +1,7 @@
-//! Expressions, their values, ranges and spaces over them, and the statements of bodies.
+//! Expressions and their values, ranges and spaces over them.
 #![tactic(auto)]
 
 mod arithmetic;
-mod body;
 mod evaluate;
 mod expr;
 mod fault;
@@ -11,7 +10,6 @@ mod operator;
 mod space;
 
 pub use arithmetic::{arith, decide, unary};
-pub use body::{Body, Stmt, Trap};
 pub use evaluate::{eval, local};
 pub use expr::{Expr, Node};
 pub use fault::ExprFault;

@@ -1,9 +1,9 @@
 ghost use Rattle.std.specs.Prelude.{◌≡◌, OnOk, IfErr};
-ghost use Rattle.body_eval.specs.Element.{index_in, element_value};
-ghost use Rattle.body_eval.specs.Meaning.{put};
+ghost use Rattle.body_first.specs.Element.{index_in, element_value};
+ghost use Rattle.body_first.specs.Meaning.{put};
 
+use crate::body::Trap;
 use ptg_base::Tile;
-use term_core::Trap;
 
 /// The number as an index, where it is one of so many elements.
 fn index(len: u32, at: i64) -> Option<u32>

@@ -2,13 +2,13 @@
 use Rattle.std.specs.Prelude.{ℕ, ◌-◌, ℤ, List, [], ◌∷◌, Result, Ok, Err, Option, Some, ◌==◌, if◌then◌else◌, slice_set}
 use Rattle.term_core.specs.Term.{Term}
 use Rattle.term_core.specs.Value.{after, value_with}
-use Rattle.term_core.specs.Trap.{trap_of}
-use Rattle.term_core.specs.declared.body.Body.{Body}
-use Rattle.term_core.specs.declared.body.Stmt.{Stmt}
-use Rattle.term_core.specs.declared.body.Stmt.TheVariants.{Put}
-use Rattle.term_core.specs.declared.body.Trap.{Trap}
-use Rattle.term_core.specs.declared.body.Trap.TheVariants.{Budget}
-use Rattle.body_eval.specs.Element.{tile_of, element_value, written}
+use Rattle.body_first.specs.Trap.{trap_of}
+use Rattle.body_first.specs.declared.body.Body.{Body}
+use Rattle.body_first.specs.declared.body.Stmt.{Stmt}
+use Rattle.body_first.specs.declared.body.Stmt.TheVariants.{Put}
+use Rattle.body_first.specs.declared.body.Trap.{Trap}
+use Rattle.body_first.specs.declared.body.Trap.TheVariants.{Budget}
+use Rattle.body_first.specs.Element.{tile_of, element_value, written}
 
 -- the value of an expression of a body
 abbrev pub body_value : List ℤ → List (Option (List ℤ)) → Term → Result ℤ Trap

@@ -1,10 +1,10 @@
 ghost use Rattle.std.specs.Prelude.{◌≡◌, OnOk, IfErr};
-ghost use Rattle.body_eval.specs.Meaning.{statement_meaning, body_meaning};
+ghost use Rattle.body_first.specs.Meaning.{statement_meaning, body_meaning};
 
+use crate::body::{Body, Stmt, Trap};
 use crate::element::put_element;
 use crate::value::value;
 use ptg_base::Tile;
-use term_core::{Body, Stmt, Trap};
 
 /// The units that a task may use.
 const BUDGET: u32 = 16777216;

@@ -1,7 +1,7 @@
 -- The elements of the tiles of a task's flows.
 use Rattle.std.specs.Prelude.{ℕ, ℤ, pos, negsuc, List, length, nat_lt, Result, Ok, Err, Option, Some, None, if◌then◌else◌, slice_index_or, slice_set}
-use Rattle.term_core.specs.declared.body.Trap.{Trap}
-use Rattle.term_core.specs.declared.body.Trap.TheVariants.{Index, Absent}
+use Rattle.body_first.specs.declared.body.Trap.{Trap}
+use Rattle.body_first.specs.declared.body.Trap.TheVariants.{Index, Absent}
 
 -- a number as an index, where it is one of a list of so many elements
 abbrev pub index_in : ℕ → ℤ → Option ℕ

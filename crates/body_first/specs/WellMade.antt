@@ -1,9 +1,9 @@
 -- Bodies that name only locals and flows that there are.
 use Rattle.std.specs.Prelude.{ℕ, Bool, ◌&&◌, nat_lt}
 use Rattle.std.specs.List.{list_all}
-use Rattle.term_core.specs.declared.body.Stmt.{Stmt}
-use Rattle.term_core.specs.declared.body.Stmt.TheVariants.{Put}
-use Rattle.term_core.specs.declared.body.Body.{Body}
+use Rattle.body_first.specs.declared.body.Stmt.{Stmt}
+use Rattle.body_first.specs.declared.body.Stmt.TheVariants.{Put}
+use Rattle.body_first.specs.declared.body.Body.{Body}
 use Rattle.term_core.specs.Value.{is_closed_with}
 
 -- a statement under so many locals and flows

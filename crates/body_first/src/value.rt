@@ -1,12 +1,13 @@
 ghost use Rattle.std.specs.Prelude.{◌≡◌};
 ghost use Rattle.term_core.specs.NodeTerm.{term_of};
-ghost use Rattle.term_core.specs.Trap.{trap_of};
+ghost use Rattle.body_first.specs.Trap.{trap_of};
 ghost use Rattle.term_core.specs.Value.{faulting};
-ghost use Rattle.body_eval.specs.Meaning.{body_value};
+ghost use Rattle.body_first.specs.Meaning.{body_value};
 
+use crate::body::Trap;
 use crate::element::element;
 use ptg_base::Tile;
-use term_core::{Expr, ExprFault, Node, Trap, arith, decide, local, unary};
+use term_core::{Expr, ExprFault, Node, arith, decide, local, unary};
 
 fn trapping(value: Result<i64, ExprFault>) -> Result<i64, Trap>
     ensures { result ≡ faulting trap_of value }

@@ -1,6 +1,6 @@
 use Rattle.std.proofs.Common.{◌≡◌, drop}
-use Rattle.body_eval.specs.Meaning.{run, task_budget}
-use Rattle.body_eval.proofs.run.run_body.Given as goal
+use Rattle.body_first.specs.Meaning.{run, task_budget}
+use Rattle.body_first.proofs.run.run_body.Given as goal
 
 abbrev pub invariant-loop-statement : goal.invariant-loop-statement
 invariant-loop-statement l =

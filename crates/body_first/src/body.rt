@@ -1,9 +1,8 @@
 ghost use Rattle.std.specs.Prelude.{◌≡◌};
-ghost use Rattle.term_core.specs.Trap.{trap_of};
+ghost use Rattle.body_first.specs.Trap.{trap_of};
 
-use crate::expr::Expr;
-use crate::fault::ExprFault;
 use ptg_base::Row;
+use term_core::{Expr, ExprFault};
 
 /// A statement of a body.
 #[derive(Debug, Drop)]
