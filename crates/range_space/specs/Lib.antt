@@ -1,2 +1,4 @@
 pub mod Values
 pub mod Fault
+pub mod Nested
+pub mod Later

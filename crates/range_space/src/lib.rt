@@ -2,9 +2,12 @@
 #![tactic(auto)]
 
 mod fault;
+mod numbers;
 mod steps;
 mod values;
+mod walk;
 
 pub use fault::SpanFault;
+pub use numbers::Numbers;
 pub use steps::{Steps, steps_of};
 pub use values::Values;
