@@ -2,3 +2,4 @@ pub mod Values
 pub mod Fault
 pub mod Nested
 pub mod Later
+pub mod Coming
