@@ -2,9 +2,14 @@
 #![tactic(auto)]
 
 mod fault;
+mod numbers;
 mod steps;
+mod tasks;
 mod values;
+mod walk;
 
 pub use fault::SpanFault;
+pub use numbers::Numbers;
 pub use steps::{Steps, steps_of};
+pub use tasks::Space;
 pub use values::Values;
