@@ -125,8 +125,6 @@ fn takes_a_million_tokens_and_no_more(rt: HostRuntime) {
     let rows = [
         (1_000_000, " // ;", None),
         (1_000_001, "", Some((1_000_001, JdfCode::TooManyTokens))),
-        (1_000_000, " a \"", Some((1_000_002, JdfCode::TooManyTokens))),
-        (1_000_000, " \" a", Some((1_000_002, JdfCode::Unclosed))),
     ];
     for (count, behind, want) in rows {
         let found = match answer(&rt, rt.alloc(), count, behind) {
