@@ -4,6 +4,7 @@ use Rattle.std.proofs.Common.{◌≡◌, ℕ, zero, suc, ◌+◌, ◌<◌, ◌�
 use Rattle.std.specs.Prelude.{Option, None, ◌⊎◌}
 use Rattle.std.proofs.lemmas.Bool.{cases_lt, cases_order}
 use Rattle.ptg_io.specs.Files.{file_of}
+use Rattle.ptg_io.specs.Sink.{appended}
 use Rattle.ptg_words.specs.declared.order.Order.{Order}
 use Rattle.ptg_words.specs.declared.order.Order.TheVariants.{Run}
 use Rattle.ptg_words.specs.Words.{Orders}
@@ -28,6 +29,7 @@ use Rattle.ptg_top.specs.declared.verdict.Verdict.{Verdict}
 use Rattle.ptg_top.specs.declared.verdict.Verdict.TheVariants as say
 use Rattle.ptg_top.specs.Stages.{Entries, HasTree, HasData, HasPlan}
 use Rattle.ptg_top.specs.Meaning.{Means, OneMeaning, IsNoOrder, IsNoFile, IsNoTree, IsNoData, IsLacking, IsNoPlan}
+use Rattle.ptg_top.specs.Headline.{text_of, status_of, OneOutput}
 
 -- the two files of an order are determined
 same_files : (words : List (List ℕ)) (jdf tiles jdf' tiles' : List ℕ) → Orders words (Run jdf tiles) → Orders words (Run jdf' tiles') → (jdf ≡ jdf') × (tiles ≡ tiles')
@@ -236,3 +238,8 @@ module _ (words : List (List ℕ)) (files : Entries) where
 
 pub one_meaning : OneMeaning
 one_meaning words files v w one other = one_stop words files v w (stops words files v one) (stops words files w other)
+
+pub one_output : OneOutput
+one_output words files before after other status another one two =
+    let same = one_meaning words files one.verdict two.verdict one.means two.means in
+    (one.text ∙ (ap (λ v. appended before (text_of v)) same ∙ sym two.text), one.ends ∙ (ap status_of same ∙ sym two.ends))
