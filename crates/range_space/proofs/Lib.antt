@@ -1,3 +1,4 @@
 pub mod Stepping
 pub mod Members
 pub mod Nesting
+pub mod MemberLists

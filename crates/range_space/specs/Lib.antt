@@ -3,3 +3,4 @@ pub mod Fault
 pub mod Nested
 pub mod Later
 pub mod Coming
+pub mod Member

@@ -2,6 +2,7 @@
 #![tactic(auto)]
 
 mod fault;
+mod member;
 mod numbers;
 mod steps;
 mod tasks;
@@ -9,6 +10,7 @@ mod values;
 mod walk;
 
 pub use fault::SpanFault;
+pub use member::{in_space, locals_of};
 pub use numbers::Numbers;
 pub use steps::{Steps, steps_of};
 pub use tasks::Space;
