@@ -2,3 +2,4 @@ pub mod Stepping
 pub mod Members
 pub mod Nesting
 pub mod MemberLists
+pub mod Counting

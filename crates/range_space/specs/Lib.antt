@@ -4,3 +4,4 @@ pub mod Nested
 pub mod Later
 pub mod Coming
 pub mod Member
+pub mod Size
