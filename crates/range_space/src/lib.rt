@@ -9,6 +9,7 @@ mod steps;
 mod tasks;
 mod values;
 mod walk;
+mod well;
 
 pub use fault::{SpaceFault, SpanFault};
 pub use member::{in_space, locals_of};
@@ -17,3 +18,4 @@ pub use size::space_size;
 pub use steps::{Steps, steps_of};
 pub use tasks::Space;
 pub use values::Values;
+pub use well::is_well_space;
