@@ -3,3 +3,5 @@ pub mod Fault
 pub mod Nested
 pub mod Later
 pub mod Coming
+pub mod Member
+pub mod Size

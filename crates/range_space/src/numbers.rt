@@ -56,4 +56,14 @@ impl<const N: usize> Numbers<N> {
         self.count -= 1;
         Some(self.values[self.count])
     }
+
+    /// A second list of the same numbers.
+    pub fn copy(&self) -> Numbers<N>
+        ensures { result ≡ self.now }
+    {
+        Numbers {
+            values: self.values,
+            count: self.count,
+        }
+    }
 }
