@@ -1,6 +1,6 @@
 -- What follows from how tasks are compared.
 use Rattle.std.specs.Prelude.{◌≡◌, ℤ, Bool, true, false, ◌&&◌, ◌||◌, ◌==◌, cond, nat_eq, nat_lt, int_lt, IsTrue, ◌↔◌, List, [], ◌∷◌}
-use Rattle.std.proofs.Common.{refl, sym, ap, ◌∙◌}
+use Rattle.std.proofs.Common.{refl, sym, ap, ◌∙◌, true≢false}
 use Rattle.std.specs.declared.cmp.Ordering.{Ordering}
 use Rattle.std.specs.declared.cmp.Ordering.TheVariants.{Less, Equal, Greater}
 use Rattle.std.specs.Ordering.{nat_cmp, int_cmp, int_eq, is_lt, is_eq, ordering_then, ordering_reverse}
@@ -63,16 +63,16 @@ less_is r b e = (λ h. sym e ∙ ap is_lt h, λ h. by r (e ∙ h))
   where
     by : (r : Ordering) → is_lt r ≡ true → r ≡ Less
     by Less h = refl
-    by Equal h = cc
-    by Greater h = cc
+    by Equal h = absurd (true≢false (sym h))
+    by Greater h = absurd (true≢false (sym h))
 
 greater_is : (r s : Ordering) → r ≡ ordering_reverse s → (r ≡ Greater) ↔ (s ≡ Less)
 greater_is r s e = (λ h. by s (sym e ∙ h), λ h. e ∙ ap ordering_reverse h)
   where
     by : (s : Ordering) → ordering_reverse s ≡ Greater → s ≡ Less
     by Less h = refl
-    by Equal h = cc
-    by Greater h = cc
+    by Equal h = absurd (true≢false (ap is_eq h))
+    by Greater h = absurd (true≢false (ap is_lt h))
 
 -- comparing tasks is task order
 pub task_cmp-compares : (a b : Task) → ComparesInTaskOrder a b (task_cmp a b)
