@@ -10,10 +10,7 @@ use jdf_lex::{Token, TokenKind};
 fn is_built(kind: TokenKind) -> bool
     ensures { result ≡ is_built kind }
 {
-    matches!(
-        kind,
-        TokenKind::Name | TokenKind::Number | TokenKind::Mark
-    )
+    matches!(kind, TokenKind::Name | TokenKind::Number | TokenKind::Mark)
 }
 
 fn is_blank(b: u8) -> bool

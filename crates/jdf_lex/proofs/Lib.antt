@@ -1,4 +1,5 @@
 pub mod Closing
+pub mod Either
 pub mod Fronts
 pub mod Going
 pub mod Longest

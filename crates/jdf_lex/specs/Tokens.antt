@@ -97,6 +97,23 @@ pub record IsTokenFault (text : List ℕ) (fault : JdfFault) : Type 0 where
   pub spot : fault.spot ≡ spot_after front
   pub wrong : IsFaultAt tokens left fault.code
 
+-- A text has tokens, as many as it may.
+abbrev pub HasTokens : List ℕ → Type 0
+HasTokens text = (tokens : List Token) × (end : Spot) × IsLexed text tokens end × (length tokens ≤ 1000000)
+
+abbrev pub HasFault : List ℕ → Type 0
+HasFault text = (fault : JdfFault) × IsTokenFault text fault
+
+-- Each text has tokens, as many as it may, or a first token fault; not both; and not two faults.
+abbrev pub TokensOrFault : Type 0
+TokensOrFault = (text : List ℕ) → HasTokens text ⊎ HasFault text
+
+abbrev pub NotBoth : Type 0
+NotBoth = (text : List ℕ) → HasTokens text → HasFault text → ⊥
+
+abbrev pub OneTokenFault : Type 0
+OneTokenFault = (text : List ℕ) (fault other : JdfFault) → IsTokenFault text fault → IsTokenFault text other → fault ≡ other
+
 -- The refusal of a text that is outside of the forms that are built, which names no place.
 abbrev pub not_built : JdfFault
 not_built = record { spot = record { line = 1; column = 1 }; code = NotBuilt }

@@ -14,6 +14,6 @@ mod tests;
 mod token;
 
 pub use fault::{JdfCode, JdfFault, JdfRefusal};
-pub use laws::{longest_is_taken, one_list_of_tokens};
+pub use laws::{longest_is_taken, one_list_of_tokens, tokens_or_one_fault};
 pub use lex::tokens;
 pub use token::{Lexed, Spot, Token, TokenKind};

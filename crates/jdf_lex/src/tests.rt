@@ -235,6 +235,7 @@ fn answer(rt: &impl Abort, alloc: Global, count: usize, behind: &str) -> Result<
 fn takes_a_million_tokens_and_no_more(rt: HostRuntime) {
     one_list_of_tokens();
     longest_is_taken();
+    tokens_or_one_fault();
     let rows = [
         (1_000_000, " // ;", None),
         (1_000_001, "", Some((1_000_001, JdfCode::TooManyTokens))),
