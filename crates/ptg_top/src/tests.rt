@@ -62,7 +62,6 @@ fn run(
 
 #[test]
 fn jobs(rt: HostRuntime) -> Result<(), Fail> {
-    one_meaning();
     let alloc = rt.alloc();
     let rows: [(&[u8], &[u8], &[u8], u8); 11] = [
         (CHAIN, DATA, b"complete,4\ntile,D,0,9\n", 0),
@@ -106,10 +105,16 @@ fn jobs(rt: HostRuntime) -> Result<(), Fail> {
     Ok(())
 }
 
+// The laws of plans and meanings may be called.
+#[test]
+fn laws() {
+    one_plan();
+    one_meaning();
+}
+
 // Whether the data lack a global, gone through and looked up by key.
 #[test]
 fn lacking_globals(rt: HostRuntime) -> Result<(), Fail> {
-    one_plan();
     let alloc = rt.alloc();
     let jdf = read_first(alloc, CHAIN)?;
     let rows: [(&[u8], bool); 4] = [
