@@ -12,19 +12,19 @@ use Rattle.range_space.specs.Later.{def_bounds, lists_among}
 use Rattle.range_space.specs.Size.{Mark, Prefix, Task, Lacking, met, walk, walk_among, walk_all, task_count, prefix_count, NoneLacking, IsFine, StopsAt, IsFirstFault, Walked, task_total}
 use Rattle.range_space.proofs.Nesting.{def_values-bounds, def_values-fault}
 
-task_count-append : (xs ys : List Mark) → task_count (xs ++ ys) ≡ task_count xs + task_count ys
+pub task_count-append : (xs ys : List Mark) → task_count (xs ++ ys) ≡ task_count xs + task_count ys
 task_count-append [] ys = omega arith
 task_count-append (Prefix c ∷ xs) ys = task_count-append xs ys
 task_count-append (Task c ∷ xs) ys = omega (arith, task_count-append xs ys)
 task_count-append (Lacking c vs ∷ xs) ys = task_count-append xs ys
 
-prefix_count-append : (xs ys : List Mark) → prefix_count (xs ++ ys) ≡ prefix_count xs + prefix_count ys
+pub prefix_count-append : (xs ys : List Mark) → prefix_count (xs ++ ys) ≡ prefix_count xs + prefix_count ys
 prefix_count-append [] ys = omega arith
 prefix_count-append (Prefix c ∷ xs) ys = omega (arith, prefix_count-append xs ys)
 prefix_count-append (Task c ∷ xs) ys = prefix_count-append xs ys
 prefix_count-append (Lacking c vs ∷ xs) ys = prefix_count-append xs ys
 
-NoneLacking-append : (xs ys : List Mark) → NoneLacking xs → NoneLacking ys → NoneLacking (xs ++ ys)
+pub NoneLacking-append : (xs ys : List Mark) → NoneLacking xs → NoneLacking ys → NoneLacking (xs ++ ys)
 NoneLacking-append [] ys f g = g
 NoneLacking-append (Prefix c ∷ xs) ys f g = NoneLacking-append xs ys f g
 NoneLacking-append (Task c ∷ xs) ys f g = NoneLacking-append xs ys f g

@@ -3,3 +3,4 @@ pub mod Members
 pub mod Nesting
 pub mod MemberLists
 pub mod Counting
+pub mod Soundness

@@ -5,3 +5,4 @@ pub mod Later
 pub mod Coming
 pub mod Member
 pub mod Size
+pub mod Sound

@@ -1,5 +1,6 @@
-ghost use Rattle.std.specs.Prelude.{◌≡◌, ◌+◌, ◌<◌, ◌≤◌, [], ◌∷◌, ◌++◌, length, All, OnOk, IfOk, IfErr};
+ghost use Rattle.std.specs.Prelude.{◌≡◌, ◌+◌, ◌<◌, ◌≤◌, [], ◌∷◌, ◌++◌, length, All, OnOk, IfOk, IfErr, IsOk};
 ghost use Rattle.range_space.specs.Values.{values};
+ghost use Rattle.range_space.specs.Sound.{prefix_total, EachOf, IsSound};
 ghost use Rattle.range_space.specs.Size.{Prefix, Task, walk, walk_among, walk_all, IsFine, IsFirstFault, Walked, task_total};
 
 use crate::fault::SpaceFault;
@@ -110,8 +111,11 @@ pub fn space_size(spaces: &[ClassSpace]) -> Result<u64, SpaceFault>
     requires classes { length spaces.now ≤ 64 }
     requires few { All (λ s. length s.defs ≤ 16) spaces.now }
     ensures fine { IfOk result (λ _. IsFine 0 0 (walk_all 0 spaces.now)) }
-    ensures tasks { IfOk result (λ n. n ≡ task_total spaces.now) }
+    ensures tasks { IfOk result (λ n. (n ≡ task_total spaces.now) × (n ≤ 1000000)) }
+    ensures prefixes { IfOk result (λ _. prefix_total spaces.now ≤ 16000000) }
+    ensures sound { IfOk result (λ _. EachOf IsSound spaces.now) }
     ensures fault { IfErr result (IsFirstFault 0 0 (walk_all 0 spaces.now)) }
+    ensures no_fault { EachOf IsSound spaces.now → task_total spaces.now ≤ 1000000 → prefix_total spaces.now ≤ 16000000 → IsOk result }
 {
     let mut counts = Counts {
         tasks: 0,
