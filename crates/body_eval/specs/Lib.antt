@@ -1,0 +1,4 @@
+pub mod Element
+pub mod State
+pub mod Meaning
+pub mod Statement

@@ -1,0 +1,10 @@
+//! The meaning of the bodies of tasks: a body run on the tiles of its task, within a budget.
+#![tactic(auto)]
+
+mod element;
+mod run;
+mod scratch;
+mod value;
+
+pub use run::run_body;
+pub use scratch::Scratch;
