@@ -1,5 +1,6 @@
 ghost use Rattle.std.specs.Prelude.{◌≡◌, OnOk, IfErr};
 ghost use Rattle.body_eval.specs.Element.{index_in, element_value, put_element};
+ghost use Rattle.body_eval.specs.Sizes.{KeepsSizes};
 
 use ptg_base::Tile;
 use term_core::Trap;
@@ -39,6 +40,7 @@ pub(crate) fn element(tiles: &[Option<Tile>], flow: u8, at: i64) -> Result<i64, 
 pub(crate) fn put(tiles: &mut [Option<Tile>], flow: u8, at: i64, v: i64) -> Result<(), Trap>
     ensures ok { OnOk result (put_element tiles.old flow at v ≡ Ok tiles.new) }
     ensures trap { IfErr result (λ cause. put_element tiles.old flow at v ≡ Err cause) }
+    ensures sizes { KeepsSizes tiles.old tiles.new }
 {
     let flow = flow as usize;
     if flow >= tiles.len() {

@@ -2,9 +2,11 @@
 #![tactic(auto)]
 
 mod element;
+mod laws;
 mod run;
 mod scratch;
 mod value;
 
+pub use laws::more_units_change_nothing;
 pub use run::run_body;
 pub use scratch::Scratch;

@@ -1,5 +1,6 @@
 ghost use Rattle.std.specs.Prelude.{◌≡◌, ◌+◌, OnOk, IfErr, length, slice_set};
 ghost use Rattle.term_core.specs.WellBody.{IsWellBody};
+ghost use Rattle.body_eval.specs.Sizes.{KeepsSizes};
 ghost use Rattle.body_eval.specs.State.{state_of, spent};
 ghost use Rattle.body_eval.specs.Meaning.{run, turns, turn_values, meaning_within, body_meaning};
 ghost use Rattle.body_eval.specs.Statement.{statement_meaning};
@@ -26,6 +27,7 @@ pub fn run_body(
     requires { IsWellBody (length locals.now) (length tiles.old) body.now }
     ensures ok { OnOk result (body_meaning body.now locals.now tiles.old ≡ Ok tiles.new) }
     ensures trap { IfErr result (λ cause. body_meaning body.now locals.now tiles.old ≡ Err cause) }
+    ensures sizes { KeepsSizes tiles.old tiles.new }
 {
     run_within(BUDGET, body, locals, tiles, scratch)
 }
@@ -41,6 +43,7 @@ fn run_within(
     requires { IsWellBody (length locals.now) (length tiles.old) body.now }
     ensures ok { OnOk result (meaning_within units body.now locals.now tiles.old ≡ Ok tiles.new) }
     ensures trap { IfErr result (λ cause. meaning_within units body.now locals.now tiles.old ≡ Err cause) }
+    ensures sizes { KeepsSizes tiles.old tiles.new }
 {
     let slots = &mut scratch.slots[..body.slots as usize];
     slots[..locals.len()].copy_from_slice(locals);
@@ -80,6 +83,7 @@ fn run_block(
 ) -> Result<(), Trap>
     ensures ok { OnOk result (run block.now (state_of slots.old tiles.old left.old) ≡ Ok (state_of slots.new tiles.new left.new)) }
     ensures trap { IfErr result (λ cause. run block.now (state_of slots.old tiles.old left.old) ≡ Err cause) }
+    ensures sizes { KeepsSizes tiles.old tiles.new }
 {
     for statement in block.as_slice() {
         spend(left)?;
@@ -97,6 +101,7 @@ fn run_statement(
 ) -> Result<(), Trap>
     ensures ok { OnOk result (statement_meaning statement.now (state_of slots.old tiles.old left.old) ≡ Ok (state_of slots.new tiles.new left.new)) }
     ensures trap { IfErr result (λ cause. statement_meaning statement.now (state_of slots.old tiles.old left.old) ≡ Err cause) }
+    ensures sizes { KeepsSizes tiles.old tiles.new }
 {
     match statement {
         Stmt::Set(number, e) => {
@@ -139,6 +144,7 @@ fn run_turns(
 ) -> Result<(), Trap>
     ensures ok { OnOk result (turns (run turn.now) number (turn_values lo hi) (state_of slots.old tiles.old left.old) ≡ Ok (state_of slots.new tiles.new left.new)) }
     ensures trap { IfErr result (λ cause. turns (run turn.now) number (turn_values lo hi) (state_of slots.old tiles.old left.old) ≡ Err cause) }
+    ensures sizes { KeepsSizes tiles.old tiles.new }
 {
     let mut next = Some(lo);
     while let Some(v) = next {

@@ -27,7 +27,7 @@ run_block-returns-in_err-run_statement-clause-trap t c =
     let starts = run-drop c.as_slice-statement-items.result.now c.loop-statement.statement-index c.statement-item.result below c.statement-item.is at in
     let stops = first_then-err c.loop-statement.slots c.loop-statement.tiles c.loop-statement.left c.spend.new.left c.in_ok-spend.ensures.ok (statement_meaning c.statement-item.result) rest c.in_err-run_statement.field-0.0 c.in_err-run_statement.ensures.trap in
     let all : run c.args.block.now (state_of c.args.slots.now c.args.tiles.now c.args.left.now) ≡ Err c.in_err-run_statement.field-0.0 =
-    sym c.loop-statement.invariant ∙ starts ∙ stops in
+    sym c.loop-statement.invariant.goes ∙ starts ∙ stops in
     search rules
 
 pub run_block-loop-statement-preserved : goal.run_block-loop-statement-preserved
@@ -38,7 +38,10 @@ run_block-loop-statement-preserved t c =
     let rest = run (steps_of (drop (c.loop-statement.statement-index + 1) c.as_slice-statement-items.result.now)) in
     let starts = run-drop c.as_slice-statement-items.result.now c.loop-statement.statement-index c.statement-item.result below c.statement-item.is at in
     let goes = first_then-ok c.loop-statement.slots c.loop-statement.tiles c.loop-statement.left c.spend.new.left c.in_ok-spend.ensures.ok (statement_meaning c.statement-item.result) rest next c.in_ok-run_statement.ensures.ok in
-    sym goes ∙ sym starts ∙ c.loop-statement.invariant
+    record {
+      goes = sym goes ∙ sym starts ∙ c.loop-statement.invariant.goes;
+      sizes = λ flow. c.run_statement.ensures.sizes flow ∙ c.loop-statement.invariant.sizes flow
+    }
 
 -- the values that are left at a turn: the one of the turn, and those after it
 coming : (t : ℕ) (c : goal.run_turns-After-checked_add-next t) → values_left c.loop-next.next c.args.hi ≡ c.in-Some.v ∷ values_left c.checked_add-next.result c.args.hi
@@ -55,7 +58,7 @@ run_turns-returns-then-v-hi-clause-ok t c =
     let g : FitsSigned w64 c.args.hi = search rules in
     let k : FitsSigned w64 c.args.lo = search rules in
     let test = simp to_z-of_z at c.if-v-hi.true in
-    let so_far = simp to_z-of_z at c.loop-next.invariant in
+    let so_far = simp to_z-of_z at c.loop-next.invariant.goes in
     let none = ap (λ o. values_left o c.args.hi) c.in-Some.is ∙ values_past c.in-Some.v c.args.hi test in
     turns-end (run c.args.turn.now) c.args.number (values_left c.loop-next.next c.args.hi) _ (state_of c.loop-next.slots c.loop-next.tiles c.loop-next.left) none so_far
 
@@ -65,7 +68,7 @@ run_turns-returns-in_err-spend-clause-trap t c =
     let g : FitsSigned w64 c.args.hi = search rules in
     let k : FitsSigned w64 c.args.lo = search rules in
     let test = simp to_z-of_z at c.if-v-hi.false in
-    let so_far = simp to_z-of_z at c.loop-next.invariant in
+    let so_far = simp to_z-of_z at c.loop-next.invariant.goes in
     let one = ap (λ o. values_left o c.args.hi) c.in-Some.is ∙ values_next c.in-Some.v c.args.hi test in
     let stops : turns (run c.args.turn.now) c.args.number (turn_values c.args.lo c.args.hi) (state_of c.args.slots.now c.args.tiles.now c.args.left.now) ≡ Err c.in_err-spend.field-0.0 =
     turns-none (run c.args.turn.now) c.args.number (values_left c.loop-next.next c.args.hi) _ c.in-Some.v (turn_values (c.in-Some.v +ℤ pos 1) c.args.hi) c.loop-next.slots c.loop-next.tiles c.loop-next.left one so_far c.in_err-spend.ensures.trap.1 ∙ ap Err (sym c.in_err-spend.ensures.trap.0) in
@@ -78,7 +81,7 @@ run_turns-returns-in_err-run_block-clause-trap t c =
     let g : FitsSigned w64 c.args.hi = search rules in
     let k : FitsSigned w64 c.args.lo = search rules in
     let test = simp to_z-of_z at c.if-v-hi.false in
-    let so_far = simp to_z-of_z at c.loop-next.invariant in
+    let so_far = simp to_z-of_z at c.loop-next.invariant.goes in
     let one = ap (λ o. values_left o c.args.hi) c.in-Some.is ∙ values_next c.in-Some.v c.args.hi test in
     let set = simp to_z-of_z at c.assign.ensures in
     let block = run c.args.turn.now in
@@ -97,10 +100,13 @@ run_turns-loop-next-preserved t c =
     let f : FitsSigned w64 c.in-Some.v = search rules in
     let g : FitsSigned w64 c.args.hi = search rules in
     let k : FitsSigned w64 c.args.lo = search rules in
-    let so_far = simp to_z-of_z at c.loop-next.invariant in
+    let so_far = simp to_z-of_z at c.loop-next.invariant.goes in
     let set = simp to_z-of_z at c.assign.ensures in
     let block = run c.args.turn.now in
     let next = state_of c.run_block.new.slots c.run_block.new.tiles c.run_block.new.left in
     let at_turn = ap (λ slots. block (state_of slots c.loop-next.tiles c.spend.new.left)) (sym set) ∙ c.in_ok-run_block.ensures.ok in
     let goes = turns-ok block c.args.number (values_left c.loop-next.next c.args.hi) _ c.in-Some.v (values_left c.checked_add-next.result c.args.hi) c.loop-next.slots c.loop-next.tiles c.loop-next.left (coming t c) so_far c.spend.new.left next c.in_ok-spend.ensures.ok at_turn in
-    simp to_z-of_z goes
+    record {
+      goes = simp to_z-of_z goes;
+      sizes = λ flow. c.run_block.ensures.sizes flow ∙ c.loop-next.invariant.sizes flow
+    }
