@@ -1,0 +1,5 @@
+pub mod Units
+pub mod Turns
+pub mod TurnSteps
+pub mod Blocks
+pub mod MoreUnits

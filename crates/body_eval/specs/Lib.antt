@@ -1,0 +1,6 @@
+pub mod Element
+pub mod Sizes
+pub mod State
+pub mod Meaning
+pub mod MoreUnits
+pub mod Statement

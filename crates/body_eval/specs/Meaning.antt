@@ -1,0 +1,70 @@
+-- What a body does to the tiles of its task, within a budget of units. Source: the language of bodies is this project's own choice.
+use Rattle.std.specs.Prelude.{ℕ, zero, suc, ◌-◌, ℤ, pos, ◌+ℤ◌, ◌-ℤ◌, int_lt, unsigned_abs, List, [], ◌∷◌, ◌++◌, length, replicate, Result, Ok, Err, Option, if◌then◌else◌}
+use Rattle.term_core.specs.Term.{Term}
+use Rattle.term_core.specs.Arith.{holds}
+use Rattle.term_core.specs.Value.{after}
+use Rattle.term_core.specs.Steps.{Steps, Done, SetThen, PutThen, IfThen, ForThen, TrapThen}
+use Rattle.term_core.specs.declared.body.Body.{Body}
+use Rattle.term_core.specs.declared.trap.Trap.{Trap}
+use Rattle.term_core.specs.declared.trap.Trap.TheVariants.{Word}
+use Rattle.body_eval.specs.State.{State, state_of, spent, value_in, assigned, put}
+
+-- what costs one unit as it starts, and what follows it
+abbrev pub first_then : (State → Result State Trap) → (State → Result State Trap) → State → Result State Trap
+first_then act rest s = after (spent s) (λ t. after (act t) rest)
+
+-- `x = e;`
+abbrev pub set_meaning : ℕ → Term → State → Result State Trap
+set_meaning n e s = after (value_in s e) (λ v. Ok (assigned n v s))
+
+-- `A[at] = e;`: the index is evaluated first, then the value
+abbrev pub put_meaning : ℕ → Term → Term → State → Result State Trap
+put_meaning flow at e s = after (value_in s at) (λ i. after (value_in s e) (λ v. put flow i v s))
+
+-- `if (c) { .. } else { .. }`, by what the two blocks do
+abbrev pub if_meaning : Term → (State → Result State Trap) → (State → Result State Trap) → State → Result State Trap
+if_meaning c first second s = after (value_in s c) (λ x. if holds x then first s else second s)
+
+-- so many whole numbers from a number upwards
+abbrev pub upwards : ℕ → ℤ → List ℤ
+upwards zero v = []
+upwards (suc more) v = v ∷ upwards more (v +ℤ pos 1)
+
+-- the whole numbers that are at least lo and at most hi, upwards
+unfoldable pub turn_values : ℤ → ℤ → List ℤ
+turn_values lo hi = if int_lt hi lo then [] else upwards (suc (unsigned_abs (hi -ℤ lo))) lo
+
+-- the turns of a loop for these values of its variable, each of which costs one unit as it starts, by what its block does
+abbrev pub turns : (State → Result State Trap) → ℕ → List ℤ → State → Result State Trap
+turns block n [] s = Ok s
+turns block n (v ∷ more) s = first_then (λ t. block (assigned n v t)) (turns block n more) s
+
+-- `for i = lo .. hi { .. }`, by what its block does: lo is evaluated first, then hi, each once
+abbrev pub for_meaning : ℕ → Term → Term → (State → Result State Trap) → State → Result State Trap
+for_meaning n lo hi block s = after (value_in s lo) (λ a. after (value_in s hi) (λ b. turns block n (turn_values a b) s))
+
+-- the state after statements in order, each of which costs one unit as it starts, or the first trap
+abbrev pub run : Steps → State → Result State Trap
+run Done s = Ok s
+run (SetThen n e rest) s = first_then (set_meaning n e) (run rest) s
+run (PutThen flow at e rest) s = first_then (put_meaning flow at e) (run rest) s
+run (IfThen c first second rest) s = first_then (if_meaning c (run first) (run second)) (run rest) s
+run (ForThen n lo hi turn rest) s = first_then (for_meaning n lo hi (run turn)) (run rest) s
+run (TrapThen w rest) s = first_then (λ t. Err (Word w)) (run rest) s
+
+-- as a body starts, the first slots hold the locals of the task, and each variable holds 0
+abbrev pub opening : List ℤ → ℕ → List (Option (List ℤ)) → ℕ → State
+opening locals slots tiles units =
+    state_of (locals ++ replicate (slots - length locals) (pos 0)) tiles units
+
+-- the tiles of a task after its body within so many units, or why it trapped
+abbrev pub meaning_within : ℕ → Body → List ℤ → List (Option (List ℤ)) → Result (List (Option (List ℤ))) Trap
+meaning_within units body locals tiles = after (run body.statements (opening locals body.slots tiles units)) (λ s. Ok s.tiles)
+
+-- the units that a task may use: 2 ^ 24
+unfoldable pub task_budget : ℕ
+task_budget = 16777216
+
+-- the tiles of a task after its body, or why it trapped
+abbrev pub body_meaning : Body → List ℤ → List (Option (List ℤ)) → Result (List (Option (List ℤ))) Trap
+body_meaning body locals tiles = meaning_within task_budget body locals tiles

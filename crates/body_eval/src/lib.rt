@@ -1,0 +1,12 @@
+//! The meaning of the bodies of tasks: a body run on the tiles of its task, within a budget.
+#![tactic(auto)]
+
+mod element;
+mod laws;
+mod run;
+mod scratch;
+mod value;
+
+pub use laws::more_units_change_nothing;
+pub use run::run_body;
+pub use scratch::Scratch;

@@ -1,0 +1,62 @@
+ghost use Rattle.std.specs.Prelude.{◌≡◌};
+ghost use Rattle.term_core.specs.NodeTerm.{term_of};
+ghost use Rattle.term_core.specs.Trap.{trap_of};
+ghost use Rattle.term_core.specs.Value.{faulting};
+ghost use Rattle.body_eval.specs.Element.{body_value};
+
+use crate::element::element;
+use ptg_base::Tile;
+use term_core::{Expr, ExprFault, Node, Trap, arith, decide, local, unary};
+
+fn trapping(value: Result<i64, ExprFault>) -> Result<i64, Trap>
+    ensures { result ≡ faulting trap_of value }
+{
+    match value {
+        Ok(z) => Ok(z),
+        Err(fault) => Err(Trap::from(fault)),
+    }
+}
+
+/// The value of an expression of a body.
+pub(crate) fn value(e: &Expr, slots: &[i64], tiles: &[Option<Tile>]) -> Result<i64, Trap>
+    ensures { result ≡ body_value slots.now tiles.now e.now }
+{
+    node_value(e.node(), slots, tiles)
+}
+
+fn node_value(node: &Node, slots: &[i64], tiles: &[Option<Tile>]) -> Result<i64, Trap>
+    ensures { result ≡ body_value slots.now tiles.now (term_of node.now) }
+{
+    match node {
+        Node::Num(z) => Ok(*z),
+        Node::Local(number) => Ok(local(slots, *number)),
+        Node::Elem(flow, at) => match node_value(at, slots, tiles) {
+            Ok(i) => element(tiles, *flow, i),
+            Err(trap) => Err(trap),
+        },
+        Node::Unary(op, a) => match node_value(a, slots, tiles) {
+            Ok(x) => trapping(unary(*op, x)),
+            Err(trap) => Err(trap),
+        },
+        Node::Binary(op, a, b) => match node_value(a, slots, tiles) {
+            Ok(x) => match decide(*op, x) {
+                Some(z) => Ok(z),
+                None => match node_value(b, slots, tiles) {
+                    Ok(y) => trapping(arith(*op, x, y)),
+                    Err(trap) => Err(trap),
+                },
+            },
+            Err(trap) => Err(trap),
+        },
+        Node::Choose(c, a, b) => match node_value(c, slots, tiles) {
+            Ok(x) => {
+                if x == 0 {
+                    node_value(b, slots, tiles)
+                } else {
+                    node_value(a, slots, tiles)
+                }
+            }
+            Err(trap) => Err(trap),
+        },
+    }
+}
