@@ -2,7 +2,10 @@
 #![tactic(auto)]
 
 mod names;
+mod number;
 mod operators;
+mod rank;
+mod window;
 
 pub use names::{is_name_next, name};
-pub use operators::{guard, outer};
+pub use window::{guard, outer};
