@@ -1,8 +1,13 @@
 //! Reads the expressions of a JDF text, and the names in it.
 #![tactic(auto)]
 
+mod front;
 mod names;
+mod number;
 mod operators;
+mod rank;
+mod window;
 
+pub use front::read_expr;
 pub use names::{is_name_next, name};
-pub use operators::{guard, outer};
+pub use window::{guard, outer};

@@ -11,3 +11,4 @@ pub mod Passes
 pub mod Sound
 pub mod Whole
 pub mod Loops
+pub mod Ends

@@ -1,0 +1,7 @@
+pub mod Answer
+pub mod Digits
+pub mod Ending
+pub mod InWindow
+pub mod Limits
+pub mod Loops
+pub mod Named

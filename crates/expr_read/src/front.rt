@@ -1,0 +1,76 @@
+//! An expression of which the end isn't known.
+
+ghost use Rattle.std.specs.Prelude.{◌≡◌, ℕ, ◌+◌, ◌-◌, ◌≤◌, IfOk, Ok, Err, ◌⊎◌, length, drop, slice_get};
+ghost use Rattle.grammar_core.specs.declared.code.Code.{Code};
+ghost use Rattle.jdf_lex.specs.declared.fault.JdfFault.{JdfFault};
+ghost use Rattle.jdf_lex.specs.declared.fault.JdfRefusal.TheVariants.{Fault, OutOfMemory};
+ghost use Rattle.jdf_tree.specs.Expression.{Expression};
+ghost use Rattle.expr_read.specs.Front.{part_of, IsExpression, IsFirstFaultOf, spot_or, code_of, fault_at};
+
+use crate::window::outer;
+use grammar_core::{Code, ReadError};
+use jdf_lex::{JdfCode, JdfFault, JdfRefusal, Spot, Token};
+use jdf_tree::{ExprTree, Part};
+use std::alloc::Global;
+
+fn part_of(elements: bool) -> Part
+    ensures { result ≡ part_of elements }
+{
+    if elements { Part::Body } else { Part::Class }
+}
+
+fn code_of(code: Code) -> JdfCode
+    ensures { result ≡ code_of code }
+{
+    match code {
+        Code::Syntax => JdfCode::Syntax,
+        Code::BadNumber => JdfCode::BadNumber,
+        Code::ExprTooLong => JdfCode::ExprTooLong,
+        Code::TooManyClasses => JdfCode::TooManyClasses,
+        Code::TooManyParams => JdfCode::TooManyParams,
+        Code::TooManyLocals => JdfCode::TooManyLocals,
+        Code::TooManyFlows => JdfCode::TooManyFlows,
+        Code::TooManyDeps => JdfCode::TooManyDeps,
+    }
+}
+
+// The fault at the token of this number, or behind the last one.
+fn fault_at(tokens: &[Token], finish: Spot, place: usize, code: Code) -> JdfFault
+    ensures { result ≡ fault_at tokens.now finish place code }
+{
+    let spot = match tokens.get(place) {
+        Some(token) => token.spot,
+        None => finish,
+    };
+    JdfFault {
+        spot,
+        code: code_of(code),
+    }
+}
+
+/// The expression that begins at the token of number `from` and goes as far as an expression can, and the number of
+/// the token behind it. Where `elements` holds it is one of a body. A fault that lies behind all tokens is at `finish`.
+pub fn read_expr(
+    alloc: Global,
+    tokens: &[Token],
+    from: usize,
+    elements: bool,
+    finish: Spot,
+) -> Result<(ExprTree, usize), JdfRefusal>
+    requires { from ≤ length tokens.now }
+    ensures found { IfOk result (λ x. (from ≤ x.1) × IsExpression (part_of elements) (drop from tokens.now) x.0 (x.1 - from)) }
+    ensures only { (e : Expression) → (p : ℕ) → IsExpression (part_of elements) (drop from tokens.now) e p → (result ≡ Ok (e, from + p)) ⊎ (result ≡ Err OutOfMemory) }
+    ensures fault { (f : JdfFault) → result ≡ Err (Fault f) → (p : ℕ) × (c : Code) × IsFirstFaultOf (part_of elements) (drop from tokens.now) p c × (f ≡ fault_at tokens.now finish (from + p) c) }
+    ensures refused { (p : ℕ) → (c : Code) → IsFirstFaultOf (part_of elements) (drop from tokens.now) p c → (result ≡ Err (Fault (fault_at tokens.now finish (from + p) c))) ⊎ (result ≡ Err OutOfMemory) }
+{
+    match outer(alloc, part_of(elements), &tokens[from..]) {
+        Ok((placed, rest)) => Ok((placed.tree, tokens.len() - rest.len())),
+        Err(ReadError::Memory) => Err(JdfRefusal::OutOfMemory),
+        Err(ReadError::Fault(left, code)) => Err(JdfRefusal::Fault(fault_at(
+            tokens,
+            finish,
+            tokens.len() - left,
+            code,
+        ))),
+    }
+}
