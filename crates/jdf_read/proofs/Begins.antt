@@ -13,7 +13,8 @@ use Rattle.jdf_tree.specs.declared.expression.Word.{Word}
 use Rattle.jdf_tree.specs.declared.tree.DepTree.{DepTree}
 use Rattle.jdf_tree.specs.declared.part.Part.TheVariants.{Class}
 use Rattle.jdf_tree.specs.ExpressionGrammar.{number, parens, reference, signed, unary, product, sum, relation, equality, conjunction, disjunction, expr, outer, guard}
-use Rattle.jdf_tree.specs.ClassGrammar.{argument, arguments, called, target, Choice, unguarded, guarded, goes_on_target, arrow, datatype, dependence_of, dependence}
+use Rattle.jdf_tree.specs.ClassGrammar.{argument, arguments, called, target, Choice, unguarded, guarded, goes_on_target, arrow, datatype, dependence_of, dependence, parameters, properties}
+use Rattle.jdf_tree.specs.Pieces.{names}
 use Rattle.jdf_tree.specs.Grammar.{inner, begins_operand}
 use Rattle.jdf_read.specs.Next.{is_target}
 
@@ -70,3 +71,13 @@ behind_arrow inward x datatype = dependence_of (inward, (x, datatype))
 pub dependence_reads : (s : List Token) → reading inner dependence s ≡ (reading inner arrow s >>= λ a. reading inner (pick goes_on_target unguarded guarded) a.1 >>= λ b. reading inner (opt datatype) b.1 >>= applied (λ c. behind_arrow a.0 b.0 c))
 unfolding dependence
 dependence_reads s = thrice (reading inner arrow s) (reading inner (pick goes_on_target unguarded guarded)) (reading inner (opt datatype)) dependence_of
+
+-- ---- classes
+
+pub parameters_begin : (s : List Token) → starts (first parameters) s ≡ starts (names Class) s
+unfolding parameters
+parameters_begin s = refl
+
+pub properties_begin : (s : List Token) → starts (first properties) s ≡ starts (is sort.LeftBracket) s
+unfolding properties
+properties_begin s = refl

@@ -1,3 +1,5 @@
-pub mod Lists
-pub mod Listed
 pub mod Begins
+pub mod Listed
+pub mod Lists
+pub mod Parts
+pub mod Runs

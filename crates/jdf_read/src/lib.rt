@@ -3,4 +3,6 @@
 
 mod argument;
 mod dependence;
+mod flow;
+mod head;
 mod target;
