@@ -9,6 +9,7 @@ use Rattle.jdf_lex.specs.declared.fault.JdfRefusal.{JdfRefusal}
 use Rattle.jdf_lex.specs.declared.fault.JdfRefusal.TheVariants.{Fault, OutOfMemory}
 use Rattle.jdf_lex.specs.declared.token.Lexed.{Lexed}
 use Rattle.jdf_lex.specs.Tokens.{IsLexed}
+use Rattle.jdf_lex.proofs.Once.{one_list}
 use Rattle.std.specs.Str.{IsUtf8}
 use Rattle.grammar_core.specs.declared.code.Code.{Code}
 use Rattle.grammar_core.specs.declared.code.Code.TheVariants.{TooManyDeps}
@@ -22,7 +23,7 @@ use Rattle.grammar_core.proofs.Whole.{LimitsOnly, text_found, text_only}
 use Rattle.jdf_first.specs.declared.part.Part.{Part}
 use Rattle.jdf_first.specs.declared.part.Part.TheVariants.{Class, Body}
 use Rattle.jdf_first.specs.declared.tree.Jdf.{Jdf}
-use Rattle.jdf_first.specs.Jdf.{IsJdf}
+use Rattle.jdf_first.specs.Jdf.{IsJdf, OneTree}
 use Rattle.jdf_first.specs.Grammar.{number, parens, index, reference, atom, sum, expr, outer, call, target, unguarded, guarded, arrow, dep, deps, too_many_deps, stmt, param, range, affinity, flow, body, rest, heading, file, inner, claims}
 use Rattle.jdf_first.proofs.Fine.{inner_fine, file_fine}
 
@@ -170,6 +171,11 @@ tree_is bytes text lexed slice result same is lexes slices jdf j =
 -- a text is read to one tree
 pub one_tree : (s : List Token) (a b : Jdf) → whole inner file s ≡ Ok a → whole inner file s ≡ Ok b → a ≡ b
 one_tree s a b e f = cc
+
+pub one_text_one_tree : OneTree
+one_text_one_tree bytes a b one other =
+    let tokens = (one_list bytes one.tokens other.tokens one.end other.end one.lexed other.lexed).0 in
+    one_tree one.tokens a b (only one.tokens a one.text) (ap (whole inner file) tokens ∙ only other.tokens b other.text)
 
 pub no_tree : (s : List Token) (a : Jdf) (e : ReadError) (n : ℕ) (c : Code) → e ≡ errors.Fault n c → Fails e (whole inner file s) → whole inner file s ≡ Ok a → ⊥
 no_tree s a errors.Memory n c is f h = absurd cc

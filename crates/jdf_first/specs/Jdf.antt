@@ -1,5 +1,5 @@
 -- The text of a JDF.
-use Rattle.std.specs.Prelude.{ℕ, ◌≤◌, List, length, None}
+use Rattle.std.specs.Prelude.{◌≡◌, ℕ, ◌≤◌, List, length, None}
 use Rattle.std.specs.Str.{IsUtf8}
 use Rattle.jdf_lex.specs.declared.token.Spot.{Spot}
 use Rattle.jdf_lex.specs.declared.token.Token.{Token}
@@ -17,3 +17,7 @@ pub record IsJdf (bytes : List ℕ) (jdf : Jdf) : Type 0 where
   pub lexed : IsLexed bytes tokens end
   pub few : length tokens ≤ 1000000
   pub text : IsText inner file tokens jdf None
+
+-- A text has one tree at most.
+abbrev pub OneTree : Type 0
+OneTree = (bytes : List ℕ) (jdf other : Jdf) → IsJdf bytes jdf → IsJdf bytes other → jdf ≡ other

@@ -4,6 +4,7 @@
 mod class;
 mod dependence;
 mod expression;
+mod laws;
 mod name;
 mod number;
 mod operators;
@@ -15,5 +16,6 @@ mod tests;
 mod tree;
 
 pub use expression::{ExprNode, ExprTree, Word};
+pub use laws::one_tree;
 pub use read::read_first;
 pub use tree::{ClassTree, DepTree, Jdf, StmtTree, TargetTree};

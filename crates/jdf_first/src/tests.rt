@@ -1,4 +1,4 @@
-use crate::read_first;
+use crate::{one_tree, read_first};
 use std::test::Fail;
 
 const CHAIN: &[u8] =
@@ -6,6 +6,7 @@ const CHAIN: &[u8] =
 
 #[test]
 fn reads_a_chain(rt: HostRuntime) -> Result<(), Fail> {
+    one_tree();
     let jdf = read_first(rt.alloc(), CHAIN)?;
     assert_eq!(rt; jdf.globals.len(), 2);
     assert_eq!(rt; jdf.class.deps.len(), 2);

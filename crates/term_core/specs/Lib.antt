@@ -3,5 +3,4 @@ pub mod TermCode
 pub mod NodeTerm
 pub mod Arith
 pub mod Value
-pub mod Trap
-pub mod WellMade
+pub mod WellSpace

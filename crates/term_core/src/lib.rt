@@ -1,18 +1,18 @@
-//! Expressions, their values, and the statements of bodies.
+//! Expressions and their values, ranges and spaces over them.
 #![tactic(auto)]
 
 mod arithmetic;
-mod body;
 mod evaluate;
 mod expr;
 mod fault;
 mod flow;
 mod operator;
+mod space;
 
 pub use arithmetic::{arith, decide, unary};
-pub use body::{Body, Stmt, Trap};
 pub use evaluate::{eval, local};
 pub use expr::{Expr, Node};
 pub use fault::ExprFault;
 pub use flow::FlowKind;
 pub use operator::{BinOp, UnOp};
+pub use space::{ClassSpace, Def, Params, Range};

@@ -1,0 +1,139 @@
+-- The canonical spelling of a tree: what `show` prints. The form is this project's own choice: a line for each part, every operator in parentheses.
+use Rattle.std.specs.Prelude.{ℕ, ℤ, List, [], ◌∷◌, ◌++◌, map, flat_map, Option, Some, None, Bool, true, false, codes}
+use Rattle.std.specs.Fmt.{signed_decimal}
+use Rattle.jdf_lex.specs.declared.token.Token.{Token}
+use Rattle.term_core.specs.declared.operator.UnOp.{UnOp}
+use Rattle.term_core.specs.declared.operator.UnOp.TheVariants as un
+use Rattle.term_core.specs.declared.operator.BinOp.{BinOp}
+use Rattle.term_core.specs.declared.operator.BinOp.TheVariants as bin
+use Rattle.term_core.specs.declared.flow.FlowKind.{FlowKind}
+use Rattle.term_core.specs.declared.flow.FlowKind.TheVariants as kind
+use Rattle.jdf_tree.specs.declared.expression.Word.{Word}
+use Rattle.jdf_tree.specs.declared.tree.ArgTree.{ArgTree}
+use Rattle.jdf_tree.specs.declared.tree.ArgTree.TheVariants.{One, Span}
+use Rattle.jdf_tree.specs.declared.tree.DefTree.{DefTree}
+use Rattle.jdf_tree.specs.declared.tree.TargetTree.{TargetTree}
+use Rattle.jdf_tree.specs.declared.tree.TargetTree.TheVariants.{Task, Element, New, Null}
+use Rattle.jdf_tree.specs.declared.tree.DepTree.{DepTree}
+use Rattle.jdf_tree.specs.declared.tree.FlowTree.{FlowTree}
+use Rattle.jdf_tree.specs.declared.tree.ClassTree.{ClassTree}
+use Rattle.jdf_tree.specs.declared.tree.Jdf.{Jdf}
+use Rattle.jdf_tree.specs.Expression as tree
+use Rattle.jdf_tree.specs.Expression.{Expression}
+use Rattle.jdf_print.specs.Pieces.{Piece, token, blank, space, newline, text, line, between, separated, with_commas}
+
+abbrev pub sign : UnOp → List ℕ
+sign un.Neg = codes "-"
+sign un.Not = codes "!"
+
+-- And is `&&`, or is `||`.
+abbrev pub operator : BinOp → List ℕ
+operator bin.Add = codes "+"
+operator bin.Sub = codes "-"
+operator bin.Mul = codes "*"
+operator bin.Div = codes "/"
+operator bin.Rem = codes "%"
+operator bin.Eq = codes "=="
+operator bin.Ne = codes "!="
+operator bin.Lt = codes "<"
+operator bin.Le = codes "<="
+operator bin.Gt = codes ">"
+operator bin.Ge = codes ">="
+operator bin.And = codes "&&"
+operator bin.Or = codes "||"
+
+-- in parentheses
+abbrev pub enclosed : List Piece → List Piece
+enclosed pieces = token (codes "(") ∷ (pieces ++ token (codes ")") ∷ [])
+
+-- an expression: every operator stands in parentheses with its operands, a number is its digits
+abbrev pub expression : Expression → List Piece
+expression (tree.Num z spot) = token (signed_decimal z) ∷ []
+expression (tree.Name w) = token w.text ∷ []
+expression (tree.Elem w a) = token w.text ∷ token (codes "[") ∷ (expression a ++ token (codes "]") ∷ [])
+expression (tree.Unary o a spot) = enclosed (token (sign o) ∷ expression a)
+expression (tree.Binary o a b) = enclosed (expression a ++ (between (operator o) ++ expression b))
+expression (tree.Choose c a b) = enclosed (expression c ++ (between (codes "?") ++ (expression a ++ (between (codes ":") ++ expression b))))
+
+-- the step of a range, where there is one
+abbrev pub step : Option Expression → List Piece
+step None = []
+step (Some e) = between (codes "..") ++ expression e
+
+-- an argument, or what a definition gives
+abbrev pub argument : ArgTree → List Piece
+argument (One e) = expression e
+argument (Span spot lo hi by) = expression lo ++ (between (codes "..") ++ (expression hi ++ step by))
+
+abbrev pub arguments : List ArgTree → List Piece
+arguments args = enclosed (with_commas (map argument args))
+
+abbrev pub target : TargetTree → List Piece
+target (Task flow class args) = token flow.text ∷ space ∷ token class.text ∷ arguments args
+target (Element coll args) = token coll.text ∷ arguments args
+target (New spot) = token (codes "NEW") ∷ []
+target (Null spot) = token (codes "NULL") ∷ []
+
+abbrev pub guard : Option Expression → List Piece
+guard None = []
+guard (Some c) = expression c ++ between (codes "?")
+
+abbrev pub other : Option TargetTree → List Piece
+other None = []
+other (Some t) = between (codes ":") ++ target t
+
+abbrev pub datatype : Option Word → List Piece
+datatype None = []
+datatype (Some w) = space ∷ token (codes "[") ∷ token (codes "type") ∷ (between (codes "=") ++ token w.text ∷ token (codes "]") ∷ [])
+
+abbrev pub arrow : Bool → List ℕ
+arrow true = codes "<-"
+arrow false = codes "->"
+
+-- a dependence is two spaces in
+abbrev pub dependence : DepTree → List Piece
+dependence d = line (blank (codes "  ") ∷ token (arrow d.inward) ∷ space ∷ (guard d.guard ++ (target d.yes ++ (other d.no ++ datatype d.datatype))))
+
+abbrev pub kind_word : FlowKind → List ℕ
+kind_word kind.Read = codes "READ"
+kind_word kind.Write = codes "WRITE"
+kind_word kind.Rw = codes "RW"
+kind_word kind.Ctl = codes "CTL"
+
+-- a flow, and its dependences below it
+abbrev pub flow : FlowTree → List Piece
+flow f = line (token (kind_word f.kind) ∷ space ∷ token f.name.text ∷ []) ++ flat_map dependence f.deps
+
+abbrev pub definition : DefTree → List Piece
+definition d = line (token d.name.text ∷ (between (codes "=") ++ argument d.value))
+
+abbrev pub priority : Option Expression → List Piece
+priority None = []
+priority (Some e) = line (token (codes ";") ∷ space ∷ expression e)
+
+-- the tokens of a body with single spaces between, and no line where there are none
+abbrev pub body : List Token → List Piece
+body [] = []
+body (x ∷ xs) = line (separated (space ∷ []) (map (λ t. token t.text ∷ []) (x ∷ xs)))
+
+-- `Name(p, q)`
+abbrev pub head : ClassTree → List Piece
+head c = line (token c.name.text ∷ enclosed (with_commas (map (λ w. token w.text ∷ []) c.params)))
+
+-- `: D(a, b)`
+abbrev pub affinity : ClassTree → List Piece
+affinity c = line (token (codes ":") ∷ space ∷ token c.affinity.text ∷ arguments c.affinity_args)
+
+-- a class, an empty line before it
+abbrev pub class : ClassTree → List Piece
+class c =
+    newline ∷ (head c ++ (flat_map definition c.defs ++ (affinity c ++ (flat_map flow c.flows ++ (priority c.priority
+    ++ (line (token (codes "BODY") ∷ []) ++ (body c.body ++ line (token (codes "END") ∷ []))))))))
+
+-- each global on a line, then each class
+abbrev pub pieces : Jdf → List Piece
+pieces jdf = flat_map (λ w. line (token w.text ∷ [])) jdf.globals ++ flat_map class jdf.classes
+
+-- the canonical spelling
+abbrev pub spelling : Jdf → List ℕ
+spelling jdf = text (pieces jdf)

@@ -1,0 +1,6 @@
+//! The canonical spelling of a JDF tree.
+#![tactic(auto)]
+
+mod writer;
+
+pub use writer::put;

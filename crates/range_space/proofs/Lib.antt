@@ -1,0 +1,3 @@
+pub mod Stepping
+pub mod Members
+pub mod Nesting

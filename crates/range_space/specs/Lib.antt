@@ -1,0 +1,5 @@
+pub mod Values
+pub mod Fault
+pub mod Nested
+pub mod Later
+pub mod Coming
