@@ -20,19 +20,22 @@ with_rest a s = Ok (a, s)
 abbrev signed : Word × (List Word × Option (List Token)) → Word × List Word
 signed x = (x.0, x.1.0)
 
+abbrev kept : Word → List Word → Option (List Token) → Word × List Word
+kept a b z = (a, b)
+
 pub signature_reads : (s : List Token) → reading inner signature s ≡ (reading inner (name Class) s >>= λ a. reading inner parameter_list a.1 >>= λ b. past (opt properties) b.1 >>= λ r. with_rest (a.0, b.0) r)
 unfolding head
 signature_reads s = thrice (reading inner (name Class) s) (reading inner parameter_list) (reading inner (opt properties)) signed ∙ go (reading inner (name Class) s)
   where
-    last : (a : Word) (b : List Word) (c : Read (Option (List Token))) → (c >>= applied (λ (z : Option (List Token)). (a, b))) ≡ ((c >>= λ x. Ok x.1) >>= λ r. with_rest (a, b) r)
+    last : (a : Word) (b : List Word) (c : Read (Option (List Token))) → (c >>= applied (kept a b)) ≡ ((c >>= λ x. Ok x.1) >>= λ r. with_rest (a, b) r)
     last a b (Ok c) = refl
     last a b (Err e) = refl
 
-    next : (a : Word) (b : Read (List Word)) → (b >>= λ y. reading inner (opt properties) y.1 >>= applied (λ (z : Option (List Token)). (a, y.0))) ≡ (b >>= λ y. past (opt properties) y.1 >>= λ r. with_rest (a, y.0) r)
+    next : (a : Word) (b : Read (List Word)) → (b >>= λ y. reading inner (opt properties) y.1 >>= applied (kept a y.0)) ≡ (b >>= λ y. past (opt properties) y.1 >>= λ r. with_rest (a, y.0) r)
     next a (Ok b) = last a b.0 (reading inner (opt properties) b.1)
     next a (Err e) = refl
 
-    go : (a : Read Word) → (a >>= λ x. reading inner parameter_list x.1 >>= λ y. reading inner (opt properties) y.1 >>= applied (λ (z : Option (List Token)). (x.0, y.0)))
+    go : (a : Read Word) → (a >>= λ x. reading inner parameter_list x.1 >>= λ y. reading inner (opt properties) y.1 >>= applied (kept x.0 y.0))
         ≡ (a >>= λ x. reading inner parameter_list x.1 >>= λ y. past (opt properties) y.1 >>= λ r. with_rest (x.0, y.0) r)
     go (Ok a) = next a.0 (reading inner parameter_list a.1)
     go (Err e) = refl

@@ -27,8 +27,11 @@ run_from : (q : Sort → Bool) (i : ℕ) (s : List Token) → many_from inner an
 run_from q i [] = many_step inner any (one q) q (listed q) i []
 run_from q i (x ∷ s) = many_step inner any (one q) q (listed q) i (x ∷ s) ∙ go (q (sort_of x)) (run_from q (suc i) s)
   where
+    abbrev token : Bool → Read Token
+    token b = cond b (Ok (x, s)) (Err (length (x ∷ s), Syntax))
+
     go : (b : Bool) → many_from inner any (one q) (suc i) s ≡ Ok (take (run_len q s) s, drop (run_len q s) s)
-        → cond b (cond b (Ok (x, s)) (Err (suc (length s), Syntax)) >>= λ a. many_from inner any (one q) (suc i) a.1 >>= applied (λ (more : List Token). a.0 ∷ more)) (Ok ([], x ∷ s))
+        → cond b (token b >>= λ a. many_from inner any (one q) (suc i) a.1 >>= applied (λ (more : List Token). a.0 ∷ more)) (Ok ([], x ∷ s))
         ≡ Ok (take (cond b (1 + run_len q s) 0) (x ∷ s), drop (cond b (1 + run_len q s) 0) (x ∷ s))
     go false h = refl
     go true h = let up : 1 + run_len q s ≡ suc (run_len q s) = omega arith in rw (h, up) refl
@@ -36,3 +39,9 @@ run_from q i (x ∷ s) = many_step inner any (one q) q (listed q) i (x ∷ s) �
 pub run_reads : (q : Sort → Bool) (s : List Token) → reading inner (star any (one_of q)) s ≡ Ok (take (run_len q s) s, drop (run_len q s) s)
 unfolding many_from
 run_reads q s = run_from q 0 s
+
+-- ---- properties
+
+-- what is left behind the run, where it was split off
+pub split_is : (q : Sort → Bool) (s front back : List Token) → front ≡ take (run_len q s) s → back ≡ drop (run_len q s) s → reading inner (star any (one_of q)) s ≡ Ok (front, back)
+split_is q s front back f b = run_reads q s ∙ sym (rw (f, b) refl)

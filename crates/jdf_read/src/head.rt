@@ -1,6 +1,6 @@
 //! What a class has before its flows.
 
-ghost use Rattle.std.specs.Prelude.{◌≡◌, ◌≤◌, length};
+ghost use Rattle.std.specs.Prelude.{◌≡◌, ◌-◌, ◌≤◌, nat_lt, length};
 ghost use Rattle.std.specs.List.{prefix_len};
 ghost use Rattle.grammar_core.specs.Form.{opt};
 ghost use Rattle.grammar_core.specs.Gives.{Gives};
@@ -52,20 +52,26 @@ fn names(alloc: Global, tokens: &[Token]) -> Result<(Row<Word>, &[Token]), ReadE
     Ok((list, rest))
 }
 
+// Are more tokens taken than eight parameters are, where so many are left?
+fn is_over(tokens: &[Token], left: usize) -> bool
+    ensures { result ≡ nat_lt 16 (length tokens.now - left) }
+{
+    MOST_PARAMETER_TOKENS < tokens.len().saturating_sub(left)
+}
+
 // The names, at most 8.
 #[tactic(auto, unfolding(jdf_tree::specs::ClassGrammar::parameters))]
 fn parameters(alloc: Global, tokens: &[Token]) -> Result<(Row<Word>, &[Token]), ReadError>
     ensures { Gives (λ x. (x.0, x.1.now)) result (reading inner parameters tokens.now) }
 {
+    let over = ReadError::Fault(
+        tokens.len().saturating_sub(MOST_PARAMETER_TOKENS),
+        Code::TooManyParams,
+    );
     match names(alloc, tokens) {
-        Ok((list, rest)) if tokens.len() - rest.len() <= MOST_PARAMETER_TOKENS => Ok((list, rest)),
-        Err(ReadError::Memory) => Err(ReadError::Memory),
-        Err(ReadError::Fault(left, code)) if tokens.len() - left <= MOST_PARAMETER_TOKENS =>
-            Err(ReadError::Fault(left, code)),
-        _ => Err(ReadError::Fault(
-            tokens.len() - MOST_PARAMETER_TOKENS,
-            Code::TooManyParams,
-        )),
+        Ok((_, rest)) if is_over(tokens, rest.len()) => Err(over),
+        Err(ReadError::Fault(left, _)) if is_over(tokens, left) => Err(over),
+        read => read,
     }
 }
 
@@ -104,7 +110,7 @@ fn bracket_place(tokens: &[Token]) -> usize
 }
 
 // `"[", tokens other than "]", "]"`: the tokens between the brackets.
-#[tactic(auto, using(crate::proofs::Runs::run_reads), unfolding(jdf_tree::specs::ClassGrammar::properties))]
+#[tactic(auto, using(crate::proofs::Runs::split_is), unfolding(jdf_tree::specs::ClassGrammar::properties))]
 fn properties(tokens: &[Token]) -> Result<(&[Token], &[Token]), ReadError>
     ensures { Gives (λ x. (x.0.now, x.1.now)) result (reading inner properties tokens.now) }
 {
