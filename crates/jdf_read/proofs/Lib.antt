@@ -1,5 +1,9 @@
 pub mod Begins
+pub mod Limits
 pub mod Listed
 pub mod Lists
+pub mod Once
+pub mod Opening
 pub mod Parts
 pub mod Runs
+pub mod Skips

@@ -44,6 +44,14 @@ again : {A : Type 0} (g : Grammar A) (s : List Token) → many_from inner any g 
 unfolding rest_of many_from
 again g s = any_index (first g) (reading inner g) (length s) 1 0 s
 
+pub rest_step : {A : Type 0} {g : Grammar A} {f : Sort → Bool} → IsListed inner g f → (s : List Token) → rest_of g s ≡ cond (starts f s) (reading inner g s >>= λ a. rest_of g a.1 >>= applied (λ (more : List A). a.0 ∷ more)) (Ok ([], s))
+unfolding rest_of
+rest_step {A} {g} {f} l s = many_step inner any g f l 0 s ∙ ap (λ (r : Read (List A)). cond (starts f s) r (Ok ([], s))) (go (reading inner g s))
+  where
+    go : (r : Read A) → (r >>= λ a. many_from inner any g 1 a.1 >>= applied (λ (more : List A). a.0 ∷ more)) ≡ (r >>= λ a. many_from inner any g 0 a.1 >>= applied (λ (more : List A). a.0 ∷ more))
+    go (Ok a) = ap (λ (m : Read (List A)). m >>= applied (λ (more : List A). a.0 ∷ more)) (again g a.1)
+    go (Err e) = refl
+
 pub rest_begins : {A : Type 0} (g : Grammar A) (s : List Token) → so_far [] (rest_of g s) ≡ reading inner (star any g) s
 unfolding rest_of
 rest_begins g s = many_begins inner any g s

@@ -11,8 +11,9 @@ use Rattle.jdf_tree.specs.declared.expression.Word.{Word}
 use Rattle.jdf_tree.specs.declared.part.Part.TheVariants.{Class}
 use Rattle.jdf_tree.specs.Inner.{Grammar}
 use Rattle.jdf_tree.specs.declared.tree.ArgTree.{ArgTree}
+use Rattle.jdf_tree.specs.declared.tree.ClassTree.{ClassTree}
 use Rattle.jdf_tree.specs.Pieces.{after, name}
-use Rattle.jdf_tree.specs.ClassGrammar.{argument, properties, head}
+use Rattle.jdf_tree.specs.ClassGrammar.{argument, properties, head, Rest, rest, class_of}
 use Rattle.jdf_tree.specs.Grammar.{inner, skip}
 
 -- What is left behind a text of this form, of which nothing is kept.
@@ -36,6 +37,14 @@ is_skip k = is sort.Extern k || is sort.OptionLine k
 -- One of those that stand before the first class: a global, or what is skipped.
 unfoldable pub leading : Grammar (Option Word)
 leading = alt (map (λ x. None) skip) (map (λ x. Some x.0) (seq (name Class) (opt properties)))
+
+-- the class of this name and these parameters, and of what stands behind them
+abbrev pub class_from : Word × List Word → Rest → ClassTree
+class_from x y = class_of ((x.0, (x.1, None)), y)
+
+-- a class behind its name and its parameters
+abbrev pub class_behind : Word × List Word → Grammar ClassTree
+class_behind x = map (class_from x) rest
 
 -- a further argument, and a further parameter
 unfoldable pub next_argument : Grammar ArgTree

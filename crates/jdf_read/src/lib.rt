@@ -2,7 +2,13 @@
 #![tactic(auto)]
 
 mod argument;
+mod body;
+mod class;
 mod dependence;
 mod flow;
 mod head;
+mod laws;
+mod opening;
 mod target;
+
+pub use laws::{one_fault, one_tree, tree_or_fault};
