@@ -3,7 +3,7 @@ pub mod Limits
 pub mod Listed
 pub mod Lists
 pub mod Once
-pub mod Opening
+pub mod Openings
 pub mod Parts
 pub mod Runs
 pub mod Skips

@@ -5,8 +5,8 @@ use Rattle.jdf_lex.specs.declared.token.Token.{Token}
 use Rattle.grammar_core.specs.declared.code.Code.{Code}
 use Rattle.grammar_core.specs.declared.code.Code.TheVariants.{Syntax, BadNumber, ExprTooLong, TooManyClasses, TooManyParams, TooManyLocals, TooManyFlows, TooManyDeps}
 use Rattle.grammar_core.specs.Form.{IsText, IsFirstFault}
-use Rattle.grammar_core.specs.Predictive.{is_fine, are_names, are_limits, is_limit, has_plain, within, more}
-use Rattle.grammar_core.specs.Reading.{may_be_empty, first, whole}
+use Rattle.grammar_core.specs.Predictive.{is_fine, are_names, are_limits, is_limit}
+use Rattle.grammar_core.specs.Reading.{whole}
 use Rattle.grammar_core.proofs.Whole.{LimitsOnly, text_found, text_only, fault_is, one_fault}
 use Rattle.jdf_tree.specs.declared.part.Part.{Part}
 use Rattle.jdf_tree.specs.declared.part.Part.TheVariants.{Class, Body}

@@ -11,6 +11,7 @@ use Rattle.jdf_lex.specs.Tokens.{IsLexed, spot_after}
 use Rattle.jdf_lex.proofs.Once.{one_list, no_fault}
 use Rattle.jdf_lex.proofs.Once as lex
 use Rattle.grammar_core.specs.declared.code.Code.{Code}
+use Rattle.grammar_core.specs.declared.code.Code.TheVariants.{Syntax}
 use Rattle.grammar_core.specs.Form.{IsText, IsFirstFault}
 use Rattle.grammar_core.specs.Reading.{Stop, whole}
 use Rattle.jdf_tree.specs.declared.tree.Jdf.{Jdf}
@@ -26,6 +27,14 @@ tree jdf = Ok jdf
 abbrev stop : ℕ → Code → Result Jdf Stop
 stop n c = Err (n, c)
 
+abbrev left_of : Result Jdf Stop → ℕ
+left_of (Ok t) = 0
+left_of (Err n) = n.0
+
+abbrev code_of : Result Jdf Stop → Code
+code_of (Ok t) = Syntax
+code_of (Err n) = n.1
+
 same_tree : (a b : Jdf) → tree a ≡ tree b → a ≡ b
 same_tree a b e = cc
 
@@ -33,10 +42,10 @@ no_stop : (a : Jdf) (n : ℕ) (c : Code) → tree a ≡ stop n c → ⊥
 no_stop a n c e = cc
 
 same_left : (n m : ℕ) (c d : Code) → stop n c ≡ stop m d → n ≡ m
-same_left n m c d e = cc
+same_left n m c d e = ap left_of e
 
 same_code : (n m : ℕ) (c d : Code) → stop n c ≡ stop m d → c ≡ d
-same_code n m c d e = cc
+same_code n m c d e = ap code_of e
 
 pub one_tree : OneTree
 one_tree bytes a b x y =

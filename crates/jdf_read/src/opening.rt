@@ -26,7 +26,7 @@ fn is_class_next(tokens: &[Token]) -> bool
 }
 
 // What is skipped, or a global and its properties.
-#[tactic(auto, using(crate::proofs::Opening::leading_reads))]
+#[tactic(auto, using(crate::proofs::Openings::leading_reads))]
 fn leading(alloc: Global, tokens: &[Token]) -> Result<(Option<Word>, &[Token]), ReadError>
     ensures { Gives (λ x. (x.0, x.1.now)) result (reading inner leading tokens.now) }
 {
@@ -40,7 +40,7 @@ fn leading(alloc: Global, tokens: &[Token]) -> Result<(Option<Word>, &[Token]), 
 }
 
 /// A text: what stands before the first class, and the classes.
-#[tactic(auto, using(crate::proofs::Opening::opening_begins, crate::proofs::Opening::opening_fails, crate::proofs::Opening::opening_ends, crate::proofs::Opening::opening_stops, crate::proofs::Opening::skipped_goes_on, crate::proofs::Opening::global_goes_on))]
+#[tactic(auto, using(crate::proofs::Openings::opening_begins, crate::proofs::Openings::opening_fails, crate::proofs::Openings::opening_ends, crate::proofs::Openings::opening_stops, crate::proofs::Openings::skipped_goes_on, crate::proofs::Openings::global_goes_on))]
 pub(crate) fn opening(alloc: Global, tokens: &[Token]) -> Result<(Jdf, &[Token]), ReadError>
     ensures { Gives (λ x. (x.0, x.1.now)) result (reading inner opening tokens.now) }
 {

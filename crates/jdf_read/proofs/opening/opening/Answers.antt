@@ -1,5 +1,5 @@
 use Rattle.std.proofs.Common.{arith}
-use Rattle.jdf_read.proofs.Opening.{leading_moves}
+use Rattle.jdf_read.proofs.Openings.{leading_moves}
 use Rattle.jdf_read.proofs.opening.opening.Goals as goal
 
 pub more-smaller : goal.more-smaller

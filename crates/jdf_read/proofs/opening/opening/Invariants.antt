@@ -1,7 +1,7 @@
 use Rattle.std.proofs.Common.{◌≡◌, length}
 use Rattle.grammar_core.specs.Reading.{reading}
 use Rattle.jdf_tree.specs.Grammar.{inner, opening}
-use Rattle.jdf_read.proofs.Opening.{opened, with_front}
+use Rattle.jdf_read.proofs.Openings.{opened, with_front}
 use Rattle.jdf_read.proofs.opening.opening.Given as goal
 
 abbrev pub invariant-more : goal.invariant-more

@@ -50,20 +50,20 @@ first_of_three x = x.0
 abbrev none_of : Token → Option Word
 none_of x = None
 
-behind_raw : (x b : Token) (raw : Read Token) (open : List Token → Read Jdf) → ((((raw >>= λ r. open r.1 >>= pair_with r.0) >>= pair_with b) >>= pair_with x) >>= applied last_of_four)
-    ≡ (((((raw >>= pair_with b) >>= pair_with x) >>= applied first_of_three) >>= applied none_of) >>= λ a. open a.1 >>= applied (led a.0))
-behind_raw x b (Err e) open = refl
-behind_raw x b (Ok r) open = go (open r.1)
+behind_raw : (x b : Token) (raw : Read Token) (later : List Token → Read Jdf) → ((((raw >>= λ r. later r.1 >>= pair_with r.0) >>= pair_with b) >>= pair_with x) >>= applied last_of_four)
+    ≡ (((((raw >>= pair_with b) >>= pair_with x) >>= applied first_of_three) >>= applied none_of) >>= λ a. later a.1 >>= applied (led a.0))
+behind_raw x b (Err e) later = refl
+behind_raw x b (Ok r) later = go (later r.1)
   where
     go : (z : Read Jdf) → ((((z >>= pair_with r.0) >>= pair_with b) >>= pair_with x) >>= applied last_of_four) ≡ (z >>= applied (led None))
     go (Ok z) = refl
     go (Err e) = refl
 
-extern_same : (x : Token) (quoted : Read Token) (raw : List Token → Read Token) (open : List Token → Read Jdf)
-    → (((quoted >>= λ b. (raw b.1 >>= λ r. open r.1 >>= pair_with r.0) >>= pair_with b.0) >>= pair_with x) >>= applied last_of_four)
-    ≡ (((((quoted >>= λ b. raw b.1 >>= pair_with b.0) >>= pair_with x) >>= applied first_of_three) >>= applied none_of) >>= λ a. open a.1 >>= applied (led a.0))
-extern_same x (Ok b) raw open = behind_raw x b.0 (raw b.1) open
-extern_same x (Err e) raw open = refl
+extern_same : (x : Token) (quoted : Read Token) (raw : List Token → Read Token) (later : List Token → Read Jdf)
+    → (((quoted >>= λ b. (raw b.1 >>= λ r. later r.1 >>= pair_with r.0) >>= pair_with b.0) >>= pair_with x) >>= applied last_of_four)
+    ≡ (((((quoted >>= λ b. raw b.1 >>= pair_with b.0) >>= pair_with x) >>= applied first_of_three) >>= applied none_of) >>= λ a. later a.1 >>= applied (led a.0))
+extern_same x (Ok b) raw later = behind_raw x b.0 (raw b.1) later
+extern_same x (Err e) raw later = refl
 
 abbrev second_of_two : Token × Jdf → Jdf
 second_of_two x = x.1
@@ -95,11 +95,11 @@ global_of x = Some x.0
 abbrev props : Read Token → (List Token → Read (List Token)) → (List Token → Read Token) → Read (List Token)
 props left tokens right = (left >>= λ b. ((tokens b.1 >>= λ c. right c.1 >>= pair_with c.0) >>= applied front_of) >>= pair_with b.0) >>= applied back_of
 
-properties_same : (w : Word) (left : Read Token) (tokens : List Token → Read (List Token)) (right : List Token → Read Token) (open : List Token → Read Jdf)
-    → (((left >>= λ b. (tokens b.1 >>= λ c. (right c.1 >>= λ d. open d.1 >>= pair_with d.0) >>= pair_with c.0) >>= pair_with b.0) >>= pair_with w) >>= applied last_of_five)
-    ≡ ((((props left tokens right >>= applied Some) >>= pair_with w) >>= applied global_of) >>= λ a. open a.1 >>= applied (led a.0))
-properties_same w (Err e) tokens right open = refl
-properties_same w (Ok b) tokens right open = behind_left (tokens b.1)
+properties_same : (w : Word) (left : Read Token) (tokens : List Token → Read (List Token)) (right : List Token → Read Token) (later : List Token → Read Jdf)
+    → (((left >>= λ b. (tokens b.1 >>= λ c. (right c.1 >>= λ d. later d.1 >>= pair_with d.0) >>= pair_with c.0) >>= pair_with b.0) >>= pair_with w) >>= applied last_of_five)
+    ≡ ((((props left tokens right >>= applied Some) >>= pair_with w) >>= applied global_of) >>= λ a. later a.1 >>= applied (led a.0))
+properties_same w (Err e) tokens right later = refl
+properties_same w (Ok b) tokens right later = behind_left (tokens b.1)
   where
     behind_right : (c : List Token) (d : Token) (z : Read Jdf)
         → (((((z >>= pair_with d) >>= pair_with c) >>= pair_with b.0) >>= pair_with w) >>= applied last_of_five) ≡ (z >>= applied (led (Some w)))
@@ -107,14 +107,14 @@ properties_same w (Ok b) tokens right open = behind_left (tokens b.1)
     behind_right c d (Err e) = refl
 
     behind_tokens : (c : List Token) (r : Read Token)
-        → (((((r >>= λ d. open d.1 >>= pair_with d.0) >>= pair_with c) >>= pair_with b.0) >>= pair_with w) >>= applied last_of_five)
-        ≡ (((((((r >>= pair_with c) >>= applied front_of) >>= pair_with b.0) >>= applied back_of) >>= applied Some) >>= pair_with w) >>= applied global_of >>= λ a. open a.1 >>= applied (led a.0))
-    behind_tokens c (Ok d) = behind_right c d.0 (open d.1)
+        → (((((r >>= λ d. later d.1 >>= pair_with d.0) >>= pair_with c) >>= pair_with b.0) >>= pair_with w) >>= applied last_of_five)
+        ≡ (((((((r >>= pair_with c) >>= applied front_of) >>= pair_with b.0) >>= applied back_of) >>= applied Some) >>= pair_with w) >>= applied global_of >>= λ a. later a.1 >>= applied (led a.0))
+    behind_tokens c (Ok d) = behind_right c d.0 (later d.1)
     behind_tokens c (Err e) = refl
 
     behind_left : (t : Read (List Token))
-        → ((((t >>= λ c. (right c.1 >>= λ d. open d.1 >>= pair_with d.0) >>= pair_with c.0) >>= pair_with b.0) >>= pair_with w) >>= applied last_of_five)
-        ≡ (((((((t >>= λ c. right c.1 >>= pair_with c.0) >>= applied front_of) >>= pair_with b.0) >>= applied back_of) >>= applied Some) >>= pair_with w) >>= applied global_of >>= λ a. open a.1 >>= applied (led a.0))
+        → ((((t >>= λ c. (right c.1 >>= λ d. later d.1 >>= pair_with d.0) >>= pair_with c.0) >>= pair_with b.0) >>= pair_with w) >>= applied last_of_five)
+        ≡ (((((((t >>= λ c. right c.1 >>= pair_with c.0) >>= applied front_of) >>= pair_with b.0) >>= applied back_of) >>= applied Some) >>= pair_with w) >>= applied global_of >>= λ a. later a.1 >>= applied (led a.0))
     behind_left (Ok c) = behind_tokens c.0 (right c.1)
     behind_left (Err e) = refl
 
