@@ -1,4 +1,5 @@
 pub mod Begins
+pub mod File
 pub mod Limits
 pub mod Listed
 pub mod Lists

@@ -1,7 +1,6 @@
 -- What stands before the first class, one after the other, as a loop reads it.
 use Rattle.std.proofs.Common.{◌≡◌, ◌<◌, Bool, true, false, cond, List, [], ◌∷◌, ◌++◌, length, Result, Ok, Err, refl, sym, ap, ◌∙◌, append_assoc}
-use Rattle.std.specs.Prelude.{Option, Some, None, ◌⊎◌}
-use Rattle.std.proofs.Common.{inl, inr}
+use Rattle.std.specs.Prelude.{Option, Some, None, ◌&&◌, ◌||◌}
 use Rattle.std.proofs.lemmas.List.{append-nil}
 use Rattle.jdf_lex.specs.declared.token.Token.{Token}
 use Rattle.grammar_core.specs.declared.sort.Sort.{Sort}
@@ -121,28 +120,28 @@ properties_same w (Ok b) tokens right later = behind_left (tokens b.1)
 -- ---- by the sort of the first token
 
 -- the three that tell how an opening goes on: `extern`, an option, and a name
-pub record Told (k : Sort) (extern option name : Bool) : Type 0 where
+pub record Told (k : Sort) (extern option is_named : Bool) : Type 0 where
   pub extern_is : is sort.Extern k ≡ extern
   pub option_is : is sort.OptionLine k ≡ option
-  pub name_is : is_name k ≡ name
+  pub named_is : is_name k ≡ is_named
 
 pub data Kinds (k : Sort) : Type 0 where
-  extern : Told k true false false → Kinds k
-  option : Told k false true false → Kinds k
-  named : Told k false false true → Kinds k
-  other : Told k false false false → Kinds k
+  an_extern : Told k true false false → Kinds k
+  an_option : Told k false true false → Kinds k
+  a_name : Told k false false true → Kinds k
+  another : Told k false false false → Kinds k
 
 kinds_of : (k : Sort) → Kinds k
-kinds_of sort.Extern = extern (record { extern_is = refl; option_is = refl; name_is = refl })
-kinds_of sort.OptionLine = option (record { extern_is = refl; option_is = refl; name_is = refl })
-kinds_of sort.Name = named (record { extern_is = refl; option_is = refl; name_is = refl })
-kinds_of sort.TypeWord = named (record { extern_is = refl; option_is = refl; name_is = refl })
-kinds_of sort.Int = named (record { extern_is = refl; option_is = refl; name_is = refl })
-kinds_of sort.If = named (record { extern_is = refl; option_is = refl; name_is = refl })
-kinds_of sort.Else = named (record { extern_is = refl; option_is = refl; name_is = refl })
-kinds_of sort.For = named (record { extern_is = refl; option_is = refl; name_is = refl })
-kinds_of sort.Trap = named (record { extern_is = refl; option_is = refl; name_is = refl })
-kinds_of _ = other (record { extern_is = refl; option_is = refl; name_is = refl })
+kinds_of sort.Extern = an_extern (record { extern_is = refl; option_is = refl; named_is = refl })
+kinds_of sort.OptionLine = an_option (record { extern_is = refl; option_is = refl; named_is = refl })
+kinds_of sort.Name = a_name (record { extern_is = refl; option_is = refl; named_is = refl })
+kinds_of sort.TypeWord = a_name (record { extern_is = refl; option_is = refl; named_is = refl })
+kinds_of sort.Int = a_name (record { extern_is = refl; option_is = refl; named_is = refl })
+kinds_of sort.If = a_name (record { extern_is = refl; option_is = refl; named_is = refl })
+kinds_of sort.Else = a_name (record { extern_is = refl; option_is = refl; named_is = refl })
+kinds_of sort.For = a_name (record { extern_is = refl; option_is = refl; named_is = refl })
+kinds_of sort.Trap = a_name (record { extern_is = refl; option_is = refl; named_is = refl })
+kinds_of _ = another (record { extern_is = refl; option_is = refl; named_is = refl })
 
 abbrev led_by : Read (Option Word) → Read Jdf
 led_by r = r >>= λ a. opened a.1 >>= applied (led a.0)
@@ -150,18 +149,59 @@ led_by r = r >>= λ a. opened a.1 >>= applied (led a.0)
 abbrev classes_alone : List Token → Read Jdf
 classes_alone s = reading inner classes s >>= applied without_globals
 
-opening_by : (x : Token) (s : List Token) → Kinds (sort_of x) → reading inner opening (x ∷ s) ≡ cond (is_class (x ∷ s)) (classes_alone (x ∷ s)) (led_by (reading inner leading (x ∷ s)))
-unfolding opening behind_extern behind_option behind_properties behind_global leading skip properties classes class_and_skips class head opened
-opening_by x s (extern t) = rw (t.extern_is, t.option_is, t.name_is) (extern_same x (token_at (is sort.Quoted) s) (token_at (is sort.Raw)) (name_at inner an_opening))
-opening_by x s (option t) = rw (t.extern_is, t.option_is, t.name_is) (option_same x (name_at inner an_opening s))
-opening_by x s (other t) = rw (t.extern_is, t.option_is, t.name_is) refl
-opening_by x s (named t) = rw (t.extern_is, t.option_is, t.name_is) (go (starts (is sort.LeftParen) s) (starts (is sort.LeftBracket) s))
-  where
-    go : (p b : Bool) → cond p (classes_alone (x ∷ s)) (cond b (reading inner behind_properties (x ∷ s)) (reading inner behind_global (x ∷ s)))
-        ≡ cond p (classes_alone (x ∷ s)) (led_by ((cond b (reading inner properties s >>= applied Some) (Ok (None, s)) >>= pair_with (word_of x)) >>= applied global_of))
-    go true b = refl
-    go false true = rw t.name_is (properties_same (word_of x) (token_at (is sort.LeftBracket) s) (reading inner (star any (one_of is_no_right_bracket))) (token_at (is sort.RightBracket)) (name_at inner an_opening))
-    go false false = rw t.name_is (global_same x (name_at inner an_opening s))
+-- the choices of an opening, by the sort of its first token and the sorts of the second
+abbrev chosen : Bool → Bool → Bool → Bool → Bool → Read Jdf → Read Jdf → Read Jdf → Read Jdf → Read Jdf → Read Jdf
+chosen extern option is_named paren bracket e o c p g = cond extern e (cond option o (cond (cond (is_named || is_named) (is_named && paren) is_named) c (cond (cond is_named (is_named && bracket) is_named) p g)))
+
+abbrev paren_next : List Token → Bool
+paren_next s = starts (is sort.LeftParen) s
+
+abbrev bracket_next : List Token → Bool
+bracket_next s = starts (is sort.LeftBracket) s
+
+opening_shape : (x : Token) (s : List Token) → reading inner opening (x ∷ s)
+    ≡ chosen (is sort.Extern (sort_of x)) (is sort.OptionLine (sort_of x)) (is_name (sort_of x)) (paren_next s) (bracket_next s)
+    (reading inner behind_extern (x ∷ s)) (reading inner behind_option (x ∷ s)) (classes_alone (x ∷ s)) (reading inner behind_properties (x ∷ s)) (reading inner behind_global (x ∷ s))
+unfolding opening behind_extern behind_option behind_properties behind_global classes class_and_skips class head
+opening_shape x s = refl
+
+extern_led : (x : Token) (s : List Token) → Told (sort_of x) true false false → reading inner behind_extern (x ∷ s) ≡ led_by (reading inner leading (x ∷ s))
+unfolding behind_extern leading skip opened
+extern_led x s t = rw t.extern_is (extern_same x (token_at (is sort.Quoted) s) (token_at (is sort.Raw)) (name_at inner an_opening))
+
+option_led : (x : Token) (s : List Token) → Told (sort_of x) false true false → reading inner behind_option (x ∷ s) ≡ led_by (reading inner leading (x ∷ s))
+unfolding behind_option leading skip opened
+option_led x s t = rw (t.extern_is, t.option_is) (option_same x (name_at inner an_opening s))
+
+other_led : (x : Token) (s : List Token) → Told (sort_of x) false false false → reading inner behind_global (x ∷ s) ≡ led_by (reading inner leading (x ∷ s))
+unfolding behind_global leading skip
+other_led x s t = rw (t.extern_is, t.option_is, t.named_is) refl
+
+properties_led : (x : Token) (s : List Token) → Told (sort_of x) false false true → bracket_next s ≡ true → reading inner behind_properties (x ∷ s) ≡ led_by (reading inner leading (x ∷ s))
+unfolding behind_properties leading skip properties opened
+properties_led x s t b = rw (t.extern_is, t.option_is, t.named_is, b) (properties_same (word_of x) (token_at (is sort.LeftBracket) s) (reading inner (star any (one_of is_no_right_bracket))) (token_at (is sort.RightBracket)) (name_at inner an_opening))
+
+global_led : (x : Token) (s : List Token) → Told (sort_of x) false false true → bracket_next s ≡ false → reading inner behind_global (x ∷ s) ≡ led_by (reading inner leading (x ∷ s))
+unfolding behind_global leading skip properties opened
+global_led x s t b = rw (t.extern_is, t.option_is, t.named_is, b) (global_same x (name_at inner an_opening s))
+
+-- which of them it is
+abbrev either : Bool → Bool → Read Jdf → Read Jdf → Read Jdf
+either is_named paren c l = cond (is_named && paren) c l
+
+by_kind : (is_named paren bracket : Bool) (e o c p g l : Read Jdf) → is_named ≡ true → (bracket ≡ true → p ≡ l) → (bracket ≡ false → g ≡ l) → chosen false false is_named paren bracket e o c p g ≡ either is_named paren c l
+by_kind true true bracket e o c p g l n h k = refl
+by_kind true false true e o c p g l n h k = h refl
+by_kind true false false e o c p g l n h k = k refl
+by_kind false paren bracket e o c p g l n h k = absurd cc
+
+opening_by : (x : Token) (s : List Token) → Kinds (sort_of x) → reading inner opening (x ∷ s) ≡ either (is_name (sort_of x)) (paren_next s) (classes_alone (x ∷ s)) (led_by (reading inner leading (x ∷ s)))
+opening_by x s (an_extern t) = opening_shape x s ∙ rw (t.extern_is, t.named_is) (extern_led x s t)
+opening_by x s (an_option t) = opening_shape x s ∙ rw (t.extern_is, t.option_is, t.named_is) (option_led x s t)
+opening_by x s (another t) = opening_shape x s ∙ rw (t.extern_is, t.option_is, t.named_is) (other_led x s t)
+opening_by x s (a_name t) =
+    opening_shape x s
+    ∙ rw (t.extern_is, t.option_is) (by_kind (is_name (sort_of x)) (paren_next s) (bracket_next s) (reading inner behind_extern (x ∷ s)) (reading inner behind_option (x ∷ s)) (classes_alone (x ∷ s)) (reading inner behind_properties (x ∷ s)) (reading inner behind_global (x ∷ s)) (led_by (reading inner leading (x ∷ s))) t.named_is (properties_led x s t) (global_led x s t))
 
 opening_reads : (s : List Token) → reading inner opening s ≡ cond (is_class s) (classes_alone s) (led_by (reading inner leading s))
 unfolding opening behind_extern behind_option behind_properties behind_global leading skip

@@ -10,5 +10,9 @@ mod head;
 mod laws;
 mod opening;
 mod target;
+#[cfg(test)]
+mod tests;
+mod text;
 
 pub use laws::{one_fault, one_tree, tree_or_fault};
+pub use text::read;
