@@ -12,7 +12,11 @@ use Rattle.jdf_lex.specs.declared.token.Spot.{Spot}
 use Rattle.jdf_lex.specs.declared.token.Token.{Token}
 use Rattle.jdf_lex.specs.Tokens.{IsLexed, IsTokenFault, spot_after}
 use Rattle.grammar_core.specs.declared.code.Code.{Code}
-use Rattle.grammar_core.specs.Reading.{whole}
+use Rattle.grammar_core.specs.declared.code.Code.TheVariants.{Syntax}
+use Rattle.grammar_core.specs.declared.fault.ReadError.{ReadError}
+use Rattle.grammar_core.specs.declared.fault.ReadError.TheVariants as errors
+use Rattle.grammar_core.specs.Gives.{Fails}
+use Rattle.grammar_core.specs.Reading.{Stop, whole}
 use Rattle.jdf_tree.specs.declared.tree.Jdf.{Jdf}
 use Rattle.jdf_tree.specs.Jdf.{IsJdf}
 use Rattle.jdf_tree.specs.Fault.{start, StopsBeingUtf8, code_at_token, IsGrammarFault, IsTooLong, IsNotUtf8, IsBadToken, IsNoText, IsJdfFault}
@@ -59,6 +63,22 @@ fault_is_named text lexed slice left code f short utf8 is slices e at_token at_e
     go (Some token) h = inl (token, h, at_token token h)
     go None h = inr (h, at_end h)
 
+-- what an error of reading is
+abbrev left_at : ReadError → ℕ
+left_at errors.Memory = 0
+left_at (errors.Fault n c) = n
+
+abbrev code_at : ReadError → Code
+code_at errors.Memory = Syntax
+code_at (errors.Fault n c) = c
+
+abbrev failed : ℕ → Code → Result Jdf Stop
+failed n c = Err (n, c)
+
+pub fails_is : (e : ReadError) (n : ℕ) (c : Code) (r : Result Jdf Stop) → e ≡ errors.Fault n c → Fails e r → r ≡ Err (n, c)
+fails_is errors.Memory n c r is f = absurd cc
+fails_is (errors.Fault m d) n c r is f = f ∙ ap (λ (e : ReadError). failed (left_at e) (code_at e)) is
+
 pub bad_token : (text : List ℕ) (f : JdfFault) → length text ≤ 16777216 → IsUtf8 text → IsTokenFault text f → IsJdfFault text f
 bad_token text f short utf8 wrong = inr (inr (inl (record { short = short; utf8 = utf8; wrong = wrong })))
 
@@ -81,6 +101,10 @@ no_utf8 bytes at f short valid e =
       named = e;
     }))
 
+pub no_utf8_at : (bytes : List ℕ) (at n : ℕ) (spot : Spot) → length bytes ≤ 16777216 → IsValidUpTo bytes n → at ≡ n → spot ≡ spot_after (take at bytes) → IsJdfFault bytes (record { spot = spot; code = jdf.NotUtf8 })
+no_utf8_at bytes at n spot short valid same e =
+    no_utf8 bytes at (record { spot = spot; code = jdf.NotUtf8 }) short (subst (λ (k : ℕ). IsValidUpTo bytes k) (sym same) valid) (ap (λ (s : Spot). record { spot = s; code = jdf.NotUtf8 }) e)
+
 -- ---- the answer is the one there is
 
 abbrev pub Answer : Type 0
@@ -91,6 +115,9 @@ read jdf = Ok jdf
 
 abbrev refused : JdfRefusal → Answer
 refused e = Err e
+
+pub same_fault : (f g : JdfFault) → refused (Fault f) ≡ refused (Fault g) → f ≡ g
+same_fault f g e = cc
 
 pub only_tree : (bytes : List ℕ) (r : Answer) → IfOk r (λ jdf. IsJdf bytes jdf) → ((f : JdfFault) → r ≡ Err (Fault f) → IsJdfFault bytes f) → (jdf : Jdf) → IsJdf bytes jdf → (r ≡ Ok jdf) ⊎ (r ≡ Err OutOfMemory)
 only_tree bytes (Ok t) is wrong jdf j = inl (ap (λ (x : Jdf). read x) (one_tree bytes t jdf is j))

@@ -1,6 +1,7 @@
 //! Reads a whole text.
 
-ghost use Rattle.std.specs.Prelude.{◌≡◌, ◌⊎◌, ◌-◌, ◌≤◌, Ok, Err, Some, None, IfOk, length, slice_get};
+ghost use Rattle.std.specs.Prelude.{◌≡◌, ◌⊎◌, ◌-◌, ◌≤◌, ◌==◌, not, count_by, Ok, Err, Some, None, IfOk, length, slice_get};
+ghost use Rattle.std.specs.List.{suffix_len};
 ghost use Rattle.jdf_lex.specs.declared.fault.JdfCode.TheVariants.{Truncated};
 ghost use Rattle.jdf_lex.specs.declared.fault.JdfFault.{JdfFault};
 ghost use Rattle.jdf_lex.specs.declared.fault.JdfRefusal.TheVariants.{Fault, OutOfMemory};
@@ -33,16 +34,30 @@ fn whole(alloc: Global, tokens: &[Token]) -> Result<Jdf, ReadError>
     Ok(jdf)
 }
 
+// How many lines end in these bytes.
+fn lines_in(front: &[u8]) -> usize
+    ensures value { result ≡ count_by (λ b. b == 10) front.now }
+    ensures within { result ≤ length front.now }
+{
+    front.iter().filter(|b| **b == b'\n').count()
+}
+
+// How many bytes stand behind the last line's end.
+fn columns_in(front: &[u8]) -> usize
+    ensures value { result ≡ suffix_len (λ b. not (b == 10)) front.now }
+    ensures within { result ≤ length front.now }
+{
+    front.iter().rev().take_while(|b| **b != b'\n').count()
+}
+
 // The place behind these bytes.
 fn spot_after(front: &[u8]) -> Spot
     requires { length front.now ≤ 16777216 }
     ensures { result ≡ spot_after front.now }
 {
-    let lines = front.iter().filter(|b| **b == b'\n').count();
-    let columns = front.iter().rev().take_while(|b| **b != b'\n').count();
     Spot {
-        line: 1 + lines as u32,
-        column: 1 + columns as u32,
+        line: 1 + lines_in(front) as u32,
+        column: 1 + columns_in(front) as u32,
     }
 }
 
