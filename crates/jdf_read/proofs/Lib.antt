@@ -1,0 +1,10 @@
+pub mod Begins
+pub mod File
+pub mod Limits
+pub mod Listed
+pub mod Lists
+pub mod Once
+pub mod Openings
+pub mod Parts
+pub mod Runs
+pub mod Skips

@@ -1,0 +1,149 @@
+-- A text has one tree at most, or one first fault at most, and not both.
+use Rattle.std.proofs.Common.{◌≡◌, ℕ, ◌<◌, ◌≤◌, ◌-◌, List, length, take, Result, Ok, Err, refl, sym, ap, ◌∙◌, subst, inl, inr, arith}
+use Rattle.std.specs.Prelude.{Option, Some, None, ◌⊎◌, slice_get}
+use Rattle.std.proofs.lemmas.List.{take_all}
+use Rattle.std.specs.Str.{IsUtf8}
+use Rattle.jdf_lex.specs.declared.fault.JdfCode.TheVariants as jdf
+use Rattle.jdf_lex.specs.declared.fault.JdfFault.{JdfFault}
+use Rattle.jdf_lex.specs.declared.token.Spot.{Spot}
+use Rattle.jdf_lex.specs.declared.token.Token.{Token}
+use Rattle.jdf_lex.specs.Tokens.{IsLexed, spot_after}
+use Rattle.jdf_lex.proofs.Once.{one_list, no_fault}
+use Rattle.jdf_lex.proofs.Once as lex
+use Rattle.grammar_core.specs.declared.code.Code.{Code}
+use Rattle.grammar_core.specs.declared.code.Code.TheVariants.{Syntax}
+use Rattle.grammar_core.specs.Form.{IsText, IsFirstFault}
+use Rattle.grammar_core.specs.Reading.{Stop, whole}
+use Rattle.jdf_tree.specs.declared.tree.Jdf.{Jdf}
+use Rattle.jdf_tree.specs.Grammar.{inner, file}
+use Rattle.jdf_tree.specs.Jdf.{IsJdf}
+use Rattle.jdf_tree.specs.Fault.{start, StopsBeingUtf8, code_at_token, IsGrammarFault, IsTooLong, IsNotUtf8, IsBadToken, IsNoText, IsJdfFault}
+use Rattle.jdf_read.specs.Laws.{OneTree, OneFault, TreeOrFault}
+use Rattle.jdf_read.proofs.Limits.{only, fault_read, fault_place}
+
+abbrev tree : Jdf → Result Jdf Stop
+tree jdf = Ok jdf
+
+abbrev stop : ℕ → Code → Result Jdf Stop
+stop n c = Err (n, c)
+
+abbrev left_of : Result Jdf Stop → ℕ
+left_of (Ok t) = 0
+left_of (Err n) = n.0
+
+abbrev code_of : Result Jdf Stop → Code
+code_of (Ok t) = Syntax
+code_of (Err n) = n.1
+
+same_tree : (a b : Jdf) → tree a ≡ tree b → a ≡ b
+same_tree a b e = cc
+
+no_stop : (a : Jdf) (n : ℕ) (c : Code) → tree a ≡ stop n c → ⊥
+no_stop a n c e = cc
+
+same_left : (n m : ℕ) (c d : Code) → stop n c ≡ stop m d → n ≡ m
+same_left n m c d e = ap left_of e
+
+same_code : (n m : ℕ) (c d : Code) → stop n c ≡ stop m d → c ≡ d
+same_code n m c d e = ap code_of e
+
+pub one_tree : OneTree
+one_tree bytes a b x y =
+    let same = (one_list bytes x.tokens y.tokens x.end y.end x.lexed y.lexed).0 in
+    let first : whole inner file x.tokens ≡ Ok a = only x.tokens a x.text in
+    let second : whole inner file x.tokens ≡ Ok b = ap (whole inner file) same ∙ only y.tokens b y.text in
+    same_tree a b (sym first ∙ second)
+
+-- ---- what is UTF-8 stops nowhere
+
+not_utf8 : (bytes : List ℕ) (at : ℕ) → StopsBeingUtf8 bytes at → IsUtf8 bytes → ⊥
+not_utf8 bytes at stops u =
+    let all : take (length bytes) bytes ≡ bytes = take_all (length bytes) bytes (omega arith) in
+    let far = stops.longest (length bytes) (omega arith) (subst (λ (l : List ℕ). IsUtf8 l) (sym all) u) in
+    let near = stops.within in
+    omega (arith, far, near)
+
+one_stop : (bytes : List ℕ) (a b : ℕ) → StopsBeingUtf8 bytes a → StopsBeingUtf8 bytes b → a ≡ b
+one_stop bytes a b x y =
+    let low = x.within in
+    let high = y.within in
+    let up = y.longest a (omega (arith, low)) x.before in
+    let down = x.longest b (omega (arith, high)) y.before in
+    omega (arith, up, down)
+
+-- ---- no text has a tree and a fault
+
+no_grammar_fault : (bytes : List ℕ) (a : Jdf) (f : JdfFault) → IsJdf bytes a → IsNoText bytes f → ⊥
+no_grammar_fault bytes a f x y =
+    let same = (one_list bytes x.tokens y.tokens x.end y.end x.lexed y.lexed).0 in
+    let read : whole inner file y.tokens ≡ Ok a = ap (whole inner file) (sym same) ∙ only x.tokens a x.text in
+    no_stop a _ _ (sym read ∙ fault_read y.tokens y.wrong.place y.wrong.code y.wrong.first)
+
+pub tree_or_fault : TreeOrFault
+tree_or_fault bytes a f x (inl y) = let short = x.short in let long = y.long in omega (arith, short, long)
+tree_or_fault bytes a f x (inr (inl y)) = not_utf8 bytes y.at y.stops x.utf8
+tree_or_fault bytes a f x (inr (inr (inl y))) = no_fault bytes x.tokens x.end f x.lexed x.few y.wrong
+tree_or_fault bytes a f x (inr (inr (inr y))) = no_grammar_fault bytes a f x y
+
+-- ---- one first fault
+
+-- how a fault of the grammar is named, by its place and its code
+abbrev IsNamed : List Token → Spot → ℕ → Code → JdfFault → Type 0
+IsNamed tokens end place c f =
+    ((token : Token) × (slice_get tokens place ≡ Some token) × (f ≡ record { spot = token.spot; code = code_at_token c }))
+    ⊎ ((slice_get tokens place ≡ None) × (f ≡ record { spot = end; code = jdf.Truncated }))
+
+abbrev some_of : Token → Option Token
+some_of t = Some t
+
+same_token : (a b : Token) → some_of a ≡ some_of b → a ≡ b
+same_token a b e = cc
+
+some_token : (a : Token) → some_of a ≡ None → ⊥
+some_token a e = cc
+
+too_short : (bytes : List ℕ) → 16777216 < length bytes → length bytes ≤ 16777216 → ⊥
+too_short bytes a b = omega (arith, a, b)
+
+-- the faults that a place and a code of the grammar name
+same_named : (tokens : List Token) (end : Spot) (place : ℕ) (c : Code) (f g : JdfFault) → IsNamed tokens end place c f → IsNamed tokens end place c g → f ≡ g
+same_named tokens end place c f g (inl x) (inl y) =
+    let same : x.0 ≡ y.0 = same_token x.0 y.0 (sym x.1 ∙ y.1) in
+    x.2 ∙ (ap (λ (t : Token). record { spot = t.spot; code = code_at_token c }) same ∙ sym y.2)
+same_named tokens end place c f g (inl x) (inr y) = absurd (some_token x.0 (sym x.1 ∙ y.0))
+same_named tokens end place c f g (inr x) (inl y) = absurd (some_token y.0 (sym y.1 ∙ x.0))
+same_named tokens end place c f g (inr x) (inr y) = x.1 ∙ sym y.1
+
+same_wrong : (tokens : List Token) (end : Spot) (f g : JdfFault) → IsGrammarFault tokens end f → IsGrammarFault tokens end g → f ≡ g
+same_wrong tokens end f g x y =
+    let e = sym (fault_read tokens x.place x.code x.first) ∙ fault_read tokens y.place y.code y.first in
+    let left = same_left _ _ x.code y.code e in
+    let code : x.code ≡ y.code = same_code _ _ x.code y.code e in
+    let a = fault_place tokens x.place x.code x.first in
+    let b = fault_place tokens y.place y.code y.first in
+    let place : x.place ≡ y.place = omega (arith, left, a, b) in
+    same_named tokens end y.place y.code f g (subst (λ (c : Code). IsNamed tokens end y.place c f) code (subst (λ (p : ℕ). IsNamed tokens end p x.code f) place x.named)) y.named
+
+same_no_text : (bytes : List ℕ) (f g : JdfFault) → IsNoText bytes f → IsNoText bytes g → f ≡ g
+same_no_text bytes f g x y =
+    let same = one_list bytes x.tokens y.tokens x.end y.end x.lexed y.lexed in
+    let moved : IsGrammarFault y.tokens y.end f = subst (λ (e : Spot). IsGrammarFault y.tokens e f) same.1 (subst (λ (t : List Token). IsGrammarFault t x.end f) same.0 x.wrong) in
+    same_wrong y.tokens y.end f g moved y.wrong
+
+pub one_fault : OneFault
+one_fault bytes f g (inl x) (inl y) = x.named ∙ sym y.named
+one_fault bytes f g (inl x) (inr (inl y)) = absurd (too_short bytes x.long y.short)
+one_fault bytes f g (inl x) (inr (inr (inl y))) = absurd (too_short bytes x.long y.short)
+one_fault bytes f g (inl x) (inr (inr (inr y))) = absurd (too_short bytes x.long y.short)
+one_fault bytes f g (inr (inl x)) (inl y) = absurd (too_short bytes y.long x.short)
+one_fault bytes f g (inr (inl x)) (inr (inl y)) = x.named ∙ (ap (λ (n : ℕ). record { spot = spot_after (take n bytes); code = jdf.NotUtf8 }) (one_stop bytes x.at y.at x.stops y.stops) ∙ sym y.named)
+one_fault bytes f g (inr (inl x)) (inr (inr (inl y))) = absurd (not_utf8 bytes x.at x.stops y.utf8)
+one_fault bytes f g (inr (inl x)) (inr (inr (inr y))) = absurd (not_utf8 bytes x.at x.stops y.utf8)
+one_fault bytes f g (inr (inr (inl x))) (inl y) = absurd (too_short bytes y.long x.short)
+one_fault bytes f g (inr (inr (inl x))) (inr (inl y)) = absurd (not_utf8 bytes y.at y.stops x.utf8)
+one_fault bytes f g (inr (inr (inl x))) (inr (inr (inl y))) = lex.one_fault bytes f g x.wrong y.wrong
+one_fault bytes f g (inr (inr (inl x))) (inr (inr (inr y))) = absurd (no_fault bytes y.tokens y.end f y.lexed y.few x.wrong)
+one_fault bytes f g (inr (inr (inr x))) (inl y) = absurd (too_short bytes y.long x.short)
+one_fault bytes f g (inr (inr (inr x))) (inr (inl y)) = absurd (not_utf8 bytes y.at y.stops x.utf8)
+one_fault bytes f g (inr (inr (inr x))) (inr (inr (inl y))) = absurd (no_fault bytes x.tokens x.end g x.lexed x.few y.wrong)
+one_fault bytes f g (inr (inr (inr x))) (inr (inr (inr y))) = same_no_text bytes f g x y

@@ -1,0 +1,26 @@
+use Rattle.std.proofs.Common.{◌≡◌, ◌<◌, ◌-◌, suc, length, true, sym, ◌∙◌, arith}
+use Rattle.grammar_core.specs.declared.code.Code.TheVariants.{TooManyClasses}
+use Rattle.grammar_core.specs.Reading.{starts}
+use Rattle.jdf_tree.specs.declared.part.Part.TheVariants.{Class}
+use Rattle.jdf_tree.specs.Pieces.{names}
+use Rattle.jdf_tree.specs.Grammar.{class_and_skips}
+use Rattle.jdf_read.proofs.Lists.{list_moves, counted_goes_on, longer}
+use Rattle.jdf_read.proofs.Listed.{classes_listed}
+use Rattle.jdf_read.proofs.class.classes.Goals as goal
+
+pub more-smaller : goal.more-smaller
+more-smaller c = omega (arith, list_moves {g = class_and_skips} _ _ _ classes_listed c.in_ok-next.ensures)
+
+pub more-preserved : goal.more-preserved
+more-preserved c =
+    let added = c.in_ok-push-2.ensures.ok in
+    let some = c.more.invariant.some in
+    let room : length c.more.list - 1 < 63 = omega (arith, c.len.ensures, some) in
+    let comes : starts (names Class) c.more.rest.now ≡ true = sym c.is_name_next.ensures ∙ c.more-test.true in
+    let up = longer c.more.list c.push-in-more.new.self c.in_ok-next.next added in
+    let one_more : length c.push-in-more.new.self - 1 ≡ suc (length c.more.list - 1) = omega (arith, up, some) in
+    record {
+      reads = counted_goes_on 63 TooManyClasses (length c.more.list - 1) (length c.push-in-more.new.self - 1) c.more.list c.more.rest.now c.in_ok-next.next c.in_ok-next.after.now _ c.push-in-more.new.self classes_listed added room one_more comes c.in_ok-next.ensures c.more.invariant.reads;
+      few = omega (arith, room, up);
+      some = omega (arith, up);
+    }

@@ -1,0 +1,193 @@
+//! What a class has before its flows.
+
+ghost use Rattle.std.specs.Prelude.{◌≡◌, ◌-◌, ◌≤◌, nat_lt, length};
+ghost use Rattle.std.specs.List.{prefix_len};
+ghost use Rattle.grammar_core.specs.Form.{opt};
+ghost use Rattle.grammar_core.specs.Gives.{Gives};
+ghost use Rattle.grammar_core.specs.Reading.{reading};
+ghost use Rattle.grammar_core.specs.Sorts.{sort_of};
+ghost use Rattle.jdf_tree.specs.declared.part.Part.TheVariants.{Class};
+ghost use Rattle.jdf_tree.specs.ClassGrammar.{parameters, parameter_list, definition, definitions, affinity, is_no_right_bracket, properties};
+ghost use Rattle.jdf_tree.specs.Grammar.{inner};
+ghost use Rattle.jdf_tree.specs.Pieces.{name, listed, maybe};
+ghost use Rattle.jdf_read.specs.Next.{next_parameter, past, signature};
+
+use crate::argument::{argument, call};
+use expr_read::{is_name_next, name};
+use grammar_core::{Code, ReadError, Sort, expect, is_next};
+use jdf_lex::Token;
+use jdf_tree::{ArgTree, DefTree, Part, Word};
+use ptg_base::Row;
+use std::alloc::Global;
+
+/// How many tokens eight parameters are, with the commas between and behind them.
+const MOST_PARAMETER_TOKENS: usize = 16;
+
+/// How many definitions a class may have.
+const MOST_DEFINITIONS: usize = 16;
+
+// `"," name`
+#[tactic(auto, unfolding(crate::specs::Next::next_parameter))]
+fn next_parameter(alloc: Global, tokens: &[Token]) -> Result<(Word, &[Token]), ReadError>
+    ensures { Gives (λ x. (x.0, x.1.now)) result (reading inner next_parameter tokens.now) }
+{
+    let (_, rest) = expect(tokens, Sort::Comma)?;
+    let (next, rest) = name(alloc, Part::Class, rest)?;
+    Ok((next, rest))
+}
+
+// `name ("," name)*`
+#[tactic(auto, using(crate::proofs::Listed::parameters_listed, crate::proofs::Listed::parameters_behind, crate::proofs::Listed::parameters_fail, crate::proofs::Lists::rest_goes_on, crate::proofs::Lists::rest_fails, crate::proofs::Lists::rest_ends))]
+fn names(alloc: Global, tokens: &[Token]) -> Result<(Row<Word>, &[Token]), ReadError>
+    ensures { Gives (λ x. (x.0, x.1.now)) result (reading inner (listed (name Class)) tokens.now) }
+{
+    let (first, mut rest) = name(alloc, Part::Class, tokens)?;
+    let mut list = Row::new(alloc);
+    list.push(first)?;
+    'more: while is_next(rest, Sort::Comma) {
+        let (next, after) = next_parameter(alloc, rest)?;
+        list.push(next)?;
+        rest = after;
+    }
+    Ok((list, rest))
+}
+
+// Are more tokens taken than eight parameters are, where so many are left?
+fn is_over(tokens: &[Token], left: usize) -> bool
+    ensures { result ≡ nat_lt 16 (length tokens.now - left) }
+{
+    MOST_PARAMETER_TOKENS < tokens.len().saturating_sub(left)
+}
+
+// The names, at most 8.
+#[tactic(auto, unfolding(jdf_tree::specs::ClassGrammar::parameters))]
+fn parameters(alloc: Global, tokens: &[Token]) -> Result<(Row<Word>, &[Token]), ReadError>
+    ensures { Gives (λ x. (x.0, x.1.now)) result (reading inner parameters tokens.now) }
+{
+    let over = ReadError::Fault(
+        tokens.len().saturating_sub(MOST_PARAMETER_TOKENS),
+        Code::TooManyParams,
+    );
+    match names(alloc, tokens) {
+        Ok((_, rest)) if is_over(tokens, rest.len()) => Err(over),
+        Err(ReadError::Fault(left, _)) if is_over(tokens, left) => Err(over),
+        read => read,
+    }
+}
+
+// `parameters?`
+#[tactic(auto, using(crate::proofs::Begins::parameters_begin))]
+fn maybe_parameters(alloc: Global, tokens: &[Token]) -> Result<(Row<Word>, &[Token]), ReadError>
+    ensures { Gives (λ x. (x.0, x.1.now)) result (reading inner (maybe parameters) tokens.now) }
+{
+    if !is_name_next(Part::Class, tokens) {
+        return Ok((Row::new(alloc), tokens));
+    }
+    let (list, rest) = parameters(alloc, tokens)?;
+    Ok((list, rest))
+}
+
+// `"(" parameters? ")"`
+#[tactic(auto, unfolding(jdf_tree::specs::ClassGrammar::parameter_list))]
+fn parameter_list(alloc: Global, tokens: &[Token]) -> Result<(Row<Word>, &[Token]), ReadError>
+    ensures { Gives (λ x. (x.0, x.1.now)) result (reading inner parameter_list tokens.now) }
+{
+    let (_, rest) = expect(tokens, Sort::LeftParen)?;
+    let (list, rest) = maybe_parameters(alloc, rest)?;
+    let (_, rest) = expect(rest, Sort::RightParen)?;
+    Ok((list, rest))
+}
+
+// How many tokens there are before the first `]`.
+fn bracket_place(tokens: &[Token]) -> usize
+    ensures value { result ≡ prefix_len (λ x. is_no_right_bracket (sort_of x)) tokens.now }
+    ensures within { result ≤ length tokens.now }
+{
+    tokens
+        .iter()
+        .take_while(|token| Sort::of(token) != Sort::RightBracket)
+        .count()
+}
+
+// `"[", tokens other than "]", "]"`: the tokens between the brackets.
+#[tactic(auto, using(crate::proofs::Runs::split_is), unfolding(jdf_tree::specs::ClassGrammar::properties))]
+fn properties(tokens: &[Token]) -> Result<(&[Token], &[Token]), ReadError>
+    ensures { Gives (λ x. (x.0.now, x.1.now)) result (reading inner properties tokens.now) }
+{
+    let (_, inside) = expect(tokens, Sort::LeftBracket)?;
+    let (skipped, rest) = inside.split_at(bracket_place(inside));
+    let (_, rest) = expect(rest, Sort::RightBracket)?;
+    Ok((skipped, rest))
+}
+
+/// What is left behind properties, where they come.
+#[tactic(auto, using(crate::proofs::Begins::properties_begin))]
+pub(crate) fn past_properties(tokens: &[Token]) -> Result<&[Token], ReadError>
+    ensures { Gives (λ rest. rest.now) result (past (opt properties) tokens.now) }
+{
+    if !is_next(tokens, Sort::LeftBracket) {
+        return Ok(tokens);
+    }
+    let (_, rest) = properties(tokens)?;
+    Ok(rest)
+}
+
+/// `name "(" parameters? ")" properties?`: the name and the parameters.
+#[tactic(auto, using(crate::proofs::Parts::signature_reads))]
+pub(crate) fn signature(
+    alloc: Global,
+    tokens: &[Token],
+) -> Result<((Word, Row<Word>), &[Token]), ReadError>
+    ensures { Gives (λ x. (x.0, x.1.now)) result (reading inner signature tokens.now) }
+{
+    let (class, rest) = name(alloc, Part::Class, tokens)?;
+    let (params, rest) = parameter_list(alloc, rest)?;
+    let rest = past_properties(rest)?;
+    Ok(((class, params), rest))
+}
+
+// `name "=" argument`
+#[tactic(auto, unfolding(jdf_tree::specs::ClassGrammar::definition))]
+fn definition(alloc: Global, tokens: &[Token]) -> Result<(DefTree, &[Token]), ReadError>
+    ensures { Gives (λ x. (x.0, x.1.now)) result (reading inner definition tokens.now) }
+{
+    let (name, rest) = name(alloc, Part::Class, tokens)?;
+    let (_, rest) = expect(rest, Sort::Assign)?;
+    let (value, rest) = argument(alloc, rest)?;
+    Ok((DefTree { name, value }, rest))
+}
+
+/// The definitions of a class.
+#[tactic(auto, using(crate::proofs::Listed::definitions_listed, crate::proofs::Listed::definitions_begin, crate::proofs::Lists::counted_goes_on, crate::proofs::Lists::counted_fails, crate::proofs::Lists::counted_is_full, crate::proofs::Lists::counted_ends))]
+pub(crate) fn definitions(
+    alloc: Global,
+    tokens: &[Token],
+) -> Result<(Row<DefTree>, &[Token]), ReadError>
+    ensures { Gives (λ x. (x.0, x.1.now)) result (reading inner definitions tokens.now) }
+{
+    let mut list = Row::new(alloc);
+    let mut rest = tokens;
+    'more: while is_name_next(Part::Class, rest) {
+        if list.len() == MOST_DEFINITIONS {
+            return Err(ReadError::Fault(rest.len(), Code::TooManyLocals));
+        }
+        let (next, after) = definition(alloc, rest)?;
+        list.push(next)?;
+        rest = after;
+    }
+    Ok((list, rest))
+}
+
+/// `":" name "(" arguments? ")"`
+#[tactic(auto, unfolding(jdf_tree::specs::ClassGrammar::affinity))]
+pub(crate) fn affinity(
+    alloc: Global,
+    tokens: &[Token],
+) -> Result<((Word, Row<ArgTree>), &[Token]), ReadError>
+    ensures { Gives (λ x. (x.0, x.1.now)) result (reading inner affinity tokens.now) }
+{
+    let (_, rest) = expect(tokens, Sort::Colon)?;
+    let (collection, rest) = name(alloc, Part::Class, rest)?;
+    let (arguments, rest) = call(alloc, rest)?;
+    Ok(((collection, arguments), rest))
+}

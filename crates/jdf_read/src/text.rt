@@ -1,0 +1,145 @@
+//! Reads a whole text.
+
+ghost use Rattle.std.specs.Prelude.{◌≡◌, ◌⊎◌, ◌-◌, ◌≤◌, ◌==◌, not, count_by, Ok, Err, Some, None, IfOk, length, slice_get};
+ghost use Rattle.std.specs.List.{suffix_len};
+ghost use Rattle.jdf_lex.specs.declared.fault.JdfCode.TheVariants.{Truncated};
+ghost use Rattle.jdf_lex.specs.declared.fault.JdfFault.{JdfFault};
+ghost use Rattle.jdf_lex.specs.declared.fault.JdfRefusal.TheVariants.{Fault, OutOfMemory};
+ghost use Rattle.jdf_lex.specs.declared.token.Token.{Token};
+ghost use Rattle.jdf_lex.specs.Tokens.{spot_after};
+ghost use Rattle.grammar_core.specs.Gives.{Gives};
+ghost use Rattle.grammar_core.specs.Reading.{whole};
+ghost use Rattle.jdf_tree.specs.declared.tree.Jdf.{Jdf};
+ghost use Rattle.jdf_tree.specs.Grammar.{inner, file};
+ghost use Rattle.jdf_tree.specs.Jdf.{IsJdf};
+ghost use Rattle.jdf_tree.specs.Fault.{IsJdfFault, code_at_token};
+
+use crate::opening::opening;
+use grammar_core::{Code, ReadError};
+use jdf_lex::{JdfCode, JdfFault, JdfRefusal, Lexed, Spot, Token, tokens};
+use jdf_tree::Jdf;
+use std::alloc::Global;
+
+/// How many bytes a text may have.
+const MOST_BYTES: usize = 16777216;
+
+// All of the tokens.
+fn whole(alloc: Global, tokens: &[Token]) -> Result<Jdf, ReadError>
+    ensures { Gives (λ jdf. jdf) result (whole inner file tokens.now) }
+{
+    let (jdf, rest) = opening(alloc, tokens)?;
+    if !rest.is_empty() {
+        return Err(ReadError::Fault(rest.len(), Code::Syntax));
+    }
+    Ok(jdf)
+}
+
+// How many lines end in these bytes.
+fn lines_in(front: &[u8]) -> usize
+    ensures value { result ≡ count_by (λ b. b == 10) front.now }
+    ensures within { result ≤ length front.now }
+{
+    front.iter().filter(|b| **b == b'\n').count()
+}
+
+// How many bytes stand behind the last line's end.
+fn columns_in(front: &[u8]) -> usize
+    ensures value { result ≡ suffix_len (λ b. not (b == 10)) front.now }
+    ensures within { result ≤ length front.now }
+{
+    front.iter().rev().take_while(|b| **b != b'\n').count()
+}
+
+// The place behind these bytes.
+fn spot_after(front: &[u8]) -> Spot
+    requires { length front.now ≤ 16777216 }
+    ensures { result ≡ spot_after front.now }
+{
+    Spot {
+        line: 1 + lines_in(front) as u32,
+        column: 1 + columns_in(front) as u32,
+    }
+}
+
+// The name of a fault of the grammar, at a token.
+fn code_at_token(code: Code) -> JdfCode
+    ensures { result ≡ code_at_token code }
+{
+    match code {
+        Code::Syntax => JdfCode::Syntax,
+        Code::BadNumber => JdfCode::BadNumber,
+        Code::ExprTooLong => JdfCode::ExprTooLong,
+        Code::TooManyClasses => JdfCode::TooManyClasses,
+        Code::TooManyParams => JdfCode::TooManyParams,
+        Code::TooManyLocals => JdfCode::TooManyLocals,
+        Code::TooManyFlows => JdfCode::TooManyFlows,
+        Code::TooManyDeps => JdfCode::TooManyDeps,
+    }
+}
+
+// The fault of the grammar where so many tokens are left.
+fn grammar_fault(lexed: &Lexed, left: usize, code: Code) -> JdfFault
+    ensures at_token { (token : Token) → slice_get lexed.now.tokens (length lexed.now.tokens - left) ≡ Some token → result ≡ record { spot = token.spot; code = code_at_token code } }
+    ensures at_end { slice_get lexed.now.tokens (length lexed.now.tokens - left) ≡ None → result ≡ record { spot = lexed.now.end; code = Truncated } }
+{
+    let tokens = lexed.tokens.as_slice();
+    match tokens.get(tokens.len().saturating_sub(left)) {
+        Some(token) => JdfFault {
+            spot: token.spot,
+            code: code_at_token(code),
+        },
+        None => JdfFault {
+            spot: lexed.end,
+            code: JdfCode::Truncated,
+        },
+    }
+}
+
+// The tree of a text that is UTF-8 and not too long, or its first fault.
+fn read_text(alloc: Global, text: &str) -> Result<Jdf, JdfRefusal>
+    requires { length text.now ≤ 16777216 }
+    ensures found { IfOk result (λ jdf. IsJdf text.now jdf) }
+    ensures fault { (f : JdfFault) → result ≡ Err (Fault f) → IsJdfFault text.now f }
+{
+    let lexed = tokens(alloc, text)?;
+    match whole(alloc, lexed.tokens.as_slice()) {
+        Ok(jdf) => Ok(jdf),
+        Err(ReadError::Memory) => Err(JdfRefusal::OutOfMemory),
+        Err(ReadError::Fault(left, code)) =>
+            Err(JdfRefusal::Fault(grammar_fault(&lexed, left, code))),
+    }
+}
+
+// The tree of a text, or its first fault.
+fn read_bytes(alloc: Global, bytes: &[u8]) -> Result<Jdf, JdfRefusal>
+    ensures found { IfOk result (λ jdf. IsJdf bytes.now jdf) }
+    ensures fault { (f : JdfFault) → result ≡ Err (Fault f) → IsJdfFault bytes.now f }
+{
+    if bytes.len() > MOST_BYTES {
+        return Err(JdfRefusal::Fault(JdfFault {
+            spot: Spot { line: 1, column: 1 },
+            code: JdfCode::TooLong,
+        }));
+    }
+    match str::from_utf8(bytes) {
+        Ok(text) => read_text(alloc, text),
+        Err(error) => Err(JdfRefusal::Fault(JdfFault {
+            spot: spot_after(&bytes[..error.valid_up_to()]),
+            code: JdfCode::NotUtf8,
+        })),
+    }
+}
+
+/// The tree of a JDF text, or its first fault.
+pub fn read(alloc: Global, bytes: &[u8]) -> Result<Jdf, JdfRefusal>
+    // What is read is the tree of the text.
+    ensures found { IfOk result (λ jdf. IsJdf bytes.now jdf) }
+    // A text that has a tree is read, unless memory runs out.
+    ensures only { (jdf : Jdf) → IsJdf bytes.now jdf → (result ≡ Ok jdf) ⊎ (result ≡ Err OutOfMemory) }
+    // A fault that is answered is the first one of the text.
+    ensures fault { (f : JdfFault) → result ≡ Err (Fault f) → IsJdfFault bytes.now f }
+    // Where the text has a first fault that is the answer, unless memory runs out.
+    ensures refused { (f : JdfFault) → IsJdfFault bytes.now f → (result ≡ Err (Fault f)) ⊎ (result ≡ Err OutOfMemory) }
+{
+    read_bytes(alloc, bytes)
+}
