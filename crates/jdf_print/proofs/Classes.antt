@@ -253,8 +253,8 @@ tokens_tell x xs made s r h =
     let split = reads_both (token x.text ∷ []) (flat_map (λ (t : Token). space ∷ token t.text ∷ []) xs) s r flat in
     let a = body_token grammar.begins_body x made.0 made.1 s split.0 split.1 in
     let b =
-        star_tells (length xs) any (λ i lt. refl) (one_of grammar.is_in_body) same.token IsInBody (λ t. space ∷ token t.text ∷ [])
-        (λ y m t u k. body_token grammar.is_in_body y m m.allowed t u k) xs (omega arith) made.2 split.0 r split.2 in
+    star_tells (length xs) any (λ i lt. refl) (one_of grammar.is_in_body) same.token IsInBody (λ t. space ∷ token t.text ∷ [])
+    (λ y m t u k. body_token grammar.is_in_body y m m.allowed t u k) xs (omega arith) made.2 split.0 r split.2 in
     record { tree = a.tree ∷ b.tree; says = ((a.tree, b.tree), (split.0, None, None, a.says, b.says, refl), refl); like = ap (λ (t : Token). t ∷ map same.token b.tree) a.like ∙ ap (λ (l : List Token). same.token x ∷ l) b.like }
 
 maybe_tokens : (xs : List Token) → IsBody xs → (s r : List Token) → Reads (print.body xs) s r → Tells (maybe grammar.body_tokens) (map same.token) (map same.token xs) s r
@@ -343,12 +343,11 @@ class_tells c made s r h =
     let k6 = body_tells c.body made.body s5.0 r s5.2 in
     record {
       tree = grammar.class_of (k1.tree, (k2.tree, (k3.tree, (k4.tree, (k5.tree, k6.tree)))));
-      says =
-        (
-          (k1.tree, (k2.tree, (k3.tree, (k4.tree, (k5.tree, k6.tree))))),
-          (s1.0, None, None, k1.says, (s2.0, None, None, k2.says, (s3.0, None, None, k3.says, (s4.0, None, None, k4.says, (s5.0, None, None, k5.says, k6.says, refl), refl), refl), refl), refl),
-          refl,
-        );
+      says = (
+        (k1.tree, (k2.tree, (k3.tree, (k4.tree, (k5.tree, k6.tree))))),
+        (s1.0, None, None, k1.says, (s2.0, None, None, k2.says, (s3.0, None, None, k3.says, (s4.0, None, None, k4.says, (s5.0, None, None, k5.says, k6.says, refl), refl), refl), refl), refl),
+        refl,
+      );
       like = same_parts (same.word k1.tree.0, map same.word k1.tree.1.0) _ k1.like _ _ k2.like (affinity_plain k3.tree) _ k3.like _ _ k4.like _ _ k5.like _ _ k6.like;
     }
 

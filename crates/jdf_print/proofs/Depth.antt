@@ -31,10 +31,10 @@ module _ {N : Type 0} {Tree : N → Type 0} (body : (n : N) → Form N Tree (Tre
   deeper (suc k) zero le n s t o r h = absurd (omega arith)
   deeper (suc k) (suc j) le n s t o r h = spells_map (NameWithin body k) (NameWithin body j) (deeper k j (omega arith)) (body n) s t o r h
 
-  abbrev AtDepth : {A : Type 0} → Form N Tree A → List Token → A → Fault → List Token → Type 0
+  abbrev pub AtDepth : {A : Type 0} → Form N Tree A → List Token → A → Fault → List Token → Type 0
   AtDepth g s t o r = (k : ℕ) × Spells (NameWithin body k) g s t o r
 
-  abbrev ManyDepth : {A : Type 0} → (ℕ → Option Code) → Form N Tree A → ℕ → List Token → List A → Fault → List Token → Type 0
+  abbrev pub ManyDepth : {A : Type 0} → (ℕ → Option Code) → Form N Tree A → ℕ → List Token → List A → Fault → List Token → Type 0
   ManyDepth full g i s ts o r = (k : ℕ) × Many full (Spells (NameWithin body k) g) i s ts o r
 
   lift : {A : Type 0} (g : Form N Tree A) (k j : ℕ) → k ≤ j → (s : List Token) (t : A) (o : Fault) (r : List Token) → Spells (NameWithin body k) g s t o r → Spells (NameWithin body j) g s t o r
@@ -50,7 +50,7 @@ module _ {N : Type 0} {Tree : N → Type 0} (body : (n : N) → Form N Tree (Tre
       let b = many_depth full g f (suc i) ts h.0 h.2 r h.4 in
       (a.0 + b.0, (h.0, h.1, h.2, lift g a.0 (a.0 + b.0) (omega arith) s t h.1 h.0 a.1, lift_many full g b.0 (a.0 + b.0) (omega arith) (suc i) ts h.0 h.2 r b.1, h.5))
 
-  at_depth : {A : Type 0} (g : Form N Tree A) (s : List Token) (t : A) (o : Fault) (r : List Token) → Spells (Derived body) g s t o r → AtDepth g s t o r
+  pub at_depth : {A : Type 0} (g : Form N Tree A) (s : List Token) (t : A) (o : Fault) (r : List Token) → Spells (Derived body) g s t o r → AtDepth g s t o r
   at_depth (one_of q) s t o r h = (0, h)
   at_depth (valued q good c) s t o r h = (0, h)
   at_depth (seq g k) s t o r h =

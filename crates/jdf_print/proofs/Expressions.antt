@@ -240,26 +240,25 @@ three : (c : Placed) (s k m : List Token) (a : Placed) (l n : List Token) (b : P
     → Says (unary Class) s c k → k ≡ x ∷ m → IsLike x (codes "?") → Says (unary Class) m a l → l ≡ y ∷ n → IsLike y (codes ":") → Says (unary Class) n b r
     → Says (expr Class) s (placed c.spot (Choose c.tree a.tree b.tree)) r
 unfolding expr branches
-three c s k m a l n b r x y hc e ask ha f other hb =
+three c s k m a l n b r x y hc e ask ha f other hb = (
+  (c, Some (a, b)),
+  (
+    k,
+    None,
+    None,
+    up s c k hc,
     (
-      (c, Some (a, b)),
-      (
-        k,
-        None,
-        None,
-        up s c k hc,
-        (
-          l,
-          None,
-          None,
-          ((x, a), (m, None, is_one (is sort.Question) (codes "?") question x k m e ask, name_expr m a l (up_expr m a l ha), refl), refl),
-          ((y, b), (n, None, is_one (is sort.Colon) (codes ":") colon y l n f other, name_expr n b r (up_expr n b r hb), refl), refl),
-          refl,
-        ),
-        refl,
-      ),
+      l,
+      None,
+      None,
+      ((x, a), (m, None, is_one (is sort.Question) (codes "?") question x k m e ask, name_expr m a l (up_expr m a l ha), refl), refl),
+      ((y, b), (n, None, is_one (is sort.Colon) (codes ":") colon y l n f other, name_expr n b r (up_expr n b r hb), refl), refl),
       refl,
-    )
+    ),
+    refl,
+  ),
+  refl,
+)
 
 -- What the tokens of a spelling say: a tree, and that it is this one but for places.
 pub record Said (e : Expression) (s r : List Token) : Type 0 where

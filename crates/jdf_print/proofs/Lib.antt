@@ -9,3 +9,8 @@ pub mod Expressions
 pub mod Forms
 pub mod Targets
 pub mod Classes
+pub mod Behind
+pub mod Known
+pub mod MadeExpressions
+pub mod Holding
+pub mod MadeClasses

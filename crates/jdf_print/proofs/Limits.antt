@@ -31,6 +31,27 @@ few_fit q (x ∷ w) (suc cap) zero r a b = last_fit (q (sort_of x)) (length w) (
 few_fit q (x ∷ w) (suc cap) (suc n) r a b =
     next_fit (q (sort_of x)) (length w) (limit_at q cap n (w ++ r)) (limit_at q cap (suc n) (w ++ r)) (number_of q w) n (λ h. few_fit q w cap n r (omega arith) h) (λ h. few_fit q w cap (suc n) r (omega arith) h) b
 
+many_fit : (b : Bool) (k l l' n m : ℕ) → (k ≤ l → n ≤ m) → (k ≤ l' → n ≤ suc m) → suc k ≤ cond b (suc l) (suc l') → cond b 1 0 + n ≤ suc m
+many_fit true k l l' n m f g h = let e = f (omega arith) in omega (arith, e)
+many_fit false k l l' n m f g h = let e = g (omega arith) in omega (arith, e)
+
+none_fit : (b : Bool) (k l n : ℕ) → (k ≤ l → n ≤ 0) → suc k ≤ cond b 0 (suc l) → cond b 1 0 + n ≤ 0
+none_fit true k l n f h = absurd (omega arith)
+none_fit false k l n f h = let e = f (omega arith) in omega (arith, e)
+
+-- tokens before one that is too many are so few
+pub fit_few : (q : Sort → Bool) (w : List Token) (cap n : ℕ) (r : List Token) → length w ≤ limit_at q cap n (w ++ r) → number_of q w ≤ n
+unfolding limit_at
+fit_few q [] cap n r h = omega arith
+fit_few q (x ∷ w) zero n r h = absurd (omega arith)
+fit_few q (x ∷ w) (suc cap) zero r h = none_fit (q (sort_of x)) (length w) (limit_at q cap zero (w ++ r)) (number_of q w) (fit_few q w cap zero r) h
+fit_few q (x ∷ w) (suc cap) (suc n) r h =
+    many_fit (q (sort_of x)) (length w) (limit_at q cap n (w ++ r)) (limit_at q cap (suc n) (w ++ r)) (number_of q w) n (fit_few q w cap n r) (fit_few q w cap (suc n) r) h
+
+pub number_of-append : (q : Sort → Bool) (v w : List Token) → number_of q (v ++ w) ≡ number_of q v + number_of q w
+number_of-append q [] w = omega arith
+number_of-append q (x ∷ v) w = omega (arith, number_of-append q v w)
+
 abbrev AreEqual : Fault → Fault → Type 0
 AreEqual a b = a ≡ b
 

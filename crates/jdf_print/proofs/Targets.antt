@@ -68,26 +68,25 @@ argument_tells (Span spot lo hi (Some by)) made s r h =
     let c = outer_tells by made.2 last.2.1 r last.2.4 in
     record {
       tree = Span a.tree.spot a.tree.tree b.tree.tree (Some c.tree.tree);
-      says =
+      says = (
+        (a.tree, Some (b.tree, Some c.tree)),
         (
-          (a.tree, Some (b.tree, Some c.tree)),
+          split.0,
+          None,
+          None,
+          a.says,
           (
-            split.0,
+            last.0,
             None,
             None,
-            a.says,
-            (
-              last.0,
-              None,
-              None,
-              after_says sort.Dots (outer Class) (codes "..") is_dots split.2.0 split.0 split.2.1 b.tree last.0 split.2.2 split.2.3 b.says,
-              after_says sort.Dots (outer Class) (codes "..") is_dots last.2.0 last.0 last.2.1 c.tree r last.2.2 last.2.3 c.says,
-              refl,
-            ),
+            after_says sort.Dots (outer Class) (codes "..") is_dots split.2.0 split.0 split.2.1 b.tree last.0 split.2.2 split.2.3 b.says,
+            after_says sort.Dots (outer Class) (codes "..") is_dots last.2.0 last.0 last.2.1 c.tree r last.2.2 last.2.3 c.says,
             refl,
           ),
           refl,
-        );
+        ),
+        refl,
+      );
       like = ap (λ (e : Expression). Span nowhere e (same.expression b.tree.tree) (Some (same.expression c.tree.tree))) a.like
           ∙ ap (λ (e : Expression). Span nowhere (same.expression lo) e (Some (same.expression c.tree.tree))) b.like
           ∙ ap (λ (e : Expression). Span nowhere (same.expression lo) (same.expression hi) (Some e)) c.like;
@@ -139,10 +138,9 @@ target_tells (Task flow class args) made s r h =
     record {
       tree = Task (word_of x) (word_of y) k.tree;
       says =
-        inr
-        (
           inr
           (
+          inr (
             (word_of x, (Some (word_of y), k.tree)),
             (
               h.1,
@@ -152,9 +150,9 @@ target_tells (Task flow class args) made s r h =
               (h.4.1, None, None, name_says class.text made.1 y h.1 h.4.1 h.4.2 h.4.3, k.says, refl),
               refl,
             ),
-            refl
+            refl,
           )
-        );
+          );
       like = ap (λ (w : Word). Task w (same.word (word_of y)) (map same.argument k.tree)) (same_word x flow h.3)
           ∙ ap (λ (w : Word). Task (same.word flow) w (map same.argument k.tree)) (same_word y class h.4.3)
           ∙ ap (λ (l : List ArgTree). Task (same.word flow) (same.word class) l) k.like;
@@ -229,8 +227,7 @@ choice_tells (Some c, t, None) made s r h =
     record {
       tree = (Some a.tree.tree, b.tree, None);
       says =
-          inr
-          (
+          inr (
             (a.tree, (b.tree, None)),
             (
               ask.0,
@@ -238,10 +235,10 @@ choice_tells (Some c, t, None) made s r h =
               None,
               a.says,
               after_says sort.Question (seq grammar.target (opt (after sort.Colon grammar.target))) (codes "?") is_question ask.2.0 ask.0 front.0 (b.tree, None) r mark ask.2.3
-              (last.0, None, None, b.says, (last.2, refl), refl),
+                  (last.0, None, None, b.says, (last.2, refl), refl),
               refl,
             ),
-            refl
+            refl,
           );
       like = ap (λ (e : Expression). only_then e (same.target b.tree)) a.like ∙ ap (λ (w : TargetTree). only_then (same.expression c) w) b.like;
     }
@@ -256,8 +253,7 @@ choice_tells (Some c, t, Some u) made s r h =
     record {
       tree = (Some a.tree.tree, b.tree, Some d.tree);
       says =
-          inr
-          (
+          inr (
             (a.tree, (b.tree, Some d.tree)),
             (
               ask.0,
@@ -265,10 +261,10 @@ choice_tells (Some c, t, Some u) made s r h =
               None,
               a.says,
               after_says sort.Question (seq grammar.target (opt (after sort.Colon grammar.target))) (codes "?") is_question ask.2.0 ask.0 front.0 (b.tree, Some d.tree) r mark ask.2.3
-              (last.0, None, None, b.says, after_says sort.Colon grammar.target (codes ":") is_colon last.2.0 last.0 last.2.1 d.tree r last.2.2 last.2.3 d.says, refl),
+                  (last.0, None, None, b.says, after_says sort.Colon grammar.target (codes ":") is_colon last.2.0 last.0 last.2.1 d.tree r last.2.2 last.2.3 d.says, refl),
               refl,
             ),
-            refl
+            refl,
           );
       like = ap (λ (e : Expression). either e (same.target b.tree) (same.target d.tree)) a.like
           ∙ ap (λ (w : TargetTree). either (same.expression c) w (same.target d.tree)) b.like
@@ -311,8 +307,8 @@ datatype_tells (Some w) made s r h =
       says =
           after_says sort.LeftBracket (after sort.TypeWord (after sort.Assign (before sort.RightBracket (name Class)))) (codes "[") is_left_bracket h.0 s h.1 (word_of n.0) r h.2 h.3
           (after_says sort.TypeWord (after sort.Assign (before sort.RightBracket (name Class))) (codes "type") is_type t.0 h.1 t.1 (word_of n.0) r t.2 t.3
-            (after_says sort.Assign (before sort.RightBracket (name Class)) (codes "=") is_assign e.0 t.1 e.1 (word_of n.0) r e.2 e.3
-              (before_says sort.RightBracket (name Class) (codes "]") is_right_bracket z.0 e.1 n.1 (word_of n.0) r (name_says w.text made n.0 e.1 n.1 n.2 n.3) end z.3)));
+          (after_says sort.Assign (before sort.RightBracket (name Class)) (codes "=") is_assign e.0 t.1 e.1 (word_of n.0) r e.2 e.3
+          (before_says sort.RightBracket (name Class) (codes "]") is_right_bracket z.0 e.1 n.1 (word_of n.0) r (name_says w.text made n.0 e.1 n.1 n.2 n.3) end z.3)));
       like = ap Some (same_word n.0 w n.3);
     }
 
