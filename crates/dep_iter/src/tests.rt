@@ -4,10 +4,11 @@ ghost use Rattle.plan_first.specs.WellMade.{is_dependence, is_well_made};
 ghost use Rattle.term_core.specs.Term.{Num};
 
 use crate::{Source, affinity_of, bounds, has_place, item_at, same_task, source_of};
+use body_first::Body;
 use plan_first::{ClassPlan, DepPlan, Interval, Plan, Shape, Target};
 use ptg_base::{Item, OutOfMemory, Place, Row, TaskId, Text};
 use std::alloc::Global;
-use term_core::{BinOp, Body, Expr};
+use term_core::{BinOp, Expr};
 
 /// `k == 0 ? d(0) : T(k - 1)`
 fn from_before(alloc: Global) -> Result<DepPlan, OutOfMemory>

@@ -5,7 +5,7 @@ use Rattle.std.proofs.lemmas.Bool.Decides.{Decides-eqb}
 use Rattle.std.proofs.lemmas.List.Sums.{sum_by-cons, count_by-le-length}
 use Rattle.ptg_base.specs.Task.{Task}
 use Rattle.ptg_base.specs.declared.place.Place.{Place}
-use Rattle.term_core.specs.declared.body.Trap.{Trap}
+use Rattle.body_first.specs.declared.body.Trap.{Trap}
 use Rattle.plan_first.specs.declared.plan.Plan.{Plan}
 use Rattle.coll_data.specs.declared.given.Coll.{Coll}
 use Rattle.coll_data.specs.declared.given.Given.{Given}

@@ -3,12 +3,12 @@ use Rattle.std.proofs.Common.{◌≡◌, ℕ, zero, suc, ◌-◌, List, [], ◌�
 use Rattle.std.specs.Prelude.{ℤ, ◌==◌, IsSome, slice_set, if◌then◌else◌}
 use Rattle.ptg_base.specs.Task.{Task}
 use Rattle.term_core.specs.Value.{after}
-use Rattle.term_core.specs.declared.body.Stmt.{Stmt}
-use Rattle.term_core.specs.declared.body.Stmt.TheVariants.{Put}
-use Rattle.term_core.specs.declared.body.Trap.{Trap}
-use Rattle.term_core.specs.declared.body.Trap.TheVariants.{Budget}
-use Rattle.body_eval.specs.Element.{written}
-use Rattle.body_eval.specs.Meaning.{body_value, put, statement_meaning, run, body_meaning, task_budget}
+use Rattle.body_first.specs.declared.body.Stmt.{Stmt}
+use Rattle.body_first.specs.declared.body.Stmt.TheVariants.{Put}
+use Rattle.body_first.specs.declared.body.Trap.{Trap}
+use Rattle.body_first.specs.declared.body.Trap.TheVariants.{Budget}
+use Rattle.body_first.specs.Element.{written}
+use Rattle.body_first.specs.Meaning.{body_value, put, statement_meaning, run, body_meaning, task_budget}
 use Rattle.plan_first.specs.declared.plan.Plan.{Plan}
 use Rattle.coll_data.specs.declared.given.Given.{Given}
 use Rattle.dep_iter.specs.Sources.{source_of}

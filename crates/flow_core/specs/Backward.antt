@@ -2,9 +2,9 @@
 use Rattle.std.specs.Prelude.{ℕ, zero, suc, ℤ, List, [], ◌∷◌, length, Result, Ok, Err, Option, Some, None}
 use Rattle.ptg_base.specs.Task.{Task}
 use Rattle.term_core.specs.declared.fault.ExprFault.{ExprFault}
-use Rattle.term_core.specs.declared.body.Trap.{Trap}
-use Rattle.body_eval.specs.Element as element
-use Rattle.body_eval.specs.Meaning.{body_meaning}
+use Rattle.body_first.specs.declared.body.Trap.{Trap}
+use Rattle.body_first.specs.Element as element
+use Rattle.body_first.specs.Meaning.{body_meaning}
 use Rattle.plan_first.specs.declared.plan.Plan.{Plan}
 use Rattle.coll_data.specs.declared.given.Given.{Given}
 use Rattle.coll_data.specs.Place as opening

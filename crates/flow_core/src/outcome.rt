@@ -1,6 +1,6 @@
+use body_first::Trap;
 use coll_data::Given;
 use ptg_base::{Row, TaskId};
-use term_core::Trap;
 
 /// A task that trapped, and why.
 #[derive(Debug, Drop)]

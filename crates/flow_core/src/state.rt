@@ -1,17 +1,17 @@
 ghost use Rattle.std.specs.Prelude.{◌≡◌, ◌<◌, [], ◌∷◌, length, pos, ◌+ℤ◌, IfOk, MatchOption, None, Some};
-ghost use Rattle.body_eval.specs.Meaning.{body_meaning};
+ghost use Rattle.body_first.specs.Meaning.{body_meaning};
 ghost use Rattle.coll_data.specs.Place.{tile_of};
 ghost use Rattle.dep_iter.specs.Sources.{source_of};
 ghost use Rattle.flow_core.specs.Backward.{output, input};
 ghost use Rattle.flow_core.specs.States.{IsRange, task_at, known, next};
 
-use body_eval::run_body;
+use body_first::{Trap, run_body};
 use coll_data::Given;
 use dep_iter::{Source, source_of};
 use plan_first::Plan;
 use ptg_base::{OutOfMemory, Place, TaskId, Tile};
 use std::alloc::Global;
-use term_core::{Trap, local};
+use term_core::local;
 
 /// How a task ended: with the tile of its flow, or with a trap.
 pub(crate) type Ended = Result<[Option<Tile>; 1], Trap>;

@@ -1,12 +1,33 @@
 -- The digits of a number, one after the other.
-use Rattle.std.proofs.Common.{◌≡◌, ℕ, suc, ◌+◌, ◌-◌, ◌*◌, ◌/◌, ◌<◌, ◌≤◌, Bool, true, false, List, [], ◌∷◌, length, drop, get_or, refl, sym, ap, ◌∙◌, ◌⊎◌, inl, inr, arith}
+use Rattle.std.proofs.Common.{◌≡◌, ℕ, suc, ◌+◌, ◌-◌, ◌*◌, ◌/◌, ◌^◌, ◌<◌, ◌≤◌, Bool, true, false, List, [], ◌∷◌, length, drop, get_or, refl, sym, ap, ◌∙◌, ◌⊎◌, inl, inr, arith}
 use Rattle.std.specs.Prelude.{◌&&◌, nat_le}
 use Rattle.std.specs.List.{list_all}
 use Rattle.std.proofs.Math.Seq.{drop-cons}
 use Rattle.std.proofs.lemmas.List.{drop_all}
+use Rattle.std.proofs.lemmas.Grind.{pow_more}
 use Rattle.std.proofs.lemmas.Bool.Decides.{nat_tests}
 use Rattle.jdf_lex.specs.Tokens.{is_digit}
-use Rattle.jdf_first.specs.Numbers.{continued, decimal, fits}
+use Rattle.jdf_first.specs.Numbers.{decimal, fits}
+
+-- the number that these digits make of one before them, read from the first to the last
+abbrev pub continued : ℕ → List ℕ → ℕ
+continued n [] = n
+continued n (b ∷ bs) = continued (10 * n + (b - 48)) bs
+
+shifted : (n d p q r : ℕ) → q ≡ 10 * p → (10 * n + d) * p + r ≡ n * q + (d * p + r)
+shifted n d p q r e = let k : n * q ≡ n * (10 * p) = ap (λ x. n * x) e in omega (arith, k)
+
+continued_is : (n : ℕ) (bs : List ℕ) → continued n bs ≡ n * 10 ^ length bs + decimal bs
+continued_is n [] = omega arith
+continued_is n (b ∷ bs) =
+    let count : length (b ∷ bs) ≡ length bs + 1 = omega arith in
+    let more : 10 ^ (length bs + 1) ≡ 10 ^ length bs * 10 = pow_more 10 (length bs) in
+    let power : 10 ^ length (b ∷ bs) ≡ 10 * 10 ^ length bs = ap (λ k. 10 ^ k) count ∙ omega (arith, more) in
+    continued_is (10 * n + (b - 48)) bs ∙ shifted n (b - 48) (10 ^ length bs) (10 ^ length (b ∷ bs)) (decimal bs) power
+
+-- digits that are read from the first to the last make the number that they spell
+pub read_whole : (bs : List ℕ) → continued 0 bs ≡ decimal bs
+read_whole bs = continued_is 0 bs ∙ omega arith
 
 -- more digits make no smaller number
 grows : (n : ℕ) (bs : List ℕ) → n ≤ continued n bs

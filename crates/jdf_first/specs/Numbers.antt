@@ -1,16 +1,12 @@
 -- Numbers as they are written.
-use Rattle.std.specs.Prelude.{ℕ, ◌+◌, ◌-◌, ◌*◌, nat_le, Bool, false, not, ◌&&◌, ◌==◌, List, [], ◌∷◌}
+use Rattle.std.specs.Prelude.{ℕ, ◌+◌, ◌-◌, ◌*◌, ◌^◌, nat_le, Bool, false, not, ◌&&◌, ◌==◌, List, [], ◌∷◌, length}
 use Rattle.std.specs.List.{list_all}
 use Rattle.jdf_lex.specs.Tokens.{is_digit}
 
--- the number that these digits continue
-abbrev pub continued : ℕ → List ℕ → ℕ
-continued n [] = n
-continued n (b ∷ bs) = continued (10 * n + (b - 48)) bs
-
--- the number of these digits, in decimal
+-- The number that decimal digits spell: each counts ten times for every digit behind it.
 abbrev pub decimal : List ℕ → ℕ
-decimal digits = continued 0 digits
+decimal [] = 0
+decimal (b ∷ bs) = (b - 48) * 10 ^ length bs + decimal bs
 
 -- a 0 at the front of a longer number
 abbrev pub has_zero_before : List ℕ → Bool

@@ -1,284 +1,179 @@
--- From blank to token and on: what stands behind a place completes the tokens before it.
-use Rattle.std.proofs.Common.{◌≡◌, ℕ, ◌+◌, ◌-◌, ◌<◌, ◌≤◌, true, List, [], ◌∷◌, ◌++◌, length, take, drop, get_or, Some, None, refl, sym, ◌∙◌, ap, subst, arith, append_assoc, length-append, length-drop}
-use Rattle.std.specs.List.{list_all, prefix_len, slice_range}
+-- From piece to piece: where the reader is, and what it answers there.
+use Rattle.std.proofs.Common.{◌≡◌, ℕ, ◌+◌, ◌-◌, ◌<◌, ◌≤◌, Bool, true, false, List, [], ◌∷◌, ◌++◌, length, take, drop, get_or, refl, sym, ◌∙◌, ap, subst, inl, inr, arith, length-drop}
+use Rattle.std.specs.List.{slice_range}
 use Rattle.std.proofs.Math.Seq.{take-add}
-use Rattle.std.proofs.lemmas.Bool.{and_parts, and_from, both_ways}
-use Rattle.std.proofs.lemmas.List.{append-nil, take-append-drop, drop-drop, drop_more, drop_all, length-take-le, get_or-drop, length_push}
-use Rattle.std.proofs.lemmas.List.Sums.{prefix_len_stops}
-use Rattle.std.proofs.lemmas.List.Folds.{list_all-append}
+use Rattle.std.proofs.lemmas.List.{append-nil, take-append-drop, drop-drop, drop_more, drop_all, length-take-le, length_push, take_rest}
 use Rattle.jdf_lex.specs.declared.cursor.Cursor.{Cursor}
-use Rattle.jdf_lex.specs.declared.token.Spot.{Spot}
+use Rattle.jdf_lex.specs.declared.fault.JdfCode.TheVariants.{Unclosed, TooManyTokens}
+use Rattle.jdf_lex.specs.declared.piece.Piece.{Piece}
+use Rattle.jdf_lex.specs.declared.piece.Piece.TheVariants.{Blank, LineComment, BlockComment, Word}
 use Rattle.jdf_lex.specs.declared.token.Token.{Token}
 use Rattle.jdf_lex.specs.declared.token.TokenKind.{TokenKind}
-use Rattle.jdf_lex.specs.Tokens.{is_blank, is_spelling, begins_unbuilt, spot_after, IsToken, IsLexedBehind, IsLexed}
-use Rattle.jdf_lex.specs.Reading.{front_word, IsAt, IsLexedFrom, IsTokenAt, GoesOn, IsPastBlanks, IsReady}
-use Rattle.jdf_lex.proofs.Front.{front_found, front_none, prefix_passes}
-use Rattle.jdf_lex.proofs.Once.{word_is_no_blank, blanks_have_no_word, same_parts}
-use Rattle.jdf_lex.proofs.Words.{spelling_is_some}
+use Rattle.jdf_lex.specs.Spelling.{piece_at, first_piece, is_spelling}
+use Rattle.jdf_lex.specs.Tokens.{spot_after, IsPiece, IsToken, is_dropped, IsLexedTo, IsLexed, IsUnclosed, IsTokenFault}
+use Rattle.jdf_lex.specs.Tokens.IsLexedTo.{there, past_dropped, past_token}
+use Rattle.jdf_lex.specs.Reading.{front_piece, IsAt, IsReady}
+use Rattle.jdf_lex.proofs.Fronts.{front_found, front_none, Found, found_piece, nothing}
 
-all_parts : (xs ys : List ℕ) → list_all is_blank (xs ++ ys) ≡ true → (list_all is_blank xs ≡ true) × (list_all is_blank ys ≡ true)
-all_parts xs ys all = and_parts (list_all is_blank xs) (list_all is_blank ys) (sym (list_all-append is_blank xs ys) ∙ all)
+-- a way, and one from where it stops
+joined : (mid mid_left front left before rest : List ℕ) (ts us : List Token) → IsLexedTo mid mid_left before rest ts → IsLexedTo front left mid mid_left us → IsLexedTo front left before rest (ts ++ us)
+joined mid mid_left front left before rest ts us (there) second = second
+joined mid mid_left front left before rest ts us (past_dropped _ _ _ p w x dropped is piece on) second =
+    past_dropped before rest (ts ++ us) p w x dropped is piece (joined mid mid_left front left (before ++ w) x ts us on second)
+joined mid mid_left front left before rest ts us (past_token _ _ tail t w x is token on) second =
+    past_token before rest (tail ++ us) t w x is token (joined mid mid_left front left (before ++ w) x tail us on second)
 
-all_joined : (xs ys : List ℕ) → list_all is_blank xs ≡ true → list_all is_blank ys ≡ true → list_all is_blank (xs ++ ys) ≡ true
-all_joined xs ys e f = list_all-append is_blank xs ys ∙ and_from (list_all is_blank xs) (list_all is_blank ys) e f
+-- ---- what stands at a place
 
--- ---- blanks may be counted to what stands before
+front_of : (text : List ℕ) (i n : ℕ) → take i text ++ take n (drop i text) ≡ take (i + n) text
+front_of text i n = sym (take-add i n text)
 
-pub blanks_join : (before blanks rest : List ℕ) (tokens : List Token) (end : Spot) → list_all is_blank blanks ≡ true
-    → IsLexedBehind (before ++ blanks) rest tokens end → IsLexedBehind before (blanks ++ rest) tokens end
-blanks_join before blanks rest [] end blank behind =
-    (all_joined blanks rest blank behind.0, behind.1 ∙ ap spot_after (append_assoc before blanks rest))
-blanks_join before blanks rest (t ∷ ts) end blank behind =
-    let whole : before ++ (blanks ++ behind.0) ≡ (before ++ blanks) ++ behind.0 = sym (append_assoc before blanks behind.0) in (
-      blanks ++ behind.0,
-      behind.1,
-      behind.2,
-      ap (λ z. blanks ++ z) behind.3 ∙ sym (append_assoc blanks behind.0 (behind.1 ++ behind.2)),
-      all_joined blanks behind.0 blank behind.4,
-      subst (λ z. IsToken z behind.1 behind.2 t) (sym whole) behind.5,
-      subst (λ z. IsLexedBehind (z ++ behind.1) behind.2 ts end) (sym whole) behind.6,
-    )
+rest_of : (text : List ℕ) (i n : ℕ) → drop i text ≡ take n (drop i text) ++ drop (i + n) text
+rest_of text i n = sym (take-append-drop n (drop i text)) ∙ ap (λ z. take n (drop i text) ++ z) (drop-drop n i text)
 
--- the blanks before a word hold each front of them that is blank
-pub more_blanks : (blanks rest a w y : List ℕ) (k : TokenKind) → blanks ++ rest ≡ a ++ (w ++ y) → list_all is_blank blanks ≡ true → is_spelling k w ≡ true
-    → (more : List ℕ) × (a ≡ blanks ++ more) × (rest ≡ more ++ (w ++ y))
-more_blanks [] rest a w y k same blank spelled = (a, refl, same)
-more_blanks (c ∷ blanks) rest [] [] y k same blank spelled = absurd (spelling_is_some k spelled)
-more_blanks (c ∷ blanks) rest [] (d ∷ w) y k same blank spelled =
-    let heads : c ≡ d = cc in
-    absurd (word_is_no_blank k d w spelled (sym (ap is_blank heads) ∙ (and_parts (is_blank c) (list_all is_blank blanks) blank).0))
-more_blanks (c ∷ blanks) rest (d ∷ a) w y k same blank spelled =
-    let heads : c ≡ d = cc in
-    let tails : blanks ++ rest ≡ a ++ (w ++ y) = cc in
-    let found = more_blanks blanks rest a w y k tails (and_parts (is_blank c) (list_all is_blank blanks) blank).1 spelled in
-    (found.0, (λ i. sym heads i ∷ found.1 i), found.2)
+pub record IsHere (text : List ℕ) (i : ℕ) (p : Piece) (n : ℕ) : Type 0 where
+  pub some : 0 < n
+  pub within : i + n ≤ length text
+  pub piece : IsPiece p (take n (drop i text)) (drop (i + n) text)
 
-pub blanks_part : (before blanks rest : List ℕ) (tokens : List Token) (end : Spot) → list_all is_blank blanks ≡ true
-    → IsLexedBehind before (blanks ++ rest) tokens end → IsLexedBehind (before ++ blanks) rest tokens end
-blanks_part before blanks rest [] end blank behind =
-    ((all_parts blanks rest behind.0).1, behind.1 ∙ ap spot_after (sym (append_assoc before blanks rest)))
-blanks_part before blanks rest (t ∷ ts) end blank behind =
-    let found = more_blanks blanks rest behind.0 behind.1 behind.2 t.kind behind.3 blank behind.5.spelled in
-    let whole : before ++ behind.0 ≡ (before ++ blanks) ++ found.0 = ap (λ z. before ++ z) found.1 ∙ sym (append_assoc before blanks found.0) in
-    let all : list_all is_blank (blanks ++ found.0) ≡ true = subst (λ z. list_all is_blank z ≡ true) found.1 behind.4 in (
-      found.0,
-      behind.1,
-      behind.2,
-      found.2,
-      (all_parts blanks found.0 all).1,
-      subst (λ z. IsToken z behind.1 behind.2 t) whole behind.5,
-      subst (λ z. IsLexedBehind (z ++ behind.1) behind.2 ts end) whole behind.6,
-    )
-
--- ---- the same at a place of the text
-
-run_of : (text : List ℕ) (i n : ℕ) → (take (i + n) text ≡ take i text ++ take n (drop i text)) × (drop i text ≡ take n (drop i text) ++ drop (i + n) text)
-run_of text i n =
-    let split : take n (drop i text) ++ drop n (drop i text) ≡ drop i text = take-append-drop n (drop i text) in
-    let rest : drop n (drop i text) ≡ drop (i + n) text = drop-drop n i text in
-    (take-add i n text, sym split ∙ ap (λ z. take n (drop i text) ++ z) rest)
-
-pub from_past_blanks : (text : List ℕ) (i : ℕ) (tokens : List Token) (end : Spot)
-    → IsLexedFrom text (i + prefix_len is_blank (drop i text)) tokens end → IsLexedFrom text i tokens end
-from_past_blanks text i tokens end from =
-    let n = prefix_len is_blank (drop i text) in
-    let blanks = take n (drop i text) in
-    let parts = run_of text i n in
-    let behind : IsLexedBehind (take i text ++ blanks) (drop (i + n) text) tokens end = subst (λ z. IsLexedBehind z (drop (i + n) text) tokens end) parts.0 from in
-    let joined = blanks_join (take i text) blanks (drop (i + n) text) tokens end (prefix_passes is_blank (drop i text)) behind in
-    subst (λ z. IsLexedBehind (take i text) z tokens end) (sym parts.1) joined
-
-pub to_past_blanks : (text : List ℕ) (i : ℕ) (tokens : List Token) (end : Spot)
-    → IsLexedFrom text i tokens end → IsLexedFrom text (i + prefix_len is_blank (drop i text)) tokens end
-to_past_blanks text i tokens end from =
-    let n = prefix_len is_blank (drop i text) in
-    let blanks = take n (drop i text) in
-    let parts = run_of text i n in
-    let behind : IsLexedBehind (take i text) (blanks ++ drop (i + n) text) tokens end = subst (λ z. IsLexedBehind (take i text) z tokens end) parts.1 from in
-    let parted = blanks_part (take i text) blanks (drop (i + n) text) tokens end (prefix_passes is_blank (drop i text)) behind in
-    subst (λ z. IsLexedBehind z (drop (i + n) text) tokens end) (sym parts.0) parted
-
-pub goes_on_past_blanks : (text : List ℕ) (tokens : List Token) (i : ℕ) → GoesOn text tokens i → GoesOn text tokens (i + prefix_len is_blank (drop i text))
-goes_on_past_blanks text tokens i on = record {
-  whole = λ later end from. on.whole later end (from_past_blanks text i later end from);
-  rest = λ all end lexed.
-      let found = on.rest all end lexed in
-      (found.0, found.1, to_past_blanks text i found.0 end found.2);
-}
-
-pub goes_on_from_start : (text : List ℕ) → GoesOn text [] 0
-goes_on_from_start text = record {
-  whole = λ later end from. from;
-  rest = λ all end lexed. (all, refl, lexed);
-}
-
--- ---- a token more
-
-token_span : (text : List ℕ) (i : ℕ) (t : Token) → IsTokenAt text i t
-    → (take t.end text ≡ take i text ++ slice_range text i t.end) × (drop i text ≡ slice_range text i t.end ++ drop t.end text)
-token_span text i t at =
-    let some = at.some in
-    let back : i + (t.end - i) ≡ t.end = omega arith in
-    let parts = run_of text i (t.end - i) in (
-      subst (λ n. take n text ≡ take i text ++ slice_range text i t.end) back parts.0,
-      subst (λ n. drop i text ≡ slice_range text i t.end ++ drop n text) back parts.1,
-    )
-
-token_behind : (text : List ℕ) (i : ℕ) (t : Token) → IsTokenAt text i t → IsToken (take i text ++ []) (slice_range text i t.end) (drop t.end text) t
-token_behind text i t at = subst (λ z. IsToken z (slice_range text i t.end) (drop t.end text) t) (sym (append-nil (take i text))) at.stands
-
-take_behind : (text : List ℕ) (i : ℕ) (t : Token) → IsTokenAt text i t → (take i text ++ []) ++ slice_range text i t.end ≡ take t.end text
-take_behind text i t at = ap (λ z. z ++ slice_range text i t.end) (append-nil (take i text)) ∙ sym (token_span text i t at).0
-
-pub from_token : (text : List ℕ) (i : ℕ) (t : Token) (ts : List Token) (end : Spot) → IsTokenAt text i t → IsLexedFrom text t.end ts end → IsLexedFrom text i (t ∷ ts) end
-from_token text i t ts end at from = (
-  [],
-  slice_range text i t.end,
-  drop t.end text,
-  (token_span text i t at).1,
-  refl,
-  token_behind text i t at,
-  subst (λ z. IsLexedBehind z (drop t.end text) ts end) (sym (take_behind text i t at)) from,
-)
-
-pub to_token : (text : List ℕ) (i : ℕ) (t : Token) (ts : List Token) (end : Spot) → IsTokenAt text i t → IsLexedFrom text i ts end
-    → (us : List Token) × (ts ≡ t ∷ us) × IsLexedFrom text t.end us end
-to_token text i t [] end at from =
-    absurd (blanks_have_no_word (drop i text) [] (slice_range text i t.end) (drop t.end text) t.kind from.0 (token_span text i t at).1 at.stands.spelled)
-to_token text i t (u ∷ us) end at from =
-    let word = slice_range text i t.end in
-    let left = drop t.end text in
-    let parts = same_parts (take i text) [] word left from.0 from.1 from.2 t u (sym (token_span text i t at).1 ∙ from.3) refl from.4 (token_behind text i t at) from.5 in
-    let behind : (take i text ++ from.0) ++ from.1 ≡ take t.end text =
-    ap (λ z. (take i text ++ z) ++ from.1) (sym parts.0) ∙ ap (λ z. (take i text ++ []) ++ z) (sym parts.1) ∙ take_behind text i t at in
-    let moved : IsLexedBehind (take t.end text) from.2 us end = subst (λ z. IsLexedBehind z from.2 us end) behind from.6 in
-    (us, (λ j. sym parts.3 j ∷ us), subst (λ z. IsLexedBehind (take t.end text) z us end) (sym parts.2) moved)
-
-pub goes_on_past_token : (text : List ℕ) (tokens : List Token) (i : ℕ) (t : Token) → GoesOn text tokens i → IsTokenAt text i t → GoesOn text (tokens ++ t ∷ []) t.end
-goes_on_past_token text tokens i t on at = record {
-  whole = λ later end from. subst (λ z. IsLexed text z end) (sym (append_assoc tokens (t ∷ []) later)) (on.whole (t ∷ later) end (from_token text i t later end at from));
-  rest = λ all end lexed.
-      let found = on.rest all end lexed in
-      let next = to_token text i t found.0 end at found.2 in
-      (next.0, found.1 ∙ ap (λ z. tokens ++ z) next.1 ∙ sym (append_assoc tokens (t ∷ []) next.0), next.2);
-}
-
--- ---- the end, and a place where no token stands
-
-pub lexed_at_end : (text : List ℕ) (tokens : List Token) (here : Cursor) → GoesOn text tokens here.at → IsAt text here → length text ≤ here.at → IsLexed text tokens here.spot
-lexed_at_end text tokens here on stands past =
-    let none : drop here.at text ≡ [] = drop_all here.at text past in
-    let blank : list_all is_blank (drop here.at text) ≡ true = ap (list_all is_blank) none in
-    let spot : here.spot ≡ spot_after (take here.at text ++ drop here.at text) =
-    stands.spot ∙ ap spot_after (sym (append-nil (take here.at text)) ∙ ap (λ z. take here.at text ++ z) (sym none)) in
-    subst (λ z. IsLexed text z here.spot) (append-nil tokens) (on.whole [] here.spot (blank, spot))
-
-first_is : (text : List ℕ) (i : ℕ) (b : ℕ) (bs : List ℕ) → i < length text → drop i text ≡ b ∷ bs → get_or text i 0 ≡ b
-first_is text i b bs within is = let split = drop_more text i 0 within in cc (split, is)
-
-no_blank_first : (text : List ℕ) (i : ℕ) (b : ℕ) (bs : List ℕ) → i < length text → IsPastBlanks text i → drop i text ≡ b ∷ bs → is_blank b ≡ true → ⊥
-no_blank_first text i b bs within past is blank =
-    both_ways (is_blank b) (sym (ap is_blank (first_is text i b bs within is)) ∙ past within) blank
-
-pub some_left : (text : List ℕ) (i : ℕ) (later : List Token) (end : Spot) → i < length text → IsPastBlanks text i → IsLexedFrom text i later end → 0 < length later
-some_left text i [] end within past from =
-    let split : drop i text ≡ get_or text i 0 ∷ drop (i + 1) text = drop_more text i 0 within in
-    let all : list_all is_blank (get_or text i 0 ∷ drop (i + 1) text) ≡ true = subst (λ z. list_all is_blank z ≡ true) split from.0 in
-    absurd (both_ways (is_blank (get_or text i 0)) (past within) (and_parts (is_blank (get_or text i 0)) (list_all is_blank (drop (i + 1) text)) all).0)
-some_left text i (t ∷ ts) end within past from = omega arith
-
-no_token_from : (text : List ℕ) (i : ℕ) (t : Token) (a w y : List ℕ) → i < length text → IsPastBlanks text i → front_word (drop i text) ≡ None
-    → drop i text ≡ a ++ (w ++ y) → list_all is_blank a ≡ true → IsToken (take i text ++ a) w y t → ⊥
-no_token_from text i t [] w y within past none is blank token =
-    front_none (drop i text) w y t.kind none is (ap begins_unbuilt is ∙ token.built) token.spelled
-no_token_from text i t (c ∷ a) w y within past none is blank token =
-    no_blank_first text i c (a ++ (w ++ y)) within past is (and_parts (is_blank c) (list_all is_blank a) blank).0
-
-pub no_tokens_here : (text : List ℕ) (tokens : List Token) (i : ℕ) → GoesOn text tokens i → i < length text → IsPastBlanks text i → front_word (drop i text) ≡ None
-    → (all : List Token) (end : Spot) → IsLexed text all end → ⊥
-no_tokens_here text tokens i on within past none all end lexed = at_first (on.rest all end lexed)
-  where
-    at_first : (later : List Token) × (all ≡ tokens ++ later) × IsLexedFrom text i later end → ⊥
-    at_first found = from_list found.0 found.2
-      where
-        from_list : (later : List Token) → IsLexedFrom text i later end → ⊥
-        from_list [] from = let none_left : 0 < 0 = some_left text i [] end within past from in omega arith
-        from_list (t ∷ ts) from = no_token_from text i t from.0 from.1 from.2 within past none from.3 from.4 from.5
-
-pub too_many_tokens : (text : List ℕ) (tokens : List Token) (i : ℕ) → GoesOn text tokens i → i < length text → IsPastBlanks text i → 1000000 ≤ length tokens
-    → (all : List Token) (end : Spot) → IsLexed text all end → length all ≤ 1000000 → ⊥
-too_many_tokens text tokens i on within past many all end lexed few =
-    let found = on.rest all end lexed in
-    let more : 0 < length found.0 = some_left text i found.0 end within past found.2 in
-    let size : length all ≡ length tokens + length found.0 = ap length found.1 ∙ length-append tokens found.0 in
-    omega arith
-
--- ---- a token is made of the word that is found
-
-made_of_word : (text : List ℕ) (here : Cursor) (kind : TokenKind) (n : ℕ) (word : List ℕ) → IsAt text here → front_word (drop here.at text) ≡ Some (kind, n) → word ≡ take n (drop here.at text)
-    → IsToken (take here.at text) (take n (drop here.at text)) (drop n (drop here.at text)) (record { kind = kind; text = word; start = here.at; end = here.at + n; spot = here.spot })
-made_of_word text here kind n word stands found is =
-    let front = front_found (drop here.at text) kind n found in
-    let whole : take n (drop here.at text) ++ drop n (drop here.at text) ≡ drop here.at text = take-append-drop n (drop here.at text) in
-    let before : length (take here.at text) ≡ here.at = length-take-le here.at text stands.within in
-    let size : length (take n (drop here.at text)) ≡ n = length-take-le n (drop here.at text) front.1.within in
+pub piece_here : (text : List ℕ) (i : ℕ) (p : Piece) (n : ℕ) → i ≤ length text → front_piece (drop i text) ≡ found_piece p n → IsHere text i p n
+piece_here text i p n within found =
+    let front = front_found (drop i text) p n found in
+    let left : drop n (drop i text) ≡ drop (i + n) text = drop-drop n i text in
     record {
-      text = is;
+      some = front.1.some;
+      within = omega (arith, front.1.within, length-drop i text);
+      piece = record {
+        begins = ap piece_at (sym (rest_of text i n)) ∙ front.0;
+        spelled = front.1.spelled;
+        longest = λ more after e spelled. front.1.longest more after (left ∙ e) spelled;
+      };
+    }
+
+-- what is found in the part of the text from here on
+pub found_at : (text : List ℕ) (i : ℕ) (o : Found) → o ≡ front_piece (take (length text - i) (drop i text)) → o ≡ front_piece (drop i text)
+found_at text i o e = e ∙ ap front_piece (take_rest text i)
+
+-- what is no token is dropped
+pub no_token_is_dropped : (p : Piece) → ((kind : TokenKind) → p ≡ Word kind → ⊥) → is_dropped p ≡ true
+no_token_is_dropped Blank never = refl
+no_token_is_dropped LineComment never = refl
+no_token_is_dropped BlockComment never = refl
+no_token_is_dropped (Word kind) never = absurd (never kind refl)
+
+-- ---- a step
+
+step_dropped : (text : List ℕ) (i : ℕ) (p : Piece) (n : ℕ) → IsHere text i p n → is_dropped p ≡ true → IsLexedTo (take (i + n) text) (drop (i + n) text) (take i text) (drop i text) []
+step_dropped text i p n here dropped =
+    let word = take n (drop i text) in
+    let left = drop (i + n) text in
+    past_dropped (take i text) (drop i text) [] p word left dropped (rest_of text i n) here.piece
+    (subst (λ z. IsLexedTo (take (i + n) text) left z left []) (sym (front_of text i n)) there)
+
+step_token : (text : List ℕ) (i n : ℕ) (t : Token) → IsToken (take i text) (take n (drop i text)) (drop (i + n) text) t
+    → IsLexedTo (take (i + n) text) (drop (i + n) text) (take i text) (drop i text) (t ∷ [])
+step_token text i n t token =
+    let word = take n (drop i text) in
+    let left = drop (i + n) text in
+    past_token (take i text) (drop i text) [] t word left (rest_of text i n) token
+    (subst (λ z. IsLexedTo (take (i + n) text) left z left []) (sym (front_of text i n)) there)
+
+token_made : (text : List ℕ) (here : Cursor) (kind : TokenKind) (n : ℕ) → IsAt text here → IsHere text here.at (Word kind) n
+    → IsToken (take here.at text) (take n (drop here.at text)) (drop (here.at + n) text) (record { kind = kind; text = slice_range text here.at (here.at + n); start = here.at; end = here.at + n; spot = here.spot })
+token_made text here kind n stands found =
+    let back : here.at + n - here.at ≡ n = omega arith in
+    let before : length (take here.at text) ≡ here.at = length-take-le here.at text stands.within in
+    let room : n ≤ length (drop here.at text) = omega (arith, found.within, length-drop here.at text) in
+    let size : length (take n (drop here.at text)) ≡ n = length-take-le n (drop here.at text) room in
+    record {
+      text = ap (λ m. take m (drop here.at text)) back;
       start = sym before;
       end = omega arith;
       spot = stands.spot;
-      spelled = front.1.spelled;
-      built = ap begins_unbuilt whole ∙ front.0;
-      longest = front.1.longest;
+      piece = found.piece;
     }
 
-pub front_fits : (text : List ℕ) (i : ℕ) (kind : TokenKind) (n : ℕ) → i ≤ length text → front_word (drop i text) ≡ Some (kind, n) → (0 < n) × (i + n ≤ length text)
-front_fits text i kind n within found =
-    let front = front_found (drop i text) kind n found in
-    (front.1.some, omega (arith, front.1.within, length-drop i text))
+-- ---- ready for the next piece
 
-pub token_made : (text : List ℕ) (here : Cursor) (kind : TokenKind) (n : ℕ) (word : List ℕ) → IsAt text here → front_word (drop here.at text) ≡ Some (kind, n) → word ≡ slice_range text here.at (here.at + n)
-    → IsTokenAt text here.at (record { kind = kind; text = word; start = here.at; end = here.at + n; spot = here.spot })
-token_made text here kind n word stands found is =
-    let token : Token = record { kind = kind; text = word; start = here.at; end = here.at + n; spot = here.spot } in
-    let fits = front_fits text here.at kind n stands.within found in
-    let some : 0 < n = fits.0 in
-    let back : here.at + n - here.at ≡ n = omega arith in
-    let same : slice_range text here.at (here.at + n) ≡ take n (drop here.at text) = ap (λ m. take m (drop here.at text)) back in
-    let left : drop n (drop here.at text) ≡ drop (here.at + n) text = drop-drop n here.at text in
-    let made = made_of_word text here kind n word stands found (is ∙ same) in
+pub ready_first : (text : List ℕ) (tokens : List Token) (here : Cursor) → tokens ≡ [] → here.at ≡ 0 → here.spot ≡ record { line = 1; column = 1 } → IsReady text tokens here
+ready_first text tokens here none at spot =
+    let start : IsReady text [] (record { at = 0; spot = record { line = 1; column = 1 } }) =
+    record { stands = record { within = omega arith; spot = refl }; few = omega arith; reached = there } in
+    subst (λ ts. IsReady text ts here) (sym none)
+    (let same : here ≡ record { at = 0; spot = record { line = 1; column = 1 } } = (λ i. record { at = at i; spot = spot i }) in
+    subst (λ (c : Cursor). IsReady text [] c) (sym same) start)
+
+pub ready_dropped : (text : List ℕ) (tokens : List Token) (here next : Cursor) (p : Piece) (n : ℕ) → IsReady text tokens here → front_piece (drop here.at text) ≡ found_piece p n → is_dropped p ≡ true
+    → IsAt text next → next.at ≡ here.at + n → IsReady text tokens next
+ready_dropped text tokens here next p n ready found dropped stands place =
+    let is = piece_here text here.at p n ready.stands.within found in
+    let on = joined (take here.at text) (drop here.at text) (take (here.at + n) text) (drop (here.at + n) text) [] text tokens [] ready.reached (step_dropped text here.at p n is dropped) in
     record {
-      some = omega arith;
-      within = fits.1;
-      stands =
-          subst (λ z. IsToken (take here.at text) (slice_range text here.at (here.at + n)) z token) left
-          (subst (λ z. IsToken (take here.at text) z (drop n (drop here.at text)) token) (sym same) made);
+      stands = stands;
+      few = ready.few;
+      reached =
+          subst (λ j. IsLexedTo (take j text) (drop j text) [] text tokens) (sym place)
+          (subst (λ ts. IsLexedTo (take (here.at + n) text) (drop (here.at + n) text) [] text ts) (append-nil tokens) on);
     }
 
--- ---- from token to token
+pub ready_token : (text : List ℕ) (tokens more : List Token) (here next : Cursor) (kind : TokenKind) (n : ℕ) → IsReady text tokens here → front_piece (drop here.at text) ≡ found_piece (Word kind) n
+    → length tokens < 1000000 → more ≡ tokens ++ record { kind = kind; text = slice_range text here.at (here.at + n); start = here.at; end = here.at + n; spot = here.spot } ∷ []
+    → IsAt text next → next.at ≡ here.at + n → IsReady text more next
+ready_token text tokens more here next kind n ready found few pushed stands place =
+    let token : Token = record { kind = kind; text = slice_range text here.at (here.at + n); start = here.at; end = here.at + n; spot = here.spot } in
+    let is = piece_here text here.at (Word kind) n ready.stands.within found in
+    let made = token_made text here kind n ready.stands is in
+    let on = joined (take here.at text) (drop here.at text) (take (here.at + n) text) (drop (here.at + n) text) [] text tokens (token ∷ []) ready.reached (step_token text here.at n token made) in
+    let size : length (tokens ++ token ∷ []) ≡ length tokens + 1 = length_push tokens token in
+    subst (λ ts. IsReady text ts next) (sym pushed)
+    (record {
+      stands = stands;
+      few = omega arith;
+      reached = subst (λ j. IsLexedTo (take j text) (drop j text) [] text (tokens ++ token ∷ [])) (sym place) on;
+    })
 
-blanks_end : (text : List ℕ) (i : ℕ) → IsPastBlanks text (i + prefix_len is_blank (drop i text))
-blanks_end text i within =
-    let n = prefix_len is_blank (drop i text) in
-    let room : n < length (drop i text) = omega (arith, length-drop i text) in
-    ap is_blank (sym (get_or-drop i text n 0)) ∙ prefix_len_stops is_blank (drop i text) 0 room
+-- ---- the end, and what is wrong at a place
 
-ready_behind : (text : List ℕ) (tokens : List Token) (i : ℕ) (here : Cursor) → GoesOn text tokens i → length tokens ≤ 1000000
-    → IsAt text here → here.at ≡ i + prefix_len is_blank (drop i text) → IsReady text tokens here
-ready_behind text tokens i here on few stands place = record {
-  stands = stands;
-  past = subst (λ j. IsPastBlanks text j) (sym place) (blanks_end text i);
-  few = few;
-  on = subst (λ j. GoesOn text tokens j) (sym place) (goes_on_past_blanks text tokens i on);
+pub lexed_at_end : (text : List ℕ) (tokens : List Token) (here : Cursor) → IsReady text tokens here → length text ≤ here.at → IsLexed text tokens here.spot
+lexed_at_end text tokens here ready past =
+    let none : drop here.at text ≡ [] = drop_all here.at text past in
+    let all : take here.at text ≡ text = sym (append-nil (take here.at text)) ∙ ap (λ z. take here.at text ++ z) (sym none) ∙ take-append-drop here.at text in
+    (subst (λ z. IsLexedTo z [] [] text tokens) all (subst (λ z. IsLexedTo (take here.at text) z [] text tokens) none ready.reached), ready.stands.spot ∙ ap spot_after all)
+
+is_false : (b : Bool) → (b ≡ true → ⊥) → b ≡ false
+is_false true never = absurd (never refl)
+is_false false never = refl
+
+pub unclosed_here : (rest : List ℕ) (b : ℕ) (bs : List ℕ) → rest ≡ b ∷ bs → front_piece rest ≡ nothing → IsUnclosed rest
+unclosed_here rest b bs is none =
+    let here : IsUnclosed (b ∷ bs) = record {
+      piece = first_piece b bs;
+      begins = refl;
+      unended = λ word after e. is_false (is_spelling (first_piece b bs) word) (front_none b bs (ap front_piece (sym is) ∙ none) word after e);
+    } in
+    subst (λ z. IsUnclosed z) (sym is) here
+
+pub fault_unclosed : (text : List ℕ) (tokens : List Token) (here : Cursor) → IsReady text tokens here → here.at < length text → front_piece (drop here.at text) ≡ nothing
+    → IsTokenFault text (record { spot = here.spot; code = Unclosed })
+fault_unclosed text tokens here ready within none = record {
+  tokens = tokens;
+  front = take here.at text;
+  left = drop here.at text;
+  reached = ready.reached;
+  spot = ready.stands.spot;
+  wrong = inl (refl, unclosed_here (drop here.at text) (get_or text here.at 0) (drop (here.at + 1) text) (drop_more text here.at 0 within) none, ready.few);
 }
 
-pub ready_first : (text : List ℕ) (tokens : List Token) (here : Cursor) → tokens ≡ [] → IsAt text here → here.at ≡ 0 + prefix_len is_blank text → IsReady text tokens here
-ready_first text tokens here none stands place =
-    subst (λ ts. IsReady text ts here) (sym none) (ready_behind text [] 0 here (goes_on_from_start text) (omega arith) stands place)
-
-pub ready_next : (text : List ℕ) (tokens more : List Token) (here next : Cursor) (i : ℕ) (t : Token) → IsReady text tokens here → length tokens < 1000000 → IsTokenAt text here.at t
-    → more ≡ tokens ++ t ∷ [] → IsAt text next → i ≡ t.end → next.at ≡ i + prefix_len is_blank (drop i text) → IsReady text more next
-ready_next text tokens more here next i t ready few at pushed stands same place =
-    let on : GoesOn text (tokens ++ t ∷ []) i = subst (λ j. GoesOn text (tokens ++ t ∷ []) j) (sym same) (goes_on_past_token text tokens here.at t ready.on at) in
-    let size : length (tokens ++ t ∷ []) ≡ length tokens + 1 = length_push tokens t in
-    subst (λ ts. IsReady text ts next) (sym pushed) (ready_behind text (tokens ++ t ∷ []) i next on (omega arith) stands place)
+pub fault_many : (text : List ℕ) (tokens : List Token) (here : Cursor) (kind : TokenKind) (n : ℕ) → IsReady text tokens here → front_piece (drop here.at text) ≡ found_piece (Word kind) n → 1000000 ≤ length tokens
+    → IsTokenFault text (record { spot = here.spot; code = TooManyTokens })
+fault_many text tokens here kind n ready found many =
+    let is = piece_here text here.at (Word kind) n ready.stands.within found in
+    let all : length tokens ≡ 1000000 = omega (arith, ready.few) in
+    record {
+      tokens = tokens;
+      front = take here.at text;
+      left = drop here.at text;
+      reached = ready.reached;
+      spot = ready.stands.spot;
+      wrong = inr (refl, record { kind = kind; word = take n (drop here.at text); after = drop (here.at + n) text; whole = rest_of text here.at n; piece = is.piece }, all);
+    }

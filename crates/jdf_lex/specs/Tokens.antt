@@ -1,99 +1,57 @@
--- The tokens of a JDF text: the forms of the JDF documentation that are built so far, with the marks of its
--- expressions, ranges, dependences and bodies. What is a token and what is not is said of words, and the
--- tokens of a text are a relation: no place here goes over the bytes as a program would.
-use Rattle.std.specs.Prelude.{◌≡◌, ℕ, ◌+◌, Bool, false, not, ◌&&◌, ◌||◌, ◌==◌, nat_le, nat_eq, List, [], ◌∷◌, ◌++◌, length, drop, codes, count_by, IsTrue, IsFalse}
-use Rattle.std.specs.List.{list_any, list_all, starts_with, suffix_len}
-use Rattle.jdf_lex.specs.declared.fault.JdfCode.TheVariants.{NotBuilt}
+-- The tokens of a JDF text and its first token fault, as relations: no place here goes over the bytes as a
+-- program would.
+use Rattle.std.specs.Prelude.{◌≡◌, ℕ, ◌+◌, ◌≤◌, ◌⊎◌, Bool, true, false, not, ◌==◌, List, [], ◌∷◌, ◌++◌, length, count_by, Some, IsTrue, IsFalse}
+use Rattle.std.specs.List.{suffix_len}
+use Rattle.jdf_lex.specs.declared.fault.JdfCode.{JdfCode}
+use Rattle.jdf_lex.specs.declared.fault.JdfCode.TheVariants.{Unclosed, TooManyTokens, NotBuilt}
 use Rattle.jdf_lex.specs.declared.fault.JdfFault.{JdfFault}
+use Rattle.jdf_lex.specs.declared.piece.Piece.{Piece}
+use Rattle.jdf_lex.specs.declared.piece.Piece.TheVariants.{Blank, LineComment, BlockComment, Word}
 use Rattle.jdf_lex.specs.declared.token.Spot.{Spot}
 use Rattle.jdf_lex.specs.declared.token.Token.{Token}
 use Rattle.jdf_lex.specs.declared.token.TokenKind.{TokenKind}
-use Rattle.jdf_lex.specs.declared.token.TokenKind.TheVariants.{Name, Number, Quoted, Raw, OptionLine, Mark, Other}
-
--- `A` to `Z`, `a` to `z` or `_`
-abbrev pub is_letter : ℕ → Bool
-is_letter b = (nat_le 65 b && nat_le b 90) || ((nat_le 97 b && nat_le b 122) || (b == 95))
-
--- `0` to `9`
-abbrev pub is_digit : ℕ → Bool
-is_digit b = nat_le 48 b && nat_le b 57
-
--- What may stand in a name or a number behind its first byte.
-abbrev pub is_part : ℕ → Bool
-is_part b = is_letter b || is_digit b
-
--- a space, a tab, CR or LF
-abbrev pub is_blank : ℕ → Bool
-is_blank b = list_any (λ c. c == b) (32 ∷ 9 ∷ 13 ∷ 10 ∷ [])
-
--- The marks of one byte, each a byte of this list.
-abbrev pub short_marks : List ℕ
-short_marks = codes "()[]{},;:?=+-*/%<>&|!"
-
--- The marks of two bytes: `..` `<-` `->` `==` `!=` `<=` `>=` `&&` `||`.
-abbrev pub long_marks : List (ℕ × ℕ)
-long_marks = (46, 46) ∷ (60, 45) ∷ (45, 62) ∷ (61, 61) ∷ (33, 61) ∷ (60, 61) ∷ (62, 61) ∷ (38, 38) ∷ (124, 124) ∷ []
-
--- Whether a word is one of the marks.
-abbrev pub is_mark : List ℕ → Bool
-is_mark (a ∷ []) = list_any (λ m. m == a) short_marks
-is_mark (a ∷ b ∷ []) = list_any (λ m. (m.0 == a) && (m.1 == b)) long_marks
-is_mark _ = false
-
--- Whether a word is spelled as tokens of a kind are. The kinds that are not built yet have no spelling.
-abbrev pub is_spelling : TokenKind → List ℕ → Bool
-is_spelling Name [] = false
-is_spelling Name (b ∷ bs) = is_letter b && list_all is_part bs
-is_spelling Number [] = false
-is_spelling Number (b ∷ bs) = is_digit b && list_all is_part bs
-is_spelling Mark word = is_mark word
-is_spelling Quoted word = false
-is_spelling Raw word = false
-is_spelling OptionLine word = false
-is_spelling Other word = false
-
--- Whether a text begins with a byte that may go on a name.
-abbrev pub begins_part : List ℕ → Bool
-begins_part [] = false
-begins_part (b ∷ bs) = is_part b
-
--- Comments, raw text and option lines aren't built. They begin with `//`, `/*`, `%{` or the whole word
--- `%option`, and where one of these stands no token begins, though `/` and `%` are marks.
-abbrev pub begins_unbuilt : List ℕ → Bool
-begins_unbuilt rest =
-    starts_with nat_eq rest (codes "//")
-    || (starts_with nat_eq rest (codes "/*")
-    || (starts_with nat_eq rest (codes "%{")
-    || (starts_with nat_eq rest (codes "%option") && not (begins_part (drop 7 rest)))))
+use Rattle.jdf_lex.specs.declared.token.TokenKind.TheVariants.{OptionLine}
+use Rattle.jdf_lex.specs.Spelling.{begins_part, piece_at, is_spelling}
+pub use Rattle.jdf_lex.specs.Spelling.{is_letter, is_digit, is_part, is_blank}
 
 -- The place behind the front of a text: one line more than LF in it, and one column more than bytes behind the last LF.
 abbrev pub spot_after : List ℕ → Spot
 spot_after front = record { line = 1 + count_by (λ b. b == 10) front; column = 1 + suffix_len (λ b. not (b == 10)) front }
 
--- The word that stands behind `before` and is followed by `left` is this token: it is spelled so, and no spelling
--- of any kind goes on further into `left`, so that the longest is taken.
+-- The word that is followed by `left` is this piece: the piece begins there, the word is spelled as one, and no
+-- longer one is, so that the longest is taken.
+pub record IsPiece (piece : Piece) (word left : List ℕ) : Type 0 where
+  pub begins : piece_at (word ++ left) ≡ Some piece
+  pub spelled : IsTrue (is_spelling piece word)
+  pub longest : (more after : List ℕ) → left ≡ more ++ after → IsTrue (is_spelling piece (word ++ more)) → more ≡ []
+
+-- The word that stands behind `before` and is followed by `left` is this token.
 pub record IsToken (before word left : List ℕ) (token : Token) : Type 0 where
   pub text : token.text ≡ word
   pub start : token.start ≡ length before
   pub end : token.end ≡ length before + length word
   pub spot : token.spot ≡ spot_after before
-  pub spelled : IsTrue (is_spelling token.kind word)
-  pub built : IsFalse (begins_unbuilt (word ++ left))
-  pub longest : (kind : TokenKind) (more after : List ℕ) → left ≡ more ++ after → IsTrue (is_spelling kind (word ++ more)) → more ≡ []
+  pub piece : IsPiece (Word token.kind) word left
 
--- Behind `before` stand these tokens and blanks between them, up to the end of the text, which is the place `end`.
-abbrev pub IsLexedBehind : (before rest : List ℕ) → List Token → Spot → Type 0
-IsLexedBehind before rest [] end = IsTrue (list_all is_blank rest) × (end ≡ spot_after (before ++ rest))
-IsLexedBehind before rest (token ∷ tokens) end =
-    (blanks word left : List ℕ)
-    × (rest ≡ blanks ++ (word ++ left))
-    × IsTrue (list_all is_blank blanks)
-    × IsToken (before ++ blanks) word left token
-    × IsLexedBehind ((before ++ blanks) ++ word) left tokens end
+-- Blanks and comments stand between tokens, and are dropped.
+abbrev pub is_dropped : Piece → Bool
+is_dropped Blank = true
+is_dropped LineComment = true
+is_dropped BlockComment = true
+is_dropped (Word kind) = false
+
+-- From behind `before`, where `rest` is left, stand these tokens, with blanks and comments between them, up to the
+-- place behind `front`, where `left` is left.
+pub data IsLexedTo (front left : List ℕ) : List ℕ → List ℕ → List Token → Type 0 where
+  there : IsLexedTo front left front left []
+  past_dropped : (before rest : List ℕ) (tokens : List Token) (piece : Piece) (word later : List ℕ) → IsTrue (is_dropped piece) → rest ≡ word ++ later
+      → IsPiece piece word later → IsLexedTo front left (before ++ word) later tokens → IsLexedTo front left before rest tokens
+  past_token : (before rest : List ℕ) (tokens : List Token) (token : Token) (word later : List ℕ) → rest ≡ word ++ later
+      → IsToken before word later token → IsLexedTo front left (before ++ word) later tokens → IsLexedTo front left before rest (token ∷ tokens)
 
 -- These are the tokens of the text, in order, and `end` is the place behind its last byte.
 abbrev pub IsLexed : List ℕ → List Token → Spot → Type 0
-IsLexed text tokens end = IsLexedBehind [] text tokens end
+IsLexed text tokens end = IsLexedTo text [] [] text tokens × (end ≡ spot_after text)
 
 -- A text has one list of tokens at most, and one end.
 abbrev pub OneListOfTokens : Type 0
@@ -101,6 +59,44 @@ OneListOfTokens =
     (text : List ℕ) (tokens others : List Token) (end other_end : Spot)
     → IsLexed text tokens end → IsLexed text others other_end → (tokens ≡ others) × (end ≡ other_end)
 
--- The one fault so far, which names no place yet.
+-- At each place the longest word is taken: none that is spelled as a piece by itself is longer, but that `%option`
+-- is no option line where a letter, digit or `_` follows.
+abbrev pub LongestIsTaken : Type 0
+LongestIsTaken =
+    (piece other : Piece) (word left longer after : List ℕ)
+    → IsPiece piece word left → word ++ left ≡ longer ++ after → piece_at longer ≡ Some other → IsTrue (is_spelling other longer)
+    → (other ≡ Word OptionLine → IsFalse (begins_part after)) → length longer ≤ length word
+
+-- Something begins here that the text does not end: no front of what is left is spelled as it is.
+pub record IsUnclosed (left : List ℕ) : Type 0 where
+  pub piece : Piece
+  pub begins : piece_at left ≡ Some piece
+  pub unended : (word after : List ℕ) → left ≡ word ++ after → IsFalse (is_spelling piece word)
+
+-- A token stands here.
+pub record HasToken (left : List ℕ) : Type 0 where
+  pub kind : TokenKind
+  pub word : List ℕ
+  pub after : List ℕ
+  pub whole : left ≡ word ++ after
+  pub piece : IsPiece (Word kind) word after
+
+-- What is wrong at a place behind these tokens: something begins there that the text does not end, or a token
+-- stands there that is one too many.
+abbrev pub IsFaultAt : List Token → List ℕ → JdfCode → Type 0
+IsFaultAt tokens left code =
+    ((code ≡ Unclosed) × IsUnclosed left × (length tokens ≤ 1000000))
+    ⊎ ((code ≡ TooManyTokens) × HasToken left × (length tokens ≡ 1000000))
+
+-- The first token fault of a text: up to its place stand tokens, blanks and comments.
+pub record IsTokenFault (text : List ℕ) (fault : JdfFault) : Type 0 where
+  pub tokens : List Token
+  pub front : List ℕ
+  pub left : List ℕ
+  pub reached : IsLexedTo front left [] text tokens
+  pub spot : fault.spot ≡ spot_after front
+  pub wrong : IsFaultAt tokens left fault.code
+
+-- The refusal of a text that is outside of the forms that are built, which names no place.
 abbrev pub not_built : JdfFault
 not_built = record { spot = record { line = 1; column = 1 }; code = NotBuilt }

@@ -1,23 +1,20 @@
-ghost use Rattle.std.specs.Prelude.{◌≡◌, ◌≤◌, [], ◌∷◌, length};
-ghost use Rattle.std.specs.List.{prefix_len};
-ghost use Rattle.jdf_lex.specs.Tokens.{is_letter, is_digit, is_part, is_blank, is_mark, begins_part, begins_unbuilt};
-ghost use Rattle.jdf_lex.specs.Reading.{mark_len, front_word};
+ghost use Rattle.std.specs.Prelude.{◌≡◌, [], ◌∷◌};
+ghost use Rattle.jdf_lex.specs.Spelling.{is_letter, is_digit, is_part, is_blank, is_no_lf, goes_on_character, is_mark};
+ghost use Rattle.jdf_lex.specs.Reading.{mark_len};
 
-use crate::token::TokenKind;
-
-fn is_letter(b: u8) -> bool
+pub fn is_letter(b: u8) -> bool
     ensures { result ≡ is_letter b }
 {
     b.is_ascii_alphabetic() || b == b'_'
 }
 
-fn is_digit(b: u8) -> bool
+pub fn is_digit(b: u8) -> bool
     ensures { result ≡ is_digit b }
 {
     b.is_ascii_digit()
 }
 
-fn is_part(b: u8) -> bool
+pub fn is_part(b: u8) -> bool
     ensures { result ≡ is_part b }
 {
     is_letter(b) || is_digit(b)
@@ -27,6 +24,19 @@ pub fn is_blank(b: u8) -> bool
     ensures { result ≡ is_blank b }
 {
     matches!(b, b' ' | b'\t' | b'\r' | b'\n')
+}
+
+pub fn is_no_lf(b: u8) -> bool
+    ensures { result ≡ is_no_lf b }
+{
+    b != b'\n'
+}
+
+/// Whether a byte goes on a character of UTF-8.
+pub fn goes_on_character(b: u8) -> bool
+    ensures { result ≡ goes_on_character b }
+{
+    matches!(b, 128..=191)
 }
 
 fn is_short_mark(a: u8) -> bool
@@ -69,62 +79,13 @@ fn is_long_mark(a: u8, b: u8) -> bool
     }
 }
 
-fn begins_part(rest: &[u8]) -> bool
-    ensures { result ≡ begins_part rest.now }
-{
-    match rest.first() {
-        Some(b) => is_part(*b),
-        None => false,
-    }
-}
-
-fn begins_unbuilt(rest: &[u8]) -> bool
-    ensures { result ≡ begins_unbuilt rest.now }
-{
-    if rest.starts_with(b"//") || rest.starts_with(b"/*") || rest.starts_with(b"%{") {
-        return true;
-    }
-    rest.starts_with(b"%option") && !begins_part(&rest[7..])
-}
-
-fn part_len(rest: &[u8]) -> usize
-    ensures value { result ≡ prefix_len is_part rest.now }
-    ensures within { result ≤ length rest.now }
-{
-    for (i, b) in rest.iter().enumerate() {
-        if !is_part(*b) {
-            return i;
-        }
-    }
-    rest.len()
-}
-
-fn mark_len(rest: &[u8]) -> usize
+/// How long the longest mark at the front is, or 0 where there is none.
+pub fn mark_len(rest: &[u8]) -> usize
     ensures { result ≡ mark_len rest.now }
 {
     match rest {
         [a, b, ..] if is_long_mark(*a, *b) => 2,
         [a, ..] if is_short_mark(*a) => 1,
         _ => 0,
-    }
-}
-
-/// The kind and the length of the longest word at the front, where a token begins there.
-pub fn front_word(rest: &[u8]) -> Option<(TokenKind, usize)>
-    ensures { result ≡ front_word rest.now }
-{
-    let (b, behind) = rest.split_first()?;
-    if begins_unbuilt(rest) {
-        return None;
-    }
-    if is_letter(*b) {
-        return Some((TokenKind::Name, 1 + part_len(behind)));
-    }
-    if is_digit(*b) {
-        return Some((TokenKind::Number, 1 + part_len(behind)));
-    }
-    match mark_len(rest) {
-        0 => None,
-        n => Some((TokenKind::Mark, n)),
     }
 }

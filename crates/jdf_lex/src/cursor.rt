@@ -1,9 +1,6 @@
-ghost use Rattle.std.specs.Prelude.{◌≡◌, ◌+◌, ◌<◌, ◌≤◌, length, drop, slice_range, IsTrue};
-ghost use Rattle.std.specs.List.{list_all, prefix_len};
-ghost use Rattle.jdf_lex.specs.Tokens.{is_blank};
-ghost use Rattle.jdf_lex.specs.Reading.{IsAt, IsPastBlanks, is_no_lf};
+ghost use Rattle.std.specs.Prelude.{◌≡◌, ◌+◌, ◌<◌, ◌≤◌, length};
+ghost use Rattle.jdf_lex.specs.Reading.{IsAt};
 
-use crate::bytes::is_blank;
 use crate::token::Spot;
 
 /// A place in a text.
@@ -37,34 +34,16 @@ fn past_byte(text: &[u8], here: Cursor) -> Cursor
     }
 }
 
-/// The place behind a word of this length, in which no LF stands.
+/// The place so many bytes on.
 pub fn past_word(text: &[u8], here: Cursor, len: usize) -> Cursor
     requires small { length text.now ≤ 16777216 }
     requires at { IsAt text.now here }
     requires inside { here.at + len ≤ length text.now }
-    requires one_line { IsTrue (list_all is_no_lf (slice_range text.now here.at (here.at + len))) }
     ensures at { IsAt text.now result }
     ensures place { result.at ≡ here.at + len }
 {
-    Cursor {
-        at: here.at + len,
-        spot: Spot {
-            line: here.spot.line,
-            column: here.spot.column + len as u32,
-        },
-    }
-}
-
-/// The place behind the blanks that stand here.
-#[tactic(auto, using(crate::proofs::Spots::runs))]
-pub fn past_blanks(text: &[u8], here: Cursor) -> Cursor
-    requires small { length text.now ≤ 16777216 }
-    requires at { IsAt text.now here }
-    ensures at { IsAt text.now result }
-    ensures place { result.at ≡ here.at + prefix_len is_blank (drop here.at text.now) }
-{
     let mut now = here;
-    while now.at < text.len() && is_blank(text[now.at]) {
+    for _ in 0..len {
         now = past_byte(text, now);
     }
     now

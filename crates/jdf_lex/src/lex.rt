@@ -1,78 +1,97 @@
-ghost use Rattle.std.specs.Prelude.{◌≡◌, ◌⊎◌, ◌+◌, ◌<◌, ◌≤◌, ℕ, List, length, drop, Ok, Err, None, IfOk};
+ghost use Rattle.std.specs.Prelude.{◌≡◌, ◌⊎◌, ◌+◌, ◌++◌, ◌<◌, ◌≤◌, List, [], ◌∷◌, length, drop, slice_range, Ok, Err, Some, IfOk};
+ghost use Rattle.jdf_lex.specs.declared.fault.JdfCode.TheVariants.{Unclosed, TooManyTokens};
 ghost use Rattle.jdf_lex.specs.declared.fault.JdfFault.{JdfFault};
 ghost use Rattle.jdf_lex.specs.declared.fault.JdfRefusal.TheVariants.{Fault, OutOfMemory};
+ghost use Rattle.jdf_lex.specs.declared.piece.Piece.TheVariants.{Word};
 ghost use Rattle.jdf_lex.specs.declared.token.Spot.{Spot};
 ghost use Rattle.jdf_lex.specs.declared.token.Token.{Token};
-ghost use Rattle.jdf_lex.specs.Tokens.{IsLexed, not_built};
-ghost use Rattle.jdf_lex.specs.Reading.{front_word, IsAt, IsTokenAt, HasNoTokens};
+ghost use Rattle.jdf_lex.specs.Tokens.{IsLexed, IsTokenFault};
+ghost use Rattle.jdf_lex.specs.Reading.{front_piece, IsAt, IsReady};
 
-use crate::bytes::front_word;
-use crate::cursor::{Cursor, past_blanks, past_word};
+use crate::cursor::{Cursor, past_word};
 use crate::fault::{JdfCode, JdfFault, JdfRefusal};
-use crate::token::{Lexed, Spot, Token};
+use crate::front::front_piece;
+use crate::piece::Piece;
+use crate::token::{Lexed, Spot, Token, TokenKind};
 use ptg_base::{Row, Text};
 use std::alloc::Global;
 
-fn not_built() -> JdfRefusal
-    ensures { result ≡ Fault not_built }
+/// How many tokens a text may have.
+const MOST_TOKENS: usize = 1_000_000;
+
+fn fault(spot: Spot, code: JdfCode) -> JdfRefusal
+    ensures { result ≡ Fault (record { spot = spot; code = code }) }
 {
-    JdfRefusal::Fault(JdfFault {
-        spot: Spot { line: 1, column: 1 },
-        code: JdfCode::NotBuilt,
-    })
+    JdfRefusal::Fault(JdfFault { spot, code })
 }
 
-/// The token that stands at this place.
-fn token_at(alloc: Global, text: &[u8], here: Cursor) -> Result<Token, JdfRefusal>
+/// Adds the token of this kind and length that stands at this place, unless it is one too many.
+fn add_token(
+    alloc: Global,
+    text: &[u8],
+    here: Cursor,
+    kind: TokenKind,
+    len: usize,
+    tokens: &mut Row<Token>,
+) -> Result<(), JdfRefusal>
     requires small { length text.now ≤ 16777216 }
-    requires at { IsAt text.now here }
-    ensures found { IfOk result (λ token. IsTokenAt text.now here.at token) }
-    ensures refused { (fault : JdfFault) → result ≡ Err (Fault fault) → (fault ≡ not_built) × (front_word (drop here.at text.now) ≡ None) }
+    requires inside { here.at + len ≤ length text.now }
+    ensures few { IfOk result (λ _. length tokens.old < 1000000) }
+    ensures added { IfOk result (λ _. tokens.new ≡ tokens.old ++ record { kind = kind; text = slice_range text.now here.at (here.at + len); start = here.at; end = here.at + len; spot = here.spot } ∷ []) }
+    ensures refused { (f : JdfFault) → result ≡ Err (Fault f) → (f ≡ record { spot = here.spot; code = TooManyTokens }) × (1000000 ≤ length tokens.old) }
 {
-    let Some((kind, len)) = front_word(&text[here.at..]) else {
-        return Err(not_built());
-    };
+    if tokens.len() >= MOST_TOKENS {
+        return Err(fault(here.spot, JdfCode::TooManyTokens));
+    }
     let end = here.at + len;
     let word = Text::of(alloc, &text[here.at..end])?;
-    Ok(Token {
+    tokens.push(Token {
         kind,
         text: word,
         start: here.at as u32,
         end: end as u32,
         spot: here.spot,
-    })
+    })?;
+    Ok(())
 }
 
-/// The place behind a token and the blanks that follow it.
-fn past_token(text: &[u8], here: Cursor, token: &Token) -> Cursor
+/// The place behind what stands here, which is added to the tokens where it is one.
+fn past_piece(
+    alloc: Global,
+    text: &[u8],
+    here: Cursor,
+    tokens: &mut Row<Token>,
+) -> Result<Cursor, JdfRefusal>
     requires small { length text.now ≤ 16777216 }
-    requires at { IsAt text.now here }
-    requires token { IsTokenAt text.now here.at token.now }
-    ensures at { IsAt text.now result }
-    ensures place { result.at ≡ token.now.end }
+    requires ready { IsReady text.now tokens.old here }
+    requires some { here.at < length text.now }
+    ensures on { IfOk result (λ next. here.at < next.at) }
+    ensures ready { IfOk result (λ next. IsReady text.now tokens.new next) }
+    ensures refused { (f : JdfFault) → result ≡ Err (Fault f) → IsTokenFault text.now f }
 {
-    past_word(text, here, token.end as usize - here.at)
+    let Some((piece, len)) = front_piece(&text[here.at..]) else {
+        return Err(fault(here.spot, JdfCode::Unclosed));
+    };
+    let next = past_word(text, here, len);
+    if let Piece::Word(kind) = piece {
+        add_token(alloc, text, here, kind, len, tokens)?;
+        return Ok(next);
+    }
+    Ok(next)
 }
 
 fn lex(alloc: Global, text: &[u8]) -> Result<Lexed, JdfRefusal>
     requires { length text.now ≤ 16777216 }
     ensures found { IfOk result (λ lexed. IsLexed text.now lexed.tokens lexed.end × (length lexed.tokens ≤ 1000000)) }
-    ensures refused { (fault : JdfFault) → result ≡ Err (Fault fault) → (fault ≡ not_built) × HasNoTokens text.now }
+    ensures fault { (f : JdfFault) → result ≡ Err (Fault f) → IsTokenFault text.now f }
 {
     let mut tokens = Row::new(alloc);
-    let start = Cursor {
+    let mut here = Cursor {
         at: 0,
         spot: Spot { line: 1, column: 1 },
     };
-    let mut here = past_blanks(text, start);
     while here.at < text.len() {
-        if tokens.as_slice().len() >= 1_000_000 {
-            return Err(not_built());
-        }
-        let token = token_at(alloc, text, here)?;
-        let end = past_token(text, here, &token);
-        tokens.push(token)?;
-        here = past_blanks(text, end);
+        here = past_piece(alloc, text, here, &mut tokens)?;
     }
     Ok(Lexed {
         tokens,
@@ -80,15 +99,18 @@ fn lex(alloc: Global, text: &[u8]) -> Result<Lexed, JdfRefusal>
     })
 }
 
-/// The tokens of a text, of which there are at most 1000000. A text that has no such tokens is refused.
+/// The tokens of a text, of which there are at most 1000000, or its first token fault. Each byte is looked at a
+/// bounded number of times.
 pub fn tokens(alloc: Global, text: &str) -> Result<Lexed, JdfRefusal>
     requires { length text.now ≤ 16777216 }
     // What is found are the tokens of the text.
     ensures found { IfOk result (λ lexed. IsLexed text.now lexed.tokens lexed.end × (length lexed.tokens ≤ 1000000)) }
     // Where the text has tokens they are found, unless memory runs out.
     ensures only { (tokens : List Token) (end : Spot) → IsLexed text.now tokens end → length tokens ≤ 1000000 → (result ≡ Ok (record { tokens = tokens; end = end })) ⊎ (result ≡ Err OutOfMemory) }
-    // It is refused only where it has none.
-    ensures refused { (fault : JdfFault) → result ≡ Err (Fault fault) → (fault ≡ not_built) × ((tokens : List Token) (end : Spot) → IsLexed text.now tokens end → length tokens ≤ 1000000 → ⊥) }
+    // A fault that is answered is the first one of the text.
+    ensures fault { (f : JdfFault) → result ≡ Err (Fault f) → IsTokenFault text.now f }
+    // Where the text has a first fault that is the answer, unless memory runs out.
+    ensures refused { (f : JdfFault) → IsTokenFault text.now f → (result ≡ Err (Fault f)) ⊎ (result ≡ Err OutOfMemory) }
 {
     lex(alloc, text.as_bytes())
 }

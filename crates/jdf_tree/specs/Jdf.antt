@@ -1,5 +1,5 @@
 -- The text of a JDF, and its first fault.
-use Rattle.std.specs.Prelude.{◌≡◌, ℕ, ◌+◌, ◌<◌, ◌≤◌, List, length, take, None, Some, slice_get, ◌⊎◌}
+use Rattle.std.specs.Prelude.{ℕ, ◌≤◌, List, length, None}
 use Rattle.std.specs.Str.{IsUtf8}
 use Rattle.jdf_lex.specs.declared.token.Spot.{Spot}
 use Rattle.jdf_lex.specs.declared.token.Token.{Token}

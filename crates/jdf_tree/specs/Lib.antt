@@ -8,3 +8,4 @@ pub mod ExpressionGrammar
 pub mod ClassGrammar
 pub mod Grammar
 pub mod Jdf
+pub mod Fault

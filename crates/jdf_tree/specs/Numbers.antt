@@ -1,7 +1,7 @@
 -- Numbers as they are written.
 use Rattle.std.specs.Prelude.{ℕ, ◌+◌, ◌-◌, ◌*◌, ◌^◌, nat_le, Bool, false, not, ◌&&◌, ◌==◌, List, [], ◌∷◌, length}
 use Rattle.std.specs.List.{list_all}
-use Rattle.jdf_lex.specs.Tokens.{is_digit}
+use Rattle.jdf_lex.specs.Spelling.{is_digit}
 
 -- the number of these digits, in decimal: each digit counts ten times what the next one does
 abbrev pub decimal : List ℕ → ℕ

@@ -3,7 +3,7 @@ use Rattle.std.specs.Prelude.{Bool, true, ◌&&◌, nat_lt, List, length, Option
 use Rattle.std.specs.List.{list_all}
 use Rattle.term_core.specs.Term.{Term}
 use Rattle.term_core.specs.Value.{is_closed}
-use Rattle.term_core.specs.WellMade.{is_well_made as is_body_well_made}
+use Rattle.body_first.specs.WellMade.{is_well_made as is_body_well_made}
 use Rattle.plan_first.specs.declared.interval.Interval.{Interval}
 use Rattle.plan_first.specs.declared.class.Target.{Target}
 use Rattle.plan_first.specs.declared.class.Target.TheVariants.{Task, Element}

@@ -1,5 +1,6 @@
+use body_first::Body;
 use ptg_base::{Row, Text};
-use term_core::{Body, Expr};
+use term_core::Expr;
 
 /// A collection of the data: its name, and how many tiles it has.
 #[derive(Debug, Drop)]

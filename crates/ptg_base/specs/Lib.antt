@@ -1,3 +1,6 @@
 pub mod Task
 pub mod Lists
 pub mod TaskOrder
+pub mod TaskComparing
+pub mod TaskLaws
+pub mod ItemComparing

@@ -2,6 +2,7 @@
 #![tactic(auto)]
 
 mod edge;
+mod laws;
 mod memory;
 mod place;
 mod row;
@@ -10,6 +11,7 @@ mod text;
 mod tile;
 
 pub use edge::{Edge, Item, WriteBack};
+pub use laws::{items_compare_field_by_field, tasks_compare_in_task_order};
 pub use memory::OutOfMemory;
 pub use place::Place;
 pub use row::Row;
@@ -20,7 +22,16 @@ pub use tile::Tile;
 #[cfg(test)]
 mod tests {
     use super::*;
+    use std::cmp::Ordering;
+    use std::hash::{DefaultHasher, Hash, Hasher};
     use std::test::Fail;
+
+    /// The hash of a value, by the hasher that maps begin with.
+    fn hash_of<T: Hash>(value: &T) -> u64 {
+        let mut hasher = DefaultHasher::new();
+        value.hash(&mut hasher);
+        hasher.finish()
+    }
 
     #[test]
     fn texts_and_rows_keep_what_they_are_given(rt: HostRuntime) -> Result<(), Fail> {
@@ -56,6 +67,102 @@ mod tests {
         tile.set(1, 9);
         assert_eq!(rt; copy.as_slice(), [0, -7, 0].as_slice());
         assert_eq!(rt; (tile.get(1), copy.get(1), copy.len()), (9, -7, 3));
+        Ok(())
+    }
+
+    #[test]
+    fn tasks_are_in_task_order(rt: HostRuntime) -> Result<(), Fail> {
+        let rows = [
+            (TaskId::new(1, &[9]), TaskId::new(2, &[-9]), Ordering::Less),
+            (TaskId::new(1, &[-1]), TaskId::new(1, &[0]), Ordering::Less),
+            (
+                TaskId::new(1, &[3]),
+                TaskId::new(1, &[2, 5]),
+                Ordering::Greater,
+            ),
+            (
+                TaskId::new(1, &[2]),
+                TaskId::new(1, &[2, -5]),
+                Ordering::Less,
+            ),
+            (TaskId::new(0, &[]), TaskId::new(0, &[]), Ordering::Equal),
+            (
+                TaskId::new(4, &[7, -8]),
+                TaskId::new(4, &[7, -8]),
+                Ordering::Equal,
+            ),
+        ];
+        for (a, b, answer) in &rows {
+            assert_eq!(rt; a.cmp(b), *answer);
+            assert_eq!(rt; b.cmp(a), answer.reverse());
+            assert_eq!(rt; a.partial_cmp(b), Some(*answer));
+            assert_eq!(rt; a == b, answer.is_eq());
+            assert_eq!(rt; hash_of(a) == hash_of(b), answer.is_eq());
+        }
+        Ok(())
+    }
+
+    /// The edge from flow 0 of task 1(2) to this flow of task 3(4).
+    fn edge_into(in_flow: u8) -> Edge {
+        Edge {
+            from: TaskId::new(1, &[2]),
+            out_flow: 0,
+            to: TaskId::new(3, &[4]),
+            in_flow,
+        }
+    }
+
+    /// The write-back of flow 0 of task 1(2) at this column of row 5 of collection 0.
+    fn write_at(j: i64) -> WriteBack {
+        WriteBack {
+            from: TaskId::new(1, &[2]),
+            flow: 0,
+            place: Place { coll: 0, i: 5, j },
+        }
+    }
+
+    #[test]
+    fn items_are_in_order(rt: HostRuntime) -> Result<(), Fail> {
+        assert!(rt; edge_into(0) == edge_into(0));
+        assert_eq!(rt; hash_of(&edge_into(0)), hash_of(&edge_into(0)));
+        assert!(rt; edge_into(0) < edge_into(1));
+        assert!(rt; write_at(-1) == write_at(-1));
+        assert_eq!(rt; hash_of(&write_at(-1)), hash_of(&write_at(-1)));
+        assert!(rt; write_at(-1) < write_at(0));
+        assert!(rt; Item::Edge(edge_into(9)) < Item::Write(write_at(-1)));
+        assert!(rt; Item::Edge(edge_into(0)) != Item::Edge(edge_into(1)));
+        assert!(rt; Item::Write(write_at(0)) > Item::Write(write_at(-1)));
+        assert_eq!(rt;
+            hash_of(&Item::Edge(edge_into(3))),
+            hash_of(&Item::Edge(edge_into(3)))
+        );
+        tasks_compare_in_task_order();
+        items_compare_field_by_field();
+        Ok(())
+    }
+
+    #[test]
+    fn texts_are_in_the_order_of_their_bytes(rt: HostRuntime) -> Result<(), Fail> {
+        let alloc = rt.alloc();
+        let gemm = Text::of(alloc, b"GEMM")?;
+        assert!(rt; gemm == Text::of(alloc, b"GEMM")?);
+        assert_eq!(rt; hash_of(&gemm), hash_of(&Text::of(alloc, b"GEMM")?));
+        assert!(rt; gemm < Text::of(alloc, b"GEMMS")?);
+        assert!(rt; Text::of(alloc, b"POTRF")? > gemm);
+        Ok(())
+    }
+
+    #[test]
+    fn a_tile_takes_over_another(rt: HostRuntime) -> Result<(), Fail> {
+        let alloc = rt.alloc();
+        let mut from = Tile::zeros(alloc, 3)?;
+        from.set(0, 4);
+        from.set(2, -6);
+        let mut tile = Tile::zeros(alloc, 3)?;
+        tile.set(1, 5);
+        tile.copy_from(&from);
+        assert_eq!(rt; tile.as_slice(), [4, 0, -6].as_slice());
+        assert_eq!(rt; from.as_slice(), [4, 0, -6].as_slice());
         Ok(())
     }
 }

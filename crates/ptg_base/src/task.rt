@@ -1,24 +1,31 @@
-ghost use Rattle.std.specs.Prelude.{◌≡◌, ◌≤◌, length};
+ghost use Rattle.std.specs.Prelude.{◌≡◌, ◌≤◌, ◌↔◌, length, IsTrue, refl};
+ghost use Rattle.std.proofs.Common.{rules};
+ghost use Rattle.std.specs.Cmp.{po};
+ghost use Rattle.std.specs.Cmp.Rules.{comparing, hashing};
+ghost use Rattle.std.specs.Ordering.{as_partial_cmp};
+ghost use Rattle.ptg_base.specs.TaskComparing.{same_task, task_cmp, task_hash, ComparesInTaskOrder};
+ghost use Rattle.ptg_base.specs.TaskLaws.{same_task-ties, task_cmp-total};
 
+use arrayvec::ArrayVec;
+use std::cmp::Ordering;
+use std::hash::{Hash, Hasher};
 use std::marker::Model;
 
 /// A task: its class and the values of its parameters, of which there are at most eight. It takes no memory.
+///
+/// Tasks are in task order: by class, then by the parameters as signed numbers from the first on.
 #[derive(Debug, Drop)]
 pub struct TaskId {
     place: u32,
-    values: [i64; 8],
-    count: usize,
+    values: ArrayVec<i64, 8>,
 }
 
 impl Model for TaskId {
-    ghost use Rattle.std.specs.Prelude.{◌≤◌, take};
     ghost use Rattle.ptg_base.specs.Task.{Task};
 
     ghost Value = { Task };
 
-    ghost view = { λ t. record { class = t.place; params = take t.count t.values } };
-
-    ghost invariant = { λ t. t.count ≤ 8 };
+    ghost view = { λ t. record { class = t.place; params = t.values.items } };
 }
 
 impl TaskId {
@@ -27,13 +34,11 @@ impl TaskId {
         requires { length params.now ≤ 8 }
         ensures { result ≡ record { class = class; params = params.now } }
     {
-        let mut values = [0i64; 8];
-        let count = params.len();
-        values[..count].copy_from_slice(params);
+        let mut values = ArrayVec::new();
+        let _fits = values.try_extend_from_slice(params);
         TaskId {
             place: class,
             values,
-            count,
         }
     }
 
@@ -47,6 +52,63 @@ impl TaskId {
         ensures within { length result.now ≤ 8 }
         ensures same { result.now ≡ self.now.params }
     {
-        &self.values[..self.count]
+        self.values.as_slice()
+    }
+}
+
+impl PartialEq for TaskId {
+    ghost eq = { same_task };
+
+    ghost laws = { Prim.search (comparing, rules) };
+
+    fn eq(&self, other: &TaskId) -> bool
+        ensures eq { result ≡ same_task self.now other.now }
+        ensures same { IsTrue result ↔ (self.now ≡ other.now) }
+    {
+        self.class() == other.class() && self.params() == other.params()
+    }
+}
+
+impl Eq for TaskId {
+    ghost laws = { Prim.search (comparing, rules) };
+}
+
+impl PartialOrd for TaskId {
+    ghost partial_cmp = { as_partial_cmp task_cmp };
+
+    ghost laws = { po task_cmp-total same_task-ties };
+
+    fn partial_cmp(&self, other: &TaskId) -> Option<Ordering> {
+        Some(self.cmp(other))
+    }
+}
+
+impl Ord for TaskId {
+    ghost cmp = { task_cmp };
+
+    ghost total = { task_cmp-total };
+
+    ghost matches_partial_cmp = { λ _ _. refl };
+
+    ghost matches_eq = { same_task-ties };
+
+    fn cmp(&self, other: &TaskId) -> Ordering
+        ensures cmp { result ≡ task_cmp self.now other.now }
+        ensures task_order { ComparesInTaskOrder self.now other.now result }
+    {
+        self.class()
+            .cmp(&other.class())
+            .then_with(|| self.params().cmp(&other.params()))
+    }
+}
+
+impl Hash for TaskId {
+    ghost hash_input = { task_hash };
+
+    ghost respects_eq = { Prim.search (hashing, rules) };
+
+    fn hash<H: Hasher>(&self, state: &mut H) {
+        self.class().hash(state);
+        self.params().hash(state);
     }
 }

@@ -1,3 +1,4 @@
 pub mod Stopping
 pub mod Leading
 pub mod Ending
+pub mod Once

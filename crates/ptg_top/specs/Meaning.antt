@@ -71,6 +71,10 @@ Means words files (say.Data fault) = (fault ≡ coll.not_built) × (IsNoData wor
 Means words files (say.Match fault) = (G : Given) × (P : Plan) × HasPlan words files G P × (IsConsistent P → ⊥)
 Means words files (say.Answer P outcome) = (G : Given) × HasPlan words files G P × IsConsistent P × (outcome ≡ answer P G)
 
+-- words and files mean one thing at most
+abbrev pub OneMeaning : Type 0
+OneMeaning = (words : List (List ℕ)) (files : Entries) (v w : Verdict) → Means words files v → Means words files w → v ≡ w
+
 -- whose name may be told as unread: the JDF file's, or the data file's once the JDF is the text of a tree, where the files are told
 abbrev pub MayBeUnread : List (List ℕ) → Option Entries → List ℕ → Type 0
 MayBeUnread words told name =

@@ -2,12 +2,14 @@
 #![tactic(auto)]
 
 mod judge;
+mod laws;
 mod program;
 mod stages;
 mod status;
 mod telling;
 mod verdict;
 
+pub use laws::one_meaning;
 pub use program::ptg_main;
 pub use status::Status;
 pub use verdict::Verdict;

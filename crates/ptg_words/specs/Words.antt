@@ -2,7 +2,7 @@
 use Rattle.std.specs.Prelude.{◌≡◌, ◌≢◌, ℕ, List, [], ◌∷◌, codes}
 use Rattle.std.specs.Str.{IsUtf8}
 use Rattle.ptg_words.specs.declared.order.Order.{Order}
-use Rattle.ptg_words.specs.declared.order.Order.TheVariants.{Run}
+use Rattle.ptg_words.specs.declared.order.Order.TheVariants.{Run, Show}
 
 -- a word that is no option: not empty, and not beginning with `-`, which is 45
 abbrev pub IsOperand : List ℕ → Type 0
@@ -13,6 +13,7 @@ IsOperand (b ∷ bs) = b ≢ 45
 abbrev pub IsFileName : List ℕ → Type 0
 IsFileName word = IsOperand word × IsUtf8 word
 
--- `run JDF DATA` orders to run that job; no other words order anything
+-- `run JDF DATA` orders to run that job, and `show JDF` to print its canonical spelling; no other words order anything
 abbrev pub Orders : List (List ℕ) → Order → Type 0
 Orders words (Run jdf tiles) = (words ≡ codes "run" ∷ jdf ∷ tiles ∷ []) × IsFileName jdf × IsFileName tiles
+Orders words (Show jdf) = (words ≡ codes "show" ∷ jdf ∷ []) × IsFileName jdf

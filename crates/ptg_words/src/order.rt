@@ -8,6 +8,8 @@ use ptg_base::Text;
 pub enum Order {
     /// Run the job of this JDF file on this data file.
     Run(Text, Text),
+    /// Print the canonical spelling of this JDF file.
+    Show(Text),
 }
 
 /// Why there is no order.

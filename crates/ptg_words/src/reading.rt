@@ -6,7 +6,7 @@ use crate::order::{Order, WordsRefusal};
 use ptg_base::Text;
 use std::alloc::Global;
 
-/// The order that these words give: `run JDF DATA`, where both name files.
+/// The order that these words give: `run JDF DATA` or `show JDF`, where JDF and DATA name files.
 pub fn words(alloc: Global, list: &[Text]) -> Result<Order, WordsRefusal>
     ensures found { IfOk result (λ order. Orders list.now order) }
     ensures usage { result ≡ Err WordsRefusal.Usage → (order : Order) → Orders list.now order → ⊥ }
@@ -17,6 +17,9 @@ pub fn words(alloc: Global, list: &[Text]) -> Result<Order, WordsRefusal>
             let data = Text::of(alloc, data.bytes())?;
             Ok(Order::Run(jdf, data))
         }
+        [verb, jdf] if is_show(verb) && is_file_name(jdf) => {
+            Ok(Order::Show(Text::of(alloc, jdf.bytes())?))
+        }
         _ => Err(WordsRefusal::Usage),
     }
 }
@@ -25,6 +28,12 @@ fn is_run(word: &Text) -> bool
     ensures { IsTrue result ↔ (word.now ≡ codes "run") }
 {
     word.bytes() == b"run".as_slice()
+}
+
+fn is_show(word: &Text) -> bool
+    ensures { IsTrue result ↔ (word.now ≡ codes "show") }
+{
+    word.bytes() == b"show".as_slice()
 }
 
 // Is it text, not empty, and without a `-` at its front?

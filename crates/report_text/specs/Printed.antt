@@ -1,8 +1,8 @@
 use Rattle.std.specs.Prelude.{ℕ, ℤ, List, [], ◌∷◌, ◌++◌, length, map, flat_map, codes}
 use Rattle.std.specs.List.{join_with_byte, enumerate_from}
 use Rattle.std.specs.Fmt.{decimal, signed_decimal}
-use Rattle.term_core.specs.declared.body.Trap.{Trap}
-use Rattle.term_core.specs.declared.body.Trap.TheVariants.{Overflow, Divide, Index, Absent, Budget}
+use Rattle.body_first.specs.declared.body.Trap.{Trap}
+use Rattle.body_first.specs.declared.body.Trap.TheVariants.{Overflow, Divide, Index, Absent, Budget}
 use Rattle.plan_first.specs.declared.plan.Plan.{Plan}
 use Rattle.coll_data.specs.declared.given.Coll.{Coll}
 use Rattle.flow_core.specs.declared.outcome.TrapRow.{TrapRow}

@@ -7,12 +7,12 @@ ghost use Rattle.report_text.specs.Printed.{cause, coll_lines, line, outcome_tex
 
 use crate::fields::{Field, put_line};
 use crate::pieces::{Pieces, flush};
+use body_first::Trap;
 use coll_data::Coll;
 use flow_core::{Outcome, TrapRow, WaitRow};
 use plan_first::Plan;
 use ptg_base::Tile;
 use ptg_io::{Failed, Sink};
-use term_core::Trap;
 
 /// Prints the answer of a job. On `Err` some first bytes of it went out.
 pub fn report<O: Sink>(plan: &Plan, outcome: &Outcome, sink: &mut O) -> Result<(), Failed>

@@ -2,12 +2,13 @@ ghost use Rattle.std.specs.Prelude.{◌≡◌, ◌≤◌, OnOk, OnErr};
 ghost use Rattle.ptg_io.specs.Faults.{Rose};
 ghost use Rattle.ptg_io.specs.Sink.{appended};
 ghost use Rattle.report_text.specs.Puts.{Puts, HasPrefix};
-ghost use Rattle.report_text.specs.Refusal.{data_code, jdf_code, refusal_text};
+ghost use Rattle.report_text.specs.Refusal.{data_code, refusal_text};
 
+use crate::code::jdf_code;
 use crate::fields::{Field, put_line};
 use crate::pieces::{Pieces, flush};
 use coll_data::{DataCode, DataFault};
-use jdf_lex::{JdfCode, JdfFault};
+use jdf_lex::JdfFault;
 use ptg_io::{Failed, Sink};
 
 /// Why a job was not run.
@@ -70,15 +71,6 @@ fn put_refusal<O: Sink>(sink: &mut O, out: &mut Pieces, line: &Line) -> Result<(
             &[],
         ),
         Line::Unread(name) => { put_line(sink, out, b"unread", &[Field::Word(name)], &[], &[]) }
-    }
-}
-
-/// The code of a refused JDF text.
-fn jdf_code(code: JdfCode) -> &'static [u8]
-    ensures { result.now ≡ jdf_code code }
-{
-    match code {
-        JdfCode::NotBuilt => b"NotBuilt",
     }
 }
 

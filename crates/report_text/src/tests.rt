@@ -1,4 +1,5 @@
 use crate::{Line, refusal, report};
+use body_first::{Body, Trap};
 use coll_data::{Coll, DataCode, DataFault, Given};
 use flow_core::{Outcome, TrapRow, WaitRow};
 use jdf_lex::{JdfCode, JdfFault, Spot};
@@ -7,7 +8,7 @@ use ptg_base::{Row, TaskId, Text, Tile};
 use ptg_io::{Failed, MemSink};
 use std::alloc::Global;
 use std::test::Fail;
-use term_core::{Body, Expr, Trap};
+use term_core::Expr;
 
 /// A plan whose class is called `Chain`.
 fn plan(alloc: Global) -> Result<Plan, Fail> {

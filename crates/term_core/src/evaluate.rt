@@ -83,4 +83,22 @@ mod tests {
         assert_eq!(rt; eval(&chosen, &[0]), Err(ExprFault::Divide));
         Ok(())
     }
+
+    /// `0 && 1 / 0` is 0, and `(-9223372036854775807 - 1) % -1` has no value.
+    #[test]
+    fn ends_of_the_numbers(rt: HostRuntime) -> Result<(), OutOfMemory> {
+        let alloc = rt.alloc();
+        let by_zero = Expr::binary(alloc, BinOp::Div, Expr::num(1), Expr::num(0))?;
+        let both = Expr::binary(alloc, BinOp::And, Expr::num(0), by_zero)?;
+        assert_eq!(rt; eval(&both, &[]), Ok(0));
+        let least = Expr::binary(
+            alloc,
+            BinOp::Sub,
+            Expr::num(-9223372036854775807),
+            Expr::num(1),
+        )?;
+        let rest = Expr::binary(alloc, BinOp::Rem, least, Expr::num(-1))?;
+        assert_eq!(rt; eval(&rest, &[]), Err(ExprFault::Overflow));
+        Ok(())
+    }
 }

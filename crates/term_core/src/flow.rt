@@ -1,12 +1,12 @@
-/// What a task does with the tile of one of its flows.
+/// What a flow of a task does with its tile.
 #[derive(Clone, Copy, Debug, PartialEq, Eq)]
 pub enum FlowKind {
-    /// It reads the tile and passes it on unchanged.
+    /// Takes a tile and passes it on unchanged.
     Read,
-    /// It makes the tile.
+    /// Makes a tile.
     Write,
-    /// It reads the tile and may change it.
+    /// Takes a tile and changes it.
     Rw,
-    /// There is no tile: the flow carries order alone.
+    /// Carries order alone, and no tile.
     Ctl,
 }

@@ -1,4 +1,4 @@
-//! Expressions, their values, and the statements of bodies.
+//! Expressions and their values, ranges and spaces over them.
 #![tactic(auto)]
 
 mod arithmetic;
@@ -8,11 +8,15 @@ mod expr;
 mod fault;
 mod flow;
 mod operator;
+mod space;
+mod trap;
 
 pub use arithmetic::{arith, decide, unary};
-pub use body::{Body, Stmt, Trap};
+pub use body::{Block, Body, Stmt};
 pub use evaluate::{eval, local};
 pub use expr::{Expr, Node};
 pub use fault::ExprFault;
 pub use flow::FlowKind;
 pub use operator::{BinOp, UnOp};
+pub use space::{ClassSpace, Def, Params, Range};
+pub use trap::Trap;

@@ -1,8 +1,11 @@
-use Rattle.std.proofs.Common.{inl, inr, arith, ap, pos, ◌∙◌, w64}
+use Rattle.std.proofs.Common.{inl, inr, arith, ap, pos, refl, ◌∙◌, w64}
 use Rattle.std.proofs.lemmas.Int.{to_z_pos}
-use Rattle.jdf_first.proofs.Digits.{bad_digit, too_large, all_fit}
+use Rattle.jdf_first.proofs.Digits.{read_whole, bad_digit, too_large, all_fit}
 use Rattle.jdf_first.proofs.number.value_of.Goals as goal
 use Rattle.jdf_first.proofs.number.value_of.Goals.{then-byte-lt48-via-then-byte-lt48, then-byte-lt48-via-else-byte-lt48+then-byte-gt57}
+
+pub loop-byte-init : goal.loop-byte-init
+loop-byte-init c = record { fits = omega arith; same = read_whole c.args.text.now; digits = refl }
 
 pub returns-then-byte-lt48 : goal.returns-then-byte-lt48
 returns-then-byte-lt48 c =

@@ -1,7 +1,8 @@
 use Rattle.std.proofs.Common.{◌≡◌, ◌≤◌, drop}
 use Rattle.std.specs.List.{list_all}
 use Rattle.jdf_lex.specs.Tokens.{is_digit}
-use Rattle.jdf_first.specs.Numbers.{continued, decimal}
+use Rattle.jdf_first.specs.Numbers.{decimal}
+use Rattle.jdf_first.proofs.Digits.{continued}
 use Rattle.jdf_first.proofs.number.value_of.Given as goal
 
 -- the digits so far make this number

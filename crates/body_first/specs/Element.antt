@@ -1,0 +1,37 @@
+-- The elements of the tiles of a task's flows.
+use Rattle.std.specs.Prelude.{ℕ, ℤ, pos, negsuc, List, length, nat_lt, Result, Ok, Err, Option, Some, None, if◌then◌else◌, slice_index_or, slice_set}
+use Rattle.body_first.specs.declared.body.Trap.{Trap}
+use Rattle.body_first.specs.declared.body.Trap.TheVariants.{Index, Absent}
+
+-- a number as an index, where it is one of a list of so many elements
+abbrev pub index_in : ℕ → ℤ → Option ℕ
+index_in len (pos n) = if nat_lt n len then Some n else None
+index_in len (negsuc n) = None
+
+-- the tile of a flow: none where the flow is absent, or where there is no such flow
+abbrev pub tile_of : List (Option (List ℤ)) → ℕ → Option (List ℤ)
+tile_of tiles flow = slice_index_or tiles flow None
+
+-- the element at an index
+abbrev pub read_at : List ℤ → Option ℕ → Result ℤ Trap
+read_at xs (Some n) = Ok (slice_index_or xs n (pos 0))
+read_at xs None = Err Index
+
+-- the element of a tile, if there is one
+abbrev pub read : Option (List ℤ) → ℤ → Result ℤ Trap
+read None at = Err Absent
+read (Some xs) at = read_at xs (index_in (length xs) at)
+
+-- the element of a flow's tile: first the flow must be there, then the index
+abbrev pub element_value : List (Option (List ℤ)) → ℕ → ℤ → Result ℤ Trap
+element_value tiles flow at = read (tile_of tiles flow) at
+
+-- a tile with another element at an index
+abbrev pub written_at : List ℤ → Option ℕ → ℤ → Result (List ℤ) Trap
+written_at xs (Some n) v = Ok (slice_set xs n v)
+written_at xs None v = Err Index
+
+-- the same for a tile, if there is one
+abbrev pub written : Option (List ℤ) → ℤ → ℤ → Result (List ℤ) Trap
+written None at v = Err Absent
+written (Some xs) at v = written_at xs (index_in (length xs) at) v

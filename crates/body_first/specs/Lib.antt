@@ -1,0 +1,4 @@
+pub mod Element
+pub mod Meaning
+pub mod Trap
+pub mod WellMade

@@ -1,0 +1,75 @@
+-- The first fault of a text. Its codes and their order are this project's own choice.
+use Rattle.std.specs.Prelude.{◌≡◌, ℕ, ◌<◌, ◌≤◌, List, length, take, Some, None, slice_get, ◌⊎◌}
+use Rattle.std.specs.Str.{IsUtf8}
+use Rattle.jdf_lex.specs.declared.fault.JdfCode.{JdfCode}
+use Rattle.jdf_lex.specs.declared.fault.JdfCode.TheVariants as jdf
+use Rattle.jdf_lex.specs.declared.fault.JdfFault.{JdfFault}
+use Rattle.jdf_lex.specs.declared.token.Spot.{Spot}
+use Rattle.jdf_lex.specs.declared.token.Token.{Token}
+use Rattle.jdf_lex.specs.Tokens.{IsLexed, IsTokenFault, spot_after}
+use Rattle.grammar_core.specs.declared.code.Code.{Code}
+use Rattle.grammar_core.specs.declared.code.Code.TheVariants as code
+use Rattle.grammar_core.specs.Form.{IsFirstFault}
+use Rattle.jdf_tree.specs.Grammar.{inner, file}
+
+-- the place of the first byte
+abbrev pub start : Spot
+start = record { line = 1; column = 1 }
+
+-- The text stops being UTF-8 at this byte: what stands before it is UTF-8, and no longer front of the text is.
+pub record StopsBeingUtf8 (bytes : List ℕ) (at : ℕ) : Type 0 where
+  pub within : at < length bytes
+  pub before : IsUtf8 (take at bytes)
+  pub longest : (n : ℕ) → n ≤ length bytes → IsUtf8 (take n bytes) → n ≤ at
+
+-- the name of a fault of the grammar, at a token
+abbrev pub code_at_token : Code → JdfCode
+code_at_token code.Syntax = jdf.Syntax
+code_at_token code.BadNumber = jdf.BadNumber
+code_at_token code.ExprTooLong = jdf.ExprTooLong
+code_at_token code.TooManyClasses = jdf.TooManyClasses
+code_at_token code.TooManyParams = jdf.TooManyParams
+code_at_token code.TooManyLocals = jdf.TooManyLocals
+code_at_token code.TooManyFlows = jdf.TooManyFlows
+code_at_token code.TooManyDeps = jdf.TooManyDeps
+
+-- The first fault of the grammar is this one: at a token, or behind the last one, where the text is cut short.
+pub record IsGrammarFault (tokens : List Token) (end : Spot) (fault : JdfFault) : Type 0 where
+  pub place : ℕ
+  pub code : Code
+  pub first : IsFirstFault inner file tokens place code
+  pub named :
+      ((token : Token) × (slice_get tokens place ≡ Some token) × (fault ≡ record { spot = token.spot; code = code_at_token code }))
+      ⊎ ((slice_get tokens place ≡ None) × (fault ≡ record { spot = end; code = jdf.Truncated }))
+
+-- the text has more than 16 MiB
+pub record IsTooLong (bytes : List ℕ) (fault : JdfFault) : Type 0 where
+  pub long : 16777216 < length bytes
+  pub named : fault ≡ record { spot = start; code = jdf.TooLong }
+
+-- it has not, and is not UTF-8
+pub record IsNotUtf8 (bytes : List ℕ) (fault : JdfFault) : Type 0 where
+  pub short : length bytes ≤ 16777216
+  pub at : ℕ
+  pub stops : StopsBeingUtf8 bytes at
+  pub named : fault ≡ record { spot = spot_after (take at bytes); code = jdf.NotUtf8 }
+
+-- it is UTF-8, and has a token fault
+pub record IsBadToken (bytes : List ℕ) (fault : JdfFault) : Type 0 where
+  pub short : length bytes ≤ 16777216
+  pub utf8 : IsUtf8 bytes
+  pub wrong : IsTokenFault bytes fault
+
+-- it has tokens, at most 1000000, which are no text of the grammar
+pub record IsNoText (bytes : List ℕ) (fault : JdfFault) : Type 0 where
+  pub short : length bytes ≤ 16777216
+  pub utf8 : IsUtf8 bytes
+  pub tokens : List Token
+  pub end : Spot
+  pub lexed : IsLexed bytes tokens end
+  pub few : length tokens ≤ 1000000
+  pub wrong : IsGrammarFault tokens end fault
+
+-- this is the first fault of the bytes: of their length, their characters, their tokens or their grammar
+abbrev pub IsJdfFault : List ℕ → JdfFault → Type 0
+IsJdfFault bytes fault = IsTooLong bytes fault ⊎ (IsNotUtf8 bytes fault ⊎ (IsBadToken bytes fault ⊎ IsNoText bytes fault))

@@ -1,0 +1,245 @@
+-- Words and files mean one thing at most. What is to be said names the last stage that words and files reach, of
+-- order, JDF file, tree, data file, data, globals, plan and consistency, and each stage that is reached is reached in one way.
+use Rattle.std.proofs.Common.{◌≡◌, ℕ, zero, suc, ◌+◌, ◌<◌, ◌≤◌, List, [], ◌∷◌, Some, refl, sym, ◌∙◌, ap, subst, inl, inr, arith, codes}
+use Rattle.std.specs.Prelude.{Option, None, ◌⊎◌}
+use Rattle.std.proofs.lemmas.Bool.{cases_lt, cases_order}
+use Rattle.ptg_io.specs.Files.{file_of}
+use Rattle.ptg_io.specs.Sink.{appended}
+use Rattle.ptg_words.specs.declared.order.Order.{Order}
+use Rattle.ptg_words.specs.declared.order.Order.TheVariants.{Run}
+use Rattle.ptg_words.specs.Words.{Orders}
+use Rattle.jdf_lex.specs.Tokens as jdf_text
+use Rattle.jdf_first.specs.declared.tree.Jdf.{Jdf}
+use Rattle.jdf_first.specs.Jdf.{IsJdf}
+use Rattle.jdf_first.proofs.File.{one_text_one_tree}
+use Rattle.coll_data.specs.declared.given.Given.{Given}
+use Rattle.coll_data.specs.Data as coll
+use Rattle.coll_data.specs.Data.{IsData}
+use Rattle.coll_data.proofs.Once.{one_data}
+use Rattle.plan_first.specs.declared.plan.Plan.{Plan}
+use Rattle.flow_check.specs.Names.{IsMissing}
+use Rattle.flow_check.specs.Planned.{IsPlan}
+use Rattle.flow_check.proofs.Once.{one_plan}
+use Rattle.dep_iter.specs.Consistent.{IsConsistent}
+use Rattle.flow_core.specs.Answer.{answer}
+use Rattle.edge_match.specs.declared.fault.MatchCode.{MatchCode}
+use Rattle.edge_match.specs.declared.fault.MatchFault.{MatchFault}
+use Rattle.edge_match.specs.declared.fault.MatchCode.TheVariants.{NotBuilt}
+use Rattle.ptg_top.specs.declared.verdict.Verdict.{Verdict}
+use Rattle.ptg_top.specs.declared.verdict.Verdict.TheVariants as say
+use Rattle.ptg_top.specs.Stages.{Entries, HasTree, HasData, HasPlan}
+use Rattle.ptg_top.specs.Meaning.{Means, OneMeaning, IsNoOrder, IsNoFile, IsNoTree, IsNoData, IsLacking, IsNoPlan}
+use Rattle.ptg_top.specs.Headline.{text_of, status_of, OneOutput}
+
+-- the two files of an order are determined
+same_files : (words : List (List ℕ)) (jdf tiles jdf' tiles' : List ℕ) → Orders words (Run jdf tiles) → Orders words (Run jdf' tiles') → (jdf ≡ jdf') × (tiles ≡ tiles')
+same_files words jdf tiles jdf' tiles' one other = parts (codes "run") (sym one.0 ∙ other.0)
+  where
+    parts : (verb : List ℕ) → ◌≡◌ {A = List (List ℕ)} (verb ∷ jdf ∷ tiles ∷ []) (verb ∷ jdf' ∷ tiles' ∷ []) → (jdf ≡ jdf') × (tiles ≡ tiles')
+    parts verb e = (cc, cc)
+
+-- a name has one content
+same_bytes : (files : Entries) (name name' bytes bytes' : List ℕ) → name ≡ name' → file_of files name ≡ Some bytes → file_of files name' ≡ Some bytes' → bytes ≡ bytes'
+same_bytes files name name' bytes bytes' e one other = parts (sym one ∙ (ap (file_of files) e ∙ other))
+  where
+    parts : ◌≡◌ {A = Option (List ℕ)} (Some bytes) (Some bytes') → bytes ≡ bytes'
+    parts e = cc
+
+no_bytes : (files : Entries) (name name' bytes : List ℕ) → name ≡ name' → file_of files name ≡ None → file_of files name' ≡ Some bytes → ⊥
+no_bytes files name name' bytes e one other = never (sym one ∙ (ap (file_of files) e ∙ other))
+  where
+    never : ◌≡◌ {A = Option (List ℕ)} None (Some bytes) → ⊥
+    never e = cc
+
+module _ (words : List (List ℕ)) (files : Entries) where
+  tree_once : (t t' : List ℕ) (J J' : Jdf) → HasTree words files t J → HasTree words files t' J' → (t ≡ t') × (J ≡ J')
+  tree_once t t' J J' one other =
+      let names = same_files words one.jdf t other.jdf t' one.order other.order in
+      let bytes = same_bytes files one.jdf other.jdf one.bytes other.bytes names.0 one.file other.file in
+      (names.1, one_text_one_tree other.bytes J J' (subst (λ b. IsJdf b J) bytes one.tree) other.tree)
+
+  data_once : (J J' : Jdf) (G G' : Given) → HasData words files J G → HasData words files J' G' → (J ≡ J') × (G ≡ G')
+  data_once J J' G G' one other =
+      let trees = tree_once one.tiles other.tiles J J' one.tree other.tree in
+      let bytes = same_bytes files one.tiles other.tiles one.bytes other.bytes trees.0 one.file other.file in
+      (trees.1, one_data other.bytes G G' (subst (λ b. IsData b G) bytes one.spelled) other.spelled)
+
+  plan_once : (G G' : Given) (P P' : Plan) → HasPlan words files G P → HasPlan words files G' P' → (G ≡ G') × (P ≡ P')
+  plan_once G G' P P' one other =
+      let known = data_once one.jdf other.jdf G G' one.known other.known in
+      let plan : IsPlan other.jdf G' P = subst (λ g. IsPlan other.jdf g P) known.1 (subst (λ j. IsPlan j G P) known.0 one.plan) in
+      (known.1, one_plan other.jdf G' P P' plan other.plan)
+
+  -- ---- the stages, each behind the one before it
+
+  abbrev Ordered : Type 0
+  Ordered = (jdf tiles : List ℕ) × Orders words (Run jdf tiles)
+
+  abbrev JdfFile : Type 0
+  JdfFile = (jdf tiles bytes : List ℕ) × Orders words (Run jdf tiles) × (file_of files jdf ≡ Some bytes)
+
+  abbrev Tree : Type 0
+  Tree = (tiles : List ℕ) × (J : Jdf) × HasTree words files tiles J
+
+  abbrev DataFile : Type 0
+  DataFile = (tiles bytes : List ℕ) × (J : Jdf) × HasTree words files tiles J × (file_of files tiles ≡ Some bytes)
+
+  abbrev Data : Type 0
+  Data = (J : Jdf) × (G : Given) × HasData words files J G
+
+  abbrev Named : Type 0
+  Named = (J : Jdf) × (G : Given) × HasData words files J G × (IsMissing J G → ⊥)
+
+  abbrev Planned : Type 0
+  Planned = (G : Given) × (P : Plan) × HasPlan words files G P
+
+  abbrev Consistent : Type 0
+  Consistent = (G : Given) × (P : Plan) × HasPlan words files G P × IsConsistent P
+
+  abbrev Reaches : ℕ → Type 0
+  Reaches zero = Unit {0}
+  Reaches (suc zero) = Ordered
+  Reaches (suc (suc zero)) = JdfFile
+  Reaches (suc (suc (suc zero))) = Tree
+  Reaches (suc (suc (suc (suc zero)))) = DataFile
+  Reaches (suc (suc (suc (suc (suc zero))))) = Data
+  Reaches (suc (suc (suc (suc (suc (suc zero)))))) = Named
+  Reaches (suc (suc (suc (suc (suc (suc (suc zero))))))) = Planned
+  Reaches (suc (suc (suc (suc (suc (suc (suc (suc zero)))))))) = Consistent
+  Reaches (suc (suc (suc (suc (suc (suc (suc (suc (suc n))))))))) = ⊥
+
+  step : (k : ℕ) → Reaches (suc k) → Reaches k
+  step zero h = tt
+  step (suc zero) h = (h.0, h.1, h.3)
+  step (suc (suc zero)) h = (h.2.jdf, h.0, h.2.bytes, h.2.order, h.2.file)
+  step (suc (suc (suc zero))) h = (h.0, h.2, h.3)
+  step (suc (suc (suc (suc zero)))) h = (h.2.tiles, h.2.bytes, h.0, h.2.tree, h.2.file)
+  step (suc (suc (suc (suc (suc zero))))) h = (h.0, h.1, h.2)
+  step (suc (suc (suc (suc (suc (suc zero)))))) h = (h.2.jdf, h.0, h.2.known, h.2.named)
+  step (suc (suc (suc (suc (suc (suc (suc zero))))))) h = (h.0, h.1, h.2)
+  step (suc (suc (suc (suc (suc (suc (suc (suc n)))))))) h = absurd h
+
+  down : (k m : ℕ) → k ≤ m → Reaches m → Reaches k
+  down k zero le h = let e : zero ≡ k = omega arith in subst Reaches e h
+  down k (suc m) le h = elim (cases_lt k (suc m)) [ inl lt ↦ down k m (omega arith) (step m h) | inr ge ↦ let e : suc m ≡ k = omega arith in subst Reaches e h ]
+
+  -- what is said where the last stage is this one
+  abbrev SaidAt : ℕ → Verdict → Type 0
+  SaidAt zero v = v ≡ say.Usage
+  SaidAt (suc zero) v = (jdf tiles : List ℕ) × Orders words (Run jdf tiles) × (v ≡ say.Unread jdf)
+  SaidAt (suc (suc zero)) v = v ≡ say.Jdf jdf_text.not_built
+  SaidAt (suc (suc (suc zero))) v = (tiles : List ℕ) × (J : Jdf) × HasTree words files tiles J × (v ≡ say.Unread tiles)
+  SaidAt (suc (suc (suc (suc zero)))) v = v ≡ say.Data coll.not_built
+  SaidAt (suc (suc (suc (suc (suc zero))))) v = v ≡ say.Data coll.not_built
+  SaidAt (suc (suc (suc (suc (suc (suc zero)))))) v = v ≡ say.Jdf jdf_text.not_built
+  SaidAt (suc (suc (suc (suc (suc (suc (suc zero))))))) v = v ≡ say.Match (record { code = NotBuilt })
+  SaidAt (suc (suc (suc (suc (suc (suc (suc (suc n)))))))) v = (G : Given) × (P : Plan) × HasPlan words files G P × (v ≡ say.Answer P (answer P G))
+
+  said_once : (k : ℕ) (v w : Verdict) → SaidAt k v → SaidAt k w → v ≡ w
+  said_once zero v w one other = one ∙ sym other
+  said_once (suc zero) v w one other = one.3 ∙ (ap (λ (name : List ℕ). say.Unread name) (same_files words one.0 one.1 other.0 other.1 one.2 other.2).0 ∙ sym other.3)
+  said_once (suc (suc zero)) v w one other = one ∙ sym other
+  said_once (suc (suc (suc zero))) v w one other = one.3 ∙ (ap (λ (name : List ℕ). say.Unread name) (tree_once one.0 other.0 one.1 other.1 one.2 other.2).0 ∙ sym other.3)
+  said_once (suc (suc (suc (suc zero)))) v w one other = one ∙ sym other
+  said_once (suc (suc (suc (suc (suc zero))))) v w one other = one ∙ sym other
+  said_once (suc (suc (suc (suc (suc (suc zero)))))) v w one other = one ∙ sym other
+  said_once (suc (suc (suc (suc (suc (suc (suc zero))))))) v w one other = one ∙ sym other
+  said_once (suc (suc (suc (suc (suc (suc (suc (suc n)))))))) v w one other =
+      let same = plan_once one.0 other.0 one.1 other.1 one.2 other.2 in
+      one.3 ∙ ((λ i. say.Answer (same.1 i) (answer (same.1 i) (same.0 i))) ∙ sym other.3)
+
+  -- the last stage that is reached, and what is said there
+  record Stopped (v : Verdict) : Type 0 where
+    at : ℕ
+    reached : Reaches at
+    last : Reaches (suc at) → ⊥
+    said : SaidAt at v
+
+  match_fault : (fault : MatchFault) → fault ≡ record { code = NotBuilt }
+  match_fault fault = go fault.code
+    where
+      go : (code : MatchCode) → ◌≡◌ {A = MatchFault} (record { code = code }) (record { code = NotBuilt })
+      go NotBuilt = refl
+
+  no_file_stops : (name : List ℕ) → IsNoFile words files name → Stopped (say.Unread name)
+  no_file_stops name (inl order, none) =
+      record { at = 1; reached = (name, order.0, order.1); last = λ h. no_bytes files name h.0 h.2 (same_files words name order.0 h.0 h.1 order.1 h.3).0 none h.4; said = (name, order.0, order.1, refl) }
+  no_file_stops name (inr tree, none) =
+      record { at = 3; reached = (name, tree.0, tree.1); last = λ h. no_bytes files name h.0 h.1 (tree_once name h.0 tree.0 h.2 tree.1 h.3).0 none h.4; said = (name, tree.0, tree.1, refl) }
+
+  no_tree_stops : IsNoTree words files → Stopped (say.Jdf jdf_text.not_built)
+  no_tree_stops h =
+      record {
+        at = 2;
+        reached = (h.jdf, h.tiles, h.bytes, h.order, h.file);
+        last = λ t.
+            let names = same_files words t.2.jdf t.0 h.jdf h.tiles t.2.order h.order in
+            h.none t.1 (subst (λ b. IsJdf b t.1) (same_bytes files t.2.jdf h.jdf t.2.bytes h.bytes names.0 t.2.file h.file) t.2.tree);
+        said = refl;
+      }
+
+  no_data_stops : IsNoData words files → Stopped (say.Data coll.not_built)
+  no_data_stops h =
+      record {
+        at = 4;
+        reached = (h.tiles, h.bytes, h.jdf, h.tree, h.file);
+        last = λ d.
+            let names = tree_once d.2.tiles h.tiles d.0 h.jdf d.2.tree h.tree in
+            h.none d.1 (subst (λ b. IsData b d.1) (same_bytes files d.2.tiles h.tiles d.2.bytes h.bytes names.0 d.2.file h.file) d.2.spelled);
+        said = refl;
+      }
+
+  lacking_stops : IsLacking words files → Stopped (say.Data coll.not_built)
+  lacking_stops h =
+      record {
+        at = 5;
+        reached = (h.jdf, h.given, h.known);
+        last = λ n.
+            let same = data_once h.jdf n.0 h.given n.1 h.known n.2 in
+            n.3 (subst (λ g. IsMissing n.0 g) same.1 (subst (λ j. IsMissing j h.given) same.0 h.lacking));
+        said = refl;
+      }
+
+  no_plan_stops : IsNoPlan words files → Stopped (say.Jdf jdf_text.not_built)
+  no_plan_stops h =
+      record {
+        at = 6;
+        reached = (h.jdf, h.given, h.known, h.named);
+        last = λ p.
+            let same = data_once p.2.jdf h.jdf p.0 h.given p.2.known h.known in
+            h.none p.1 (subst (λ g. IsPlan h.jdf g p.1) same.1 (subst (λ j. IsPlan j p.0 p.1) same.0 p.2.plan));
+        said = refl;
+      }
+
+  said_by : (v : Verdict) (w : Verdict) → v ≡ w → Stopped w → Stopped v
+  said_by v w e h = subst Stopped (sym e) h
+
+  stops : (v : Verdict) → Means words files v → Stopped v
+  stops say.Usage h = record { at = 0; reached = tt; last = λ o. h (Run o.0 o.1) o.2; said = refl }
+  stops (say.Unread name) h = no_file_stops name h
+  stops (say.Jdf fault) h = said_by (say.Jdf fault) (say.Jdf jdf_text.not_built) (ap say.Jdf h.0) (elim h.1 [ inl t ↦ no_tree_stops t | inr p ↦ no_plan_stops p ])
+  stops (say.Data fault) h = said_by (say.Data fault) (say.Data coll.not_built) (ap say.Data h.0) (elim h.1 [ inl d ↦ no_data_stops d | inr l ↦ lacking_stops l ])
+  stops (say.Match fault) h =
+      record {
+        at = 7;
+        reached = (h.0, h.1, h.2);
+        last = λ c. h.3 (subst IsConsistent (plan_once c.0 h.0 c.1 h.1 c.2 h.2).1 c.3);
+        said = ap say.Match (match_fault fault);
+      }
+  stops (say.Answer P outcome) h =
+      record { at = 8; reached = (h.0, P, h.1, h.2); last = λ none. none; said = (h.0, P, h.1, ap (λ o. say.Answer P o) h.3) }
+
+  one_stop : (v w : Verdict) → Stopped v → Stopped w → v ≡ w
+  one_stop v w one other = elim (cases_order one.at other.at) [
+    | inl same ↦ said_once other.at v w (subst (λ k. SaidAt k v) same one.said) other.said
+    | inr (inl lt) ↦ absurd (one.last (down (suc one.at) other.at (omega arith) other.reached))
+    | inr (inr lt) ↦ absurd (other.last (down (suc other.at) one.at (omega arith) one.reached))
+  ]
+
+pub one_meaning : OneMeaning
+one_meaning words files v w one other = one_stop words files v w (stops words files v one) (stops words files w other)
+
+pub one_output : OneOutput
+one_output words files before after other status another one two =
+    let same = one_meaning words files one.verdict two.verdict one.means two.means in
+    (one.text ∙ (ap (λ v. appended before (text_of v)) same ∙ sym two.text), one.ends ∙ (ap status_of same ∙ sym two.ends))

@@ -1,0 +1,35 @@
+-- The bounds and the values of a range under the values of the definitions before it, or the first fault. Source: the JDF documentation; that a step of 0 is a fault is this project's own choice.
+use Rattle.std.specs.Prelude.{ℤ, pos, List, Option, Some, None, Result, Ok, Err, if◌then◌else◌}
+use Rattle.std.specs.Ordering.{int_eq}
+use Rattle.term_core.specs.Term.{Term}
+use Rattle.term_core.specs.Value.{value, after, faulting}
+use Rattle.term_core.specs.declared.space.Range.{Range}
+use Rattle.range_space.specs.declared.fault.SpanFault.{SpanFault}
+use Rattle.range_space.specs.declared.fault.SpanFault.TheVariants.{Expr, ZeroStep}
+use Rattle.range_space.specs.Values.{values}
+
+-- the value of an expression, where each fault is one of a range
+abbrev pub number : Term → List ℤ → Result ℤ SpanFault
+number e env = faulting Expr (value e env)
+
+-- the step of a range is 1 where none is written; its value must not be 0
+abbrev pub nonzero : ℤ → Result ℤ SpanFault
+nonzero z = if int_eq z (pos 0) then Err ZeroStep else Ok z
+
+abbrev pub step_number : Option Term → List ℤ → Result ℤ SpanFault
+step_number None env = Ok (pos 1)
+step_number (Some e) env = after (number e env) nonzero
+
+pub record Bounds : Type 0 where
+  pub lo : ℤ
+  pub hi : ℤ
+  pub step : ℤ
+
+-- lo, hi and the step, evaluated in this order
+abbrev pub bounds : Range → List ℤ → Result Bounds SpanFault
+bounds r env =
+    after (number r.lo env) (λ lo. after (number r.hi env) (λ hi. after (step_number r.step env) (λ step. Ok (record { lo = lo; hi = hi; step = step }))))
+
+-- the values of a range
+abbrev pub range_values : Range → List ℤ → Result (List ℤ) SpanFault
+range_values r env = after (bounds r env) (λ b. Ok (values b.lo b.hi b.step))

@@ -1,0 +1,98 @@
+ghost use Rattle.std.specs.Prelude.{◌≡◌, ◌≢◌, ◌↔◌, ℤ, pos, ◌%◌, length, IsTrue, IfOk, IfErr, Ok, Err, unsigned_abs, ◌-ℤ◌};
+ghost use Rattle.ptg_base.specs.Lists.{IsIn};
+ghost use Rattle.range_space.specs.Values.{is_within, values};
+ghost use Rattle.range_space.specs.Fault.{bounds, number, step_number};
+
+use crate::fault::SpanFault;
+use crate::values::Values;
+use term_core::{Expr, Range, eval};
+
+/// The numbers `lo`, `lo + step` and so on while they are not past `hi`.
+#[derive(Clone, Copy, Debug)]
+pub struct Steps {
+    pub lo: i64,
+    pub hi: i64,
+    pub step: i64,
+    ghost moves: { step ≢ pos 0 },
+}
+
+/// Whether a value is not past `hi` on a way of this step.
+pub(crate) fn within(hi: i64, step: i64, v: i64) -> bool
+    ensures { result ≡ is_within hi step v }
+{
+    if step > 0 {
+        v <= hi
+    } else {
+        step < 0 && hi <= v
+    }
+}
+
+pub(crate) fn number(e: &Expr, env: &[i64]) -> Result<i64, SpanFault>
+    ensures { result ≡ number e.now env.now }
+{
+    match eval(e, env) {
+        Ok(z) => Ok(z),
+        Err(fault) => Err(SpanFault::Expr(fault)),
+    }
+}
+
+fn step_number(step: &Option<Expr>, env: &[i64]) -> Result<i64, SpanFault>
+    ensures { result ≡ step_number step.now env.now }
+{
+    match step {
+        None => Ok(1),
+        Some(e) => {
+            let z = number(e, env)?;
+            if z == 0 {
+                Err(SpanFault::ZeroStep)
+            } else {
+                Ok(z)
+            }
+        }
+    }
+}
+
+/// The steps of a range under the values of the definitions before it, or its first fault.
+pub fn steps_of(range: &Range, env: &[i64]) -> Result<Steps, SpanFault>
+    ensures steps { IfOk result (λ s. bounds range.now env.now ≡ Ok (record { lo = s.lo; hi = s.hi; step = s.step })) }
+    ensures fault { IfErr result (λ e. bounds range.now env.now ≡ Err e) }
+{
+    let lo = number(&range.lo, env)?;
+    let hi = number(&range.hi, env)?;
+    let step = step_number(&range.step, env)?;
+    Ok(Steps { lo, hi, step })
+}
+
+impl Steps {
+    /// The values, in order.
+    pub fn values(&self) -> Values
+        ensures { result ≡ values self.now.lo self.now.hi self.now.step }
+    {
+        Values::from(self.lo, self.hi, self.step)
+    }
+
+    /// How many values there are.
+    pub fn count(&self) -> u128
+        ensures { result ≡ length (values self.now.lo self.now.hi self.now.step) }
+    {
+        if !within(self.hi, self.step, self.lo) {
+            return 0;
+        }
+        let gap = self.hi.abs_diff(self.lo);
+        u128::from(gap / self.step.unsigned_abs()) + 1
+    }
+
+    /// Whether a number is one of the values.
+    pub fn has(&self, v: i64) -> bool
+        ensures { IsTrue result ↔ IsIn v (values self.now.lo self.now.hi self.now.step) }
+    {
+        if !within(self.hi, self.step, v) {
+            return false;
+        }
+        if !within(v, self.step, self.lo) {
+            return false;
+        }
+        let gap = v.abs_diff(self.lo);
+        gap % self.step.unsigned_abs() == 0
+    }
+}

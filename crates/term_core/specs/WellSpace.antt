@@ -1,0 +1,46 @@
+-- Well made spaces: a definition names only those before it, and each range is the definition of a parameter. Source: the JDF documentation; the limit is this project's own choice.
+use Rattle.std.specs.Prelude.{ℕ, suc, List, [], ◌∷◌, length, Option, Some, None, Bool, true, not, ◌&&◌, ◌==◌, ◌≤◌, nat_lt, IsTrue}
+use Rattle.std.specs.List.{list_all, list_any}
+use Rattle.term_core.specs.Term.{Term}
+use Rattle.term_core.specs.Value.{is_closed}
+use Rattle.term_core.specs.declared.space.Def.{Def}
+use Rattle.term_core.specs.declared.space.Def.TheVariants.{Span, Value}
+use Rattle.term_core.specs.declared.space.ClassSpace.{ClassSpace}
+
+-- whether a step names only the first so many definitions; one that is not written names none
+abbrev pub is_closed_step : ℕ → Option Term → Bool
+is_closed_step before None = true
+is_closed_step before (Some e) = is_closed before e
+
+-- whether a definition names only the first so many definitions, and no element of a tile
+abbrev pub is_closed_def : ℕ → Def → Bool
+is_closed_def before (Span r) = is_closed before r.lo && is_closed before r.hi && is_closed_step before r.step
+is_closed_def before (Value e) = is_closed before e
+
+-- whether each definition names only those before it, where so many stand before the first
+abbrev pub are_closed : ℕ → List Def → Bool
+are_closed before [] = true
+are_closed before (d ∷ ds) = is_closed_def before d && are_closed (suc before) ds
+
+-- whether the number is one of the list
+abbrev pub is_among : ℕ → List ℕ → Bool
+is_among n ps = list_any (λ p. p == n) ps
+
+-- whether each range is the definition of a parameter, where so many definitions stand before the first
+abbrev pub spans_are_params : ℕ → List Def → List ℕ → Bool
+spans_are_params before [] params = true
+spans_are_params before (Span r ∷ ds) params = is_among before params && spans_are_params (suc before) ds params
+spans_are_params before (Value e ∷ ds) params = spans_are_params (suc before) ds params
+
+-- whether no number stands twice
+abbrev pub are_different : List ℕ → Bool
+are_different [] = true
+are_different (p ∷ ps) = not (is_among p ps) && are_different ps
+
+-- at most 16 definitions that name only those before them; the parameters are different definitions, each range among them
+pub record IsWellSpace (s : ClassSpace) : Type 0 where
+  pub few : length s.defs ≤ 16
+  pub closed : IsTrue (are_closed 0 s.defs)
+  pub within : IsTrue (list_all (λ p. nat_lt p (length s.defs)) s.params)
+  pub different : IsTrue (are_different s.params)
+  pub spans : IsTrue (spans_are_params 0 s.defs s.params)

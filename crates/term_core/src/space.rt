@@ -1,0 +1,76 @@
+ghost use Rattle.std.specs.Prelude.{◌≡◌, ◌≤◌, length};
+
+use crate::expr::Expr;
+use ptg_base::Row;
+use std::marker::Model;
+
+/// The numbers from `lo` to `hi` by `step`, or by 1 where no step is written.
+#[derive(Debug, Drop)]
+pub struct Range {
+    pub lo: Expr,
+    pub hi: Expr,
+    pub step: Option<Expr>,
+}
+
+/// What gives a local of a class its values.
+#[derive(Debug, Drop)]
+pub enum Def {
+    /// Each value of a range.
+    Span(Range),
+    /// The value of an expression alone.
+    Value(Expr),
+}
+
+/// At most eight numbers of definitions: that of each parameter, in the order of the parameters. It takes no memory.
+#[derive(Debug, Drop)]
+pub struct Params {
+    numbers: [u8; 8],
+    count: usize,
+}
+
+impl Model for Params {
+    ghost use Rattle.std.specs.Prelude.{List, ℕ, ◌≤◌, take};
+
+    ghost Value = { List ℕ };
+
+    ghost view = { λ p. take p.count p.numbers };
+
+    ghost invariant = { λ p. p.count ≤ 8 };
+}
+
+impl Params {
+    /// The parameters that these definitions give their values.
+    pub fn new(definitions: &[u8]) -> Params
+        requires { length definitions.now ≤ 8 }
+        ensures { result ≡ definitions.now }
+    {
+        let mut numbers = [0u8; 8];
+        let count = definitions.len();
+        numbers[..count].copy_from_slice(definitions);
+        Params { numbers, count }
+    }
+
+    pub fn as_slice(&self) -> &[u8]
+        ensures within { length result.now ≤ 8 }
+        ensures same { result.now ≡ self.now }
+    {
+        &self.numbers[..self.count]
+    }
+}
+
+/// The definitions of a class in the order of their nesting, and which of them are its parameters.
+#[derive(Debug, Drop)]
+pub struct ClassSpace {
+    pub defs: Row<Def>,
+    pub params: Params,
+}
+
+#[cfg(test)]
+mod tests {
+    use super::*;
+
+    #[test]
+    fn parameters_keep_their_order(rt: HostRuntime) {
+        assert_eq!(rt; Params::new(&[2, 0]).as_slice(), [2, 0].as_slice());
+    }
+}
