@@ -1,5 +1,5 @@
 -- A text as pieces: tokens, and blanks between them.
-use Rattle.std.specs.Prelude.{ℕ, List, [], ◌∷◌, ◌++◌, flat_map, codes}
+use Rattle.std.specs.Prelude.{ℕ, ◌+◌, List, [], ◌∷◌, ◌++◌, flat_map, codes}
 
 pub data Piece : Type 0 where
   -- the bytes of a token
@@ -41,3 +41,9 @@ comma = token (codes ",") ∷ space ∷ []
 -- with commas between
 abbrev pub with_commas : List (List Piece) → List Piece
 with_commas xs = separated comma xs
+
+-- how many of the pieces are tokens
+abbrev pub token_count : List Piece → ℕ
+token_count [] = 0
+token_count (token word ∷ pieces) = 1 + token_count pieces
+token_count (blank bytes ∷ pieces) = token_count pieces

@@ -11,3 +11,6 @@ mod target;
 mod writer;
 
 pub use printing::print;
+
+#[cfg(test)]
+mod tests;
