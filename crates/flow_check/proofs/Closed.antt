@@ -1,9 +1,10 @@
 -- Resolved parts of a JDF are well made: they name only what there is.
-use Rattle.std.proofs.Common.{◌≡◌, ℕ, suc, ◌<◌, List, [], ◌∷◌, length, map, true, false, Bool, cond, refl, arith}
+use Rattle.std.proofs.Common.{◌≡◌, ℕ, ◌<◌, List, [], ◌∷◌, length, map, true, false, Bool, cond, refl}
 use Rattle.std.specs.Prelude.{Option, Some, None, option_map, ◌&&◌, nat_lt, filter}
 use Rattle.std.specs.List.{list_all}
 use Rattle.std.specs.Str.{bytes_eq}
 use Rattle.std.proofs.lemmas.Bool.{and_from, lt-ltb}
+use Rattle.std.proofs.lemmas.List.Quantifiers.{position-Some}
 use Rattle.term_core.specs.Term as term
 use Rattle.term_core.specs.Term.{Term}
 use Rattle.term_core.specs.Value.{is_closed, is_closed_with}
@@ -28,7 +29,7 @@ use Rattle.plan_first.specs.declared.class.Shape.{Shape}
 use Rattle.plan_first.specs.declared.interval.Interval.{Interval}
 use Rattle.plan_first.specs.WellMade.{is_target, is_guard, is_other, is_dependence, is_well_made}
 use Rattle.std.proofs.lemmas.List.{length-map}
-use Rattle.flow_check.specs.Names.{coll_named, global_coll, global_int, is_declared}
+use Rattle.flow_check.specs.Names.{coll_is, coll_named, global_coll, global_int, is_declared}
 use Rattle.flow_check.specs.Planned.{Scope, scope, both, name_meaning, sees_local, is_element, resolved, resolved_if, resolved_target, resolved_dep, resolved_stmt, dep_of, each, shape_of, goes, range_of, affinity_of, deps_of, body_of, class_with, class_of}
 
 -- how many locals and flows are seen
@@ -84,12 +85,7 @@ resolved_closed J G seen (Binary o a b) t e =
 
 -- a collection that is found is one of the list
 pub coll_within : (cs : List Coll) (name : List ℕ) (n : ℕ) → coll_named cs name ≡ Some n → n < length cs
-coll_within [] name n e = absurd cc
-coll_within (c ∷ cs) name n e = go (bytes_eq c.name name) e (λ m h. coll_within cs name m h)
-  where
-    go : (b : Bool) → cond b (Some 0) (option_map suc (coll_named cs name)) ≡ Some n → ((m : ℕ) → coll_named cs name ≡ Some m → m < length cs) → n < suc (length cs)
-    go true e inside = let h : 0 ≡ n = cc in omega arith
-    go false e inside = let h = mapped_is suc (coll_named cs name) n e in let k : h.0 < length cs = inside h.0 h.1 in let same : suc h.0 ≡ n = h.2 in omega arith
+coll_within cs name n e = (position-Some (coll_is name) cs n (record { name = []; tiles = [] }) e).0
 
 pub global_within : (J : Jdf) (G : Given) (name : List ℕ) (n : ℕ) → global_coll J G name ≡ Some n → n < length G.colls
 global_within J G name n e = go (is_declared J.globals name) e

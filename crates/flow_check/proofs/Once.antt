@@ -1,15 +1,13 @@
 -- A JDF and its data make one plan at most: each part of the plan is determined, and plans of the same parts are one.
-use Rattle.std.proofs.Common.{◌≡◌, ℕ, Bool, List, Some, IsTrue, sym, ◌∙◌, ap, subst}
+use Rattle.std.proofs.Common.{◌≡◌, ℕ, List, Some, IsTrue, sym, ◌∙◌, ap, subst}
 use Rattle.std.specs.Prelude.{Option}
 use Rattle.std.proofs.Math.Bool.{Bool-set}
-use Rattle.coll_data.specs.declared.given.Given.{Given}
-use Rattle.jdf_first.specs.declared.tree.Jdf.{Jdf}
 use Rattle.plan_first.specs.declared.class.ClassPlan.{ClassPlan}
 use Rattle.plan_first.specs.declared.class.Shape.{Shape}
 use Rattle.plan_first.specs.declared.interval.Interval.{Interval}
 use Rattle.plan_first.specs.declared.plan.Plan.{Plan}
 use Rattle.plan_first.specs.WellMade.{is_well_made}
-use Rattle.flow_check.specs.Planned.{IsPlan, OnePlan}
+use Rattle.flow_check.specs.Planned.{OnePlan}
 
 abbrev made : (class : ClassPlan) (space : Interval) (colls : List Shape) → ℕ → IsTrue (is_well_made class space colls) → Plan
 made class space colls elems well = record { class = class; space = space; colls = colls; elems = elems; well_made = well }

@@ -1,3 +1,5 @@
+pub mod Frames
+pub mod Keys
 pub mod Names
 pub mod Planned
 pub mod Resolves

@@ -1,5 +1,5 @@
 -- The plan that a JDF and its data make, where all names fit.
-use Rattle.std.specs.Prelude.{◌≡◌, ℕ, Bool, true, false, List, [], ◌∷◌, length, map, filter, not, ◌&&◌, IsTrue, Option, Some, None, option_map, if◌then◌else◌}
+use Rattle.std.specs.Prelude.{◌≡◌, ℕ, Bool, true, false, List, [], ◌∷◌, length, map, filter, not, ◌&&◌, Option, Some, None, option_map, if◌then◌else◌}
 use Rattle.std.specs.Str.{bytes_eq}
 use Rattle.term_core.specs.Term as term
 use Rattle.term_core.specs.Term.{Term}
@@ -22,7 +22,7 @@ use Rattle.plan_first.specs.declared.class.Shape.{Shape}
 use Rattle.plan_first.specs.declared.plan.Plan.{Plan}
 use Rattle.flow_check.specs.declared.scope.Seen.{Seen}
 use Rattle.flow_check.specs.declared.scope.Seen.TheVariants.{Globals, Local, Elements}
-use Rattle.flow_check.specs.Names.{global_int, global_coll, are_distinct}
+use Rattle.flow_check.specs.Names.{global_int, global_coll, AreDistinct}
 
 -- What names mean at a place of the text.
 pub record Scope : Type 0 where
@@ -126,7 +126,7 @@ class_of J G =
 
 -- The plan of a JDF and its data: no global is declared twice, the range defines the parameter, and each name has its meaning.
 pub record IsPlan (J : Jdf) (G : Given) (P : Plan) : Type 0 where
-  pub globals : IsTrue (are_distinct J.globals)
+  pub globals : AreDistinct J.globals
   pub parameter : J.class.local.text ≡ J.class.param.text
   pub class : class_of J G ≡ Some P.class
   pub space : range_of J G ≡ Some P.space

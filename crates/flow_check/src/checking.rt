@@ -4,18 +4,20 @@ ghost use Rattle.std.specs.Prelude.{◌≡◌, ◌↔◌, Some, Err, IfOk, IsTru
 ghost use Rattle.jdf_lex.specs.declared.fault.JdfFault.{JdfFault};
 ghost use Rattle.jdf_lex.specs.Tokens.{not_built};
 ghost use Rattle.plan_first.specs.declared.plan.Plan.{Plan};
-ghost use Rattle.flow_check.specs.Names.{IsMissing, are_distinct};
+ghost use Rattle.flow_check.specs.Names.{IsMissing};
 ghost use Rattle.flow_check.specs.Planned.{IsPlan, shape_of, range_of, affinity_of, class_of};
+ghost use Rattle.flow_check.specs.Frames.{IsKeyed};
 ghost use Rattle.flow_check.specs.Resolves.{Resolves};
 
 use crate::dependence::{collection_number, resolve_body, resolve_deps};
-use crate::expression::{global_coll, resolve};
-use crate::names::is_declared;
+use crate::expression::resolve;
+use crate::frame::{Frame, global_coll};
+use crate::keys::keys_of;
 use crate::scope::Seen;
 use crate::stop::Stop;
 use body_first::Body;
 use coll_data::{Coll, Given};
-use jdf_first::{Jdf, Word};
+use jdf_first::Jdf;
 use jdf_lex::{JdfCode, JdfFault, JdfRefusal, Spot};
 use plan_first::{ClassPlan, Interval, Plan, Shape};
 use ptg_base::{Row, Text};
@@ -43,11 +45,17 @@ fn plan(alloc: Global, jdf: &Jdf, given: &Given) -> Result<Plan, Stop>
     ensures found { IfOk result (λ plan. IsPlan jdf.now given.now plan) }
     ensures unfit { result ≡ Err Stop.Unfit → (plan : Plan) → IsPlan jdf.now given.now plan → ⊥ }
 {
-    if !are_distinct(jdf.globals.as_slice()) || !is_parameter_defined(jdf) {
+    let keys = keys_of(alloc, jdf, given)?;
+    if !is_parameter_defined(jdf) {
         return Err(Stop::Unfit);
     }
-    let class = class_plan(alloc, jdf, given)?;
-    let space = range(alloc, jdf, given)?;
+    let frame = Frame {
+        jdf,
+        given,
+        keys: &keys,
+    };
+    let class = class_plan(alloc, &frame)?;
+    let space = range(alloc, &frame)?;
     let colls = shapes(alloc, given.colls.as_slice())?;
     Ok(Plan {
         class,
@@ -57,18 +65,6 @@ fn plan(alloc: Global, jdf: &Jdf, given: &Given) -> Result<Plan, Stop>
     })
 }
 
-// Is each global declared once?
-fn are_distinct(globals: &[Word]) -> bool
-    ensures { result ≡ are_distinct globals.now }
-{
-    for (at, global) in globals.iter().enumerate() {
-        if is_declared(&globals[at + 1..], global.text.bytes()) {
-            return false;
-        }
-    }
-    true
-}
-
 // Does the range define the parameter?
 fn is_parameter_defined(jdf: &Jdf) -> bool
     ensures { IsTrue result ↔ (jdf.now.class.local.text ≡ jdf.now.class.param.text) }
@@ -76,39 +72,41 @@ fn is_parameter_defined(jdf: &Jdf) -> bool
     jdf.class.local.text.bytes() == jdf.class.param.text.bytes()
 }
 
-fn range(alloc: Global, jdf: &Jdf, given: &Given) -> Result<Interval, Stop>
-    ensures { Resolves result (range_of jdf.now given.now) }
+fn range(alloc: Global, frame: &Frame) -> Result<Interval, Stop>
+    requires { IsKeyed frame.now }
+    ensures { Resolves result (range_of frame.now.jdf.now frame.now.given.now) }
 {
-    let lo = resolve(alloc, jdf, given, Seen::Globals, jdf.class.lo.node())?;
-    let hi = resolve(alloc, jdf, given, Seen::Globals, jdf.class.hi.node())?;
+    let lo = resolve(alloc, frame, Seen::Globals, frame.jdf.class.lo.node())?;
+    let hi = resolve(alloc, frame, Seen::Globals, frame.jdf.class.hi.node())?;
     Ok(Interval { lo, hi })
 }
 
-fn affinity(alloc: Global, jdf: &Jdf, given: &Given) -> Result<(u32, Expr), Stop>
-    ensures { Resolves result (affinity_of jdf.now given.now) }
+fn affinity(alloc: Global, frame: &Frame) -> Result<(u32, Expr), Stop>
+    requires { IsKeyed frame.now }
+    ensures { Resolves result (affinity_of frame.now.jdf.now frame.now.given.now) }
 {
-    let Some(number) = global_coll(jdf, given, jdf.class.affinity.text.bytes()) else {
+    let Some(number) = global_coll(frame, frame.jdf.class.affinity.text.bytes()) else {
         return Err(Stop::Unfit);
     };
     let index = resolve(
         alloc,
-        jdf,
-        given,
+        frame,
         Seen::Local,
-        jdf.class.affinity_arg.node(),
+        frame.jdf.class.affinity_arg.node(),
     )?;
     Ok((collection_number(number)?, index))
 }
 
-fn class_plan(alloc: Global, jdf: &Jdf, given: &Given) -> Result<ClassPlan, Stop>
-    ensures { Resolves result (class_of jdf.now given.now) }
+fn class_plan(alloc: Global, frame: &Frame) -> Result<ClassPlan, Stop>
+    requires { IsKeyed frame.now }
+    ensures { Resolves result (class_of frame.now.jdf.now frame.now.given.now) }
 {
-    let affinity = affinity(alloc, jdf, given)?;
-    let ins = resolve_deps(alloc, jdf, given, true)?;
-    let outs = resolve_deps(alloc, jdf, given, false)?;
-    let statements = resolve_body(alloc, jdf, given)?;
+    let affinity = affinity(alloc, frame)?;
+    let ins = resolve_deps(alloc, frame, true)?;
+    let outs = resolve_deps(alloc, frame, false)?;
+    let statements = resolve_body(alloc, frame)?;
     Ok(ClassPlan {
-        name: Text::of(alloc, jdf.class.name.text.bytes())?,
+        name: Text::of(alloc, frame.jdf.class.name.text.bytes())?,
         affinity,
         ins,
         outs,

@@ -1,16 +1,17 @@
 //! Targets, dependences and statements with their names resolved.
 
 ghost use Rattle.std.specs.Prelude.{◌≡◌, Some, filter};
-ghost use Rattle.flow_check.specs.Planned.{scope, resolved_target, resolved_if, resolved, resolved_dep, resolved_stmt, each, goes};
+ghost use Rattle.flow_check.specs.Planned.{resolved_target, resolved_if, resolved, resolved_dep, resolved_stmt, each, goes};
 ghost use Rattle.flow_check.specs.declared.scope.Seen.TheVariants.{Local, Elements};
+ghost use Rattle.flow_check.specs.Frames.{IsKeyed, scope_in};
 ghost use Rattle.flow_check.specs.Resolves.{Resolves};
 
-use crate::expression::{global_coll, resolve};
+use crate::expression::resolve;
+use crate::frame::{Frame, global_coll};
 use crate::scope::Seen;
 use crate::stop::Stop;
 use body_first::Stmt;
-use coll_data::Given;
-use jdf_first::{DepTree, ExprTree, Jdf, StmtTree, TargetTree};
+use jdf_first::{DepTree, ExprTree, StmtTree, TargetTree};
 use plan_first::{DepPlan, Target};
 use ptg_base::Row;
 use std::alloc::Global;
@@ -18,15 +19,15 @@ use term_core::Expr;
 
 fn resolve_guard(
     alloc: Global,
-    jdf: &Jdf,
-    given: &Given,
+    frame: &Frame,
     guard: &Option<ExprTree>,
 ) -> Result<Option<Expr>, Stop>
-    ensures { Resolves result (resolved_if (resolved (scope jdf.now given.now Local)) guard.now) }
+    requires { IsKeyed frame.now }
+    ensures { Resolves result (resolved_if (resolved (scope_in frame.now Local)) guard.now) }
 {
     match guard {
         None => Ok(None),
-        Some(guard) => Ok(Some(resolve(alloc, jdf, given, Seen::Local, guard.node())?)),
+        Some(guard) => Ok(Some(resolve(alloc, frame, Seen::Local, guard.node())?)),
     }
 }
 
@@ -40,28 +41,24 @@ pub fn collection_number(number: usize) -> Result<u32, Stop>
     }
 }
 
-fn resolve_target(
-    alloc: Global,
-    jdf: &Jdf,
-    given: &Given,
-    target: &TargetTree,
-) -> Result<Target, Stop>
-    ensures { Resolves result (resolved_target (scope jdf.now given.now Local) target.now) }
+fn resolve_target(alloc: Global, frame: &Frame, target: &TargetTree) -> Result<Target, Stop>
+    requires { IsKeyed frame.now }
+    ensures { Resolves result (resolved_target (scope_in frame.now Local) target.now) }
 {
     match target {
         TargetTree::Task(flow, class, argument) => {
-            if jdf.class.name.text.bytes() != class.text.bytes()
-                || jdf.class.flow.text.bytes() != flow.text.bytes()
+            if frame.jdf.class.name.text.bytes() != class.text.bytes()
+                || frame.jdf.class.flow.text.bytes() != flow.text.bytes()
             {
                 return Err(Stop::Unfit);
             }
-            Ok(Target::Task(resolve(alloc, jdf, given, Seen::Local, argument.node())?))
+            Ok(Target::Task(resolve(alloc, frame, Seen::Local, argument.node())?))
         }
         TargetTree::Element(coll, index) => {
-            let Some(number) = global_coll(jdf, given, coll.text.bytes()) else {
+            let Some(number) = global_coll(frame, coll.text.bytes()) else {
                 return Err(Stop::Unfit);
             };
-            let index = resolve(alloc, jdf, given, Seen::Local, index.node())?;
+            let index = resolve(alloc, frame, Seen::Local, index.node())?;
             Ok(Target::Element(collection_number(number)?, index))
         }
     }
@@ -69,24 +66,25 @@ fn resolve_target(
 
 fn resolve_other(
     alloc: Global,
-    jdf: &Jdf,
-    given: &Given,
+    frame: &Frame,
     target: &Option<TargetTree>,
 ) -> Result<Option<Target>, Stop>
-    ensures { Resolves result (resolved_if (resolved_target (scope jdf.now given.now Local)) target.now) }
+    requires { IsKeyed frame.now }
+    ensures { Resolves result (resolved_if (resolved_target (scope_in frame.now Local)) target.now) }
 {
     match target {
         None => Ok(None),
-        Some(target) => Ok(Some(resolve_target(alloc, jdf, given, target)?)),
+        Some(target) => Ok(Some(resolve_target(alloc, frame, target)?)),
     }
 }
 
-fn resolve_dep(alloc: Global, jdf: &Jdf, given: &Given, dep: &DepTree) -> Result<DepPlan, Stop>
-    ensures { Resolves result (resolved_dep (scope jdf.now given.now Local) dep.now) }
+fn resolve_dep(alloc: Global, frame: &Frame, dep: &DepTree) -> Result<DepPlan, Stop>
+    requires { IsKeyed frame.now }
+    ensures { Resolves result (resolved_dep (scope_in frame.now Local) dep.now) }
 {
-    let guard = resolve_guard(alloc, jdf, given, &dep.guard)?;
-    let yes = resolve_target(alloc, jdf, given, &dep.yes)?;
-    let no = resolve_other(alloc, jdf, given, &dep.no)?;
+    let guard = resolve_guard(alloc, frame, &dep.guard)?;
+    let yes = resolve_target(alloc, frame, &dep.yes)?;
+    let no = resolve_other(alloc, frame, &dep.no)?;
     Ok(DepPlan { guard, yes, no })
 }
 
@@ -97,41 +95,39 @@ fn goes(dep: &DepTree, inward: bool) -> bool
 }
 
 /// The in dependences of the class's flow, or its out dependences.
-pub fn resolve_deps(
-    alloc: Global,
-    jdf: &Jdf,
-    given: &Given,
-    inward: bool,
-) -> Result<Row<DepPlan>, Stop>
-    ensures { Resolves result (each (resolved_dep (scope jdf.now given.now Local)) (filter (goes inward) jdf.now.class.deps)) }
+pub fn resolve_deps(alloc: Global, frame: &Frame, inward: bool) -> Result<Row<DepPlan>, Stop>
+    requires { IsKeyed frame.now }
+    ensures { Resolves result (each (resolved_dep (scope_in frame.now Local)) (filter (goes inward) frame.now.jdf.now.class.deps)) }
 {
     let mut list = Row::new(alloc);
-    for dep in jdf.class.deps.as_slice() {
+    for dep in frame.jdf.class.deps.as_slice() {
         if goes(dep, inward) {
-            list.push(resolve_dep(alloc, jdf, given, dep)?)?;
+            list.push(resolve_dep(alloc, frame, dep)?)?;
         }
     }
     Ok(list)
 }
 
-fn resolve_stmt(alloc: Global, jdf: &Jdf, given: &Given, stmt: &StmtTree) -> Result<Stmt, Stop>
-    ensures { Resolves result (resolved_stmt (scope jdf.now given.now Elements) stmt.now) }
+fn resolve_stmt(alloc: Global, frame: &Frame, stmt: &StmtTree) -> Result<Stmt, Stop>
+    requires { IsKeyed frame.now }
+    ensures { Resolves result (resolved_stmt (scope_in frame.now Elements) stmt.now) }
 {
-    if jdf.class.flow.text.bytes() != stmt.flow.text.bytes() {
+    if frame.jdf.class.flow.text.bytes() != stmt.flow.text.bytes() {
         return Err(Stop::Unfit);
     }
-    let index = resolve(alloc, jdf, given, Seen::Elements, stmt.index.node())?;
-    let value = resolve(alloc, jdf, given, Seen::Elements, stmt.value.node())?;
+    let index = resolve(alloc, frame, Seen::Elements, stmt.index.node())?;
+    let value = resolve(alloc, frame, Seen::Elements, stmt.value.node())?;
     Ok(Stmt::Put(0, index, value))
 }
 
 /// The statements of the class's body.
-pub fn resolve_body(alloc: Global, jdf: &Jdf, given: &Given) -> Result<Row<Stmt>, Stop>
-    ensures { Resolves result (each (resolved_stmt (scope jdf.now given.now Elements)) jdf.now.class.body) }
+pub fn resolve_body(alloc: Global, frame: &Frame) -> Result<Row<Stmt>, Stop>
+    requires { IsKeyed frame.now }
+    ensures { Resolves result (each (resolved_stmt (scope_in frame.now Elements)) frame.now.jdf.now.class.body) }
 {
     let mut list = Row::new(alloc);
-    for stmt in jdf.class.body.as_slice() {
-        list.push(resolve_stmt(alloc, jdf, given, stmt)?)?;
+    for stmt in frame.jdf.class.body.as_slice() {
+        list.push(resolve_stmt(alloc, frame, stmt)?)?;
     }
     Ok(list)
 }

@@ -2,75 +2,48 @@
 
 ghost use Rattle.std.specs.Prelude.{◌≡◌, Some, None};
 ghost use Rattle.jdf_first.specs.NodeExpression.{expression_of};
-ghost use Rattle.flow_check.specs.Names.{global_int, global_coll};
-ghost use Rattle.flow_check.specs.Planned.{scope, resolved, name_meaning};
+ghost use Rattle.flow_check.specs.Planned.{resolved, name_meaning};
+ghost use Rattle.flow_check.specs.Frames.{IsKeyed, scope_in};
 ghost use Rattle.flow_check.specs.Resolves.{Resolves};
 
-use crate::names::{coll_named, int_named, is_declared};
+use crate::frame::{Frame, global_int};
 use crate::scope::{Seen, is_element, is_local};
 use crate::stop::Stop;
-use coll_data::Given;
-use jdf_first::{ExprNode, Jdf};
+use jdf_first::ExprNode;
 use std::alloc::Global;
 use term_core::Expr;
 
-// The value of a global that is an integer.
-fn global_int(jdf: &Jdf, given: &Given, name: &[u8]) -> Option<i64>
-    ensures { result ≡ global_int jdf.now given.now name.now }
+fn resolve_name(frame: &Frame, seen: Seen, name: &[u8]) -> Result<Expr, Stop>
+    requires { IsKeyed frame.now }
+    ensures { Resolves result (name_meaning (scope_in frame.now seen) name.now) }
 {
-    if is_declared(jdf.globals.as_slice(), name) {
-        int_named(given.ints.as_slice(), name)
-    } else {
-        None
-    }
-}
-
-/// The number of a global that is a collection.
-pub fn global_coll(jdf: &Jdf, given: &Given, name: &[u8]) -> Option<usize>
-    ensures { result ≡ global_coll jdf.now given.now name.now }
-{
-    if is_declared(jdf.globals.as_slice(), name) {
-        coll_named(given.colls.as_slice(), name)
-    } else {
-        None
-    }
-}
-
-fn resolve_name(jdf: &Jdf, given: &Given, seen: Seen, name: &[u8]) -> Result<Expr, Stop>
-    ensures { Resolves result (name_meaning (scope jdf.now given.now seen) name.now) }
-{
-    if is_local(jdf, given, seen, name) {
+    if is_local(frame, seen, name) {
         return Ok(Expr::local(0));
     }
-    match global_int(jdf, given, name) {
+    match global_int(frame, name) {
         Some(value) => Ok(Expr::num(value)),
         None => Err(Stop::Unfit),
     }
 }
 
 /// An expression with its names resolved.
-pub fn resolve(
-    alloc: Global,
-    jdf: &Jdf,
-    given: &Given,
-    seen: Seen,
-    node: &ExprNode,
-) -> Result<Expr, Stop>
-    ensures { Resolves result (resolved (scope jdf.now given.now seen) (expression_of node.now)) }
+pub fn resolve(alloc: Global, frame: &Frame, seen: Seen, node: &ExprNode) -> Result<Expr, Stop>
+    requires { IsKeyed frame.now }
+    ensures { Resolves result (resolved (scope_in frame.now seen) (expression_of node.now)) }
 {
     match node {
         ExprNode::Num(z, _) => Ok(Expr::num(*z)),
-        ExprNode::Name(name) => resolve_name(jdf, given, seen, name.text.bytes()),
+        ExprNode::Name(name) => resolve_name(frame, seen, name.text.bytes()),
         ExprNode::Elem(flow, index) => {
-            if !is_element(jdf, given, seen, flow.text.bytes()) {
+            if !is_element(frame, seen, flow.text.bytes()) {
                 return Err(Stop::Unfit);
             }
-            let index = resolve(alloc, jdf, given, seen, index)?;
+            let index = resolve(alloc, frame, seen, index)?;
             Ok(Expr::elem(alloc, 0, index)?)
         }
         ExprNode::Binary(op, a, b) => {
-            let a = resolve(alloc, jdf, given, seen, a)?;
-            let b = resolve(alloc, jdf, given, seen, b)?;
+            let a = resolve(alloc, frame, seen, a)?;
+            let b = resolve(alloc, frame, seen, b)?;
             Ok(Expr::binary(alloc, *op, a, b)?)
         }
     }

@@ -4,11 +4,14 @@
 mod checking;
 mod dependence;
 mod expression;
+mod frame;
+mod keys;
 mod laws;
 mod names;
 mod scope;
 mod stop;
+mod table;
 
 pub use checking::check;
 pub use laws::one_plan;
-pub use names::missing;
+pub use names::{is_missing, missing};

@@ -1,63 +1,67 @@
-//! What names mean, looked up by their bytes.
+//! Whether the data give all globals.
 
-ghost use Rattle.std.specs.Prelude.{◌≡◌, ◌↔◌, IsTrue};
-ghost use Rattle.flow_check.specs.Names.{int_named, coll_named, is_declared, is_given, is_lacking, IsMissing};
+ghost use Rattle.std.specs.Prelude.{◌≡◌, ◌↔◌, List, ℕ, position, IsTrue, IfOk};
+ghost use Rattle.std.specs.List.{list_any};
+ghost use Rattle.flow_check.specs.Keys.{found};
+ghost use Rattle.flow_check.specs.Names.{int_is, coll_is, is_given, IsMissing};
 
+use crate::keys::{colls_by_name, ints_by_name};
+use crate::table::Table;
 use coll_data::{Coll, Given, Int};
-use jdf_first::{Jdf, Word};
+use jdf_first::Jdf;
+use ptg_base::OutOfMemory;
+use std::alloc::Global;
 
-/// The value of the first integer of this name.
-pub fn int_named(ints: &[Int], name: &[u8]) -> Option<i64>
-    ensures { result ≡ int_named ints.now name.now }
+fn has_int(ints: &[Int], name: &[u8]) -> bool
+    ensures { result ≡ list_any (int_is name.now) ints.now }
 {
-    for int in ints {
-        if int.name.bytes() == name {
-            return Some(int.value);
-        }
-    }
-    None
+    ints.iter().any(|int| int.name.bytes() == name)
 }
 
-/// The number of the first collection of this name, below 2 ^ 32.
-pub fn coll_named(colls: &[Coll], name: &[u8]) -> Option<usize>
-    ensures { result ≡ coll_named colls.now name.now }
+fn has_coll(colls: &[Coll], name: &[u8]) -> bool
+    ensures { result ≡ list_any (coll_is name.now) colls.now }
 {
-    for (number, coll) in colls.iter().enumerate() {
-        if coll.name.bytes() == name {
-            return Some(number);
-        }
-    }
-    None
-}
-
-/// Does the JDF declare a global of this name?
-pub fn is_declared(globals: &[Word], name: &[u8]) -> bool
-    ensures { result ≡ is_declared globals.now name.now }
-{
-    for global in globals {
-        if global.text.bytes() == name {
-            return true;
-        }
-    }
-    false
+    colls.iter().any(|coll| coll.name.bytes() == name)
 }
 
 // Do the data give this name?
 fn is_given(given: &Given, name: &[u8]) -> bool
     ensures { result ≡ is_given given.now name.now }
 {
-    int_named(given.ints.as_slice(), name).is_some()
-        || coll_named(given.colls.as_slice(), name).is_some()
+    has_int(given.ints.as_slice(), name) || has_coll(given.colls.as_slice(), name)
 }
 
-/// Whether the data lack a global of the JDF.
+/// Whether the data lack a global of the JDF. It takes no memory, and looks through all data for each global.
 pub fn missing(jdf: &Jdf, given: &Given) -> bool
     ensures { IsTrue result ↔ IsMissing jdf.now given.now }
 {
-    for global in jdf.globals.as_slice() {
-        if !is_given(given, global.text.bytes()) {
-            return true;
-        }
-    }
-    false
+    jdf.globals
+        .as_slice()
+        .iter()
+        .any(|global| !is_given(given, global.text.bytes()))
+}
+
+// Do the data with these keys give this name?
+fn is_given_by(ints: &Table, colls: &Table, given: &Given, name: &[u8]) -> bool
+    requires ints { (n : List ℕ) → found ints.now n ≡ position (int_is n) given.now.ints }
+    requires colls { (n : List ℕ) → found colls.now n ≡ position (coll_is n) given.now.colls }
+    ensures { result ≡ is_given given.now name.now }
+{
+    ints.find(name).is_some() || colls.find(name).is_some()
+}
+
+/// Whether the data lack a global of the JDF, as `missing` says. Names are looked up by key.
+pub fn is_missing(alloc: Global, jdf: &Jdf, given: &Given) -> Result<bool, OutOfMemory>
+    ensures { IfOk result (λ missing. IsTrue missing ↔ IsMissing jdf.now given.now) }
+{
+    let ints = ints_by_name(alloc, given.ints.as_slice())?;
+    let colls = colls_by_name(alloc, given.colls.as_slice())?;
+    Ok(
+        jdf.globals.as_slice().iter().any(|global| !is_given_by(
+            &ints,
+            &colls,
+            given,
+            global.text.bytes(),
+        )),
+    )
 }

@@ -1,10 +1,10 @@
 //! What names mean at a place of the text.
 
 ghost use Rattle.std.specs.Prelude.{◌≡◌};
-ghost use Rattle.flow_check.specs.Planned.{scope, is_local, is_element};
+ghost use Rattle.flow_check.specs.Planned.{is_local, is_element};
+ghost use Rattle.flow_check.specs.Frames.{scope_in};
 
-use coll_data::Given;
-use jdf_first::Jdf;
+use crate::frame::Frame;
 
 /// What may be named at a place, beside the integer globals.
 #[derive(Clone, Copy, Debug, PartialEq, Eq)]
@@ -18,21 +18,21 @@ pub enum Seen {
 }
 
 /// Does a name mean the local?
-pub fn is_local(jdf: &Jdf, given: &Given, seen: Seen, name: &[u8]) -> bool
-    ensures { result ≡ is_local (scope jdf.now given.now seen) name.now }
+pub fn is_local(frame: &Frame, seen: Seen, name: &[u8]) -> bool
+    ensures { result ≡ is_local (scope_in frame.now seen) name.now }
 {
     match seen {
         Seen::Globals => false,
-        Seen::Local | Seen::Elements => jdf.class.local.text.bytes() == name,
+        Seen::Local | Seen::Elements => frame.jdf.class.local.text.bytes() == name,
     }
 }
 
 /// May elements of a flow of this name be read or set?
-pub fn is_element(jdf: &Jdf, given: &Given, seen: Seen, name: &[u8]) -> bool
-    ensures { result ≡ is_element (scope jdf.now given.now seen) name.now }
+pub fn is_element(frame: &Frame, seen: Seen, name: &[u8]) -> bool
+    ensures { result ≡ is_element (scope_in frame.now seen) name.now }
 {
     match seen {
         Seen::Globals | Seen::Local => false,
-        Seen::Elements => jdf.class.flow.text.bytes() == name,
+        Seen::Elements => frame.jdf.class.flow.text.bytes() == name,
     }
 }

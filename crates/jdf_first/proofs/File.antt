@@ -10,6 +10,7 @@ use Rattle.jdf_lex.specs.declared.fault.JdfRefusal.TheVariants.{Fault, OutOfMemo
 use Rattle.jdf_lex.specs.declared.token.Lexed.{Lexed}
 use Rattle.jdf_lex.specs.Tokens.{IsLexed}
 use Rattle.jdf_lex.proofs.Once.{one_list}
+use Rattle.jdf_first.specs.Plain.{is_plain}
 use Rattle.std.specs.Str.{IsUtf8}
 use Rattle.grammar_core.specs.declared.code.Code.{Code}
 use Rattle.grammar_core.specs.declared.code.Code.TheVariants.{TooManyDeps}
@@ -139,8 +140,8 @@ only s t h = text_only inner claims inner_fine inner_limits file file_fine file_
 
 -- what was read is the tree
 pub read_is : (bytes text : List ℕ) (lexed : Lexed) (slice : List Token) (jdf : Jdf) → length bytes ≤ 16777216 → (text ≡ bytes) × IsUtf8 bytes
-    → IsLexed text lexed.tokens lexed.end × (length lexed.tokens ≤ 1000000) → slice ≡ lexed.tokens → whole inner file slice ≡ Ok jdf → IsJdf bytes jdf
-read_is bytes text lexed slice jdf short utf8 is slices e =
+    → IsLexed text lexed.tokens lexed.end × (length lexed.tokens ≤ 1000000) → slice ≡ lexed.tokens → is_plain bytes 0 slice ≡ true → whole inner file slice ≡ Ok jdf → IsJdf bytes jdf
+read_is bytes text lexed slice jdf short utf8 is slices plain e =
     record {
       short = short;
       utf8 = utf8.1;
@@ -148,25 +149,39 @@ read_is bytes text lexed slice jdf short utf8 is slices e =
       end = lexed.end;
       lexed = subst (λ (t : List ℕ). IsLexed t lexed.tokens lexed.end) utf8.0 is.0;
       few = is.1;
+      plain = ap (is_plain bytes 0) (sym slices) ∙ plain;
       text = found lexed.tokens jdf (ap (whole inner file) (sym slices) ∙ e);
     }
 
 abbrev done : Lexed → Result Lexed JdfRefusal
 done lexed = Ok lexed
 
+-- what is known of the answer of the tokens' reader
+abbrev AreFound : List ℕ → Result Lexed JdfRefusal → Type 0
+AreFound text result =
+    (tokens : List Token) (end : Spot) → IsLexed text tokens end → length tokens ≤ 1000000 → (result ≡ Ok (record { tokens = tokens; end = end })) ⊎ (result ≡ Err OutOfMemory)
+
+their_tokens : (lexed : Lexed) (tokens : List Token) (end : Spot) → done lexed ≡ done (record { tokens = tokens; end = end }) → lexed.tokens ≡ tokens
+their_tokens lexed tokens end e = let k : lexed ≡ record { tokens = tokens; end = end } = cc in ap (λ (l : Lexed). l.tokens) k
+
+-- the tokens that are found are those of the text of a tree
+same_tokens : (bytes text : List ℕ) (lexed : Lexed) (result : Result Lexed JdfRefusal) → text ≡ bytes → result ≡ Ok lexed → AreFound text result → (jdf : Jdf) (j : IsJdf bytes jdf) → lexed.tokens ≡ j.tokens
+same_tokens bytes text lexed result same is lexes jdf j =
+    elim (lexes j.tokens j.end (subst (λ (t : List ℕ). IsLexed t j.tokens j.end) (sym same) j.lexed) j.few) [
+      | inl e ↦ their_tokens lexed j.tokens j.end (sym is ∙ e)
+      | inr e ↦ absurd cc
+    ]
+
 -- the tree of a text is what its tokens are read to
-pub tree_is : (bytes text : List ℕ) (lexed : Lexed) (slice : List Token) (result : Result Lexed JdfRefusal) → text ≡ bytes → result ≡ Ok lexed
-    → ((tokens : List Token) (end : Spot) → IsLexed text tokens end → length tokens ≤ 1000000 → (result ≡ Ok (record { tokens = tokens; end = end })) ⊎ (result ≡ Err OutOfMemory))
+pub tree_is : (bytes text : List ℕ) (lexed : Lexed) (slice : List Token) (result : Result Lexed JdfRefusal) → text ≡ bytes → result ≡ Ok lexed → AreFound text result
     → slice ≡ lexed.tokens → (jdf : Jdf) → IsJdf bytes jdf → whole inner file slice ≡ Ok jdf
 tree_is bytes text lexed slice result same is lexes slices jdf j =
-    go (lexes j.tokens j.end (subst (λ (t : List ℕ). IsLexed t j.tokens j.end) (sym same) j.lexed) j.few)
-  where
-    tokens_are : done lexed ≡ done (record { tokens = j.tokens; end = j.end }) → lexed.tokens ≡ j.tokens
-    tokens_are e = let k : lexed ≡ record { tokens = j.tokens; end = j.end } = cc in ap (λ (l : Lexed). l.tokens) k
+    ap (whole inner file) (slices ∙ same_tokens bytes text lexed result same is lexes jdf j) ∙ only j.tokens jdf j.text
 
-    go : (result ≡ Ok (record { tokens = j.tokens; end = j.end })) ⊎ (result ≡ Err OutOfMemory) → whole inner file slice ≡ Ok jdf
-    go (inl e) = ap (whole inner file) (slices ∙ tokens_are (sym is ∙ e)) ∙ only j.tokens jdf j.text
-    go (inr e) = absurd cc
+-- a text with a token fault has no tree
+pub no_tokens : (bytes text : List ℕ) (result : Result Lexed JdfRefusal) (f : JdfFault) → text ≡ bytes → result ≡ Err (Fault f) → AreFound text result → (jdf : Jdf) → IsJdf bytes jdf → ⊥
+no_tokens bytes text result f same is lexes jdf j =
+    elim (lexes j.tokens j.end (subst (λ (t : List ℕ). IsLexed t j.tokens j.end) (sym same) j.lexed) j.few) [ inl e ↦ cc | inr e ↦ cc ]
 
 -- a text is read to one tree
 pub one_tree : (s : List Token) (a b : Jdf) → whole inner file s ≡ Ok a → whole inner file s ≡ Ok b → a ≡ b

@@ -1,5 +1,5 @@
 -- The text of a JDF.
-use Rattle.std.specs.Prelude.{◌≡◌, ℕ, ◌≤◌, List, length, None}
+use Rattle.std.specs.Prelude.{◌≡◌, ℕ, ◌≤◌, List, length, None, IsTrue}
 use Rattle.std.specs.Str.{IsUtf8}
 use Rattle.jdf_lex.specs.declared.token.Spot.{Spot}
 use Rattle.jdf_lex.specs.declared.token.Token.{Token}
@@ -7,8 +7,10 @@ use Rattle.jdf_lex.specs.Tokens.{IsLexed}
 use Rattle.grammar_core.specs.Form.{IsText}
 use Rattle.jdf_first.specs.declared.tree.Jdf.{Jdf}
 use Rattle.jdf_first.specs.Grammar.{inner, file}
+use Rattle.jdf_first.specs.Plain.{is_plain}
 
--- The bytes are the text of this tree: so short, UTF-8, with so few tokens, which are a text of the grammar with no fault.
+-- The bytes are the text of this tree: so short, UTF-8, with so few tokens, which are of kinds that are built
+-- with blanks alone between them, and a text of the grammar with no fault.
 pub record IsJdf (bytes : List ℕ) (jdf : Jdf) : Type 0 where
   pub short : length bytes ≤ 16777216
   pub utf8 : IsUtf8 bytes
@@ -16,6 +18,7 @@ pub record IsJdf (bytes : List ℕ) (jdf : Jdf) : Type 0 where
   pub end : Spot
   pub lexed : IsLexed bytes tokens end
   pub few : length tokens ≤ 1000000
+  pub plain : IsTrue (is_plain bytes 0 tokens)
   pub text : IsText inner file tokens jdf None
 
 -- A text has one tree at most.

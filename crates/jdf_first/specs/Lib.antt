@@ -5,3 +5,4 @@ pub mod Numbers
 pub mod Grammar
 pub mod Ranks
 pub mod Jdf
+pub mod Plain

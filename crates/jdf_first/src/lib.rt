@@ -9,6 +9,7 @@ mod name;
 mod number;
 mod operators;
 mod part;
+mod plain;
 mod read;
 mod statement;
 #[cfg(test)]

@@ -11,6 +11,7 @@ ghost use Rattle.jdf_first.specs.declared.tree.Jdf.{Jdf};
 ghost use Rattle.jdf_first.specs.Jdf.{IsJdf};
 
 use crate::class::file;
+use crate::plain::is_plain;
 use crate::tree::Jdf;
 use grammar_core::{Code, ReadError};
 use jdf_lex::{JdfCode, JdfFault, JdfRefusal, Spot, Token, tokens};
@@ -58,9 +59,14 @@ pub fn read_first(alloc: Global, bytes: &[u8]) -> Result<Jdf, JdfRefusal>
     };
     let lexed = match tokens(alloc, text) {
         Ok(lexed) => lexed,
-        Err(refusal) => return Err(refusal),
+        Err(JdfRefusal::OutOfMemory) => return Err(JdfRefusal::OutOfMemory),
+        Err(JdfRefusal::Fault(_)) => return Err(not_built()),
     };
-    match whole(alloc, lexed.tokens.as_slice()) {
+    let found = lexed.tokens.as_slice();
+    if !is_plain(bytes, found) {
+        return Err(not_built());
+    }
+    match whole(alloc, found) {
         Ok(jdf) => Ok(jdf),
         Err(ReadError::Memory) => Err(JdfRefusal::OutOfMemory),
         Err(ReadError::Fault(_, _)) => Err(not_built()),

@@ -30,6 +30,14 @@ fn reads_or_refuses(rt: HostRuntime) {
         ("s(k) k = 00 .. 9 : A(k) RW T BODY END", false),
         ("s(k) k = 0 .. 9 : A(k) RW T BODY", false),
         ("s(k) k = 0 .. 9 : A(k) RW T BODY if[0] = 1; END", false),
+        // What is no name, number or mark is outside of the forms that are built, and so is a comment.
+        ("s(k) k = 0 .. 9 : A(k) RW T BODY\t\r\n END", true),
+        ("s(k) k = 0 .. 9 : A(k) RW T BODY /* */ END", false),
+        ("s(k) k = 0 .. 9 : A(k) RW T BODY END // ", false),
+        ("// \ns(k) k = 0 .. 9 : A(k) RW T BODY END", false),
+        ("%option a\ns(k) k = 0 .. 9 : A(k) RW T BODY END", false),
+        ("s(k) k = 0 .. 9 : A(k) RW T BODY @ END", false),
+        ("s(k) k = 0 .. 9 : A(k) RW T BODY END \"", false),
         ("", false),
     ] {
         assert_eq!(rt;

@@ -1,7 +1,7 @@
 -- What ends a piece that is opened: the first byte that ends it, and no later one.
 use Rattle.std.proofs.Common.{◌≡◌, ℕ, suc, ◌+◌, ◌<◌, ◌≤◌, Bool, true, false, cond, ◌⊎◌, List, [], ◌∷◌, ◌++◌, length, take, drop, get_or, Option, Some, None, refl, sym, ◌∙◌, ap, subst, inl, inr, arith}
 use Rattle.std.proofs.lemmas.Bool.{cases_Bool, false≢true, cond-true, cond-false}
-use Rattle.std.proofs.lemmas.List.{at_drop_more, drop_all}
+use Rattle.std.proofs.lemmas.List.{at_drop_more}
 use Rattle.jdf_lex.specs.declared.piece.Piece.{Piece}
 use Rattle.jdf_lex.specs.Spelling.{ends_piece, holds_next, is_empty, is_closed}
 use Rattle.jdf_lex.specs.Reading.{closed_len, more}

@@ -1,5 +1,5 @@
 -- What is found at a place is the longest piece there, and where nothing is found the text does not end what begins.
-use Rattle.std.proofs.Common.{◌≡◌, ℕ, suc, ◌+◌, ◌<◌, ◌≤◌, Bool, true, false, cond, eqb, List, [], ◌∷◌, ◌++◌, length, take, drop, Option, Some, None, refl, sym, ◌∙◌, ap, subst, inl, inr, arith}
+use Rattle.std.proofs.Common.{◌≡◌, ℕ, suc, ◌+◌, ◌<◌, ◌≤◌, true, false, cond, eqb, List, [], ◌∷◌, ◌++◌, length, take, drop, Option, Some, None, refl, sym, ◌∙◌, ap, subst, inl, inr, arith}
 use Rattle.std.specs.List.{list_all, prefix_len}
 use Rattle.std.specs.Prelude.{codes}
 use Rattle.std.specs.List.{starts_with}
@@ -9,7 +9,7 @@ use Rattle.jdf_lex.specs.declared.piece.Piece.{Piece}
 use Rattle.jdf_lex.specs.declared.piece.Piece.TheVariants.{Blank, LineComment, BlockComment, Word}
 use Rattle.jdf_lex.specs.declared.token.TokenKind.TheVariants.{Name, Number, Quoted, Raw, OptionLine, Mark, Other}
 use Rattle.jdf_lex.specs.Spelling.{is_blank, is_letter, is_digit, is_mark, begins_mark, begins_option, plain_piece, first_piece, piece_at, goes_on, is_closed, is_spelling}
-use Rattle.jdf_lex.specs.Reading.{mark_len, closed_len, piece_len, of_len, measured, front_piece}
+use Rattle.jdf_lex.specs.Reading.{mark_len, closed_len, piece_len, of_len, front_piece}
 use Rattle.jdf_lex.proofs.Closing.{chosen, one_more, more_found, more_none, closed_found, closed_once, closed_none}
 use Rattle.jdf_lex.proofs.Runs.{prefix_passes, run_longest}
 

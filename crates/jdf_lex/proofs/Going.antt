@@ -1,19 +1,16 @@
 -- From piece to piece: where the reader is, and what it answers there.
-use Rattle.std.proofs.Common.{◌≡◌, ℕ, ◌+◌, ◌-◌, ◌<◌, ◌≤◌, Bool, true, false, List, [], ◌∷◌, ◌++◌, length, take, drop, get_or, Option, Some, None, refl, sym, ◌∙◌, ap, subst, inl, inr, arith, append_assoc, length-drop}
+use Rattle.std.proofs.Common.{◌≡◌, ℕ, ◌+◌, ◌-◌, ◌<◌, ◌≤◌, Bool, true, false, List, [], ◌∷◌, ◌++◌, length, take, drop, get_or, refl, sym, ◌∙◌, ap, subst, inl, inr, arith, length-drop}
 use Rattle.std.specs.List.{slice_range}
 use Rattle.std.proofs.Math.Seq.{take-add}
-use Rattle.std.proofs.lemmas.Bool.{not-true, false≢true, cases_Bool}
 use Rattle.std.proofs.lemmas.List.{append-nil, take-append-drop, drop-drop, drop_more, drop_all, length-take-le, length_push, take_rest}
 use Rattle.jdf_lex.specs.declared.cursor.Cursor.{Cursor}
-use Rattle.jdf_lex.specs.declared.fault.JdfFault.{JdfFault}
 use Rattle.jdf_lex.specs.declared.fault.JdfCode.TheVariants.{Unclosed, TooManyTokens}
 use Rattle.jdf_lex.specs.declared.piece.Piece.{Piece}
 use Rattle.jdf_lex.specs.declared.piece.Piece.TheVariants.{Blank, LineComment, BlockComment, Word}
-use Rattle.jdf_lex.specs.declared.token.Spot.{Spot}
 use Rattle.jdf_lex.specs.declared.token.Token.{Token}
 use Rattle.jdf_lex.specs.declared.token.TokenKind.{TokenKind}
 use Rattle.jdf_lex.specs.Spelling.{piece_at, first_piece, is_spelling}
-use Rattle.jdf_lex.specs.Tokens.{spot_after, IsPiece, IsToken, is_dropped, IsLexedTo, IsLexed, IsUnclosed, HasToken, IsFaultAt, IsTokenFault}
+use Rattle.jdf_lex.specs.Tokens.{spot_after, IsPiece, IsToken, is_dropped, IsLexedTo, IsLexed, IsUnclosed, IsTokenFault}
 use Rattle.jdf_lex.specs.Tokens.IsLexedTo.{there, past_dropped, past_token}
 use Rattle.jdf_lex.specs.Reading.{front_piece, IsAt, IsReady}
 use Rattle.jdf_lex.proofs.Fronts.{front_found, front_none, Found, found_piece, nothing}

@@ -1,9 +1,8 @@
 -- A text has one list of tokens or one first fault: at a place stands one piece at most, so that two ways through a
 -- text are the same as far as both go.
-use Rattle.std.proofs.Common.{◌≡◌, ℕ, ◌+◌, ◌<◌, ◌≤◌, ◌⊎◌, Bool, true, false, List, [], ◌∷◌, ◌++◌, length, Option, Some, None, refl, sym, ◌∙◌, ap, subst, inl, inr, arith, length-append}
+use Rattle.std.proofs.Common.{◌≡◌, ℕ, ◌+◌, ◌<◌, ◌≤◌, ◌⊎◌, true, List, [], ◌∷◌, ◌++◌, length, Option, Some, None, refl, sym, ◌∙◌, ap, subst, inl, inr, arith, length-append}
 use Rattle.std.proofs.lemmas.Bool.{both_ways, cases_lt, false≢true}
 use Rattle.std.proofs.lemmas.List.{append_cancel_left, append-nil}
-use Rattle.jdf_lex.specs.declared.fault.JdfCode.{JdfCode}
 use Rattle.jdf_lex.specs.declared.fault.JdfFault.{JdfFault}
 use Rattle.jdf_lex.specs.declared.piece.Piece.{Piece}
 use Rattle.jdf_lex.specs.declared.piece.Piece.TheVariants.{Word}
@@ -11,13 +10,13 @@ use Rattle.jdf_lex.specs.declared.token.Spot.{Spot}
 use Rattle.jdf_lex.specs.declared.token.Token.{Token}
 use Rattle.jdf_lex.specs.declared.token.TokenKind.{TokenKind}
 use Rattle.jdf_lex.specs.Spelling.{piece_at, is_spelling}
-use Rattle.jdf_lex.specs.Tokens.{spot_after, IsPiece, IsToken, is_dropped, IsLexedTo, IsLexed, OneListOfTokens, IsUnclosed, HasToken, IsFaultAt, IsTokenFault}
+use Rattle.jdf_lex.specs.Tokens.{spot_after, IsPiece, IsToken, is_dropped, IsLexedTo, IsLexed, OneListOfTokens, IsUnclosed, HasToken, IsTokenFault}
 use Rattle.jdf_lex.specs.Tokens.IsLexedTo.{there, past_dropped, past_token}
 
 -- ---- one piece at a place
 
 -- of two fronts of a list the shorter begins the longer
-longer_front : (a x b y : List ℕ) → a ++ x ≡ b ++ y → length a ≤ length b → (more : List ℕ) × (b ≡ a ++ more) × (x ≡ more ++ y)
+pub longer_front : (a x b y : List ℕ) → a ++ x ≡ b ++ y → length a ≤ length b → (more : List ℕ) × (b ≡ a ++ more) × (x ≡ more ++ y)
 longer_front [] x b y same shorter = (b, refl, same)
 longer_front (c ∷ a) x [] y same shorter = absurd (omega arith)
 longer_front (c ∷ a) x (d ∷ b) y same shorter =

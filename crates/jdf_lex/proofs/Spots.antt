@@ -1,5 +1,5 @@
 -- How far the spot may be.
-use Rattle.std.proofs.Common.{◌≡◌, ℕ, ◌+◌, ◌≤◌, eqb, List, length, take, arith}
+use Rattle.std.proofs.Common.{ℕ, ◌+◌, ◌≤◌, eqb, List, length, take, arith}
 use Rattle.std.proofs.lemmas.List.{length-take-le}
 use Rattle.std.proofs.lemmas.List.Sums.{suffix_len-le-length, count_by-le-length}
 use Rattle.jdf_lex.specs.Spelling.{is_no_lf}

@@ -4,7 +4,7 @@ use Rattle.std.specs.Prelude.{◌≡◌, ℕ, ◌+◌, ◌≤◌, Bool, false, L
 use Rattle.std.specs.List.{prefix_len}
 use Rattle.jdf_lex.specs.declared.piece.Piece.{Piece}
 use Rattle.jdf_lex.specs.declared.piece.Piece.TheVariants.{Blank, LineComment, BlockComment, Word}
-use Rattle.jdf_lex.specs.declared.token.TokenKind.TheVariants.{Name, Number, Quoted, Raw, OptionLine, Mark, Other}
+use Rattle.jdf_lex.specs.declared.token.TokenKind.TheVariants.{Quoted, Raw, Mark}
 use Rattle.jdf_lex.specs.declared.token.Token.{Token}
 use Rattle.jdf_lex.specs.declared.cursor.Cursor.{Cursor}
 use Rattle.jdf_lex.specs.Spelling.{is_mark, goes_on, ends_piece, holds_next, piece_at}

@@ -1,7 +1,7 @@
 -- How blanks, comments and tokens are spelled, by the JDF documentation and with the marks of its expressions,
 -- ranges, dependences and bodies. What begins at a place is told by its first bytes; which words of it there
 -- are is said of the words alone.
-use Rattle.std.specs.Prelude.{◌≡◌, ℕ, Bool, true, false, not, ◌&&◌, ◌||◌, ◌==◌, nat_le, nat_eq, List, [], ◌∷◌, drop, codes, if◌then◌else◌, Option, Some, None}
+use Rattle.std.specs.Prelude.{ℕ, Bool, true, false, not, ◌&&◌, ◌||◌, ◌==◌, nat_le, nat_eq, List, [], ◌∷◌, drop, codes, if◌then◌else◌, Option, Some, None}
 use Rattle.std.specs.List.{list_any, list_all, starts_with}
 use Rattle.jdf_lex.specs.declared.piece.Piece.{Piece}
 use Rattle.jdf_lex.specs.declared.piece.Piece.TheVariants.{Blank, LineComment, BlockComment, Word}

@@ -10,7 +10,9 @@ use Rattle.jdf_lex.specs.declared.piece.Piece.TheVariants.{Blank, LineComment, B
 use Rattle.jdf_lex.specs.declared.token.Spot.{Spot}
 use Rattle.jdf_lex.specs.declared.token.Token.{Token}
 use Rattle.jdf_lex.specs.declared.token.TokenKind.{TokenKind}
-use Rattle.jdf_lex.specs.Spelling.{piece_at, is_spelling}
+use Rattle.jdf_lex.specs.declared.token.TokenKind.TheVariants.{OptionLine}
+use Rattle.jdf_lex.specs.Spelling.{begins_part, piece_at, is_spelling}
+pub use Rattle.jdf_lex.specs.Spelling.{is_letter, is_digit, is_part, is_blank}
 
 -- The place behind the front of a text: one line more than LF in it, and one column more than bytes behind the last LF.
 abbrev pub spot_after : List ℕ → Spot
@@ -56,6 +58,14 @@ abbrev pub OneListOfTokens : Type 0
 OneListOfTokens =
     (text : List ℕ) (tokens others : List Token) (end other_end : Spot)
     → IsLexed text tokens end → IsLexed text others other_end → (tokens ≡ others) × (end ≡ other_end)
+
+-- At each place the longest word is taken: none that is spelled as a piece by itself is longer, but that `%option`
+-- is no option line where a letter, digit or `_` follows.
+abbrev pub LongestIsTaken : Type 0
+LongestIsTaken =
+    (piece other : Piece) (word left longer after : List ℕ)
+    → IsPiece piece word left → word ++ left ≡ longer ++ after → piece_at longer ≡ Some other → IsTrue (is_spelling other longer)
+    → (other ≡ Word OptionLine → IsFalse (begins_part after)) → length longer ≤ length word
 
 -- Something begins here that the text does not end: no front of what is left is spelled as it is.
 pub record IsUnclosed (left : List ℕ) : Type 0 where

@@ -9,12 +9,11 @@ mod laws;
 mod lex;
 mod opening;
 mod piece;
-mod token;
-
 #[cfg(test)]
 mod tests;
+mod token;
 
 pub use fault::{JdfCode, JdfFault, JdfRefusal};
-pub use laws::one_list_of_tokens;
+pub use laws::{longest_is_taken, one_list_of_tokens};
 pub use lex::tokens;
 pub use token::{Lexed, Spot, Token, TokenKind};

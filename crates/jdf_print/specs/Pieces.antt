@@ -35,6 +35,9 @@ separated separator [] = []
 separated separator (x ∷ []) = x
 separated separator (x ∷ y ∷ xs) = x ++ (separator ++ separated separator (y ∷ xs))
 
+abbrev pub comma : List Piece
+comma = token (codes ",") ∷ space ∷ []
+
 -- with commas between
 abbrev pub with_commas : List (List Piece) → List Piece
-with_commas xs = separated (token (codes ",") ∷ space ∷ []) xs
+with_commas xs = separated comma xs

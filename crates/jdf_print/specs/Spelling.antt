@@ -1,5 +1,5 @@
 -- The canonical spelling of a tree: what `show` prints. The form is this project's own choice: a line for each part, every operator in parentheses.
-use Rattle.std.specs.Prelude.{ℕ, ℤ, List, [], ◌∷◌, ◌++◌, map, flat_map, Option, Some, None, Bool, true, false, codes}
+use Rattle.std.specs.Prelude.{ℕ, List, [], ◌∷◌, ◌++◌, map, flat_map, Option, Some, None, Bool, true, false, codes}
 use Rattle.std.specs.Fmt.{signed_decimal}
 use Rattle.jdf_lex.specs.declared.token.Token.{Token}
 use Rattle.term_core.specs.declared.operator.UnOp.{UnOp}

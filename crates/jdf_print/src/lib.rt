@@ -1,6 +1,13 @@
 //! The canonical spelling of a JDF tree.
 #![tactic(auto)]
 
+mod argument;
+mod body;
+mod class;
+mod expression;
+mod number;
+mod printing;
+mod target;
 mod writer;
 
-pub use writer::put;
+pub use printing::print;

@@ -32,7 +32,8 @@ same_place-decides a b = (λ h. one (fields.0 h), λ e. fields.1 (ap (λ (p : Pl
     fields : IsTrue (same_place a b) ↔ ((a.coll ≡ b.coll) × ((a.i ≡ b.i) × (a.j ≡ b.j)))
     fields =
         both_decide (nat_eq a.coll b.coll) (int_eq a.i b.i && int_eq a.j b.j) (unsigned_Decides a.coll b.coll)
-            (both_decide (int_eq a.i b.i) (int_eq a.j b.j) (signed_Decides a.i b.i) (signed_Decides a.j b.j))
+        (both_decide (int_eq a.i b.i) (int_eq a.j b.j) (signed_Decides a.i b.i) (signed_Decides a.j b.j))
+
     one : ((a.coll ≡ b.coll) × ((a.i ≡ b.i) × (a.j ≡ b.j))) → a ≡ b
     one p = λ k. record { coll = p.0 k; i = p.1.0 k; j = p.1.1 k }
 
@@ -47,8 +48,9 @@ same_edge-decides a b =
     fields : IsTrue (same_edge a b) ↔ ((a.from ≡ b.from) × ((a.out_flow ≡ b.out_flow) × ((a.to ≡ b.to) × (a.in_flow ≡ b.in_flow))))
     fields =
         both_decide (same_task a.from b.from) (nat_eq a.out_flow b.out_flow && (same_task a.to b.to && nat_eq a.in_flow b.in_flow)) (same_task-decides a.from b.from)
-            (both_decide (nat_eq a.out_flow b.out_flow) (same_task a.to b.to && nat_eq a.in_flow b.in_flow) (unsigned_Decides a.out_flow b.out_flow)
-                (both_decide (same_task a.to b.to) (nat_eq a.in_flow b.in_flow) (same_task-decides a.to b.to) (unsigned_Decides a.in_flow b.in_flow)))
+        (both_decide (nat_eq a.out_flow b.out_flow) (same_task a.to b.to && nat_eq a.in_flow b.in_flow) (unsigned_Decides a.out_flow b.out_flow)
+        (both_decide (same_task a.to b.to) (nat_eq a.in_flow b.in_flow) (same_task-decides a.to b.to) (unsigned_Decides a.in_flow b.in_flow)))
+
     one : ((a.from ≡ b.from) × ((a.out_flow ≡ b.out_flow) × ((a.to ≡ b.to) × (a.in_flow ≡ b.in_flow)))) → a ≡ b
     one p = λ k. record { from = p.0 k; out_flow = p.1.0 k; to = p.1.1.0 k; in_flow = p.1.1.1 k }
 
@@ -56,7 +58,7 @@ same_edge-decides a b =
 pub edge_cmp-fields : (a b : Edge) → ordering_then (task_cmp a.from b.from) (ordering_then (nat_cmp a.out_flow b.out_flow) (ordering_then (task_cmp a.to b.to) (nat_cmp a.in_flow b.in_flow))) ≡ edge_cmp a b
 edge_cmp-fields a b =
     ap (λ o. ordering_then (task_cmp a.from b.from) (ordering_then (nat_cmp a.out_flow b.out_flow) (ordering_then (task_cmp a.to b.to) o)))
-        (then_equal (nat_cmp a.in_flow b.in_flow))
+    (then_equal (nat_cmp a.in_flow b.in_flow))
 
 abbrev pub same_write_back : WriteBack → WriteBack → Bool
 same_write_back a b = same_task a.from b.from && (nat_eq a.flow b.flow && same_place a.place b.place)
@@ -69,7 +71,8 @@ same_write_back-decides a b =
     fields : IsTrue (same_write_back a b) ↔ ((a.from ≡ b.from) × ((a.flow ≡ b.flow) × (a.place ≡ b.place)))
     fields =
         both_decide (same_task a.from b.from) (nat_eq a.flow b.flow && same_place a.place b.place) (same_task-decides a.from b.from)
-            (both_decide (nat_eq a.flow b.flow) (same_place a.place b.place) (unsigned_Decides a.flow b.flow) (same_place-decides a.place b.place))
+        (both_decide (nat_eq a.flow b.flow) (same_place a.place b.place) (unsigned_Decides a.flow b.flow) (same_place-decides a.place b.place))
+
     one : ((a.from ≡ b.from) × ((a.flow ≡ b.flow) × (a.place ≡ b.place))) → a ≡ b
     one p = λ k. record { from = p.0 k; flow = p.1.0 k; place = p.1.1 k }
 
@@ -77,5 +80,5 @@ same_write_back-decides a b =
 pub write_back_cmp-fields : (a b : WriteBack) → ordering_then (task_cmp a.from b.from) (ordering_then (nat_cmp a.flow b.flow) (ordering_then (nat_cmp a.place.coll b.place.coll) (ordering_then (int_cmp a.place.i b.place.i) (int_cmp a.place.j b.place.j)))) ≡ write_back_cmp a b
 write_back_cmp-fields a b =
     let place : ordering_then (nat_cmp a.place.coll b.place.coll) (ordering_then (int_cmp a.place.i b.place.i) (int_cmp a.place.j b.place.j)) ≡ place_cmp a.place b.place
-            = ap (λ o. ordering_then (nat_cmp a.place.coll b.place.coll) (ordering_then (int_cmp a.place.i b.place.i) o)) (then_equal (int_cmp a.place.j b.place.j)) in
+    = ap (λ o. ordering_then (nat_cmp a.place.coll b.place.coll) (ordering_then (int_cmp a.place.i b.place.i) o)) (then_equal (int_cmp a.place.j b.place.j)) in
     ap (λ o. ordering_then (task_cmp a.from b.from) (ordering_then (nat_cmp a.flow b.flow) o)) (place ∙ then_equal (place_cmp a.place b.place))

@@ -19,7 +19,7 @@ task_cmp-total = then_total (on_total (λ (t : Task). t.class) nat_cmp_total) (o
 pub same_task-ties : (a b : Task) → same_task a b ≡ is_eq (task_cmp a b)
 same_task-ties a b =
     both_tied (nat_eq a.class b.class) (pointwise int_eq a.params b.params) (nat_cmp a.class b.class) (slice_cmp int_cmp a.params b.params)
-        (unsigned_ties a.class b.class) (lists_ties int_cmp (λ x y. refl) a.params b.params)
+    (unsigned_ties a.class b.class) (lists_ties int_cmp (λ x y. refl) a.params b.params)
 
 -- the test of sameness holds of one task alone
 pub same_task-decides : (a b : Task) → IsTrue (same_task a b) ↔ (a ≡ b)
@@ -30,6 +30,7 @@ same_task-decides a b = (one, itself)
         let class_is : a.class ≡ b.class = (unsigned_Decides a.class b.class).0 (first_so (nat_eq a.class b.class) (pointwise int_eq a.params b.params) e) in
         let params_are : a.params ≡ b.params = (signed_items a.params b.params).0 (second_so (nat_eq a.class b.class) (pointwise int_eq a.params b.params) e) in
         λ i. record { class = class_is i; params = params_are i }
+
     itself : a ≡ b → IsTrue (same_task a b)
     itself e =
         let class_is : nat_eq a.class b.class ≡ true = (unsigned_Decides a.class b.class).1 (ap (λ (t : Task). t.class) e) in

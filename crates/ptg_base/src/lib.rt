@@ -75,10 +75,22 @@ mod tests {
         let rows = [
             (TaskId::new(1, &[9]), TaskId::new(2, &[-9]), Ordering::Less),
             (TaskId::new(1, &[-1]), TaskId::new(1, &[0]), Ordering::Less),
-            (TaskId::new(1, &[3]), TaskId::new(1, &[2, 5]), Ordering::Greater),
-            (TaskId::new(1, &[2]), TaskId::new(1, &[2, -5]), Ordering::Less),
+            (
+                TaskId::new(1, &[3]),
+                TaskId::new(1, &[2, 5]),
+                Ordering::Greater,
+            ),
+            (
+                TaskId::new(1, &[2]),
+                TaskId::new(1, &[2, -5]),
+                Ordering::Less,
+            ),
             (TaskId::new(0, &[]), TaskId::new(0, &[]), Ordering::Equal),
-            (TaskId::new(4, &[7, -8]), TaskId::new(4, &[7, -8]), Ordering::Equal),
+            (
+                TaskId::new(4, &[7, -8]),
+                TaskId::new(4, &[7, -8]),
+                Ordering::Equal,
+            ),
         ];
         for (a, b, answer) in &rows {
             assert_eq!(rt; a.cmp(b), *answer);
@@ -120,7 +132,10 @@ mod tests {
         assert!(rt; Item::Edge(edge_into(9)) < Item::Write(write_at(-1)));
         assert!(rt; Item::Edge(edge_into(0)) != Item::Edge(edge_into(1)));
         assert!(rt; Item::Write(write_at(0)) > Item::Write(write_at(-1)));
-        assert_eq!(rt; hash_of(&Item::Edge(edge_into(3))), hash_of(&Item::Edge(edge_into(3))));
+        assert_eq!(rt;
+            hash_of(&Item::Edge(edge_into(3))),
+            hash_of(&Item::Edge(edge_into(3)))
+        );
         tasks_compare_in_task_order();
         items_compare_field_by_field();
         Ok(())

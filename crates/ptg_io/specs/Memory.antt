@@ -1,5 +1,6 @@
-use Rattle.std.specs.Prelude.{ℕ, List, Option, None, Some, slice_index, position}
+use Rattle.std.specs.Prelude.{◌≡◌, ◌≢◌, ℕ, List, Option, None, Some, slice_index, position}
 use Rattle.std.specs.Str.{bytes_eq}
+use Rattle.ptg_io.specs.Faults.{one_more}
 
 -- The place of the first file with this name, counted from 0.
 abbrev pub place_of : List (List ℕ × List ℕ) → List ℕ → Option ℕ
@@ -22,6 +23,12 @@ pub record Held : Type 0 where
 -- How many reads of this name failed.
 abbrev pub failed_reads : Held → List ℕ → ℕ
 failed_reads held name = count_at held.failed held.lacking (place_of held.files name)
+
+-- What a failed read of a name does to the counts: the name's own count has one more, which is also that of every
+-- other lacking name where the name is lacking, and each other count stays.
+pub record CountsFault (old new : Held) (name : List ℕ) : Type 0 where
+  pub own : (other : List ℕ) → place_of old.files other ≡ place_of old.files name → failed_reads new other ≡ one_more (failed_reads old other)
+  pub others : (other : List ℕ) → place_of old.files other ≢ place_of old.files name → failed_reads new other ≡ failed_reads old other
 
 -- What a sink in memory is: the bytes written; how many writes failed; the number of the writes so far; and the
 -- numbers of the writes that fail, from 1.

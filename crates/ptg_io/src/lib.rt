@@ -58,6 +58,21 @@ mod tests {
     }
 
     #[test]
+    fn files_in_memory_give_as_much_as_fits(rt: HostRuntime) -> Result<(), Fail> {
+        let alloc = rt.alloc();
+        let mut files = one_file(alloc, vec![in alloc; 4]?)?;
+        let mut into = [0u8; 3];
+        assert_eq!(rt; files.read("a", 0, &mut into), Ok(3));
+        assert_eq!(rt; into, [7, 7, 7]);
+        assert_eq!(rt; files.read("a", 99999, &mut into), Ok(1));
+        assert_eq!(rt; files.read("a", 100000, &mut into), Ok(0));
+        assert_eq!(rt; files.read("a", 0, &mut into), Err(Failed));
+        assert_eq!(rt; files.read("b", 0, &mut into), Err(Failed));
+        assert_eq!(rt; files.read("a", 99998, &mut into), Ok(2));
+        Ok(())
+    }
+
+    #[test]
     fn a_missing_name_is_a_fault(rt: HostRuntime) -> Result<(), Fail> {
         let alloc = rt.alloc();
         let mut files = one_file(alloc, Vec::new(alloc))?;

@@ -1,7 +1,7 @@
-ghost use Rattle.std.specs.Prelude.{◌≡◌, ◌<◌, ◌≤◌, ◌+◌, ◌⊎◌, ◌↔◌, min, List, ℕ, Option, Some, None, length, Contains, IfOk, IfSome, OnErr, IsErr};
-ghost use Rattle.ptg_io.specs.Faults.{Rose};
-ghost use Rattle.ptg_io.specs.Files.{IsPiece, ReadsPiece};
-ghost use Rattle.ptg_io.specs.Memory.{place_of, count_at, failed_reads};
+ghost use Rattle.std.specs.Prelude.{◌≡◌, ◌≢◌, ◌<◌, ◌≤◌, ◌+◌, ◌-◌, ◌⊎◌, ◌↔◌, min, List, ℕ, Option, Some, None, length, Contains, IfOk, IfSome, OnOk, OnErr, IsErr};
+ghost use Rattle.ptg_io.specs.Faults.{Rose, one_more};
+ghost use Rattle.ptg_io.specs.Files.{file_of, IsPiece, ReadsPiece};
+ghost use Rattle.ptg_io.specs.Memory.{place_of, count_at, failed_reads, CountsFault};
 
 use crate::file::File;
 use crate::files::{Failed, Files};
@@ -68,6 +68,12 @@ impl Files for MemFiles {
             (Contains self.old.fails self.new.reads ⊎ (place_of self.old.files name.now ≡ None)) }
         ensures counted { self.new.reads ≡ min (self.old.reads + 1) 18446744073709551615 }
         ensures fails { self.new.fails ≡ self.old.fails }
+
+        // It takes as much as fits, and counts its failure alone.
+        ensures whole { (bytes : List ℕ) → file_of self.old.files name.now ≡ Some bytes →
+            IfOk result (λ n. n ≡ min (length into.new) (length bytes - from)) }
+        ensures faults_counted { OnErr result (CountsFault self.old self.new name.now) }
+        ensures no_fault { OnOk result ((other : List ℕ) → failed_reads self.new other ≡ failed_reads self.old other) }
     {
         self.reads = self.reads.saturating_add(1);
         let place = place_of(self.all.as_slice(), name.as_bytes());
@@ -95,6 +101,9 @@ fn count_fault(failed: &mut Row<u64>, lacking: &mut u64, place: Option<usize>)
     ensures length { length failed.new ≡ length failed.old }
     ensures grows { (other : Option ℕ) → count_at failed.old lacking.old other ≤ count_at failed.new lacking.new other }
     ensures rose { Rose (count_at failed.old lacking.old place) (count_at failed.new lacking.new place) }
+    ensures own { count_at failed.new lacking.new place ≡ one_more (count_at failed.old lacking.old place) }
+    ensures others { (other : Option ℕ) → other ≢ place →
+        count_at failed.new lacking.new other ≡ count_at failed.old lacking.old other }
 {
     match place {
         Some(at) => {
@@ -112,6 +121,7 @@ fn copy_piece(bytes: &[u8], from: u64, into: &mut [u8]) -> usize
     requires { 0 < length into.old }
     ensures within { result ≤ length into.new }
     ensures given { IsPiece bytes.now from result into.new }
+    ensures whole { result ≡ min (length into.new) (length bytes.now - from) }
 {
     if from >= bytes.len() as u64 {
         return 0;

@@ -1,5 +1,5 @@
-ghost use Rattle.std.specs.Prelude.{◌≡◌, ◌<◌, ◌≤◌, ◌+◌, min, [], Some, length, take, Contains, IfOk, OnErr, IsErr};
-ghost use Rattle.ptg_io.specs.Faults.{Rose};
+ghost use Rattle.std.specs.Prelude.{◌≡◌, ◌<◌, ◌≤◌, ◌+◌, min, [], Some, length, take, Contains, IfOk, OnOk, OnErr, IsErr};
+ghost use Rattle.ptg_io.specs.Faults.{Rose, one_more};
 ghost use Rattle.ptg_io.specs.Sink.{appended};
 
 use crate::files::Failed;
@@ -65,6 +65,10 @@ impl Sink for MemSink {
         ensures chosen { Contains self.old.fails self.new.writes → IsErr result }
         ensures counted { self.new.writes ≡ min (self.old.writes + 1) 18446744073709551615 }
         ensures fails { self.new.fails ≡ self.old.fails }
+
+        // It counts its failure alone.
+        ensures fault_counted { OnErr result (self.new.failed ≡ one_more self.old.failed) }
+        ensures no_fault { OnOk result (self.new.failed ≡ self.old.failed) }
     {
         self.writes = self.writes.saturating_add(1);
         let fails = self.chosen.as_slice().contains(&self.writes);

@@ -57,12 +57,18 @@ IsExact ReadFault = ⊥
 IsExact WriteFault = ⊥
 IsExact OutOfMemory = ⊥
 
--- the sink grew by exactly what words and files mean, and this is its status
+-- the sink grew by exactly the text of what words and files mean, which is one verdict at most, and this is its status
 pub record Prints (words : List (List ℕ)) (files : Entries) (before after : Option (List ℕ)) (status : Status) : Type 0 where
   pub verdict : Verdict
   pub means : Means words files verdict
   pub text : after ≡ appended before (text_of verdict)
   pub ends : status ≡ status_of verdict
+
+-- words and files determine what is printed, and the status
+abbrev pub OneOutput : Type 0
+OneOutput =
+    (words : List (List ℕ)) (files : Entries) (before after other : Option (List ℕ)) (status another : Status)
+    → Prints words files before after status → Prints words files before other another → (after ≡ other) × (status ≡ another)
 
 -- a failed write cut off what was due: what the words and files mean, or the name of a file of which a read failed
 pub record IsCut (words : List (List ℕ)) (told : Option Entries) (old new : List ℕ → ℕ) (before after : Option (List ℕ)) : Type 0 where

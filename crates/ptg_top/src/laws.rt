@@ -1,6 +1,8 @@
 ghost use Rattle.ptg_top.specs.Meaning.{OneMeaning};
+ghost use Rattle.ptg_top.specs.Headline.{OneOutput};
 
-/// A law: words and files mean one thing at most.
+/// A law: words and files mean one thing at most, and so determine what is printed.
 pub fn one_meaning()
-    ensures { OneMeaning }
+    ensures meaning { OneMeaning }
+    ensures output { OneOutput }
 {}

@@ -24,7 +24,7 @@ ghost use Rattle.ptg_top.specs.Steps.{TreeStop, DataStop, PlanStop, AnswerSaid, 
 use crate::verdict::Verdict;
 use coll_data::{DataCode, DataFault, DataRefusal, Given, read_data};
 use edge_match::{MatchRefusal, match_edges};
-use flow_check::{check, missing};
+use flow_check::{check, is_missing};
 use flow_core::run_one;
 use jdf_first::{Jdf, read_first};
 use jdf_lex::{JdfCode, JdfFault, JdfRefusal, Spot};
@@ -146,8 +146,10 @@ pub fn plan_of(alloc: Global, jdf: &Jdf, given: &Given) -> Result<Plan, Stop>
     ensures plan { IfOk result (IsPlan jdf.now given.now) }
     ensures stopped { IfErr result (PlanStop jdf.now given.now) }
 {
-    if missing(jdf, given) {
-        return Err(Stop::Said(Verdict::Data(data_fault())));
+    match is_missing(alloc, jdf, given) {
+        Ok(true) => return Err(Stop::Said(Verdict::Data(data_fault()))),
+        Ok(false) => {}
+        Err(OutOfMemory) => return Err(Stop::Memory),
     }
     match check(alloc, jdf, given) {
         Ok(plan) => Ok(plan),

@@ -1,6 +1,9 @@
 //! Whole runs over files and a sink in memory, as tables. What is wanted was worked out by hand from the rules.
 
-use crate::ptg_main;
+use crate::{one_meaning, ptg_main};
+use coll_data::read_data;
+use flow_check::{is_missing, missing, one_plan};
+use jdf_first::read_first;
 use ptg_base::{Row, Text};
 use ptg_io::{File, MemFiles, MemSink};
 use std::alloc::Global;
@@ -59,6 +62,7 @@ fn run(
 
 #[test]
 fn jobs(rt: HostRuntime) -> Result<(), Fail> {
+    one_meaning();
     let alloc = rt.alloc();
     let rows: [(&[u8], &[u8], &[u8], u8); 11] = [
         (CHAIN, DATA, b"complete,4\ntile,D,0,9\n", 0),
@@ -98,6 +102,26 @@ fn jobs(rt: HostRuntime) -> Result<(), Fail> {
         let got = run(alloc, &[b"run", b"a.jdf", b"b.csv"], &mut files, &[])?;
         assert_eq!(rt; got.0.as_slice(), text);
         assert_eq!(rt; got.1, code);
+    }
+    Ok(())
+}
+
+// Whether the data lack a global, gone through and looked up by key.
+#[test]
+fn lacking_globals(rt: HostRuntime) -> Result<(), Fail> {
+    one_plan();
+    let alloc = rt.alloc();
+    let jdf = read_first(alloc, CHAIN)?;
+    let rows: [(&[u8], bool); 4] = [
+        (DATA, false),
+        (b"elems,1\ncoll,D,1\n", true),
+        (b"elems,1\nint,NB,3\n", true),
+        (b"elems,1\nint,D,3\nint,NB,3\n", false),
+    ];
+    for (data, lacking) in rows {
+        let given = read_data(alloc, data)?;
+        assert_eq!(rt; missing(&jdf, &given), lacking);
+        assert_eq!(rt; is_missing(alloc, &jdf, &given)?, lacking);
     }
     Ok(())
 }
@@ -176,6 +200,47 @@ fn failing_devices(rt: HostRuntime) -> Result<(), Fail> {
     for (words, read_fails, write_fails, text, code) in rows {
         let mut files = files(alloc, CHAIN, DATA, read_fails)?;
         let got = run(alloc, words, &mut files, write_fails)?;
+        assert_eq!(rt; got.0.as_slice(), text);
+        assert_eq!(rt; got.1, code);
+    }
+    Ok(())
+}
+
+// These bytes with so many blanks before them.
+fn behind_blanks(alloc: Global, count: usize, text: &[u8]) -> Result<Vec<u8>, Fail> {
+    let mut bytes = vec![in alloc; b' '; count]?;
+    bytes.extend_from_slice(text)?;
+    Ok(bytes)
+}
+
+// The data of which NB is 3, written with so many zeros before it.
+fn with_zeros(alloc: Global, count: usize) -> Result<Vec<u8>, Fail> {
+    let mut bytes = b"elems,1\ncoll,D,1\ntile,D,0,5\nint,NB,".to_vec(alloc)?;
+    let zeros = vec![in alloc; b'0'; count]?;
+    bytes.extend_from_slice(zeros.as_slice())?;
+    bytes.extend_from_slice(b"3\n")?;
+    Ok(bytes)
+}
+
+// Files are read in pieces of 65,536 bytes. Each of these two has two such pieces and a shorter one, and a fourth read
+// finds its end.
+#[test]
+fn a_failing_read_of_a_later_piece(rt: HostRuntime) -> Result<(), Fail> {
+    let alloc = rt.alloc();
+    let jdf = behind_blanks(alloc, 140_000, CHAIN)?;
+    let data = with_zeros(alloc, 140_000)?;
+    let rows: [(&[u64], &[u8], u8); 7] = [
+        (&[], b"complete,4\ntile,D,0,9\n", 0),
+        (&[9], b"complete,4\ntile,D,0,9\n", 0),
+        (&[2], b"unread,a.jdf\n", 7),
+        (&[3], b"unread,a.jdf\n", 7),
+        (&[6], b"unread,b.csv\n", 7),
+        (&[7], b"unread,b.csv\n", 7),
+        (&[8], b"unread,b.csv\n", 7),
+    ];
+    for (fails, text, code) in rows {
+        let mut files = files(alloc, jdf.as_slice(), data.as_slice(), fails)?;
+        let got = run(alloc, &[b"run", b"a.jdf", b"b.csv"], &mut files, &[])?;
         assert_eq!(rt; got.0.as_slice(), text);
         assert_eq!(rt; got.1, code);
     }

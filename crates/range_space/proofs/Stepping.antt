@@ -29,10 +29,10 @@ gap_last hi (pos (suc n)) v h k = grind (arith, ints)
 gap_last hi (negsuc n) v h k = grind (arith, ints)
 
 -- a sum that is not past hi fits where both ends do
-fits_between : (v hi step : ℤ) → FitsSigned w64 v → FitsSigned w64 hi → is_within hi step v ≡ true → is_within hi step (v +ℤ step) ≡ true → FitsSigned w64 (v +ℤ step)
-fits_between v hi (pos zero) f g h k = absurd cc
-fits_between v hi (pos (suc n)) f g h k = omega (arith, ints)
-fits_between v hi (negsuc n) f g h k = omega (arith, ints)
+fits_between : (v hi step : ℤ) → FitsSigned w64 v → FitsSigned w64 hi → is_within hi step (v +ℤ step) ≡ true → FitsSigned w64 (v +ℤ step)
+fits_between v hi (pos zero) f g k = absurd cc
+fits_between v hi (pos (suc n)) f g k = omega (arith, ints)
+fits_between v hi (negsuc n) f g k = omega (arith, ints)
 
 module _ (hi step : ℤ) where
   pub while_past : (n : ℕ) (v : ℤ) → is_within hi step v ≡ false → while_within hi step n v ≡ []
@@ -67,8 +67,12 @@ module _ (hi step : ℤ) where
       (λ k. let e = gap-step hi step v h k in let s = size_pos hi step v h in while_enough (gap hi v) (suc (gap hi (v +ℤ step))) (v +ℤ step) (omega arith) (omega arith))
       (λ k. while_past (gap hi v) (v +ℤ step) k ∙ sym (while_past (suc (gap hi (v +ℤ step))) (v +ℤ step) k)))
 
--- the next value in 64 bits: where it does not fit it is past hi
+-- where the next value does not fit 64 bits it is past hi
+pub values_unfit : (v hi step : ℤ) → FitsSigned w64 v → FitsSigned w64 hi → (FitsSigned w64 (v +ℤ step) → ⊥) → values (v +ℤ step) hi step ≡ []
+values_unfit v hi step f g not_fit =
+    values_past hi step (v +ℤ step) (by_test (is_within hi step (v +ℤ step)) (λ w. absurd (not_fit (fits_between v hi step f g w))) (λ w. w))
+
+-- the next value, where it fits 64 bits
 pub values_checked : (v hi step : ℤ) (next : Option ℤ) → FitsSigned w64 v → FitsSigned w64 hi → is_within hi step v ≡ true → SomeIff next (FitsSigned w64 (v +ℤ step)) (v +ℤ step) → values v hi step ≡ v ∷ values_from next hi step
 values_checked v hi step (Some z) f g h k = values_in hi step v h ∙ ap (λ w. v ∷ values w hi step) (sym k.1)
-values_checked v hi step None f g h k =
-    values_in hi step v h ∙ ap (λ vs. v ∷ vs) (values_past hi step (v +ℤ step) (by_test (is_within hi step (v +ℤ step)) (λ w. absurd (k (fits_between v hi step f g h w))) (λ w. w)))
+values_checked v hi step None f g h k = values_in hi step v h ∙ ap (λ vs. v ∷ vs) (values_unfit v hi step f g k)

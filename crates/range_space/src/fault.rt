@@ -1,3 +1,4 @@
+use crate::numbers::Numbers;
 use term_core::ExprFault;
 
 /// Why a range has no values.
@@ -7,4 +8,13 @@ pub enum SpanFault {
     Expr(ExprFault),
     /// Its step is 0.
     ZeroStep,
+}
+
+/// Why the tasks of the classes are not counted to the end, and the number of the class.
+#[derive(Debug, Drop)]
+pub enum SpaceFault {
+    /// A definition has no value under these values of the definitions before it.
+    BadExpr(u32, Numbers<16>),
+    /// There are more than 1,000,000 tasks, or more than 16,000,000 prefixes.
+    TooManyTasks(u32),
 }

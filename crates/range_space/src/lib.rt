@@ -2,9 +2,20 @@
 #![tactic(auto)]
 
 mod fault;
+mod member;
+mod numbers;
+mod size;
 mod steps;
+mod tasks;
 mod values;
+mod walk;
+mod well;
 
-pub use fault::SpanFault;
+pub use fault::{SpaceFault, SpanFault};
+pub use member::{in_space, locals_of};
+pub use numbers::Numbers;
+pub use size::space_size;
 pub use steps::{Steps, steps_of};
+pub use tasks::Space;
 pub use values::Values;
+pub use well::is_well_space;

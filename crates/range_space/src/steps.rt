@@ -27,7 +27,7 @@ pub(crate) fn within(hi: i64, step: i64, v: i64) -> bool
     }
 }
 
-fn number(e: &Expr, env: &[i64]) -> Result<i64, SpanFault>
+pub(crate) fn number(e: &Expr, env: &[i64]) -> Result<i64, SpanFault>
     ensures { result ≡ number e.now env.now }
 {
     match eval(e, env) {

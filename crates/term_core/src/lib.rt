@@ -2,17 +2,21 @@
 #![tactic(auto)]
 
 mod arithmetic;
+mod body;
 mod evaluate;
 mod expr;
 mod fault;
 mod flow;
 mod operator;
 mod space;
+mod trap;
 
 pub use arithmetic::{arith, decide, unary};
+pub use body::{Block, Body, Stmt};
 pub use evaluate::{eval, local};
 pub use expr::{Expr, Node};
 pub use fault::ExprFault;
 pub use flow::FlowKind;
 pub use operator::{BinOp, UnOp};
 pub use space::{ClassSpace, Def, Params, Range};
+pub use trap::Trap;

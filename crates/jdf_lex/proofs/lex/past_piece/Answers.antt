@@ -1,10 +1,10 @@
-use Rattle.std.proofs.Common.{◌≡◌, ◌+◌, ◌<◌, ◌≤◌, length, take, drop, Result, Ok, Err, Some, None, sym, ◌∙◌, ap, subst, arith}
+use Rattle.std.proofs.Common.{◌≡◌, drop, Result, Err, sym, ◌∙◌, ap, subst, arith}
 use Rattle.std.proofs.lemmas.Result.{err_from_is_err_and}
 use Rattle.jdf_lex.specs.declared.cursor.Cursor.{Cursor}
 use Rattle.jdf_lex.specs.declared.fault.JdfFault.{JdfFault}
 use Rattle.jdf_lex.specs.declared.fault.JdfRefusal.{JdfRefusal}
 use Rattle.jdf_lex.specs.declared.fault.JdfRefusal.TheVariants.{Fault}
-use Rattle.jdf_lex.specs.declared.fault.JdfCode.TheVariants.{Unclosed, TooManyTokens}
+use Rattle.jdf_lex.specs.declared.fault.JdfCode.TheVariants.{Unclosed}
 use Rattle.jdf_lex.specs.declared.piece.Piece.TheVariants.{Word}
 use Rattle.jdf_lex.specs.Tokens.{IsTokenFault}
 use Rattle.jdf_lex.specs.Reading.{front_piece}

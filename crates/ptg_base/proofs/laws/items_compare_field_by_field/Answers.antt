@@ -1,5 +1,5 @@
-use Rattle.std.proofs.Common.{◌≡◌, IsTrue, ◌↔◌, refl, sym, ap, ◌∙◌, true≢false}
-use Rattle.ptg_base.specs.ItemComparing.{item_cmp, IsCompared}
+use Rattle.std.proofs.Common.{◌≡◌, IsTrue, ◌↔◌, refl, ap}
+use Rattle.ptg_base.specs.ItemComparing.{item_cmp}
 use Rattle.ptg_base.specs.declared.edge.Edge.{Edge}
 use Rattle.ptg_base.specs.declared.edge.WriteBack.{WriteBack}
 use Rattle.ptg_base.specs.declared.edge.Item.{Item}

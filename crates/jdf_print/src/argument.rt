@@ -1,0 +1,68 @@
+ghost use Rattle.std.specs.Prelude.{◌≡◌, ◌++◌, OnOk, map};
+ghost use Rattle.std.specs.List.{flat_map};
+ghost use Rattle.jdf_print.specs.Pieces.{text, with_commas, comma};
+ghost use Rattle.jdf_print.specs.Spelling.{argument, arguments, step};
+
+use crate::expression::put_expression;
+use crate::writer::put;
+use jdf_tree::{ArgTree, ExprTree};
+use ptg_base::{OutOfMemory, Row};
+
+/// Puts the step of a range, where there is one.
+fn put_step(out: &mut Row<u8>, by: &Option<ExprTree>) -> Result<(), OutOfMemory>
+    ensures { OnOk result (out.new ≡ out.old ++ text (step by.now)) }
+{
+    match by {
+        Some(e) => {
+            put(out, b" .. ")?;
+            put_expression(out, e)
+        }
+        None => Ok(()),
+    }
+}
+
+/// Puts an argument, or what stands behind the `=` of a definition.
+pub(crate) fn put_argument(out: &mut Row<u8>, arg: &ArgTree) -> Result<(), OutOfMemory>
+    ensures { OnOk result (out.new ≡ out.old ++ text (argument arg.now)) }
+{
+    match arg {
+        ArgTree::One(e) => put_expression(out, e),
+        ArgTree::Span(_, lo, hi, by) => {
+            put_expression(out, lo)?;
+            put(out, b" .. ")?;
+            put_expression(out, hi)?;
+            put_step(out, by)
+        }
+    }
+}
+
+/// Puts arguments that stand behind others, a comma before each.
+fn put_later(out: &mut Row<u8>, args: &[ArgTree]) -> Result<(), OutOfMemory>
+    ensures { OnOk result (out.new ≡ out.old ++ text (flat_map (λ a. comma ++ argument a) args.now)) }
+{
+    for arg in args {
+        put(out, b", ")?;
+        put_argument(out, arg)?;
+    }
+    Ok(())
+}
+
+/// Puts arguments with commas between them.
+fn put_listed(out: &mut Row<u8>, args: &[ArgTree]) -> Result<(), OutOfMemory>
+    ensures { OnOk result (out.new ≡ out.old ++ text (with_commas (map argument args.now))) }
+{
+    let Some((first, later)) = args.split_first() else {
+        return Ok(());
+    };
+    put_argument(out, first)?;
+    put_later(out, later)
+}
+
+/// Puts a list of arguments in its parentheses.
+pub(crate) fn put_arguments(out: &mut Row<u8>, args: &Row<ArgTree>) -> Result<(), OutOfMemory>
+    ensures { OnOk result (out.new ≡ out.old ++ text (arguments args.now)) }
+{
+    put(out, b"(")?;
+    put_listed(out, args.as_slice())?;
+    put(out, b")")
+}

@@ -1,0 +1,87 @@
+ghost use Rattle.std.specs.Prelude.{◌≡◌, ◌++◌, OnOk};
+ghost use Rattle.jdf_print.specs.Pieces.{text};
+ghost use Rattle.jdf_print.specs.Spelling.{sign, operator, expression};
+ghost use Rattle.jdf_tree.specs.NodeExpression.{expression_of};
+
+use crate::number::put_number;
+use crate::writer::{put, put_word};
+use jdf_tree::{ExprNode, ExprTree};
+use ptg_base::{OutOfMemory, Row};
+use term_core::{BinOp, UnOp};
+
+fn sign_of(op: UnOp) -> &'static [u8]
+    ensures { result.now ≡ sign op }
+{
+    match op {
+        UnOp::Neg => b"-",
+        UnOp::Not => b"!",
+    }
+}
+
+/// Both spellings of And and of Or are read, and the double one is put.
+fn operator_of(op: BinOp) -> &'static [u8]
+    ensures { result.now ≡ operator op }
+{
+    match op {
+        BinOp::Add => b"+",
+        BinOp::Sub => b"-",
+        BinOp::Mul => b"*",
+        BinOp::Div => b"/",
+        BinOp::Rem => b"%",
+        BinOp::Eq => b"==",
+        BinOp::Ne => b"!=",
+        BinOp::Lt => b"<",
+        BinOp::Le => b"<=",
+        BinOp::Gt => b">",
+        BinOp::Ge => b">=",
+        BinOp::And => b"&&",
+        BinOp::Or => b"||",
+    }
+}
+
+/// Puts what an operation at the root of an expression spells, every operator in parentheses.
+fn put_node(out: &mut Row<u8>, node: &ExprNode) -> Result<(), OutOfMemory>
+    ensures { OnOk result (out.new ≡ out.old ++ text (expression (expression_of node.now))) }
+{
+    match node {
+        ExprNode::Num(z, _) => put_number(out, *z),
+        ExprNode::Name(name) => put_word(out, name),
+        ExprNode::Elem(flow, at) => {
+            put_word(out, flow)?;
+            put(out, b"[")?;
+            put_node(out, at)?;
+            put(out, b"]")
+        }
+        ExprNode::Unary(op, a, _) => {
+            put(out, b"(")?;
+            put(out, sign_of(*op))?;
+            put_node(out, a)?;
+            put(out, b")")
+        }
+        ExprNode::Binary(op, a, b) => {
+            put(out, b"(")?;
+            put_node(out, a)?;
+            put(out, b" ")?;
+            put(out, operator_of(*op))?;
+            put(out, b" ")?;
+            put_node(out, b)?;
+            put(out, b")")
+        }
+        ExprNode::Choose(c, a, b) => {
+            put(out, b"(")?;
+            put_node(out, c)?;
+            put(out, b" ? ")?;
+            put_node(out, a)?;
+            put(out, b" : ")?;
+            put_node(out, b)?;
+            put(out, b")")
+        }
+    }
+}
+
+/// Puts an expression.
+pub(crate) fn put_expression(out: &mut Row<u8>, e: &ExprTree) -> Result<(), OutOfMemory>
+    ensures { OnOk result (out.new ≡ out.old ++ text (expression e.now)) }
+{
+    put_node(out, e.node())
+}

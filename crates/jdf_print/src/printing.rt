@@ -1,0 +1,40 @@
+ghost use Rattle.std.specs.Prelude.{◌≡◌, ◌∷◌, [], ◌++◌, OnOk, IfOk};
+ghost use Rattle.std.specs.List.{flat_map};
+ghost use Rattle.jdf_print.specs.Pieces.{text, token, line};
+ghost use Rattle.jdf_print.specs.Spelling.{class, spelling};
+
+use crate::class::put_class;
+use crate::writer::{put, put_word};
+use jdf_tree::{ClassTree, Jdf, Word};
+use ptg_base::{OutOfMemory, Row, Text};
+use std::alloc::Global;
+
+/// Puts each global on a line.
+fn put_globals(out: &mut Row<u8>, names: &[Word]) -> Result<(), OutOfMemory>
+    ensures { OnOk result (out.new ≡ out.old ++ text (flat_map (λ w. line (token w.text ∷ [])) names.now)) }
+{
+    for name in names {
+        put_word(out, name)?;
+        put(out, b"\n")?;
+    }
+    Ok(())
+}
+
+fn put_classes(out: &mut Row<u8>, classes: &[ClassTree]) -> Result<(), OutOfMemory>
+    ensures { OnOk result (out.new ≡ out.old ++ text (flat_map class classes.now)) }
+{
+    for c in classes {
+        put_class(out, c)?;
+    }
+    Ok(())
+}
+
+/// The canonical spelling of a tree.
+pub fn print(alloc: Global, jdf: &Jdf) -> Result<Text, OutOfMemory>
+    ensures { IfOk result (λ t. t ≡ spelling jdf.now) }
+{
+    let mut out = Row::new(alloc);
+    put_globals(&mut out, jdf.globals.as_slice())?;
+    put_classes(&mut out, jdf.classes.as_slice())?;
+    Text::of(alloc, out.as_slice())
+}

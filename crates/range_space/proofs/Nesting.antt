@@ -1,0 +1,151 @@
+-- How the full lists of an iteration space go on from one to the next.
+use Rattle.std.proofs.Common.{◌≡◌, ℕ, suc, ◌+◌, ◌<◌, ℤ, pos, ◌+ℤ◌, Bool, true, false, List, [], ◌∷◌, ◌++◌, length, take, drop, get_or, refl, ap, sym, ◌∙◌, append_assoc, add-one, Option, Some, None, Result, Ok, Err, MatchOption, arith}
+use Rattle.std.proofs.lemmas.List.{take_more}
+use Rattle.std.specs.Bool.{OnTrue, OnFalse}
+use Rattle.std.proofs.lemmas.Int.{ints}
+use Rattle.std.proofs.Math.Seq.{drop-cons}
+use Rattle.term_core.specs.Value.{after}
+use Rattle.term_core.specs.declared.space.Def.{Def}
+use Rattle.term_core.specs.declared.space.Def.TheVariants.{Span, Value}
+use Rattle.range_space.specs.declared.fault.SpanFault.{SpanFault}
+use Rattle.range_space.specs.Values.{is_within, values}
+use Rattle.range_space.specs.Fault.{Bounds, number}
+use Rattle.range_space.specs.Nested.{full_lists, def_values, or_none}
+use Rattle.range_space.specs.Later.{def_bounds, lists_among, lists_past, later_lists, StandsFirst, StandsAmong}
+use Rattle.range_space.proofs.Stepping.{values_in, values_past, by_test}
+
+-- what follows from a fact of one answer
+pub on_true : {P Q : Type 0} (b : Bool) → (P → Q) → OnTrue b P → OnTrue b Q
+on_true true f h = f h
+on_true false f h = h
+
+pub on_false : {P Q : Type 0} (b : Bool) → (P → Q) → OnFalse b P → OnFalse b Q
+on_false true f h = h
+on_false false f h = f h
+
+-- a range from a number to itself has that number alone
+pub values-one : (z : ℤ) → values z z (pos 1) ≡ z ∷ []
+values-one z =
+    values_in z (pos 1) z (grind (arith, ints)) ∙ ap (λ vs. z ∷ vs) (values_past z (pos 1) (z +ℤ pos 1) (grind (arith, ints)))
+
+-- the values of a definition are those of its bounds
+values_of_number : (r : Result ℤ SpanFault) (b : Bounds) → after r (λ z. Ok (record { lo = z; hi = z; step = pos 1 })) ≡ Ok b → after r (λ z. Ok (z ∷ [])) ≡ Ok (values b.lo b.hi b.step)
+values_of_number (Ok z) b e =
+    let h : record { lo = z; hi = z; step = pos 1 } ≡ b = cc in
+    ap Ok (sym (values-one z) ∙ ap (λ (x : Bounds). values x.lo x.hi x.step) h)
+values_of_number (Err f) b e = absurd cc
+
+fault_of_number : (r : Result ℤ SpanFault) (f : SpanFault) → ◌≡◌ {A = Result Bounds SpanFault} (after r (λ z. Ok (record { lo = z; hi = z; step = pos 1 }))) (Err f) → after r (λ z. Ok (z ∷ [])) ≡ Err f
+fault_of_number (Ok z) f e = absurd cc
+fault_of_number (Err g) f e = cc
+
+pub def_values-bounds : (d : Def) (env : List ℤ) (b : Bounds) → def_bounds d env ≡ Ok b → def_values d env ≡ Ok (values b.lo b.hi b.step)
+def_values-bounds (Span r) env b e = rw e refl
+def_values-bounds (Value t) env b e = values_of_number (number t env) b e
+
+pub def_values-fault : (d : Def) (env : List ℤ) (f : SpanFault) → def_bounds d env ≡ Err f → def_values d env ≡ Err f
+def_values-fault (Span r) env f e = rw e refl
+def_values-fault (Value t) env f e = fault_of_number (number t env) f e
+
+-- the first value and the others
+pub values-uncons : (at hi step x : ℤ) (xs : List ℤ) → values at hi step ≡ x ∷ xs → (x ≡ at) × (xs ≡ values (at +ℤ step) hi step)
+values-uncons at hi step x xs e =
+    by_test (is_within hi step at)
+    (λ h. let f = sym e ∙ values_in hi step at h in (cc, cc))
+    (λ h. let f = sym e ∙ values_past hi step at h in absurd cc)
+
+-- one list has one front and one last element
+pub unsnoc : {A : Type 0} (xs ys : List A) (v w : A) → xs ++ v ∷ [] ≡ ys ++ w ∷ [] → (ys ≡ xs) × (w ≡ v)
+unsnoc [] [] v w e = (refl, cc)
+unsnoc [] (y ∷ []) v w e = absurd cc
+unsnoc [] (y ∷ z ∷ ys) v w e = absurd cc
+unsnoc (x ∷ []) [] v w e = absurd cc
+unsnoc (x ∷ z ∷ xs) [] v w e = absurd cc
+unsnoc (x ∷ xs) (y ∷ ys) v w e = let u = unsnoc xs ys v w cc in let h : x ≡ y = cc in (cc, u.1)
+
+not_empty : {A : Type 0} (xs : List A) (v : A) → xs ++ v ∷ [] ≡ [] → ⊥
+not_empty [] v e = absurd cc
+not_empty (x ∷ xs) v e = absurd cc
+
+-- what taking the last element away leaves
+pub popped : {A : Type 0} (r : Option A) (xs ys : List A) (v : A) → MatchOption r ((xs ++ v ∷ [] ≡ []) × (ys ≡ [])) (λ w. xs ++ v ∷ [] ≡ ys ++ w ∷ []) → ys ≡ xs
+popped None xs ys v h = absurd (not_empty xs v h.0)
+popped (Some w) xs ys v h = (unsnoc xs ys v w h).0
+
+module _ (d : Def) (ds : List Def) (begun now : List ℤ) (b : Bounds) (e : def_bounds d begun ≡ Ok b) where
+  full-among : full_lists (d ∷ ds) begun ≡ lists_among ds begun (values b.lo b.hi b.step)
+  full-among = ap (λ r. lists_among ds begun (or_none r)) (def_values-bounds d begun b e)
+
+  pub first_of_among : StandsAmong (Ok b) ds begun now (lists_among ds begun (values b.lo b.hi b.step)) → StandsFirst (d ∷ ds) begun now (full_lists (d ∷ ds) begun)
+  first_of_among s = record {
+    locals = s.value ∷ s.locals;
+    goes_on = s.goes_on;
+    one_each = ap suc s.one_each;
+    first = full-among ∙ s.first ∙ ap (λ r. now ∷ later_lists ds (begun ++ s.value ∷ []) s.locals ++ lists_past ds begun r s.value) (sym e);
+  }
+
+  pub none_of_among : lists_among ds begun (values b.lo b.hi b.step) ≡ [] → full_lists (d ∷ ds) begun ≡ []
+  none_of_among h = full-among ∙ h
+
+pub none_of_fault : (d : Def) (ds : List Def) (begun : List ℤ) (f : SpanFault) → def_bounds d begun ≡ Err f → full_lists (d ∷ ds) begun ≡ []
+none_of_fault d ds begun f e = ap (λ r. lists_among ds begun (or_none r)) (def_values-fault d begun f e)
+
+module _ (ds : List Def) (begun : List ℤ) (b : Bounds) (at v : ℤ) (vs more : List ℤ)
+    (behind : lists_among ds begun (values b.lo b.hi b.step) ≡ lists_among ds begun vs)
+    (in_steps : vs ≡ values at b.hi b.step) (next : vs ≡ v ∷ more) where
+  pub others : more ≡ values (at +ℤ b.step) b.hi b.step
+  others = (values-uncons at b.hi b.step v more (sym in_steps ∙ next)).1
+
+  pub here : v ≡ at
+  here = (values-uncons at b.hi b.step v more (sym in_steps ∙ next)).0
+
+  among-here : lists_among ds begun (values b.lo b.hi b.step) ≡ full_lists ds (begun ++ v ∷ []) ++ lists_among ds begun more
+  among-here = behind ∙ ap (lists_among ds begun) next
+
+  pub found_here : (now : List ℤ) → StandsFirst ds (begun ++ v ∷ []) now (full_lists ds (begun ++ v ∷ [])) → StandsAmong (Ok b) ds begun now (lists_among ds begun (values b.lo b.hi b.step))
+  found_here now s = record {
+    value = v;
+    locals = s.locals;
+    goes_on = s.goes_on ∙ append_assoc begun (v ∷ []) s.locals;
+    one_each = s.one_each;
+    first = among-here ∙ ap (λ l. l ++ lists_among ds begun more) s.first ∙ ap (λ m. now ∷ later_lists ds (begun ++ v ∷ []) s.locals ++ lists_among ds begun m) (others ∙ ap (λ z. values (z +ℤ b.step) b.hi b.step) (sym here));
+  }
+
+  pub none_here : full_lists ds (begun ++ v ∷ []) ≡ [] → lists_among ds begun (values b.lo b.hi b.step) ≡ lists_among ds begun more
+  none_here h = among-here ∙ ap (λ l. l ++ lists_among ds begun more) h
+
+-- where a list is cut: the values before a place, the one there, and those after it
+pub record IsCut (old : List ℤ) (depth : ℕ) (v : ℤ) : Type 0 where
+  pub before : take (depth + 1) old ≡ take depth old ++ v ∷ []
+  pub from : drop depth old ≡ v ∷ drop (depth + 1) old
+
+pub cut : (old : List ℤ) (depth : ℕ) → depth < length old → IsCut old depth (get_or old depth (pos 0))
+cut old depth h = record { before = take_more old depth (pos 0) h; from = rw (add-one) (drop-cons old depth (pos 0) h) }
+
+module _ (d : Def) (ds : List Def) (old : List ℤ) (depth : ℕ) (v : ℤ) (c : IsCut old depth v) where
+  later-cut : later_lists (d ∷ ds) (take depth old) (drop depth old) ≡ later_lists ds (take (depth + 1) old) (drop (depth + 1) old) ++ lists_past ds (take depth old) (def_bounds d (take depth old)) v
+  later-cut =
+      ap (later_lists (d ∷ ds) (take depth old)) c.from ∙ ap (λ t. later_lists ds t (drop (depth + 1) old) ++ lists_past ds (take depth old) (def_bounds d (take depth old)) v) (sym c.before)
+
+  pub found_deeper : (now : List ℤ) → StandsFirst ds (take (depth + 1) old) now (later_lists ds (take (depth + 1) old) (drop (depth + 1) old)) → StandsFirst (d ∷ ds) (take depth old) now (later_lists (d ∷ ds) (take depth old) (drop depth old))
+  found_deeper now s = record {
+    locals = v ∷ s.locals;
+    goes_on = s.goes_on ∙ ap (λ t. t ++ s.locals) c.before ∙ append_assoc (take depth old) (v ∷ []) s.locals;
+    one_each = ap suc s.one_each;
+    first = later-cut ∙ ap (λ l. l ++ lists_past ds (take depth old) (def_bounds d (take depth old)) v) s.first ∙ ap (λ t. now ∷ later_lists ds t s.locals ++ lists_past ds (take depth old) (def_bounds d (take depth old)) v) c.before;
+  }
+
+  module _ (none : later_lists ds (take (depth + 1) old) (drop (depth + 1) old) ≡ []) where
+    later-past : later_lists (d ∷ ds) (take depth old) (drop depth old) ≡ lists_past ds (take depth old) (def_bounds d (take depth old)) v
+    later-past = later-cut ∙ ap (λ l. l ++ lists_past ds (take depth old) (def_bounds d (take depth old)) v) none
+
+    pub found_past : (now : List ℤ) → StandsAmong (def_bounds d (take depth old)) ds (take depth old) now (lists_past ds (take depth old) (def_bounds d (take depth old)) v) → StandsFirst (d ∷ ds) (take depth old) now (later_lists (d ∷ ds) (take depth old) (drop depth old))
+    found_past now s = record {
+      locals = s.value ∷ s.locals;
+      goes_on = s.goes_on;
+      one_each = ap suc s.one_each;
+      first = later-past ∙ s.first;
+    }
+
+    pub none_past : lists_past ds (take depth old) (def_bounds d (take depth old)) v ≡ [] → later_lists (d ∷ ds) (take depth old) (drop depth old) ≡ []
+    none_past h = later-past ∙ h

@@ -1,0 +1,36 @@
+-- The iteration space of a class, built by nesting one definition in the one before it. Source: DAGuE (Parallel Computing, 2012) and the JDF documentation.
+use Rattle.std.specs.Prelude.{ℕ, ℤ, pos, List, [], ◌∷◌, ◌++◌, map, Result, Ok, Err, slice_index_or}
+use Rattle.std.specs.List.{flat_map}
+use Rattle.term_core.specs.Value.{after}
+use Rattle.term_core.specs.declared.space.Def.{Def}
+use Rattle.term_core.specs.declared.space.Def.TheVariants.{Span, Value}
+use Rattle.term_core.specs.declared.space.ClassSpace.{ClassSpace}
+use Rattle.range_space.specs.declared.fault.SpanFault.{SpanFault}
+use Rattle.range_space.specs.Fault.{number, range_values}
+
+-- the values of a definition under those of the definitions before it: all of its range, or the one of its expression
+abbrev pub def_values : Def → List ℤ → Result (List ℤ) SpanFault
+def_values (Span r) env = range_values r env
+def_values (Value e) env = after (number e env) (λ z. Ok (z ∷ []))
+
+-- a definition that has no value gives no task
+abbrev pub or_none : Result (List ℤ) SpanFault → List ℤ
+or_none (Ok vs) = vs
+or_none (Err e) = []
+
+-- the full lists of locals that begin with these values: each value of the next definition, and nested in it all that follows it
+abbrev pub full_lists : List Def → List ℤ → List (List ℤ)
+full_lists [] begun = begun ∷ []
+full_lists (d ∷ ds) begun = flat_map (λ v. full_lists ds (begun ++ v ∷ [])) (or_none (def_values d begun))
+
+-- the values of the parameters, in the order of their list
+abbrev pub params_of : List ℕ → List ℤ → List ℤ
+params_of params locals = map (λ p. slice_index_or locals p (pos 0)) params
+
+-- the full lists of locals of a class, in walk order
+abbrev pub all_locals : ClassSpace → List (List ℤ)
+all_locals s = full_lists s.defs []
+
+-- the tasks of a class, each by its parameters, in walk order
+abbrev pub tasks : ClassSpace → List (List ℤ)
+tasks s = map (params_of s.params) (all_locals s)

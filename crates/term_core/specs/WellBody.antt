@@ -1,0 +1,30 @@
+-- Well made bodies: they name only slots and flows that there are, and set no local of the task. Source: this project's own choice; so are the limits.
+use Rattle.std.specs.Prelude.{ℕ, Bool, true, ◌&&◌, ◌+◌, ◌≤◌, nat_lt, nat_le, IsTrue}
+use Rattle.term_core.specs.Steps.{Steps, Done, SetThen, PutThen, IfThen, ForThen, TrapThen}
+use Rattle.term_core.specs.Value.{is_closed_with}
+use Rattle.term_core.specs.declared.body.Body.{Body}
+
+-- whether a slot is that of a variable: one of so many slots, and none of so many locals, whose slots come first
+abbrev pub is_variable : ℕ → ℕ → ℕ → Bool
+is_variable locals slots n = nat_le locals n && nat_lt n slots
+
+-- whether the statements name only so many slots and flows, and set no slot of so many locals
+abbrev pub are_well_made : ℕ → ℕ → ℕ → Steps → Bool
+are_well_made locals slots flows Done = true
+are_well_made locals slots flows (SetThen n e rest) =
+    is_variable locals slots n && is_closed_with slots flows e && are_well_made locals slots flows rest
+are_well_made locals slots flows (PutThen flow at e rest) =
+    nat_lt flow flows && is_closed_with slots flows at && is_closed_with slots flows e && are_well_made locals slots flows rest
+are_well_made locals slots flows (IfThen c first second rest) =
+    is_closed_with slots flows c && are_well_made locals slots flows first && are_well_made locals slots flows second && are_well_made locals slots flows rest
+are_well_made locals slots flows (ForThen n lo hi turn rest) =
+    is_variable locals slots n && is_closed_with slots flows lo && is_closed_with slots flows hi && are_well_made locals slots flows turn && are_well_made locals slots flows rest
+are_well_made locals slots flows (TrapThen w rest) = are_well_made locals slots flows rest
+
+-- a body for so many locals, of which there are at most 16, and so many flows, at most 8, with at most 256 variables of its own
+pub record IsWellBody (locals flows : ℕ) (b : Body) : Type 0 where
+  pub few_locals : locals ≤ 16
+  pub few_flows : flows ≤ 8
+  pub holds_locals : locals ≤ b.slots
+  pub few_variables : b.slots ≤ locals + 256
+  pub statements : IsTrue (are_well_made locals b.slots flows b.statements)
