@@ -28,14 +28,10 @@ use Rattle.edge_match.specs.declared.fault.MatchCode.TheVariants.{NotBuilt}
 use Rattle.ptg_top.specs.declared.verdict.Verdict.{Verdict}
 use Rattle.ptg_top.specs.declared.verdict.Verdict.TheVariants as say
 use Rattle.ptg_top.specs.Stages.{Entries, HasTree, HasData, HasPlan}
-<<<<<<< HEAD
 use Rattle.jdf_print.specs.Spelling.{spelling}
 use Rattle.jdf_read.proofs.Once.{one_tree, one_fault, tree_or_fault}
 use Rattle.ptg_top.specs.Meaning.{MeansRun, Shows, MeansShow, Means, OneMeaning, IsNoOrder, IsNoFile, IsNoTree, IsNoData, IsLacking, IsNoPlan}
-=======
-use Rattle.ptg_top.specs.Meaning.{Means, OneMeaning, IsNoOrder, IsNoFile, IsNoTree, IsNoData, IsLacking, IsNoPlan}
 use Rattle.ptg_top.specs.Headline.{text_of, status_of, OneOutput}
->>>>>>> 54690a4123fb1032d75ff9a6a7eb012869de69c8
 
 -- the two files of an order are determined
 same_files : (words : List (List ℕ)) (jdf tiles jdf' tiles' : List ℕ) → Orders words (Run jdf tiles) → Orders words (Run jdf' tiles') → (jdf ≡ jdf') × (tiles ≡ tiles')
@@ -301,16 +297,12 @@ module _ (words : List (List ℕ)) (files : Entries) where
       go (inr h) (inr k) = shows_once k.0 v w (subst (λ (b : List ℕ). Shows b v) (same_bytes files one.jdf other.jdf h.0 k.0 same h.1 k.1) h.2) k.2
 
 pub one_meaning : OneMeaning
-<<<<<<< HEAD
 one_meaning words files v w (inl one) (inl other) = one_stop words files v w (stops words files v one) (stops words files w other)
 one_meaning words files v w (inl one) (inr other) = absurd (run_or_show words files v other.jdf one other.order)
 one_meaning words files v w (inr one) (inl other) = absurd (run_or_show words files w one.jdf other one.order)
 one_meaning words files v w (inr one) (inr other) = show_once words files v w one other
-=======
-one_meaning words files v w one other = one_stop words files v w (stops words files v one) (stops words files w other)
 
 pub one_output : OneOutput
 one_output words files before after other status another one two =
     let same = one_meaning words files one.verdict two.verdict one.means two.means in
     (one.text ∙ (ap (λ v. appended before (text_of v)) same ∙ sym two.text), one.ends ∙ (ap status_of same ∙ sym two.ends))
->>>>>>> 54690a4123fb1032d75ff9a6a7eb012869de69c8
