@@ -14,11 +14,12 @@ use Rattle.ptg_top.specs.Headline.{text_of, status_of, IsExact, Prints}
 
 -- a verdict that is no read fault is what words and files mean
 meant : (words : List (List ℕ)) (files : Entries) (told : Option Entries) (old new : List ℕ → ℕ) (v : Verdict) → Judged words told old new v → told ≡ Some files → ((name : List ℕ) → v ≡ say.Unread name → Rose (old name) (new name) → ⊥) → Means words files v
-meant words files told old new say.Usage h t read = h
+meant words files told old new say.Usage h t read = inl h
 meant words files told old new (say.Unread name) h t read = absurd (read name refl h.0)
 meant words files told old new (say.Jdf fault) h t read = h.0 files t
 meant words files told old new (say.Data fault) h t read = h.0 files t
 meant words files told old new (say.Match fault) h t read = h.0 files t
+meant words files told old new (say.Spelling text) h t read = h.0 files t
 meant words files told old new (say.Answer P outcome) h t read = h.0 files t
 
 pub exact_prints : (words : List (List ℕ)) (files : Entries) (told : Option Entries) (old new : List ℕ → ℕ) (before after : Option (List ℕ)) (v : Verdict) (s : Status)

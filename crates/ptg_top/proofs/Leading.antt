@@ -4,7 +4,7 @@ use Rattle.std.specs.Prelude.{Option, MatchResult, IfOk}
 use Rattle.ptg_base.specs.declared.memory.OutOfMemory.{OutOfMemory}
 use Rattle.ptg_io.specs.Faults.{Rose}
 use Rattle.ptg_io.specs.Files.{file_of}
-use Rattle.ptg_words.specs.declared.order.Order.TheVariants.{Run}
+use Rattle.ptg_words.specs.declared.order.Order.TheVariants.{Run, Show}
 use Rattle.ptg_words.specs.declared.order.Order.{Order}
 use Rattle.ptg_words.specs.Words.{Orders}
 use Rattle.jdf_lex.specs.Tokens as jdf_text
@@ -26,7 +26,7 @@ use Rattle.ptg_top.specs.declared.stages.Stop.TheVariants.{Said, Memory}
 use Rattle.ptg_top.specs.Stages.{Entries, HasTree, HasData, HasPlan}
 use Rattle.ptg_top.specs.Meaning.{Means, MayBeUnread}
 use Rattle.ptg_top.specs.Steps.{TreeSaid, TreeStop, DataSaid, DataStop, PlanSaid, PlanStop, AnswerSaid}
-use Rattle.ptg_top.specs.Reports.{TreeAt, Says, IsMeant, IsUnreadOf, Reports, Judged, AreTexts, IsSaid, jdf_name, tiles_name}
+use Rattle.ptg_top.specs.Reports.{TreeAt, Says, IsMeant, IsUnreadOf, Reports, Judged, AreTexts, IsSaid}
 
 -- the file of this name spells these data
 abbrev pub DataAt : Entries → List ℕ → Given → Type 0
@@ -51,7 +51,7 @@ tree_reports : (told : Option Entries) (old new : List ℕ → ℕ) (jdf tiles :
 tree_reports told old new jdf tiles v (inl h) = unread_reports told old new jdf tiles jdf v h.0 h.1 (inl refl)
 tree_reports told old new jdf tiles v (inr h) =
     jdf_reports told old new jdf tiles jdf_text.not_built v h.0 (λ words files order t.
-    (refl, inl (record { jdf = jdf; tiles = tiles; order = order; bytes = (h.1 files t).0; file = (h.1 files t).1; none = (h.1 files t).2 })))
+    inl (refl, inl (record { jdf = jdf; tiles = tiles; order = order; bytes = (h.1 files t).0; file = (h.1 files t).1; none = (h.1 files t).2 })))
 
 pub tree_stop_reports : (told : Option Entries) (old new : List ℕ → ℕ) (jdf tiles : List ℕ) (s : Stop) → TreeStop told (old jdf) (new jdf) jdf s → Says (Reports told old new jdf tiles) (Err s)
 tree_stop_reports told old new jdf tiles (Said v) h = tree_reports told old new jdf tiles v h
@@ -67,7 +67,7 @@ module _ (told : Option Entries) (old new : List ℕ → ℕ) (jdf tiles : List 
       unread_reports told old new jdf tiles tiles v h.0 (rose_since (old tiles) mid (new tiles) le h.1) (inr (refl, λ files t. (J, tree files t)))
   data_reports_of mid v le (inr h) =
       data_reports told old new jdf tiles coll.not_built v h.0 (λ words files order t.
-      (refl, inl (record { jdf = J; tiles = tiles; tree = has_tree words files order t; bytes = (h.1 files t).0; file = (h.1 files t).1; none = (h.1 files t).2 })))
+      inl (refl, inl (record { jdf = J; tiles = tiles; tree = has_tree words files order t; bytes = (h.1 files t).0; file = (h.1 files t).1; none = (h.1 files t).2 })))
 
   pub data_stop_reports : (mid : ℕ) (s : Stop) → old tiles ≤ mid → DataStop told mid (new tiles) tiles s → Says (Reports told old new jdf tiles) (Err s)
   data_stop_reports mid (Said v) le h = data_reports_of mid v le h
@@ -81,10 +81,10 @@ module _ (told : Option Entries) (old new : List ℕ → ℕ) (jdf tiles : List 
     plan_reports : (v : Verdict) → PlanSaid J G v → Reports told old new jdf tiles v
     plan_reports v (inl h) =
         data_reports told old new jdf tiles coll.not_built v h.0 (λ words files order t.
-        (refl, inr (record { jdf = J; given = G; known = has_data words files order t; lacking = h.1 })))
+        inl (refl, inr (record { jdf = J; given = G; known = has_data words files order t; lacking = h.1 })))
     plan_reports v (inr h) =
         jdf_reports told old new jdf tiles jdf_text.not_built v h.0 (λ words files order t.
-        (refl, inr (record { jdf = J; given = G; known = has_data words files order t; named = h.1; none = h.2 })))
+        inl (refl, inr (record { jdf = J; given = G; known = has_data words files order t; named = h.1; none = h.2 })))
 
     pub plan_stop_reports : (s : Stop) → PlanStop J G s → Says (Reports told old new jdf tiles) (Err s)
     plan_stop_reports (Said v) h = plan_reports v h
@@ -100,11 +100,12 @@ module _ (told : Option Entries) (old new : List ℕ → ℕ) (jdf tiles : List 
       answer_reports (say.Unread name) h = absurd h
       answer_reports (say.Jdf fault) h = absurd h
       answer_reports (say.Data fault) h = absurd h
-      answer_reports (say.Match fault) h = λ words files order t. (G, P, has_plan words files order t, h)
+      answer_reports (say.Spelling text) h = absurd h
+      answer_reports (say.Match fault) h = λ words files order t. inl (G, P, has_plan words files order t, h)
       answer_reports (say.Answer Q outcome) h =
           λ words files order t.
           let Meant : Plan → Type 0 = λ p. Means words files (say.Answer p outcome) in
-          subst Meant (sym h.0) (G, has_plan words files order t, h.1, h.2)
+          subst Meant (sym h.0) (inl (G, has_plan words files order t, h.1, h.2))
 
       pub answer_result_reports : (r : Result Verdict Stop) → MatchResult r (AnswerSaid P G) (λ stop. stop ≡ Memory) → Says (Reports told old new jdf tiles) r
       answer_result_reports (Ok v) h = answer_reports v h
@@ -121,7 +122,7 @@ unread_may_be words told jdf tiles name order (inl e) =
 unread_may_be words told jdf tiles name order (inr h) =
     let Ordered : List ℕ → Type 0 = λ d. Orders words (Run jdf d) in
     let named : Orders words (Run jdf name) = subst Ordered (sym h.0) order in
-    inr (jdf, named, λ files t. let at = h.1 files t in (at.0, record { jdf = jdf; order = named; bytes = at.1.0; file = at.1.1; tree = at.1.2 }))
+    inr (inr (jdf, named, λ files t. let at = h.1 files t in (at.0, record { jdf = jdf; order = named; bytes = at.1.0; file = at.1.1; tree = at.1.2 })))
 
 pub judged_by_order : (words : List (List ℕ)) (told : Option Entries) (old new : List ℕ → ℕ) (jdf tiles : List ℕ) (v : Verdict) → Orders words (Run jdf tiles) → Reports told old new jdf tiles v → Judged words told old new v
 judged_by_order words told old new jdf tiles say.Usage order h = absurd h
@@ -129,6 +130,7 @@ judged_by_order words told old new jdf tiles (say.Unread name) order h = (h.0, u
 judged_by_order words told old new jdf tiles (say.Jdf fault) order h = (λ files t. h words files order t, λ none. none (Run jdf tiles) order)
 judged_by_order words told old new jdf tiles (say.Data fault) order h = (λ files t. h words files order t, λ none. none (Run jdf tiles) order)
 judged_by_order words told old new jdf tiles (say.Match fault) order h = (λ files t. h words files order t, λ none. none (Run jdf tiles) order)
+judged_by_order words told old new jdf tiles (say.Spelling text) order h = absurd h
 judged_by_order words told old new jdf tiles (say.Answer P outcome) order h = (λ files t. h words files order t, λ none. none (Run jdf tiles) order)
 
 -- what is said since a later moment is said since an earlier one
@@ -138,6 +140,7 @@ reports_since told old mid new jdf tiles (say.Unread name) le h = (rose_since (o
 reports_since told old mid new jdf tiles (say.Jdf fault) le h = h
 reports_since told old mid new jdf tiles (say.Data fault) le h = h
 reports_since told old mid new jdf tiles (say.Match fault) le h = h
+reports_since told old mid new jdf tiles (say.Spelling text) le h = h
 reports_since told old mid new jdf tiles (say.Answer P outcome) le h = h
 
 pub result_since : (told : Option Entries) (old mid new : List ℕ → ℕ) (jdf tiles : List ℕ) (r : Result Verdict Stop) → ((name : List ℕ) → old name ≤ mid name) → Says (Reports told mid new jdf tiles) r → Says (Reports told old new jdf tiles) r
@@ -151,18 +154,12 @@ says_at P (Ok w) v h e = subst P e h
 says_at P (Err (Said w)) v h e = subst P e h
 says_at P (Err Memory) v h e = absurd e
 
-pub result_judged : (words : List (List ℕ)) (told : Option Entries) (old new : List ℕ → ℕ) (o : Order) (jdf tiles : List ℕ) (r : Result Verdict Stop) (v : Verdict)
-    → jdf ≡ jdf_name o → tiles ≡ tiles_name o → Orders words o → Says (Reports told old new jdf tiles) r → IsSaid r v → Judged words told old new v
-result_judged words told old new (Run j d) jdf tiles r v ej ed order h e =
-    let Ordered : List ℕ → Type 0 = λ x. Orders words (Run x d) in
-    let Ordered' : List ℕ → Type 0 = λ x. Orders words (Run jdf x) in
-    judged_by_order words told old new jdf tiles v (subst Ordered' (sym ed) (subst Ordered (sym ej) order)) (says_at (Reports told old new jdf tiles) r v h e)
-
-pub judged_result : (words : List (List ℕ)) (told : Option Entries) (old new : List ℕ → ℕ) (o : Order) (jdf tiles : List ℕ) (r : Result Verdict Stop) (s : Result Verdict OutOfMemory)
-    → jdf ≡ jdf_name o → tiles ≡ tiles_name o → Orders words o → Says (Reports told old new jdf tiles) r → IfOk s (IsSaid r) → IfOk s (λ v. Judged words told old new v)
-judged_result words told old new o jdf tiles r (Ok v) ej ed order h e = result_judged words told old new o jdf tiles r v ej ed order h e
-judged_result words told old new o jdf tiles r (Err x) ej ed order h e = tt
+pub run_judged : (words : List (List ℕ)) (told : Option Entries) (old new : List ℕ → ℕ) (jdf tiles : List ℕ) (r : Result Verdict Stop) (s : Result Verdict OutOfMemory)
+    → Orders words (Run jdf tiles) → Says (Reports told old new jdf tiles) r → IfOk s (IsSaid r) → IfOk s (λ v. Judged words told old new v)
+run_judged words told old new jdf tiles r (Ok v) order h e = judged_by_order words told old new jdf tiles v order (says_at (Reports told old new jdf tiles) r v h e)
+run_judged words told old new jdf tiles r (Err x) order h e = tt
 
 -- the names of an order are text
 pub order_texts : (words : List (List ℕ)) (o : Order) → Orders words o → AreTexts o
 order_texts words (Run jdf tiles) h = (h.1.1, h.2.1)
+order_texts words (Show jdf) h = h.1.1

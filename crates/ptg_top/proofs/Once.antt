@@ -6,7 +6,7 @@ use Rattle.std.proofs.lemmas.Bool.{cases_lt, cases_order}
 use Rattle.ptg_io.specs.Files.{file_of}
 use Rattle.ptg_io.specs.Sink.{appended}
 use Rattle.ptg_words.specs.declared.order.Order.{Order}
-use Rattle.ptg_words.specs.declared.order.Order.TheVariants.{Run}
+use Rattle.ptg_words.specs.declared.order.Order.TheVariants.{Run, Show}
 use Rattle.ptg_words.specs.Words.{Orders}
 use Rattle.jdf_lex.specs.Tokens as jdf_text
 use Rattle.jdf_first.specs.declared.tree.Jdf.{Jdf}
@@ -28,7 +28,9 @@ use Rattle.edge_match.specs.declared.fault.MatchCode.TheVariants.{NotBuilt}
 use Rattle.ptg_top.specs.declared.verdict.Verdict.{Verdict}
 use Rattle.ptg_top.specs.declared.verdict.Verdict.TheVariants as say
 use Rattle.ptg_top.specs.Stages.{Entries, HasTree, HasData, HasPlan}
-use Rattle.ptg_top.specs.Meaning.{Means, OneMeaning, IsNoOrder, IsNoFile, IsNoTree, IsNoData, IsLacking, IsNoPlan}
+use Rattle.jdf_print.specs.Spelling.{spelling}
+use Rattle.jdf_read.proofs.Once.{one_tree, one_fault, tree_or_fault}
+use Rattle.ptg_top.specs.Meaning.{MeansRun, Shows, MeansShow, Means, OneMeaning, IsNoOrder, IsNoFile, IsNoTree, IsNoData, IsLacking, IsNoPlan}
 use Rattle.ptg_top.specs.Headline.{text_of, status_of, OneOutput}
 
 -- the two files of an order are determined
@@ -214,7 +216,7 @@ module _ (words : List (List ℕ)) (files : Entries) where
   said_by : (v : Verdict) (w : Verdict) → v ≡ w → Stopped w → Stopped v
   said_by v w e h = subst Stopped (sym e) h
 
-  stops : (v : Verdict) → Means words files v → Stopped v
+  stops : (v : Verdict) → MeansRun words files v → Stopped v
   stops say.Usage h = record { at = 0; reached = tt; last = λ o. h (Run o.0 o.1) o.2; said = refl }
   stops (say.Unread name) h = no_file_stops name h
   stops (say.Jdf fault) h = said_by (say.Jdf fault) (say.Jdf jdf_text.not_built) (ap say.Jdf h.0) (elim h.1 [ inl t ↦ no_tree_stops t | inr p ↦ no_plan_stops p ])
@@ -226,6 +228,7 @@ module _ (words : List (List ℕ)) (files : Entries) where
         last = λ c. h.3 (subst IsConsistent (plan_once c.0 h.0 c.1 h.1 c.2 h.2).1 c.3);
         said = ap say.Match (match_fault fault);
       }
+  stops (say.Spelling text) h = absurd h
   stops (say.Answer P outcome) h =
       record { at = 8; reached = (h.0, P, h.1, h.2); last = λ none. none; said = (h.0, P, h.1, ap (λ o. say.Answer P o) h.3) }
 
@@ -236,8 +239,68 @@ module _ (words : List (List ℕ)) (files : Entries) where
     | inr (inr lt) ↦ absurd (other.last (down (suc other.at) one.at (omega arith) one.reached))
   ]
 
+  -- ---- a file that is shown
+
+  -- words that order to run a job do not order to show a file
+  no_run_and_show : (jdf tiles name : List ℕ) → Orders words (Run jdf tiles) → Orders words (Show name) → ⊥
+  no_run_and_show jdf tiles name run show = parts (codes "run") (codes "show") (sym run.0 ∙ show.0)
+    where
+      parts : (verb verb' : List ℕ) → ◌≡◌ {A = List (List ℕ)} (verb ∷ jdf ∷ tiles ∷ []) (verb' ∷ name ∷ []) → ⊥
+      parts verb verb' e = absurd cc
+
+  run_or_show : (v : Verdict) (name : List ℕ) → MeansRun words files v → Orders words (Show name) → ⊥
+  run_or_show say.Usage name h order = h (Show name) order
+  run_or_show (say.Unread file) name (inl run, none) order = no_run_and_show file run.0 name run.1 order
+  run_or_show (say.Unread file) name (inr tree, none) order = no_run_and_show tree.1.jdf file name tree.1.order order
+  run_or_show (say.Jdf fault) name (e, inl t) order = no_run_and_show t.jdf t.tiles name t.order order
+  run_or_show (say.Jdf fault) name (e, inr p) order = no_run_and_show p.known.tree.jdf p.known.tiles name p.known.tree.order order
+  run_or_show (say.Data fault) name (e, inl d) order = no_run_and_show d.tree.jdf d.tiles name d.tree.order order
+  run_or_show (say.Data fault) name (e, inr l) order = no_run_and_show l.known.tree.jdf l.known.tiles name l.known.tree.order order
+  run_or_show (say.Match fault) name h order = no_run_and_show h.2.known.tree.jdf h.2.known.tiles name h.2.known.tree.order order
+  run_or_show (say.Spelling text) name h order = h
+  run_or_show (say.Answer P outcome) name h order = no_run_and_show h.1.known.tree.jdf h.1.known.tiles name h.1.known.tree.order order
+
+  same_file : (name name' : List ℕ) → Orders words (Show name) → Orders words (Show name') → name ≡ name'
+  same_file name name' one other = parts (codes "show") (sym one.0 ∙ other.0)
+    where
+      parts : (verb : List ℕ) → ◌≡◌ {A = List (List ℕ)} (verb ∷ name ∷ []) (verb ∷ name' ∷ []) → name ≡ name'
+      parts verb e = cc
+
+  -- the bytes of a file show one thing
+  shows_once : (bytes : List ℕ) (v w : Verdict) → Shows bytes v → Shows bytes w → v ≡ w
+  shows_once bytes (say.Jdf f) (say.Jdf g) h k = ap say.Jdf (one_fault bytes f g h k)
+  shows_once bytes (say.Jdf f) (say.Spelling t) h k = absurd (tree_or_fault bytes k.0 f k.1 h)
+  shows_once bytes (say.Spelling t) (say.Jdf f) h k = absurd (tree_or_fault bytes h.0 f h.1 k)
+  shows_once bytes (say.Spelling t) (say.Spelling u) h k = ap say.Spelling (h.2 ∙ (ap spelling (one_tree bytes h.0 k.0 h.1 k.1) ∙ sym k.2))
+  shows_once bytes say.Usage w h k = absurd h
+  shows_once bytes (say.Unread name) w h k = absurd h
+  shows_once bytes (say.Data fault) w h k = absurd h
+  shows_once bytes (say.Match fault) w h k = absurd h
+  shows_once bytes (say.Answer P outcome) w h k = absurd h
+  shows_once bytes v say.Usage h k = absurd k
+  shows_once bytes v (say.Unread name) h k = absurd k
+  shows_once bytes v (say.Data fault) h k = absurd k
+  shows_once bytes v (say.Match fault) h k = absurd k
+  shows_once bytes v (say.Answer P outcome) h k = absurd k
+
+  show_once : (v w : Verdict) → MeansShow words files v → MeansShow words files w → v ≡ w
+  show_once v w one other = go one.said other.said
+    where
+      same : one.jdf ≡ other.jdf
+      same = same_file one.jdf other.jdf one.order other.order
+
+      go : ((v ≡ say.Unread one.jdf) × (file_of files one.jdf ≡ None)) ⊎ ((bytes : List ℕ) × (file_of files one.jdf ≡ Some bytes) × Shows bytes v)
+          → ((w ≡ say.Unread other.jdf) × (file_of files other.jdf ≡ None)) ⊎ ((bytes : List ℕ) × (file_of files other.jdf ≡ Some bytes) × Shows bytes w) → v ≡ w
+      go (inl h) (inl k) = h.0 ∙ (ap (λ (name : List ℕ). say.Unread name) same ∙ sym k.0)
+      go (inl h) (inr k) = absurd (no_bytes files one.jdf other.jdf k.0 same h.1 k.1)
+      go (inr h) (inl k) = absurd (no_bytes files other.jdf one.jdf h.0 (sym same) k.1 h.1)
+      go (inr h) (inr k) = shows_once k.0 v w (subst (λ (b : List ℕ). Shows b v) (same_bytes files one.jdf other.jdf h.0 k.0 same h.1 k.1) h.2) k.2
+
 pub one_meaning : OneMeaning
-one_meaning words files v w one other = one_stop words files v w (stops words files v one) (stops words files w other)
+one_meaning words files v w (inl one) (inl other) = one_stop words files v w (stops words files v one) (stops words files w other)
+one_meaning words files v w (inl one) (inr other) = absurd (run_or_show words files v other.jdf one other.order)
+one_meaning words files v w (inr one) (inl other) = absurd (run_or_show words files w one.jdf other one.order)
+one_meaning words files v w (inr one) (inr other) = show_once words files v w one other
 
 pub one_output : OneOutput
 one_output words files before after other status another one two =

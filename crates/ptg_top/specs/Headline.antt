@@ -26,6 +26,7 @@ text_of (say.Unread name) = unread_line name
 text_of (say.Jdf fault) = refusal_text (line_of.Jdf fault)
 text_of (say.Data fault) = refusal_text (line_of.Rows fault)
 text_of (say.Match fault) = refusal_text line_of.Match
+text_of (say.Spelling text) = text
 text_of (say.Answer P answer) = outcome_text P answer
 
 abbrev pub status_of_outcome : Outcome → Status
@@ -40,6 +41,7 @@ status_of (say.Unread name) = ReadFault
 status_of (say.Jdf fault) = JdfRefused
 status_of (say.Data fault) = DataRefused
 status_of (say.Match fault) = Inconsistent
+status_of (say.Spelling text) = Complete
 status_of (say.Answer P answer) = status_of_outcome answer
 
 -- the statuses of a verdict that no fault of the outside took the place of

@@ -2,11 +2,15 @@
 use Rattle.std.specs.Prelude.{◌≡◌, ◌⊎◌, ℕ, List, Option, Some, None}
 use Rattle.ptg_io.specs.Files.{file_of}
 use Rattle.ptg_words.specs.declared.order.Order.{Order}
-use Rattle.ptg_words.specs.declared.order.Order.TheVariants.{Run}
+use Rattle.ptg_words.specs.declared.order.Order.TheVariants.{Run, Show}
 use Rattle.ptg_words.specs.Words.{Orders}
 use Rattle.jdf_lex.specs.Tokens as jdf
 use Rattle.jdf_first.specs.declared.tree.Jdf.{Jdf}
 use Rattle.jdf_first.specs.Jdf.{IsJdf}
+use Rattle.jdf_tree.specs.declared.tree.Jdf.{Jdf as WholeJdf}
+use Rattle.jdf_tree.specs.Jdf.{IsJdf as IsWholeJdf}
+use Rattle.jdf_tree.specs.Fault.{IsJdfFault}
+use Rattle.jdf_print.specs.Spelling.{spelling}
 use Rattle.coll_data.specs.declared.given.Given.{Given}
 use Rattle.coll_data.specs.Data as coll
 use Rattle.coll_data.specs.Data.{IsData}
@@ -61,15 +65,47 @@ pub record IsNoPlan (words : List (List ℕ)) (files : Entries) : Type 0 where
   pub named : IsMissing jdf given → ⊥
   pub none : (P : Plan) → IsPlan jdf given P → ⊥
 
--- What is to be said for words and files: the first refusal in the order words, JDF file, its text, data file, its text,
--- missing global, names, consistency; else the answer of the job.
+-- What `run` is to say, and what is to be said where the words order nothing: the first refusal in the order words, JDF
+-- file, its text, data file, its text, missing global, names, consistency; else the answer of the job.
+abbrev pub MeansRun : List (List ℕ) → Entries → Verdict → Type 0
+MeansRun words files say.Usage = IsNoOrder words
+MeansRun words files (say.Unread name) = IsNoFile words files name
+MeansRun words files (say.Jdf fault) = (fault ≡ jdf.not_built) × (IsNoTree words files ⊎ IsNoPlan words files)
+MeansRun words files (say.Data fault) = (fault ≡ coll.not_built) × (IsNoData words files ⊎ IsLacking words files)
+MeansRun words files (say.Match fault) = (G : Given) × (P : Plan) × HasPlan words files G P × (IsConsistent P → ⊥)
+MeansRun words files (say.Spelling text) = ⊥
+MeansRun words files (say.Answer P outcome) = (G : Given) × HasPlan words files G P × IsConsistent P × (outcome ≡ answer P G)
+
+-- What `show` is to say of the bytes of a JDF file: their first fault, or the canonical spelling of their tree.
+abbrev pub Shows : List ℕ → Verdict → Type 0
+Shows bytes say.Usage = ⊥
+Shows bytes (say.Unread name) = ⊥
+Shows bytes (say.Jdf fault) = IsJdfFault bytes fault
+Shows bytes (say.Data fault) = ⊥
+Shows bytes (say.Match fault) = ⊥
+Shows bytes (say.Spelling text) = (J : WholeJdf) × IsWholeJdf bytes J × (text ≡ spelling J)
+Shows bytes (say.Answer P outcome) = ⊥
+
+-- a verdict on a text that is shown
+abbrev pub IsShown : Verdict → Type 0
+IsShown say.Usage = ⊥
+IsShown (say.Unread name) = ⊥
+IsShown (say.Jdf fault) = Unit {0}
+IsShown (say.Data fault) = ⊥
+IsShown (say.Match fault) = ⊥
+IsShown (say.Spelling text) = Unit {0}
+IsShown (say.Answer P outcome) = ⊥
+
+-- the words order to show this file
+pub record MeansShow (words : List (List ℕ)) (files : Entries) (v : Verdict) : Type 0 where
+  pub jdf : List ℕ
+  pub order : Orders words (Show jdf)
+  -- that there is no such file, or what is to be said of its bytes
+  pub said : ((v ≡ say.Unread jdf) × (file_of files jdf ≡ None)) ⊎ ((bytes : List ℕ) × (file_of files jdf ≡ Some bytes) × Shows bytes v)
+
+-- What is to be said for words and files.
 abbrev pub Means : List (List ℕ) → Entries → Verdict → Type 0
-Means words files say.Usage = IsNoOrder words
-Means words files (say.Unread name) = IsNoFile words files name
-Means words files (say.Jdf fault) = (fault ≡ jdf.not_built) × (IsNoTree words files ⊎ IsNoPlan words files)
-Means words files (say.Data fault) = (fault ≡ coll.not_built) × (IsNoData words files ⊎ IsLacking words files)
-Means words files (say.Match fault) = (G : Given) × (P : Plan) × HasPlan words files G P × (IsConsistent P → ⊥)
-Means words files (say.Answer P outcome) = (G : Given) × HasPlan words files G P × IsConsistent P × (outcome ≡ answer P G)
+Means words files v = MeansRun words files v ⊎ MeansShow words files v
 
 -- words and files mean one thing at most
 abbrev pub OneMeaning : Type 0
@@ -79,4 +115,5 @@ OneMeaning = (words : List (List ℕ)) (files : Entries) (v w : Verdict) → Mea
 abbrev pub MayBeUnread : List (List ℕ) → Option Entries → List ℕ → Type 0
 MayBeUnread words told name =
     ((tiles : List ℕ) × Orders words (Run name tiles))
-    ⊎ ((jdf : List ℕ) × Orders words (Run jdf name) × ((files : Entries) → told ≡ Some files → (J : Jdf) × HasTree words files name J))
+    ⊎ (Orders words (Show name)
+    ⊎ ((jdf : List ℕ) × Orders words (Run jdf name) × ((files : Entries) → told ≡ Some files → (J : Jdf) × HasTree words files name J)))

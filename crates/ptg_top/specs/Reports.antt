@@ -2,7 +2,7 @@
 use Rattle.std.specs.Prelude.{◌≡◌, ◌⊎◌, ℕ, List, Option, Some, Result, Ok, Err}
 use Rattle.ptg_io.specs.Faults.{Rose}
 use Rattle.ptg_io.specs.Files.{file_of}
-use Rattle.ptg_words.specs.declared.order.Order.TheVariants.{Run}
+use Rattle.ptg_words.specs.declared.order.Order.TheVariants.{Run, Show}
 use Rattle.ptg_words.specs.declared.order.Order.{Order}
 use Rattle.ptg_words.specs.Words.{Orders}
 use Rattle.std.specs.Str.{IsUtf8}
@@ -41,6 +41,7 @@ Reports told old new jdf tiles (say.Unread name) = Rose (old name) (new name) ×
 Reports told old new jdf tiles (say.Jdf fault) = IsMeant told jdf tiles (say.Jdf fault)
 Reports told old new jdf tiles (say.Data fault) = IsMeant told jdf tiles (say.Data fault)
 Reports told old new jdf tiles (say.Match fault) = IsMeant told jdf tiles (say.Match fault)
+Reports told old new jdf tiles (say.Spelling text) = ⊥
 Reports told old new jdf tiles (say.Answer P outcome) = IsMeant told jdf tiles (say.Answer P outcome)
 
 -- this is what the words mean, where the files are told, and they do order something
@@ -54,18 +55,13 @@ Judged words told old new (say.Unread name) = Rose (old name) (new name) × MayB
 Judged words told old new (say.Jdf fault) = IsTold words told (say.Jdf fault)
 Judged words told old new (say.Data fault) = IsTold words told (say.Data fault)
 Judged words told old new (say.Match fault) = IsTold words told (say.Match fault)
+Judged words told old new (say.Spelling text) = IsTold words told (say.Spelling text)
 Judged words told old new (say.Answer P outcome) = IsTold words told (say.Answer P outcome)
 
--- the two files of an order
-abbrev pub jdf_name : Order → List ℕ
-jdf_name (Run jdf tiles) = jdf
-
-abbrev pub tiles_name : Order → List ℕ
-tiles_name (Run jdf tiles) = tiles
-
--- both names of an order are text
+-- the names of an order are text
 abbrev pub AreTexts : Order → Type 0
-AreTexts o = IsUtf8 (jdf_name o) × IsUtf8 (tiles_name o)
+AreTexts (Run jdf tiles) = IsUtf8 jdf × IsUtf8 tiles
+AreTexts (Show jdf) = IsUtf8 jdf
 
 -- this is said, by the step that stopped or by the last
 abbrev pub IsSaid : Result Verdict Stop → Verdict → Type 0

@@ -1,5 +1,5 @@
 -- Why a step of the program stops.
-use Rattle.std.specs.Prelude.{◌≡◌, ◌⊎◌, ℕ, List, Option, Some}
+use Rattle.std.specs.Prelude.{◌≡◌, ◌⊎◌, ℕ, List, Option, Some, Result, Ok, Err}
 use Rattle.ptg_io.specs.Faults.{Rose}
 use Rattle.ptg_io.specs.Files.{file_of}
 use Rattle.jdf_lex.specs.Tokens as jdf
@@ -18,6 +18,7 @@ use Rattle.ptg_top.specs.declared.verdict.Verdict.TheVariants as say
 use Rattle.ptg_top.specs.declared.stages.Stop.{Stop}
 use Rattle.ptg_top.specs.declared.stages.Stop.TheVariants.{Said, Memory}
 use Rattle.ptg_top.specs.Stages.{Entries}
+use Rattle.ptg_top.specs.Meaning.{Shows, IsShown}
 
 -- the file of this name, where the files are told, has none of what P says
 abbrev pub HasNone : {A : Type 0} → (List ℕ → A → Type 0) → Option Entries → List ℕ → Type 0
@@ -57,6 +58,22 @@ AnswerSaid P G say.Usage = ⊥
 AnswerSaid P G (say.Unread name) = ⊥
 AnswerSaid P G (say.Jdf fault) = ⊥
 AnswerSaid P G (say.Data fault) = ⊥
+AnswerSaid P G (say.Spelling text) = ⊥
+
+-- what is said of a JDF file that is to be shown: that a read of it failed, or what its bytes are to show
+abbrev pub ShowSaid : Option Entries → ℕ → ℕ → List ℕ → Verdict → Type 0
+ShowSaid told old new name v =
+    ((v ≡ say.Unread name) × Rose old new)
+    ⊎ (IsShown v × ((files : Entries) → told ≡ Some files → (bytes : List ℕ) × (file_of files name ≡ Some bytes) × Shows bytes v))
+
+-- what is said of a text that is to be shown
+abbrev pub ShownSaid : List ℕ → Stop → Type 0
+ShownSaid bytes (Said v) = IsShown v × Shows bytes v
+ShownSaid bytes Memory = Unit {0}
+
+abbrev pub ShownResult : List ℕ → Result Verdict Stop → Type 0
+ShownResult bytes (Ok v) = IsShown v × Shows bytes v
+ShownResult bytes (Err stop) = ShownSaid bytes stop
 
 -- a file could not be read
 abbrev pub IsUnread : List ℕ → Stop → Type 0

@@ -1,12 +1,13 @@
 //! The verdict on words and files.
 
-ghost use Rattle.std.specs.Prelude.{◌≡◌, ◌↔◌, ◌≤◌, ℕ, List, Some, IfOk, Ok};
+ghost use Rattle.std.specs.Prelude.{◌≡◌, ◌≤◌, ℕ, List, Some, IfOk};
 ghost use Rattle.std.specs.Str.{IsUtf8};
 ghost use Rattle.ptg_top.specs.declared.verdict.Verdict.TheVariants as say;
 ghost use Rattle.ptg_top.specs.Stages.{Entries};
 ghost use Rattle.ptg_words.specs.Words.{Orders};
-ghost use Rattle.ptg_top.specs.Reports.{Reports, Says, Judged, TreeAt, AreTexts, IsSaid, jdf_name, tiles_name};
+ghost use Rattle.ptg_top.specs.Reports.{Reports, Says, Judged, TreeAt, AreTexts, IsSaid};
 
+use crate::showing::show;
 use crate::stages::{Stop, answer_of, data_of, plan_of, tree_of};
 use crate::verdict::Verdict;
 use jdf_first::Jdf;
@@ -36,25 +37,9 @@ fn carry_out<F: Files>(alloc: Global, order: &Order, files: &mut F) -> Result<Ve
     ensures judged { (words : List (List ℕ)) → Orders words order.now
         → IfOk result (λ v. Judged words (F.told files.old) (F.faults files.old) (F.faults files.new) v) }
 {
-    let steps = run(alloc, jdf_name(order), tiles_name(order), files);
-    said(steps)
-}
-
-// The name of the JDF file of an order.
-fn jdf_name(order: &Order) -> &Text
-    ensures { result.now ≡ jdf_name order.now }
-{
     match order {
-        Order::Run(jdf, _) => jdf,
-    }
-}
-
-// The name of the data file of an order.
-fn tiles_name(order: &Order) -> &Text
-    ensures { result.now ≡ tiles_name order.now }
-{
-    match order {
-        Order::Run(_, tiles) => tiles,
+        Order::Run(jdf, tiles) => said(run(alloc, jdf, tiles, files)),
+        Order::Show(jdf) => said(show(alloc, jdf, files)),
     }
 }
 

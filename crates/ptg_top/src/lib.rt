@@ -4,6 +4,7 @@
 mod judge;
 mod laws;
 mod program;
+mod showing;
 mod stages;
 mod status;
 mod telling;

@@ -61,8 +61,8 @@ fn data_fault() -> DataFault
     }
 }
 
-// The name of a file as text.
-fn name_of(word: &Text) -> &str
+/// The name of a file as text.
+pub fn name_of(word: &Text) -> &str
     requires { IsUtf8 word.now }
     ensures { result.now ≡ word.now }
 {
@@ -89,8 +89,8 @@ pub fn tree_of<F: Files>(alloc: Global, name: &Text, files: &mut F) -> Result<Jd
     }
 }
 
-// That the file of this name could not be read.
-fn unread(alloc: Global, name: &Text) -> Stop
+/// That the file of this name could not be read.
+pub fn unread(alloc: Global, name: &Text) -> Stop
     ensures { IsUnread name.now result }
 {
     match Text::of(alloc, name.bytes()) {

@@ -9,7 +9,8 @@ ghost use Rattle.ptg_top.specs.Headline.{text_of, status_of, status_of_outcome};
 use crate::status::Status;
 use crate::verdict::Verdict;
 use flow_core::Outcome;
-use ptg_io::{Failed, Sink};
+use ptg_base::Text;
+use ptg_io::{Failed, Sink, write_all};
 use report_text::{Line, refusal, report};
 
 /// Prints a verdict. On `Err` some first bytes of its text went out.
@@ -25,8 +26,19 @@ pub fn tell<O: Sink>(verdict: &Verdict, out: &mut O) -> Result<(), Failed>
         Verdict::Jdf(fault) => refusal(&Line::Jdf(*fault), out),
         Verdict::Data(fault) => refusal(&Line::Rows(*fault), out),
         Verdict::Match(_) => refusal(&Line::Match, out),
+        Verdict::Spelling(text) => spell(text, out),
         Verdict::Answer(matched, outcome) => report(matched.plan(), outcome, out),
     }
+}
+
+// Prints a text.
+fn spell<O: Sink>(text: &Text, out: &mut O) -> Result<(), Failed>
+    ensures ok { OnOk result (O.bytes out.new ≡ appended (O.bytes out.old) text.now) }
+    ensures prefix { OnErr result (HasPrefix (O.bytes out.old) (O.bytes out.new) text.now) }
+    ensures grows { O.faults out.old ≤ O.faults out.new }
+    ensures failed { OnErr result (Rose (O.faults out.old) (O.faults out.new)) }
+{
+    write_all(out, text.bytes())
 }
 
 /// The status of a verdict whose text went out.
@@ -39,6 +51,7 @@ pub fn status(verdict: &Verdict) -> Status
         Verdict::Jdf(_) => Status::JdfRefused,
         Verdict::Data(_) => Status::DataRefused,
         Verdict::Match(_) => Status::Inconsistent,
+        Verdict::Spelling(_) => Status::Complete,
         Verdict::Answer(_, outcome) => status_of_outcome(outcome),
     }
 }

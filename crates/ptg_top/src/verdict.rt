@@ -15,6 +15,8 @@ pub enum Verdict {
     Jdf(JdfFault),
     Data(DataFault),
     Match(MatchFault),
+    /// The canonical spelling of a JDF.
+    Spelling(Text),
     /// The answer of a consistent plan.
     Answer(Matched, Outcome),
 }
