@@ -6,6 +6,8 @@ mod names;
 mod number;
 mod operators;
 mod rank;
+#[cfg(test)]
+mod tests;
 mod window;
 
 pub use front::read_expr;
