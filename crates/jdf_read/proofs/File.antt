@@ -1,5 +1,5 @@
 -- The laws of whole texts, for the file.
-use Rattle.std.proofs.Common.{◌≡◌, ℕ, ◌<◌, ◌≤◌, ◌-◌, Bool, true, false, cond, List, [], length, take, drop, Ok, Err, Result, subst, refl, sym, ap, ◌∙◌, inl, inr, arith}
+use Rattle.std.proofs.Common.{◌≡◌, ℕ, ◌<◌, ◌≤◌, ◌-◌, Bool, true, false, List, length, take, Ok, Err, Result, subst, refl, sym, ap, ◌∙◌, inl, inr, arith}
 use Rattle.std.specs.Prelude.{Option, Some, None, nat_lt, ◌⊎◌, slice_get, IfOk}
 use Rattle.std.specs.Str.{IsUtf8, IsValidUpTo}
 use Rattle.std.proofs.lemmas.Bool.Decides.{nat_tests}
@@ -19,7 +19,7 @@ use Rattle.grammar_core.specs.Gives.{Fails}
 use Rattle.grammar_core.specs.Reading.{Stop, whole}
 use Rattle.jdf_tree.specs.declared.tree.Jdf.{Jdf}
 use Rattle.jdf_tree.specs.Jdf.{IsJdf}
-use Rattle.jdf_tree.specs.Fault.{start, StopsBeingUtf8, code_at_token, IsGrammarFault, IsTooLong, IsNotUtf8, IsBadToken, IsNoText, IsJdfFault}
+use Rattle.jdf_tree.specs.Fault.{start, code_at_token, IsJdfFault}
 use Rattle.jdf_tree.specs.Grammar.{inner, file}
 use Rattle.jdf_read.proofs.Limits.{found, faulty}
 use Rattle.jdf_read.proofs.Once.{one_tree, one_fault, tree_or_fault}

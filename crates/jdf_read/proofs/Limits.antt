@@ -3,7 +3,7 @@ use Rattle.std.proofs.Common.{◌≡◌, ℕ, Bool, true, false, cond, List, Ok,
 use Rattle.std.specs.Prelude.{Some, None, nat_le, ◌&&◌, length, ◌-◌}
 use Rattle.jdf_lex.specs.declared.token.Token.{Token}
 use Rattle.grammar_core.specs.declared.code.Code.{Code}
-use Rattle.grammar_core.specs.declared.code.Code.TheVariants.{Syntax, BadNumber, ExprTooLong, TooManyClasses, TooManyParams, TooManyLocals, TooManyFlows, TooManyDeps}
+use Rattle.grammar_core.specs.declared.code.Code.TheVariants.{Syntax, TooManyClasses, TooManyLocals, TooManyFlows, TooManyDeps}
 use Rattle.grammar_core.specs.Form.{IsText, IsFirstFault}
 use Rattle.grammar_core.specs.Predictive.{is_fine, are_names, are_limits, is_limit}
 use Rattle.grammar_core.specs.Reading.{whole}

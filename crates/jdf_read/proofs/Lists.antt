@@ -1,7 +1,7 @@
 -- Lists of the grammar, one after the other, as a loop reads them.
-use Rattle.std.proofs.Common.{◌≡◌, ℕ, zero, suc, ◌+◌, ◌-◌, ◌<◌, ◌≤◌, Bool, true, false, cond, List, [], ◌∷◌, ◌++◌, length, Ok, Err, refl, sym, ap, ◌∙◌, arith}
+use Rattle.std.proofs.Common.{◌≡◌, ℕ, zero, suc, ◌<◌, Bool, true, false, cond, List, [], ◌∷◌, ◌++◌, length, Ok, Err, refl, sym, ap, ◌∙◌, arith}
 use Rattle.std.specs.Prelude.{Option, Some, None, nat_le}
-use Rattle.std.proofs.lemmas.List.{append-nil, length-append}
+use Rattle.std.proofs.lemmas.List.{length-append}
 use Rattle.std.proofs.lemmas.Bool.Decides.{nat_tests}
 use Rattle.jdf_lex.specs.declared.token.Token.{Token}
 use Rattle.grammar_core.specs.declared.sort.Sort.{Sort}
@@ -11,7 +11,7 @@ use Rattle.grammar_core.specs.declared.fault.ReadError.TheVariants as errors
 use Rattle.grammar_core.specs.Form.{seq, map, star}
 use Rattle.grammar_core.specs.Reading.{◌>>=◌, Read, first, starts, many_at, reading}
 use Rattle.grammar_core.specs.Gives.{Fails}
-use Rattle.grammar_core.proofs.Loops.{applied, so_far, regroup, fails_before, many_from, IsListed, many_step, many_begins, many_goes_on, many_fails, many_is_full, many_ends, reading_moves}
+use Rattle.grammar_core.proofs.Loops.{applied, so_far, regroup, many_from, IsListed, many_step, many_begins, many_goes_on, many_fails, many_is_full, many_ends, reading_moves}
 use Rattle.jdf_tree.specs.Inner.{Grammar}
 use Rattle.jdf_tree.specs.Pieces.{any}
 use Rattle.jdf_tree.specs.ClassGrammar.{full_at}

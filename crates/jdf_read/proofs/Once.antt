@@ -1,5 +1,5 @@
 -- A text has one tree at most, or one first fault at most, and not both.
-use Rattle.std.proofs.Common.{◌≡◌, ℕ, ◌<◌, ◌≤◌, ◌-◌, List, length, take, Result, Ok, Err, refl, sym, ap, ◌∙◌, subst, inl, inr, arith}
+use Rattle.std.proofs.Common.{◌≡◌, ℕ, ◌<◌, ◌≤◌, List, length, take, Result, Ok, Err, sym, ap, ◌∙◌, subst, inl, inr, arith}
 use Rattle.std.specs.Prelude.{Option, Some, None, ◌⊎◌, slice_get}
 use Rattle.std.proofs.lemmas.List.{take_all}
 use Rattle.std.specs.Str.{IsUtf8}
@@ -7,17 +7,16 @@ use Rattle.jdf_lex.specs.declared.fault.JdfCode.TheVariants as jdf
 use Rattle.jdf_lex.specs.declared.fault.JdfFault.{JdfFault}
 use Rattle.jdf_lex.specs.declared.token.Spot.{Spot}
 use Rattle.jdf_lex.specs.declared.token.Token.{Token}
-use Rattle.jdf_lex.specs.Tokens.{IsLexed, spot_after}
+use Rattle.jdf_lex.specs.Tokens.{spot_after}
 use Rattle.jdf_lex.proofs.Once.{one_list, no_fault}
 use Rattle.jdf_lex.proofs.Once as lex
 use Rattle.grammar_core.specs.declared.code.Code.{Code}
 use Rattle.grammar_core.specs.declared.code.Code.TheVariants.{Syntax}
-use Rattle.grammar_core.specs.Form.{IsText, IsFirstFault}
 use Rattle.grammar_core.specs.Reading.{Stop, whole}
 use Rattle.jdf_tree.specs.declared.tree.Jdf.{Jdf}
 use Rattle.jdf_tree.specs.Grammar.{inner, file}
 use Rattle.jdf_tree.specs.Jdf.{IsJdf}
-use Rattle.jdf_tree.specs.Fault.{start, StopsBeingUtf8, code_at_token, IsGrammarFault, IsTooLong, IsNotUtf8, IsBadToken, IsNoText, IsJdfFault}
+use Rattle.jdf_tree.specs.Fault.{StopsBeingUtf8, code_at_token, IsGrammarFault, IsNoText}
 use Rattle.jdf_read.specs.Laws.{OneTree, OneFault, TreeOrFault}
 use Rattle.jdf_read.proofs.Limits.{only, fault_read, fault_place}
 

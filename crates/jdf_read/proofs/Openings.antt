@@ -1,5 +1,5 @@
 -- What stands before the first class, one after the other, as a loop reads it.
-use Rattle.std.proofs.Common.{◌≡◌, ◌<◌, Bool, true, false, cond, List, [], ◌∷◌, ◌++◌, length, Result, Ok, Err, refl, sym, ap, ◌∙◌, append_assoc}
+use Rattle.std.proofs.Common.{◌≡◌, ◌<◌, Bool, true, false, cond, List, [], ◌∷◌, ◌++◌, length, Ok, Err, refl, sym, ap, ◌∙◌, append_assoc}
 use Rattle.std.specs.Prelude.{Option, Some, None, ◌&&◌, ◌||◌}
 use Rattle.std.proofs.lemmas.List.{append-nil}
 use Rattle.jdf_lex.specs.declared.token.Token.{Token}
@@ -13,7 +13,7 @@ use Rattle.grammar_core.specs.Form.{one_of, star, opt}
 use Rattle.grammar_core.specs.Reading.{◌>>=◌, Read, starts, token_at, name_at, reading}
 use Rattle.grammar_core.specs.Gives.{Fails}
 use Rattle.grammar_core.proofs.Fuel.{name_is}
-use Rattle.grammar_core.proofs.Loops.{pair_with, applied, reading_moves, fails_before}
+use Rattle.grammar_core.proofs.Loops.{pair_with, applied, reading_moves}
 use Rattle.jdf_tree.specs.declared.expression.Word.{Word}
 use Rattle.jdf_tree.specs.declared.part.Part.TheVariants.{Class}
 use Rattle.jdf_tree.specs.declared.tree.ClassTree.{ClassTree}

@@ -1,5 +1,5 @@
 -- The parts of a class, one after the other, where some of them are passed over.
-use Rattle.std.proofs.Common.{◌≡◌, List, [], ◌∷◌, Ok, Err, refl, ◌∙◌}
+use Rattle.std.proofs.Common.{◌≡◌, List, Ok, Err, refl, ◌∙◌}
 use Rattle.std.specs.Prelude.{Option}
 use Rattle.jdf_lex.specs.declared.token.Token.{Token}
 use Rattle.jdf_lex.specs.declared.token.Spot.{Spot}
@@ -7,7 +7,7 @@ use Rattle.grammar_core.specs.declared.sort.Sort.TheVariants as sort
 use Rattle.grammar_core.specs.Sorts.{is}
 use Rattle.grammar_core.specs.Form.{seq, map, opt}
 use Rattle.grammar_core.specs.Reading.{Read, ◌>>=◌, token_at, reading}
-use Rattle.grammar_core.proofs.Loops.{pair_with, applied, regroup}
+use Rattle.grammar_core.proofs.Loops.{applied, regroup}
 use Rattle.jdf_tree.specs.declared.expression.Word.{Word}
 use Rattle.jdf_tree.specs.declared.part.Part.TheVariants.{Class}
 use Rattle.jdf_tree.specs.Pieces.{name, word, maybe}

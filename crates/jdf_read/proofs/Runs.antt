@@ -1,6 +1,6 @@
 -- Tokens of some sorts, one after the other: as many as there are.
 use Rattle.std.proofs.Common.{◌≡◌, ℕ, suc, ◌+◌, length, Bool, true, false, cond, List, [], ◌∷◌, Ok, Err, take, drop, refl, sym, ap, ◌∙◌, arith}
-use Rattle.std.specs.Prelude.{Option, Some, None, not, ◌&&◌}
+use Rattle.std.specs.Prelude.{Some, None, not, ◌&&◌}
 use Rattle.std.specs.List.{prefix_len}
 use Rattle.grammar_core.specs.declared.sort.Sort.TheVariants as sort
 use Rattle.jdf_tree.specs.ClassGrammar.{is_in_body, begins_body, body_tokens}

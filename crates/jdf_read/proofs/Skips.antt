@@ -1,12 +1,12 @@
 -- What is skipped, one after the other, as a loop passes over it.
-use Rattle.std.proofs.Common.{◌≡◌, ℕ, suc, ◌<◌, Bool, true, false, cond, List, [], ◌∷◌, length, Result, Ok, Err, refl, sym, ap, ◌∙◌}
+use Rattle.std.proofs.Common.{◌≡◌, ◌<◌, Bool, true, false, cond, List, [], ◌∷◌, length, Result, Ok, Err, refl, sym, ap, ◌∙◌}
 use Rattle.jdf_lex.specs.declared.token.Token.{Token}
 use Rattle.grammar_core.specs.declared.fault.ReadError.{ReadError}
 use Rattle.grammar_core.specs.declared.fault.ReadError.TheVariants as errors
 use Rattle.grammar_core.specs.Form.{star}
 use Rattle.grammar_core.specs.Reading.{Stop, ◌>>=◌, Read, starts, reading}
 use Rattle.grammar_core.specs.Gives.{Fails}
-use Rattle.grammar_core.proofs.Loops.{applied, regroup, many_from, many_step, reading_moves}
+use Rattle.grammar_core.proofs.Loops.{applied, regroup, many_from, reading_moves}
 use Rattle.jdf_tree.specs.declared.tree.ClassTree.{ClassTree}
 use Rattle.jdf_tree.specs.Pieces.{any}
 use Rattle.jdf_tree.specs.ClassGrammar.{class}

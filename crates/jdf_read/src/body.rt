@@ -82,7 +82,10 @@ fn body_tokens(alloc: Global, tokens: &[Token]) -> Result<(Row<Token>, &[Token])
 
 /// `BODY properties? tokens? END`: the tokens, and the place of `END`.
 #[tactic(auto, using(crate::proofs::Parts::body_reads))]
-pub(crate) fn body(alloc: Global, tokens: &[Token]) -> Result<((Row<Token>, Spot), &[Token]), ReadError>
+pub(crate) fn body(
+    alloc: Global,
+    tokens: &[Token],
+) -> Result<((Row<Token>, Spot), &[Token]), ReadError>
     ensures { Gives (λ x. (x.0, x.1.now)) result (reading inner body tokens.now) }
 {
     let (_, rest) = expect(tokens, Sort::Body)?;

@@ -141,7 +141,10 @@ fn dependence(alloc: Global, tokens: &[Token]) -> Result<(DepTree, &[Token]), Re
 
 /// The dependences of a flow.
 #[tactic(auto, using(crate::proofs::Listed::dependences_listed, crate::proofs::Listed::dependences_begin, crate::proofs::Lists::counted_goes_on, crate::proofs::Lists::counted_fails, crate::proofs::Lists::counted_is_full, crate::proofs::Lists::counted_ends))]
-pub(crate) fn dependences(alloc: Global, tokens: &[Token]) -> Result<(Row<DepTree>, &[Token]), ReadError>
+pub(crate) fn dependences(
+    alloc: Global,
+    tokens: &[Token],
+) -> Result<(Row<DepTree>, &[Token]), ReadError>
     ensures { Gives (λ x. (x.0, x.1.now)) result (reading inner dependences tokens.now) }
 {
     let mut list = Row::new(alloc);

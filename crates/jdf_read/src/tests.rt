@@ -55,6 +55,32 @@ fn reads_the_chain(rt: HostRuntime) -> Result<(), Fail> {
     assert!(rt; matches!(&flow.deps.get(1).no, Some(TargetTree::Task(_, _, _))));
     assert_eq!(rt; class.body.len(), 12);
     assert_eq!(rt; class.finish.line, 11);
+    let Some(cut) = CHAIN.strip_suffix("END\n") else {
+        panic!(rt; "no end");
+    };
+    assert!(rt; fault_of(&rt, cut.as_bytes()) == Some((11, 1, JdfCode::Truncated)));
+    Ok(())
+}
+
+#[test]
+fn reads_ranges_and_priorities(rt: HostRuntime) -> Result<(), Fail> {
+    let text = "T(k) k = 0 .. 9 .. 2 m = k : D(m, 0 .. 3) CTL c <- (k == 0) ? NULL ; 5 BODY END";
+    let Ok(jdf) = read(rt.alloc(), text.as_bytes()) else {
+        panic!(rt; "refused");
+    };
+    assert_eq!(rt; jdf.classes.len(), 1);
+    let class = jdf.classes.get(0);
+    assert_eq!(rt; class.defs.len(), 2);
+    assert!(rt; matches!(&class.defs.get(0).value, ArgTree::Span(_, _, _, Some(_))));
+    assert!(rt; matches!(&class.defs.get(1).value, ArgTree::One(_)));
+    assert_eq!(rt; class.affinity_args.len(), 2);
+    assert!(rt; class.priority.is_some());
+    assert_eq!(rt; class.flows.len(), 1);
+    let flow = class.flows.get(0);
+    assert_eq!(rt; flow.deps.len(), 1);
+    let dependence = flow.deps.get(0);
+    assert!(rt; dependence.guard.is_some() && dependence.no.is_none());
+    assert!(rt; matches!(&dependence.yes, TargetTree::Null(_)));
     Ok(())
 }
 
@@ -69,15 +95,9 @@ fn names_the_first_fault(rt: HostRuntime) {
         ("= T()", Some((1, 1, JdfCode::Syntax))),
         ("T() : D() BODY END", None),
         ("T() : D() BODY", Some((1, 15, JdfCode::Truncated))),
-        (
-            "T() : D() BODY END END",
-            Some((1, 20, JdfCode::Syntax)),
-        ),
+        ("T() : D() BODY END END", Some((1, 20, JdfCode::Syntax))),
         ("T() : D() BODY END D", Some((1, 21, JdfCode::Truncated))),
-        (
-            "T() : D() BODY END D [",
-            Some((1, 22, JdfCode::Syntax)),
-        ),
+        ("T() : D() BODY END D [", Some((1, 22, JdfCode::Syntax))),
         ("D\r\nT() = ", Some((2, 5, JdfCode::Syntax))),
         ("/*é*/ =", Some((1, 8, JdfCode::Syntax))),
         ("extern T", Some((1, 8, JdfCode::Syntax))),
@@ -87,13 +107,18 @@ fn names_the_first_fault(rt: HostRuntime) {
             Some((1, 32, JdfCode::Syntax)),
         ),
         ("T(a,a,a,a,a,a,a,a) : D() BODY END", None),
-        (
-            "T(a,a,a,a,a,a,a,a,a",
-            Some((1, 19, JdfCode::TooManyParams)),
-        ),
+        ("T(a,a,a,a,a,a,a,a,a", Some((1, 19, JdfCode::TooManyParams))),
         (
             "T(a,a,a,a,a,a,a,a,) : D() BODY END",
             Some((1, 19, JdfCode::Syntax)),
+        ),
+        ("T() : D(,) BODY END", Some((1, 9, JdfCode::Syntax))),
+        ("T() : D(0 BODY END", Some((1, 11, JdfCode::Syntax))),
+        ("T() k = = 00", Some((1, 9, JdfCode::Syntax))),
+        ("T() k = 00 = BODY", Some((1, 9, JdfCode::BadNumber))),
+        (
+            "D\nNB\n\nTask(k)\nk = = 0 .. NB\n: D(0)\nBODY\nEND\n",
+            Some((5, 5, JdfCode::Syntax)),
         ),
     ] {
         assert!(rt; fault_of(&rt, text.as_bytes()) == want, "{text}");
@@ -111,7 +136,7 @@ fn reads_what_stands_around(rt: HostRuntime) -> Result<(), Fail> {
             1,
             2,
         ),
-        ("type T(type) : type() BODY type END", 1, 1),
+        ("type T(type) type = type : type(type) BODY type END", 1, 1),
         (
             "T() : D() RW A <- NEW -> NULL <- NULL [type = t] BODY END",
             0,
@@ -121,7 +146,11 @@ fn reads_what_stands_around(rt: HostRuntime) -> Result<(), Fail> {
         let Ok(jdf) = read(rt.alloc(), text.as_bytes()) else {
             panic!(rt; "{text}");
         };
-        assert_eq!(rt; (jdf.globals.len(), jdf.classes.len()), (globals, classes), "{text}");
+        assert_eq!(rt;
+            (jdf.globals.len(), jdf.classes.len()),
+            (globals, classes),
+            "{text}"
+        );
     }
     Ok(())
 }
@@ -141,14 +170,46 @@ fn refuses_bytes(rt: HostRuntime) -> Result<(), Fail> {
 #[test]
 fn counts(rt: HostRuntime) -> Result<(), Fail> {
     for (front, part, times, last, column, code) in [
-        ("T() : D() ", "CTL c ", 8, "BODY END", 59, JdfCode::TooManyFlows),
-        ("T() : D() CTL c ", "<- NEW ", 16, "BODY END", 129, JdfCode::TooManyDeps),
-        ("", "T():D() BODY END ", 64, "", 1089, JdfCode::TooManyClasses),
+        (
+            "T() : D() ",
+            "CTL c ",
+            8,
+            "BODY END",
+            59,
+            JdfCode::TooManyFlows,
+        ),
+        (
+            "T() : D() CTL c ",
+            "<- NEW ",
+            16,
+            "BODY END",
+            129,
+            JdfCode::TooManyDeps,
+        ),
+        (
+            "T() ",
+            "k=0 ",
+            16,
+            ": D() BODY END",
+            69,
+            JdfCode::TooManyLocals,
+        ),
+        (
+            "",
+            "T():D() BODY END ",
+            64,
+            "",
+            1089,
+            JdfCode::TooManyClasses,
+        ),
     ] {
         let text = repeated(rt.alloc(), front, part, times, last)?;
         assert!(rt; fault_of(&rt, text.as_bytes()).is_none(), "{text}");
         let more = repeated(rt.alloc(), front, part, times + 1, last)?;
-        assert!(rt; fault_of(&rt, more.as_bytes()) == Some((1, column, code)), "{more}");
+        assert!(rt;
+            fault_of(&rt, more.as_bytes()) == Some((1, column, code)),
+            "{more}"
+        );
     }
     Ok(())
 }

@@ -105,8 +105,9 @@ fn read_text(alloc: Global, text: &str) -> Result<Jdf, JdfRefusal>
     match whole(alloc, lexed.tokens.as_slice()) {
         Ok(jdf) => Ok(jdf),
         Err(ReadError::Memory) => Err(JdfRefusal::OutOfMemory),
-        Err(ReadError::Fault(left, code)) =>
-            Err(JdfRefusal::Fault(grammar_fault(&lexed, left, code))),
+        Err(ReadError::Fault(left, code)) => Err(JdfRefusal::Fault(grammar_fault(
+            &lexed, left, code,
+        ))),
     }
 }
 

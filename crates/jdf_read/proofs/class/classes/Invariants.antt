@@ -1,4 +1,4 @@
-use Rattle.std.proofs.Common.{◌≡◌, ◌+◌, ◌-◌, ◌≤◌, length}
+use Rattle.std.proofs.Common.{◌≡◌, ◌-◌, ◌≤◌, length}
 use Rattle.grammar_core.specs.declared.code.Code.TheVariants.{TooManyClasses}
 use Rattle.grammar_core.specs.Reading.{reading}
 use Rattle.grammar_core.proofs.Loops.{so_far}
