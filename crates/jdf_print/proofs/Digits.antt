@@ -9,7 +9,7 @@ use Rattle.std.proofs.lemmas.Fmt.{decimal_digit, decimal_step}
 use Rattle.std.proofs.lemmas.List.Folds.{list_all-append}
 use Rattle.jdf_lex.specs.declared.token.TokenKind.{TokenKind}
 use Rattle.jdf_lex.specs.declared.token.TokenKind.TheVariants as kinds
-use Rattle.jdf_lex.specs.Tokens.{is_letter, is_digit}
+use Rattle.jdf_lex.specs.Spelling.{is_letter, is_digit}
 use Rattle.grammar_core.specs.declared.sort.Sort.TheVariants as sort
 use Rattle.grammar_core.specs.Sorts.{is, sort_by}
 use Rattle.jdf_print.proofs.Readable.{kind_of, sort_at}

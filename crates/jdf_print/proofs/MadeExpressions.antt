@@ -4,7 +4,7 @@ use Rattle.std.specs.Prelude.{Option, Some, None, not, nat_le, ◌&&◌}
 use Rattle.std.specs.List.{list_all}
 use Rattle.std.proofs.lemmas.Bool.{and_parts, leb-true}
 use Rattle.jdf_lex.specs.declared.token.Token.{Token}
-use Rattle.jdf_lex.specs.Tokens.{is_digit}
+use Rattle.jdf_lex.specs.Spelling.{is_digit}
 use Rattle.term_core.specs.declared.operator.BinOp.{BinOp}
 use Rattle.grammar_core.specs.declared.sort.Sort.{Sort}
 use Rattle.grammar_core.specs.declared.sort.Sort.TheVariants as sort

@@ -5,7 +5,7 @@ use Rattle.std.specs.List.{list_all}
 use Rattle.jdf_lex.specs.declared.token.Token.{Token}
 use Rattle.jdf_lex.specs.declared.token.TokenKind.{TokenKind}
 use Rattle.jdf_lex.specs.declared.token.TokenKind.TheVariants as kinds
-use Rattle.jdf_lex.specs.Tokens.{is_letter, is_digit, is_part, is_mark}
+use Rattle.jdf_lex.specs.Spelling.{is_letter, is_digit, is_part, is_mark}
 use Rattle.grammar_core.specs.declared.sort.Sort.{Sort}
 use Rattle.grammar_core.specs.Sorts.{sort_by, sort_of}
 use Rattle.grammar_core.specs.Form.{IsOne}
