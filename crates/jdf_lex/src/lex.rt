@@ -99,8 +99,8 @@ fn lex(alloc: Global, text: &[u8]) -> Result<Lexed, JdfRefusal>
     })
 }
 
-/// The tokens of a text, of which there are at most 1000000, or its first token fault. Each byte is looked at a
-/// bounded number of times.
+/// The tokens of a text, of which there are at most 1000000, or its first token fault.
+// Each byte is looked at a bounded number of times, which no clause says.
 pub fn tokens(alloc: Global, text: &str) -> Result<Lexed, JdfRefusal>
     requires { length text.now ≤ 16777216 }
     // What is found are the tokens of the text.
