@@ -1,7 +1,7 @@
 ghost use Rattle.std.specs.Prelude.{◌≤◌, length};
 
 use crate::fault::SpanFault;
-use crate::{Space, SpaceFault, Steps, in_space, is_well_space, locals_of, space_size, steps_of};
+use crate::{Space, SpaceFault, in_space, is_well_space, locals_of, space_size, steps_of};
 use ptg_base::{OutOfMemory, Row};
 use std::alloc::Global;
 use std::process::Abort;
