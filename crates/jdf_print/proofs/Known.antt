@@ -47,7 +47,7 @@ apart : (b : Bool) → b ≡ true → b ≡ false → ⊥
 apart true h k = cc
 apart false h k = cc
 
-no_mark_is_name : (w : List ℕ) → is_name (spelled marks w sort.Other) ≡ false
+pub no_mark_is_name : (w : List ℕ) → is_name (spelled marks w sort.Other) ≡ false
 unfolding marks
 no_mark_is_name w = spelled_out is_name marks w sort.Other refl refl
 

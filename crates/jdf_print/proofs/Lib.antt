@@ -14,3 +14,6 @@ pub mod Known
 pub mod MadeExpressions
 pub mod Holding
 pub mod MadeClasses
+pub mod Marks
+pub mod Lexing
+pub mod Fitting
