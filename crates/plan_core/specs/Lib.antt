@@ -1,0 +1,7 @@
+pub mod Place
+pub mod Closed
+pub mod Kinds
+pub mod Targets
+pub mod Flows
+pub mod Bodies
+pub mod WellMade

@@ -1,0 +1,14 @@
+//! A job with all its names resolved: classes, their flows and spaces, and collections, by number.
+#![tactic(auto)]
+
+mod class;
+mod flow;
+mod plan;
+mod shape;
+mod target;
+
+pub use class::ClassPlan;
+pub use flow::{DepPlan, FlowPlan};
+pub use plan::Plan;
+pub use shape::Shape;
+pub use target::{Arg, Target};

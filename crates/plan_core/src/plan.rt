@@ -1,0 +1,84 @@
+ghost use Rattle.std.specs.Prelude.{◌≡◌, ◌<◌, ◌↔◌, IsTrue, Some, length, slice_get};
+ghost use Rattle.term_core.specs.declared.space.ClassSpace.{ClassSpace};
+ghost use Rattle.plan_core.specs.Place.{HasPlace};
+ghost use Rattle.plan_core.specs.WellMade.{IsWellClass, IsWellMade};
+
+use crate::class::ClassPlan;
+use crate::shape::Shape;
+use ptg_base::{Place, Row};
+use term_core::ClassSpace;
+
+/// A job with all its names resolved, for the data that it was resolved with.
+#[derive(Debug, Drop)]
+pub struct Plan {
+    /// The classes, in the text's order.
+    pub classes: Row<ClassPlan>,
+    /// The space of each class.
+    pub spaces: Row<ClassSpace>,
+    /// The collections, in the data's order.
+    pub colls: Row<Shape>,
+    /// Numbers in a tile.
+    pub elems: u32,
+    /// Every number names something, numbers of arguments agree, and flows, targets and bodies fit one another.
+    pub ghost well_made: { IsWellMade classes spaces colls elems },
+}
+
+impl Plan {
+    /// The job of these parts.
+    pub fn new(
+        classes: Row<ClassPlan>,
+        spaces: Row<ClassSpace>,
+        colls: Row<Shape>,
+        elems: u32,
+    ) -> Plan
+        requires { IsWellMade classes spaces colls elems }
+        ensures classes { result.classes ≡ classes }
+        ensures spaces { result.spaces ≡ spaces }
+        ensures colls { result.colls ≡ colls }
+        ensures elems { result.elems ≡ elems }
+    {
+        Plan {
+            classes,
+            spaces,
+            colls,
+            elems,
+        }
+    }
+
+    /// The class of this number.
+    pub fn class(&self, n: u32) -> &ClassPlan
+        requires { n < length self.now.classes }
+        ensures class { slice_get self.now.classes n ≡ Some result.now }
+        ensures well_made { (s : ClassSpace) → slice_get self.now.spaces n ≡ Some s → IsWellClass self.now.classes self.now.spaces self.now.colls s result.now }
+    {
+        self.classes.get(n as usize)
+    }
+
+    /// The space of the class of this number.
+    pub fn space(&self, n: u32) -> &ClassSpace
+        requires { n < length self.now.classes }
+        ensures { slice_get self.now.spaces n ≡ Some result.now }
+    {
+        self.spaces.get(n as usize)
+    }
+
+    /// The collection of this number.
+    pub fn coll(&self, n: u32) -> &Shape
+        requires { n < length self.now.colls }
+        ensures { slice_get self.now.colls n ≡ Some result.now }
+    {
+        self.colls.get(n as usize)
+    }
+
+    /// Whether the collection is there, with this row and this column.
+    pub fn has_place(&self, p: &Place) -> bool
+        ensures { IsTrue result ↔ HasPlace self.now.colls p.now }
+    {
+        let n = p.coll as usize;
+        if n >= self.colls.len() {
+            return false;
+        }
+        let shape = self.colls.get(n);
+        shape.has_row(p.i) && shape.has_column(p.j)
+    }
+}

@@ -1,0 +1,31 @@
+ghost use Rattle.std.specs.Prelude.{◌↔◌, IsTrue};
+ghost use Rattle.plan_core.specs.Place.{IsRow, IsColumn};
+
+use ptg_base::Text;
+
+/// A collection of the data: its name, and how many rows of tiles it has, and columns where it has two dimensions.
+#[derive(Debug, Drop)]
+pub struct Shape {
+    pub name: Text,
+    pub rows: u32,
+    pub cols: Option<u32>,
+}
+
+impl Shape {
+    /// Whether it has this row.
+    pub fn has_row(&self, i: i64) -> bool
+        ensures { IsTrue result ↔ IsRow self.now.rows i }
+    {
+        0 <= i && i < i64::from(self.rows)
+    }
+
+    /// Whether it has this column, which is 0 where it has one dimension.
+    pub fn has_column(&self, j: i64) -> bool
+        ensures { IsTrue result ↔ IsColumn self.now.cols j }
+    {
+        match self.cols {
+            None => j == 0,
+            Some(cols) => 0 <= j && j < i64::from(cols),
+        }
+    }
+}
