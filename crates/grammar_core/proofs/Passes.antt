@@ -76,7 +76,7 @@ run_faults p h l (behind q m) s n e =
       | inr a ↦ elim (bind_err (p m a.0.1) (λ b. Ok ((a.0.0, b.0), b.1)) n a.2) [
         | inl v ↦ let t = ap (λ (y : List Token). length y) (token_ok q s a.0 a.1).0 in let one = l m a.0.1 n v in omega (arith, t, one)
         | inr v ↦ absurd (no_ok _ n v.2)
-        ]
+      ]
     ]
 
 abbrev pub Passes : Bool → {A : Type 0} → (List Token → Read A) → List Token → Type 0
@@ -283,7 +283,7 @@ module _ {N : Type 0} {Tree : N → Type 0} (c : Claims N) (p : (n : N) → List
       | inr a ↦ elim (bind_err (p m a.0.1) (λ d. Ok ((a.0.0, d.0), d.1)) n a.2) [
         | inl v ↦ let t = ap (λ (y : List Token). length y) (token_ok q s a.0 a.1).0 in let x = l m a.0.1 n v in omega (arith, t, x)
         | inr v ↦ absurd (no_ok _ n v.2)
-        ]
+      ]
     ],
     λ x e. (run_shrinks p h (behind q m) s x e).1 refl,
   )

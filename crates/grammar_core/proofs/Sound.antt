@@ -657,23 +657,23 @@ behind_sound q G p some g text s =
                 }
             | inr a ↦ elim (bind_err (p a.0.1) (λ b. Ok ((a.0.0, b.0), b.1)) n a.2) [
               | inl v ↦
-                let t = token_ok q s a.0 a.1 in
-                let b = (g a.0.1).stopped n v in
-                record {
-                  word = a.0.0 ∷ b.word;
-                  rest = b.rest;
-                  parts = t.0 ∙ ap (λ (l : List Token). a.0.0 ∷ l) b.parts;
-                  left = b.left;
-                  more = b.more;
-                  tree = (a.0.0, b.tree);
-                  fault = λ z. then_fault None 1 (b.fault z);
-                  late = λ z. late_behind n.1 (suc (length b.word)) (length b.word) 1 (b.fault z) (omega arith) (b.late z);
-                  extends = b.extends;
-                  spells = λ z. (b.word ++ (b.more ++ z), b.fault z, (refl, t.1), b.spells z, refl);
-                  same = λ r same. rw (t.1, b.same r same) refl;
-                }
+                  let t = token_ok q s a.0 a.1 in
+                  let b = (g a.0.1).stopped n v in
+                  record {
+                    word = a.0.0 ∷ b.word;
+                    rest = b.rest;
+                    parts = t.0 ∙ ap (λ (l : List Token). a.0.0 ∷ l) b.parts;
+                    left = b.left;
+                    more = b.more;
+                    tree = (a.0.0, b.tree);
+                    fault = λ z. then_fault None 1 (b.fault z);
+                    late = λ z. late_behind n.1 (suc (length b.word)) (length b.word) 1 (b.fault z) (omega arith) (b.late z);
+                    extends = b.extends;
+                    spells = λ z. (b.word ++ (b.more ++ z), b.fault z, (refl, t.1), b.spells z, refl);
+                    same = λ r same. rw (t.1, b.same r same) refl;
+                  }
               | inr v ↦ absurd (no_ok _ n v.2)
-              ]
+            ]
           ];
     }
 

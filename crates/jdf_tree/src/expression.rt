@@ -81,12 +81,7 @@ impl ExprTree {
         })
     }
 
-    pub fn unary(
-        alloc: Global,
-        op: UnOp,
-        a: ExprTree,
-        spot: Spot,
-    ) -> Result<ExprTree, OutOfMemory>
+    pub fn unary(alloc: Global, op: UnOp, a: ExprTree, spot: Spot) -> Result<ExprTree, OutOfMemory>
         ensures { IfOk result (λ e. e ≡ Unary op a spot) }
     {
         Ok(ExprTree {
