@@ -2,16 +2,15 @@
 use Rattle.std.specs.Prelude.{ℕ, ◌+◌, ◌<◌, ◌≤◌, List, length, take, Bool, true, false, Option, Some, None, slice_get}
 use Rattle.jdf_lex.specs.declared.token.Spot.{Spot}
 use Rattle.jdf_lex.specs.declared.token.Token.{Token}
-use Rattle.jdf_lex.specs.declared.fault.JdfCode.{JdfCode}
-use Rattle.jdf_lex.specs.declared.fault.JdfCode.TheVariants as jdf
 use Rattle.jdf_lex.specs.declared.fault.JdfFault.{JdfFault}
 use Rattle.grammar_core.specs.declared.code.Code.{Code}
-use Rattle.grammar_core.specs.declared.code.Code.TheVariants.{Syntax, BadNumber, ExprTooLong, TooManyClasses, TooManyParams, TooManyLocals, TooManyFlows, TooManyDeps}
+use Rattle.grammar_core.specs.declared.code.Code.TheVariants.{Syntax}
 use Rattle.grammar_core.specs.Form.{Fault, IsText, Begins, IsSyntaxFault, IsLimitFault}
 use Rattle.jdf_tree.specs.declared.part.Part.{Part}
 use Rattle.jdf_tree.specs.declared.part.Part.TheVariants.{Class, Body}
 use Rattle.jdf_tree.specs.Expression.{Expression}
 use Rattle.jdf_tree.specs.ExpressionGrammar.{placed, outer}
+use Rattle.jdf_tree.specs.Fault.{code_at_token}
 use Rattle.jdf_tree.specs.Grammar.{inner}
 
 -- Where the elements of flows are allowed, the expression is a body's.
@@ -41,17 +40,6 @@ abbrev pub spot_or : Option Token → Spot → Spot
 spot_or (Some x) finish = x.spot
 spot_or None finish = finish
 
--- what is printed for a fault
-abbrev pub code_of : Code → JdfCode
-code_of Syntax = jdf.Syntax
-code_of BadNumber = jdf.BadNumber
-code_of ExprTooLong = jdf.ExprTooLong
-code_of TooManyClasses = jdf.TooManyClasses
-code_of TooManyParams = jdf.TooManyParams
-code_of TooManyLocals = jdf.TooManyLocals
-code_of TooManyFlows = jdf.TooManyFlows
-code_of TooManyDeps = jdf.TooManyDeps
-
 -- the fault at the token of this number
 abbrev pub fault_at : List Token → Spot → ℕ → Code → JdfFault
-fault_at s finish p c = record { spot = spot_or (slice_get s p) finish; code = code_of c }
+fault_at s finish p c = record { spot = spot_or (slice_get s p) finish; code = code_at_token c }

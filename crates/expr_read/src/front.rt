@@ -5,33 +5,18 @@ ghost use Rattle.grammar_core.specs.declared.code.Code.{Code};
 ghost use Rattle.jdf_lex.specs.declared.fault.JdfFault.{JdfFault};
 ghost use Rattle.jdf_lex.specs.declared.fault.JdfRefusal.TheVariants.{Fault, OutOfMemory};
 ghost use Rattle.jdf_tree.specs.Expression.{Expression};
-ghost use Rattle.expr_read.specs.Front.{part_of, IsExpression, IsFirstFaultOf, spot_or, code_of, fault_at};
+ghost use Rattle.expr_read.specs.Front.{part_of, IsExpression, IsFirstFaultOf, spot_or, fault_at};
 
 use crate::window::outer;
 use grammar_core::{Code, ReadError};
-use jdf_lex::{JdfCode, JdfFault, JdfRefusal, Spot, Token};
-use jdf_tree::{ExprTree, Part};
+use jdf_lex::{JdfFault, JdfRefusal, Spot, Token};
+use jdf_tree::{ExprTree, Part, code_at_token};
 use std::alloc::Global;
 
 fn part_of(elements: bool) -> Part
     ensures { result ≡ part_of elements }
 {
     if elements { Part::Body } else { Part::Class }
-}
-
-fn code_of(code: Code) -> JdfCode
-    ensures { result ≡ code_of code }
-{
-    match code {
-        Code::Syntax => JdfCode::Syntax,
-        Code::BadNumber => JdfCode::BadNumber,
-        Code::ExprTooLong => JdfCode::ExprTooLong,
-        Code::TooManyClasses => JdfCode::TooManyClasses,
-        Code::TooManyParams => JdfCode::TooManyParams,
-        Code::TooManyLocals => JdfCode::TooManyLocals,
-        Code::TooManyFlows => JdfCode::TooManyFlows,
-        Code::TooManyDeps => JdfCode::TooManyDeps,
-    }
 }
 
 // The fault at the token of this number, or behind the last one.
@@ -44,7 +29,7 @@ fn fault_at(tokens: &[Token], finish: Spot, place: usize, code: Code) -> JdfFaul
     };
     JdfFault {
         spot,
-        code: code_of(code),
+        code: code_at_token(code),
     }
 }
 

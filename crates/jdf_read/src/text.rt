@@ -17,7 +17,7 @@ ghost use Rattle.jdf_tree.specs.Fault.{IsJdfFault, code_at_token};
 use crate::opening::opening;
 use grammar_core::{Code, ReadError};
 use jdf_lex::{JdfCode, JdfFault, JdfRefusal, Lexed, Spot, Token, tokens};
-use jdf_tree::Jdf;
+use jdf_tree::{Jdf, code_at_token};
 use std::alloc::Global;
 
 /// How many bytes a text may have.
@@ -58,22 +58,6 @@ fn spot_after(front: &[u8]) -> Spot
     Spot {
         line: 1 + lines_in(front) as u32,
         column: 1 + columns_in(front) as u32,
-    }
-}
-
-// The name of a fault of the grammar, at a token.
-fn code_at_token(code: Code) -> JdfCode
-    ensures { result ≡ code_at_token code }
-{
-    match code {
-        Code::Syntax => JdfCode::Syntax,
-        Code::BadNumber => JdfCode::BadNumber,
-        Code::ExprTooLong => JdfCode::ExprTooLong,
-        Code::TooManyClasses => JdfCode::TooManyClasses,
-        Code::TooManyParams => JdfCode::TooManyParams,
-        Code::TooManyLocals => JdfCode::TooManyLocals,
-        Code::TooManyFlows => JdfCode::TooManyFlows,
-        Code::TooManyDeps => JdfCode::TooManyDeps,
     }
 }
 

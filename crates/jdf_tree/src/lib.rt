@@ -1,10 +1,12 @@
 //! The tree of a JDF text, and the grammar that says which tree a text has.
 #![tactic(auto)]
 
+mod code;
 mod expression;
 mod part;
 mod tree;
 
+pub use code::code_at_token;
 pub use expression::{ExprNode, ExprTree, Placed, Word};
 pub use part::Part;
 pub use tree::{ArgTree, ClassTree, DefTree, DepTree, FlowTree, Jdf, TargetTree};

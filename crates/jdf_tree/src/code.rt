@@ -1,0 +1,21 @@
+ghost use Rattle.std.specs.Prelude.{◌≡◌};
+ghost use Rattle.jdf_tree.specs.Fault.{code_at_token};
+
+use grammar_core::Code;
+use jdf_lex::JdfCode;
+
+/// The code of a fault of the grammar, at a token.
+pub fn code_at_token(code: Code) -> JdfCode
+    ensures { result ≡ code_at_token code }
+{
+    match code {
+        Code::Syntax => JdfCode::Syntax,
+        Code::BadNumber => JdfCode::BadNumber,
+        Code::ExprTooLong => JdfCode::ExprTooLong,
+        Code::TooManyClasses => JdfCode::TooManyClasses,
+        Code::TooManyParams => JdfCode::TooManyParams,
+        Code::TooManyLocals => JdfCode::TooManyLocals,
+        Code::TooManyFlows => JdfCode::TooManyFlows,
+        Code::TooManyDeps => JdfCode::TooManyDeps,
+    }
+}
