@@ -1,6 +1,6 @@
 -- What the tokens of flows, classes and whole jobs say.
-use Rattle.std.proofs.Common.{◌≡◌, ℕ, suc, ◌+◌, ◌*◌, ◌-◌, ◌≤◌, ◌<◌, Bool, true, false, List, [], ◌∷◌, ◌++◌, length, map, refl, sym, ap, subst, ◌∙◌, inl, inr, arith, append_assoc, length-append}
-use Rattle.std.specs.Prelude.{Option, Some, None, option_map, codes, ◌≢◌}
+use Rattle.std.proofs.Common.{◌≡◌, ℕ, ◌+◌, ◌*◌, ◌≤◌, Bool, true, List, [], ◌∷◌, ◌++◌, length, map, refl, sym, ap, subst, ◌∙◌, inl, inr, arith, append_assoc, length-append}
+use Rattle.std.specs.Prelude.{Option, Some, None, option_map, codes}
 use Rattle.std.specs.List.{flat_map}
 use Rattle.jdf_lex.specs.declared.token.Spot.{Spot}
 use Rattle.jdf_lex.specs.declared.token.Token.{Token}
@@ -9,7 +9,6 @@ use Rattle.term_core.specs.declared.flow.FlowKind.{FlowKind}
 use Rattle.term_core.specs.declared.flow.FlowKind.TheVariants as kind
 use Rattle.grammar_core.specs.declared.sort.Sort.{Sort}
 use Rattle.grammar_core.specs.declared.sort.Sort.TheVariants as sort
-use Rattle.grammar_core.specs.declared.code.Code.{Code}
 use Rattle.grammar_core.specs.declared.code.Code.TheVariants.{TooManyParams, TooManyLocals, TooManyFlows, TooManyDeps, TooManyClasses}
 use Rattle.grammar_core.specs.Sorts.{words, marks, sort_of, is}
 use Rattle.grammar_core.specs.Counted.{is_name}
@@ -24,14 +23,14 @@ use Rattle.jdf_tree.specs.declared.tree.FlowTree.{FlowTree}
 use Rattle.jdf_tree.specs.declared.tree.ClassTree.{ClassTree}
 use Rattle.jdf_tree.specs.declared.tree.Jdf.{Jdf}
 use Rattle.jdf_tree.specs.Expression.{Expression}
-use Rattle.jdf_tree.specs.Inner.{Grammar, an_opening}
-use Rattle.jdf_tree.specs.Pieces.{word, after, before, any, maybe, listed, name, names, word_of}
+use Rattle.jdf_tree.specs.Inner.{an_opening}
+use Rattle.jdf_tree.specs.Pieces.{word, before, any, maybe, name, word_of}
 use Rattle.jdf_tree.specs.ExpressionGrammar.{outer}
 use Rattle.jdf_tree.specs.ClassGrammar as grammar
 use Rattle.jdf_tree.specs.ClassGrammar.{full_at, eight_names}
 use Rattle.jdf_tree.specs.Grammar as whole
 use Rattle.jdf_tree.specs.Grammar.{inner}
-use Rattle.jdf_print.specs.Pieces.{Piece, token, blank, space, newline, between, comma, separated, with_commas, line, token_count}
+use Rattle.jdf_print.specs.Pieces.{Piece, token, space, between, separated, with_commas, line, token_count}
 use Rattle.jdf_print.specs.Spelling as print
 use Rattle.jdf_print.specs.Same as same
 use Rattle.jdf_print.specs.Same.{nowhere}
@@ -39,7 +38,7 @@ use Rattle.jdf_print.proofs.Depth.{named}
 use Rattle.jdf_print.proofs.Readable.{IsLike, IsWritten, Reads, reads_both, sort_at, like_sort, is_one, kind_of}
 use Rattle.jdf_print.proofs.Limits.{no_cut}
 use Rattle.jdf_print.proofs.Separated.{separated_is}
-use Rattle.jdf_print.proofs.Spent.{cover, token_count-append}
+use Rattle.jdf_print.proofs.Spent.{cover}
 use Rattle.jdf_print.proofs.Expressions.{Says, IsName}
 use Rattle.jdf_print.proofs.Forms.{Tells, Every, EachTells, IsOuter, outer_tells, listed_tells, star_tells, not_full, word_says, after_says, before_says, name_says, same_word, reads_line}
 use Rattle.jdf_print.proofs.Targets.{IsArgument, argument_tells, call_tells, IsDependence, dependence_tells}

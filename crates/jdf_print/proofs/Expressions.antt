@@ -1,6 +1,6 @@
 -- The tokens of the spelling of an expression are a text of the grammar, with the same tree but for places.
-use Rattle.std.proofs.Common.{◌≡◌, ℕ, ℤ, pos, suc, ◌+◌, ◌*◌, ◌-◌, ◌≤◌, ◌<◌, Bool, true, false, cond, List, [], ◌∷◌, ◌++◌, length, refl, sym, ap, ◌∙◌, inl, inr, arith}
-use Rattle.std.specs.Prelude.{Option, Some, None, IsTrue, codes}
+use Rattle.std.proofs.Common.{◌≡◌, ℕ, ℤ, pos, Bool, true, List, [], ◌∷◌, ◌++◌, refl, sym, ap, ◌∙◌, inl, inr}
+use Rattle.std.specs.Prelude.{Some, None, codes}
 use Rattle.std.specs.Fmt.{signed_decimal}
 use Rattle.jdf_lex.specs.declared.token.Spot.{Spot}
 use Rattle.jdf_lex.specs.declared.token.Token.{Token}
@@ -23,7 +23,7 @@ use Rattle.jdf_tree.specs.Inner.{an_expr, a_unary, Grammar}
 use Rattle.jdf_tree.specs.Pieces.{word_of, names}
 use Rattle.jdf_tree.specs.Grammar.{inner}
 use Rattle.jdf_tree.specs.ExpressionGrammar.{placed, number_at, name_alone, is_sign, operator_by, operator_of, ranked, sign_by, number, reference, signed, parens, unary, is_product, is_sum, is_relation, is_equality, is_conjunction, is_disjunction, product, sum, relation, equality, conjunction, disjunction, branches, expr}
-use Rattle.jdf_print.specs.Pieces.{Piece, token, space, between}
+use Rattle.jdf_print.specs.Pieces.{token, between}
 use Rattle.jdf_print.specs.Spelling as print
 use Rattle.jdf_print.specs.Same as same
 use Rattle.jdf_print.specs.Same.{nowhere}

@@ -1,9 +1,8 @@
 -- In the spelling of a well-made tree each word stands before what does not go on with it.
-use Rattle.std.proofs.Common.{◌≡◌, ℕ, ℤ, suc, ◌+◌, ◌<◌, ◌≤◌, Bool, true, false, cond, List, [], ◌∷◌, ◌++◌, length, map, refl, sym, ap, subst, ◌∙◌, inl, inr, arith, append_assoc}
+use Rattle.std.proofs.Common.{◌≡◌, ℕ, ℤ, Bool, true, false, cond, List, [], ◌∷◌, ◌++◌, map, refl, sym, subst, inl, inr, arith}
 use Rattle.std.specs.Prelude.{Option, Some, None, codes, nat_lt, nat_le, not, ◌==◌, ◌||◌, ◌&&◌}
 use Rattle.std.specs.List.{flat_map, list_all}
 use Rattle.std.specs.Fmt.{signed_decimal}
-use Rattle.std.proofs.lemmas.Grind.{flat_map-append}
 use Rattle.std.proofs.lemmas.Bool.{and_parts}
 use Rattle.jdf_lex.specs.declared.piece.Piece.TheVariants as lex
 use Rattle.jdf_lex.specs.declared.token.TokenKind.TheVariants as kinds
@@ -16,7 +15,6 @@ use Rattle.term_core.specs.declared.operator.BinOp.{BinOp}
 use Rattle.term_core.specs.declared.operator.BinOp.TheVariants as bin
 use Rattle.term_core.specs.declared.flow.FlowKind.{FlowKind}
 use Rattle.term_core.specs.declared.flow.FlowKind.TheVariants as kind
-use Rattle.grammar_core.specs.declared.sort.Sort.TheVariants as sort
 use Rattle.grammar_core.specs.Sorts.{sort_by}
 use Rattle.grammar_core.specs.Counted.{is_name}
 use Rattle.jdf_tree.specs.declared.expression.Word.{Word}
@@ -32,17 +30,16 @@ use Rattle.jdf_tree.specs.declared.tree.Jdf.{Jdf}
 use Rattle.jdf_tree.specs.Expression.{Expression, Num, Name, Elem, Unary, Binary, Choose}
 use Rattle.jdf_tree.specs.Numbers.{decimal, has_zero_before, fits, is_number}
 use Rattle.jdf_tree.specs.ClassGrammar.{Choice}
-use Rattle.jdf_print.specs.Pieces.{Piece, token, blank, bytes_of, text, space, newline, line, between, comma, separated, with_commas}
+use Rattle.jdf_print.specs.Pieces.{Piece, token, blank, text, space, newline, line, between, comma, separated, with_commas}
 use Rattle.jdf_print.specs.Spelling as print
-use Rattle.jdf_print.proofs.Digits.{IsNumber, NumberFacts, number_facts}
-use Rattle.jdf_print.proofs.Readable.{kind_of, sort_at, is_written, IsWritten}
-use Rattle.jdf_print.proofs.Separated.{separated_is}
+use Rattle.jdf_print.proofs.Digits.{IsNumber, number_facts}
+use Rattle.jdf_print.proofs.Readable.{kind_of, IsWritten}
 use Rattle.jdf_print.proofs.Expressions.{IsMade, IsName}
 use Rattle.jdf_print.proofs.Forms.{Every, IsOuter}
 use Rattle.jdf_print.proofs.Targets.{IsArgument, IsTarget, IsChoice, IsDatatype, IsDependence, choice_of}
 use Rattle.jdf_print.proofs.Classes.{IsFlow, IsDefinition, IsParameter, IsPriority, IsInBody, IsBody, IsClass, IsJob}
 use Rattle.jdf_print.proofs.Known.{no_mark_is_name}
-use Rattle.jdf_print.proofs.Marks.{IsGap, is_started, is_opener, among, among_pairs, written_before_gap, parts_piece, left_paren, right_paren, left_bracket, right_bracket, minus_piece, not_piece, long_piece}
+use Rattle.jdf_print.proofs.Marks.{IsGap, is_started, is_opener, among, among_pairs, written_before_gap, parts_piece, left_paren, right_paren, left_bracket, right_bracket, minus_piece, not_piece}
 use Rattle.jdf_print.proofs.Lexing.{Fits, is_ascii, fits_both, both_true}
 
 -- ---- words

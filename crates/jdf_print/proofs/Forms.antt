@@ -15,17 +15,17 @@ use Rattle.jdf_tree.specs.declared.expression.Word.{Word}
 use Rattle.jdf_tree.specs.declared.part.Part.TheVariants.{Class}
 use Rattle.jdf_tree.specs.Expression.{Expression}
 use Rattle.jdf_tree.specs.Inner.{Grammar}
-use Rattle.jdf_tree.specs.Pieces.{word, after, before, any, listed, maybe, names, name, word_of}
+use Rattle.jdf_tree.specs.Pieces.{word, after, before, any, listed, names, name, word_of}
 use Rattle.jdf_tree.specs.Grammar.{inner}
 use Rattle.jdf_tree.specs.ExpressionGrammar.{outer, guard}
 use Rattle.jdf_tree.specs.ClassGrammar.{full_at}
-use Rattle.jdf_print.specs.Pieces.{Piece, token, blank, comma, separated, with_commas, line}
+use Rattle.jdf_print.specs.Pieces.{Piece, comma, with_commas, line}
 use Rattle.jdf_print.specs.Spelling as print
 use Rattle.jdf_print.specs.Same as same
 use Rattle.jdf_print.proofs.Readable.{IsLike, Reads, reads_both, sort_at, is_one}
 use Rattle.jdf_print.proofs.Limits.{no_cut}
 use Rattle.jdf_print.proofs.Spent.{weight, within_limit}
-use Rattle.jdf_print.proofs.Expressions.{Says, IsMade, IsName, Said, said, up, up_expr}
+use Rattle.jdf_print.proofs.Expressions.{Says, IsMade, IsName, said, up, up_expr}
 
 -- The tokens say a tree that is this one but for places.
 pub record Tells {A B : Type 0} (g : Grammar A) (erase : A → B) (b : B) (s r : List Token) : Type 0 where

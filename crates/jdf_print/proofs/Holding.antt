@@ -1,21 +1,20 @@
 -- What holds of each tree of a form, from what holds of those of its parts.
-use Rattle.std.proofs.Common.{◌≡◌, ℕ, suc, ◌+◌, ◌≤◌, ◌<◌, Bool, true, false, cond, List, [], ◌∷◌, length, refl, sym, subst, ◌∙◌, inl, inr, arith}
+use Rattle.std.proofs.Common.{◌≡◌, ℕ, suc, ◌+◌, ◌≤◌, Bool, true, false, cond, List, [], ◌∷◌, length, refl, sym, subst, ◌∙◌, inl, inr, arith}
 use Rattle.std.specs.Prelude.{Option, Some, None, nat_le}
 use Rattle.std.proofs.lemmas.Bool.{leb-false}
 use Rattle.jdf_lex.specs.declared.token.Token.{Token}
 use Rattle.grammar_core.specs.declared.sort.Sort.{Sort}
 use Rattle.grammar_core.specs.declared.sort.Sort.TheVariants as sort
 use Rattle.grammar_core.specs.declared.code.Code.{Code}
-use Rattle.grammar_core.specs.Sorts.{is, sort_of}
-use Rattle.grammar_core.specs.Form.{map, seq, alt, opt, star, pick, one_of, Fault, Lang, Many, Spells, taken, at_start, or_fault}
+use Rattle.grammar_core.specs.Form.{map, seq, alt, opt, star, pick, Fault, Lang, Many, Spells, taken, at_start, or_fault}
 use Rattle.jdf_tree.specs.declared.expression.Word.{Word}
 use Rattle.jdf_tree.specs.declared.part.Part.TheVariants.{Class}
 use Rattle.jdf_tree.specs.Inner.{Inner, TreeOf, Grammar}
-use Rattle.jdf_tree.specs.Pieces.{word, after, before, any, listed, maybe, or_none, name, word_of}
+use Rattle.jdf_tree.specs.Pieces.{word, after, before, any, listed, maybe, or_none, name}
 use Rattle.jdf_tree.specs.ClassGrammar.{full_at}
 use Rattle.jdf_print.proofs.Expressions.{IsName}
 use Rattle.jdf_print.proofs.Forms.{Every}
-use Rattle.jdf_print.proofs.Behind.{Behind, Shortens, spells_behind, none_then, none_or}
+use Rattle.jdf_print.proofs.Behind.{Shortens, spells_behind, none_then, none_or}
 use Rattle.jdf_print.proofs.Known.{IsKnown, name_known}
 use Rattle.jdf_print.proofs.MadeExpressions.{known_rest}
 

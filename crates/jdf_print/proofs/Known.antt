@@ -11,7 +11,7 @@ use Rattle.grammar_core.specs.declared.sort.Sort.TheVariants as sort
 use Rattle.grammar_core.specs.Sorts.{spelled, words, marks, sort_by, sort_of, is}
 use Rattle.grammar_core.specs.Counted.{is_name}
 use Rattle.jdf_tree.specs.ClassGrammar.{is_in_body}
-use Rattle.jdf_print.proofs.Readable.{IsWritten, kind_of, sort_at, like_sort}
+use Rattle.jdf_print.proofs.Readable.{IsWritten, kind_of, like_sort}
 use Rattle.jdf_print.proofs.Expressions.{IsName}
 
 -- A word of such a kind is spelled as such a word is; the others do not matter here.

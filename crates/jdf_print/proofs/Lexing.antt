@@ -1,13 +1,13 @@
 -- The text of pieces has as its tokens just their words, where each stands before what does not go on with it.
-use Rattle.std.proofs.Common.{◌≡◌, ℕ, suc, ◌+◌, ◌<◌, ◌≤◌, Bool, true, false, cond, List, [], ◌∷◌, ◌++◌, length, refl, sym, ap, subst, ◌∙◌, inl, inr, arith, append_assoc}
-use Rattle.std.specs.Prelude.{Some, nat_lt, ◌&&◌}
+use Rattle.std.proofs.Common.{◌≡◌, ℕ, ◌+◌, Bool, true, List, [], ◌∷◌, ◌++◌, length, refl, sym, ap, subst, ◌∙◌, inl, inr, arith, append_assoc}
+use Rattle.std.specs.Prelude.{nat_lt, ◌&&◌}
 use Rattle.std.specs.List.{list_all}
 use Rattle.std.proofs.lemmas.List.{append-nil}
 use Rattle.std.proofs.lemmas.List.Folds.{list_all-append}
 use Rattle.std.proofs.lemmas.Grind.{flat_map-append}
 use Rattle.jdf_lex.specs.declared.piece.Piece.TheVariants as lex
 use Rattle.jdf_lex.specs.declared.token.Token.{Token}
-use Rattle.jdf_lex.specs.Tokens.{spot_after, IsPiece, IsToken, IsLexedTo, IsLexed}
+use Rattle.jdf_lex.specs.Tokens.{spot_after, IsPiece, IsLexedTo, IsLexed}
 use Rattle.jdf_lex.specs.Tokens.IsLexedTo.{there, past_dropped, past_token}
 use Rattle.jdf_print.specs.Pieces.{Piece, token, blank, bytes_of, text, token_count}
 use Rattle.jdf_print.proofs.Readable.{kind_of, Reads}

@@ -17,3 +17,5 @@ pub mod MadeClasses
 pub mod Marks
 pub mod Lexing
 pub mod Fitting
+pub mod Tokens
+pub mod Back

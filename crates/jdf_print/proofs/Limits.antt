@@ -1,12 +1,12 @@
 -- The canonical spelling of an expression is within the limits of one that has so few names, numbers and operators.
-use Rattle.std.proofs.Common.{◌≡◌, ℕ, zero, suc, ◌+◌, ◌*◌, ◌-◌, ◌≤◌, ◌<◌, Bool, true, false, cond, List, [], ◌∷◌, ◌++◌, length, refl, sym, ap, ◌∙◌, arith}
-use Rattle.std.specs.Prelude.{Option, Some, None, nat_lt, codes}
+use Rattle.std.proofs.Common.{◌≡◌, ℕ, zero, suc, ◌+◌, ◌≤◌, Bool, true, false, cond, List, [], ◌∷◌, ◌++◌, length, refl, arith}
+use Rattle.std.specs.Prelude.{Some, None, nat_lt}
 use Rattle.jdf_lex.specs.declared.token.Token.{Token}
 use Rattle.grammar_core.specs.declared.sort.Sort.{Sort}
 use Rattle.grammar_core.specs.declared.code.Code.{Code}
 use Rattle.grammar_core.specs.Sorts.{sort_of}
-use Rattle.grammar_core.specs.Counted.{limit_at, is_counted}
-use Rattle.grammar_core.specs.Form.{Fault, cut_at, taken}
+use Rattle.grammar_core.specs.Counted.{limit_at}
+use Rattle.grammar_core.specs.Form.{Fault, cut_at}
 use Rattle.std.proofs.lemmas.Bool.{ltb-true}
 
 -- how many of the tokens are of these sorts

@@ -1,8 +1,7 @@
 -- Each tree of a text is well made.
-use Rattle.std.proofs.Common.{◌≡◌, ℕ, zero, suc, ◌+◌, ◌*◌, ◌≤◌, Bool, true, false, List, [], ◌∷◌, length, refl, sym, ap, subst, ◌∙◌, arith}
-use Rattle.std.specs.Prelude.{Option, Some, None, not, ◌&&◌}
+use Rattle.std.proofs.Common.{◌≡◌, ℕ, zero, suc, ◌+◌, ◌*◌, ◌≤◌, Bool, true, List, [], ◌∷◌, length, refl, sym, ap, subst, ◌∙◌, arith}
+use Rattle.std.specs.Prelude.{Option, Some, None, not}
 use Rattle.std.proofs.lemmas.Bool.{and_parts}
-use Rattle.jdf_lex.specs.declared.token.Spot.{Spot}
 use Rattle.jdf_lex.specs.declared.token.Token.{Token}
 use Rattle.grammar_core.specs.declared.sort.Sort.{Sort}
 use Rattle.grammar_core.specs.declared.sort.Sort.TheVariants as sort
@@ -12,7 +11,7 @@ use Rattle.grammar_core.specs.Counted.{is_name}
 use Rattle.grammar_core.specs.Form.{map, seq, alt, opt, star, pick, one_of, behind, Fault, Lang, Many, Spells, NameWithin, IsText, taken}
 use Rattle.jdf_tree.specs.declared.expression.Word.{Word}
 use Rattle.jdf_tree.specs.declared.expression.Placed.{Placed}
-use Rattle.jdf_tree.specs.declared.part.Part.TheVariants.{Class, Body}
+use Rattle.jdf_tree.specs.declared.part.Part.TheVariants.{Class}
 use Rattle.jdf_tree.specs.declared.tree.ArgTree.{ArgTree}
 use Rattle.jdf_tree.specs.declared.tree.TargetTree.{TargetTree}
 use Rattle.jdf_tree.specs.declared.tree.TargetTree.TheVariants.{New, Null}
@@ -20,8 +19,8 @@ use Rattle.jdf_tree.specs.declared.tree.ClassTree.{ClassTree}
 use Rattle.jdf_tree.specs.declared.tree.Jdf.{Jdf}
 use Rattle.jdf_tree.specs.Expression.{Expression}
 use Rattle.jdf_tree.specs.Inner.{Inner, an_expr, a_unary, an_opening, TreeOf, Grammar}
-use Rattle.jdf_tree.specs.Pieces.{word, after, before, any, listed, maybe, or_none, name, word_of}
-use Rattle.jdf_tree.specs.ExpressionGrammar.{unary, expr, outer, guard}
+use Rattle.jdf_tree.specs.Pieces.{word, after, before, any, maybe, name, word_of}
+use Rattle.jdf_tree.specs.ExpressionGrammar.{outer, guard}
 use Rattle.jdf_tree.specs.ClassGrammar as grammar
 use Rattle.jdf_tree.specs.ClassGrammar.{Choice}
 use Rattle.jdf_tree.specs.Grammar as whole
@@ -29,9 +28,9 @@ use Rattle.jdf_tree.specs.Grammar.{inner}
 use Rattle.jdf_print.proofs.Depth.{at_depth}
 use Rattle.jdf_print.proofs.Expressions.{IsName}
 use Rattle.jdf_print.proofs.Forms.{Every, IsOuter}
-use Rattle.jdf_print.proofs.Targets.{IsArgument, IsTarget, IsChoice, IsDatatype, IsDependence, choice_of}
+use Rattle.jdf_print.proofs.Targets.{IsArgument, IsTarget, IsChoice, IsDependence}
 use Rattle.jdf_print.proofs.Classes.{IsFlow, IsDefinition, IsParameter, IsPriority, IsInBody, IsBody, IsClass, IsJob}
-use Rattle.jdf_print.proofs.Behind.{Behind, Shortens, spells_behind, none_then, none_or, none_cut}
+use Rattle.jdf_print.proofs.Behind.{Shortens, spells_behind, none_then, none_cut}
 use Rattle.jdf_print.proofs.Known.{IsKnown, name_known, body_known}
 use Rattle.jdf_print.proofs.MadeExpressions as expression
 use Rattle.jdf_print.proofs.MadeExpressions.{FactsOf, OuterOf, known_rest}

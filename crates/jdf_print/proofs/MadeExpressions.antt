@@ -1,5 +1,5 @@
 -- Each expression of a text is well made, and has no more names, numbers and operators than its tokens.
-use Rattle.std.proofs.Common.{◌≡◌, ℕ, ℤ, pos, suc, ◌+◌, ◌-◌, ◌≤◌, ◌<◌, Bool, true, false, cond, List, [], ◌∷◌, ◌++◌, length, refl, sym, ap, subst, ◌∙◌, inl, inr, arith, length-append}
+use Rattle.std.proofs.Common.{◌≡◌, ℕ, pos, suc, ◌+◌, ◌≤◌, Bool, true, false, cond, List, [], ◌∷◌, ◌++◌, length, refl, sym, ap, subst, ◌∙◌, inl, inr, arith, length-append}
 use Rattle.std.specs.Prelude.{Option, Some, None, not, nat_le, ◌&&◌}
 use Rattle.std.specs.List.{list_all}
 use Rattle.std.proofs.lemmas.Bool.{and_parts, leb-true}
@@ -11,7 +11,7 @@ use Rattle.grammar_core.specs.declared.sort.Sort.TheVariants as sort
 use Rattle.grammar_core.specs.declared.code.Code.TheVariants.{BadNumber, ExprTooLong}
 use Rattle.grammar_core.specs.Sorts.{sort_of, is, within}
 use Rattle.grammar_core.specs.Counted.{is_name, is_counted, limit_at}
-use Rattle.grammar_core.specs.Form.{map, seq, one_of, opt, star, Fault, Lang, IsOne, Many, Spells, taken, bad_unless}
+use Rattle.grammar_core.specs.Form.{map, seq, one_of, opt, Fault, Lang, IsOne, Many, Spells, taken, bad_unless}
 use Rattle.grammar_core.proofs.Sets.{within_at}
 use Rattle.jdf_tree.specs.declared.expression.Word.{Word}
 use Rattle.jdf_tree.specs.declared.expression.Placed.{Placed}
@@ -19,14 +19,14 @@ use Rattle.jdf_tree.specs.declared.part.Part.TheVariants.{Class}
 use Rattle.jdf_tree.specs.Expression.{Expression, Binary}
 use Rattle.jdf_tree.specs.Numbers.{decimal, has_zero_before, fits, is_number}
 use Rattle.jdf_tree.specs.Inner.{Inner, an_expr, a_unary, TreeOf, Grammar}
-use Rattle.jdf_tree.specs.Pieces.{word, any}
-use Rattle.jdf_tree.specs.ExpressionGrammar.{placed, name_alone, operator_of, grouped, ranked, is_sign, number, reference, signed, parens, unary, is_product, is_sum, is_relation, is_equality, is_conjunction, is_disjunction, product, sum, relation, equality, conjunction, disjunction, inside, branches, chosen, expr, outer, guard}
+use Rattle.jdf_tree.specs.Pieces.{any}
+use Rattle.jdf_tree.specs.ExpressionGrammar.{name_alone, operator_of, grouped, ranked, is_sign, number, reference, signed, parens, unary, is_product, is_sum, is_relation, is_equality, is_conjunction, is_disjunction, product, sum, relation, equality, conjunction, disjunction, inside, branches, chosen, expr, outer, guard}
 use Rattle.jdf_print.proofs.Digits.{IsNumber}
 use Rattle.jdf_print.proofs.Limits.{number_of, fit_few, number_of-append}
 use Rattle.jdf_print.proofs.Spent.{weight}
 use Rattle.jdf_print.proofs.Expressions.{IsMade, IsName}
 use Rattle.jdf_print.proofs.Forms.{Every, IsOuter}
-use Rattle.jdf_print.proofs.Behind.{IsNone, Behind, Shortens, spells_behind, none_then, none_or, none_cut}
+use Rattle.jdf_print.proofs.Behind.{IsNone, Behind, Shortens, spells_behind, none_then, none_cut}
 use Rattle.jdf_print.proofs.Known.{IsKnown, name_known}
 
 -- the tokens that are left are known too

@@ -1,14 +1,14 @@
 -- What a word of the spelling is to the lexer, before the bytes that may follow it.
 use Rattle.std.proofs.Common.{◌≡◌, ℕ, Bool, true, false, cond, List, [], ◌∷◌, ◌++◌, refl, sym, ap, subst, ◌∙◌, inl, inr, arith}
-use Rattle.std.specs.Prelude.{◌⊎◌, not, ◌&&◌, ◌||◌, ◌==◌, nat_eq, nat_le, Some, IsTrue, if◌then◌else◌, codes}
-use Rattle.std.specs.List.{list_any, list_all, starts_with}
+use Rattle.std.specs.Prelude.{◌⊎◌, not, ◌&&◌, ◌||◌, ◌==◌, nat_eq, Some, if◌then◌else◌}
+use Rattle.std.specs.List.{list_any, list_all}
 use Rattle.std.proofs.lemmas.Bool.{and_parts, eqb-true}
 use Rattle.std.proofs.lemmas.List.Folds.{list_all-append}
 use Rattle.jdf_lex.specs.declared.piece.Piece.TheVariants.{Blank, Word}
 use Rattle.jdf_lex.specs.declared.token.TokenKind.TheVariants.{Name, Number, Mark, Other}
-use Rattle.jdf_lex.specs.Spelling.{is_letter, is_digit, is_part, is_blank, short_marks, long_marks, is_mark, begins_mark, begins_part, begins_option, plain_piece, first_piece, goes_on, is_spelling}
+use Rattle.jdf_lex.specs.Spelling.{is_letter, is_digit, is_part, is_blank, short_marks, long_marks, is_mark, begins_mark, begins_part, first_piece, goes_on}
 use Rattle.jdf_lex.specs.Tokens.{IsPiece}
-use Rattle.jdf_print.proofs.Readable.{kind_of, is_written, IsWritten}
+use Rattle.jdf_print.proofs.Readable.{kind_of, IsWritten}
 
 -- ---- names and numbers
 

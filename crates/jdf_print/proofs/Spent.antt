@@ -1,18 +1,16 @@
 -- How many tokens pieces have, and how many of them count for the limit of an expression.
-use Rattle.std.proofs.Common.{◌≡◌, ℕ, suc, ◌+◌, ◌*◌, ◌-◌, ◌≤◌, Bool, true, false, cond, List, [], ◌∷◌, ◌++◌, length, refl, sym, ap, subst, ◌∙◌, arith, length-append}
+use Rattle.std.proofs.Common.{◌≡◌, ℕ, ◌+◌, ◌*◌, ◌≤◌, Bool, true, false, cond, List, [], ◌∷◌, ◌++◌, length, refl, sym, ap, subst, ◌∙◌, arith, length-append}
 use Rattle.std.specs.Prelude.{codes}
 use Rattle.std.specs.Fmt.{signed_decimal}
 use Rattle.jdf_lex.specs.declared.token.Token.{Token}
-use Rattle.term_core.specs.declared.operator.UnOp.{UnOp}
-use Rattle.term_core.specs.declared.operator.BinOp.{BinOp}
 use Rattle.grammar_core.specs.declared.sort.Sort.{Sort}
-use Rattle.grammar_core.specs.Sorts.{words, marks, sort_of}
+use Rattle.grammar_core.specs.Sorts.{words, marks}
 use Rattle.grammar_core.specs.Counted.{limit_at, is_counted}
 use Rattle.grammar_core.specs.Form.{taken}
 use Rattle.jdf_tree.specs.Expression.{Expression, Num, Name, Elem, Unary, Binary, Choose}
 use Rattle.jdf_print.specs.Pieces.{Piece, token, blank, between, token_count}
 use Rattle.jdf_print.specs.Spelling as print
-use Rattle.jdf_print.proofs.Readable.{IsLike, Reads, sort_at, like_sort}
+use Rattle.jdf_print.proofs.Readable.{Reads, sort_at, like_sort}
 use Rattle.jdf_print.proofs.Limits.{number_of, few_fit}
 
 -- how many words are of these sorts

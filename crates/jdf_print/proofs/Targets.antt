@@ -1,9 +1,9 @@
 -- What the tokens of arguments and dependences say.
-use Rattle.std.proofs.Common.{◌≡◌, ℕ, ◌≤◌, ◌<◌, Bool, true, false, List, [], ◌∷◌, ◌++◌, length, map, refl, sym, ap, subst, ◌∙◌, inl, inr, append_assoc}
+use Rattle.std.proofs.Common.{◌≡◌, Bool, true, false, List, [], ◌∷◌, ◌++◌, map, refl, ap, subst, ◌∙◌, inl, inr, append_assoc}
 use Rattle.std.specs.Prelude.{Option, Some, None, option_map, codes}
 use Rattle.jdf_lex.specs.declared.token.Token.{Token}
 use Rattle.grammar_core.specs.declared.sort.Sort.TheVariants as sort
-use Rattle.grammar_core.specs.Sorts.{words, marks, sort_of, is}
+use Rattle.grammar_core.specs.Sorts.{words, marks, is}
 use Rattle.jdf_tree.specs.declared.expression.Word.{Word}
 use Rattle.jdf_tree.specs.declared.part.Part.TheVariants.{Class}
 use Rattle.jdf_tree.specs.declared.tree.ArgTree.{ArgTree}
@@ -14,11 +14,11 @@ use Rattle.jdf_tree.specs.declared.tree.DepTree.{DepTree}
 use Rattle.jdf_tree.specs.Expression.{Expression}
 use Rattle.grammar_core.specs.Form.{seq, opt, pick}
 use Rattle.jdf_tree.specs.Inner.{Grammar}
-use Rattle.jdf_tree.specs.Pieces.{word, after, before, maybe, name, word_of}
-use Rattle.jdf_tree.specs.ExpressionGrammar.{outer, guard}
+use Rattle.jdf_tree.specs.Pieces.{after, before, maybe, name, word_of}
+use Rattle.jdf_tree.specs.ExpressionGrammar.{outer}
 use Rattle.jdf_tree.specs.ClassGrammar as grammar
 use Rattle.jdf_tree.specs.ClassGrammar.{Choice}
-use Rattle.jdf_print.specs.Pieces.{Piece, token, blank, space, between, comma, with_commas}
+use Rattle.jdf_print.specs.Pieces.{Piece, token, blank, space, between, with_commas}
 use Rattle.jdf_print.specs.Spelling as print
 use Rattle.jdf_print.specs.Same as same
 use Rattle.jdf_print.specs.Same.{nowhere}

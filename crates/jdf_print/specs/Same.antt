@@ -1,5 +1,5 @@
 -- Trees that are the same but for places: each spot, and the start and end of each token, is set to one value.
-use Rattle.std.specs.Prelude.{◌≡◌, ℕ, List, map, Option, option_map}
+use Rattle.std.specs.Prelude.{◌≡◌, map, option_map}
 use Rattle.jdf_lex.specs.declared.token.Spot.{Spot}
 use Rattle.jdf_lex.specs.declared.token.Token.{Token}
 use Rattle.jdf_tree.specs.declared.expression.Word.{Word}

@@ -1,4 +1,4 @@
-use crate::print;
+use crate::{print, reads_back};
 use jdf_lex::{Spot, Token, TokenKind};
 use jdf_tree::{ArgTree, ClassTree, DefTree, DepTree, ExprTree, FlowTree, Jdf, TargetTree, Word};
 use ptg_base::{Row, Text};
@@ -159,6 +159,7 @@ fn chain_class(alloc: Global) -> Result<ClassTree, Fail> {
 
 #[test]
 fn spells_the_chain(rt: HostRuntime) -> Result<(), Fail> {
+    reads_back();
     let class = chain_class(rt.alloc())?;
     let jdf = Jdf {
         globals: words(rt.alloc(), &[b"D", b"NB"])?,
