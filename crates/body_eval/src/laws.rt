@@ -6,5 +6,4 @@ ghost use Rattle.body_eval.specs.MoreUnits.{DoesTheSame};
 pub fn more_units_change_nothing()
     ensures { (units more : ℕ) (body : Body) (locals : List ℤ) (tiles : List (Option (List ℤ)))
         → DoesTheSame units more body locals tiles }
-{
-}
+{}

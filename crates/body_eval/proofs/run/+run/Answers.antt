@@ -40,7 +40,7 @@ run_block-loop-statement-preserved t c =
     let goes = first_then-ok c.loop-statement.slots c.loop-statement.tiles c.loop-statement.left c.spend.new.left c.in_ok-spend.ensures.ok (statement_meaning c.statement-item.result) rest next c.in_ok-run_statement.ensures.ok in
     record {
       goes = sym goes ∙ sym starts ∙ c.loop-statement.invariant.goes;
-      sizes = λ flow. c.run_statement.ensures.sizes flow ∙ c.loop-statement.invariant.sizes flow
+      sizes = λ flow. c.run_statement.ensures.sizes flow ∙ c.loop-statement.invariant.sizes flow;
     }
 
 -- the values that are left at a turn: the one of the turn, and those after it
@@ -108,5 +108,5 @@ run_turns-loop-next-preserved t c =
     let goes = turns-ok block c.args.number (values_left c.loop-next.next c.args.hi) _ c.in-Some.v (values_left c.checked_add-next.result c.args.hi) c.loop-next.slots c.loop-next.tiles c.loop-next.left (coming t c) so_far c.spend.new.left next c.in_ok-spend.ensures.ok at_turn in
     record {
       goes = simp to_z-of_z goes;
-      sizes = λ flow. c.run_block.ensures.sizes flow ∙ c.loop-next.invariant.sizes flow
+      sizes = λ flow. c.run_block.ensures.sizes flow ∙ c.loop-next.invariant.sizes flow;
     }

@@ -12,16 +12,16 @@ abbrev pub invariant-run_block-loop-statement : goal.invariant-run_block-loop-st
 invariant-run_block-loop-statement l =
     record {
       goes : run (steps_of (drop l.statement-index l.statement-items)) (state_of l.slots l.tiles l.left)
-      ≡ run l.fn.block (state_of l.fn.slots l.fn.tiles l.fn.left);
-      sizes : KeepsSizes l.fn.tiles l.tiles
+          ≡ run l.fn.block (state_of l.fn.slots l.fn.tiles l.fn.left);
+      sizes : KeepsSizes l.fn.tiles l.tiles;
     }
 
 abbrev pub invariant-run_turns-loop-next : goal.invariant-run_turns-loop-next
 invariant-run_turns-loop-next l =
     record {
       goes : turns (run l.turn) l.number (values_left l.next l.hi) (state_of l.slots l.tiles l.left)
-      ≡ turns (run l.turn) l.number (turn_values l.lo l.hi) (state_of l.fn.slots l.fn.tiles l.fn.left);
-      sizes : KeepsSizes l.fn.tiles l.tiles
+          ≡ turns (run l.turn) l.number (turn_values l.lo l.hi) (state_of l.fn.slots l.fn.tiles l.fn.left);
+      sizes : KeepsSizes l.fn.tiles l.tiles;
     }
 
 abbrev pub decreases-run_turns-loop-next : goal.decreases-run_turns-loop-next
