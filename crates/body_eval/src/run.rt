@@ -1,7 +1,7 @@
 ghost use Rattle.std.specs.Prelude.{◌≡◌, ◌+◌, OnOk, IfErr, length, slice_set};
 ghost use Rattle.term_core.specs.WellBody.{IsWellBody};
 ghost use Rattle.body_eval.specs.Sizes.{KeepsSizes};
-ghost use Rattle.body_eval.specs.State.{state_of, spent};
+ghost use Rattle.body_eval.specs.State.{state_of};
 ghost use Rattle.body_eval.specs.Meaning.{run, turns, turn_values, meaning_within, body_meaning};
 ghost use Rattle.body_eval.specs.Statement.{statement_meaning};
 
