@@ -1,0 +1,241 @@
+ghost use Rattle.std.specs.Prelude.{◌≤◌, length};
+
+use crate::fault::SpanFault;
+use crate::{Space, SpaceFault, in_space, is_well_space, locals_of, space_size, steps_of};
+use ptg_base::{OutOfMemory, Row};
+use std::alloc::Global;
+use std::process::Abort;
+use std::test::Fail;
+use term_core::{BinOp, ClassSpace, Def, Expr, ExprFault, Params, Range};
+
+/// The range `lo .. hi .. step` of numbers.
+fn range(lo: i64, hi: i64, step: i64) -> Range {
+    Range {
+        lo: Expr::num(lo),
+        hi: Expr::num(hi),
+        step: Some(Expr::num(step)),
+    }
+}
+
+fn from_zero_to(hi: i64) -> Def {
+    Def::Span(range(0, hi, 1))
+}
+
+/// The class of these definitions.
+fn class(defs: Vec<Def>, params: &[u8]) -> ClassSpace
+    requires { length params.now ≤ 8 }
+{
+    ClassSpace {
+        defs: Row::of(defs),
+        params: Params::new(params),
+    }
+}
+
+/// `T(k, m)`: `k = 0 .. 2`, `s = k * 2`, `m = s .. 0 .. -1`.
+fn triangle(alloc: Global) -> Result<ClassSpace, OutOfMemory> {
+    let double = Expr::binary(alloc, BinOp::Mul, Expr::local(0), Expr::num(2))?;
+    let down = Range {
+        lo: Expr::local(1),
+        hi: Expr::num(0),
+        step: Some(Expr::num(-1)),
+    };
+    let defs = vec![in alloc; from_zero_to(2), Def::Value(double), Def::Span(down)]?;
+    Ok(class(defs, &[0, 2]))
+}
+
+/// `T(k, m)`: `k = 0 .. 2`, `m = 0 .. 6 / (1 - k)`, which has no value where k is 1.
+fn broken(alloc: Global) -> Result<ClassSpace, OutOfMemory> {
+    let rest = Expr::binary(alloc, BinOp::Sub, Expr::num(1), Expr::local(0))?;
+    let quotient = Range {
+        lo: Expr::num(0),
+        hi: Expr::binary(alloc, BinOp::Div, Expr::num(6), rest)?,
+        step: None,
+    };
+    let defs = vec![in alloc; from_zero_to(2), Def::Span(quotient)]?;
+    Ok(class(defs, &[0, 1]))
+}
+
+/// A class of 16 definitions: `d0 = 0 .. 1`, and each other one more than the one before it.
+fn long(alloc: Global) -> Result<ClassSpace, OutOfMemory> {
+    let mut defs = vec![in alloc; from_zero_to(1)]?;
+    for before in 0..15u16 {
+        let next = Expr::binary(alloc, BinOp::Add, Expr::local(before), Expr::num(1))?;
+        defs.push(Def::Value(next))?;
+    }
+    Ok(class(defs, &[0]))
+}
+
+/// All numbers that a walk gives, one task after another.
+fn walked(rt: &impl Abort, alloc: Global, space: &ClassSpace) -> Result<Vec<i64>, Fail> {
+    assert!(rt; space.defs.len() <= 16);
+    let mut out = Vec::new(alloc);
+    for params in Space::new(space) {
+        for v in params.as_slice() {
+            out.push(*v)?;
+        }
+    }
+    Ok(out)
+}
+
+fn has(rt: &impl Abort, space: &ClassSpace, params: &[i64]) -> bool {
+    assert!(rt; is_well_space(space));
+    assert_eq!(rt; params.len(), space.params.as_slice().len());
+    in_space(space, params)
+}
+
+/// The answer for one class, where a fault is told by its class and the values before it.
+fn sized(rt: &impl Abort, spaces: &[ClassSpace; 1]) -> Result<u64, SpaceFault> {
+    assert!(rt; spaces[0].defs.len() <= 16);
+    space_size(spaces)
+}
+
+#[test]
+fn values_of_ranges(rt: HostRuntime) -> Result<(), Fail> {
+    let most = i64::MAX;
+    let least = i64::MIN;
+    for (r, want) in [
+        (range(1, 4, 1), [1, 2, 3, 4].as_slice()),
+        (range(5, 1, 1), [].as_slice()),
+        (range(1, 5, -1), [].as_slice()),
+        (range(5, 1, -3), [5, 2].as_slice()),
+        (range(3, 3, 1), [3].as_slice()),
+        (range(3, 3, -7), [3].as_slice()),
+        (range(-4, 4, 3), [-4, -1, 2].as_slice()),
+        (range(most - 3, most, 2), [most - 3, most - 1].as_slice()),
+        (
+            range(least + 3, least, -2),
+            [least + 3, least + 1].as_slice(),
+        ),
+        (range(least, most, most), [least, -1, most - 1].as_slice()),
+    ] {
+        let steps = steps_of(&r, &[]).ok().ok_or("no values")?;
+        let mut out = Vec::new(rt.alloc());
+        for v in steps.values() {
+            out.push(v)?;
+        }
+        assert_eq!(rt; out.as_slice(), want, "{r:?}");
+        assert_eq!(rt; steps.count(), want.len() as u128, "{r:?}");
+    }
+    Ok(())
+}
+
+#[test]
+fn counts_and_members_by_arithmetic(rt: HostRuntime) -> Result<(), Fail> {
+    let whole = steps_of(&range(i64::MIN, i64::MAX, 1), &[])
+        .ok()
+        .ok_or("whole")?;
+    assert_eq!(rt; whole.count(), 18446744073709551616);
+    assert!(rt; whole.has(i64::MIN) && whole.has(0) && whole.has(i64::MAX));
+    let down = steps_of(&range(5, -5, -3), &[]).ok().ok_or("down")?;
+    for (v, want) in [
+        (5, true),
+        (4, false),
+        (2, true),
+        (-4, true),
+        (-5, false),
+        (-7, false),
+        (8, false),
+    ] {
+        assert_eq!(rt; down.has(v), want, "{v}");
+    }
+    let none = steps_of(&range(5, 1, 1), &[]).ok().ok_or("none")?;
+    assert_eq!(rt; (none.count(), none.has(5), none.has(1)), (0, false, false));
+    Ok(())
+}
+
+#[test]
+fn faults_of_ranges(rt: HostRuntime) -> Result<(), Fail> {
+    let alloc = rt.alloc();
+    assert_eq!(rt;
+        steps_of(&range(1, 5, 0), &[]).err(),
+        Some(SpanFault::ZeroStep)
+    );
+    let by_zero = Range {
+        lo: Expr::num(1),
+        hi: Expr::binary(alloc, BinOp::Div, Expr::num(1), Expr::local(0))?,
+        step: Some(Expr::local(0)),
+    };
+    assert_eq!(rt;
+        steps_of(&by_zero, &[0]).err(),
+        Some(SpanFault::Expr(ExprFault::Divide))
+    );
+    Ok(())
+}
+
+#[test]
+fn tasks_of_the_triangle(rt: HostRuntime) -> Result<(), Fail> {
+    let alloc = rt.alloc();
+    let space = triangle(alloc)?;
+    let tasks = walked(&rt, alloc, &space)?;
+    let want = [0, 0, 1, 2, 1, 1, 1, 0, 2, 4, 2, 3, 2, 2, 2, 1, 2, 0];
+    assert_eq!(rt; tasks.as_slice(), want.as_slice());
+    for (k, m, want) in [
+        (0, 0, true),
+        (1, 3, false),
+        (1, 2, true),
+        (2, 4, true),
+        (2, -1, false),
+        (3, 0, false),
+    ] {
+        assert_eq!(rt; has(&rt, &space, &[k, m]), want, "{k} {m}");
+    }
+    assert!(rt; is_well_space(&space));
+    assert_eq!(rt; space.params.as_slice().len(), 2);
+    assert!(rt; in_space(&space, &[2, 3]));
+    assert_eq!(rt; locals_of(&space, &[2, 3]).as_slice(), [2, 4, 3].as_slice());
+    assert_eq!(rt; sized(&rt, &[space]).ok(), Some(9));
+    Ok(())
+}
+
+#[test]
+fn classes_of_other_shapes(rt: HostRuntime) -> Result<(), Fail> {
+    let alloc = rt.alloc();
+    let one = class(Vec::new(alloc), &[]);
+    assert!(rt; walked(&rt, alloc, &one)?.is_empty());
+    assert!(rt; has(&rt, &one, &[]));
+    assert_eq!(rt; sized(&rt, &[one]).ok(), Some(1));
+    let turned = class(vec![in alloc; from_zero_to(1), from_zero_to(2)]?, &[1, 0]);
+    let want = [0, 0, 1, 0, 2, 0, 0, 1, 1, 1, 2, 1];
+    assert_eq!(rt; walked(&rt, alloc, &turned)?.as_slice(), want.as_slice());
+    assert!(rt; has(&rt, &turned, &[2, 1]) && !has(&rt, &turned, &[1, 2]));
+    let long = long(alloc)?;
+    assert!(rt; is_well_space(&long));
+    assert_eq!(rt; walked(&rt, alloc, &long)?.as_slice(), [0, 1].as_slice());
+    assert_eq!(rt; sized(&rt, &[long]).ok(), Some(2));
+    Ok(())
+}
+
+#[test]
+fn faults_of_spaces(rt: HostRuntime) -> Result<(), Fail> {
+    let alloc = rt.alloc();
+    match sized(&rt, &[broken(alloc)?]) {
+        Err(SpaceFault::BadExpr(class, begun)) => {
+            assert_eq!(rt; (class, begun.as_slice()), (0, [1].as_slice()));
+        }
+        _ => assert!(rt; false, "a value under k = 1"),
+    }
+    let still = class(vec![in alloc; Def::Span(range(0, 3, 0))]?, &[0]);
+    match sized(&rt, &[still]) {
+        Err(SpaceFault::BadExpr(class, begun)) => {
+            assert_eq!(rt; (class, begun.as_slice()), (0, [].as_slice()));
+        }
+        _ => assert!(rt; false, "a step of 0"),
+    }
+    Ok(())
+}
+
+#[test]
+fn limits_of_tasks(rt: HostRuntime) -> Result<(), Fail> {
+    let alloc = rt.alloc();
+    let square = class(
+        vec![in alloc; from_zero_to(999), from_zero_to(999)]?,
+        &[0, 1],
+    );
+    assert_eq!(rt; sized(&rt, &[square]).ok(), Some(1000000));
+    let more = class(vec![in alloc; from_zero_to(1000000)]?, &[0]);
+    match sized(&rt, &[more]) {
+        Err(SpaceFault::TooManyTasks(class)) => assert_eq!(rt; class, 0),
+        _ => assert!(rt; false, "1,000,001 tasks"),
+    }
+    Ok(())
+}
