@@ -28,13 +28,13 @@ form_fine (outermost.Expression Body) = refl
 form_fine outermost.Guard = refl
 
 -- what its limit makes of what is read
-limited_is : (o : Outermost) (s : List Token) → reading inner (limited_form o) s ≡ judge (expression_limit.at s) ExprTooLong s (reading inner (form_of o) s)
+pub limited_is : (o : Outermost) (s : List Token) → reading inner (limited_form o) s ≡ judge (expression_limit.at s) ExprTooLong s (reading inner (form_of o) s)
 unfolding outer guard
 limited_is (outermost.Expression part) s = refl
 limited_is outermost.Guard s = refl
 
 module _ (o : Outermost) where
-  form_sound : (s : List Token) → Sound (Spells (Derived inner) (form_of o)) (reading inner (form_of o)) s
+  pub form_sound : (s : List Token) → Sound (Spells (Derived inner) (form_of o)) (reading inner (form_of o)) s
   form_sound s = sound inner claims inner_fine (form_of o) (form_fine o) s
 
   module _ (w v : List Token) (wide : length w ≡ suc (expression_limit.at (w ++ v))) where
@@ -61,7 +61,7 @@ module _ (o : Outermost) where
       omega (arith, k.left, ap (λ (l : List Token). length l) k.parts, length-append k.word k.rest)
 
   -- the rest of a window, with what is behind it
-  rest_is : (w v : List Token) (t : Placed) (rest : List Token) → reading inner (form_of o) w ≡ Ok (t, rest) → drop (length w - length rest) (w ++ v) ≡ rest ++ v
+  pub rest_is : (w v : List Token) (t : Placed) (rest : List Token) → reading inner (form_of o) w ≡ Ok (t, rest) → drop (length w - length rest) (w ++ v) ≡ rest ++ v
   rest_is w v t rest e =
       let k = (form_sound w).took (t, rest) e in
       let n : length k.word ≡ length w - length rest = omega (arith, ap (λ (l : List Token). length l) k.parts, length-append k.word rest) in

@@ -1,0 +1,64 @@
+-- An expression that ends within few tokens is within the limit, whatever they are.
+use Rattle.std.proofs.Common.{◌≡◌, ℕ, zero, suc, ◌-◌, ◌+◌, ◌≤◌, ◌<◌, Bool, true, false, cond, List, [], ◌∷◌, ◌++◌, length, take, drop, append_assoc, Ok, Err, refl, sym, ap, ◌∙◌, arith}
+use Rattle.std.specs.Prelude.{◌==◌}
+use Rattle.std.proofs.lemmas.Bool.{le-ltb}
+use Rattle.std.proofs.lemmas.List.{length-append, drop_at, take-append-drop, length-take-le, take_rest}
+use Rattle.jdf_lex.specs.declared.token.Token.{Token}
+use Rattle.grammar_core.specs.declared.code.Code.TheVariants.{ExprTooLong}
+use Rattle.grammar_core.specs.declared.sort.Sort.{Sort}
+use Rattle.grammar_core.specs.Counted.{expression_limit, is_counted, limit_at}
+use Rattle.grammar_core.specs.Sorts.{sort_of}
+use Rattle.grammar_core.specs.Reading.{Read, judge, reading}
+use Rattle.grammar_core.proofs.Sound.{SameHead}
+use Rattle.jdf_tree.specs.declared.expression.Placed.{Placed}
+use Rattle.jdf_tree.specs.Grammar.{inner}
+use Rattle.expr_read.specs.declared.rank.Outermost.{Outermost}
+use Rattle.expr_read.specs.Ranks.{form_of, limited_form}
+use Rattle.expr_read.proofs.InWindow.{limited_is, form_sound, rest_is}
+
+-- the token that is too many does not stand among the first ones, where so many may be counted
+at_least : (q : Sort → Bool) (k cap n : ℕ) (s : List Token) → k ≤ cap → k ≤ n → k ≤ limit_at q cap n s
+unfolding limit_at
+at_least q zero cap n s a b = omega arith
+at_least q (suc k) zero n s a b = absurd (omega arith)
+at_least q (suc k) (suc cap) zero s a b = absurd (omega arith)
+at_least q (suc k) (suc cap) (suc n) [] a b = omega arith
+at_least q (suc k) (suc cap) (suc n) (x ∷ s) a b = go (q (sort_of x)) (limit_at q cap n s) (limit_at q cap (suc n) s) (at_least q k cap n s (omega arith) (omega arith)) (at_least q k cap (suc n) s (omega arith) (omega arith))
+  where
+    go : (c : Bool) (l m : ℕ) → k ≤ l → k ≤ m → suc k ≤ cond c (suc l) (suc m)
+    go true l m h i = omega arith
+    go false l m h i = omega arith
+
+limit_is_late : (s : List Token) → 128 ≤ expression_limit.at s
+limit_is_late s = at_least is_counted 128 512 128 s (omega arith) (omega arith)
+
+same_head : (rest v : List Token) → 0 < length rest → SameHead rest (rest ++ v)
+same_head [] v some = absurd (omega arith)
+same_head (x ∷ rest) v some = refl
+
+not_none : (rest : List Token) → false ≡ (length rest == 0) → 0 < length rest
+not_none [] e = absurd cc
+not_none (x ∷ r) e = omega arith
+
+-- what is read of few tokens is within the limit
+judged : (s : List Token) (t : Placed) (r : List Token) → length s - length r ≤ 128 → judge (expression_limit.at s) ExprTooLong s (Ok (t, r)) ≡ Ok (t, r)
+judged s t r few = let late = limit_is_late s in rw (le-ltb (expression_limit.at s) (length s - length r) (omega (arith, few, late))) refl
+
+module _ (o : Outermost) (s w v : List Token) (front : w ≡ take (128 + 1) s) (back : v ≡ drop (128 + 1) s) (long : 128 < length s) where
+  parts : s ≡ w ++ v
+  parts = sym (take-append-drop (128 + 1) s) ∙ ap (λ (l : List Token). l ++ drop (128 + 1) s) (sym front) ∙ ap (λ (l : List Token). w ++ l) (sym back)
+
+  -- an expression that ends among them, and the tokens behind it
+  pub brief_reads : (t : Placed) (rest : List Token) → reading inner (form_of o) w ≡ Ok (t, rest) → false ≡ (length rest == 0)
+      → reading inner (limited_form o) s ≡ Ok (t, take (length s - (length w - length rest)) (drop (length w - length rest) s))
+  brief_reads t rest e some =
+      let left : 0 < length rest = not_none rest some in
+      let k = (form_sound o w).took (t, rest) e in
+      let wide : length w ≡ 129 = ap (λ (l : List Token). length l) front ∙ length-take-le (128 + 1) s (omega (arith, long)) in
+      let whole : s ≡ k.word ++ (rest ++ v) = parts ∙ (ap (λ (l : List Token). l ++ v) k.parts ∙ append_assoc k.word rest v) in
+      let read : reading inner (form_of o) s ≡ Ok (t, rest ++ v) = ap (reading inner (form_of o)) whole ∙ k.same (rest ++ v) (same_head rest v left) in
+      let few : length s - length (rest ++ v) ≤ 128 =
+      omega (arith, left, wide, ap (λ (l : List Token). length l) whole, length-append k.word (rest ++ v), ap (λ (l : List Token). length l) k.parts, length-append k.word rest) in
+      let all : drop (length w - length rest) s ≡ rest ++ v = ap (λ (l : List Token). drop (length w - length rest) l) parts ∙ rest_is o w v t rest e in
+      let from : take (length s - (length w - length rest)) (drop (length w - length rest) s) ≡ rest ++ v = take_rest s (length w - length rest) ∙ all in
+      limited_is o s ∙ (ap (λ (r : Read Placed). judge (expression_limit.at s) ExprTooLong s r) read ∙ (judged s t (rest ++ v) few ∙ ap (λ (l : List Token). Ok (t, l)) (sym from)))
