@@ -21,7 +21,7 @@ may_order classes (Element coll indices) = false
 may_order classes New = false
 may_order classes Null = false
 
--- a tile comes from one flow with a tile, never from a range of tasks, or from an element, or is new, or there is none
+-- a tile comes from a flow with a tile, of one task and not of a range of tasks, or from an element, or is new, or there is none
 abbrev pub may_read : List ClassPlan → Target → Bool
 may_read classes (Task class flow args) = is_data (kind_of classes class flow) && not (list_any is_span args)
 may_read classes (Element coll indices) = true
