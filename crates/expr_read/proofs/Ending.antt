@@ -19,7 +19,7 @@ use Rattle.jdf_tree.proofs.Fine.{inner_fine}
 use Rattle.expr_read.specs.declared.rank.Outermost.TheVariants as outermost
 use Rattle.expr_read.specs.Front.{IsEnd, IsFirstFaultOf}
 use Rattle.expr_read.proofs.InWindow.{form_fine}
-use Rattle.expr_read.proofs.Limits.{inner_limits, outer_limits}
+use Rattle.jdf_tree.proofs.Limits.{inner_limits, outer_limits}
 
 outer_fine : (part : Part) → is_fine claims (outer part) ≡ true
 unfolding outer

@@ -3,6 +3,5 @@ pub mod Brief
 pub mod Digits
 pub mod Ending
 pub mod InWindow
-pub mod Limits
 pub mod Loops
 pub mod Named

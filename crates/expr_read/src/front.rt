@@ -19,8 +19,8 @@ fn part_of(elements: bool) -> Part
     if elements { Part::Body } else { Part::Class }
 }
 
-// The fault at the token of this number, or behind the last one.
-fn fault_at(tokens: &[Token], finish: Spot, place: usize, code: Code) -> JdfFault
+/// The fault of this code at the token of number `place`, or at `finish` where that is behind the last one.
+pub fn fault_at(tokens: &[Token], finish: Spot, place: usize, code: Code) -> JdfFault
     ensures { result ≡ fault_at tokens.now finish place code }
 {
     let spot = match tokens.get(place) {

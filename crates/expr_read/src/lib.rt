@@ -10,6 +10,6 @@ mod rank;
 mod tests;
 mod window;
 
-pub use front::read_expr;
+pub use front::{fault_at, read_expr};
 pub use names::{is_name_next, name};
 pub use window::{guard, outer};

@@ -10,4 +10,6 @@ pub enum Code {
     TooManyLocals,
     TooManyFlows,
     TooManyDeps,
+    TooDeep,
+    TooManyVars,
 }

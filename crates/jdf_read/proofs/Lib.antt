@@ -2,7 +2,6 @@ pub mod Begins
 pub mod File
 pub mod Limits
 pub mod Listed
-pub mod Lists
 pub mod Once
 pub mod Openings
 pub mod Parts

@@ -15,7 +15,7 @@ use Rattle.jdf_tree.specs.declared.part.Part.TheVariants.{Class}
 use Rattle.jdf_tree.specs.ClassGrammar.{argument, arguments, arrow, is_arrow, dependence, dependences, kind_of_flow, is_kind, flow, flows, definition, definitions, head, class, full_at}
 use Rattle.jdf_tree.specs.Grammar.{inner, skip, class_and_skips, classes}
 use Rattle.jdf_read.specs.Next.{next_argument, next_parameter, is_skip}
-use Rattle.jdf_read.proofs.Lists.{rest_of, some_begin, some_fail, counted, counted_begins, counted_behind_one}
+use Rattle.jdf_tree.proofs.Lists.{rest_of, some_begin, some_fail, counted, counted_begins, counted_behind_one}
 use Rattle.jdf_tree.specs.Pieces.{any, name, names, listed}
 
 pub arguments_listed : IsListed inner next_argument (is sort.Comma)

@@ -49,7 +49,7 @@ fn next_argument(alloc: Global, tokens: &[Token]) -> Result<(ArgTree, &[Token]),
 }
 
 /// `argument ("," argument)*`
-#[tactic(auto, using(crate::proofs::Listed::arguments_listed, crate::proofs::Listed::arguments_behind, crate::proofs::Listed::arguments_fail, crate::proofs::Lists::rest_goes_on, crate::proofs::Lists::rest_fails, crate::proofs::Lists::rest_ends))]
+#[tactic(auto, using(crate::proofs::Listed::arguments_listed, crate::proofs::Listed::arguments_behind, crate::proofs::Listed::arguments_fail, jdf_tree::proofs::Lists::rest_goes_on, jdf_tree::proofs::Lists::rest_fails, jdf_tree::proofs::Lists::rest_ends))]
 fn arguments(alloc: Global, tokens: &[Token]) -> Result<(Row<ArgTree>, &[Token]), ReadError>
     ensures { Gives (λ x. (x.0, x.1.now)) result (reading inner arguments tokens.now) }
 {

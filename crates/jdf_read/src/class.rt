@@ -120,7 +120,7 @@ fn class_and_skips(alloc: Global, tokens: &[Token]) -> Result<(ClassTree, &[Toke
 }
 
 /// The classes of a text, with what is skipped behind each.
-#[tactic(auto, using(crate::proofs::Listed::classes_listed, crate::proofs::Listed::classes_behind, crate::proofs::Listed::classes_fail, crate::proofs::Lists::counted_fails, crate::proofs::Lists::counted_is_full, crate::proofs::Lists::counted_ends))]
+#[tactic(auto, using(crate::proofs::Listed::classes_listed, crate::proofs::Listed::classes_behind, crate::proofs::Listed::classes_fail, jdf_tree::proofs::Lists::counted_fails, jdf_tree::proofs::Lists::counted_is_full, jdf_tree::proofs::Lists::counted_ends))]
 pub(crate) fn classes(
     alloc: Global,
     tokens: &[Token],

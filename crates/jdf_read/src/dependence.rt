@@ -140,7 +140,7 @@ fn dependence(alloc: Global, tokens: &[Token]) -> Result<(DepTree, &[Token]), Re
 }
 
 /// The dependences of a flow.
-#[tactic(auto, using(crate::proofs::Listed::dependences_listed, crate::proofs::Listed::dependences_begin, crate::proofs::Lists::counted_goes_on, crate::proofs::Lists::counted_fails, crate::proofs::Lists::counted_is_full, crate::proofs::Lists::counted_ends))]
+#[tactic(auto, using(crate::proofs::Listed::dependences_listed, crate::proofs::Listed::dependences_begin, jdf_tree::proofs::Lists::counted_goes_on, jdf_tree::proofs::Lists::counted_fails, jdf_tree::proofs::Lists::counted_is_full, jdf_tree::proofs::Lists::counted_ends))]
 pub(crate) fn dependences(
     alloc: Global,
     tokens: &[Token],

@@ -66,7 +66,7 @@ fn flow(alloc: Global, tokens: &[Token]) -> Result<(FlowTree, &[Token]), ReadErr
 }
 
 /// The flows of a class.
-#[tactic(auto, using(crate::proofs::Listed::flows_listed, crate::proofs::Listed::flows_begin, crate::proofs::Lists::counted_goes_on, crate::proofs::Lists::counted_fails, crate::proofs::Lists::counted_is_full, crate::proofs::Lists::counted_ends))]
+#[tactic(auto, using(crate::proofs::Listed::flows_listed, crate::proofs::Listed::flows_begin, jdf_tree::proofs::Lists::counted_goes_on, jdf_tree::proofs::Lists::counted_fails, jdf_tree::proofs::Lists::counted_is_full, jdf_tree::proofs::Lists::counted_ends))]
 pub(crate) fn flows(alloc: Global, tokens: &[Token]) -> Result<(Row<FlowTree>, &[Token]), ReadError>
     ensures { Gives (λ x. (x.0, x.1.now)) result (reading inner flows tokens.now) }
 {

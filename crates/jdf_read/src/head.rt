@@ -37,7 +37,7 @@ fn next_parameter(alloc: Global, tokens: &[Token]) -> Result<(Word, &[Token]), R
 }
 
 // `name ("," name)*`
-#[tactic(auto, using(crate::proofs::Listed::parameters_listed, crate::proofs::Listed::parameters_behind, crate::proofs::Listed::parameters_fail, crate::proofs::Lists::rest_goes_on, crate::proofs::Lists::rest_fails, crate::proofs::Lists::rest_ends))]
+#[tactic(auto, using(crate::proofs::Listed::parameters_listed, crate::proofs::Listed::parameters_behind, crate::proofs::Listed::parameters_fail, jdf_tree::proofs::Lists::rest_goes_on, jdf_tree::proofs::Lists::rest_fails, jdf_tree::proofs::Lists::rest_ends))]
 fn names(alloc: Global, tokens: &[Token]) -> Result<(Row<Word>, &[Token]), ReadError>
     ensures { Gives (λ x. (x.0, x.1.now)) result (reading inner (listed (name Class)) tokens.now) }
 {
@@ -158,7 +158,7 @@ fn definition(alloc: Global, tokens: &[Token]) -> Result<(DefTree, &[Token]), Re
 }
 
 /// The definitions of a class.
-#[tactic(auto, using(crate::proofs::Listed::definitions_listed, crate::proofs::Listed::definitions_begin, crate::proofs::Lists::counted_goes_on, crate::proofs::Lists::counted_fails, crate::proofs::Lists::counted_is_full, crate::proofs::Lists::counted_ends))]
+#[tactic(auto, using(crate::proofs::Listed::definitions_listed, crate::proofs::Listed::definitions_begin, jdf_tree::proofs::Lists::counted_goes_on, jdf_tree::proofs::Lists::counted_fails, jdf_tree::proofs::Lists::counted_is_full, jdf_tree::proofs::Lists::counted_ends))]
 pub(crate) fn definitions(
     alloc: Global,
     tokens: &[Token],

@@ -1,1 +1,3 @@
 pub mod Fine
+pub mod Limits
+pub mod Lists

@@ -67,7 +67,7 @@ one_operator o p e = sym (back o) ∙ ap (λ (n : ℕ). get_or operators n Add) 
 spot_code : Coded Spot
 spot_code = code_by (ℕ × ℕ) (coded× coded_ℕ coded_ℕ) (λ s. (s.line, s.column)) (λ p. record { line = p.0; column = p.1 }) (λ _. refl)
 
-word_code : Coded Word
+pub word_code : Coded Word
 word_code = code_by (List ℕ × Spot) (coded× (coded_list coded_ℕ) spot_code) (λ w. (w.text, w.spot)) (λ p. record { text = p.0; spot = p.1 }) (λ _. refl)
 
 -- an expression as a tree of numbers

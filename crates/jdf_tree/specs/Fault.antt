@@ -32,6 +32,8 @@ code_at_token code.TooManyParams = jdf.TooManyParams
 code_at_token code.TooManyLocals = jdf.TooManyLocals
 code_at_token code.TooManyFlows = jdf.TooManyFlows
 code_at_token code.TooManyDeps = jdf.TooManyDeps
+code_at_token code.TooDeep = jdf.TooDeep
+code_at_token code.TooManyVars = jdf.TooManyVars
 
 -- The first fault of the grammar is this one: at a token, or behind the last one, where the text is cut short.
 pub record IsGrammarFault (tokens : List Token) (end : Spot) (fault : JdfFault) : Type 0 where

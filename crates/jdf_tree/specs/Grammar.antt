@@ -13,10 +13,11 @@ use Rattle.jdf_tree.specs.declared.part.Part.{Part}
 use Rattle.jdf_tree.specs.declared.part.Part.TheVariants.{Class, Body}
 use Rattle.jdf_tree.specs.declared.tree.ClassTree.{ClassTree}
 use Rattle.jdf_tree.specs.declared.tree.Jdf.{Jdf}
-use Rattle.jdf_tree.specs.Inner.{Inner, an_expr, a_unary, an_opening, TreeOf, Grammar}
+use Rattle.jdf_tree.specs.Inner.{Inner, an_expr, a_unary, an_opening, a_block, TreeOf, Grammar}
 use Rattle.jdf_tree.specs.Pieces.{word, any, names, name, word_of}
 use Rattle.jdf_tree.specs.ExpressionGrammar.{unary, expr, is_product, is_sum, is_relation, is_equality, is_conjunction, is_disjunction}
 use Rattle.jdf_tree.specs.ClassGrammar.{full_at, is_no_right_bracket, class}
+use Rattle.jdf_tree.specs.BodyGrammar.{begins_statement, block_behind}
 
 -- skip = extern Quoted Raw | OptionLine
 unfoldable pub skip : Grammar Token
@@ -72,6 +73,7 @@ unfoldable pub inner : (n : Inner) → Grammar (TreeOf n)
 inner (an_expr part) = expr part
 inner (a_unary part) = unary part
 inner an_opening = opening
+inner a_block = block_behind
 
 -- what an operand begins with
 abbrev pub begins_operand : Part → Sort → Bool
@@ -95,11 +97,13 @@ abbrev pub begins : Inner → Sort → Bool
 begins (an_expr part) k = begins_operand part k
 begins (a_unary part) k = begins_operand part k
 begins an_opening k = begins_opening k
+begins a_block k = begins_statement k || is sort.RightBrace k
 
 abbrev pub goes_on : Inner → Sort → Bool
 goes_on (an_expr part) k = is_operator k || goes_on_name part k
 goes_on (a_unary part) k = goes_on_name part k
 goes_on an_opening k = begins_opening k
+goes_on a_block k = false
 
 abbrev pub claims : Claims Inner
 claims = record { firsts = begins; goes_on = goes_on }

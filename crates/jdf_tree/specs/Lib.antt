@@ -2,10 +2,16 @@ pub mod Expression
 pub mod ExpressionCode
 pub mod NodeExpression
 pub mod Numbers
+pub mod Statements
+pub mod StatementsCode
+pub mod BlockStatements
+pub mod BlockFalls
 pub mod Inner
 pub mod Pieces
 pub mod ExpressionGrammar
 pub mod ClassGrammar
+pub mod BodyLimits
+pub mod BodyGrammar
 pub mod Grammar
 pub mod Jdf
 pub mod Fault

@@ -17,5 +17,7 @@ pub fn code_at_token(code: Code) -> JdfCode
         Code::TooManyLocals => JdfCode::TooManyLocals,
         Code::TooManyFlows => JdfCode::TooManyFlows,
         Code::TooManyDeps => JdfCode::TooManyDeps,
+        Code::TooDeep => JdfCode::TooDeep,
+        Code::TooManyVars => JdfCode::TooManyVars,
     }
 }

@@ -1,11 +1,13 @@
 //! The tree of a JDF text, and the grammar that says which tree a text has.
 #![tactic(auto)]
 
+mod body;
 mod code;
 mod expression;
 mod part;
 mod tree;
 
+pub use body::{BlockTree, StmtTree};
 pub use code::code_at_token;
 pub use expression::{ExprNode, ExprTree, Placed, Word};
 pub use part::Part;

@@ -4,7 +4,7 @@ use Rattle.grammar_core.proofs.Loops.{so_far}
 use Rattle.jdf_tree.specs.ClassGrammar.{arguments}
 use Rattle.jdf_tree.specs.Grammar.{inner}
 use Rattle.jdf_read.specs.Next.{next_argument}
-use Rattle.jdf_read.proofs.Lists.{rest_of}
+use Rattle.jdf_tree.proofs.Lists.{rest_of}
 use Rattle.jdf_read.proofs.argument.arguments.Given as goal
 
 abbrev pub invariant-more : goal.invariant-more

@@ -3,7 +3,7 @@ use Rattle.grammar_core.specs.declared.code.Code.TheVariants.{TooManyClasses}
 use Rattle.grammar_core.specs.Reading.{reading}
 use Rattle.grammar_core.proofs.Loops.{so_far}
 use Rattle.jdf_tree.specs.Grammar.{inner, class_and_skips, classes}
-use Rattle.jdf_read.proofs.Lists.{counted}
+use Rattle.jdf_tree.proofs.Lists.{counted}
 use Rattle.jdf_read.proofs.class.classes.Given as goal
 
 abbrev pub invariant-more : goal.invariant-more

@@ -3,7 +3,7 @@ use Rattle.grammar_core.specs.declared.code.Code.TheVariants.{TooManyDeps}
 use Rattle.grammar_core.specs.Reading.{starts}
 use Rattle.jdf_tree.specs.ClassGrammar.{is_arrow}
 use Rattle.jdf_tree.specs.ClassGrammar.{dependence}
-use Rattle.jdf_read.proofs.Lists.{list_moves, counted_goes_on, longer}
+use Rattle.jdf_tree.proofs.Lists.{list_moves, counted_goes_on, longer}
 use Rattle.jdf_read.proofs.Listed.{dependences_listed}
 use Rattle.jdf_read.proofs.dependence.dependences.Goals as goal
 

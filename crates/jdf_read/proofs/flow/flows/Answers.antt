@@ -3,7 +3,7 @@ use Rattle.grammar_core.specs.declared.code.Code.TheVariants.{TooManyFlows}
 use Rattle.grammar_core.specs.Reading.{starts}
 use Rattle.jdf_tree.specs.ClassGrammar.{is_kind}
 use Rattle.jdf_tree.specs.ClassGrammar.{flow}
-use Rattle.jdf_read.proofs.Lists.{list_moves, counted_goes_on, longer}
+use Rattle.jdf_tree.proofs.Lists.{list_moves, counted_goes_on, longer}
 use Rattle.jdf_read.proofs.Listed.{flows_listed}
 use Rattle.jdf_read.proofs.flow.flows.Goals as goal
 

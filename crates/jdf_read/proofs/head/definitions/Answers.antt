@@ -4,7 +4,7 @@ use Rattle.grammar_core.specs.Reading.{starts}
 use Rattle.jdf_tree.specs.declared.part.Part.TheVariants.{Class}
 use Rattle.jdf_tree.specs.Pieces.{names}
 use Rattle.jdf_tree.specs.ClassGrammar.{definition}
-use Rattle.jdf_read.proofs.Lists.{list_moves, counted_goes_on, longer}
+use Rattle.jdf_tree.proofs.Lists.{list_moves, counted_goes_on, longer}
 use Rattle.jdf_read.proofs.Listed.{definitions_listed}
 use Rattle.jdf_read.proofs.head.definitions.Goals as goal
 

@@ -4,7 +4,7 @@ use Rattle.grammar_core.specs.Reading.{reading}
 use Rattle.grammar_core.proofs.Loops.{so_far}
 use Rattle.jdf_tree.specs.ClassGrammar.{definition, definitions}
 use Rattle.jdf_tree.specs.Grammar.{inner}
-use Rattle.jdf_read.proofs.Lists.{counted}
+use Rattle.jdf_tree.proofs.Lists.{counted}
 use Rattle.jdf_read.proofs.head.definitions.Given as goal
 
 abbrev pub invariant-more : goal.invariant-more

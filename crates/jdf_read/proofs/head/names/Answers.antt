@@ -1,6 +1,6 @@
 use Rattle.std.proofs.Common.{arith}
 use Rattle.jdf_read.specs.Next.{next_parameter}
-use Rattle.jdf_read.proofs.Lists.{list_moves}
+use Rattle.jdf_tree.proofs.Lists.{list_moves}
 use Rattle.jdf_read.proofs.Listed.{parameters_listed}
 use Rattle.jdf_read.proofs.head.names.Goals as goal
 

@@ -5,7 +5,7 @@ use Rattle.jdf_tree.specs.declared.part.Part.TheVariants.{Class}
 use Rattle.jdf_tree.specs.Pieces.{name, listed}
 use Rattle.jdf_tree.specs.Grammar.{inner}
 use Rattle.jdf_read.specs.Next.{next_parameter}
-use Rattle.jdf_read.proofs.Lists.{rest_of}
+use Rattle.jdf_tree.proofs.Lists.{rest_of}
 use Rattle.jdf_read.proofs.head.names.Given as goal
 
 abbrev pub invariant-more : goal.invariant-more

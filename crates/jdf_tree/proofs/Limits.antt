@@ -6,9 +6,10 @@ use Rattle.grammar_core.specs.Predictive.{is_limit, are_limits}
 use Rattle.grammar_core.proofs.Whole.{LimitsOnly}
 use Rattle.jdf_tree.specs.declared.part.Part.{Part}
 use Rattle.jdf_tree.specs.declared.part.Part.TheVariants.{Class, Body}
-use Rattle.jdf_tree.specs.Inner.{Inner, an_expr, a_unary, an_opening}
+use Rattle.jdf_tree.specs.Inner.{Inner, an_expr, a_unary, an_opening, a_block}
 use Rattle.jdf_tree.specs.ExpressionGrammar.{number, parens, index, reference, signed, unary, product, sum, relation, equality, conjunction, disjunction, branches, expr, outer, guard}
 use Rattle.jdf_tree.specs.ClassGrammar.{full_at, argument, arguments, call, called, target, unguarded, guarded, arrow, datatype, dependence, dependences, kind_of_flow, flow, flows, parameters, parameter_list, definition, definitions, affinity, priority, properties, body_tokens, body, head, rest, class}
+use Rattle.jdf_tree.specs.BodyGrammar.{block, value, declaration, element, assignment, condition, otherwise, choice, for_loop, stop, statement, statements, block_behind, text, body as body_text}
 use Rattle.jdf_tree.specs.Grammar.{skip, class_and_skips, classes, behind_extern, behind_option, behind_properties, behind_global, opening, inner}
 
 -- ---- expressions
@@ -181,12 +182,75 @@ classes_limits : LimitsOnly classes
 unfolding classes
 classes_limits = (class_and_skips_limits, (class_and_skips_limits, from_number 63 _ refl))
 
-opening_limits : LimitsOnly opening
+pub opening_limits : LimitsOnly opening
 unfolding opening behind_extern behind_option behind_properties behind_global
 opening_limits = ((tt, (tt, tt)), (tt, (classes_limits, ((tt, (tt, ((tt, λ i. refl), tt))), tt))))
+
+-- ---- bodies
+
+block_limits : LimitsOnly block
+unfolding block
+block_limits = tt
+
+value_limits : LimitsOnly value
+unfolding value
+value_limits = (tt, (outer_limits Body, tt))
+
+declaration_limits : LimitsOnly declaration
+unfolding declaration
+declaration_limits = (tt, (tt, value_limits))
+
+element_limits : LimitsOnly element
+unfolding element
+element_limits = (tt, (outer_limits Body, tt))
+
+assignment_limits : LimitsOnly assignment
+unfolding assignment
+assignment_limits = (tt, (element_limits, value_limits))
+
+condition_limits : LimitsOnly condition
+unfolding condition
+condition_limits = (tt, (outer_limits Body, tt))
+
+otherwise_limits : LimitsOnly otherwise
+unfolding otherwise
+otherwise_limits = (tt, block_limits)
+
+choice_limits : LimitsOnly choice
+unfolding choice
+choice_limits = (tt, (condition_limits, (block_limits, otherwise_limits)))
+
+for_loop_limits : LimitsOnly for_loop
+unfolding for_loop
+for_loop_limits = (tt, (tt, ((tt, outer_limits Body), ((tt, outer_limits Body), block_limits))))
+
+stop_limits : LimitsOnly stop
+unfolding stop
+stop_limits = (tt, (tt, tt))
+
+statement_limits : LimitsOnly statement
+unfolding statement
+statement_limits = (declaration_limits, (choice_limits, (for_loop_limits, (stop_limits, assignment_limits))))
+
+statements_limits : LimitsOnly statements
+unfolding statements
+statements_limits = (statement_limits, λ i. refl)
+
+block_behind_limits : LimitsOnly block_behind
+unfolding block_behind
+block_behind_limits = (statements_limits, tt)
+
+pub text_limits : LimitsOnly text
+unfolding text
+text_limits = (block_limits, statements_limits)
+
+pub body_text_limits : LimitsOnly body_text
+unfolding body_text
+body_text_limits = ((text_limits, refl), refl)
 
 pub inner_limits : (n : Inner) → LimitsOnly (inner n)
 unfolding inner
 inner_limits (an_expr part) = expr_limits part
 inner_limits (a_unary part) = unary_limits part
 inner_limits an_opening = opening_limits
+inner_limits a_block = block_behind_limits

@@ -1,0 +1,164 @@
+-- The two limits of a body as one: the first of their places, and the code that goes with it.
+use Rattle.std.proofs.Common.{◌≡◌, ℕ, suc, ◌-◌, ◌+◌, ◌≤◌, ◌<◌, Bool, true, false, cond, List, [], ◌∷◌, ◌++◌, length, take, drop, Ok, Err, refl, inl, inr, sym, ap, ◌∙◌, arith}
+use Rattle.std.specs.Prelude.{◌==◌, nat_lt, nat_le, min, if◌then◌else◌}
+use Rattle.std.proofs.lemmas.Bool.{le-ltb, lt-ltb, cases_lt}
+use Rattle.std.proofs.lemmas.Bool.Decides.{nat_tests}
+use Rattle.jdf_lex.specs.declared.token.Token.{Token}
+use Rattle.grammar_core.specs.declared.code.Code.{Code}
+use Rattle.grammar_core.specs.declared.code.Code.TheVariants.{TooDeep, TooManyVars}
+use Rattle.grammar_core.specs.Form.{Limit, Spells, Derived}
+use Rattle.grammar_core.specs.Predictive.{is_fine}
+use Rattle.grammar_core.specs.Reading.{Stop, Read, judge, reading}
+use Rattle.grammar_core.proofs.Sound.{Sound}
+use Rattle.grammar_core.proofs.Whole.{sound}
+use Rattle.jdf_tree.specs.BodyLimits.{block_limit, variable_limit}
+use Rattle.jdf_tree.specs.ExpressionGrammar.{number, parens, index, reference, signed, unary, product, sum, relation, equality, conjunction, disjunction, branches, expr, outer}
+use Rattle.jdf_tree.specs.BodyGrammar.{block, value, declaration, element, assignment, condition, otherwise, choice, for_loop, stop, statement, statements, block_behind, text, body}
+use Rattle.jdf_tree.specs.Grammar.{inner, claims}
+use Rattle.jdf_tree.specs.Statements.{Statements}
+use Rattle.jdf_tree.proofs.Fine.{inner_fine}
+use Rattle.body_read.proofs.Windows as windows
+
+pub text_fine : is_fine claims text ≡ true
+unfolding text block statements statement declaration choice for_loop stop assignment element value condition otherwise outer expr branches disjunction conjunction equality relation sum product unary signed number reference index parens
+text_fine = refl
+
+text_sound : (s : List Token) → Sound (Spells (Derived inner) text) (reading inner text) s
+text_sound s = sound inner claims inner_fine text text_fine s
+
+-- ---- the first of two limits
+
+lower_one : (a b : ℕ) → 1 ≤ a → 1 ≤ b → 1 ≤ min a b
+lower_one a b h k = omega arith
+
+lower_stays : (n a b a' b' : ℕ) → (a ≡ n → a' ≡ n) → (b ≡ n → b' ≡ n) → (n ≤ a → n ≤ a') → (n ≤ b → n ≤ b') → min a b ≡ n → min a' b' ≡ n
+lower_stays n a b a' b' f g f' g' e = go (nat_le a b) refl
+  where
+    go : (t : Bool) → nat_le a b ≡ t → min a' b' ≡ n
+    go true h =
+        let le : a ≤ b = grind (arith, nat_tests) in
+        let x = f (omega (arith, e, le)) in let y = g' (omega (arith, e, le)) in omega (arith, x, y)
+    go false h =
+        let lt : b < a = grind (arith, nat_tests) in
+        let x = g (omega (arith, e, lt)) in let y = f' (omega (arith, e, lt)) in omega (arith, x, y)
+
+pub both : Limit
+both =
+    record {
+      at = λ s. min (block_limit.at s) (variable_limit.at s);
+      one = λ s. lower_one (block_limit.at s) (variable_limit.at s) (block_limit.one s) (variable_limit.one s);
+      keeps = λ w r r' h.
+          let a = block_limit.keeps w r r' (omega (arith, h)) in let b = variable_limit.keeps w r r' (omega (arith, h)) in omega (arith, a, b);
+      stays = λ w x r r' h.
+          lower_stays (length w) (block_limit.at (w ++ x ∷ r)) (variable_limit.at (w ++ x ∷ r)) (block_limit.at (w ++ x ∷ r')) (variable_limit.at (w ++ x ∷ r'))
+          (block_limit.stays w x r r') (variable_limit.stays w x r r') (block_limit.keeps w (x ∷ r) (x ∷ r')) (variable_limit.keeps w (x ∷ r) (x ∷ r')) h;
+    }
+
+-- the code that goes with the first of the places
+abbrev pub code_of : List Token → Code
+code_of s = if nat_le (block_limit.at s) (variable_limit.at s) then TooDeep else TooManyVars
+
+abbrev failed : Stop → Read Statements
+failed n = Err n
+
+abbrev left_of : Read Statements → ℕ
+left_of (Ok x) = 0
+left_of (Err n) = n.0
+
+-- ---- one limit after another
+
+yes_le : (a b : ℕ) → a ≤ b → nat_le a b ≡ true
+yes_le a b h = grind (arith, nat_tests)
+
+no_le : (a b : ℕ) → b < a → nat_le a b ≡ false
+no_le a b h = grind (arith, nat_tests)
+
+-- what a limit makes of reading that took n of so many tokens
+abbrev limit : {A : Type 0} → ℕ → ℕ → Code → ℕ → Read A → Read A
+limit size l e n r = cond (nat_lt l n) (Err (size - l, e)) r
+
+module _ {A : Type 0} (a b size : ℕ) (c d : Code) where
+  passed : (n : ℕ) → n ≤ size → (r : Read A) → a < n → limit {A = A} size b d (size - (size - a)) (Err (size - a, c)) ≡ limit size (min a b) (cond (nat_le a b) c d) n r
+  passed n fits r h = elim (cases_lt b a) [
+    | inl lt ↦
+        let low : min a b ≡ b = omega (arith, lt) in
+        let again : size - (size - a) ≡ a = omega (arith, h, fits) in
+        rw (again, low, no_le a b lt, lt-ltb b a lt, lt-ltb b n (omega (arith, lt, h))) refl
+    | inr le ↦
+        let low : min a b ≡ a = omega (arith, le) in
+        let again : size - (size - a) ≡ a = omega (arith, h, fits) in
+        rw (again, low, yes_le a b le, le-ltb b a le, lt-ltb a n h) refl
+  ]
+
+  kept : (n : ℕ) (r : Read A) → n ≤ a → limit size b d n r ≡ limit size (min a b) (cond (nat_le a b) c d) n r
+  kept n r h = elim (cases_lt b n) [
+    | inl lt ↦
+        let low : min a b ≡ b = omega (arith, lt, h) in
+        rw (low, no_le a b (omega (arith, lt, h)), lt-ltb b n lt) refl
+    | inr le ↦ rw (le-ltb b n le, le-ltb (min a b) n (omega (arith, le, h))) refl
+  ]
+
+pub one_limit : {A : Type 0} (a b : ℕ) (c d : Code) (s : List Token) (r : Read A) → judge b d s (judge a c s r) ≡ judge (min a b) (cond (nat_le a b) c d) s r
+one_limit {A} a b c d s (Ok x) = elim (cases_lt a (length s - length x.1)) [
+  | inl lt ↦ rw (lt-ltb a (length s - length x.1) lt) (passed a b (length s) c d (length s - length x.1) (omega arith) (Ok x) lt)
+  | inr le ↦ rw (le-ltb a (length s - length x.1) le) (kept a b (length s) c d (length s - length x.1) (Ok x) le)
+]
+one_limit {A} a b c d s (Err e) = elim (cases_lt a (length s - e.0)) [
+  | inl lt ↦ rw (lt-ltb a (length s - e.0) lt) (passed a b (length s) c d (length s - e.0) (omega arith) (Err e) lt)
+  | inr le ↦ rw (le-ltb a (length s - e.0) le) (kept a b (length s) c d (length s - e.0) (Err e) le)
+]
+
+judged : (s : List Token) → reading inner body s ≡ judge (both.at s) (code_of s) s (reading inner text s)
+unfolding body both
+judged s = one_limit (block_limit.at s) (variable_limit.at s) TooDeep TooManyVars s (reading inner text s)
+
+-- ---- a body in its window
+
+pub short : (s : List Token) → length s ≤ min (block_limit.at s) (variable_limit.at s) → reading inner body s ≡ reading inner text s
+unfolding both
+short s le = windows.short both code_of (Spells (Derived inner) text) (reading inner text) text_sound (reading inner body) judged s le
+
+pub text_within : (s : List Token) (n : ℕ) (d : Code) → reading inner text s ≡ Err (n, d) → n ≤ length s
+text_within s n d e = windows.fault_within both code_of (Spells (Derived inner) text) (reading inner text) text_sound (reading inner body) judged s n d e
+
+module _ (s w v : List Token) (limit : ℕ) (is_limit : limit ≡ min (block_limit.at s) (variable_limit.at s)) (front : w ≡ take (limit + 1) s) (back : v ≡ drop (limit + 1) s) (long : limit < length s) where
+  pub slice : (t : Statements) (rest : List Token) → reading inner text w ≡ Ok (t, rest) → false ≡ (length rest == 0)
+      → reading inner body s ≡ Ok (t, take (length s - (length w - length rest)) (drop (length w - length rest) s))
+  unfolding both
+  slice t rest e some = windows.slice both code_of (Spells (Derived inner) text) (reading inner text) text_sound (reading inner body) judged s w v limit is_limit front back long t rest e some
+
+  pub fault : (n : ℕ) (d : Code) → 0 < n → reading inner text w ≡ Err (n, d) → reading inner body s ≡ Err (n + length v, d)
+  unfolding both
+  fault n d some e = windows.fault both code_of (Spells (Derived inner) text) (reading inner text) text_sound (reading inner body) judged s w v limit is_limit front back long n d some e
+
+  cut : ((t : Statements) (rest : List Token) → 0 < length rest → reading inner text w ≡ Ok (t, rest) → ⊥) → ((n : Stop) → 0 < n.0 → reading inner text w ≡ Err n → ⊥) → reading inner body s ≡ Err (length s - limit, code_of s)
+  unfolding both
+  cut a b = windows.cut both code_of (Spells (Derived inner) text) (reading inner text) text_sound (reading inner body) judged s w v limit is_limit front back long a b
+
+  -- what was read up to the end of the window and no further
+  pub cut_behind : (t : Statements) (rest : List Token) → reading inner text w ≡ Ok (t, rest) → true ≡ (length rest == 0) → reading inner body s ≡ Err (length s - limit, code_of s)
+  cut_behind t rest e none = cut (λ t' rest' some e'. absurd (some_left t' rest' some e')) (λ n some e'. absurd (no_err n e'))
+    where
+      same : (x y : Statements × List Token) → reading inner text w ≡ Ok x → reading inner text w ≡ Ok y → x ≡ y
+      same x y e f = let g : Ok x ≡ Ok y = sym e ∙ f in cc
+
+      some_left : (t' : Statements) (rest' : List Token) → 0 < length rest' → reading inner text w ≡ Ok (t', rest') → ⊥
+      some_left t' rest' some e' =
+          let g : length rest ≡ length rest' = ap (λ (x : Statements × List Token). length x.1) (same (t, rest) (t', rest') e e') in
+          let z : length rest ≡ 0 = grind (arith, nat_tests) in omega (arith, g, z, some)
+
+      no_err : (n : Stop) → reading inner text w ≡ Err n → ⊥
+      no_err n e' = cc
+
+  pub cut_at_fault : (d : Code) → reading inner text w ≡ Err (0, d) → reading inner body s ≡ Err (length s - limit, code_of s)
+  cut_at_fault d e = cut (λ t rest some e'. absurd (no_ok t rest e')) (λ n some e'. absurd (left n some e'))
+    where
+      no_ok : (t : Statements) (rest : List Token) → reading inner text w ≡ Ok (t, rest) → ⊥
+      no_ok t rest e' = cc
+
+      left : (n : Stop) → 0 < n.0 → reading inner text w ≡ Err n → ⊥
+      left n some e' =
+          let same : n.0 ≡ 0 = stop_of n (0, d) (sym e' ∙ e) in omega (arith, same, some)
+        where
+          stop_of : (n m : Stop) → failed n ≡ failed m → n.0 ≡ m.0
+          stop_of n m e = ap left_of e

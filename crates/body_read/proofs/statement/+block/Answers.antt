@@ -1,0 +1,31 @@
+use Rattle.std.proofs.Common.{◌<◌, ◌≤◌, length, sym, ◌∙◌, arith}
+use Rattle.grammar_core.specs.declared.sort.Sort.TheVariants as sort
+use Rattle.grammar_core.specs.Sorts.{is}
+use Rattle.jdf_tree.specs.declared.part.Part.TheVariants.{Body}
+use Rattle.jdf_tree.specs.Pieces.{name}
+use Rattle.jdf_tree.specs.ExpressionGrammar.{outer}
+use Rattle.jdf_tree.specs.BodyGrammar.{statement}
+use Rattle.jdf_tree.proofs.Lists.{list_moves}
+use Rattle.body_read.proofs.Begins.{token_shrinks, reading_shrinks, statements_listed, statements_go_on}
+use Rattle.body_read.proofs.statement.+block.Goals as goal
+
+pub for_loop-block-requires : goal.for_loop-block-requires
+for_loop-block-requires t c =
+    let a = token_shrinks (is sort.For) c.args.tokens.now _ _ c.in_ok-rest.ensures in
+    let b = reading_shrinks (name Body) c.in_ok-rest.rest.now _ _ c.in_ok-name.ensures in
+    let d = token_shrinks (is sort.Assign) c.in_ok-name.rest.now _ _ c.in_ok-rest-2.ensures in
+    let e = reading_shrinks (outer Body) c.in_ok-rest-2.rest.now _ _ c.in_ok-low.ensures in
+    let f = token_shrinks (is sort.Dots) c.in_ok-low.rest.now _ _ c.in_ok-rest-3.ensures in
+    let g = reading_shrinks (outer Body) c.in_ok-rest-3.rest.now _ _ c.in_ok-high.ensures in
+    (omega (arith, a, b, d, e, f, g), tt)
+
+pub statements-more-smaller : goal.statements-more-smaller
+statements-more-smaller t c = omega (arith, list_moves {g = statement} _ _ _ statements_listed c.in_ok-next.ensures)
+
+pub statements-more-preserved : goal.statements-more-preserved
+statements-more-preserved t c =
+    let moved = list_moves {g = statement} _ _ _ statements_listed c.in_ok-next.ensures in
+    record {
+      reads = statements_go_on c.more.list c.more.rest.now c.in_ok-next.next c.in_ok-next.after.now _ c.push.new.self c.in_ok-push.ensures.ok (sym c.is_statement_next.ensures ∙ c.more-test.true) c.in_ok-next.ensures c.more.invariant.reads;
+      shorter = omega (arith, moved, c.more.invariant.shorter);
+    }

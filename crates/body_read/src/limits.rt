@@ -1,0 +1,75 @@
+//! Where a body passes its limits.
+
+ghost use Rattle.std.specs.Prelude.{◌≡◌, ◌<◌, ◌-◌, ◌&&◌, nat_le, length, drop, if◌then◌else◌};
+ghost use Rattle.grammar_core.specs.declared.sort.Sort.TheVariants.{LeftBrace};
+ghost use Rattle.grammar_core.specs.Reading.{starts};
+ghost use Rattle.grammar_core.specs.Sorts.{is};
+ghost use Rattle.jdf_tree.specs.BodyLimits.{block_limit, variable_limit, declares, most_blocks};
+
+use grammar_core::{Sort, is_next};
+use jdf_lex::Token;
+
+/// How many blocks may be open before one more is opened. The braces around a whole body do not count.
+const MOST_BLOCKS: usize = 32;
+
+/// How many variables a body may declare.
+const MOST_VARIABLES: usize = 256;
+
+// 1 where it holds, to count.
+fn one_if(holds: bool) -> usize
+    ensures { result ≡ (if holds then 1 else 0) }
+{
+    if holds { 1 } else { 0 }
+}
+
+// How many blocks may be open in a body that begins so, before one more is opened.
+fn most_blocks(tokens: &[Token]) -> usize
+    ensures { result ≡ most_blocks tokens.now }
+{
+    if is_next(tokens, Sort::LeftBrace) {
+        MOST_BLOCKS + 1
+    } else {
+        MOST_BLOCKS
+    }
+}
+
+// Does a variable's declaration come next, or a loop?
+fn is_variable_next(tokens: &[Token]) -> bool
+    ensures { result ≡ starts declares tokens.now }
+{
+    is_next(tokens, Sort::Int) || is_next(tokens, Sort::For)
+}
+
+/// The place of the first brace that opens a block too deep, or one behind all tokens.
+pub(crate) fn block_limit(tokens: &[Token]) -> usize
+    ensures { result ≡ block_limit.at tokens.now }
+{
+    let most = most_blocks(tokens);
+    let mut opened: usize = 0;
+    let mut closed: usize = 0;
+    for place in 0..tokens.len() {
+        let rest = &tokens[place..];
+        let opens = is_next(rest, Sort::LeftBrace);
+        if opens && opened.saturating_sub(closed) >= most {
+            return place;
+        }
+        opened += one_if(opens);
+        closed += one_if(is_next(rest, Sort::RightBrace));
+    }
+    tokens.len() + 1
+}
+
+/// The place of the first declaration that is too many, or one behind all tokens.
+pub(crate) fn variable_limit(tokens: &[Token]) -> usize
+    ensures { result ≡ variable_limit.at tokens.now }
+{
+    let mut declared: usize = 0;
+    for place in 0..tokens.len() {
+        let declares = is_variable_next(&tokens[place..]);
+        if declares && declared >= MOST_VARIABLES {
+            return place;
+        }
+        declared += one_if(declares);
+    }
+    tokens.len() + 1
+}

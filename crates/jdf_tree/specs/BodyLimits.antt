@@ -1,0 +1,52 @@
+-- How deep blocks of a body may nest, and how many variables it may declare. Both are this project's own choice.
+use Rattle.std.specs.Prelude.{◌≡◌, ℕ, ◌-◌, Bool, true, false, nat_le, ◌&&◌, ◌||◌, List, [], if◌then◌else◌, count_by, refl}
+use Rattle.jdf_lex.specs.declared.token.Token.{Token}
+use Rattle.grammar_core.specs.declared.sort.Sort.{Sort}
+use Rattle.grammar_core.specs.declared.sort.Sort.TheVariants as sort
+use Rattle.grammar_core.specs.Sorts.{sort_of, is}
+use Rattle.grammar_core.specs.Form.{Limit}
+use Rattle.grammar_core.specs.LimitBy.{limit_by}
+use Rattle.grammar_core.specs.Reading.{starts}
+
+-- how many of the tokens are of these sorts
+abbrev pub how_many : (Sort → Bool) → List Token → ℕ
+how_many q s = count_by (λ x. q (sort_of x)) s
+
+-- how many blocks are open behind these tokens
+abbrev pub open_blocks : List Token → ℕ
+open_blocks s = how_many (is sort.LeftBrace) s - how_many (is sort.RightBrace) s
+
+-- how many may be open before a brace that opens one more: 32, and the braces around a whole body do not count
+abbrev pub most_blocks : List Token → ℕ
+most_blocks s = if starts (is sort.LeftBrace) s then 33 else 32
+
+-- a brace is too deep where as many blocks are open before it as may be
+unfoldable pub is_too_deep : List Token → Token → Bool
+is_too_deep front x = is sort.LeftBrace (sort_of x) && nat_le (most_blocks front) (open_blocks front)
+
+-- the words behind which a variable is named
+abbrev pub declares : Sort → Bool
+declares k = is sort.Int k || is sort.For k
+
+-- a declaration is too many where 256 stand before it
+unfoldable pub is_too_many : List Token → Token → Bool
+is_too_many front x = declares (sort_of x) && nat_le 256 (how_many declares front)
+
+never : (b : Bool) → (b && false) ≡ false
+never b = elim b as (λ v. (v && false) ≡ false) [ true ↦ refl | false ↦ refl ]
+
+pub none_too_deep : (x : Token) → is_too_deep [] x ≡ false
+unfolding is_too_deep
+none_too_deep x = never (is sort.LeftBrace (sort_of x))
+
+pub none_too_many : (x : Token) → is_too_many [] x ≡ false
+unfolding is_too_many
+none_too_many x = never (declares (sort_of x))
+
+-- at most 32 blocks inside one another
+unfoldable pub block_limit : Limit
+block_limit = limit_by is_too_deep none_too_deep
+
+-- at most 256 variables
+unfoldable pub variable_limit : Limit
+variable_limit = limit_by is_too_many none_too_many
