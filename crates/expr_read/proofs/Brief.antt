@@ -1,12 +1,14 @@
 -- An expression that ends within few tokens is within the limit, whatever they are.
-use Rattle.std.proofs.Common.{◌≡◌, ℕ, zero, suc, ◌-◌, ◌+◌, ◌≤◌, ◌<◌, Bool, true, false, cond, List, [], ◌∷◌, ◌++◌, length, take, drop, append_assoc, Ok, Err, refl, sym, ap, ◌∙◌, arith}
+use Rattle.std.proofs.Common.{◌≡◌, ℕ, zero, suc, ◌-◌, ◌+◌, ◌≤◌, ◌<◌, Bool, min, true, false, List, [], ◌∷◌, ◌++◌, length, take, drop, get_or, append_assoc, Ok, Err, refl, sym, ap, ◌∙◌, arith}
 use Rattle.std.specs.Prelude.{◌==◌}
 use Rattle.std.proofs.lemmas.Bool.{le-ltb}
 use Rattle.std.proofs.lemmas.List.{length-append, drop_at, take-append-drop, length-take-le, take_rest}
 use Rattle.jdf_lex.specs.declared.token.Token.{Token}
 use Rattle.grammar_core.specs.declared.code.Code.TheVariants.{ExprTooLong}
 use Rattle.grammar_core.specs.declared.sort.Sort.{Sort}
-use Rattle.grammar_core.specs.Counted.{expression_limit, is_counted, limit_at}
+use Rattle.grammar_core.specs.Counted.{expression_limit, is_counted}
+use Rattle.grammar_core.specs.TooMany.{places, limit_at}
+use Rattle.grammar_core.specs.CountedLimit.{places_none, places_kept, places_passed, not_before}
 use Rattle.grammar_core.specs.Sorts.{sort_of}
 use Rattle.grammar_core.specs.Reading.{Read, judge, reading}
 use Rattle.grammar_core.proofs.Sound.{SameHead}
@@ -16,18 +18,20 @@ use Rattle.expr_read.specs.declared.rank.Outermost.{Outermost}
 use Rattle.expr_read.specs.Ranks.{form_of, limited_form}
 use Rattle.expr_read.proofs.InWindow.{limited_is, form_sound, rest_is}
 
--- the token that is too many does not stand among the first ones, where so many may be counted
+-- the token that is too many does not stand among the next ones, where so many more may be counted
+at_least_from : (q : Sort → Bool) (k i cap n : ℕ) (s : List Token) → i + k ≤ cap → k ≤ n → i + k ≤ min cap (get_or (places q i s) n cap)
+at_least_from q zero i cap n s a b = omega (arith, not_before q s i n cap)
+at_least_from q (suc k) i cap zero s a b = absurd (omega arith)
+at_least_from q (suc k) i cap (suc n) [] a b = rw (places_none q i) (omega arith)
+at_least_from q (suc k) i cap (suc n) (x ∷ s) a b = go (q (sort_of x)) refl (at_least_from q k (i + 1) cap n s (omega arith) (omega arith)) (at_least_from q k (i + 1) cap (suc n) s (omega arith) (omega arith))
+  where
+    go : (c : Bool) → q (sort_of x) ≡ c → i + 1 + k ≤ min cap (get_or (places q (i + 1) s) n cap) → i + 1 + k ≤ min cap (get_or (places q (i + 1) s) (suc n) cap) → i + suc k ≤ min cap (get_or (places q i (x ∷ s)) (suc n) cap)
+    go true e f g = rw (places_kept q i x s e) (omega arith)
+    go false e f g = rw (places_passed q i x s e) (omega arith)
+
 at_least : (q : Sort → Bool) (k cap n : ℕ) (s : List Token) → k ≤ cap → k ≤ n → k ≤ limit_at q cap n s
 unfolding limit_at
-at_least q zero cap n s a b = omega arith
-at_least q (suc k) zero n s a b = absurd (omega arith)
-at_least q (suc k) (suc cap) zero s a b = absurd (omega arith)
-at_least q (suc k) (suc cap) (suc n) [] a b = omega arith
-at_least q (suc k) (suc cap) (suc n) (x ∷ s) a b = go (q (sort_of x)) (limit_at q cap n s) (limit_at q cap (suc n) s) (at_least q k cap n s (omega arith) (omega arith)) (at_least q k cap (suc n) s (omega arith) (omega arith))
-  where
-    go : (c : Bool) (l m : ℕ) → k ≤ l → k ≤ m → suc k ≤ cond c (suc l) (suc m)
-    go true l m h i = omega arith
-    go false l m h i = omega arith
+at_least q k cap n s a b = omega (arith, at_least_from q k 0 cap n s (omega arith) b)
 
 limit_is_late : (s : List Token) → 128 ≤ expression_limit.at s
 limit_is_late s = at_least is_counted 128 512 128 s (omega arith) (omega arith)

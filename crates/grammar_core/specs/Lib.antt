@@ -2,6 +2,8 @@ pub mod Sorts
 pub mod Form
 pub mod Reading
 pub mod Predictive
+pub mod TooMany
+pub mod CountedLimit
 pub mod Counted
 pub mod LimitBy
 pub mod Gives

@@ -1,4 +1,4 @@
-use Rattle.std.proofs.Common.{◌<◌, arith}
+use Rattle.std.proofs.Common.{◌+◌, ◌-◌, arith}
 use Rattle.grammar_core.specs.Counted.{is_counted}
 use Rattle.grammar_core.proofs.Counting.{found, all_passed, none_follows, stops_here, one_counted, one_passed}
 use Rattle.grammar_core.proofs.limit.expression_limit.Goals as goal
@@ -6,30 +6,29 @@ use Rattle.grammar_core.proofs.limit.expression_limit.Goals.{then-is_counted+els
 
 pub returns-then-place-eq-MOST_TOKENS : goal.returns-then-place-eq-MOST_TOKENS
 returns-then-place-eq-MOST_TOKENS c =
-    let i = c.loop-place.invariant in all_passed is_counted c.args.tokens.now c.loop-place.place c.loop-place.counted _ i.few i.left i.same (omega arith)
+    all_passed is_counted c.args.tokens.now 512 128 c.loop-place.place (128 - c.loop-place.counted) c.loop-place.invariant.same (omega arith)
 
 pub returns : goal.returns
 returns c =
-    let i = c.loop-place.invariant in none_follows is_counted c.args.tokens.now c.loop-place.place c.loop-place.counted _ i.few i.left i.same (omega arith)
+    none_follows is_counted c.args.tokens.now 512 128 c.loop-place.place (128 - c.loop-place.counted) c.loop-place.invariant.same (omega arith)
 
 pub returns-then-counted-eq-MOST_COUNTED : goal.returns-then-counted-eq-MOST_COUNTED
 returns-then-counted-eq-MOST_COUNTED c =
     let i = c.loop-place.invariant in
-    stops_here is_counted c.args.tokens.now c.loop-place.place c.loop-place.counted _ i.few i.left i.same c.index-tokens-place.result
+    stops_here is_counted c.args.tokens.now 512 128 c.loop-place.place (128 - c.loop-place.counted) i.same c.index-tokens-place.result
     c.loop-place-test.true (omega arith) (omega arith) (found _ _ _ _ _ c.index-tokens-place.is c.of.ensures c.is_counted.ensures c.if-is_counted.true)
 
 pub loop-place-preserved : goal.loop-place-preserved
 loop-place-preserved c =
     let i = c.loop-place.invariant in
     let d = c.index-tokens-place.result in
-    let here : c.loop-place.place < 512 = omega arith in
     elim c.if-is_counted.branch [
       | then-is_counted+else-counted-eq-MOST_COUNTED w ↦
           record {
             few = omega arith;
             left = omega arith;
             same =
-                rw w.counted-is (one_counted is_counted c.args.tokens.now c.loop-place.place c.loop-place.counted _ i.few i.left i.same d c.loop-place-test.true here (omega arith)
+                rw w.counted-is (one_counted is_counted c.args.tokens.now 512 128 c.loop-place.place (128 - c.loop-place.counted) i.same d c.loop-place-test.true (128 - (c.loop-place.counted + 1)) (omega arith)
                 (found _ _ _ _ _ c.index-tokens-place.is c.of.ensures c.is_counted.ensures w.if-is_counted.true));
           }
       | else-is_counted w ↦
@@ -37,7 +36,7 @@ loop-place-preserved c =
             few = omega arith;
             left = omega arith;
             same =
-                rw w.counted-is (one_passed is_counted c.args.tokens.now c.loop-place.place c.loop-place.counted _ i.few i.left i.same d c.loop-place-test.true here
+                rw w.counted-is (one_passed is_counted c.args.tokens.now 512 128 c.loop-place.place (128 - c.loop-place.counted) i.same d c.loop-place-test.true
                 (found _ _ _ _ _ c.index-tokens-place.is c.of.ensures c.is_counted.ensures w.if-is_counted.false));
           }
     ]

@@ -1,11 +1,12 @@
-use Rattle.std.proofs.Common.{◌≡◌, ◌≤◌, ◌+◌, ◌-◌, drop}
-use Rattle.grammar_core.specs.Counted.{limit_at, is_counted}
+use Rattle.std.proofs.Common.{◌≡◌, ◌≤◌, ◌-◌, drop, get_or}
+use Rattle.grammar_core.specs.Counted.{is_counted}
+use Rattle.grammar_core.specs.TooMany.{places}
 use Rattle.grammar_core.proofs.limit.expression_limit.Given as goal
 
--- the limit is as far on as the tokens from here on say
+-- the token after 128 that are counted is the one that is behind as many from here on as are left
 abbrev pub invariant-loop-place : goal.invariant-loop-place
 invariant-loop-place l = record {
   few : l.place ≤ 512;
   left : l.counted ≤ 128;
-  same : l.place + limit_at is_counted (512 - l.place) (128 - l.counted) (drop l.place l.tokens) ≡ limit_at is_counted 512 128 l.tokens;
+  same : get_or (places is_counted l.place (drop l.place l.tokens)) (128 - l.counted) 512 ≡ get_or (places is_counted 0 l.tokens) 128 512;
 }
