@@ -1,11 +1,10 @@
 -- Data are what the lines of their text say.
-use Rattle.std.proofs.Common.{◌≡◌, ℕ, ◌*◌, ◌≤◌, List, [], ◌∷◌, ◌++◌, length, map, codes, IsTrue, All, filter, sum_by, sym, ◌∙◌, ap, subst, inl, inr}
-use Rattle.std.specs.List.{AllZip}
+use Rattle.std.proofs.Common.{◌≡◌, ℕ, ◌*◌, ◌≤◌, List, [], ◌∷◌, ◌++◌, map, codes, sym, ◌∙◌, ap, subst, inl, inr}
 use Rattle.std.proofs.lemmas.List.{append-nil, append_assoc, append_cancel_right}
 use Rattle.coll_data.specs.declared.given.Given.{Given}
-use Rattle.coll_data.specs.ByLines.{Line, lines_of, HasFirstLine, SaysInt, SaysColl, HaveTilesOf, TilesAreBehind, is_of_name}
+use Rattle.coll_data.specs.ByLines.{Line, HasFirstLine, AreOfThreeKinds, AreInts, AreColls, AreTiles, TilesAreBehind, AreNamedApart, HaveRoom}
 use Rattle.coll_data.specs.Data.{Draft, AddsInt, AddsColl, AddsTile, Adds, AddsAll, IsElems, AreData, IsData, IsLined, begun, data_of, fields_of}
-use Rattle.coll_data.proofs.SoFar.{AreSoFar, is_known, tiles_in, none_so_far, int_so_far, coll_so_far}
+use Rattle.coll_data.proofs.SoFar.{AreSoFar, none_so_far, int_so_far, coll_so_far}
 use Rattle.coll_data.proofs.TileLine.{tile_so_far}
 
 -- ---- from line to line
@@ -53,14 +52,14 @@ lines_keep old last (line ∷ lines) adds = lines_keep adds.0 last lines adds.2 
 -- ---- all lines
 
 pub record AreSaid (first : Line) (lines : List Line) (given : Given) : Type 0 where
-  pub kinds : All (λ line. IsTrue (is_known line)) lines
+  pub kinds : AreOfThreeKinds lines
   pub elems : IsElems first given.elems
-  pub ints : AllZip SaysInt (lines_of (codes "int") lines) given.ints
-  pub colls : AllZip SaysColl (lines_of (codes "coll") lines) given.colls
-  pub tiles : HaveTilesOf lines given.elems given.colls
+  pub ints : AreInts lines given.ints
+  pub colls : AreColls lines given.colls
+  pub tiles : AreTiles lines given.elems given.colls
   pub behind : TilesAreBehind lines
-  pub names : (name : List ℕ) → length (filter (is_of_name name) lines) ≤ 1
-  pub room : sum_by tiles_in given.colls * given.elems ≤ 16777216
+  pub names : AreNamedApart lines
+  pub room : HaveRoom given.elems given.colls
 
 said_by : (first : Line) (lines : List Line) (last : Draft) → IsElems first last.elems → AreSoFar lines last → AreSaid first lines (data_of last)
 said_by first lines last elems are = record {

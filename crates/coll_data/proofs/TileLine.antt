@@ -10,12 +10,12 @@ use Rattle.std.proofs.lemmas.List.Quantifiers.{position-Some}
 use Rattle.std.proofs.lemmas.List.Sums.{sum_by-set}
 use Rattle.std.proofs.lemmas.Option.{same_Some}
 use Rattle.coll_data.specs.declared.given.Coll.{Coll}
-use Rattle.coll_data.specs.ByLines.{Line, begins, lines_of, SaysInt, SaysColl, whole_of, is_of_tile, IsTileOf, HaveTilesOf, SayTile, TilesAreBehind, is_of_name}
+use Rattle.coll_data.specs.ByLines.{Line, begins, lines_of, SaysInt, SaysColl, whole_of, is_of_tile, IsTileOf, AreTiles, IsBehindColl, TilesAreBehind, is_of_name}
 use Rattle.coll_data.specs.Data.{Draft, IsFree, Opens}
 use Rattle.coll_data.specs.Fields.{is_digit, are_digits, digits_value, IsWhole}
 use Rattle.coll_data.proofs.Known.{of_coll, position_set}
-use Rattle.coll_data.proofs.Lists.{got_set, zip_set, zip_at, pass_none, pass_first, passes_within, cut_push}
-use Rattle.coll_data.proofs.SoFar.{AreSoFar, is_known, tiles_in}
+use Rattle.coll_data.proofs.Lists.{no_more, pass_one, got_set, zip_set, zip_at, pass_none, pass_first, passes_within, cut_push}
+use Rattle.coll_data.proofs.SoFar.{AreFlags, flags_kept, AreSoFar, is_known, tiles_in}
 use Rattle.coll_data.proofs.Tiles.{got_within, got_is}
 
 -- ---- the number that a field spells
@@ -40,9 +40,6 @@ spells field z whole = by_cases field whole.1
 
 same_pos : (m n : ℕ) → pos m ≡ pos n → m ≡ n
 same_pos m n same = cc
-
-same_fields : (name number other other_number : List ℕ) (values more : List (List ℕ)) → ◌≡◌ {A = Line} (codes "tile" ∷ name ∷ number ∷ values) (codes "tile" ∷ other ∷ other_number ∷ more) → (name ≡ other) × (number ≡ other_number)
-same_fields name number other other_number values more same = (cc, cc)
 
 -- ---- a line of a free tile
 
@@ -86,12 +83,18 @@ module _ (lines : List Line) (old : Draft) (name number : List ℕ) (values : Li
 
   -- ---- the tiles
 
+  old_flags : AreFlags lines free.coll free.flags
+  old_flags = are.flags at free.coll free.flags free.found free.marks
+
+  some_there : filter (is_of_tile free.coll.name place) (lines ++ line ∷ []) ≡ [] → ⊥
+  some_there none = no_more (filter (is_of_tile free.coll.name place) lines) [] line (sym none ∙ pass_one (is_of_tile free.coll.name place) lines line is_this)
+
   tiles_there : (i : ℕ) (t : List ℤ) → slice_get (set free.coll.tiles place tile) i ≡ Some t → IsTileOf old.elems (filter (is_of_tile free.coll.name i) (lines ++ line ∷ [])) t
   tiles_there i t got =
       elim (got_set free.coll.tiles place i tile t got) [
         | inl new ↦
             let only : filter (is_of_tile free.coll.name place) (lines ++ line ∷ []) ≡ line ∷ [] =
-            pass_first (is_of_tile free.coll.name place) lines line is_this (are.unopened at free.coll free.flags free.found free.marks place free.once) in
+            pass_first (is_of_tile free.coll.name place) lines line is_this (old_flags.clear place free.once) in
             let here : IsTileOf old.elems (filter (is_of_tile free.coll.name place) (lines ++ line ∷ [])) tile =
             subst (λ ls. IsTileOf old.elems ls tile) (sym only) opens in
             subst (λ z. IsTileOf old.elems (filter (is_of_tile free.coll.name i) (lines ++ line ∷ [])) z) new.1
@@ -101,7 +104,7 @@ module _ (lines : List Line) (old : Draft) (name number : List ℕ) (values : Li
             (are.tiles at free.coll free.found i t other.1)
       ]
 
-  tiles_so_far : HaveTilesOf (lines ++ line ∷ []) old.elems (set old.colls at opened_coll)
+  tiles_so_far : AreTiles (lines ++ line ∷ []) old.elems (set old.colls at opened_coll)
   tiles_so_far k coll got i t put =
       elim (got_set old.colls at k opened_coll coll got) [
         | inl here ↦
@@ -111,58 +114,63 @@ module _ (lines : List Line) (old : Draft) (name number : List ℕ) (values : Li
             (are.tiles k coll other.1 i t put)
       ]
 
-  unopened_there : (flags : List Bool) (i : ℕ) → set free.flags place true ≡ flags → slice_get flags i ≡ Some false → filter (is_of_tile free.coll.name i) (lines ++ line ∷ []) ≡ []
-  unopened_there flags i marked clear =
-      elim (got_set free.flags place i true false (ap (λ fs. slice_get fs i) marked ∙ clear)) [
-        | inl here ↦ absurd (let never : true ≡ false = here.1 in cc)
-        | inr other ↦
-            pass_none (is_of_tile free.coll.name i) lines line (other_index free.coll.name i other.0)
-            ∙ are.unopened at free.coll free.flags free.found free.marks i other.1
-      ]
+  flags_there : AreFlags (lines ++ line ∷ []) opened_coll (set free.flags place true)
+  flags_there = record {
+    size = length-set free.flags place true ∙ old_flags.size ∙ sym (length-set free.coll.tiles place tile);
+    clear = λ i off.
+        elim (got_set free.flags place i true false off) [
+          | inl here ↦ absurd (false≢true (sym here.1))
+          | inr other ↦ pass_none (is_of_tile free.coll.name i) lines line (other_index free.coll.name i other.0) ∙ old_flags.clear i other.1
+        ];
+    set = λ i on none.
+        elim (got_set free.flags place i true true on) [
+          | inl here ↦ some_there (subst (λ k. filter (is_of_tile free.coll.name k) (lines ++ line ∷ []) ≡ []) here.0 none)
+          | inr other ↦ old_flags.set i other.1 (sym (pass_none (is_of_tile free.coll.name i) lines line (other_index free.coll.name i other.0)) ∙ none)
+        ];
+  }
 
-  unopened_so_far : (k : ℕ) (coll : Coll) (flags : List Bool) → slice_get (set old.colls at opened_coll) k ≡ Some coll
-      → slice_get (set old.given at (set free.flags place true)) k ≡ Some flags
-      → (i : ℕ) → slice_get flags i ≡ Some false → filter (is_of_tile coll.name i) (lines ++ line ∷ []) ≡ []
-  unopened_so_far k coll flags got marks i clear =
+  flags_so_far : (k : ℕ) (coll : Coll) (flags : List Bool) → slice_get (set old.colls at opened_coll) k ≡ Some coll
+      → slice_get (set old.given at (set free.flags place true)) k ≡ Some flags → AreFlags (lines ++ line ∷ []) coll flags
+  flags_so_far k coll flags got marks =
       elim (got_set old.colls at k opened_coll coll got) [
         | inl here ↦
             elim (got_set old.given at k (set free.flags place true) flags marks) [
-              | inl marked ↦ subst (λ (c : Coll). filter (is_of_tile c.name i) (lines ++ line ∷ []) ≡ []) here.1 (unopened_there flags i marked.1 clear)
+              | inl marked ↦ subst (λ (c : Coll). AreFlags (lines ++ line ∷ []) c flags) here.1 (subst (AreFlags (lines ++ line ∷ []) opened_coll) marked.1 flags_there)
               | inr other ↦ absurd (other.0 here.0)
             ]
         | inr other ↦
             elim (got_set old.given at k (set free.flags place true) flags marks) [
               | inl marked ↦ absurd (other.0 marked.0)
-              | inr unmarked ↦
-                  pass_none (is_of_tile coll.name i) lines line (other_coll k coll i other.1 other.0) ∙ are.unopened k coll flags other.1 unmarked.1 i clear
+              | inr unmarked ↦ flags_kept lines line coll flags (λ i. other_coll k coll i other.1 other.0) (are.flags k coll flags other.1 unmarked.1)
             ]
       ]
 
   -- ---- the other lines
 
-  said : SayTile lines name place
-  said =
+  is_behind : IsBehindColl lines line
+  is_behind =
       let found = zip_at SaysColl (lines_of (codes "coll") lines) old.colls at free.coll are.colls free.found in
       let says : SaysColl found.0 free.coll = found.2 in
       let spelled : found.0 ≡ codes "coll" ∷ name ∷ says.number ∷ [] = says.spelled ∙ ap (λ n. codes "coll" ∷ n ∷ says.number ∷ []) same_name in
       record {
-        number = says.number;
+        name = name;
+        number = number;
+        values = values;
+        i = place;
+        size = says.number;
         count = length free.coll.tiles;
-        said = subst (Contains lines) spelled (passes_within (begins (codes "coll")) lines found.0 found.1);
+        spelled = refl;
+        index = free.index;
+        coll = subst (Contains lines) spelled (passes_within (begins (codes "coll")) lines found.0 found.1);
         whole = says.whole;
         inside = free.inside;
       }
 
   behind_so_far : TilesAreBehind (lines ++ line ∷ [])
-  behind_so_far before after other other_number more cut =
-      elim (cut_push lines before after line (codes "tile" ∷ other ∷ other_number ∷ more) cut) [
-        | inl end ↦
-            let same = same_fields name number other other_number values more end.1 in (
-              place,
-              subst (λ n. IsWhole n (pos place)) same.1 free.index,
-              subst (λ ls. SayTile ls other place) end.0 (subst (λ n. SayTile lines n place) same.0 said),
-            )
-        | inr within ↦ are.behind before within.0 other other_number more within.1
+  behind_so_far before after other cut is =
+      elim (cut_push lines before after line other cut) [
+        | inl end ↦ subst (λ ls. IsBehindColl ls other) end.0 (subst (IsBehindColl lines) end.1 is_behind)
+        | inr within ↦ are.behind before within.0 other within.1 is
       ]
 
   places_so_far : (k : ℕ) (coll : Coll) → slice_get (set old.colls at opened_coll) k ≡ Some coll → position (of_coll coll.name) (set old.colls at opened_coll) ≡ Some k
@@ -214,6 +222,6 @@ module _ (lines : List Line) (old : Draft) (name number : List ℕ) (values : Li
     room = are.room;
     places = places_so_far;
     nowhere = nowhere_so_far;
-    flags = length-set old.given at (set free.flags place true) ∙ are.flags ∙ sym (length-set old.colls at opened_coll);
-    unopened = unopened_so_far;
+    marked = length-set old.given at (set free.flags place true) ∙ are.marked ∙ sym (length-set old.colls at opened_coll);
+    flags = flags_so_far;
   }

@@ -5,7 +5,7 @@ use Rattle.std.specs.Ordering.{int_eq}
 use Rattle.coll_data.specs.declared.given.Coll.{Coll}
 use Rattle.coll_data.specs.declared.given.Given.{Given}
 use Rattle.coll_data.specs.declared.given.Int.{Int}
-use Rattle.coll_data.specs.Data.{Opens, IsElems, IsData, IsLined, fields_of}
+use Rattle.coll_data.specs.Data.{Opens, IsData, IsLined, fields_of}
 use Rattle.coll_data.specs.Fields.{is_name, digits_value, IsWhole}
 
 -- A line is its fields here.
@@ -31,13 +31,9 @@ OfAllData Holds =
 abbrev pub HasFirstLine : Type 0
 HasFirstLine = (text : List ℕ) (given : Given) → IsData text given → (first : List ℕ) × (lines : List (List ℕ)) × IsLined text (first ∷ lines)
 
--- Each line behind the first is an `int`, a `coll` or a `tile` line.
-abbrev pub OnlyKnownLines : Type 0
-OnlyKnownLines = OfAllData (λ first lines given. All (λ line. IsTrue (begins (codes "int") line || begins (codes "coll") line || begins (codes "tile") line)) lines)
-
--- The first line is `elems,E`, and E is the data's number of numbers in a tile.
-abbrev pub ElemsByLine : Type 0
-ElemsByLine = OfAllData (λ first lines given. IsElems first given.elems)
+-- Each line is an `int`, a `coll` or a `tile` line.
+abbrev pub AreOfThreeKinds : List Line → Type 0
+AreOfThreeKinds lines = All (λ line. IsTrue (begins (codes "int") line || begins (codes "coll") line || begins (codes "tile") line)) lines
 
 -- The line is `int,NAME,V` with the name and the value of this integer.
 pub record SaysInt (line : Line) (int : Int) : Type 0 where
@@ -47,8 +43,8 @@ pub record SaysInt (line : Line) (int : Int) : Type 0 where
   pub whole : IsWhole number int.value
 
 -- The integers are what the `int` lines say, one by one.
-abbrev pub IntsByLines : Type 0
-IntsByLines = OfAllData (λ first lines given. AllZip SaysInt (lines_of (codes "int") lines) given.ints)
+abbrev pub AreInts : List Line → List Int → Type 0
+AreInts lines ints = AllZip SaysInt (lines_of (codes "int") lines) ints
 
 -- The line is `coll,NAME,R` with the name of this collection and its number of tiles.
 pub record SaysColl (line : Line) (coll : Coll) : Type 0 where
@@ -60,15 +56,15 @@ pub record SaysColl (line : Line) (coll : Coll) : Type 0 where
   pub few : length coll.tiles ≤ 65536
 
 -- The names of the collections and their numbers of tiles are what the `coll` lines say, one by one.
-abbrev pub CollsByLines : Type 0
-CollsByLines = OfAllData (λ first lines given. AllZip SaysColl (lines_of (codes "coll") lines) given.colls)
+abbrev pub AreColls : List Line → List Coll → Type 0
+AreColls lines colls = AllZip SaysColl (lines_of (codes "coll") lines) colls
 
 -- The whole number that a field spells, where it spells one.
 abbrev pub whole_of : List ℕ → ℤ
 whole_of [] = pos 0
 whole_of (b ∷ digits) = if b == 45 then neg_ℤ (pos (digits_value digits)) else pos (digits_value (b ∷ digits))
 
--- The line is `tile,NAME,i,v0,..` of this name and this index.
+-- The line is `tile,NAME,i,..` of this name and this index.
 abbrev pub is_of_tile : List ℕ → ℕ → Line → Bool
 is_of_tile name i (word ∷ other ∷ number ∷ values) = bytes_eq word (codes "tile") && (bytes_eq other name && int_eq (whole_of number) (pos i))
 is_of_tile name i fields = false
@@ -80,31 +76,30 @@ IsTileOf elems [] tile = tile ≡ replicate elems (pos 0)
 IsTileOf elems (line ∷ []) tile = Opens elems (drop 3 line) tile
 IsTileOf elems (line ∷ (other ∷ lines)) tile = ⊥
 
--- Each tile of each of these collections is what the lines make of it that are of its collection's name and its index.
-abbrev pub HaveTilesOf : List Line → ℕ → List Coll → Type 0
-HaveTilesOf lines elems colls =
+-- Each tile of each of these collections is what the lines of its collection's name and of its index make of it.
+abbrev pub AreTiles : List Line → ℕ → List Coll → Type 0
+AreTiles lines elems colls =
     (at : ℕ) (coll : Coll) → slice_get colls at ≡ Some coll → (i : ℕ) (tile : List ℤ) → slice_get coll.tiles i ≡ Some tile
     → IsTileOf elems (filter (is_of_tile coll.name i) lines) tile
 
-abbrev pub TilesByLines : Type 0
-TilesByLines = OfAllData (λ first lines given. HaveTilesOf lines given.elems given.colls)
-
--- Among these lines is `coll,NAME,R` of this name, and R is above this index.
-pub record SayTile (lines : List Line) (name : List ℕ) (i : ℕ) : Type 0 where
+-- The line is `tile,NAME,i,..`, and among the others is `coll,NAME,R` of its name where R is above i.
+pub record IsBehindColl (others : List Line) (line : Line) : Type 0 where
+  pub name : List ℕ
   pub number : List ℕ
+  pub values : List (List ℕ)
+  pub i : ℕ
+  pub size : List ℕ
   pub count : ℕ
-  pub said : Contains lines (codes "coll" ∷ name ∷ number ∷ [])
-  pub whole : IsWhole number (pos count)
+  pub spelled : line ≡ codes "tile" ∷ name ∷ number ∷ values
+  pub index : IsWhole number (pos i)
+  pub coll : Contains others (codes "coll" ∷ name ∷ size ∷ [])
+  pub whole : IsWhole size (pos count)
   pub inside : i < count
 
 -- Before each `tile` line stands the line of its collection, which has a tile of its index.
 abbrev pub TilesAreBehind : List Line → Type 0
 TilesAreBehind lines =
-    (before after : List Line) (name number : List ℕ) (values : List (List ℕ)) → lines ≡ before ++ (codes "tile" ∷ name ∷ number ∷ values) ∷ after
-    → (i : ℕ) × IsWhole number (pos i) × SayTile before name i
-
-abbrev pub TilesBehindColls : Type 0
-TilesBehindColls = OfAllData (λ first lines given. TilesAreBehind lines)
+    (before after : List Line) (line : Line) → lines ≡ before ++ line ∷ after → IsTrue (begins (codes "tile") line) → IsBehindColl before line
 
 -- The line is an `int` or a `coll` line of this name.
 abbrev pub is_of_name : List ℕ → Line → Bool
@@ -112,9 +107,9 @@ is_of_name name (word ∷ other ∷ fields) = (bytes_eq word (codes "int") || by
 is_of_name name fields = false
 
 -- No two of the `int` and `coll` lines have one name.
-abbrev pub NamesByLines : Type 0
-NamesByLines = OfAllData (λ first lines given. (name : List ℕ) → length (filter (is_of_name name) lines) ≤ 1)
+abbrev pub AreNamedApart : List Line → Type 0
+AreNamedApart lines = (name : List ℕ) → length (filter (is_of_name name) lines) ≤ 1
 
 -- All tiles have at most 2 ^ 24 numbers.
-abbrev pub HaveRoom : Type 0
-HaveRoom = OfAllData (λ first lines given. sum_by (λ (coll : Coll). length coll.tiles) given.colls * given.elems ≤ 16777216)
+abbrev pub HaveRoom : ℕ → List Coll → Type 0
+HaveRoom elems colls = sum_by (λ (coll : Coll). length coll.tiles) colls * elems ≤ 16777216
