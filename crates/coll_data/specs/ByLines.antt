@@ -5,7 +5,7 @@ use Rattle.std.specs.Ordering.{int_eq}
 use Rattle.coll_data.specs.declared.given.Coll.{Coll}
 use Rattle.coll_data.specs.declared.given.Given.{Given}
 use Rattle.coll_data.specs.declared.given.Int.{Int}
-use Rattle.coll_data.specs.Data.{Opens, IsData, IsLined, fields_of}
+use Rattle.coll_data.specs.Data.{Opens, IsElems, IsData, IsLined, fields_of}
 use Rattle.coll_data.specs.Fields.{is_name, digits_value, IsWhole}
 
 -- A line is its fields here.
@@ -113,3 +113,20 @@ AreNamedApart lines = (name : List ℕ) → length (filter (is_of_name name) lin
 -- All tiles have at most 2 ^ 24 numbers.
 abbrev pub HaveRoom : ℕ → List Coll → Type 0
 HaveRoom elems colls = sum_by (λ (coll : Coll). length coll.tiles) colls * elems ≤ 16777216
+
+-- The data are what the first line and the lines behind it say, by all of this.
+pub record AreByLines (first : Line) (lines : List Line) (given : Given) : Type 0 where
+  pub kinds : AreOfThreeKinds lines
+  pub elems : IsElems first given.elems
+  pub ints : AreInts lines given.ints
+  pub colls : AreColls lines given.colls
+  pub tiles : AreTiles lines given.elems given.colls
+  pub behind : TilesAreBehind lines
+  pub names : AreNamedApart lines
+  pub room : HaveRoom given.elems given.colls
+
+-- A text of at most 2 ^ 24 bytes spells the data that are what its lines say.
+abbrev pub LinesAreEnough : Type 0
+LinesAreEnough =
+    (text : List ℕ) (given : Given) (first : List ℕ) (lines : List (List ℕ)) → length text ≤ 16777216 → IsLined text (first ∷ lines)
+    → AreByLines (fields_of first) (map fields_of lines) given → IsData text given

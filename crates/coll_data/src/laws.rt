@@ -1,4 +1,4 @@
-ghost use Rattle.coll_data.specs.ByLines.{OfAllData, HasFirstLine, AreOfThreeKinds, AreInts, AreColls, AreTiles, TilesAreBehind, AreNamedApart, HaveRoom};
+ghost use Rattle.coll_data.specs.ByLines.{OfAllData, HasFirstLine, AreOfThreeKinds, AreInts, AreColls, AreTiles, TilesAreBehind, AreNamedApart, HaveRoom, LinesAreEnough};
 ghost use Rattle.coll_data.specs.Data.{IsElems, OneData};
 
 /// A law: a text spells one data at most.
@@ -6,7 +6,7 @@ pub fn one_data()
     ensures { OneData }
 {}
 
-/// A law: data are what the lines of their text say.
+/// A law: data are what the lines of their text say, and that is all that is asked of them.
 pub fn data_are_their_lines()
     ensures first { HasFirstLine }
     ensures kinds { OfAllData (λ first lines given. AreOfThreeKinds lines) }
@@ -17,4 +17,5 @@ pub fn data_are_their_lines()
     ensures behind { OfAllData (λ first lines given. TilesAreBehind lines) }
     ensures names { OfAllData (λ first lines given. AreNamedApart lines) }
     ensures room { OfAllData (λ first lines given. HaveRoom given.elems given.colls) }
+    ensures enough { LinesAreEnough }
 {}

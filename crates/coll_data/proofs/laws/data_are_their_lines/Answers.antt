@@ -1,4 +1,5 @@
 use Rattle.coll_data.proofs.ByLines.{are_said, has_first_line}
+use Rattle.coll_data.proofs.Enough.{enough}
 use Rattle.coll_data.proofs.laws.data_are_their_lines.Goals as goal
 
 pub returns-clause-first : goal.returns-clause-first
@@ -27,3 +28,6 @@ returns-clause-names c = λ text given is first lines lined. (are_said text give
 
 pub returns-clause-room : goal.returns-clause-room
 returns-clause-room c = λ text given is first lines lined. (are_said text given is first lines lined).room
+
+pub returns-clause-enough : goal.returns-clause-enough
+returns-clause-enough c = enough
