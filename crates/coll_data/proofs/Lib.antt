@@ -1,11 +1,17 @@
+pub mod ByLines
 pub mod Cuts
 pub mod Digits
+pub mod Enough
 pub mod Going
 pub mod Keys
 pub mod Known
 pub mod Lines
+pub mod Lists
 pub mod Once
 pub mod Opening
 pub mod Refusals
+pub mod SaidOnce
+pub mod SoFar
+pub mod TileLine
 pub mod Tiles
 pub mod Wholes

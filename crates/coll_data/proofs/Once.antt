@@ -49,7 +49,7 @@ numbers_once (field ∷ fields) (z ∷ zs) (w ∷ ws) one other =
 
 -- ---- lines
 
-same_three : (a b c d e f : List ℕ) (xs ys : List (List ℕ)) → ◌≡◌ {A = List (List ℕ)} (a ∷ b ∷ c ∷ xs) (d ∷ e ∷ f ∷ ys) → (b ≡ e) × (c ≡ f) × (xs ≡ ys)
+pub same_three : (a b c d e f : List ℕ) (xs ys : List (List ℕ)) → ◌≡◌ {A = List (List ℕ)} (a ∷ b ∷ c ∷ xs) (d ∷ e ∷ f ∷ ys) → (b ≡ e) × (c ≡ f) × (xs ≡ ys)
 same_three a b c d e f xs ys same = (cc, cc, cc)
 
 int_once : (old a b : Draft) (fields : List (List ℕ)) → AddsInt old fields a → AddsInt old fields b → a ≡ b

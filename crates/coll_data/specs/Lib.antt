@@ -1,3 +1,4 @@
+pub mod ByLines
 pub mod Data
 pub mod Fields
 pub mod Growing

@@ -15,7 +15,7 @@ mod read;
 
 pub use fault::{DataCode, DataFault, DataRefusal};
 pub use given::{Coll, Given, Int};
-pub use laws::one_data;
+pub use laws::{data_are_their_lines, one_data};
 pub use read::read_data;
 
 #[cfg(test)]
@@ -26,6 +26,7 @@ mod tests {
     #[test]
     fn reads_the_data(rt: HostRuntime) {
         one_data();
+        data_are_their_lines();
         let text = b"elems,2\nint,NB,-3\ncoll,A,3\ntile,A,1,-5,7\nint,x_1,0012\ntile,A,0,4\n";
         let Ok(given) = read_data(rt.alloc(), text) else {
             panic!(rt; "refused");
