@@ -1,0 +1,6 @@
+pub mod Steps
+pub mod Last
+pub mod Blocks
+pub mod Slots
+pub mod Well
+pub mod WellBlocks

@@ -1,0 +1,140 @@
+-- The body that is resolved is well made: its expressions.
+use Rattle.std.proofs.Common.{◌≡◌, ℕ, ◌+◌, ◌<◌, ◌≤◌, Bool, true, false, cond, List, length, Result, Ok, Err, refl, sym, ap, ◌∙◌, subst, arith}
+use Rattle.std.specs.Prelude.{◌&&◌, nat_lt, nat_le, Option, Some, None, slice_get}
+use Rattle.std.specs.Str.{bytes_eq}
+use Rattle.std.proofs.lemmas.Bool.{lt-ltb}
+use Rattle.jdf_lex.specs.declared.fault.JdfFault.{JdfFault}
+use Rattle.term_core.specs.declared.flow.FlowKind.{FlowKind}
+use Rattle.term_core.specs.declared.flow.FlowKind.TheVariants as kind
+use Rattle.term_core.specs.Term.{Term}
+use Rattle.term_core.specs.Term as term
+use Rattle.term_core.specs.Value.{after, is_closed_with}
+use Rattle.jdf_tree.specs.declared.expression.Word.{Word}
+use Rattle.jdf_tree.specs.Expression.{Expression, Num, Name, Elem, Unary, Binary, Choose}
+use Rattle.body_names.specs.declared.meaning.Meaning.{Meaning}
+use Rattle.body_names.specs.declared.meaning.Meaning.TheVariants as meaning
+use Rattle.body_names.specs.declared.scope.Scope.{Scope}
+use Rattle.body_names.specs.declared.scope.FlowName.{FlowName}
+use Rattle.body_names.specs.declared.variable.Variable.{Variable}
+use Rattle.body_names.specs.Names.{last_named, variable_or, local_named, local_or, integer_named, integer_or, has_collection, collection_or_nothing, meaning_of, flow_named}
+use Rattle.body_names.specs.Terms.{Resolved, value_of, slot_of, readable, writable, if_flow, flow_by, read_flow, written_flow, term_of}
+use Rattle.body_names.proofs.Slots.{AreSlots, last_found, place_below}
+
+-- ---- what comes before a value
+
+pub after_ok : {A B F : Type 0} (r : Result A F) (f : A → Result B F) (y : B) → after r f ≡ Ok y → (x : A) × (r ≡ Ok x) × (f x ≡ Ok y)
+after_ok (Ok x) f y e = (x, refl, e)
+after_ok (Err d) f y e = absurd cc
+
+pub both : (a b : Bool) → a ≡ true → b ≡ true → (a && b) ≡ true
+both a b h k = rw (h, k) refl
+
+value_is : {A : Type 0} (x y : A) → (let a : Resolved A = Ok x in let b : Resolved A = Ok y in a ≡ b) → x ≡ y
+value_is x y e = cc
+
+-- ---- names
+
+module _ (scope : Scope) (end : ℕ) (room : length scope.locals ≤ end) where
+  -- a slot that a meaning names is there
+  abbrev IsThere : Meaning → Type 0
+  IsThere (meaning.Variable n) = (length scope.locals ≤ n) × (n < end)
+  IsThere (meaning.Counter n) = (length scope.locals ≤ n) × (n < end)
+  IsThere (meaning.Local n) = n < length scope.locals
+  IsThere (meaning.Integer z) = Unit {0}
+  IsThere meaning.Collection = Unit {0}
+  IsThere meaning.Nothing = Unit {0}
+
+  global_there : (o : Option _) (b : Bool) → IsThere (integer_or o (collection_or_nothing b))
+  global_there None true = tt
+  global_there None false = tt
+  global_there (Some z) b = tt
+
+  local_there : (o : Option ℕ) (m : Meaning) → ((n : ℕ) → o ≡ Some n → n < length scope.locals) → IsThere m → IsThere (local_or o m)
+  local_there None m below h = h
+  local_there (Some n) m below h = below n refl
+
+  variable_there : (o : Option Variable) (m : Meaning) → ((v : Variable) → o ≡ Some v → (length scope.locals ≤ v.slot) × (v.slot < end)) → IsThere m → IsThere (variable_or o m)
+  variable_there None m found h = h
+  variable_there (Some v) m found h = go v.counts
+    where
+      go : (b : Bool) → IsThere (cond b (meaning.Counter v.slot) (meaning.Variable v.slot))
+      go true = found v refl
+      go false = found v refl
+
+  module _ (seen : List Variable) (slots : AreSlots (length scope.locals) end seen) where
+    meaning_there : (name : List ℕ) → IsThere (meaning_of scope seen name)
+    meaning_there name =
+        variable_there (last_named seen name) (local_or (local_named scope name) (integer_or (integer_named scope name) (collection_or_nothing (has_collection scope name))))
+        (λ v e. last_found (length scope.locals) end (λ (v : Variable). bytes_eq v.name name) seen v slots e)
+        (local_there (local_named scope name) (integer_or (integer_named scope name) (collection_or_nothing (has_collection scope name)))
+        (λ n e. place_below (λ (text : List ℕ). bytes_eq text name) scope.locals n e) (global_there (integer_named scope name) (has_collection scope name)))
+
+    -- what a name stands for is closed
+    value_closed : (w : Word) (m : Meaning) (t : Term) → IsThere m → value_of w m ≡ Ok t → is_closed_with end (length scope.flows) t ≡ true
+    value_closed w (meaning.Variable n) t h e = rw (← (value_is (term.Local n) t e)) (lt-ltb n end h.1)
+    value_closed w (meaning.Counter n) t h e = rw (← (value_is (term.Local n) t e)) (lt-ltb n end h.1)
+    value_closed w (meaning.Local n) t h e = rw (← (value_is (term.Local n) t e)) (lt-ltb n end (omega (arith, h, room)))
+    value_closed w (meaning.Integer z) t h e = rw (← (value_is (term.Num z) t e)) refl
+    value_closed w meaning.Collection t h e = absurd cc
+    value_closed w meaning.Nothing t h e = absurd cc
+
+    slot_there : (w : Word) (m : Meaning) (n : ℕ) → IsThere m → slot_of w m ≡ Ok n → (length scope.locals ≤ n) × (n < end)
+    slot_there w (meaning.Variable k) n h e = let same = value_is k n e in subst (λ (j : ℕ). (length scope.locals ≤ j) × (j < end)) same h
+    slot_there w (meaning.Counter k) n h e = absurd cc
+    slot_there w (meaning.Local k) n h e = absurd cc
+    slot_there w (meaning.Integer z) n h e = absurd cc
+    slot_there w meaning.Collection n h e = absurd cc
+    slot_there w meaning.Nothing n h e = absurd cc
+
+    pub set_there : (w : Word) (n : ℕ) → slot_of w (meaning_of scope seen w.text) ≡ Ok n → (length scope.locals ≤ n) × (n < end)
+    set_there w n e = slot_there w (meaning_of scope seen w.text) n (meaning_there w.text) e
+
+    -- ---- flows
+
+    readable_is : (w : Word) (n m : ℕ) (k : FlowKind) → readable w k n ≡ Ok m → n ≡ m
+    readable_is w n m kind.Ctl e = absurd cc
+    readable_is w n m _ e = value_is n m e
+
+    writable_is : (w : Word) (n m : ℕ) (k : FlowKind) → writable w k n ≡ Ok m → n ≡ m
+    writable_is w n m kind.Ctl e = absurd cc
+    writable_is w n m kind.Read e = absurd cc
+    writable_is w n m _ e = value_is n m e
+
+    flow_is : (use_of : Word → FlowKind → ℕ → Resolved ℕ) → ((w : Word) (n m : ℕ) (k : FlowKind) → use_of w k n ≡ Ok m → n ≡ m) → (w : Word) (n m : ℕ) (o : Option FlowName) → if_flow use_of w n o ≡ Ok m → n ≡ m
+    flow_is use_of same w n m None e = absurd cc
+    flow_is use_of same w n m (Some flow) e = same w n m flow.kind e
+
+    flow_below : (use_of : Word → FlowKind → ℕ → Resolved ℕ) → ((w : Word) (n m : ℕ) (k : FlowKind) → use_of w k n ≡ Ok m → n ≡ m) → (w : Word) (m : ℕ) (o : Option ℕ) → ((n : ℕ) → o ≡ Some n → n < length scope.flows)
+        → flow_by use_of scope w o ≡ Ok m → m < length scope.flows
+    flow_below use_of same w m None below e = absurd cc
+    flow_below use_of same w m (Some n) below e = let k = flow_is use_of same w n m (slice_get scope.flows n) e in let b = below n refl in omega (arith, k, b)
+
+    pub read_below : (w : Word) (m : ℕ) → read_flow scope w ≡ Ok m → m < length scope.flows
+    read_below w m e = flow_below readable readable_is w m (flow_named scope w.text) (λ n h. place_below (λ (x : FlowName). bytes_eq x.name w.text) scope.flows n h) e
+
+    pub written_below : (w : Word) (m : ℕ) → written_flow scope w ≡ Ok m → m < length scope.flows
+    written_below w m e = flow_below writable writable_is w m (flow_named scope w.text) (λ n h. place_below (λ (x : FlowName). bytes_eq x.name w.text) scope.flows n h) e
+
+    -- ---- expressions
+
+    pub term_closed : (e : Expression) (t : Term) → term_of scope seen e ≡ Ok t → is_closed_with end (length scope.flows) t ≡ true
+    term_closed (Num z spot) t e = rw (← (value_is (term.Num z) t e)) refl
+    term_closed (Name w) t e = value_closed w (meaning_of scope seen w.text) t (meaning_there w.text) e
+    term_closed (Elem w at) t e =
+        let a = after_ok (read_flow scope w) (λ flow. after (term_of scope seen at) (λ i. Ok (term.Elem flow i))) t e in
+        let b = after_ok (term_of scope seen at) (λ i. Ok (term.Elem a.0 i)) t a.2 in
+        rw (← (value_is (term.Elem a.0 b.0) t b.2)) (both (nat_lt a.0 (length scope.flows)) (is_closed_with end (length scope.flows) b.0) (lt-ltb a.0 (length scope.flows) (read_below w a.0 a.1)) (term_closed at b.0 b.1))
+    term_closed (Unary o x spot) t e =
+        let a = after_ok (term_of scope seen x) (λ y. Ok (term.Unary o y)) t e in
+        rw (← (value_is (term.Unary o a.0) t a.2)) (term_closed x a.0 a.1)
+    term_closed (Binary o x y) t e =
+        let a = after_ok (term_of scope seen x) (λ u. after (term_of scope seen y) (λ v. Ok (term.Binary o u v))) t e in
+        let b = after_ok (term_of scope seen y) (λ v. Ok (term.Binary o a.0 v)) t a.2 in
+        rw (← (value_is (term.Binary o a.0 b.0) t b.2)) (both (is_closed_with end (length scope.flows) a.0) (is_closed_with end (length scope.flows) b.0) (term_closed x a.0 a.1) (term_closed y b.0 b.1))
+    term_closed (Choose c x y) t e =
+        let a = after_ok (term_of scope seen c) (λ u. after (term_of scope seen x) (λ v. after (term_of scope seen y) (λ w. Ok (term.Choose u v w)))) t e in
+        let b = after_ok (term_of scope seen x) (λ v. after (term_of scope seen y) (λ w. Ok (term.Choose a.0 v w))) t a.2 in
+        let d = after_ok (term_of scope seen y) (λ w. Ok (term.Choose a.0 b.0 w)) t b.2 in
+        rw (← (value_is (term.Choose a.0 b.0 d.0) t d.2))
+        (both (is_closed_with end (length scope.flows) a.0 && is_closed_with end (length scope.flows) b.0) (is_closed_with end (length scope.flows) d.0)
+        (both (is_closed_with end (length scope.flows) a.0) (is_closed_with end (length scope.flows) b.0) (term_closed c a.0 a.1) (term_closed x b.0 b.1)) (term_closed y d.0 d.1))

@@ -1,0 +1,38 @@
+use Rattle.std.proofs.Common.{◌≡◌, ◌+◌, ◌<◌, ◌≤◌, drop, length, ap, sym, ◌∙◌, arith}
+use Rattle.std.proofs.lemmas.Result.{err_from_is_err_and}
+use Rattle.jdf_tree.specs.BlockStatements.{statements_of}
+use Rattle.jdf_tree.specs.Statements.{count_of_statements}
+use Rattle.body_names.specs.Known.{known_of}
+use Rattle.body_names.specs.Resolved.{resolved}
+use Rattle.body_names.proofs.Blocks.{nothing_yet, goes_on, fails, ends, count_le}
+use Rattle.body_names.proofs.statement.+block.Goals as goal
+
+pub block-statement-requires : goal.block-statement-requires
+block-statement-requires t c =
+    let below : c.loop-statement_tree.statement_tree-index < length c.as_slice-statement_tree-items.result.now = omega arith in
+    let most = count_le c.as_slice-statement_tree-items.result.now c.loop-statement_tree.statement_tree-index c.statement_tree-item.result below c.statement_tree-item.is in
+    let all = ap count_of_statements c.as_slice-statement_tree-items.ensures in
+    (omega (arith, most, all), tt)
+
+pub block-loop-statement_tree-init : goal.block-loop-statement_tree-init
+block-loop-statement_tree-init t c =
+    rw c.new-list.ensures (nothing_yet (resolved c.args.scope.now (statements_of c.as_slice-statement_tree-items.result.now) (known_of c.args.names.now))
+    ∙ ap (λ s. resolved c.args.scope.now s (known_of c.args.names.now)) c.as_slice-statement_tree-items.ensures)
+
+pub block-returns-in_err-next : goal.block-returns-in_err-next
+block-returns-in_err-next t c =
+    let below : c.loop-statement_tree.statement_tree-index < length c.as_slice-statement_tree-items.result.now = omega arith in
+    let p = err_from_is_err_and c.from_residual.result c.from_residual.ensures.1 in
+    rw (p.1, p.2) (fails c.args.scope.now c.as_slice-statement_tree-items.result.now c.loop-statement_tree.statement_tree-index c.statement_tree-item.result below c.statement_tree-item.is
+    c.loop-statement_tree.list (known_of c.loop-statement_tree.names) _ c.loop-statement_tree.invariant _ c.in_err-next.ensures)
+
+pub block-loop-statement_tree-preserved : goal.block-loop-statement_tree-preserved
+block-loop-statement_tree-preserved t c =
+    let below : c.loop-statement_tree.statement_tree-index < length c.as_slice-statement_tree-items.result.now = omega arith in
+    goes_on c.args.scope.now c.as_slice-statement_tree-items.result.now c.loop-statement_tree.statement_tree-index c.statement_tree-item.result below c.statement_tree-item.is
+    c.loop-statement_tree.list (known_of c.loop-statement_tree.names) _ c.loop-statement_tree.invariant c.in_ok-next.next (known_of c.statement.new.names) c.push.new.self c.in_ok-push.ensures.ok c.in_ok-next.ensures
+
+pub block-returns : goal.block-returns
+block-returns t c =
+    let all : length c.as_slice-statement_tree-items.result.now ≤ c.loop-statement_tree.statement_tree-index = omega arith in
+    rw c.of.ensures (ends c.args.scope.now c.as_slice-statement_tree-items.result.now c.loop-statement_tree.statement_tree-index c.loop-statement_tree.list (known_of c.loop-statement_tree.names) _ all c.loop-statement_tree.invariant)

@@ -1,0 +1,5 @@
+pub mod Answers
+pub mod Names
+pub mod Terms
+pub mod Known
+pub mod Resolved

@@ -1,0 +1,49 @@
+//! The flows that the elements of a body name.
+
+ghost use Rattle.std.specs.Prelude.{◌≡◌};
+ghost use Rattle.jdf_lex.specs.declared.fault.JdfRefusal.TheVariants.{Fault};
+ghost use Rattle.body_names.specs.Answers.{Answers};
+ghost use Rattle.body_names.specs.Terms.{read_flow, written_flow};
+
+use crate::names::flow_named;
+use crate::scope::Scope;
+use jdf_lex::{JdfCode, JdfFault, JdfRefusal};
+use jdf_tree::Word;
+use term_core::FlowKind;
+
+/// The fault of this code at a name.
+pub(crate) fn fault_at(word: &Word, code: JdfCode) -> JdfRefusal
+    ensures { result ≡ Fault (record { spot = word.now.spot; code = code }) }
+{
+    JdfRefusal::Fault(JdfFault {
+        spot: word.spot,
+        code,
+    })
+}
+
+/// The number of a flow whose elements are read.
+pub(crate) fn read_flow(scope: &Scope, word: &Word) -> Result<u8, JdfRefusal>
+    ensures { Answers (λ n. n) result (read_flow scope.now word.now) }
+{
+    let Some(number) = flow_named(scope, word.text.bytes()) else {
+        return Err(fault_at(word, JdfCode::UnknownName));
+    };
+    match scope.flows.get(number).kind {
+        FlowKind::Ctl => Err(fault_at(word, JdfCode::CtlMixed)),
+        FlowKind::Read | FlowKind::Write | FlowKind::Rw => Ok(number as u8),
+    }
+}
+
+/// The number of a flow whose elements are assigned to.
+pub(crate) fn written_flow(scope: &Scope, word: &Word) -> Result<u8, JdfRefusal>
+    ensures { Answers (λ n. n) result (written_flow scope.now word.now) }
+{
+    let Some(number) = flow_named(scope, word.text.bytes()) else {
+        return Err(fault_at(word, JdfCode::UnknownName));
+    };
+    match scope.flows.get(number).kind {
+        FlowKind::Ctl => Err(fault_at(word, JdfCode::CtlMixed)),
+        FlowKind::Read => Err(fault_at(word, JdfCode::ReadAssigned)),
+        FlowKind::Write | FlowKind::Rw => Ok(number as u8),
+    }
+}

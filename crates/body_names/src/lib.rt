@@ -1,0 +1,15 @@
+//! What the names of a body mean: its statements with all names resolved, or the first name that means nothing where it stands.
+#![tactic(auto)]
+
+mod expression;
+mod flow;
+mod known;
+mod meaning;
+mod names;
+mod scope;
+mod statement;
+mod variable;
+mod whole;
+
+pub use scope::{FlowName, IntGlobal, Scope};
+pub use whole::resolve;
