@@ -6,7 +6,9 @@ mod laws;
 mod run;
 mod scratch;
 mod value;
+mod well;
 
 pub use laws::more_units_change_nothing;
 pub use run::run_body;
 pub use scratch::Scratch;
+pub use well::is_well_body;
