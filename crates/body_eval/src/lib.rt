@@ -5,6 +5,8 @@ mod element;
 mod laws;
 mod run;
 mod scratch;
+#[cfg(test)]
+mod tests;
 mod value;
 mod well;
 
