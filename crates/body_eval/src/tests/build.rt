@@ -4,17 +4,22 @@ use std::alloc::Global;
 use std::test::Fail;
 use term_core::{BinOp, Block, Body, Expr, Stmt, Trap};
 
-/// The one local, which is 5.
+/// The slot of the one local, which is 5.
 pub const N: u16 = 0;
-/// Variables.
+
+/// The slot of the variable `x`.
 pub const X: u16 = 1;
 
+/// The slot of `i`.
 pub const I: u16 = 2;
 
+/// The slot of `j`.
 pub const J: u16 = 3;
-/// The flow that has a tile, and the one that is absent.
+
+/// The flow that has a tile.
 pub const A: u8 = 0;
 
+/// The flow that is absent.
 pub const B: u8 = 1;
 
 /// `x = e;`

@@ -33,18 +33,18 @@ fn sizes(rt: HostRuntime) {
     }
 }
 
-/// Whether a body of the statement after a good one, with four slots, is well made for one local and two flows.
+/// Whether a body of four slots, a good statement and this one is well made for one local and two flows.
 fn well(alloc: Global, statement: Stmt) -> Result<bool, OutOfMemory> {
     let statements = vec![in alloc; put_first(Expr::num(1)), statement]?;
     Ok(is_well_body(&body_of(statements), 1, 2))
 }
 
-/// Whether `x = e;` is.
+/// Whether it is with `x = e;`.
 fn well_value(alloc: Global, e: Expr) -> Result<bool, OutOfMemory> {
     well(alloc, set_x(e))
 }
 
-/// Whether the statement is in each place within a block.
+/// Whether a body is that sets the slot in the first block of a choice, in the second, or in a loop.
 fn well_inside(alloc: Global, number: u16) -> Result<[bool; 3], OutOfMemory> {
     let set = || Stmt::Set(number, Expr::num(1));
     let first = Block::of(Row::of(vec![in alloc; set()]?));
@@ -61,7 +61,7 @@ fn well_inside(alloc: Global, number: u16) -> Result<[bool; 3], OutOfMemory> {
     ])
 }
 
-/// A slot that is set is that of a variable, and is in any block.
+/// Only the slot of a variable may be set, in whichever block.
 #[test]
 fn slots_that_are_set(rt: HostRuntime) -> Result<(), Fail> {
     let alloc = rt.alloc();
