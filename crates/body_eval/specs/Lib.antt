@@ -4,3 +4,4 @@ pub mod State
 pub mod Meaning
 pub mod MoreUnits
 pub mod Statement
+pub mod WellStatement

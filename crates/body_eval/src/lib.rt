@@ -5,8 +5,12 @@ mod element;
 mod laws;
 mod run;
 mod scratch;
+#[cfg(test)]
+mod tests;
 mod value;
+mod well;
 
 pub use laws::more_units_change_nothing;
 pub use run::run_body;
 pub use scratch::Scratch;
+pub use well::is_well_body;

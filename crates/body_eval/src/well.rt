@@ -1,0 +1,88 @@
+ghost use Rattle.std.specs.Prelude.{◌≡◌, ◌↔◌, IsTrue};
+ghost use Rattle.term_core.specs.NodeTerm.{term_of};
+ghost use Rattle.term_core.specs.Value.{is_closed_with};
+ghost use Rattle.term_core.specs.WellBody.{is_variable, are_well_made, IsWellBody};
+ghost use Rattle.body_eval.specs.WellStatement.{is_well_made};
+
+use term_core::{Block, Body, Expr, Node, Stmt};
+
+/// Whether an expression names only the first so many slots and flows.
+fn closed(slots: usize, flows: usize, e: &Expr) -> bool
+    ensures { result ≡ is_closed_with slots flows e.now }
+{
+    closed_node(slots, flows, e.node())
+}
+
+fn closed_node(slots: usize, flows: usize, node: &Node) -> bool
+    ensures { result ≡ is_closed_with slots flows (term_of node.now) }
+{
+    match node {
+        Node::Num(_) => true,
+        Node::Local(number) => (*number as usize) < slots,
+        Node::Elem(flow, at) => (*flow as usize) < flows && closed_node(slots, flows, at),
+        Node::Unary(_, a) => closed_node(slots, flows, a),
+        Node::Binary(_, a, b) => closed_node(slots, flows, a) && closed_node(slots, flows, b),
+        Node::Choose(c, a, b) => {
+            closed_node(slots, flows, c)
+                && closed_node(slots, flows, a)
+                && closed_node(slots, flows, b)
+        }
+    }
+}
+
+/// Whether the slot is that of a variable, behind the slots of the locals.
+fn variable(locals: usize, slots: usize, number: u16) -> bool
+    ensures { result ≡ is_variable locals slots number }
+{
+    let number = number as usize;
+    locals <= number && number < slots
+}
+
+#[cycle(well)]
+fn well_block(locals: usize, slots: usize, flows: usize, block: &Block) -> bool
+    ensures { result ≡ are_well_made locals slots flows block.now }
+{
+    for statement in block.as_slice() {
+        if !well_statement(locals, slots, flows, statement) {
+            return false;
+        }
+    }
+    true
+}
+
+#[cycle(well)]
+fn well_statement(locals: usize, slots: usize, flows: usize, statement: &Stmt) -> bool
+    ensures { result ≡ is_well_made locals slots flows statement.now }
+{
+    match statement {
+        Stmt::Set(number, e) => variable(locals, slots, *number) && closed(slots, flows, e),
+        Stmt::Put(flow, at, e) => {
+            (*flow as usize) < flows && closed(slots, flows, at) && closed(slots, flows, e)
+        }
+        Stmt::If(condition, first, second) => {
+            closed(slots, flows, condition)
+                && well_block(locals, slots, flows, first)
+                && well_block(locals, slots, flows, second)
+        }
+        Stmt::For(number, lo, hi, turn) => {
+            variable(locals, slots, *number)
+                && closed(slots, flows, lo)
+                && closed(slots, flows, hi)
+                && well_block(locals, slots, flows, turn)
+        }
+        Stmt::Trap(_) => true,
+    }
+}
+
+/// Whether a body is well made for so many locals and flows: the test of what `run_body` asks for.
+///
+/// It goes as deep as blocks nest, whatever the number of statements.
+pub fn is_well_body(body: &Body, locals: usize, flows: usize) -> bool
+    ensures { IsTrue result ↔ IsWellBody locals flows body.now }
+{
+    let slots = body.slots as usize;
+    if locals > 16 || flows > 8 || slots < locals || slots > locals + 256 {
+        return false;
+    }
+    well_block(locals, slots, flows, &body.statements)
+}
