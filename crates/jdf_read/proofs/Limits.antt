@@ -1,6 +1,6 @@
 -- One token of lookahead reads a whole text.
 use Rattle.std.proofs.Common.{◌≡◌, ℕ, Bool, true, false, List, Ok, Err, refl, ◌≤◌, arith}
-use Rattle.std.specs.Prelude.{◌&&◌, length, ◌-◌}
+use Rattle.std.specs.Prelude.{◌&&◌, length, ◌-◌, None}
 use Rattle.jdf_lex.specs.declared.token.Token.{Token}
 use Rattle.grammar_core.specs.declared.code.Code.{Code}
 use Rattle.grammar_core.specs.declared.code.Code.TheVariants.{Syntax}
