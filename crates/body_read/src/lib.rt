@@ -3,6 +3,8 @@
 
 mod limits;
 mod statement;
+#[cfg(test)]
+mod tests;
 mod text;
 
 pub use text::read;
