@@ -4,3 +4,4 @@ pub mod Blocks
 pub mod Slots
 pub mod Well
 pub mod WellBlocks
+pub mod Fronts

@@ -3,3 +3,5 @@ pub mod Names
 pub mod Terms
 pub mod Known
 pub mod Resolved
+pub mod Standing
+pub mod Walk

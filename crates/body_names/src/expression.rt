@@ -16,8 +16,8 @@ use jdf_tree::{ExprNode, ExprTree, Word};
 use std::alloc::Global;
 use term_core::Expr;
 
-// What a name stands for in an expression.
-fn value_of(word: &Word, meaning: Meaning) -> Result<Expr, JdfRefusal>
+/// What a name stands for in an expression.
+pub(crate) fn value_of(word: &Word, meaning: Meaning) -> Result<Expr, JdfRefusal>
     ensures { Answers (λ e. e) result (value_of word.now meaning) }
 {
     match meaning {

@@ -3,13 +3,17 @@
 
 mod expression;
 mod flow;
+mod front;
 mod known;
 mod meaning;
 mod names;
+mod role;
 mod scope;
+mod standing;
 mod statement;
 mod variable;
 mod whole;
 
+pub use front::front_fault;
 pub use scope::{FlowName, IntGlobal, Scope};
 pub use whole::resolve;

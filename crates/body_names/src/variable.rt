@@ -1,3 +1,4 @@
+use grammar_core::Sort;
 use ptg_base::{Row, Text};
 
 /// A variable that a body declares.
@@ -21,4 +22,17 @@ pub struct Names {
     pub declared: u16,
     /// The trap words so far, in the order of their first use.
     pub words: Row<Text>,
+}
+
+/// What is known at a token of a body.
+#[derive(Debug, Drop)]
+pub struct Walk {
+    pub names: Names,
+    /// For each block that is open, the innermost last, how many variables were seen before it, and how many of these were
+    /// of blocks around.
+    pub around: Vec<(usize, usize)>,
+    /// The variable whose declaration has begun.
+    pub naming: Option<Text>,
+    /// The token before.
+    pub last: Option<Sort>,
 }
