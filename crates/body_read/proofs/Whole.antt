@@ -1,6 +1,6 @@
 -- One token of lookahead reads a whole body.
-use Rattle.std.proofs.Common.{◌≡◌, ℕ, true, List, Result, Ok, Err, refl, sym, ap, ◌∙◌, ◌≤◌, arith}
-use Rattle.std.specs.Prelude.{length, ◌-◌, None}
+use Rattle.std.proofs.Common.{◌≡◌, ℕ, true, List, Result, Ok, Err, refl, sym, ap, ◌∙◌, ◌≤◌, inl, inr, arith}
+use Rattle.std.specs.Prelude.{length, ◌-◌, None, ◌⊎◌, IfOk}
 use Rattle.jdf_lex.specs.declared.token.Token.{Token}
 use Rattle.grammar_core.specs.declared.code.Code.{Code}
 use Rattle.grammar_core.specs.declared.code.Code.TheVariants.{Syntax}
@@ -8,9 +8,9 @@ use Rattle.grammar_core.specs.Form.{IsText, IsFirstFault}
 use Rattle.grammar_core.specs.Predictive.{is_fine}
 use Rattle.grammar_core.specs.declared.fault.ReadError.{ReadError}
 use Rattle.grammar_core.specs.declared.fault.ReadError.TheVariants as errors
-use Rattle.grammar_core.specs.Gives.{Fails}
+use Rattle.grammar_core.specs.Gives.{Gives, Fails}
 use Rattle.grammar_core.specs.Reading.{Stop, whole}
-use Rattle.grammar_core.proofs.Whole.{text_found, text_only, fault_is as text_fault, one_fault}
+use Rattle.grammar_core.proofs.Whole.{text_found, text_only, fault_is as text_fault, fault_within, one_fault}
 use Rattle.jdf_tree.specs.BodyGrammar.{body}
 use Rattle.jdf_tree.specs.Grammar.{inner, claims}
 use Rattle.jdf_tree.specs.Statements.{Statements}
@@ -30,6 +30,9 @@ only s t h = text_only inner claims inner_fine inner_limits body body_fine body_
 
 pub faulty : (s : List Token) (n : ℕ) (c : Code) → whole inner body s ≡ Err (n, c) → IsFirstFault inner body s (length s - n) c
 faulty s n c e = text_fault inner claims inner_fine inner_limits body body_fine body_text_limits s (n, c) e
+
+fault_left : (s : List Token) (n : Stop) → whole inner body s ≡ Err n → n.0 ≤ length s
+fault_left s n e = fault_within inner claims inner_fine inner_limits body body_fine body_text_limits s n e
 
 pub fault_read : (s : List Token) (place : ℕ) (c : Code) → IsFirstFault inner body s place c → whole inner body s ≡ Err (length s - place, c)
 fault_read s place c h = one_fault inner claims inner_fine inner_limits body body_fine body_text_limits s place c h
@@ -80,3 +83,47 @@ one_place s left p d c e h =
 pub fault_is : (r : Result Statements Stop) (e : ReadError) (n : ℕ) (d : Code) → Fails e r → e ≡ errors.Fault n d → r ≡ Err (n, d)
 fault_is r errors.Memory n d f is = absurd cc
 fault_is r (errors.Fault m b) n d f is = let x : m ≡ n = cc in let y : b ≡ d = cc in f ∙ cc
+
+-- ---- what reading answers
+
+-- the tree that was read, or the fault that was met
+abbrev pub Gave : Result Statements ReadError → Result Statements Stop → Type 0
+Gave (Ok t) read = read ≡ Ok t
+Gave (Err e) read = Fails e read
+
+pub gave_is : (r : Result Statements ReadError) (read : Result Statements Stop) → Gives (λ t. t) r read → Gave r read
+gave_is (Ok t) read h = h
+gave_is (Err e) read h = h
+
+abbrev answer : Statements → Result Statements ReadError
+answer t = Ok t
+
+abbrev refusal : ReadError → Result Statements ReadError
+refusal e = Err e
+
+pub answers_found : (s : List Token) (r : Result Statements ReadError) → Gave r (whole inner body s) → IfOk r (λ t. IsText inner body s t None)
+answers_found s (Ok t) e = found s t e
+answers_found s (Err e) h = tt
+
+pub answers_only : (s : List Token) (r : Result Statements ReadError) → Gave r (whole inner body s) → (t : Statements) → IsText inner body s t None → (r ≡ Ok t) ⊎ (r ≡ Err errors.Memory)
+answers_only s (Ok u) e t h = inl (ap answer (one_tree s u t e h))
+answers_only s (Err errors.Memory) e t h = inr refl
+answers_only s (Err (errors.Fault n c)) e t h = absurd (no_tree s (n, c) t e h)
+
+refused_is : (n m : ℕ) (c d : Code) → refusal (errors.Fault n c) ≡ refusal (errors.Fault m d) → (n ≡ m) × (c ≡ d)
+refused_is n m c d e = (cc, cc)
+
+pub answers_fault : (s : List Token) (r : Result Statements ReadError) → Gave r (whole inner body s) → (left : ℕ) (c : Code) → r ≡ Err (errors.Fault left c) → (left ≤ length s) × IsFirstFault inner body s (length s - left) c
+answers_fault s (Ok u) e left c h = absurd cc
+answers_fault s (Err errors.Memory) e left c h = absurd cc
+answers_fault s (Err (errors.Fault n d)) e left c h =
+    let same = refused_is n left d c h in
+    let read : whole inner body s ≡ Err (left, c) = e ∙ ap (λ (m : Stop). failed m) (λ i. (same.0 i, same.1 i)) in
+    (fault_left s (left, c) read, faulty s left c read)
+
+pub answers_refused : (s : List Token) (r : Result Statements ReadError) → Gave r (whole inner body s) → (p : ℕ) (c : Code) → IsFirstFault inner body s p c → (r ≡ Err (errors.Fault (length s - p) c)) ⊎ (r ≡ Err errors.Memory)
+answers_refused s (Ok u) e p c h = absurd (no_fault s u p c e h)
+answers_refused s (Err errors.Memory) e p c h = inr refl
+answers_refused s (Err (errors.Fault n d)) e p c h =
+    let same = same_stop (n, d) (length s - p, c) (sym e ∙ fault_read s p c h) in
+    inl (ap (λ (m : Stop). refusal (errors.Fault m.0 m.1)) same)

@@ -7,4 +7,4 @@ mod statement;
 mod tests;
 mod text;
 
-pub use text::read;
+pub use text::{read, tree};

@@ -1,7 +1,8 @@
 //! The text of a body as a whole.
 
-ghost use Rattle.std.specs.Prelude.{◌≡◌, ℕ, IfOk, Ok, Err, ◌⊎◌, None};
+ghost use Rattle.std.specs.Prelude.{◌≡◌, ℕ, ◌-◌, ◌≤◌, length, IfOk, Ok, Err, ◌⊎◌, None};
 ghost use Rattle.grammar_core.specs.declared.code.Code.{Code};
+ghost use Rattle.grammar_core.specs.declared.fault.ReadError.TheVariants.{Memory, Fault as Left};
 ghost use Rattle.grammar_core.specs.Form.{IsText, IsFirstFault};
 ghost use Rattle.grammar_core.specs.Gives.{Gives};
 ghost use Rattle.grammar_core.specs.Reading.{reading, whole};
@@ -66,6 +67,21 @@ fn whole(alloc: Global, tokens: &[Token]) -> Result<BlockTree, ReadError>
         return Err(ReadError::Fault(rest.len(), Code::Syntax));
     }
     Ok(tree)
+}
+
+/// The statements of the body that these tokens are, or how many tokens are left at the first fault of its text, and which that
+/// is. What the names of a body mean is not looked at.
+pub fn tree(alloc: Global, tokens: &[Token]) -> Result<BlockTree, ReadError>
+    // What is read is the tree of the text.
+    ensures found { IfOk result (λ tree. IsText inner body tokens.now tree None) }
+    // A text that has a tree is read, unless memory runs out.
+    ensures only { (tree : Statements) → IsText inner body tokens.now tree None → (result ≡ Ok tree) ⊎ (result ≡ Err Memory) }
+    // A fault that is answered is the first one of the text.
+    ensures fault { (left : ℕ) → (c : Code) → result ≡ Err (Left left c) → (left ≤ length tokens.now) × IsFirstFault inner body tokens.now (length tokens.now - left) c }
+    // Where the text has a first fault that is the answer, unless memory runs out.
+    ensures refused { (p : ℕ) → (c : Code) → IsFirstFault inner body tokens.now p c → (result ≡ Err (Left (length tokens.now - p) c)) ⊎ (result ≡ Err Memory) }
+{
+    whole(alloc, tokens)
 }
 
 /// The statements of the body that these tokens are, or the first fault of its text: Syntax, BadNumber, ExprTooLong,

@@ -1,0 +1,3 @@
+pub mod Broken
+pub mod Body
+pub mod Laws
