@@ -1,3 +1,4 @@
 pub mod Broken
 pub mod Body
+pub mod Declarations
 pub mod Laws

@@ -4,5 +4,5 @@
 mod laws;
 mod whole;
 
-pub use laws::one_answer;
+pub use laws::{one_answer, variables_are_counted_in_the_text};
 pub use whole::read_body;
