@@ -1,5 +1,5 @@
 -- A text declares at least as many variables as its tree, and so a tree has no more than a text may.
-use Rattle.std.proofs.Common.{◌≡◌, ℕ, zero, suc, ◌+◌, ◌-◌, ◌≤◌, ◌<◌, Bool, true, false, cond, List, [], ◌∷◌, ◌++◌, length, refl, sym, ap, ◌∙◌, subst, inl, inr, append_assoc, arith}
+use Rattle.std.proofs.Common.{◌≡◌, ℕ, zero, suc, ◌+◌, ◌≤◌, ◌<◌, Bool, true, false, cond, List, [], ◌∷◌, ◌++◌, length, refl, sym, ap, ◌∙◌, subst, inl, inr, append_assoc, arith}
 use Rattle.std.specs.Prelude.{◌&&◌, ◌||◌, Option, Some, None, nat_lt, nat_le}
 use Rattle.std.proofs.lemmas.Bool.{ltb-false}
 use Rattle.std.proofs.lemmas.Bool.Decides.{nat_tests}
@@ -10,7 +10,7 @@ use Rattle.grammar_core.specs.declared.sort.Sort.{Sort}
 use Rattle.grammar_core.specs.declared.sort.Sort.TheVariants as sort
 use Rattle.grammar_core.specs.declared.code.Code.{Code}
 use Rattle.grammar_core.specs.declared.code.Code.TheVariants.{TooManyVars}
-use Rattle.grammar_core.specs.Form.{Form, one_of, valued, seq, map, alt, opt, star, pick, behind, limited, Fault, Lang, Many, Spells, NameWithin, Derived, IsText, cut_at, taken}
+use Rattle.grammar_core.specs.Form.{one_of, valued, seq, map, alt, opt, star, pick, behind, limited, Fault, Lang, Many, Spells, NameWithin, Derived, IsText, cut_at, taken}
 use Rattle.grammar_core.specs.LimitBy.{place_by}
 use Rattle.grammar_core.specs.Sorts.{sort_of, is}
 use Rattle.jdf_tree.specs.declared.body.StmtTree.{StmtTree}
@@ -19,13 +19,13 @@ use Rattle.jdf_tree.specs.declared.expression.Placed.{Placed}
 use Rattle.jdf_tree.specs.declared.expression.Word.{Word}
 use Rattle.jdf_tree.specs.declared.part.Part.TheVariants.{Body}
 use Rattle.jdf_tree.specs.BlockStatements.{then, statements_of}
-use Rattle.jdf_tree.specs.BodyGrammar.{block, value, declare_of, declaration, element, assign_of, assignment, or_done, if_of, condition, otherwise, choice, for_of, for_loop, stop, statement, statements, block_behind, text, body}
-use Rattle.jdf_tree.specs.BodyLimits.{how_many, declares, is_too_many, block_limit, variable_limit}
+use Rattle.jdf_tree.specs.BodyGrammar.{block, value, declare_of, declaration, element, assign_of, assignment, if_of, condition, otherwise, choice, for_of, for_loop, stop, statement, statements, block_behind, text, body}
+use Rattle.jdf_tree.specs.BodyLimits.{how_many, declares, is_too_many, variable_limit}
 use Rattle.jdf_tree.specs.ExpressionGrammar.{outer}
 use Rattle.jdf_tree.specs.Grammar.{inner}
 use Rattle.jdf_tree.specs.Inner.{Inner, an_expr, a_unary, an_opening, a_block, TreeOf, Grammar}
 use Rattle.jdf_tree.specs.Pieces.{word, after, before, any, name}
-use Rattle.jdf_tree.specs.Statements.{Statements, Done}
+use Rattle.jdf_tree.specs.Statements.{Statements}
 use Rattle.body_lang.specs.Declarations.{declarations}
 
 -- the words that declare a variable among these tokens
@@ -37,7 +37,7 @@ left_cons x s = sum_by-cons (λ y. cond (declares (sort_of y)) 1 0) x s
 
 -- ---- how many a statement declares
 
-abbrev declared : StmtTree → ℕ
+abbrev pub declared : StmtTree → ℕ
 declared (stmt.Declare w e) = 1
 declared (stmt.Set w e) = 0
 declared (stmt.Put w at e) = 0
@@ -45,7 +45,7 @@ declared (stmt.If c first second) = declarations first + declarations second
 declared (stmt.For w lo hi turn) = 1 + declarations turn
 declared (stmt.Trap w) = 0
 
-abbrev total : {A : Type 0} → (A → ℕ) → List A → ℕ
+abbrev pub total : {A : Type 0} → (A → ℕ) → List A → ℕ
 total f [] = 0
 total f (x ∷ xs) = f x + total f xs
 
@@ -53,7 +53,7 @@ abbrev if_there : {A : Type 0} → (A → ℕ) → Option A → ℕ
 if_there f None = 0
 if_there f (Some x) = f x
 
-then_declares : (s : StmtTree) (rest : Statements) → declarations (then s rest) ≡ declared s + declarations rest
+pub then_declares : (s : StmtTree) (rest : Statements) → declarations (then s rest) ≡ declared s + declarations rest
 then_declares (stmt.Declare w e) rest = omega arith
 then_declares (stmt.Set w e) rest = omega arith
 then_declares (stmt.Put w at e) rest = omega arith
@@ -61,7 +61,7 @@ then_declares (stmt.If c first second) rest = omega arith
 then_declares (stmt.For w lo hi turn) rest = omega arith
 then_declares (stmt.Trap w) rest = omega arith
 
-statements_declare : (ss : List StmtTree) → declarations (statements_of ss) ≡ total declared ss
+pub statements_declare : (ss : List StmtTree) → declarations (statements_of ss) ≡ total declared ss
 statements_declare [] = refl
 statements_declare (s ∷ ss) = then_declares s (statements_of ss) ∙ ap (λ (n : ℕ). declared s + n) (statements_declare ss)
 

@@ -1,11 +1,10 @@
 -- Where a tree declares few enough variables, no name is refused because it declares one too many.
-use Rattle.std.proofs.Common.{◌≡◌, ◌≢◌, ℕ, ◌+◌, ◌<◌, ◌≤◌, Bool, true, false, cond, List, [], ◌∷◌, Result, Ok, Err, refl, sym, ap, ◌∙◌, subst, arith}
-use Rattle.std.specs.Prelude.{Option, Some, None, nat_lt, slice_get, drop}
+use Rattle.std.proofs.Common.{◌≡◌, ◌≢◌, ℕ, ◌+◌, ◌<◌, ◌≤◌, Bool, true, false, cond, List, length, Ok, Err, refl, sym, ap, ◌∙◌, subst, arith}
+use Rattle.std.specs.Prelude.{Option, Some, None, slice_get, drop}
 use Rattle.std.specs.Str.{bytes_eq}
 use Rattle.std.specs.List.{list_any}
 use Rattle.std.proofs.lemmas.Bool.{lt-ltb}
-use Rattle.jdf_lex.specs.declared.fault.JdfCode.{JdfCode}
-use Rattle.jdf_lex.specs.declared.fault.JdfCode.TheVariants.{UnknownName, WrongKind, CtlMixed, ReadAssigned, NotAssignable, NameTwice, TooManyVars}
+use Rattle.jdf_lex.specs.declared.fault.JdfCode.TheVariants.{NameTwice, TooManyVars}
 use Rattle.jdf_lex.specs.declared.fault.JdfFault.{JdfFault}
 use Rattle.term_core.specs.declared.body.Body.{Body}
 use Rattle.term_core.specs.declared.body.Stmt.{Stmt}
@@ -14,7 +13,6 @@ use Rattle.term_core.specs.declared.flow.FlowKind.{FlowKind}
 use Rattle.term_core.specs.declared.flow.FlowKind.TheVariants as kind
 use Rattle.term_core.specs.BlockSteps.{then}
 use Rattle.term_core.specs.Steps.{Steps}
-use Rattle.term_core.specs.Steps as steps
 use Rattle.term_core.specs.Term.{Term}
 use Rattle.term_core.specs.Term as term
 use Rattle.term_core.specs.Value.{after}
@@ -28,16 +26,16 @@ use Rattle.body_names.specs.declared.scope.Scope.{Scope}
 use Rattle.body_names.specs.declared.variable.Variable.{Variable}
 use Rattle.body_names.specs.Names.{meaning_of, flow_named}
 use Rattle.body_names.specs.Terms.{Resolved, value_of, slot_of, readable, writable, if_flow, flow_by, read_flow, written_flow, term_of}
-use Rattle.body_names.specs.Known.{Known, nothing_known, opened, closed, next_slot, with_variable, room_for, fresh_in, numbered, word_number}
+use Rattle.body_names.specs.Known.{Known, nothing_known, opened, closed, next_slot, with_variable, room_for, fresh_in, numbered}
 use Rattle.body_names.specs.Resolved.{Resolver, declare, set, put, inside, choice, counted, stop, follow, resolved, body_of}
 use Rattle.body_lang.specs.Declarations.{declarations}
 
 -- a fault is another one than that of too many variables, and a value is as it should be
-abbrev Other : {A : Type 0} → (A → Type 0) → Resolved A → Type 0
+abbrev pub Other : {A : Type 0} → (A → Type 0) → Resolved A → Type 0
 Other P (Ok x) = P x
 Other P (Err f) = f.code ≡ TooManyVars → ⊥
 
-abbrev Any : {A : Type 0} → A → Type 0
+abbrev pub Any : {A : Type 0} → A → Type 0
 Any x = Unit {0}
 
 after_other : {A B : Type 0} (P : A → Type 0) (Q : B → Type 0) (r : Resolved A) (f : A → Resolved B) → Other P r → ((x : A) → P x → Other Q (f x)) → Other Q (after r f)
@@ -80,7 +78,7 @@ by_other use_of h scope w None = λ e. cc
 by_other use_of h scope w (Some n) = flow_other use_of h w n (slice_get scope.flows n)
 
 module _ (scope : Scope) where
-  term_other : (seen : List Variable) (e : Expression) → Other (Any {A = Term}) (term_of scope seen e)
+  pub term_other : (seen : List Variable) (e : Expression) → Other (Any {A = Term}) (term_of scope seen e)
   term_other seen (Num z spot) = tt
   term_other seen (Name w) = value_other w (meaning_of scope seen w.text)
   term_other seen (Elem w at) =
@@ -97,10 +95,10 @@ module _ (scope : Scope) where
 
   -- ---- statements
 
-  room_other : (w : Word) (k : Known) → k.declared < 256 → Other (Any {A = Unit {0}}) (room_for w k)
+  pub room_other : (w : Word) (k : Known) → k.declared < 256 → Other (Any {A = Unit {0}}) (room_for w k)
   room_other w k h = let t = lt-ltb k.declared 256 h in rw t tt
 
-  fresh_other : (w : Word) (k : Known) → Other (Any {A = Unit {0}}) (fresh_in w k)
+  pub fresh_other : (w : Word) (k : Known) → Other (Any {A = Unit {0}}) (fresh_in w k)
   fresh_other w k = go (list_any (λ (v : Variable). bytes_eq v.name w.text) (drop k.outside k.seen))
     where
       go : (b : Bool) → Other (Any {A = Unit {0}}) (cond b (Err (record { spot = w.spot; code = NameTwice })) (Ok tt))
@@ -108,13 +106,13 @@ module _ (scope : Scope) where
       go false = tt
 
   -- so many more are declared
-  abbrev Adds : {A : Type 0} → Known → ℕ → A × Known → Type 0
+  abbrev pub Adds : {A : Type 0} → Known → ℕ → A × Known → Type 0
   Adds k n x = x.1.declared ≡ k.declared + n
 
-  abbrev IsFew : Resolver → ℕ → Type 0
+  abbrev pub IsFew : Resolver → ℕ → Type 0
   IsFew block n = (k : Known) → k.declared + n ≤ 256 → Other (Adds k n) (block k)
 
-  declare_few : (w : Word) (e : Expression) (k : Known) → k.declared < 256 → Other (Adds {A = Stmt} k 1) (declare scope w e k)
+  pub declare_few : (w : Word) (e : Expression) (k : Known) → k.declared < 256 → Other (Adds {A = Stmt} k 1) (declare scope w e k)
   declare_few w e k h =
       after_other Any (Adds k 1) (room_for w k) (λ _. after (fresh_in w k) (λ _. after (term_of scope k.seen e) (λ x. Ok (stmt.Set (next_slot scope k) x, with_variable scope w.text false k)))) (room_other w k h)
       (λ _ _. after_other Any (Adds k 1) (fresh_in w k) (λ _. after (term_of scope k.seen e) (λ x. Ok (stmt.Set (next_slot scope k) x, with_variable scope w.text false k))) (fresh_other w k)
@@ -123,12 +121,12 @@ module _ (scope : Scope) where
   nothing_added : (k : Known) → k.declared ≡ k.declared + 0
   nothing_added k = omega arith
 
-  set_few : (w : Word) (e : Expression) (k : Known) → Other (Adds {A = Stmt} k 0) (set scope w e k)
+  pub set_few : (w : Word) (e : Expression) (k : Known) → Other (Adds {A = Stmt} k 0) (set scope w e k)
   set_few w e k =
       after_other Any (Adds k 0) (slot_of w (meaning_of scope k.seen w.text)) (λ n. after (term_of scope k.seen e) (λ x. Ok (stmt.Set n x, k))) (slot_other w (meaning_of scope k.seen w.text))
       (λ n _. after_other Any (Adds k 0) (term_of scope k.seen e) (λ x. Ok (stmt.Set n x, k)) (term_other k.seen e) (λ x _. nothing_added k))
 
-  put_few : (w : Word) (at e : Expression) (k : Known) → Other (Adds {A = Stmt} k 0) (put scope w at e k)
+  pub put_few : (w : Word) (at e : Expression) (k : Known) → Other (Adds {A = Stmt} k 0) (put scope w at e k)
   put_few w at e k =
       after_other Any (Adds k 0) (written_flow scope w) (λ flow. after (term_of scope k.seen at) (λ i. after (term_of scope k.seen e) (λ x. Ok (stmt.Put flow i x, k)))) (by_other writable writable_other scope w (flow_named scope w.text))
       (λ flow _. after_other Any (Adds k 0) (term_of scope k.seen at) (λ i. after (term_of scope k.seen e) (λ x. Ok (stmt.Put flow i x, k))) (term_other k.seen at)
@@ -138,13 +136,13 @@ module _ (scope : Scope) where
   inside_few opening block n m few k e le =
       after_other (Adds (opening k) n) (Adds k (m + n)) (block (opening k)) (λ x. Ok (x.0, closed k x.1)) (few (opening k) (omega (arith, e, le))) (λ x h. omega (arith, h, e))
 
-  choice_few : (c : Expression) (first second : Resolver) (n m : ℕ) → IsFew first n → IsFew second m → (k : Known) → k.declared + (n + m) ≤ 256 → Other (Adds {A = Stmt} k (n + m)) (choice scope c first second k)
+  pub choice_few : (c : Expression) (first second : Resolver) (n m : ℕ) → IsFew first n → IsFew second m → (k : Known) → k.declared + (n + m) ≤ 256 → Other (Adds {A = Stmt} k (n + m)) (choice scope c first second k)
   choice_few c first second n m one two k le =
       after_other Any (Adds k (n + m)) (term_of scope k.seen c) (λ x. after (inside opened first k) (λ a. after (inside opened second a.1) (λ b. Ok (stmt.If x a.0 b.0, b.1)))) (term_other k.seen c)
       (λ x _. after_other (Adds k (0 + n)) (Adds k (n + m)) (inside opened first k) (λ a. after (inside opened second a.1) (λ b. Ok (stmt.If x a.0 b.0, b.1))) (inside_few opened first n 0 one k (omega arith) (omega (arith, le)))
       (λ a h. after_other (Adds a.1 (0 + m)) (Adds k (n + m)) (inside opened second a.1) (λ b. Ok (stmt.If x a.0 b.0, b.1)) (inside_few opened second m 0 two a.1 (omega arith) (omega (arith, le, h))) (λ b i. omega (arith, h, i))))
 
-  counted_few : (w : Word) (lo hi : Expression) (turn : Resolver) (n : ℕ) → IsFew turn n → (k : Known) → k.declared + (1 + n) ≤ 256 → Other (Adds {A = Stmt} k (1 + n)) (counted scope w lo hi turn k)
+  pub counted_few : (w : Word) (lo hi : Expression) (turn : Resolver) (n : ℕ) → IsFew turn n → (k : Known) → k.declared + (1 + n) ≤ 256 → Other (Adds {A = Stmt} k (1 + n)) (counted scope w lo hi turn k)
   counted_few w lo hi turn n few k le =
       let opening : Known → Known = λ m. with_variable scope w.text true (opened m) in
       after_other Any (Adds k (1 + n)) (room_for w k) (λ _. after (term_of scope k.seen lo) (λ x. after (term_of scope k.seen hi) (λ y. after (inside opening turn k) (λ t. Ok (stmt.For (next_slot scope k) x y t.0, t.1))))) (room_other w k (omega (arith, le)))
@@ -152,7 +150,7 @@ module _ (scope : Scope) where
       (λ x _. after_other Any (Adds k (1 + n)) (term_of scope k.seen hi) (λ y. after (inside opening turn k) (λ t. Ok (stmt.For (next_slot scope k) x y t.0, t.1))) (term_other k.seen hi)
       (λ y _. after_other (Adds k (1 + n)) (Adds k (1 + n)) (inside opening turn k) (λ t. Ok (stmt.For (next_slot scope k) x y t.0, t.1)) (inside_few opening turn n 1 few k refl (omega (arith, le))) (λ t h. h))))
 
-  stop_few : (w : Word) (k : Known) → Other (Adds {A = Stmt} k 0) (stop w k)
+  pub stop_few : (w : Word) (k : Known) → Other (Adds {A = Stmt} k 0) (stop w k)
   stop_few w k = go _
     where
       go : (o : Option ℕ) → (numbered w.text k o).1.declared ≡ k.declared + 0
@@ -168,7 +166,7 @@ module _ (scope : Scope) where
   none_first : (k : Known) (n : ℕ) (r : Resolved (Steps × Known)) → Other (Adds {A = Steps} k (0 + n)) r → Other (Adds {A = Steps} k n) r
   none_first k n r h = let e : 0 + n ≡ n = omega arith in subst (λ (m : ℕ). Other (Adds {A = Steps} k m) r) e h
 
-  block_few : (statements : Statements) → IsFew (resolved scope statements) (declarations statements)
+  pub block_few : (statements : Statements) → IsFew (resolved scope statements) (declarations statements)
   block_few Done k le = nothing_added k
   block_few (DeclareThen w e rest) k le = follow_few k 1 (declarations rest) (declare scope w e k) (resolved scope rest) le (declare_few w e k (omega (arith, le))) (block_few rest)
   block_few (SetThen w e rest) k le =
@@ -189,3 +187,16 @@ module _ (scope : Scope) where
       let other : Other (Any {A = Body × List (List ℕ)}) (body_of scope statements) =
       after_other (Adds nothing_known (declarations statements)) Any (resolved scope statements nothing_known) _ (block_few statements nothing_known (omega (arith, le))) (λ x h. tt) in
       subst (λ (r : Resolved (Body × List (List ℕ))). Other Any r) e other
+
+  -- a body of few variables has a slot for each of them
+  pub slots_are : (statements : Statements) (x : Body × List (List ℕ)) → declarations statements ≤ 256 → body_of scope statements ≡ Ok x → x.0.slots ≡ length scope.locals + declarations statements
+  slots_are statements x le e = go (resolved scope statements nothing_known) (block_few statements nothing_known (omega (arith, le))) e
+    where
+      slots : Resolved (Body × List (List ℕ)) → ℕ
+      slots (Ok y) = y.0.slots
+      slots (Err f) = 0
+
+      go : (a : Resolved (Steps × Known)) → Other (Adds {A = Steps} nothing_known (declarations statements)) a
+          → after a (λ x. Ok (record { statements = x.0; slots = length scope.locals + x.1.declared }, x.1.words)) ≡ Ok x → x.0.slots ≡ length scope.locals + declarations statements
+      go (Ok y) h e = let declared_is : y.1.declared ≡ declarations statements = omega (arith, h) in sym (ap slots e) ∙ ap (λ (n : ℕ). length scope.locals + n) declared_is
+      go (Err f) h e = absurd cc

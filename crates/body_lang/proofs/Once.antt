@@ -1,13 +1,13 @@
 -- Tokens are one body at most, or have one first fault at most, and not both.
-use Rattle.std.proofs.Common.{◌≡◌, ℕ, ◌-◌, ◌≤◌, List, length, Result, Ok, Err, sym, ap, ◌∙◌, subst, inl, inr, arith}
-use Rattle.std.specs.Prelude.{None, ◌⊎◌}
+use Rattle.std.proofs.Common.{◌≡◌, ℕ, ◌-◌, List, length, Result, Ok, Err, sym, ap, ◌∙◌, inl, inr, arith}
+use Rattle.std.specs.Prelude.{None}
 use Rattle.jdf_lex.specs.declared.fault.JdfFault.{JdfFault}
 use Rattle.jdf_lex.specs.declared.token.Spot.{Spot}
 use Rattle.jdf_lex.specs.declared.token.Token.{Token}
 use Rattle.grammar_core.specs.declared.code.Code.{Code}
 use Rattle.grammar_core.specs.declared.code.Code.TheVariants.{Syntax}
 use Rattle.grammar_core.specs.Form.{IsText, IsFirstFault}
-use Rattle.grammar_core.specs.Reading.{Stop, whole}
+use Rattle.grammar_core.specs.Reading.{Stop}
 use Rattle.term_core.specs.declared.body.Body.{Body}
 use Rattle.jdf_tree.specs.BodyGrammar.{body}
 use Rattle.jdf_tree.specs.Grammar.{inner}
@@ -17,7 +17,7 @@ use Rattle.body_names.specs.declared.scope.Scope.{Scope}
 use Rattle.body_names.specs.Terms.{Resolved}
 use Rattle.body_names.specs.Resolved.{body_of}
 use Rattle.body_lang.specs.Broken.{broken_fault}
-use Rattle.body_lang.specs.Body.{IsBody, IsNameFault, IsTextFault, IsBodyFault}
+use Rattle.body_lang.specs.Body.{IsNameFault, IsTextFault}
 use Rattle.body_lang.specs.Laws.{OneBody, OneFault, BodyOrFault}
 
 abbrev tree_of : Statements → Result Statements Stop

@@ -1,12 +1,19 @@
--- What there is one of: bodies and first faults of tokens.
-use Rattle.std.specs.Prelude.{◌≡◌, ◌≢◌, ℕ, List}
+-- What follows from the definitions of a body and of its first fault.
+use Rattle.std.specs.Prelude.{◌≡◌, ◌≢◌, ℕ, ◌+◌, List, length, None}
 use Rattle.jdf_lex.specs.declared.fault.JdfCode.TheVariants.{TooManyVars}
 use Rattle.jdf_lex.specs.declared.fault.JdfFault.{JdfFault}
 use Rattle.jdf_lex.specs.declared.token.Spot.{Spot}
 use Rattle.jdf_lex.specs.declared.token.Token.{Token}
+use Rattle.grammar_core.specs.Form.{IsText}
 use Rattle.term_core.specs.declared.body.Body.{Body}
+use Rattle.jdf_tree.specs.BodyGrammar.{body}
+use Rattle.jdf_tree.specs.Grammar.{inner}
+use Rattle.jdf_tree.specs.Statements.{Statements}
 use Rattle.body_names.specs.declared.scope.Scope.{Scope}
+use Rattle.body_names.specs.Resolved.{body_of}
+use Rattle.body_names.specs.Standing.{fault_of, front_fault}
 use Rattle.body_lang.specs.Body.{IsBody, IsNameFault, IsBodyFault}
+use Rattle.body_lang.specs.Declarations.{declarations}
 
 -- Tokens are one body at most.
 abbrev pub OneBody : Type 0
@@ -23,3 +30,11 @@ BodyOrFault = (scope : Scope) (tokens : List Token) (finish : Spot) (x : Body ×
 -- A text never declares too many variables where it has no fault, so no name is refused because of their number.
 abbrev pub NoNameTooMany : Type 0
 NoNameTooMany = (scope : Scope) (tokens : List Token) (f : JdfFault) → IsNameFault scope tokens f → f.code ≢ TooManyVars
+
+-- Beside the locals of the class, a body has a slot for each variable that it declares.
+abbrev pub SlotForEach : Type 0
+SlotForEach = (scope : Scope) (tokens : List Token) (x : Body × List (List ℕ)) (h : IsBody scope tokens x) → x.0.slots ≡ length scope.locals + declarations h.tree
+
+-- In a text without a fault the names have the same first fault, or none, by the tokens beside them and by the tree. So a body that is broken further on is judged by its names as a whole one is.
+abbrev pub NamesAgree : Type 0
+NamesAgree = (scope : Scope) (tokens : List Token) (tree : Statements) → IsText inner body tokens tree None → front_fault scope tokens (length tokens) ≡ fault_of (body_of scope tree)

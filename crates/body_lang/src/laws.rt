@@ -1,4 +1,4 @@
-ghost use Rattle.body_lang.specs.Laws.{OneBody, OneFault, BodyOrFault, NoNameTooMany};
+ghost use Rattle.body_lang.specs.Laws.{OneBody, OneFault, BodyOrFault, NoNameTooMany, SlotForEach, NamesAgree};
 
 /// A law: tokens are one body at most, or have one first fault at most, and not both.
 pub fn one_answer()
@@ -10,4 +10,14 @@ pub fn one_answer()
 /// A law: where the text of a body has no fault, no name is refused because there are too many variables.
 pub fn variables_are_counted_in_the_text()
     ensures { NoNameTooMany }
+{}
+
+/// A law: beside the locals of the class, a body has a slot for each variable that it declares.
+pub fn a_slot_for_each_variable()
+    ensures { SlotForEach }
+{}
+
+/// A law: in a text without a fault the names have the same first fault by the tokens beside them, as a broken body is judged, and by the tree.
+pub fn names_agree()
+    ensures { NamesAgree }
 {}
