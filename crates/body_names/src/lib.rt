@@ -8,6 +8,8 @@ mod meaning;
 mod names;
 mod scope;
 mod statement;
+#[cfg(test)]
+mod tests;
 mod variable;
 mod whole;
 
