@@ -2,12 +2,13 @@ use super::{Case, expect};
 use std::test::Fail;
 
 // A name is a variable, else a local, else an integer, of which its value stands. Before an index it is a flow.
-const NAMES: [Case; 8] = [
+const NAMES: [Case; 9] = [
     ("", "{ } 2"),
     ("A[0] = NB;", "{ f0[0] = 7; } 2"),
     ("int x = k + m * NB;", "{ #2 = Add(#0, Mul(#1, 7)); } 3"),
     ("int x = -k ? !m : NB;", "{ #2 = Neg(#0) ? Not(#1) : 7; } 3"),
     ("{ int x = 1; x = 2; }", "{ #2 = 1; #2 = 2; } 3"),
+    ("A[1 / 0] = 1;", "{ f0[Div(1, 0)] = 1; } 2"),
     ("A[0] = W[1];", "{ f0[0] = f3[1]; } 2"),
     ("W[k] = R[A[m]];", "{ f3[#0] = f1[f0[#1]]; } 2"),
     (
@@ -46,7 +47,11 @@ const HIDDEN: [Case; 7] = [
 ];
 
 // The variable of a loop is seen in the loop's block alone. A variable of a block in that one hides it, and may be set.
-const LOOPS: [Case; 5] = [
+const LOOPS: [Case; 6] = [
+    (
+        "int x = 0; for i = 1 .. 4 { x = x + i; } A[0] = x;",
+        "{ #2 = 0; for #3 = 1 .. 4 { #2 = Add(#2, #3); } f0[0] = #2; } 4",
+    ),
     (
         "for i = k .. m { W[i] = i; } int i = 5; i = i;",
         "{ for #2 = #0 .. #1 { f3[#2] = #2; } #3 = 5; #3 = #3; } 4",

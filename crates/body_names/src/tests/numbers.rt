@@ -22,7 +22,11 @@ const SLOTS: [Case; 3] = [
 ];
 
 // Trap words are numbered in the order of their first use, and are no other names.
-const WORDS: [Case; 3] = [
+const WORDS: [Case; 4] = [
+    (
+        "for i = 3 .. 1 { trap no; }",
+        "{ for #2 = 3 .. 1 { trap 0; } } 3 no",
+    ),
     ("trap no; trap no;", "{ trap 0; trap 0; } 2 no"),
     (
         "trap no; if (k) { trap low; } else { trap no; } for i = 0 .. 1 { trap high; } trap low;",
