@@ -11,6 +11,8 @@ mod role;
 mod scope;
 mod standing;
 mod statement;
+#[cfg(test)]
+mod tests;
 mod variable;
 mod whole;
 
