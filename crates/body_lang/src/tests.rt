@@ -55,7 +55,7 @@ fn lexed(alloc: Global, text: &str) -> Result<Lexed, Fail> {
     Ok(tokens(alloc, text)?)
 }
 
-// The fault of an answer, or none where all is well.
+// The fault that a refusal names.
 fn found(refusal: JdfRefusal) -> Result<Found, Fail> {
     match refusal {
         JdfRefusal::Fault(JdfFault { spot, code }) => Ok((spot.line, spot.column, code)),
