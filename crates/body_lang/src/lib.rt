@@ -2,6 +2,8 @@
 #![tactic(auto)]
 
 mod laws;
+#[cfg(test)]
+mod tests;
 mod whole;
 
 pub use laws::{one_answer, variables_are_counted_in_the_text};

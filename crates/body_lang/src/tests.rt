@@ -1,0 +1,74 @@
+//! Texts of bodies, read and run, or with their first faults. What is wanted was worked out by hand from the rules.
+
+mod agreement;
+mod broken;
+mod faults;
+mod runs;
+
+use crate::read_body;
+use body_names::{FlowName, IntGlobal, Scope};
+use jdf_lex::{JdfCode, JdfFault, JdfRefusal, Lexed, tokens};
+use ptg_base::{Row, Text};
+use std::alloc::Global;
+use std::test::Fail;
+use term_core::FlowKind;
+
+/// So many bytes are enough for a text of these tests.
+const LONGEST: usize = 20000;
+
+// The line, the column and the code of a fault.
+type Found = (u32, u32, JdfCode);
+
+fn flow(alloc: Global, name: &[u8], kind: FlowKind) -> Result<FlowName, Fail> {
+    Ok(FlowName {
+        name: Text::of(alloc, name)?,
+        kind,
+    })
+}
+
+// The locals are k and m, the integer is NB, the collection D, and the flows are A, R, B and C.
+fn scope(alloc: Global) -> Result<Scope, Fail> {
+    let locals = vec![in alloc; Text::of(alloc, b"k")?, Text::of(alloc, b"m")?]?;
+    let int = IntGlobal {
+        name: Text::of(alloc, b"NB")?,
+        value: 7,
+    };
+    let flows = vec![in alloc;
+        flow(alloc, b"A", FlowKind::Rw)?,
+        flow(alloc, b"R", FlowKind::Read)?,
+        flow(alloc, b"B", FlowKind::Write)?,
+        flow(alloc, b"C", FlowKind::Ctl)?,
+    ]?;
+    Ok(Scope {
+        locals: Row::of(locals),
+        ints: Row::of(vec![in alloc; int]?),
+        colls: Row::of(vec![in alloc; Text::of(alloc, b"D")?]?),
+        flows: Row::of(flows),
+    })
+}
+
+// The tokens of a text, as a body has them, and the place behind them.
+fn lexed(alloc: Global, text: &str) -> Result<Lexed, Fail> {
+    if text.len() > LONGEST {
+        return Err("a text too long for these tests".into());
+    }
+    Ok(tokens(alloc, text)?)
+}
+
+// The fault that a refusal names.
+fn found(refusal: JdfRefusal) -> Result<Found, Fail> {
+    match refusal {
+        JdfRefusal::Fault(JdfFault { spot, code }) => Ok((spot.line, spot.column, code)),
+        JdfRefusal::OutOfMemory => Err("no memory".into()),
+    }
+}
+
+// The first fault of a body, or none where it is read.
+fn fault_of(alloc: Global, text: &str) -> Result<Option<Found>, Fail> {
+    let lexed = lexed(alloc, text)?;
+    let scope = scope(alloc)?;
+    match read_body(alloc, lexed.tokens.as_slice(), lexed.end, &scope) {
+        Ok(_) => Ok(None),
+        Err(refusal) => Ok(Some(found(refusal)?)),
+    }
+}
