@@ -6,5 +6,7 @@ mod laws;
 mod tests;
 mod whole;
 
-pub use laws::{one_answer, variables_are_counted_in_the_text};
+pub use laws::{
+    a_slot_for_each_variable, names_agree, one_answer, variables_are_counted_in_the_text,
+};
 pub use whole::read_body;
