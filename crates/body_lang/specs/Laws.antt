@@ -1,5 +1,5 @@
 -- What follows from the definitions of a body and of its first fault.
-use Rattle.std.specs.Prelude.{◌≡◌, ◌≢◌, ℕ, ◌+◌, List, length, None}
+use Rattle.std.specs.Prelude.{◌≡◌, ◌≢◌, ℕ, ◌+◌, List, [], length, map, Some, None, slice_get}
 use Rattle.jdf_lex.specs.declared.fault.JdfCode.TheVariants.{TooManyVars}
 use Rattle.jdf_lex.specs.declared.fault.JdfFault.{JdfFault}
 use Rattle.jdf_lex.specs.declared.token.Spot.{Spot}
@@ -14,6 +14,7 @@ use Rattle.body_names.specs.Resolved.{body_of}
 use Rattle.body_names.specs.Standing.{fault_of, front_fault}
 use Rattle.body_lang.specs.Body.{IsBody, IsNameFault, IsBodyFault}
 use Rattle.body_lang.specs.Declarations.{declarations}
+use Rattle.body_lang.specs.TrapWords.{words_of, numbers_of, each_once}
 
 -- Tokens are one body at most.
 abbrev pub OneBody : Type 0
@@ -38,3 +39,12 @@ SlotForEach = (scope : Scope) (tokens : List Token) (x : Body × List (List ℕ)
 -- In a text without a fault the names have the same first fault, or none, by the tokens beside them and by the tree. So a body that is broken further on is judged by its names as a whole one is.
 abbrev pub NamesAgree : Type 0
 NamesAgree = (scope : Scope) (tokens : List Token) (tree : Statements) → IsText inner body tokens tree None → front_fault scope tokens (length tokens) ≡ fault_of (body_of scope tree)
+
+-- Each trap of a body has the number of the word that its text has.
+abbrev pub OwnWords : Type 0
+OwnWords = (scope : Scope) (tokens : List Token) (x : Body × List (List ℕ)) (h : IsBody scope tokens x)
+    → map (λ (n : ℕ). slice_get x.1 n) (numbers_of x.0.statements) ≡ map (λ (w : List ℕ). Some w) (words_of h.tree)
+
+-- The trap words of a body are those of its text, each once, in the order of their first use.
+abbrev pub WordsOnce : Type 0
+WordsOnce = (scope : Scope) (tokens : List Token) (x : Body × List (List ℕ)) (h : IsBody scope tokens x) → x.1 ≡ each_once [] (words_of h.tree)

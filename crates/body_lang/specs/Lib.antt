@@ -1,4 +1,5 @@
 pub mod Broken
 pub mod Body
 pub mod Declarations
+pub mod TrapWords
 pub mod Laws

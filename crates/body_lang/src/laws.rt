@@ -1,4 +1,4 @@
-ghost use Rattle.body_lang.specs.Laws.{OneBody, OneFault, BodyOrFault, NoNameTooMany, SlotForEach, NamesAgree};
+ghost use Rattle.body_lang.specs.Laws.{OneBody, OneFault, BodyOrFault, NoNameTooMany, SlotForEach, NamesAgree, OwnWords, WordsOnce};
 
 /// A law: tokens are one body at most, or have one first fault at most, and not both.
 pub fn one_answer()
@@ -20,4 +20,10 @@ pub fn a_slot_for_each_variable()
 /// A law: in a text without a fault the names have the same first fault by the tokens beside them, as a broken body is judged, and by the tree.
 pub fn names_agree()
     ensures { NamesAgree }
+{}
+
+/// A law: each trap of a body has the number of its own word, and the words are those of the text, each once, in the order of their first use.
+pub fn traps_have_their_words()
+    ensures own { OwnWords }
+    ensures once { WordsOnce }
 {}

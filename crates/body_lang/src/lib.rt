@@ -7,6 +7,7 @@ mod tests;
 mod whole;
 
 pub use laws::{
-    a_slot_for_each_variable, names_agree, one_answer, variables_are_counted_in_the_text,
+    a_slot_for_each_variable, names_agree, one_answer, traps_have_their_words,
+    variables_are_counted_in_the_text,
 };
 pub use whole::read_body;

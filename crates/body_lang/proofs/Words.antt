@@ -1,0 +1,215 @@
+-- Each trap of a body has the number of its own word.
+use Rattle.std.proofs.Common.{◌≡◌, ℕ, zero, suc, true, List, [], ◌∷◌, ◌++◌, length, get_or, map, Ok, Err, refl, sym, ap, ◌∙◌, subst, append_assoc}
+use Rattle.std.specs.Prelude.{Option, Some, None, slice_get, position}
+use Rattle.std.specs.Str.{bytes_eq}
+use Rattle.std.proofs.lemmas.List.{append-nil, map-append}
+use Rattle.std.proofs.lemmas.List.Quantifiers.{position-Some}
+use Rattle.std.proofs.lemmas.Option.{slice_get-get_or}
+use Rattle.std.specs.Cmp.Lexicographic.{bytes_decides}
+use Rattle.jdf_tree.specs.declared.expression.Word.{Word}
+use Rattle.jdf_tree.specs.Expression.{Expression}
+use Rattle.jdf_tree.specs.Statements.{Statements, Done, DeclareThen, SetThen, PutThen, IfThen, ForThen, TrapThen}
+use Rattle.term_core.specs.declared.body.Body.{Body}
+use Rattle.term_core.specs.declared.body.Stmt.{Stmt}
+use Rattle.term_core.specs.declared.body.Stmt.TheVariants as stmt
+use Rattle.term_core.specs.BlockSteps.{then}
+use Rattle.term_core.specs.Steps.{Steps}
+use Rattle.term_core.specs.Value.{after}
+use Rattle.body_names.specs.declared.scope.Scope.{Scope}
+use Rattle.body_names.specs.Names.{meaning_of}
+use Rattle.body_names.specs.Terms.{Resolved, slot_of, written_flow, term_of}
+use Rattle.body_names.specs.Known.{Known, nothing_known, opened, with_variable, room_for, fresh_in, numbered}
+use Rattle.body_names.specs.Resolved.{Resolver, declare, set, put, inside, choice, counted, stop, follow, resolved, body_of}
+use Rattle.body_lang.specs.TrapWords.{words_of, numbers_of, with_word, each_once}
+
+-- ---- words in the order of their first use
+
+once_append : (front ws vs : List (List ℕ)) → each_once front (ws ++ vs) ≡ each_once (each_once front ws) vs
+once_append front [] vs = refl
+once_append front (w ∷ ws) vs = once_append (with_word front w (position (λ (v : List ℕ). bytes_eq v w) front)) ws vs
+
+-- the words before stay where they are
+record Longer (front all : List (List ℕ)) : Type 0 where
+  more : List (List ℕ)
+  is : all ≡ front ++ more
+
+one_longer : (front : List (List ℕ)) (w : List ℕ) (o : Option ℕ) → Longer front (with_word front w o)
+one_longer front w None = record { more = w ∷ []; is = refl }
+one_longer front w (Some n) = record { more = []; is = sym (append-nil front) }
+
+once_longer : (front ws : List (List ℕ)) → Longer front (each_once front ws)
+once_longer front [] = record { more = []; is = sym (append-nil front) }
+once_longer front (w ∷ ws) =
+    let next = with_word front w (position (λ (v : List ℕ). bytes_eq v w) front) in
+    let a = one_longer front w (position (λ (v : List ℕ). bytes_eq v w) front) in
+    let b = once_longer next ws in
+    record { more = a.more ++ b.more; is = b.is ∙ (ap (λ (l : List (List ℕ)). l ++ b.more) a.is ∙ append_assoc front a.more b.more) }
+
+-- ---- what is known of words along statements
+
+abbrev looked_up : List (List ℕ) → List ℕ → List (Option (List ℕ))
+looked_up words ns = map (λ (n : ℕ). slice_get words n) ns
+
+abbrev each_some : List (List ℕ) → List (Option (List ℕ))
+each_some ws = map (λ (w : List ℕ). Some w) ws
+
+-- from k to m traps of these words came, with these numbers
+record Told (k m : Known) (ws : List (List ℕ)) (ns : List ℕ) : Type 0 where
+  words : m.words ≡ each_once k.words ws
+  own : (more : List (List ℕ)) → looked_up (m.words ++ more) ns ≡ each_some ws
+
+none_told : (k m : Known) → m.words ≡ k.words → Told k m [] []
+none_told k m e = record { words = e; own = λ more. refl }
+
+both_told : (k m q : Known) (ws vs : List (List ℕ)) (ns ms : List ℕ) → Told k m ws ns → Told m q vs ms → Told k q (ws ++ vs) (ns ++ ms)
+both_told k m q ws vs ns ms a b =
+    let l = once_longer m.words vs in
+    record {
+      words = b.words ∙ (ap (λ (f : List (List ℕ)). each_once f vs) a.words ∙ sym (once_append k.words ws vs));
+      own = λ more.
+          map-append (λ (n : ℕ). slice_get (q.words ++ more) n) ns ms
+          ∙ (ap (λ (l : List (Option (List ℕ))). l ++ looked_up (q.words ++ more) ms)
+          (ap (λ (l : List (List ℕ)). looked_up (l ++ more) ns) (b.words ∙ l.is) ∙ (ap (λ (l : List (List ℕ)). looked_up l ns) (append_assoc m.words l.more more) ∙ a.own (l.more ++ more)))
+          ∙ (ap (λ (l : List (Option (List ℕ))). each_some ws ++ l) (b.own more) ∙ sym (map-append (λ (w : List ℕ). Some w) ws vs)));
+    }
+
+-- ---- statements
+
+-- where there is a value, it is so
+abbrev Good : {A : Type 0} → (A → Type 0) → Resolved A → Type 0
+Good P (Ok x) = P x
+Good P (Err f) = Unit {0}
+
+abbrev Any : {A : Type 0} → A → Type 0
+Any x = Unit {0}
+
+after_good : {A B : Type 0} (P : A → Type 0) (Q : B → Type 0) (r : Resolved A) (f : A → Resolved B) → Good P r → ((x : A) → P x → Good Q (f x)) → Good Q (after r f)
+after_good P Q (Ok x) f h k = k x h
+after_good P Q (Err e) f h k = tt
+
+any_good : {A : Type 0} (r : Resolved A) → Good (Any {A = A}) r
+any_good (Ok x) = tt
+any_good (Err e) = tt
+
+-- a first step that says nothing of words
+past : {A B : Type 0} (Q : B → Type 0) (r : Resolved A) (f : A → Resolved B) → ((x : A) → Good Q (f x)) → Good Q (after r f)
+past Q r f k = after_good Any Q r f (any_good r) (λ x _. k x)
+
+-- the numbers of the traps of one statement
+abbrev numbers_in : Stmt → List ℕ
+numbers_in (stmt.Set n e) = []
+numbers_in (stmt.Put flow i e) = []
+numbers_in (stmt.If c first second) = numbers_of first ++ numbers_of second
+numbers_in (stmt.For n lo hi turn) = numbers_of turn
+numbers_in (stmt.Trap n) = n ∷ []
+
+numbers_then : (s : Stmt) (rest : Steps) → numbers_of (then s rest) ≡ numbers_in s ++ numbers_of rest
+numbers_then (stmt.Set n e) rest = refl
+numbers_then (stmt.Put flow i e) rest = refl
+numbers_then (stmt.If c first second) rest = refl
+numbers_then (stmt.For n lo hi turn) rest = refl
+numbers_then (stmt.Trap n) rest = refl
+
+abbrev ToldOf : Known → List (List ℕ) → Stmt × Known → Type 0
+ToldOf k ws x = Told k x.1 ws (numbers_in x.0)
+
+abbrev ToldAll : Known → List (List ℕ) → Steps × Known → Type 0
+ToldAll k ws x = Told k x.1 ws (numbers_of x.0)
+
+abbrev Tells : Resolver → List (List ℕ) → Type 0
+Tells block ws = (k : Known) → Good (ToldAll k ws) (block k)
+
+-- the words of a trap behind which this is known
+stop_told_by : (text : List ℕ) (k : Known) (o : Option ℕ) → position (λ (v : List ℕ). bytes_eq v text) k.words ≡ o → Told k (numbered text k o).1 (text ∷ []) ((numbered text k o).0 ∷ [])
+stop_told_by text k None e =
+    record {
+      words = sym (ap (with_word k.words text) e);
+      own = λ more. ap (λ (x : Option (List ℕ)). x ∷ []) (ap (λ (l : List (List ℕ)). slice_get l (length k.words)) (append_assoc k.words (text ∷ []) more) ∙ at_end k.words more);
+    }
+  where
+    at_end : (xs more : List (List ℕ)) → slice_get (xs ++ text ∷ more) (length xs) ≡ Some text
+    at_end [] more = refl
+    at_end (x ∷ xs) more = at_end xs more
+stop_told_by text k (Some n) e =
+    let found = position-Some (λ (v : List ℕ). bytes_eq v text) k.words n [] e in
+    let same : get_or k.words n [] ≡ text = (bytes_decides (get_or k.words n []) text).0 found.1 in
+    let there : slice_get k.words n ≡ Some text = slice_get-get_or k.words n [] found.0 ∙ ap (λ (w : List ℕ). Some w) same in
+    record {
+      words = sym (ap (with_word k.words text) e);
+      own = λ more. ap (λ (x : Option (List ℕ)). x ∷ []) (at_front k.words more n there);
+    }
+  where
+    at_front : (xs more : List (List ℕ)) (n : ℕ) → slice_get xs n ≡ Some text → slice_get (xs ++ more) n ≡ Some text
+    at_front [] more n h = absurd cc
+    at_front (x ∷ xs) more zero h = h
+    at_front (x ∷ xs) more (suc n) h = at_front xs more n h
+
+module _ (scope : Scope) where
+  declare_told : (w : Word) (e : Expression) (k : Known) → Good (ToldOf k []) (declare scope w e k)
+  declare_told w e k =
+      past (ToldOf k []) (room_for w k) _ (λ _. past (ToldOf k []) (fresh_in w k) _ (λ _. past (ToldOf k []) (term_of scope k.seen e) _ (λ x. none_told k _ refl)))
+
+  set_told : (w : Word) (e : Expression) (k : Known) → Good (ToldOf k []) (set scope w e k)
+  set_told w e k = past (ToldOf k []) (slot_of w (meaning_of scope k.seen w.text)) _ (λ n. past (ToldOf k []) (term_of scope k.seen e) _ (λ x. none_told k _ refl))
+
+  put_told : (w : Word) (i e : Expression) (k : Known) → Good (ToldOf k []) (put scope w i e k)
+  put_told w i e k =
+      past (ToldOf k []) (written_flow scope w) _ (λ flow. past (ToldOf k []) (term_of scope k.seen i) _ (λ x. past (ToldOf k []) (term_of scope k.seen e) _ (λ y. none_told k _ refl)))
+
+  inside_told : (opening : Known → Known) (block : Resolver) (ws : List (List ℕ)) → Tells block ws → (k : Known) → (opening k).words ≡ k.words → Good (ToldAll k ws) (inside opening block k)
+  inside_told opening block ws h k e =
+      after_good (ToldAll (opening k) ws) (ToldAll k ws) (block (opening k)) _ (h (opening k)) (λ x t. record { words = t.words ∙ ap (λ (f : List (List ℕ)). each_once f ws) e; own = t.own })
+
+  choice_told : (c : Expression) (first second : Resolver) (ws vs : List (List ℕ)) → Tells first ws → Tells second vs → (k : Known) → Good (ToldOf k (ws ++ vs)) (choice scope c first second k)
+  choice_told c first second ws vs one two k =
+      past (ToldOf k (ws ++ vs)) (term_of scope k.seen c) _
+      (λ x. after_good (ToldAll k ws) (ToldOf k (ws ++ vs)) (inside opened first k) _ (inside_told opened first ws one k refl)
+      (λ a s. after_good (ToldAll a.1 vs) (ToldOf k (ws ++ vs)) (inside opened second a.1) _ (inside_told opened second vs two a.1 refl)
+      (λ b t. both_told k a.1 b.1 ws vs (numbers_of a.0) (numbers_of b.0) s t)))
+
+  counted_told : (w : Word) (lo hi : Expression) (turn : Resolver) (ws : List (List ℕ)) → Tells turn ws → (k : Known) → Good (ToldOf k ws) (counted scope w lo hi turn k)
+  counted_told w lo hi turn ws h k =
+      past (ToldOf k ws) (room_for w k) _
+      (λ _. past (ToldOf k ws) (term_of scope k.seen lo) _
+      (λ x. past (ToldOf k ws) (term_of scope k.seen hi) _
+      (λ y. after_good (ToldAll k ws) (ToldOf k ws) (inside (λ m. with_variable scope w.text true (opened m)) turn k) _ (inside_told (λ m. with_variable scope w.text true (opened m)) turn ws h k refl) (λ t s. s))))
+
+  stop_told : (w : Word) (k : Known) → Good (ToldOf k (w.text ∷ [])) (stop w k)
+  stop_told w k = stop_told_by w.text k (position (λ (v : List ℕ). bytes_eq v w.text) k.words) refl
+
+  follow_told : (k : Known) (ws vs : List (List ℕ)) (first : Resolved (Stmt × Known)) (rest : Resolver) → Good (ToldOf k ws) first → Tells rest vs → Good (ToldAll k (ws ++ vs)) (follow first rest)
+  follow_told k ws vs first rest one more =
+      after_good (ToldOf k ws) (ToldAll k (ws ++ vs)) first _ one
+      (λ x s. after_good (ToldAll x.1 vs) (ToldAll k (ws ++ vs)) (rest x.1) _ (more x.1)
+      (λ y t. subst (λ (ns : List ℕ). Told k y.1 (ws ++ vs) ns) (sym (numbers_then x.0 y.0)) (both_told k x.1 y.1 ws vs (numbers_in x.0) (numbers_of y.0) s t)))
+
+  told : (t : Statements) → Tells (resolved scope t) (words_of t)
+  told Done k = none_told k k refl
+  told (DeclareThen w e rest) k = follow_told k [] (words_of rest) (declare scope w e k) (resolved scope rest) (declare_told w e k) (told rest)
+  told (SetThen w e rest) k = follow_told k [] (words_of rest) (set scope w e k) (resolved scope rest) (set_told w e k) (told rest)
+  told (PutThen w i e rest) k = follow_told k [] (words_of rest) (put scope w i e k) (resolved scope rest) (put_told w i e k) (told rest)
+  told (IfThen c first second rest) k =
+      follow_told k (words_of first ++ words_of second) (words_of rest) (choice scope c (resolved scope first) (resolved scope second) k) (resolved scope rest)
+      (choice_told c (resolved scope first) (resolved scope second) (words_of first) (words_of second) (told first) (told second) k) (told rest)
+  told (ForThen w lo hi turn rest) k =
+      follow_told k (words_of turn) (words_of rest) (counted scope w lo hi (resolved scope turn) k) (resolved scope rest) (counted_told w lo hi (resolved scope turn) (words_of turn) (told turn) k) (told rest)
+  told (TrapThen w rest) k = follow_told k (w.text ∷ []) (words_of rest) (stop w k) (resolved scope rest) (stop_told w k) (told rest)
+
+  -- ---- a whole body
+
+  abbrev ToldBody : Statements → Body × List (List ℕ) → Type 0
+  ToldBody t x = (looked_up x.1 (numbers_of x.0.statements) ≡ each_some (words_of t)) × (x.1 ≡ each_once [] (words_of t))
+
+  body_told : (t : Statements) → Good (ToldBody t) (body_of scope t)
+  body_told t =
+      after_good (ToldAll nothing_known (words_of t)) (ToldBody t) (resolved scope t nothing_known) _ (told t nothing_known)
+      (λ x h. (ap (λ (l : List (List ℕ)). looked_up l (numbers_of x.0)) (sym (append-nil x.1.words)) ∙ h.own [], h.words))
+
+  of_body : (t : Statements) (x : Body × List (List ℕ)) → body_of scope t ≡ Ok x → ToldBody t x
+  of_body t x e = subst (λ (r : Resolved (Body × List (List ℕ))). Good (ToldBody t) r) e (body_told t)
+
+  pub own_words : (t : Statements) (x : Body × List (List ℕ)) → body_of scope t ≡ Ok x → map (λ (n : ℕ). slice_get x.1 n) (numbers_of x.0.statements) ≡ map (λ (w : List ℕ). Some w) (words_of t)
+  own_words t x e = (of_body t x e).0
+
+  pub words_once : (t : Statements) (x : Body × List (List ℕ)) → body_of scope t ≡ Ok x → x.1 ≡ each_once [] (words_of t)
+  words_once t x e = (of_body t x e).1
