@@ -1,5 +1,5 @@
 -- What follows from the definitions of a body and of its first fault.
-use Rattle.std.specs.Prelude.{◌≡◌, ◌≢◌, ℕ, ◌+◌, List, [], length, map, Some, None, slice_get}
+use Rattle.std.specs.Prelude.{◌≡◌, ◌≢◌, ℕ, ◌+◌, List, [], length, map, Some, None, slice_get, ◌<◌, ◌++◌, ◌⊎◌, Ok}
 use Rattle.jdf_lex.specs.declared.fault.JdfCode.TheVariants.{TooManyVars}
 use Rattle.jdf_lex.specs.declared.fault.JdfFault.{JdfFault}
 use Rattle.jdf_lex.specs.declared.token.Spot.{Spot}
@@ -36,9 +36,18 @@ NoNameTooMany = (scope : Scope) (tokens : List Token) (f : JdfFault) → IsNameF
 abbrev pub SlotForEach : Type 0
 SlotForEach = (scope : Scope) (tokens : List Token) (x : Body × List (List ℕ)) (h : IsBody scope tokens x) → x.0.slots ≡ length scope.locals + declarations h.tree
 
--- In a text without a fault the names have the same first fault, or none, by the tokens beside them and by the tree. So a body that is broken further on is judged by its names as a whole one is.
+-- In a text without a fault the names have the same first fault, or none, by the tokens beside them and by the tree.
 abbrev pub NamesAgree : Type 0
 NamesAgree = (scope : Scope) (tokens : List Token) (tree : Statements) → IsText inner body tokens tree None → front_fault scope tokens (length tokens) ≡ fault_of (body_of scope tree)
+
+-- The names at the front of such a text have no fault, or that of the tree.
+abbrev pub FrontsAgree : Type 0
+FrontsAgree = (scope : Scope) (tokens : List Token) (tree : Statements) (n : ℕ) → IsText inner body tokens tree None
+    → (front_fault scope tokens n ≡ Ok tt) ⊎ (front_fault scope tokens n ≡ fault_of (body_of scope tree))
+
+-- Behind the names at the front of any tokens only the next token counts.
+abbrev pub OnlyTheNextCounts : Type 0
+OnlyTheNextCounts = (scope : Scope) (front rest other : List Token) (n : ℕ) → n < length front → front_fault scope (front ++ rest) n ≡ front_fault scope (front ++ other) n
 
 -- Each trap of a body has the number of the word that its text has.
 abbrev pub OwnWords : Type 0

@@ -1,4 +1,4 @@
-ghost use Rattle.body_lang.specs.Laws.{OneBody, OneFault, BodyOrFault, NoNameTooMany, SlotForEach, NamesAgree, OwnWords, WordsOnce};
+ghost use Rattle.body_lang.specs.Laws.{OneBody, OneFault, BodyOrFault, NoNameTooMany, SlotForEach, NamesAgree, FrontsAgree, OnlyTheNextCounts, OwnWords, WordsOnce};
 
 /// A law: tokens are one body at most, or have one first fault at most, and not both.
 pub fn one_answer()
@@ -17,9 +17,11 @@ pub fn a_slot_for_each_variable()
     ensures { SlotForEach }
 {}
 
-/// A law: in a text without a fault the names have the same first fault by the tokens beside them, as a broken body is judged, and by the tree.
+/// A law of `front_fault`, by which names are judged in a broken body: in a text without a fault it says what the tree says, at its front too, and of what stands behind only the next token counts.
 pub fn names_agree()
-    ensures { NamesAgree }
+    ensures whole { NamesAgree }
+    ensures front { FrontsAgree }
+    ensures next { OnlyTheNextCounts }
 {}
 
 /// A law: each trap of a body has the number of its own word, and the words are those of the text, each once, in the order of their first use.
