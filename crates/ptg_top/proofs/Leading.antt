@@ -10,15 +10,15 @@ use Rattle.ptg_words.specs.Words.{Orders}
 use Rattle.jdf_lex.specs.Tokens as jdf_text
 use Rattle.jdf_lex.specs.declared.fault.JdfFault.{JdfFault}
 use Rattle.jdf_first.specs.declared.tree.Jdf.{Jdf}
-use Rattle.coll_data.specs.declared.fault.DataFault.{DataFault}
-use Rattle.coll_data.specs.declared.given.Given.{Given}
-use Rattle.coll_data.specs.Data as coll
-use Rattle.coll_data.specs.Data.{IsData}
-use Rattle.coll_data.specs.Whole.{HasWholeTiles}
+use Rattle.data_first.specs.declared.fault.DataFault.{DataFault}
+use Rattle.data_first.specs.declared.given.Given.{Given}
+use Rattle.data_first.specs.Data as coll
+use Rattle.data_first.specs.Data.{IsData}
+use Rattle.data_first.specs.Whole.{HasWholeTiles}
 use Rattle.plan_first.specs.declared.plan.Plan.{Plan}
-use Rattle.flow_check.specs.Names.{IsMissing}
-use Rattle.flow_check.specs.Planned.{IsPlan}
-use Rattle.flow_core.specs.Fits.{Fits}
+use Rattle.check_first.specs.Names.{IsMissing}
+use Rattle.check_first.specs.Planned.{IsPlan}
+use Rattle.core_first.specs.Fits.{Fits}
 use Rattle.ptg_top.specs.declared.verdict.Verdict.{Verdict}
 use Rattle.ptg_top.specs.declared.verdict.Verdict.TheVariants as say
 use Rattle.ptg_top.specs.declared.stages.Stop.{Stop}

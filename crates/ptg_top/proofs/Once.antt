@@ -12,19 +12,19 @@ use Rattle.jdf_lex.specs.Tokens as jdf_text
 use Rattle.jdf_first.specs.declared.tree.Jdf.{Jdf}
 use Rattle.jdf_first.specs.Jdf.{IsJdf}
 use Rattle.jdf_first.proofs.File.{one_text_one_tree}
-use Rattle.coll_data.specs.declared.given.Given.{Given}
-use Rattle.coll_data.specs.Data as coll
-use Rattle.coll_data.specs.Data.{IsData}
-use Rattle.coll_data.proofs.Once.{one_data}
+use Rattle.data_first.specs.declared.given.Given.{Given}
+use Rattle.data_first.specs.Data as coll
+use Rattle.data_first.specs.Data.{IsData}
+use Rattle.data_first.proofs.Once.{one_data}
 use Rattle.plan_first.specs.declared.plan.Plan.{Plan}
-use Rattle.flow_check.specs.Names.{IsMissing}
-use Rattle.flow_check.specs.Planned.{IsPlan}
-use Rattle.flow_check.proofs.Once.{one_plan}
-use Rattle.dep_iter.specs.Consistent.{IsConsistent}
-use Rattle.flow_core.specs.Answer.{answer}
-use Rattle.edge_match.specs.declared.fault.MatchCode.{MatchCode}
-use Rattle.edge_match.specs.declared.fault.MatchFault.{MatchFault}
-use Rattle.edge_match.specs.declared.fault.MatchCode.TheVariants.{NotBuilt}
+use Rattle.check_first.specs.Names.{IsMissing}
+use Rattle.check_first.specs.Planned.{IsPlan}
+use Rattle.check_first.proofs.Once.{one_plan}
+use Rattle.dep_first.specs.Consistent.{IsConsistent}
+use Rattle.core_first.specs.Answer.{answer}
+use Rattle.match_first.specs.declared.fault.MatchCode.{MatchCode}
+use Rattle.match_first.specs.declared.fault.MatchFault.{MatchFault}
+use Rattle.match_first.specs.declared.fault.MatchCode.TheVariants.{NotBuilt}
 use Rattle.ptg_top.specs.declared.verdict.Verdict.{Verdict}
 use Rattle.ptg_top.specs.declared.verdict.Verdict.TheVariants as say
 use Rattle.ptg_top.specs.Stages.{Entries, HasTree, HasData, HasPlan}

@@ -5,9 +5,9 @@ use Rattle.ptg_io.specs.Files.{file_of}
 use Rattle.jdf_lex.specs.Tokens as jdf
 use Rattle.jdf_first.specs.declared.tree.Jdf.{Jdf}
 use Rattle.jdf_first.specs.Jdf.{IsJdf}
-use Rattle.coll_data.specs.declared.given.Given.{Given}
-use Rattle.coll_data.specs.Data as coll
-use Rattle.coll_data.specs.Data.{IsData}
+use Rattle.data_first.specs.declared.given.Given.{Given}
+use Rattle.data_first.specs.Data as coll
+use Rattle.data_first.specs.Data.{IsData}
 use Rattle.ptg_top.specs.declared.verdict.Verdict.TheVariants as say
 use Rattle.ptg_top.specs.declared.stages.Stop.{Stop}
 use Rattle.ptg_top.specs.declared.stages.Stop.TheVariants.{Said, Memory}

@@ -1,12 +1,12 @@
 -- What is printed for a verdict, and what a run of the program promises.
 use Rattle.std.specs.Prelude.{◌≡◌, ℕ, List, [], ◌∷◌, Option, codes}
 use Rattle.ptg_io.specs.Sink.{appended}
-use Rattle.flow_core.specs.declared.outcome.Outcome.{Outcome}
-use Rattle.flow_core.specs.declared.outcome.Outcome.TheVariants as outcome
-use Rattle.report_text.specs.Printed.{line, outcome_text}
-use Rattle.report_text.specs.Refusal.{refusal_text}
-use Rattle.report_text.specs.declared.refusal_line.Line.TheVariants as line_of
-use Rattle.report_text.specs.Puts.{HasPrefix}
+use Rattle.core_first.specs.declared.outcome.Outcome.{Outcome}
+use Rattle.core_first.specs.declared.outcome.Outcome.TheVariants as outcome
+use Rattle.report_first.specs.Printed.{line, outcome_text}
+use Rattle.report_first.specs.Refusal.{refusal_text}
+use Rattle.report_first.specs.declared.refusal_line.Line.TheVariants as line_of
+use Rattle.report_first.specs.Puts.{HasPrefix}
 use Rattle.ptg_top.specs.declared.status.Status.{Status}
 use Rattle.ptg_top.specs.declared.status.Status.TheVariants.{Complete, Usage, JdfRefused, DataRefused, Inconsistent, Trapped, Stalled, ReadFault, WriteFault, OutOfMemory}
 use Rattle.ptg_top.specs.declared.verdict.Verdict.{Verdict}

@@ -5,11 +5,11 @@ use Rattle.ptg_words.specs.declared.order.Order.TheVariants.{Run}
 use Rattle.ptg_words.specs.Words.{Orders}
 use Rattle.jdf_first.specs.declared.tree.Jdf.{Jdf}
 use Rattle.jdf_first.specs.Jdf.{IsJdf}
-use Rattle.coll_data.specs.declared.given.Given.{Given}
-use Rattle.coll_data.specs.Data.{IsData}
+use Rattle.data_first.specs.declared.given.Given.{Given}
+use Rattle.data_first.specs.Data.{IsData}
 use Rattle.plan_first.specs.declared.plan.Plan.{Plan}
-use Rattle.flow_check.specs.Names.{IsMissing}
-use Rattle.flow_check.specs.Planned.{IsPlan}
+use Rattle.check_first.specs.Names.{IsMissing}
+use Rattle.check_first.specs.Planned.{IsPlan}
 
 -- files by name
 abbrev pub Entries : Type 0

@@ -5,14 +5,14 @@ use Rattle.ptg_io.specs.Files.{file_of}
 use Rattle.jdf_lex.specs.Tokens as jdf
 use Rattle.jdf_first.specs.declared.tree.Jdf.{Jdf}
 use Rattle.jdf_first.specs.Jdf.{IsJdf}
-use Rattle.coll_data.specs.declared.given.Given.{Given}
-use Rattle.coll_data.specs.Data as coll
-use Rattle.coll_data.specs.Data.{IsData}
+use Rattle.data_first.specs.declared.given.Given.{Given}
+use Rattle.data_first.specs.Data as coll
+use Rattle.data_first.specs.Data.{IsData}
 use Rattle.plan_first.specs.declared.plan.Plan.{Plan}
-use Rattle.flow_check.specs.Names.{IsMissing}
-use Rattle.flow_check.specs.Planned.{IsPlan}
-use Rattle.dep_iter.specs.Consistent.{IsConsistent}
-use Rattle.flow_core.specs.Answer.{answer}
+use Rattle.check_first.specs.Names.{IsMissing}
+use Rattle.check_first.specs.Planned.{IsPlan}
+use Rattle.dep_first.specs.Consistent.{IsConsistent}
+use Rattle.core_first.specs.Answer.{answer}
 use Rattle.ptg_top.specs.declared.verdict.Verdict.{Verdict}
 use Rattle.ptg_top.specs.declared.verdict.Verdict.TheVariants as say
 use Rattle.ptg_top.specs.declared.stages.Stop.{Stop}

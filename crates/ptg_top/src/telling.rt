@@ -3,15 +3,15 @@
 ghost use Rattle.std.specs.Prelude.{◌≡◌, ◌≤◌, OnOk, OnErr};
 ghost use Rattle.ptg_io.specs.Faults.{Rose};
 ghost use Rattle.ptg_io.specs.Sink.{appended};
-ghost use Rattle.report_text.specs.Puts.{HasPrefix};
+ghost use Rattle.report_first.specs.Puts.{HasPrefix};
 ghost use Rattle.ptg_top.specs.Headline.{text_of, status_of, status_of_outcome};
 
 use crate::status::Status;
 use crate::verdict::Verdict;
-use flow_core::Outcome;
+use core_first::Outcome;
 use ptg_base::Text;
 use ptg_io::{Failed, Sink, write_all};
-use report_text::{Line, refusal, report};
+use report_first::{Line, refusal, report};
 
 /// Prints a verdict. On `Err` some first bytes of its text went out.
 pub fn tell<O: Sink>(verdict: &Verdict, out: &mut O) -> Result<(), Failed>

@@ -1,8 +1,8 @@
-use coll_data::DataFault;
-use dep_iter::Matched;
-use edge_match::MatchFault;
-use flow_core::Outcome;
+use core_first::Outcome;
+use data_first::DataFault;
+use dep_first::Matched;
 use jdf_lex::JdfFault;
+use match_first::MatchFault;
 use ptg_base::Text;
 
 /// What is to be printed.

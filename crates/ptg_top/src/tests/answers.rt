@@ -1,6 +1,6 @@
 use super::{CHAIN, DATA, files, run};
 use crate::one_meaning;
-use flow_check::one_plan;
+use check_first::one_plan;
 use std::test::Fail;
 
 // Two tasks that wait for each other.

@@ -1,6 +1,6 @@
 use super::{CHAIN, DATA, files, run};
-use coll_data::read_data;
-use flow_check::{is_missing, missing};
+use check_first::{is_missing, missing};
+use data_first::read_data;
 use jdf_first::read_first;
 use std::test::Fail;
 

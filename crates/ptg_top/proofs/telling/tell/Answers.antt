@@ -1,8 +1,8 @@
 use Rattle.std.proofs.Common.{subst, sym}
 use Rattle.std.specs.Prelude.{OnErr}
 use Rattle.plan_first.specs.declared.plan.Plan.{Plan}
-use Rattle.report_text.specs.Printed.{outcome_text}
-use Rattle.report_text.specs.Puts.{HasPrefix}
+use Rattle.report_first.specs.Printed.{outcome_text}
+use Rattle.report_first.specs.Puts.{HasPrefix}
 use Rattle.ptg_top.specs.declared.verdict.Verdict.{Verdict}
 use Rattle.ptg_top.specs.Headline.{text_of}
 use Rattle.ptg_top.proofs.telling.tell.Goals as goal
