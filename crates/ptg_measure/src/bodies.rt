@@ -1,0 +1,42 @@
+//! Bodies of tasks, run.
+use crate::count::{Count, Failure};
+use body_eval::{Scratch, is_well_body, run_body};
+use ptg_base::{Seq, Tile};
+use std::alloc::Global;
+use term_core::{BinOp, Block, Body, Expr, Stmt};
+
+// The slots of `x` and `i`.
+const X: u16 = 0;
+
+const I: u16 = 1;
+
+/// The body `int x = 0; for i = 1 .. size { x = x + i; } A[0] = x;`, where `A` is its one flow.
+fn turns(alloc: Global, size: u32) -> Result<Body, Failure> {
+    let sum = Expr::binary(alloc, BinOp::Add, Expr::local(X), Expr::local(I))?;
+    let turn = Block::of(Seq::of(vec![in alloc; Stmt::Set(X, sum)]?));
+    let last = Expr::num(i64::from(size));
+    let statements = vec![in alloc;
+        Stmt::Set(X, Expr::num(0)),
+        Stmt::For(I, Expr::num(1), last, turn),
+        Stmt::Put(0, Expr::num(0), Expr::local(X)),
+    ]?;
+    Ok(Body {
+        statements: Block::of(Seq::of(statements)),
+        slots: 2,
+    })
+}
+
+/// A body of so many turns, run: the sum that it leaves in its tile.
+pub fn body(alloc: Global, size: u32) -> Result<Vec<Count>, Failure> {
+    let body = turns(alloc, size)?;
+    let mut tiles = vec![in alloc; Some(Tile::zeros(alloc, 1)?)]?;
+    if !is_well_body(&body, 0, 1) {
+        return Err(Failure::NotWellMade);
+    }
+    run_body(&body, &[], tiles.as_mut_slice(), &mut Scratch::new()).map_err(Failure::Trapped)?;
+    let value = match &tiles[0] {
+        Some(tile) if tile.len() > 0 => tile.get(0),
+        _ => return Err(Failure::NotWellMade),
+    };
+    Ok(vec![in alloc; Count { name: "sum", value }]?)
+}

@@ -1,0 +1,57 @@
+//! What a measured case counts, and why one ends early.
+use jdf_lex::JdfRefusal;
+use ptg_base::OutOfMemory;
+use std::alloc::{AllocError, AllocFailed};
+use std::fmt;
+use term_core::Trap;
+
+/// A number with the name of what was counted.
+#[derive(Debug, Drop)]
+pub struct Count {
+    pub name: &'static str,
+    pub value: i64,
+}
+
+impl fmt::Display for Count {
+    fn fmt<W: fmt::Write>(&self, f: &mut fmt::Formatter<W>) -> fmt::Result {
+        write!(f, "{},{}", self.name, self.value)
+    }
+}
+
+/// Why a case was not measured to its end.
+#[derive(Debug, Drop)]
+pub enum Failure {
+    OutOfMemory,
+    /// The text or the space of this size is over a limit.
+    TooLarge,
+    /// The space or the body that was made is not well made, which no size explains.
+    NotWellMade,
+    /// The text that was made is refused.
+    Refused(JdfRefusal),
+    /// The body that was made trapped.
+    Trapped(Trap),
+}
+
+impl From<AllocError> for Failure {
+    fn from(_error: AllocError) -> Self {
+        Failure::OutOfMemory
+    }
+}
+
+impl<T: Drop> From<AllocFailed<T>> for Failure {
+    fn from(_error: AllocFailed<T>) -> Self {
+        Failure::OutOfMemory
+    }
+}
+
+impl From<OutOfMemory> for Failure {
+    fn from(_error: OutOfMemory) -> Self {
+        Failure::OutOfMemory
+    }
+}
+
+impl From<JdfRefusal> for Failure {
+    fn from(refusal: JdfRefusal) -> Self {
+        Failure::Refused(refusal)
+    }
+}

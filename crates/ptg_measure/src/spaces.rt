@@ -1,0 +1,53 @@
+//! Walks through spaces of tasks, and counts of them.
+ghost use Rattle.std.specs.Prelude.{◌≡◌, ◌≤◌, IfOk, IfSome, length};
+ghost use Rattle.range_space.specs.Tasks.{tasks};
+
+use crate::count::{Count, Failure};
+use ptg_base::Seq;
+use range_space::{Space, space_size};
+use std::alloc::Global;
+use term_core::{ClassSpace, Def, Expr, Params, Range};
+
+/// The class of one parameter with a value for each of so many tasks, `T(k)`: `k = 1 .. size`.
+fn line(alloc: Global, size: u32) -> Result<ClassSpace, Failure>
+    ensures { IfOk result (λ space. length space.defs ≤ 16) }
+{
+    let range = Range {
+        lo: Expr::num(1),
+        hi: Expr::num(i64::from(size)),
+        step: None,
+    };
+    Ok(ClassSpace {
+        defs: Seq::of(vec![in alloc; Def::Span(range)]?),
+        params: Params::new(&[0]),
+    })
+}
+
+/// How many tasks a walk through a class comes to, or none past the largest count.
+fn walked(space: &ClassSpace) -> Option<u64>
+    requires { length space.now.defs ≤ 16 }
+    ensures { IfSome result (λ n. n ≡ length (tasks space.now)) }
+{
+    let mut count: u64 = 0;
+    for _task in Space::new(space) {
+        count = count.checked_add(1)?;
+    }
+    Some(count)
+}
+
+/// A class of so many tasks: how many a walk comes to, and how many `space_size` counts.
+pub fn space(alloc: Global, size: u32) -> Result<Vec<Count>, Failure> {
+    let classes = vec![in alloc; line(alloc, size)?]?;
+    let walked = walked(&classes[0]).ok_or(Failure::TooLarge)?;
+    let counted = space_size(classes.as_slice()).map_err(|_| Failure::TooLarge)?;
+    Ok(vec![in alloc;
+        Count {
+            name: "walked",
+            value: i64::try_from(walked).unwrap_or(i64::MAX)
+        },
+        Count {
+            name: "counted",
+            value: i64::try_from(counted).unwrap_or(i64::MAX)
+        },
+    ]?)
+}

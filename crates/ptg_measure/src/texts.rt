@@ -1,0 +1,34 @@
+//! JDF texts of a given number of tokens, lexed.
+use crate::count::{Count, Failure};
+use jdf_lex::tokens;
+use std::alloc::Global;
+
+// One class of tasks, with a flow.
+const CLASS: &str = "T(k)\nk = 0 .. 0\n: D(0)\nRW A <- D(0)\n  -> D(0)\nBODY\nA[0] = 1;\nEND\n";
+
+const CLASS_TOKENS: u32 = 35;
+
+/// A JDF text of so many tokens, or of its class and one global where they are fewer: globals, and then the class.
+fn text(alloc: Global, size: u32) -> Result<String, Failure> {
+    let mut text = String::from_str(alloc, "D\n")?;
+    for number in 1..size.saturating_sub(CLASS_TOKENS) {
+        write!(text, "g{number}\n")?;
+    }
+    text.push_str(CLASS)?;
+    Ok(text)
+}
+
+/// A text of so many tokens: how many are found.
+pub fn tokens_of_text(alloc: Global, size: u32) -> Result<Vec<Count>, Failure> {
+    let text = text(alloc, size)?;
+    if text.len() > 16777216 {
+        return Err(Failure::TooLarge);
+    }
+    let value = tokens(alloc, text.as_str())?.tokens.len() as i64;
+    Ok(vec![in alloc;
+        Count {
+            name: "tokens",
+            value
+        },
+    ]?)
+}
