@@ -1,4 +1,4 @@
-//! Texts of bodies, read and run, or with their first faults. What is wanted was worked out by hand from the rules.
+//! Texts of bodies, read and run, or with their first faults. The expected results were worked out by hand from the rules.
 
 mod agreement;
 mod broken;
@@ -6,9 +6,10 @@ mod faults;
 mod runs;
 
 use crate::read_body;
-use body_names::{FlowName, IntGlobal, Scope};
+use body_names::{FlowName, Scope};
 use jdf_lex::{JdfCode, JdfFault, JdfRefusal, Lexed, tokens};
-use ptg_base::{Row, Text};
+use name_table::{NameSet, NameTable};
+use ptg_base::{Seq, Text};
 use std::alloc::Global;
 use std::test::Fail;
 use term_core::FlowKind;
@@ -29,10 +30,10 @@ fn flow(alloc: Global, name: &[u8], kind: FlowKind) -> Result<FlowName, Fail> {
 // The locals are k and m, the integer is NB, the collection D, and the flows are A, R, B and C.
 fn scope(alloc: Global) -> Result<Scope, Fail> {
     let locals = vec![in alloc; Text::of(alloc, b"k")?, Text::of(alloc, b"m")?]?;
-    let int = IntGlobal {
-        name: Text::of(alloc, b"NB")?,
-        value: 7,
-    };
+    let mut ints = NameTable::new(alloc);
+    ints.add(Text::of(alloc, b"NB")?, 7)?;
+    let mut colls = NameSet::new(alloc);
+    colls.add(Text::of(alloc, b"D")?)?;
     let flows = vec![in alloc;
         flow(alloc, b"A", FlowKind::Rw)?,
         flow(alloc, b"R", FlowKind::Read)?,
@@ -40,14 +41,14 @@ fn scope(alloc: Global) -> Result<Scope, Fail> {
         flow(alloc, b"C", FlowKind::Ctl)?,
     ]?;
     Ok(Scope {
-        locals: Row::of(locals),
-        ints: Row::of(vec![in alloc; int]?),
-        colls: Row::of(vec![in alloc; Text::of(alloc, b"D")?]?),
-        flows: Row::of(flows),
+        locals: Seq::of(locals),
+        ints,
+        colls,
+        flows: Seq::of(flows),
     })
 }
 
-// The tokens of a text, as a body has them, and the place behind them.
+// The tokens of a text, as a body has them, and the spot after them.
 fn lexed(alloc: Global, text: &str) -> Result<Lexed, Fail> {
     if text.len() > LONGEST {
         return Err("a text too long for these tests".into());

@@ -1,14 +1,15 @@
-//! Bodies and what their names mean, or their first faults. What is wanted was worked out by hand from the rules of names.
+//! Bodies and what their names mean, or their first faults. The expected results were worked out by hand from the rules of names.
 
 mod faults;
 mod meanings;
 mod numbers;
 mod two_faults;
 
-use crate::{FlowName, IntGlobal, Scope, resolve};
+use crate::{FlowName, Scope, resolve};
 use jdf_lex::{JdfRefusal, Spot, tokens};
 use jdf_tree::BlockTree;
-use ptg_base::{Row, Text};
+use name_table::{NameSet, NameTable};
+use ptg_base::{Seq, Text};
 use std::alloc::Global;
 use std::process::Abort;
 use std::test::Fail;
@@ -21,18 +22,15 @@ fn flow(alloc: Global, name: &[u8], kind: FlowKind) -> Result<FlowName, Fail> {
     })
 }
 
-fn int(alloc: Global, name: &[u8], value: i64) -> Result<IntGlobal, Fail> {
-    Ok(IntGlobal {
-        name: Text::of(alloc, name)?,
-        value,
-    })
-}
-
 // The locals are k and m, and the flows A, R, C and W. The integer m and the collection k are hidden by the locals.
 fn scope(alloc: Global) -> Result<Scope, Fail> {
     let locals = vec![in alloc; Text::of(alloc, b"k")?, Text::of(alloc, b"m")?]?;
-    let ints = vec![in alloc; int(alloc, b"NB", 7)?, int(alloc, b"m", 9)?]?;
-    let colls = vec![in alloc; Text::of(alloc, b"D")?, Text::of(alloc, b"k")?]?;
+    let mut ints = NameTable::new(alloc);
+    ints.add(Text::of(alloc, b"NB")?, 7)?;
+    ints.add(Text::of(alloc, b"m")?, 9)?;
+    let mut colls = NameSet::new(alloc);
+    colls.add(Text::of(alloc, b"D")?)?;
+    colls.add(Text::of(alloc, b"k")?)?;
     let flows = vec![in alloc;
         flow(alloc, b"A", FlowKind::Rw)?,
         flow(alloc, b"R", FlowKind::Read)?,
@@ -40,10 +38,10 @@ fn scope(alloc: Global) -> Result<Scope, Fail> {
         flow(alloc, b"W", FlowKind::Write)?,
     ]?;
     Ok(Scope {
-        locals: Row::of(locals),
-        ints: Row::of(ints),
-        colls: Row::of(colls),
-        flows: Row::of(flows),
+        locals: Seq::of(locals),
+        ints,
+        colls,
+        flows: Seq::of(flows),
     })
 }
 
@@ -56,7 +54,7 @@ fn tree(alloc: Global, text: &str) -> Result<BlockTree, Fail> {
     Ok(body_read::read(alloc, lexed.tokens.as_slice(), lexed.end)?)
 }
 
-// An expression: a slot is `#` and its number, a flow `f` and its number, and an operator stands before its operands.
+// An expression: a slot is `#` and its number, a flow `f` and its number, and an operator comes before its operands.
 fn shown(alloc: Global, node: &Node) -> Result<String, Fail> {
     match node {
         Node::Num(z) => Ok(format!(in alloc; "{z}")?),
@@ -132,7 +130,7 @@ fn shown_block(alloc: Global, levels: u32, block: &Block) -> Result<String, Fail
     Ok(text)
 }
 
-// The words, each behind a space.
+// The words, each after a space.
 fn shown_words(alloc: Global, words: &[Text]) -> Result<String, Fail> {
     let mut text = String::new(alloc);
     for word in words {

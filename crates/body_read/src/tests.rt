@@ -1,4 +1,4 @@
-//! Texts of bodies with their trees or their first faults. What is wanted was worked out by hand from the rules of the text.
+//! Texts of bodies with their trees or their first faults. The expected results were worked out by hand from the rules of the text.
 
 mod faults;
 mod limits;
@@ -14,13 +14,13 @@ use std::test::Fail;
 /// So many bytes are enough for a text of these tests.
 const LONGEST: usize = 20000;
 
-// A piece of a text, and how many times it stands there.
+// A piece of a text, and how many times it is repeated.
 type Piece = (&'static str, usize);
 
 // The pieces of a text, and the line, the column and the code of its first fault.
 type Fault = (&'static [Piece], u32, u32, JdfCode);
 
-// The tokens of a text, as a body has them, and the place behind them.
+// The tokens of a text, as a body has them, and the place after them.
 fn lexed(alloc: Global, text: &str) -> Result<Lexed, Fail> {
     if text.len() > LONGEST {
         return Err("a text too long for these tests".into());

@@ -6,7 +6,7 @@ ghost use Rattle.term_core.specs.Term.{Num};
 use crate::{Source, affinity_of, bounds, has_place, item_at, same_task, source_of};
 use body_first::Body;
 use plan_first::{ClassPlan, DepPlan, Interval, Plan, Shape, Target};
-use ptg_base::{Item, OutOfMemory, Place, Row, TaskId, Text};
+use ptg_base::{Item, OutOfMemory, Place, Seq, TaskId, Text};
 use std::alloc::Global;
 use term_core::{BinOp, Expr};
 
@@ -37,19 +37,19 @@ fn to_after(alloc: Global) -> Result<DepPlan, OutOfMemory>
 }
 
 /// This dependence alone.
-fn alone(alloc: Global, dependence: DepPlan) -> Result<Row<DepPlan>, OutOfMemory>
+fn alone(alloc: Global, dependence: DepPlan) -> Result<Seq<DepPlan>, OutOfMemory>
     ensures { IfOk result (λ row. row ≡ dependence ∷ []) }
 {
-    let mut row = Row::new(alloc);
+    let mut row = Seq::new(alloc);
     row.push(dependence)?;
     Ok(row)
 }
 
 /// One collection, of two tiles.
-fn one_shape(alloc: Global) -> Result<Row<Shape>, OutOfMemory>
+fn one_shape(alloc: Global) -> Result<Seq<Shape>, OutOfMemory>
     ensures { IfOk result (λ row. (c : Coll) × (row ≡ c ∷ [])) }
 {
-    let mut row = Row::new(alloc);
+    let mut row = Seq::new(alloc);
     row.push(Shape {
         name: Text::of(alloc, b"d")?,
         rows: 2,
@@ -69,7 +69,7 @@ fn class_of(alloc: Global, from: DepPlan, to: DepPlan) -> Result<ClassPlan, OutO
         ins: alone(alloc, from)?,
         outs: alone(alloc, to)?,
         body: Body {
-            statements: Row::new(alloc),
+            statements: Seq::new(alloc),
         },
     })
 }

@@ -1,4 +1,6 @@
-use crate::{Sort, expect, expression_limit, is_next};
+//! Each public call once.
+
+use crate::{Terminal, expect, expression_limit, is_next};
 use jdf_lex::{Spot, Token, TokenKind};
 use ptg_base::Text;
 use std::alloc::Global;
@@ -15,15 +17,15 @@ fn token(alloc: Global, kind: TokenKind, text: &[u8]) -> Result<Token, Fail> {
 }
 
 #[test]
-fn sorts(rt: HostRuntime) -> Result<(), Fail> {
+fn terminals(rt: HostRuntime) -> Result<(), Fail> {
     let body = token(rt.alloc(), TokenKind::Name, b"BODY")?;
-    assert_eq!(rt; Sort::of(&body), Sort::Body);
+    assert_eq!(rt; Terminal::of(&body), Terminal::Body);
     let name = token(rt.alloc(), TokenKind::Name, b"body")?;
-    assert_eq!(rt; Sort::of(&name), Sort::Name);
+    assert_eq!(rt; Terminal::of(&name), Terminal::Name);
     let arrow = token(rt.alloc(), TokenKind::Mark, b"->")?;
-    assert_eq!(rt; Sort::of(&arrow), Sort::Outward);
+    assert_eq!(rt; Terminal::of(&arrow), Terminal::Outward);
     let number = token(rt.alloc(), TokenKind::Number, b"17")?;
-    assert_eq!(rt; Sort::of(&number), Sort::Number);
+    assert_eq!(rt; Terminal::of(&number), Terminal::Number);
     Ok(())
 }
 
@@ -32,10 +34,10 @@ fn next_token(rt: HostRuntime) -> Result<(), Fail> {
     let mut tokens = Vec::new(rt.alloc());
     tokens.push(token(rt.alloc(), TokenKind::Mark, b"(")?)?;
     tokens.push(token(rt.alloc(), TokenKind::Mark, b")")?)?;
-    assert!(rt; is_next(&tokens, Sort::LeftParen));
-    assert!(rt; !is_next(&tokens, Sort::RightParen));
+    assert!(rt; is_next(&tokens, Terminal::LeftParen));
+    assert!(rt; !is_next(&tokens, Terminal::RightParen));
     assert_eq!(rt; expression_limit(&tokens), 512);
-    let (first, rest) = expect(&tokens, Sort::LeftParen)?;
+    let (first, rest) = expect(&tokens, Terminal::LeftParen)?;
     assert_eq!(rt; first.text.bytes(), b"(".as_slice());
     assert_eq!(rt; rest.len(), 1);
     Ok(())

@@ -1,55 +1,37 @@
-//! Texts with their trees or their first faults. What is wanted was worked out by hand from the rules of the text.
+//! A text with its tree, and one with its first fault. What other texts are spelled as, and where others are refused, is
+//! told by the rows of `ptg_rows`.
 
-mod expressions;
-mod faults;
-mod limits;
-mod places;
-mod trees;
+use crate::{one_fault, one_tree, read, tree_or_fault};
+use jdf_lex::{JdfCode, JdfFault, JdfRefusal, Spot};
+use jdf_tree::{ArgTree, TargetTree};
 
-use crate::read;
-use jdf_lex::{JdfCode, JdfRefusal};
-use std::alloc::Global;
-use std::process::Abort;
-use std::test::Fail;
-
-// The first fault of a text with its line and its column, or none where it is read.
-fn fault_of(alloc: Global, text: &[u8]) -> Option<(u32, u32, JdfCode)> {
-    match read(alloc, text) {
-        Ok(_) => None,
-        Err(JdfRefusal::Fault(fault)) => Some((fault.spot.line, fault.spot.column, fault.code)),
-        Err(JdfRefusal::OutOfMemory) => Some((0, 0, JdfCode::NotBuilt)),
-    }
+#[test]
+fn reads_a_class(rt: HostRuntime) {
+    one_tree();
+    one_fault();
+    tree_or_fault();
+    let text = b"D T(k) k = 0 .. 9 .. 2 : D(k) CTL c -> k ? NULL ; 5 BODY 1x END";
+    let Ok(jdf) = read(rt.alloc(), text) else {
+        panic!(rt; "refused");
+    };
+    assert_eq!(rt; (jdf.globals.len(), jdf.classes.len()), (1, 1));
+    let class = jdf.classes.get(0);
+    assert_eq!(rt; (class.params.len(), class.defs.len()), (1, 1));
+    assert!(rt; matches!(&class.defs.get(0).value, ArgTree::Span(_, _, _, Some(_))));
+    assert_eq!(rt; (class.affinity_args.len(), class.flows.len()), (1, 1));
+    assert!(rt; class.priority.is_some() && class.body.len() == 1);
+    assert_eq!(rt; class.finish.column, 61);
+    assert_eq!(rt; class.flows.get(0).deps.len(), 1);
+    let dependence = class.flows.get(0).deps.get(0);
+    assert!(rt; !dependence.inward && dependence.guard.is_some() && dependence.no.is_none());
+    assert!(rt; matches!(&dependence.yes, TargetTree::Null(_)));
 }
 
-// A piece of a text, and how many times it stands there.
-type Piece = (&'static str, usize);
-
-// The pieces of a text, and the line, the column and the code of its first fault.
-type Fault = (&'static [Piece], u32, u32, JdfCode);
-
-fn joined(alloc: Global, pieces: &[Piece]) -> Result<String, Fail> {
-    let mut text = String::new(alloc);
-    for (piece, times) in pieces {
-        for _ in 0..*times {
-            text.push_str(piece)?;
-        }
-    }
-    Ok(text)
-}
-
-fn expect_read(rt: &impl Abort, alloc: Global, texts: &[&[Piece]]) -> Result<(), Fail> {
-    for pieces in texts {
-        let text = joined(alloc, pieces)?;
-        assert!(rt; fault_of(alloc, text.as_bytes()).is_none(), "{text}");
-    }
-    Ok(())
-}
-
-fn expect_faults(rt: &impl Abort, alloc: Global, faults: &[Fault]) -> Result<(), Fail> {
-    for (pieces, line, column, code) in faults {
-        let text = joined(alloc, pieces)?;
-        let found = fault_of(alloc, text.as_bytes());
-        assert!(rt; found == Some((*line, *column, *code)), "{text}");
-    }
-    Ok(())
+#[test]
+fn names_the_first_fault(rt: HostRuntime) {
+    let fault = JdfFault {
+        spot: Spot { line: 2, column: 9 },
+        code: JdfCode::Syntax,
+    };
+    assert!(rt; read(rt.alloc(), b"D\nT() k = = 09").err() == Some(JdfRefusal::Fault(fault)));
 }

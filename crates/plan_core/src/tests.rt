@@ -1,28 +1,28 @@
 ghost use Rattle.std.specs.Prelude.{◌≡◌, pos, [], ◌∷◌, IfOk, None, Some, length};
 ghost use Rattle.term_core.specs.Term.{Num};
-ghost use Rattle.term_core.specs.Steps.{Done};
+ghost use Rattle.term_core.specs.StatementList.{Done};
 ghost use Rattle.term_core.specs.declared.space.Def.TheVariants as def;
 ghost use Rattle.plan_core.specs.declared.target.Arg.TheVariants.{One};
 ghost use Rattle.plan_core.specs.declared.target.Target.TheVariants.{Task};
 
 use crate::{Arg, ClassPlan, DepPlan, FlowPlan, Plan, Shape, Target};
-use ptg_base::{OutOfMemory, Place, Row, Text};
+use ptg_base::{OutOfMemory, Place, Seq, Text};
 use std::alloc::Global;
 use std::test::Fail;
 use term_core::{Block, Body, ClassSpace, Def, Expr, FlowKind, Params, Range};
 
-fn one<T: Drop>(alloc: Global, x: T) -> Result<Row<T>, OutOfMemory>
+fn one<T: Drop>(alloc: Global, x: T) -> Result<Seq<T>, OutOfMemory>
     ensures { IfOk result (λ row. row ≡ x ∷ []) }
 {
-    let mut row = Row::new(alloc);
+    let mut row = Seq::new(alloc);
     row.push(x)?;
     Ok(row)
 }
 
-fn two<T: Drop>(alloc: Global, x: T, y: T) -> Result<Row<T>, OutOfMemory>
+fn two<T: Drop>(alloc: Global, x: T, y: T) -> Result<Seq<T>, OutOfMemory>
     ensures { IfOk result (λ row. row ≡ x ∷ y ∷ []) }
 {
-    let mut row = Row::new(alloc);
+    let mut row = Seq::new(alloc);
     row.push(x)?;
     row.push(y)?;
     Ok(row)
@@ -44,7 +44,7 @@ fn one_task(alloc: Global) -> Result<ClassSpace, OutOfMemory>
 }
 
 /// The dependence on flow 0 of task 0 of a class, at all times.
-fn on_task(alloc: Global, class: u32) -> Result<Row<DepPlan>, OutOfMemory>
+fn on_task(alloc: Global, class: u32) -> Result<Seq<DepPlan>, OutOfMemory>
     ensures { IfOk result (λ row. row ≡ record { guard = None; yes = Task class 0 (One (Num (pos 0)) ∷ []); no = None } ∷ []) }
 {
     let args = one(alloc, Arg::One(Expr::num(0)))?;
@@ -57,65 +57,72 @@ fn on_task(alloc: Global, class: u32) -> Result<Row<DepPlan>, OutOfMemory>
 }
 
 /// A class with this flow and an empty body, whose tasks would best run at element 0 of collection 0.
-fn class_of(alloc: Global, name: &[u8], flow: FlowPlan) -> Result<ClassPlan, OutOfMemory>
-    ensures { IfOk result (λ c. c ≡ record { name = name.now; affinity = (0, Num (pos 0) ∷ []); flows = flow ∷ []; priority = None; body = record { statements = Done; slots = 1 }; trap_words = [] }) }
+fn class_of(alloc: Global, name: u8, flow: FlowPlan) -> Result<ClassPlan, OutOfMemory>
+    ensures { IfOk result (λ c. c ≡ record { name = name ∷ []; affinity = (0, Num (pos 0) ∷ []); flows = flow ∷ []; priority = None; body = record { statements = Done; slots = 1 }; trap_words = [] }) }
 {
     let body = Body {
-        statements: Block::of(Row::new(alloc)),
+        statements: Block::of(Seq::new(alloc)),
         slots: 1,
     };
     Ok(ClassPlan {
-        name: Text::of(alloc, name)?,
+        name: Text::of(alloc, &[name])?,
         affinity: (0, one(alloc, Expr::num(0))?),
         flows: one(alloc, flow)?,
         priority: None,
         body,
-        trap_words: Row::new(alloc),
+        trap_words: Seq::new(alloc),
     })
 }
 
-/// `Source(0)` makes a tile that `Sink(0)` reads; D has 3 tiles, and M has 2 rows of 4.
+/// `S(0)` makes a tile of type 1 that `T(0)` reads; D has 3 tiles of type 0, and M has 2 rows of 4 of type 1.
 fn small_plan(alloc: Global) -> Result<Plan, OutOfMemory>
-    ensures { IfOk result (λ plan. length plan.classes ≡ 2) }
+    ensures classes { IfOk result (λ plan. length plan.classes ≡ 2) }
+    ensures types { IfOk result (λ plan. length plan.elems ≡ 2) }
 {
     let source = FlowPlan {
         name: Text::of(alloc, b"A")?,
         kind: FlowKind::Write,
-        ins: Row::new(alloc),
+        datatype: 1,
+        ins: Seq::new(alloc),
         outs: on_task(alloc, 1)?,
     };
     let sink = FlowPlan {
         name: Text::of(alloc, b"X")?,
         kind: FlowKind::Read,
+        datatype: 1,
         ins: on_task(alloc, 0)?,
-        outs: Row::new(alloc),
+        outs: Seq::new(alloc),
     };
-    let source = class_of(alloc, b"Source", source)?;
-    let sink = class_of(alloc, b"Sink", sink)?;
+    let source = class_of(alloc, b'S', source)?;
+    let sink = class_of(alloc, b'T', sink)?;
     let line = Shape {
         name: Text::of(alloc, b"D")?,
         rows: 3,
         cols: None,
+        datatype: 0,
     };
     let matrix = Shape {
         name: Text::of(alloc, b"M")?,
         rows: 2,
         cols: Some(4),
+        datatype: 1,
     };
     let classes = two(alloc, source, sink)?;
     let spaces = two(alloc, one_task(alloc)?, one_task(alloc)?)?;
-    Ok(Plan::new(classes, spaces, two(alloc, line, matrix)?, 5))
+    let colls = two(alloc, line, matrix)?;
+    Ok(Plan::new(classes, spaces, colls, two(alloc, 5, 4096)?))
 }
 
 #[test]
 fn classes_go_by_number(rt: HostRuntime) -> Result<(), Fail> {
     let plan = small_plan(rt.alloc())?;
-    assert_eq!(rt; plan.class(0).name.bytes(), b"Source".as_slice());
-    assert_eq!(rt; plan.class(1).name.bytes(), b"Sink".as_slice());
+    assert_eq!(rt; plan.class(0).name.bytes(), b"S".as_slice());
+    assert_eq!(rt; plan.class(1).name.bytes(), b"T".as_slice());
     assert_eq!(rt; plan.space(1).params.as_slice(), [0].as_slice());
     assert_eq!(rt; plan.colls.len(), 2);
     assert_eq!(rt; plan.coll(1).cols, Some(4));
-    assert_eq!(rt; plan.elems, 5);
+    assert_eq!(rt; (plan.elements(0), plan.elements(1)), (5, 4096));
+    assert_eq!(rt; (plan.coll(0).datatype, plan.coll(1).datatype), (0, 1));
     Ok(())
 }
 

@@ -1,3 +1,5 @@
+//! The adapters pass bytes on.
+
 use crate::files::OsFiles;
 use crate::sink::OsSink;
 use ptg_io::{Failed, Files, Sink};

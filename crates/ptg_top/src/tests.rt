@@ -1,51 +1,32 @@
-//! Whole runs over files and a sink in memory, as tables. What is wanted was worked out by hand from the rules.
+//! One run, called. What words and files print is told by the rows of `ptg_rows`.
 
-mod answers;
-mod devices;
-mod refusals;
-mod show;
-mod words;
-
-use crate::ptg_main;
-use ptg_base::{Row, Text};
+use crate::{one_meaning, ptg_main};
+use ptg_base::{Seq, Text};
 use ptg_io::{File, MemFiles, MemSink};
-use std::alloc::Global;
 use std::test::Fail;
 
-const CHAIN: &[u8] =
-    b"D\nNB\n\nTask(k)\nk = 0 .. NB\n: D(0)\nRW A <- (k == 0) ? D(0) : A Task(k-1)\n     -> (k == NB) ? D(0) : A Task(k+1)\nBODY\nA[0] = A[0] + 1;\nEND\n";
-
-const DATA: &[u8] = b"elems,1\nint,NB,3\ncoll,D,1\ntile,D,0,5\n";
-
-fn row(alloc: Global, numbers: &[u64]) -> Result<Row<u64>, Fail> {
-    Ok(Row::of(numbers.to_vec(alloc)?))
-}
-
-fn texts(alloc: Global, words: &[&[u8]]) -> Result<Vec<Text>, Fail> {
-    let mut list = Vec::new(alloc);
-    for word in words {
-        list.push(Text::of(alloc, word)?)?;
-    }
-    Ok(list)
-}
-
-// The files `a.jdf` and `b.csv`, of which the reads of these numbers fail.
-fn files(alloc: Global, jdf: &[u8], data: &[u8], fails: &[u64]) -> Result<MemFiles, Fail> {
-    let mut held = Row::new(alloc);
-    held.push(File::new(Text::of(alloc, b"a.jdf")?, Row::of(jdf.to_vec(alloc)?)))?;
-    held.push(File::new(Text::of(alloc, b"b.csv")?, Row::of(data.to_vec(alloc)?)))?;
-    Ok(MemFiles::new(alloc, held, row(alloc, fails)?)?)
-}
-
-// What is printed for words and files, and the exit status behind it.
-fn run(
-    alloc: Global,
-    words: &[&[u8]],
-    files: &mut MemFiles,
-    write_fails: &[u64],
-) -> Result<(Vec<u8>, u8), Fail> {
-    let words = texts(alloc, words)?;
-    let mut out = MemSink::new(alloc, row(alloc, write_fails)?);
-    let status = ptg_main(alloc, words.as_slice(), files, &mut out);
-    Ok((out.bytes().to_vec(alloc)?, status.code()))
+#[test]
+fn runs_a_job(rt: HostRuntime) -> Result<(), Fail> {
+    one_meaning();
+    let alloc = rt.alloc();
+    let jdf = b"D T(k) k = 0 .. 1 : D(k) RW A <- D(k) -> D(k) BODY A[0] = A[0] + k; END";
+    let data = b"elems,1\ncoll,D,2\ntile,D,1,5\n";
+    let held = vec![in alloc;
+        File::new(Text::of(alloc, b"a.jdf")?, Seq::of(jdf.to_vec(alloc)?)),
+        File::new(Text::of(alloc, b"b.csv")?, Seq::of(data.to_vec(alloc)?)),
+    ]?;
+    let mut files = MemFiles::new(alloc, Seq::of(held), Seq::new(alloc))?;
+    let mut out = MemSink::new(alloc, Seq::new(alloc));
+    let words = vec![in alloc;
+        Text::of(alloc, b"run")?,
+        Text::of(alloc, b"a.jdf")?,
+        Text::of(alloc, b"b.csv")?,
+    ]?;
+    let status = ptg_main(alloc, words.as_slice(), &mut files, &mut out);
+    assert_eq!(rt; status.code(), 0);
+    assert_eq!(rt;
+        out.bytes(),
+        b"complete,2\ntile,D,0,0\ntile,D,1,6\n".as_slice()
+    );
+    Ok(())
 }

@@ -1,3 +1,5 @@
+//! Command lines and the orders that they give.
+
 use crate::{Order, WordsRefusal, words};
 use ptg_base::Text;
 use std::alloc::Global;

@@ -2,7 +2,7 @@ ghost use Rattle.std.specs.Prelude.{◌≤◌, length};
 
 use crate::fault::SpanFault;
 use crate::{Space, SpaceFault, in_space, is_well_space, locals_of, space_size, steps_of};
-use ptg_base::{OutOfMemory, Row};
+use ptg_base::{OutOfMemory, Seq};
 use std::alloc::Global;
 use std::process::Abort;
 use std::test::Fail;
@@ -26,7 +26,7 @@ fn class(defs: Vec<Def>, params: &[u8]) -> ClassSpace
     requires { length params.now ≤ 8 }
 {
     ClassSpace {
-        defs: Row::of(defs),
+        defs: Seq::of(defs),
         params: Params::new(params),
     }
 }
@@ -209,15 +209,15 @@ fn classes_of_other_shapes(rt: HostRuntime) -> Result<(), Fail> {
 fn faults_of_spaces(rt: HostRuntime) -> Result<(), Fail> {
     let alloc = rt.alloc();
     match sized(&rt, &[broken(alloc)?]) {
-        Err(SpaceFault::BadExpr(class, begun)) => {
-            assert_eq!(rt; (class, begun.as_slice()), (0, [1].as_slice()));
+        Err(SpaceFault::BadExpr(class, outer)) => {
+            assert_eq!(rt; (class, outer.as_slice()), (0, [1].as_slice()));
         }
         _ => assert!(rt; false, "a value under k = 1"),
     }
     let still = class(vec![in alloc; Def::Span(range(0, 3, 0))]?, &[0]);
     match sized(&rt, &[still]) {
-        Err(SpaceFault::BadExpr(class, begun)) => {
-            assert_eq!(rt; (class, begun.as_slice()), (0, [].as_slice()));
+        Err(SpaceFault::BadExpr(class, outer)) => {
+            assert_eq!(rt; (class, outer.as_slice()), (0, [].as_slice()));
         }
         _ => assert!(rt; false, "a step of 0"),
     }

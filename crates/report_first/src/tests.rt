@@ -4,7 +4,7 @@ use core_first::{Outcome, TrapRow, WaitRow};
 use data_first::{Coll, DataCode, DataFault, Given};
 use jdf_lex::{JdfCode, JdfFault, Spot};
 use plan_first::{ClassPlan, Interval, Plan, Shape};
-use ptg_base::{Row, TaskId, Text, Tile};
+use ptg_base::{Seq, TaskId, Text, Tile};
 use ptg_io::{Failed, MemSink};
 use std::alloc::Global;
 use std::test::Fail;
@@ -15,17 +15,17 @@ fn plan(alloc: Global) -> Result<Plan, Fail> {
     let class = ClassPlan {
         name: Text::of(alloc, b"Chain")?,
         affinity: (0, Expr::num(0)),
-        ins: Row::new(alloc),
-        outs: Row::new(alloc),
+        ins: Seq::new(alloc),
+        outs: Seq::new(alloc),
         body: Body {
-            statements: Row::new(alloc),
+            statements: Seq::new(alloc),
         },
     };
     let space = Interval {
         lo: Expr::num(0),
         hi: Expr::num(1),
     };
-    let mut colls = Row::new(alloc);
+    let mut colls = Seq::new(alloc);
     colls.push(Shape {
         name: Text::of(alloc, b"A")?,
         rows: 2,
@@ -40,7 +40,7 @@ fn plan(alloc: Global) -> Result<Plan, Fail> {
 
 /// What is printed of an answer.
 fn printed(alloc: Global, outcome: &Outcome) -> Result<MemSink, Fail> {
-    let mut sink = MemSink::new(alloc, Row::new(alloc));
+    let mut sink = MemSink::new(alloc, Seq::new(alloc));
     report(&plan(alloc)?, outcome, &mut sink)?;
     Ok(sink)
 }
@@ -53,17 +53,17 @@ fn a_complete_answer_shows_each_tile(rt: HostRuntime) -> Result<(), Fail> {
     let mut second = Tile::zeros(alloc, 2)?;
     second.set(0, i64::MIN);
     second.set(1, 10);
-    let mut tiles = Row::new(alloc);
+    let mut tiles = Seq::new(alloc);
     tiles.push(first)?;
     tiles.push(second)?;
-    let mut colls = Row::new(alloc);
+    let mut colls = Seq::new(alloc);
     colls.push(Coll {
         name: Text::of(alloc, b"A")?,
         tiles,
     })?;
     let given = Given {
         elems: 2,
-        ints: Row::new(alloc),
+        ints: Seq::new(alloc),
         colls,
     };
     let sink = printed(alloc, &Outcome::Complete(20, given))?;
@@ -82,7 +82,7 @@ fn a_trapped_answer_shows_each_cause(rt: HostRuntime) -> Result<(), Fail> {
         Trap::Absent,
         Trap::Budget,
     ];
-    let mut rows = Row::new(alloc);
+    let mut rows = Seq::new(alloc);
     for cause in causes {
         rows.push(TrapRow {
             task: TaskId::new(0, &[-3]),
@@ -99,7 +99,7 @@ fn a_trapped_answer_shows_each_cause(rt: HostRuntime) -> Result<(), Fail> {
 #[test]
 fn a_stall_shows_who_waits(rt: HostRuntime) -> Result<(), Fail> {
     let alloc = rt.alloc();
-    let mut rows = Row::new(alloc);
+    let mut rows = Seq::new(alloc);
     rows.push(WaitRow {
         task: TaskId::new(0, &[7]),
         arrived: 0,
@@ -132,7 +132,7 @@ fn each_refusal_has_its_line(rt: HostRuntime) -> Result<(), Fail> {
         row: 4,
         code: DataCode::NotBuilt,
     };
-    let mut sink = MemSink::new(alloc, Row::new(alloc));
+    let mut sink = MemSink::new(alloc, Seq::new(alloc));
     refusal(&Line::Usage, &mut sink)?;
     refusal(&Line::Jdf(jdf), &mut sink)?;
     refusal(&Line::Rows(rows), &mut sink)?;
@@ -151,10 +151,10 @@ fn a_failing_third_write_leaves_two_pieces(rt: HostRuntime) -> Result<(), Fail> 
     for _ in 0..8204 {
         name.push('a')?;
     }
-    let mut good = MemSink::new(alloc, Row::new(alloc));
+    let mut good = MemSink::new(alloc, Seq::new(alloc));
     assert_eq!(rt; refusal(&Line::Unread(name.as_bytes()), &mut good), Ok(()));
     assert_eq!(rt; good.bytes().len(), 8212);
-    let mut bad = MemSink::new(alloc, Row::of(vec![in alloc; 3]?));
+    let mut bad = MemSink::new(alloc, Seq::of(vec![in alloc; 3]?));
     assert_eq!(rt;
         refusal(&Line::Unread(name.as_bytes()), &mut bad),
         Err(Failed)

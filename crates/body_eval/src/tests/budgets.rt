@@ -1,5 +1,5 @@
 use super::build::{I, X, add_to_x, by_zero, for_i, outcome, put_first, set_x};
-use ptg_base::{OutOfMemory, Row};
+use ptg_base::{OutOfMemory, Seq};
 use std::alloc::Global;
 use std::test::Fail;
 use term_core::{Block, Expr, Stmt, Trap};
@@ -63,7 +63,7 @@ fn branches(alloc: Global, last: i64) -> Result<Vec<Stmt>, OutOfMemory> {
     let first = vec![in alloc; add_to_x(alloc, Expr::num(1))?]?;
     let one = || set_x(Expr::num(1));
     let second = vec![in alloc; one(), one(), one()]?;
-    let (first, second) = (Block::of(Row::of(first)), Block::of(Row::of(second)));
+    let (first, second) = (Block::of(Seq::of(first)), Block::of(Seq::of(second)));
     let choice = Stmt::If(Expr::local(I), first, second);
     Ok(vec![in alloc; for_i(1, last, vec![in alloc; choice]?)]?)
 }

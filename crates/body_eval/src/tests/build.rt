@@ -1,5 +1,5 @@
 use crate::{Scratch, is_well_body, run_body};
-use ptg_base::{OutOfMemory, Row, Tile};
+use ptg_base::{OutOfMemory, Seq, Tile};
 use std::alloc::Global;
 use std::test::Fail;
 use term_core::{BinOp, Block, Body, Expr, Stmt, Trap};
@@ -39,7 +39,7 @@ pub fn add_to_x(alloc: Global, e: Expr) -> Result<Stmt, OutOfMemory> {
 
 /// `for i = lo .. hi { .. }`
 pub fn for_i(lo: i64, hi: i64, turn: Vec<Stmt>) -> Stmt {
-    Stmt::For(I, Expr::num(lo), Expr::num(hi), Block::of(Row::of(turn)))
+    Stmt::For(I, Expr::num(lo), Expr::num(hi), Block::of(Seq::of(turn)))
 }
 
 /// `1 / 0`
@@ -60,7 +60,7 @@ pub fn absent(alloc: Global) -> Result<Expr, OutOfMemory> {
 /// The body of these statements.
 pub fn body_of(statements: Vec<Stmt>) -> Body {
     Body {
-        statements: Block::of(Row::of(statements)),
+        statements: Block::of(Seq::of(statements)),
         slots: 4,
     }
 }

@@ -1,5 +1,5 @@
 use super::build::{A, B, I, absent, by_zero, for_i, outcome, put_first, set_x, too_large};
-use ptg_base::{OutOfMemory, Row};
+use ptg_base::{OutOfMemory, Seq};
 use std::alloc::Global;
 use std::test::Fail;
 use term_core::{Block, Expr, Stmt, Trap};
@@ -21,7 +21,7 @@ fn put(alloc: Global, flow: u8, at: Expr, e: Expr) -> Result<Result<i64, Trap>, 
 
 /// What `for i = lo .. hi { }` does.
 fn turns(alloc: Global, lo: Expr, hi: Expr) -> Result<Result<i64, Trap>, Fail> {
-    alone(alloc, Stmt::For(I, lo, hi, Block::of(Row::new(alloc))))
+    alone(alloc, Stmt::For(I, lo, hi, Block::of(Seq::new(alloc))))
 }
 
 /// The flow must be there first, and then the index.
@@ -93,8 +93,8 @@ fn on_an_absent_element(alloc: Global) -> Result<Stmt, OutOfMemory> {
     let second = vec![in alloc; Stmt::Trap(2)]?;
     Ok(Stmt::If(
         absent(alloc)?,
-        Block::of(Row::of(first)),
-        Block::of(Row::of(second)),
+        Block::of(Seq::of(first)),
+        Block::of(Seq::of(second)),
     ))
 }
 

@@ -1,7 +1,7 @@
 use super::build::{
     A, I, J, N, X, absent, add_to_x, by_zero, for_i, outcome, outcome_with, put_first, set_x,
 };
-use ptg_base::{OutOfMemory, Row};
+use ptg_base::{OutOfMemory, Seq};
 use std::alloc::Global;
 use std::test::Fail;
 use term_core::{BinOp, Block, Expr, Stmt, Trap, UnOp};
@@ -86,8 +86,8 @@ fn either(alloc: Global, c: i64) -> Result<Vec<Stmt>, OutOfMemory> {
     let second = vec![in alloc; put_first(Expr::num(2))]?;
     let choice = Stmt::If(
         Expr::num(c),
-        Block::of(Row::of(first)),
-        Block::of(Row::of(second)),
+        Block::of(Seq::of(first)),
+        Block::of(Seq::of(second)),
     );
     Ok(vec![in alloc; put_first(Expr::num(3)), choice]?)
 }
@@ -97,8 +97,8 @@ fn only_if(alloc: Global, c: i64) -> Result<Vec<Stmt>, OutOfMemory> {
     let first = vec![in alloc; put_first(Expr::num(1))]?;
     let choice = Stmt::If(
         Expr::num(c),
-        Block::of(Row::of(first)),
-        Block::of(Row::new(alloc)),
+        Block::of(Seq::of(first)),
+        Block::of(Seq::new(alloc)),
     );
     Ok(vec![in alloc; put_first(Expr::num(3)), choice]?)
 }
@@ -163,14 +163,14 @@ fn loops_at_the_ends_of_the_numbers(rt: HostRuntime) -> Result<(), Fail> {
 fn moving_bounds(alloc: Global) -> Result<Vec<Stmt>, OutOfMemory> {
     let turn = vec![in alloc; add_to_x(alloc, Expr::num(10))?]?;
     let hi = Expr::binary(alloc, BinOp::Add, Expr::local(X), Expr::num(2))?;
-    let all = Stmt::For(I, Expr::local(X), hi, Block::of(Row::of(turn)));
+    let all = Stmt::For(I, Expr::local(X), hi, Block::of(Seq::of(turn)));
     Ok(vec![in alloc; set_x(Expr::num(2)), all, put_first(Expr::local(X))]?)
 }
 
 /// `for i = 1 .. 3 { for j = i .. 3 { x = x + 1; } } A[0] = x;`
 fn nested(alloc: Global) -> Result<Vec<Stmt>, OutOfMemory> {
     let inner = vec![in alloc; add_to_x(alloc, Expr::num(1))?]?;
-    let inner = Stmt::For(J, Expr::local(I), Expr::num(3), Block::of(Row::of(inner)));
+    let inner = Stmt::For(J, Expr::local(I), Expr::num(3), Block::of(Seq::of(inner)));
     let outer = for_i(1, 3, vec![in alloc; inner]?);
     Ok(vec![in alloc; outer, put_first(Expr::local(X))]?)
 }

@@ -1,6 +1,6 @@
 use super::build::{A, B, I, N, X, body_of, for_i, put_first, set_x};
 use crate::is_well_body;
-use ptg_base::{OutOfMemory, Row};
+use ptg_base::{OutOfMemory, Seq};
 use std::alloc::Global;
 use std::test::Fail;
 use term_core::{BinOp, Block, Body, Expr, Stmt, UnOp};
@@ -25,7 +25,7 @@ fn sizes(rt: HostRuntime) {
         (3, 4, 0, false),
     ] {
         let body = Body {
-            statements: Block::of(Row::new(rt.alloc())),
+            statements: Block::of(Seq::new(rt.alloc())),
             slots,
         };
         let got = is_well_body(&body, locals, flows);
@@ -47,15 +47,15 @@ fn well_value(alloc: Global, e: Expr) -> Result<bool, OutOfMemory> {
 /// Whether a body is that sets the slot in the first block of a choice, in the second, or in a loop.
 fn well_inside(alloc: Global, number: u16) -> Result<[bool; 3], OutOfMemory> {
     let set = || Stmt::Set(number, Expr::num(1));
-    let first = Block::of(Row::of(vec![in alloc; set()]?));
-    let second = Block::of(Row::of(vec![in alloc; set()]?));
+    let first = Block::of(Seq::of(vec![in alloc; set()]?));
+    let second = Block::of(Seq::of(vec![in alloc; set()]?));
     let turn = vec![in alloc; set()]?;
-    let none = Block::of(Row::new(alloc));
+    let none = Block::of(Seq::new(alloc));
     Ok([
         well(alloc, Stmt::If(Expr::num(1), first, none))?,
         well(
             alloc,
-            Stmt::If(Expr::num(1), Block::of(Row::new(alloc)), second),
+            Stmt::If(Expr::num(1), Block::of(Seq::new(alloc)), second),
         )?,
         well(alloc, for_i(1, 2, turn))?,
     ])
@@ -71,7 +71,7 @@ fn slots_that_are_set(rt: HostRuntime) -> Result<(), Fail> {
             want,
             "{number}"
         );
-        let none = Block::of(Row::new(alloc));
+        let none = Block::of(Seq::new(alloc));
         let turns = Stmt::For(number, Expr::num(1), Expr::num(2), none);
         assert_eq!(rt; well(alloc, turns)?, want, "{number}");
         assert_eq!(rt; well_inside(alloc, number)?, [want, want, want], "{number}");
@@ -121,7 +121,7 @@ fn slots_that_statements_read(rt: HostRuntime) -> Result<(), Fail> {
     for (number, want) in [(N, true), (3, true), (NO_SLOT, false)] {
         let e = || Expr::local(number);
         let one = || Expr::num(1);
-        let none = || Block::of(Row::new(alloc));
+        let none = || Block::of(Seq::new(alloc));
         assert_eq!(rt; well(alloc, Stmt::Put(A, e(), one()))?, want);
         assert_eq!(rt; well(alloc, Stmt::Put(A, one(), e()))?, want);
         assert_eq!(rt; well(alloc, Stmt::If(e(), none(), none()))?, want);

@@ -8,7 +8,7 @@ use std::alloc::Global;
 use std::process::Abort;
 use std::test::Fail;
 
-// A piece of a text, and how many times it stands there.
+// A piece of a text, and how many times it is repeated.
 type Piece = (&'static str, usize);
 
 // The pieces of a text, and the line, the column and the code of its first fault.
@@ -24,7 +24,7 @@ fn joined(alloc: Global, pieces: &[Piece]) -> Result<String, Fail> {
     Ok(text)
 }
 
-// Each fault of a text behind the fault of a name.
+// Each fault of a text after the fault of a name.
 const NAME_IN_FRONT: [Fault; 9] = [
     (&[("A[0] = q; ", 1), ("= ;", 1)], 1, 8, UnknownName),
     (&[("A[0] = q; ", 1), ("A[0] = 09;", 1)], 1, 8, UnknownName),
@@ -42,7 +42,7 @@ const NAME_IN_FRONT: [Fault; 9] = [
         UnknownName,
     ),
     (&[("int x=1; ", 257)], 1, 14, NameTwice),
-    // Of two names the one that stands earlier.
+    // Of two names the earlier one.
     (&[("A[0] = q; k = 1; +", 1)], 1, 8, UnknownName),
     (&[("k = q; +", 1)], 1, 1, NotAssignable),
     (&[("int x = 1;\nx = q;\n+", 1)], 2, 5, UnknownName),
@@ -81,7 +81,7 @@ const NAME_BEHIND: [Fault; 9] = [
     (&[("int x = 1;\nx = x;\n  + q", 1)], 3, 3, Syntax),
 ];
 
-// A name in an expression right before the place is judged, as a flow where `[` stands behind it.
+// A name in an expression right before the fault is judged, as a flow where `[` follows it.
 const IN_AN_EXPRESSION: [Fault; 22] = [
     (&[("int x = 1; x = y", 1)], 1, 16, UnknownName),
     (&[("int x = 1; int y = 2; x = y", 1)], 1, 28, Syntax),
@@ -107,7 +107,7 @@ const IN_AN_EXPRESSION: [Fault; 22] = [
     (&[("int x = R[C[q", 1)], 1, 11, CtlMixed),
 ];
 
-// The 513th token of an expression is the `[` behind the name.
+// The 513th token of an expression is the `[` after the name.
 const AT_THE_BRACKET: [Fault; 4] = [
     (
         &[("A[0] = ", 1), ("(", 511), ("A[0]", 1)],
@@ -125,7 +125,7 @@ const AT_THE_BRACKET: [Fault; 4] = [
     (&[("A[0] = ", 1), ("(", 511), ("k", 1)], 1, 520, Syntax),
 ];
 
-// A statement's first name is judged once `=` or `[` stands behind it.
+// A statement's first name is judged once `=` or `[` follows it.
 const FIRST_OF_A_STATEMENT: [Fault; 17] = [
     (&[("y + 1;", 1)], 1, 3, Syntax),
     (&[("y == 1;", 1)], 1, 3, Syntax),

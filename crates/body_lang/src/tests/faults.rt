@@ -25,7 +25,7 @@ pub const OF_NAMES: [Fault; 17] = [
     ("k = 1;", 1, 1, NotAssignable),
     ("NB = 1;", 1, 1, NotAssignable),
     ("{ for i = 0 .. 1 {\n  i = 2; } }", 2, 3, NotAssignable),
-    // Of two the one that stands earlier.
+    // Of two the earlier one.
     ("A[0] = D;\nq = 1;", 1, 8, WrongKind),
     ("q = 1;\nA[0] = D;", 1, 1, UnknownName),
 ];

@@ -1,7 +1,7 @@
 use super::{Case, expect};
 use std::test::Fail;
 
-// A name is a variable, else a local, else an integer, of which its value stands. Before an index it is a flow.
+// A name is a variable, else a local, else an integer, whose value takes its place. Before an index it is a flow.
 const NAMES: [Case; 9] = [
     ("", "{ } 2"),
     ("A[0] = NB;", "{ f0[0] = 7; } 2"),

@@ -1,11 +1,11 @@
 use super::{Case, expect, outcome_of, tree};
 use jdf_lex::Spot;
 use jdf_tree::{BlockTree, ExprTree, StmtTree, Word};
-use ptg_base::{Row, Text};
+use ptg_base::{Seq, Text};
 use std::alloc::Global;
 use std::test::Fail;
 
-// Variables are numbered in the order of their declarations, behind the locals, and no number is given again.
+// Variables are numbered in the order of their declarations, after the locals, and no number is given again.
 const SLOTS: [Case; 3] = [
     (
         "if (k) { int a = 0; int b = a; } else { int a = 1; for c = 0 .. a { int b = c; } } int a = 2;",
@@ -44,9 +44,9 @@ fn numbers_go_by_the_text(rt: HostRuntime) -> Result<(), Fail> {
     expect(&rt, rt.alloc(), &WORDS)
 }
 
-// So many loops one behind the other, the variable of each at a line of its own.
+// So many loops one after the other, the variable of each at a line of its own.
 fn loops(alloc: Global, count: u32) -> Result<BlockTree, Fail> {
-    let mut statements = Row::new(alloc);
+    let mut statements = Seq::new(alloc);
     for line in 1..=count {
         let spot = Spot { line, column: 1 };
         let word = Word {
@@ -57,7 +57,7 @@ fn loops(alloc: Global, count: u32) -> Result<BlockTree, Fail> {
             word,
             ExprTree::num(0, spot),
             ExprTree::num(1, spot),
-            BlockTree::of(Row::new(alloc)),
+            BlockTree::of(Seq::new(alloc)),
         ))?;
     }
     Ok(BlockTree::of(statements))

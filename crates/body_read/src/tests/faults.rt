@@ -92,7 +92,7 @@ const IN_EXPRESSIONS: [Fault; 13] = [
     ("x = a b;", 1, 7, Syntax),
 ];
 
-// The tokens end too early, so the place is the one behind the text.
+// The tokens end too early, so the place is the one after the text.
 const CUT: [Fault; 21] = [
     ("int x = 1", 1, 10, Syntax),
     ("if (1) {", 1, 9, Syntax),
@@ -130,7 +130,7 @@ const NUMBERS: [Fault; 14] = [
     ("x = A[B[09]];", 1, 9, BadNumber),
     ("x = -9223372036854775808;", 1, 6, BadNumber),
     ("{ if (1) { } else { y = 1\n* 007; } }", 2, 3, BadNumber),
-    // No expression stands here.
+    // There is no expression here.
     ("trap 09;", 1, 6, Syntax),
     ("int 09 = 1;", 1, 5, Syntax),
     ("09 = 1;", 1, 1, Syntax),

@@ -2,7 +2,7 @@ use super::{Fault, expect_faults};
 use jdf_lex::JdfCode::{BadNumber, ExprTooLong, Syntax, TooDeep, TooManyVars};
 use std::test::Fail;
 
-// Two faults in one text, in both orders: the one that stands earlier counts.
+// Two faults in one text, in both orders: the earlier one counts.
 const PAIRS: [Fault; 23] = [
     // Syntax and BadNumber.
     (&[("x = = 09;", 1)], 1, 5, Syntax),

@@ -78,7 +78,7 @@ fn tree_of(alloc: Global, text: &str) -> Result<BlockTree, Fail> {
     Ok(read(alloc, lexed.tokens.as_slice(), lexed.end)?)
 }
 
-// A text, and the statements that stand in no block, or in the braces around all.
+// A text, and its outermost statements, also within braces around the whole text.
 const TREES: [(&str, &str); 14] = [
     ("", ""),
     ("{ }", ""),

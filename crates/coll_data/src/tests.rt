@@ -1,0 +1,75 @@
+ghost use Rattle.std.specs.Prelude.{◌≡◌, [], ◌∷◌, IfOk, length};
+
+use crate::{Coll, Given};
+use ptg_base::{OutOfMemory, Place, Seq, Text};
+use std::alloc::Global;
+use std::test::Fail;
+
+fn one<T: Drop>(alloc: Global, x: T) -> Result<Seq<T>, OutOfMemory>
+    ensures { IfOk result (λ row. row ≡ x ∷ []) }
+{
+    let mut row = Seq::new(alloc);
+    row.push(x)?;
+    Ok(row)
+}
+
+fn two<T: Drop>(alloc: Global, x: T, y: T) -> Result<Seq<T>, OutOfMemory>
+    ensures { IfOk result (λ row. row ≡ x ∷ y ∷ []) }
+{
+    let mut row = Seq::new(alloc);
+    row.push(x)?;
+    row.push(y)?;
+    Ok(row)
+}
+
+/// DEFAULT with 1 element and PAIR with 2; D has 3 tiles of DEFAULT, and Q has 1 row of 2 tiles of PAIR.
+fn two_types(alloc: Global) -> Result<Given, OutOfMemory>
+    ensures { IfOk result (λ given. length given.types ≡ 1) }
+{
+    let line = Coll::zeros(alloc, Text::of(alloc, b"D")?, (3, None), 0, 1)?;
+    let matrix = Coll::zeros(alloc, Text::of(alloc, b"Q")?, (1, Some(2)), 1, 2)?;
+    let colls = two(alloc, line, matrix)?;
+    let types = one(alloc, (Text::of(alloc, b"PAIR")?, 2))?;
+    Ok(Given::new(types, 1, Seq::new(alloc), colls, 4))
+}
+
+#[test]
+fn elements_go_by_type(rt: HostRuntime) -> Result<(), Fail> {
+    let given = two_types(rt.alloc())?;
+    assert_eq!(rt; (given.elements(0), given.elements(1)), (1, 2));
+    assert_eq!(rt; given.types()[0].0.bytes(), b"PAIR".as_slice());
+    assert_eq!(rt; (given.ints().len(), given.colls().len()), (0, 2));
+    assert_eq!(rt; given.rows_read(), 4);
+    Ok(())
+}
+
+#[test]
+fn tiles_are_at_their_places(rt: HostRuntime) -> Result<(), Fail> {
+    let given = two_types(rt.alloc())?;
+    let rows = [
+        (0, 0, 0, Some(1)),
+        (0, 2, 0, Some(1)),
+        (0, 3, 0, None),
+        (0, -1, 0, None),
+        (0, 1, 1, None),
+        (0, 1, -1, None),
+        (1, 0, 1, Some(2)),
+        (1, 0, 2, None),
+        (1, 1, 0, None),
+        (1, 0, -1, None),
+        (2, 0, 0, None),
+    ];
+    for (coll, i, j, elements) in &rows {
+        let place = Place {
+            coll: *coll,
+            i: *i,
+            j: *j,
+        };
+        let length = match given.tile(&place) {
+            Some(tile) => Some(tile.len()),
+            None => None,
+        };
+        assert_eq!(rt; length, *elements);
+    }
+    Ok(())
+}

@@ -1,0 +1,92 @@
+//! Named texts: the files of a row.
+
+use crate::escapes::spell;
+use crate::items::{Item, first_word};
+use crate::why::Why;
+use ptg_base::{Seq, Text};
+use ptg_io::File;
+use std::alloc::Global;
+
+/// The file that an item names, with the item's text.
+pub fn named_file(alloc: Global, item: &Item) -> Result<File, Why> {
+    let (name, rest) = first_word(item.rest);
+    let name = spelled(alloc, name)?;
+    file_of(alloc, name.as_slice(), item.text(alloc, rest)?)
+}
+
+fn file_of(alloc: Global, name: &[u8], bytes: Vec<u8>) -> Result<File, Why> {
+    if name.is_empty() {
+        return Err(Why("a text without a name"));
+    }
+    Ok(File::new(Text::of(alloc, name)?, Seq::of(bytes)))
+}
+
+/// Puts a file among files, in the place of the one of its name where there is one.
+pub fn put(files: &mut Vec<File>, file: File) -> Result<(), Why> {
+    for held in files.iter_mut() {
+        if held.name() == file.name() {
+            *held = file;
+            return Ok(());
+        }
+    }
+    files.push(file)?;
+    Ok(())
+}
+
+pub fn copies(alloc: Global, files: &[File]) -> Result<Vec<File>, Why> {
+    let mut list = Vec::new(alloc);
+    for file in files {
+        let bytes = file.bytes().to_vec(alloc)?;
+        list.push(file_of(alloc, file.name(), bytes)?)?;
+    }
+    Ok(list)
+}
+
+/// Does `NAME OLD => NEW`: puts the new text in the place of the old one, which stands once in the file of this name.
+pub fn change(alloc: Global, files: &mut Vec<File>, order: &str) -> Result<(), Why> {
+    let (name, texts) = first_word(order);
+    let Some((old, new)) = texts.split_once(" => ") else {
+        return Err(Why("a change without =>"));
+    };
+    let name = spelled(alloc, name)?;
+    let old = spelled(alloc, old)?;
+    let new = spelled(alloc, new)?;
+    for file in files.iter_mut() {
+        if file.name() == name.as_slice() {
+            let bytes = changed(alloc, file.bytes(), old.as_slice(), new.as_slice())?;
+            *file = file_of(alloc, name.as_slice(), bytes)?;
+            return Ok(());
+        }
+    }
+    Err(Why("a change of a file that is not there"))
+}
+
+/// The bytes that a piece of a line spells.
+pub fn spelled(alloc: Global, piece: &str) -> Result<Vec<u8>, Why> {
+    let mut bytes = Vec::new(alloc);
+    spell(alloc, piece.as_bytes(), &mut bytes)?;
+    Ok(bytes)
+}
+
+fn changed(alloc: Global, text: &[u8], old: &[u8], new: &[u8]) -> Result<Vec<u8>, Why> {
+    let (before, after) = around_only(text, old)?;
+    let mut bytes = before.to_vec(alloc)?;
+    bytes.extend_from_slice(new)?;
+    bytes.extend_from_slice(after)?;
+    Ok(bytes)
+}
+
+// What stands before and after the one place where a piece stands in a text.
+fn around_only<'a>(text: &'a [u8], piece: &[u8]) -> Result<(&'a [u8], &'a [u8]), Why> {
+    let mut found = None;
+    for at in 0..text.len() {
+        let (before, from) = text.split_at(at);
+        if let Some(after) = from.strip_prefix(piece) {
+            if found.is_some() {
+                return Err(Why("a change of what stands twice"));
+            }
+            found = Some((before, after));
+        }
+    }
+    found.ok_or(Why("a change of what is not there"))
+}

@@ -1,0 +1,60 @@
+//! What is printed of the rows, and how many there are.
+
+use crate::shown::difference;
+use crate::tried::Tried;
+use crate::why::Why;
+use std::alloc::Global;
+use std::io;
+
+/// Prints a line for each row that is not as wanted or can't be read, and counts.
+#[derive(Drop)]
+pub struct Report<'a, R: Print> {
+    rt: &'a R,
+    alloc: Global,
+    /// How many rows came out as wanted.
+    pub as_wanted: u64,
+    /// How many did not, or could not be read. A file that can't be read counts once.
+    pub others: u64,
+}
+
+impl<'a, R: Print> Report<'a, R> {
+    pub fn new(rt: &'a R, alloc: Global) -> Report<'a, R> {
+        Report {
+            rt,
+            alloc,
+            as_wanted: 0,
+            others: 0,
+        }
+    }
+
+    /// Tells why the file or the row at a line of it can't be read.
+    pub fn unread(&mut self, file: &str, line: usize, Why(why): Why) -> io::Result<()> {
+        self.others = self.others.saturating_add(1);
+        let rt = self.rt;
+        println!(rt; "{file}:{line}: can't be read: {why}")
+    }
+
+    /// Tells how a row came out, where it is not as wanted.
+    pub fn tried(&mut self, file: &str, line: usize, name: &str, tried: &Tried) -> io::Result<()> {
+        if tried.is_as_wanted() {
+            self.as_wanted = self.as_wanted.saturating_add(1);
+            return Ok(());
+        }
+        self.others = self.others.saturating_add(1);
+        let rt = self.rt;
+        let difference = difference(self.alloc, tried)?;
+        println!(rt; "{file}:{line}: {name}: {difference}")
+    }
+
+    /// The last line.
+    pub fn end(&self) -> io::Result<()> {
+        let rt = self.rt;
+        let as_wanted = self.as_wanted;
+        let others = self.others;
+        if others > 0 {
+            println!(rt; "{as_wanted} rows as wanted, {others} not")
+        } else {
+            println!(rt; "{as_wanted} rows as wanted")
+        }
+    }
+}

@@ -1,0 +1,167 @@
+//! A row: words, files and failing calls, and what must be printed.
+
+use crate::files::{change, copies, named_file, put, spelled};
+use crate::items::{Item, first_word};
+use crate::why::Why;
+use ptg_base::Text;
+use ptg_io::File;
+use std::alloc::Global;
+
+/// A row as far as it is read.
+#[derive(Drop)]
+pub struct WorkedRow<'a> {
+    /// The number of the row's first line, from 1.
+    pub line: usize,
+    pub name: &'a str,
+    shows: bool,
+    files: Vec<File>,
+    words: Option<&'a str>,
+    // The numbers of the reads that fail, and of the writes, from 1.
+    failing_reads: Vec<u64>,
+    failing_writes: Vec<u64>,
+    prints: Option<Vec<u8>>,
+    // How many bytes of the text are printed, where not all of them.
+    cut: Option<usize>,
+    status: Option<u8>,
+}
+
+/// What `ptg_main` is called with, and what it must print.
+#[derive(Drop)]
+pub struct Order {
+    pub files: Vec<File>,
+    pub words: Vec<Text>,
+    pub failing_reads: Vec<u64>,
+    pub failing_writes: Vec<u64>,
+    pub wanted: Printed,
+}
+
+/// A text and an exit status.
+#[derive(Drop)]
+pub struct Printed {
+    pub text: Vec<u8>,
+    pub status: u8,
+}
+
+impl<'a> WorkedRow<'a> {
+    /// A row that says nothing yet.
+    pub fn new(alloc: Global) -> WorkedRow<'a> {
+        WorkedRow {
+            line: 0,
+            name: "",
+            shows: false,
+            files: Vec::new(alloc),
+            words: None,
+            failing_reads: Vec::new(alloc),
+            failing_writes: Vec::new(alloc),
+            prints: None,
+            cut: None,
+            status: None,
+        }
+    }
+
+    /// The row that an item begins, with the files that all rows have.
+    pub fn begin(alloc: Global, item: &Item<'a>, all: &WorkedRow<'a>) -> Result<Self, Why> {
+        item.has_no_text()?;
+        let mut row = WorkedRow::new(alloc);
+        row.line = item.line;
+        row.name = item.rest;
+        row.files = copies(alloc, all.files.as_slice())?;
+        Ok(row)
+    }
+
+    /// Adds what an item says.
+    pub fn add(&mut self, alloc: Global, item: &Item<'a>) -> Result<(), Why> {
+        match item.keyword {
+            "file" => put(&mut self.files, named_file(alloc, item)?),
+            "prints" => set(&mut self.prints, item.text(alloc, item.rest)?),
+            _ => {
+                item.has_no_text()?;
+                self.add_line(alloc, item)
+            }
+        }
+    }
+
+    fn add_line(&mut self, alloc: Global, item: &Item<'a>) -> Result<(), Why> {
+        match item.keyword {
+            "shows" => {
+                self.shows = !item.rest.is_empty();
+                Ok(())
+            }
+            "change" => change(alloc, &mut self.files, item.rest),
+            "words" => set(&mut self.words, item.rest),
+            "failing" => self.add_failing(item.rest),
+            "cut" => set(&mut self.cut, number(item.rest)?),
+            "status" => set(&mut self.status, status(item.rest)?),
+            _ => Err(Why("a keyword that is none")),
+        }
+    }
+
+    fn add_failing(&mut self, rest: &str) -> Result<(), Why> {
+        match first_word(rest) {
+            ("reads", list) => add_numbers(&mut self.failing_reads, list),
+            ("writes", list) => add_numbers(&mut self.failing_writes, list),
+            _ => Err(Why("failing neither reads nor writes")),
+        }
+    }
+
+    /// What the row asks for, where it is whole. Words and status may be those of all rows.
+    pub fn order(self, alloc: Global, all: &WorkedRow<'a>) -> Result<Order, Why> {
+        let (Some(list), Some(status)) = (self.words.or(all.words), self.status.or(all.status))
+        else {
+            return Err(Why("a row without words or status"));
+        };
+        let (Some(mut text), true) = (self.prints, self.shows) else {
+            return Err(Why("a row without shows or prints"));
+        };
+        if let Some(length) = self.cut {
+            text.truncate(length);
+        }
+        Ok(Order {
+            files: self.files,
+            words: words(alloc, list)?,
+            failing_reads: self.failing_reads,
+            failing_writes: self.failing_writes,
+            wanted: Printed { text, status },
+        })
+    }
+}
+
+// Sets what a row says once.
+fn set<T: Drop>(place: &mut Option<T>, value: T) -> Result<(), Why> {
+    if place.is_some() {
+        return Err(Why("a keyword that stands twice in the row"));
+    }
+    *place = Some(value);
+    Ok(())
+}
+
+fn words(alloc: Global, list: &str) -> Result<Vec<Text>, Why> {
+    let mut words = Vec::new(alloc);
+    for word in list.split_whitespace() {
+        let bytes = spelled(alloc, word)?;
+        words.push(Text::of(alloc, bytes.as_slice())?)?;
+    }
+    Ok(words)
+}
+
+fn add_numbers(numbers: &mut Vec<u64>, list: &str) -> Result<(), Why> {
+    for digits in list.split_whitespace() {
+        let value = digits
+            .parse::<u64>()
+            .map_err(|_| Why("a number that is none"))?;
+        numbers.push(value)?;
+    }
+    Ok(())
+}
+
+fn number(digits: &str) -> Result<usize, Why> {
+    digits
+        .parse::<usize>()
+        .map_err(|_| Why("a number that is none"))
+}
+
+fn status(digits: &str) -> Result<u8, Why> {
+    digits
+        .parse::<u8>()
+        .map_err(|_| Why("a status that is none"))
+}
