@@ -1,0 +1,5 @@
+pub mod ByFlow
+pub mod StockLemmas
+pub mod Candidates
+pub mod Waiting
+pub mod QueueLemmas

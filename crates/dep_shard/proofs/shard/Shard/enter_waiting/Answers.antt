@@ -1,0 +1,19 @@
+use Rattle.std.proofs.Common.{rules, arith, ◌≡◌, None, Some, cond, ap, ◌∙◌}
+use Rattle.std.specs.BinaryHeap.{heap_items}
+use Rattle.indexmap.specs.IndexMap.{insert_entry}
+use Rattle.ptg_base.specs.TaskComparing.{same_task}
+use Rattle.dep_shard.specs.Content.{Content, fresh, entry_in}
+use Rattle.dep_shard.proofs.QueueLemmas.{enters_waiting, on_success}
+use Rattle.dep_shard.proofs.shard.Shard.enter_waiting.Goals as goal
+
+pub invariant_of-self : goal.invariant_of-self
+invariant_of-self c =
+    let es = c.self.inside.table.entries in
+    let new : entry_in es c.args.t.now ≡ None = search rules in
+    let made : c.new.result ≡ fresh c.args.goal c.args.priority = search rules in
+    enters_waiting same_task es c.insert.new.self.entries c.args.t.now (fresh c.args.goal c.args.priority) (heap_items c.self.inside.queue) _ _ _
+    c.self.invariant new
+    (on_success _ _ c.unwrap-none.ensures c.insert.ensures.entries ∙ (λ i. insert_entry same_task es (c.copy_of_task.ensures i) (made i)))
+    (λ u. (on_success _ _ c.unwrap-none.ensures c.insert.ensures.updates).0 u ∙ (λ i. cond (same_task (c.copy_of_task.ensures i) u) (Some (made i)) (entry_in es u)))
+    c.requires.goal
+    (omega (arith, ap (λ (y : Content). y.spare.entries) c.self.view_is, c.requires.room))

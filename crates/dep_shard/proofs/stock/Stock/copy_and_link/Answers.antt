@@ -1,0 +1,10 @@
+use Rattle.std.proofs.Common.{◌∙◌, ap}
+use Rattle.dep_shard.specs.Stock.{AllTiles}
+use Rattle.dep_shard.proofs.StockLemmas.{elems_stay, uses_one}
+use Rattle.dep_shard.proofs.stock.Stock.copy_and_link.Goals as goal
+
+pub returns-clause-elems : goal.returns-clause-elems
+returns-clause-elems c = elems_stay c.self.inside.types.items c.args.datatype _ _ c.index_mut-stock.ensures.value c.copy_and_link.ensures.elems ∙ ap (λ (a : AllTiles). a.elems) c.self.view_is
+
+pub returns-clause-spare : goal.returns-clause-spare
+returns-clause-spare c = uses_one c.self.inside.types.items _ c.args.datatype c.copy_and_link.new.self _ (ap (λ (a : AllTiles). a.spare) c.self.view_is) c.index_mut-stock.ensures.value c.copy_and_link.ensures.spare

@@ -1,0 +1,5 @@
+pub mod Arrivals
+pub mod TileList
+pub mod Stock
+pub mod Content
+pub mod Queue

@@ -1,0 +1,54 @@
+-- How a shard's queue of candidates serves its entries.
+use Rattle.std.specs.Prelude.{◌≡◌, ℕ, ◌+◌, ◌≤◌, ℤ, Bool, true, false, ◌&&◌, cond, nat_lt, nat_eq, List, [], ◌∷◌, Option}
+use Rattle.std.specs.BinaryHeap.{IsHeap}
+use Rattle.std.specs.List.{list_any}
+use Rattle.std.specs.Option.{option_map_or}
+use Rattle.std.specs.Ordering.{int_eq, int_cmp, ordering_then}
+use Rattle.std.specs.declared.cmp.Ordering.{Ordering}
+use Rattle.std.specs.declared.cmp.Reverse.{Reverse}
+use Rattle.ptg_base.specs.Task.{Task}
+use Rattle.ptg_base.specs.TaskComparing.{same_task, task_cmp}
+use Rattle.dep_shard.specs.Content.{Entry, Entries, entry_in}
+
+-- a candidate: a priority and a task
+abbrev pub Candidate : Type 0
+Candidate = ℤ × Reverse Task
+
+-- how the queue orders its candidates
+abbrev pub order : Candidate → Candidate → Ordering
+order a b = ordering_then (int_cmp a.0 b.0) (task_cmp b.1.0 a.1.0)
+
+-- whether a candidate is the task at this priority
+abbrev pub is_candidate : ℤ → Task → Candidate → Bool
+is_candidate p t c = int_eq p c.0 && same_task t c.1.0
+
+-- whether there is an entry, it is ready, and it has this priority
+abbrev pub is_ready_at : ℤ → Option Entry → Bool
+is_ready_at p w = option_map_or (λ (e : Entry). nat_eq e.arrived e.goal && int_eq e.priority p) w false
+
+-- whether the task has a ready entry of this priority: a candidate that is not live is stale
+abbrev pub is_live : Entries → ℤ → Task → Bool
+is_live entries p t = is_ready_at p (entry_in entries t)
+
+-- every ready entry is among the candidates
+abbrev pub HasEveryReady : Entries → List Candidate → Type 0
+HasEveryReady entries cs = (t : Task) → (p : ℤ) → is_live entries p t ≡ true → list_any (is_candidate p t) cs ≡ true
+
+-- the first candidate, if there is one, is live
+abbrev pub HasLiveFront : Entries → List Candidate → Type 0
+HasLiveFront entries cs = (c : Candidate) (rest : List Candidate) → cs ≡ c ∷ rest → is_live entries c.0 c.1.0 ≡ true
+
+-- how many entries wait
+abbrev pub one_if_waiting : Entry → ℕ
+one_if_waiting e = cond (nat_lt e.arrived e.goal) 1 0
+
+abbrev pub count_waiting : Entries → ℕ
+count_waiting [] = 0
+count_waiting (e ∷ es) = one_if_waiting e.1 + count_waiting es
+
+-- The queue is in order and has every ready entry, and it has room for every entry that waits.
+pub record IsQueueOf (entries : Entries) (cs : List Candidate) (len capacity waiting : ℕ) : Type 0 where
+  pub heap : IsHeap order cs
+  pub has_ready : HasEveryReady entries cs
+  pub counted : count_waiting entries ≡ waiting
+  pub room : len + waiting ≤ capacity

@@ -1,0 +1,16 @@
+//! One shard of the dependency table.
+#![tactic(auto)]
+
+mod arrivals;
+mod entry;
+mod queue;
+mod shard;
+mod stock;
+mod tile_list;
+
+pub use arrivals::Arrivals;
+pub use entry::Entry;
+pub use shard::{Arrived, Shard};
+
+#[cfg(test)]
+mod tests;

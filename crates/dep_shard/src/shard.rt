@@ -1,0 +1,409 @@
+//! The entries of one shard, its write-backs and its trapped tasks.
+ghost use Rattle.std.specs.Prelude.{◌≡◌, ◌+◌, ◌<◌, ◌≤◌, ◌↔◌, length, ◌∷◌, [], ◌++◌, slice_get, slice_index, None, Some, IsOk, IsSome, IfOk, OnOk, OnErr, IfNone, IfSome, is_some, if◌then◌else◌};
+ghost use Rattle.std.specs.Option.{option_copied, option_map};
+ghost use Rattle.std.specs.Map.{keys_of};
+ghost use Rattle.std.specs.Map.Iter.{deref_pair};
+ghost use Rattle.std.specs.List.{IsDistinct};
+ghost use Rattle.ptg_base.specs.TaskComparing.{same_task};
+ghost use Rattle.dep_shard.specs.declared.shard.Arrived.TheVariants.{Fired};
+ghost use Rattle.dep_shard.specs.Content.{Entry as EntryContent, HasSpares, Uses, HasNoReady, IsBest, IsReady, IsWaiting, IsNew, IsTileOf, IsUnchanged, KeepsAllButEntries, KeepsAllButWritten, KeepsEntriesAndWritten, Updates, Takes, Ends, HasWaiting, entry_of, entry_before, fresh, with_arrival};
+
+use crate::arrivals::Arrivals;
+use crate::entry::Entry;
+use crate::queue::{Queue, Table, copy_of_task, drop_stale};
+use crate::stock::Stock;
+use crate::tile_list::LinkedTile;
+use indexmap::IndexMap;
+use ptg_base::{Edge, OutOfMemory, TaskId, Tile, WriteBack};
+use std::alloc::Global;
+use std::cmp::Reverse;
+use std::collections::BinaryHeap;
+use std::marker::Model;
+use term_core::Trap;
+
+/// What has become of the target of an edge that came.
+#[derive(Clone, Copy, Debug, PartialEq, Eq)]
+pub enum Arrived {
+    /// It waits for further edges.
+    Waits,
+    /// This edge was the last, and the target is ready.
+    Fired,
+}
+
+/// One shard of the dependency table: the entries of its unclaimed tasks, what its tasks wrote back, and which trapped.
+///
+/// An addition within the spares cannot be refused. Without spares an addition takes memory as it needs it.
+#[derive(Drop)]
+pub struct Shard {
+    table: Table,
+    queue: Queue,
+    // How many entries wait. The queue has room for the candidate of each, so that the last edge needs no memory.
+    waiting: usize,
+    stock: Stock,
+    written: Vec<(WriteBack, Tile)>,
+    trapped: Vec<(TaskId, Trap)>,
+    running: u64,
+    ended: u64,
+}
+
+impl Model for Shard {
+    ghost use Rattle.std.specs.Prelude.{◌-◌, min, vec_len, vec_capacity};
+    ghost use Rattle.std.specs.BinaryHeap.{heap_items, heap_len, heap_capacity};
+    ghost use Rattle.indexmap.specs.IndexMap.{spare};
+    ghost use Rattle.dep_shard.specs.Content.{Content};
+    ghost use Rattle.dep_shard.specs.Queue.{IsQueueOf};
+
+    ghost Value = { Content };
+
+    ghost view = { λ s. record { entries = s.table.entries; written = s.written.items; trapped = s.trapped.items; running = s.running; ended = s.ended; elems = s.stock.elems; spare = record { entries = min (spare s.table) (heap_capacity s.queue - heap_len s.queue - s.waiting); tiles = s.stock.spare; writes = vec_capacity s.written - vec_len s.written; traps = vec_capacity s.trapped - vec_len s.trapped } } };
+
+    ghost invariant = { λ s. IsQueueOf s.table.entries (heap_items s.queue) (heap_len s.queue) (heap_capacity s.queue) s.waiting };
+}
+
+impl Shard {
+    /// A shard in which nothing has happened. A tile of type k has `elems[k]` numbers.
+    pub fn new(alloc: Global, elems: &[u32]) -> Result<Shard, OutOfMemory>
+        ensures { IfOk result (λ shard. IsNew shard elems.now) }
+    {
+        Ok(Shard {
+            table: IndexMap::new(alloc),
+            queue: BinaryHeap::new(alloc),
+            waiting: 0,
+            stock: Stock::new(alloc, elems)?,
+            written: Vec::new(alloc),
+            trapped: Vec::new(alloc),
+            running: 0,
+            ended: 0,
+        })
+    }
+
+    /// Takes memory for so many more entries, tiles by type number, write-backs and trapped tasks. After an `Ok` as
+    /// many additions cannot be refused. An `Err` changes at most the spares, and lowers none.
+    pub fn reserve(
+        &mut self,
+        entries: u64,
+        tiles: &[u64],
+        writes: u64,
+        traps: u64,
+    ) -> Result<(), OutOfMemory>
+        requires { length tiles.now ≡ length self.old.elems }
+        ensures ok { OnOk result (HasSpares self.new.spare entries tiles.now writes traps) }
+        ensures same { IsUnchanged self.old self.new }
+        ensures spare { Uses self.old.spare self.new.spare 0 None 0 0 }
+        ensures succeeds { HasSpares self.old.spare entries tiles.now writes traps → IsOk result }
+    {
+        self.reserve_entries(entries as usize)?;
+        self.stock.reserve(tiles)?;
+        self.written.reserve(writes as usize)?;
+        self.trapped.reserve(traps as usize)?;
+        Ok(())
+    }
+
+    // Takes memory for `n` more entries and their candidates.
+    fn reserve_entries(&mut self, n: usize) -> Result<(), OutOfMemory>
+        ensures ok { OnOk result (n ≤ self.new.spare.entries) }
+        ensures same { IsUnchanged self.old self.new }
+        ensures spare { Uses self.old.spare self.new.spare 0 None 0 0 }
+        ensures succeeds { n ≤ self.old.spare.entries → IsOk result }
+    {
+        self.table.reserve(n)?;
+        match self.waiting.checked_add(n) {
+            Some(candidates) => {
+                self.queue.reserve(candidates)?;
+                Ok(())
+            }
+            None => Err(OutOfMemory),
+        }
+    }
+
+    /// Adds a ready entry for a task that has no entry. It uses a spare entry.
+    pub fn add_ready(&mut self, t: &TaskId, priority: i64) -> Result<(), OutOfMemory>
+        requires { entry_of self.old t.now ≡ None }
+        ensures ok { OnOk result (Updates self.old.entries self.new.entries t.now (Some (fresh 0 priority))) }
+        ensures err { OnErr result (self.new.entries ≡ self.old.entries) }
+        ensures rest { KeepsAllButEntries self.old self.new }
+        ensures spare { Uses self.old.spare self.new.spare 1 None 0 0 }
+        ensures succeeds { 0 < self.old.spare.entries → IsOk result }
+    {
+        self.reserve_entries(1)?;
+        self.enter_ready(t, priority);
+        Ok(())
+    }
+
+    fn enter_ready(&mut self, t: &TaskId, priority: i64)
+        requires new { entry_of self.old t.now ≡ None }
+        requires room { 0 < self.old.spare.entries }
+        ensures entries { Updates self.old.entries self.new.entries t.now (Some (fresh 0 priority)) }
+        ensures rest { KeepsAllButEntries self.old self.new }
+        ensures spare { Uses self.old.spare self.new.spare 1 None 0 0 }
+    {
+        let _none = self
+            .table
+            .insert(copy_of_task(t), Entry::new(0, priority))
+            .unwrap();
+        self.queue
+            .push((priority, Reverse(copy_of_task(t))))
+            .unwrap();
+    }
+
+    // Adds an entry that waits, to which nothing has come.
+    fn enter_waiting(&mut self, t: &TaskId, goal: u32, priority: i64)
+        requires new { entry_of self.old t.now ≡ None }
+        requires room { 0 < self.old.spare.entries }
+        requires goal { 0 < goal }
+        ensures entries { Updates self.old.entries self.new.entries t.now (Some (fresh goal priority)) }
+        ensures rest { KeepsAllButEntries self.old self.new }
+        ensures spare { Uses self.old.spare self.new.spare 1 None 0 0 }
+    {
+        let _none = self
+            .table
+            .insert(copy_of_task(t), Entry::new(goal, priority))
+            .unwrap();
+        self.waiting += 1;
+    }
+
+    /// The best ready task: of the greatest priority, and of equal ones the first in task order. Looking drops
+    /// candidates that are stale, and changes nothing that contracts see but for spares that grow.
+    pub fn best_ready(&mut self) -> Option<TaskId>
+        ensures same { IsUnchanged self.old self.new }
+        ensures spare { Uses self.old.spare self.new.spare 0 None 0 0 }
+        ensures none { IfNone result (HasNoReady self.old.entries) }
+        ensures some { IfSome result (IsBest self.old.entries) }
+    {
+        drop_stale(&self.table, &mut self.queue);
+        let best = self.queue.peek()?;
+        Some(copy_of_task(&best.1.0))
+    }
+
+    /// Notes that an edge has come, with this tile of this type. The first edge of a task makes its entry and uses a
+    /// spare entry; a tile uses a spare tile of its type. An entry keeps the goal and the priority that it was made
+    /// with.
+    pub fn arrive(
+        &mut self,
+        edge: &Edge,
+        goal: u32,
+        priority: i64,
+        datatype: u32,
+        tile: Option<&Tile>,
+    ) -> Result<Arrived, OutOfMemory>
+        requires flow { edge.now.in_flow < 8 }
+        requires goal { 0 < goal }
+        requires waits { IsWaiting (entry_before self.old edge.now.to goal priority) }
+        requires tile { IfSome (option_copied tile) (λ t. IsTileOf self.old.elems datatype t) }
+        ensures ok { OnOk result (Updates self.old.entries self.new.entries edge.now.to (Some (with_arrival (entry_before self.old edge.now.to goal priority) edge.now.in_flow (option_copied tile.entry)))) }
+        ensures fired { IfOk result (λ a. (a ≡ Fired) ↔ IsReady (with_arrival (entry_before self.old edge.now.to goal priority) edge.now.in_flow (option_copied tile.entry))) }
+        ensures err { OnErr result (self.new.entries ≡ self.old.entries) }
+        ensures rest { KeepsAllButEntries self.old self.new }
+        ensures spare { Uses self.old.spare self.new.spare (if is_some (entry_of self.old edge.now.to) then 0 else 1) (if is_some tile.entry then Some datatype else None) 0 0 }
+        ensures succeeds { (entry_of self.old edge.now.to ≡ None → 0 < self.old.spare.entries) → (IsSome tile.entry → 0 < slice_index self.old.spare.tiles datatype) → IsOk result }
+    {
+        self.reserve_entry_of(&edge.to)?;
+        let copied = self.copy_in(datatype, tile)?;
+        self.enter_if_new(&edge.to, goal, priority);
+        Ok(self.land(&edge.to, edge.in_flow, copied))
+    }
+
+    // Takes memory for the entry of this task if it has none.
+    fn reserve_entry_of(&mut self, t: &TaskId) -> Result<(), OutOfMemory>
+        ensures ok { OnOk result (entry_of self.old t.now ≡ None → 0 < self.new.spare.entries) }
+        ensures same { IsUnchanged self.old self.new }
+        ensures spare { Uses self.old.spare self.new.spare 0 None 0 0 }
+        ensures succeeds { 0 < self.old.spare.entries → IsOk result }
+        ensures needless { IsSome (entry_of self.old t.now) → IsOk result }
+    {
+        if self.table.contains_key(t) {
+            return Ok(());
+        }
+        self.reserve_entries(1)
+    }
+
+    // A copy of the tile and a link to hold it, if there is a tile.
+    fn copy_in(
+        &mut self,
+        datatype: u32,
+        tile: Option<&Tile>,
+    ) -> Result<Option<LinkedTile>, OutOfMemory>
+        requires { IfSome (option_copied tile) (λ t. IsTileOf self.old.elems datatype t) }
+        ensures ok { IfOk result (λ made. option_map (λ m. m.0) made ≡ option_copied tile.entry) }
+        ensures same { IsUnchanged self.old self.new }
+        ensures spare { Uses self.old.spare self.new.spare 0 (if is_some tile.entry then Some datatype else None) 0 0 }
+        ensures succeeds { (IsSome tile.entry → 0 < slice_index self.old.spare.tiles datatype) → IsOk result }
+    {
+        self.stock.copy_if_any(datatype, tile)
+    }
+
+    fn enter_if_new(&mut self, t: &TaskId, goal: u32, priority: i64)
+        requires goal { 0 < goal }
+        requires room { entry_of self.old t.now ≡ None → 0 < self.old.spare.entries }
+        ensures entries { Updates self.old.entries self.new.entries t.now (Some (entry_before self.old t.now goal priority)) }
+        ensures rest { KeepsAllButEntries self.old self.new }
+        ensures spare { Uses self.old.spare self.new.spare (if is_some (entry_of self.old t.now) then 0 else 1) None 0 0 }
+    {
+        if !self.table.contains_key(t) {
+            self.enter_waiting(t, goal, priority);
+        }
+    }
+
+    // An edge comes to an entry that waits. The queue has room for its candidate.
+    fn land(&mut self, t: &TaskId, flow: u8, tile: Option<LinkedTile>) -> Arrived
+        requires flow { flow < 8 }
+        requires waits { HasWaiting self.old t.now }
+        ensures entries { (e : EntryContent) → entry_of self.old t.now ≡ Some e → Updates self.old.entries self.new.entries t.now (Some (with_arrival e flow (option_map (λ m. m.0) tile))) }
+        ensures fired { (e : EntryContent) → entry_of self.old t.now ≡ Some e → (result ≡ Fired) ↔ IsReady (with_arrival e flow (option_map (λ m. m.0) tile)) }
+        ensures rest { KeepsAllButEntries self.old self.new }
+        ensures spare { Uses self.old.spare self.new.spare 0 None 0 0 }
+    {
+        let priority = match self.table.get_mut(t) {
+            Some(entry) => {
+                entry.add(flow, tile);
+                if entry.arrived() < entry.goal() {
+                    return Arrived::Waits;
+                }
+                entry.priority()
+            }
+            None => return Arrived::Waits,
+        };
+        self.waiting -= 1;
+        self.queue
+            .push((priority, Reverse(copy_of_task(t))))
+            .unwrap();
+        Arrived::Fired
+    }
+
+    /// Takes the ready entry of a task out, with the tiles that came to it. The task runs from then on. `None` exactly
+    /// if it has no ready entry.
+    pub fn take_ready(&mut self, t: &TaskId) -> Option<Arrivals>
+        requires { self.old.running < 1000000 }
+        ensures none { IfNone result ((e : EntryContent) → entry_of self.old t.now ≡ Some e → IsReady e → ⊥) }
+        ensures same { IfNone result (IsUnchanged self.old self.new) }
+        ensures some { IfSome result (λ tiles. Takes self.old self.new t.now tiles) }
+        ensures spare { Uses self.old.spare self.new.spare 0 None 0 0 }
+    {
+        let arrivals = self.remove_ready(t)?;
+        self.drop_stale();
+        Some(arrivals)
+    }
+
+    fn remove_ready(&mut self, t: &TaskId) -> Option<Arrivals>
+        requires { self.old.running < 1000000 }
+        ensures none { IfNone result ((e : EntryContent) → entry_of self.old t.now ≡ Some e → IsReady e → ⊥) }
+        ensures same { IfNone result (IsUnchanged self.old self.new) }
+        ensures some { IfSome result (λ tiles. Takes self.old self.new t.now tiles) }
+        ensures spare { Uses self.old.spare self.new.spare 0 None 0 0 }
+    {
+        match self.table.get(t) {
+            Some(e) => {
+                if e.arrived() != e.goal() {
+                    return None;
+                }
+            }
+            None => return None,
+        }
+        let entry = self.table.swap_remove(t)?;
+        self.running += 1;
+        Some(entry.into_arrivals())
+    }
+
+    // Drops the stale candidates at the front of the queue, so that they do not pile up until the next search.
+    fn drop_stale(&mut self)
+        ensures same { IsUnchanged self.old self.new }
+        ensures spare { Uses self.old.spare self.new.spare 0 None 0 0 }
+    {
+        drop_stale(&self.table, &mut self.queue);
+    }
+
+    /// Writes a copy of a tile of this type back. It uses a spare write-back and a spare tile of the type.
+    pub fn write(&mut self, w: &WriteBack, datatype: u32, tile: &Tile) -> Result<(), OutOfMemory>
+        requires { IsTileOf self.old.elems datatype tile.now }
+        ensures ok { OnOk result (self.new.written ≡ self.old.written ++ (w.now, tile.now) ∷ []) }
+        ensures err { OnErr result (self.new.written ≡ self.old.written) }
+        ensures rest { KeepsAllButWritten self.old self.new }
+        ensures spare { Uses self.old.spare self.new.spare 0 (Some datatype) 1 0 }
+        ensures succeeds { 0 < self.old.spare.writes → 0 < slice_index self.old.spare.tiles datatype → IsOk result }
+    {
+        self.written.reserve(1)?;
+        let copy = self.stock.copy_of(datatype, tile)?;
+        let write = WriteBack {
+            from: copy_of_task(&w.from),
+            flow: w.flow,
+            place: w.place,
+        };
+        self.written.push((write, copy)).unwrap();
+        Ok(())
+    }
+
+    /// A running task ends.
+    pub fn end(&mut self)
+        requires running { 0 < self.old.running }
+        requires bound { self.old.ended < 1000000 }
+        ensures ends { Ends self.old self.new }
+        ensures rest { KeepsEntriesAndWritten self.old self.new }
+        ensures trapped { self.new.trapped ≡ self.old.trapped }
+        ensures spare { Uses self.old.spare self.new.spare 0 None 0 0 }
+    {
+        self.running -= 1;
+        self.ended += 1;
+    }
+
+    /// A running task traps: it ends, and is noted with its cause. It uses a spare trapped task.
+    pub fn trap(&mut self, t: &TaskId, cause: Trap) -> Result<(), OutOfMemory>
+        requires running { 0 < self.old.running }
+        requires bound { self.old.ended < 1000000 }
+        ensures ok { OnOk result (self.new.trapped ≡ self.old.trapped ++ (t.now, cause) ∷ []) }
+        ensures ends { OnOk result (Ends self.old self.new) }
+        ensures rest { KeepsEntriesAndWritten self.old self.new }
+        ensures err { OnErr result (IsUnchanged self.old self.new) }
+        ensures spare { Uses self.old.spare self.new.spare 0 None 0 1 }
+        ensures succeeds { 0 < self.old.spare.traps → IsOk result }
+    {
+        self.trapped.push((copy_of_task(t), cause))?;
+        self.end();
+        Ok(())
+    }
+
+    /// How many entries there are. No two are of one task.
+    pub fn len(&self) -> usize
+        ensures len { result ≡ length self.now.entries }
+        ensures distinct { IsDistinct same_task (keys_of self.now.entries) }
+    {
+        self.table.len()
+    }
+
+    /// The entry at this index of the list, with its task.
+    pub fn entry(&self, index: usize) -> Option<(&TaskId, &Entry)>
+        ensures value { option_map deref_pair result ≡ slice_get self.now.entries index }
+        ensures entry { IfSome result (λ e. entry_of self.now e.0.now ≡ Some e.1.now) }
+    {
+        self.table.get_index(index)
+    }
+
+    /// The write-back at this index of the list, with its tile.
+    pub fn written(&self, index: usize) -> Option<(&WriteBack, &Tile)>
+        ensures { option_map deref_pair result ≡ slice_get self.now.written index }
+    {
+        let row = self.written.as_slice().get(index)?;
+        Some((&row.0, &row.1))
+    }
+
+    /// The trapped task at this index of the list, with its cause.
+    pub fn trapped(&self, index: usize) -> Option<(&TaskId, Trap)>
+        ensures { option_map (λ t. (t.0.now, t.1)) result ≡ slice_get self.now.trapped index }
+    {
+        let row = self.trapped.as_slice().get(index)?;
+        Some((&row.0, row.1))
+    }
+
+    /// How many tasks run.
+    pub fn running(&self) -> u64
+        ensures { result ≡ self.now.running }
+    {
+        self.running
+    }
+
+    /// How many tasks have ended.
+    pub fn ended(&self) -> u64
+        ensures { result ≡ self.now.ended }
+    {
+        self.ended
+    }
+}

@@ -1,0 +1,191 @@
+//! Reserved tiles of each type, and links to hold them in entries.
+ghost use Rattle.std.specs.Prelude.{◌≡◌, ◌+◌, ◌<◌, ◌≤◌, ℕ, Some, None, IsOk, IsSome, IfOk, IfSome, OnOk, is_some, if◌then◌else◌, length, slice_index, vec_len};
+ghost use Rattle.std.specs.Option.{option_copied, option_map};
+ghost use Rattle.dep_shard.specs.Content.{IsTileOf};
+ghost use Rattle.dep_shard.specs.Stock.{UsesTile};
+
+use crate::tile_list::{Link, LinkedTile};
+use ptg_base::{OutOfMemory, Tile};
+use std::alloc::Global;
+use std::marker::Model;
+use tile_pool::TilePool;
+
+// The reserved tiles of one type, and as many links. A write-back uses a tile alone.
+#[derive(Drop)]
+pub(crate) struct TypeStock {
+    alloc: Global,
+    pool: TilePool,
+    links: Vec<Box<Link>>,
+}
+
+impl Model for TypeStock {
+    ghost use Rattle.std.specs.Prelude.{min, vec_len};
+    ghost use Rattle.dep_shard.specs.Stock.{TypeTiles};
+
+    ghost Value = { TypeTiles };
+
+    ghost view = { λ s. record { elems = s.pool.elems; spare = min s.pool.spare (vec_len s.links) } };
+}
+
+impl TypeStock {
+    fn new(alloc: Global, elems: u32) -> TypeStock
+        ensures { result ≡ record { elems = elems; spare = 0 } }
+    {
+        TypeStock {
+            alloc,
+            pool: TilePool::new(alloc, elems),
+            links: Vec::new(alloc),
+        }
+    }
+
+    // Makes tiles and links until `n` more tiles can come.
+    fn reserve(&mut self, n: u64) -> Result<(), OutOfMemory>
+        ensures ok { OnOk result (n ≤ self.new.spare) }
+        ensures more { self.old.spare ≤ self.new.spare }
+        ensures elems { self.new.elems ≡ self.old.elems }
+        ensures succeeds { n ≤ self.old.spare → IsOk result }
+    {
+        self.pool.reserve(n)?;
+        make_links(&mut self.links, self.alloc, n as usize)
+    }
+
+    // A copy of a tile.
+    fn copy_of(&mut self, tile: &Tile) -> Result<Tile, OutOfMemory>
+        requires { length tile.now ≡ self.old.elems }
+        ensures ok { IfOk result (λ copy. copy ≡ tile.now) }
+        ensures elems { self.new.elems ≡ self.old.elems }
+        ensures spare { self.old.spare ≤ self.new.spare + 1 }
+        ensures succeeds { 0 < self.old.spare → IsOk result }
+    {
+        self.pool.copy_of(tile)
+    }
+
+    // A copy of a tile, and a link to hold it.
+    fn copy_and_link(&mut self, tile: &Tile) -> Result<LinkedTile, OutOfMemory>
+        requires { length tile.now ≡ self.old.elems }
+        ensures ok { IfOk result (λ made. made.0 ≡ tile.now) }
+        ensures elems { self.new.elems ≡ self.old.elems }
+        ensures spare { self.old.spare ≤ self.new.spare + 1 }
+        ensures succeeds { 0 < self.old.spare → IsOk result }
+    {
+        let link = match self.links.pop() {
+            Some(link) => link,
+            None => Box::new(self.alloc, Link::Spare)?,
+        };
+        let copy = self.pool.copy_of(tile)?;
+        Ok((copy, link))
+    }
+}
+
+// Makes spare links until there are `n`.
+fn make_links(links: &mut Vec<Box<Link>>, alloc: Global, n: usize) -> Result<(), OutOfMemory>
+    ensures ok { OnOk result (n ≤ vec_len links.new) }
+    ensures more { vec_len links.old ≤ vec_len links.new }
+    ensures succeeds { n ≤ vec_len links.old → IsOk result }
+{
+    for _i in links.len()..n {
+        links.push(Box::new(alloc, Link::Spare)?)?;
+    }
+    Ok(())
+}
+
+// The reserved tiles of all types, by type number.
+#[derive(Drop)]
+pub(crate) struct Stock {
+    types: Vec<TypeStock>,
+}
+
+impl Model for Stock {
+    ghost use Rattle.std.specs.Prelude.{map};
+    ghost use Rattle.dep_shard.specs.Stock.{TypeTiles, AllTiles};
+
+    ghost Value = { AllTiles };
+
+    ghost view = { λ s. record { elems = map (λ (t : TypeTiles). t.elems) s.types.items; spare = map (λ (t : TypeTiles). t.spare) s.types.items } };
+}
+
+impl Stock {
+    // No reserved tiles, of types whose tiles have so many numbers.
+    pub(crate) fn new(alloc: Global, elems: &[u32]) -> Result<Stock, OutOfMemory>
+        ensures { IfOk result (λ stock. stock.elems ≡ elems.now) }
+    {
+        let mut types = Vec::new(alloc);
+        for n in elems {
+            types.push(TypeStock::new(alloc, *n))?;
+        }
+        Ok(Stock { types })
+    }
+
+    // Makes tiles and links until so many more tiles of each type can come.
+    pub(crate) fn reserve(&mut self, tiles: &[u64]) -> Result<(), OutOfMemory>
+        requires { length tiles.now ≡ length self.old.elems }
+        ensures ok { OnOk result ((k : ℕ) → slice_index tiles.now k ≤ slice_index self.new.spare k) }
+        ensures elems { self.new.elems ≡ self.old.elems }
+        ensures spare { UsesTile self.old.spare self.new.spare None }
+        ensures succeeds { ((k : ℕ) → slice_index tiles.now k ≤ slice_index self.old.spare k) → IsOk result }
+    {
+        for k in 0..tiles.len() {
+            self.reserve_type(k, tiles[k])?;
+        }
+        Ok(())
+    }
+
+    fn reserve_type(&mut self, k: usize, n: u64) -> Result<(), OutOfMemory>
+        requires { k < length self.old.elems }
+        ensures ok { OnOk result (n ≤ slice_index self.new.spare k) }
+        ensures elems { self.new.elems ≡ self.old.elems }
+        ensures spare { UsesTile self.old.spare self.new.spare None }
+        ensures succeeds { n ≤ slice_index self.old.spare k → IsOk result }
+    {
+        let stock = &mut self.types[k];
+        stock.reserve(n)
+    }
+
+    // A copy of a tile of this type.
+    pub(crate) fn copy_of(&mut self, datatype: u32, tile: &Tile) -> Result<Tile, OutOfMemory>
+        requires datatype { datatype < length self.old.elems }
+        requires tile { length tile.now ≡ slice_index self.old.elems datatype }
+        ensures ok { IfOk result (λ copy. copy ≡ tile.now) }
+        ensures elems { self.new.elems ≡ self.old.elems }
+        ensures spare { UsesTile self.old.spare self.new.spare (Some datatype) }
+        ensures succeeds { 0 < slice_index self.old.spare datatype → IsOk result }
+    {
+        let stock = &mut self.types[datatype as usize];
+        stock.copy_of(tile)
+    }
+
+    // A copy of a tile of this type, and a link to hold it.
+    pub(crate) fn copy_and_link(
+        &mut self,
+        datatype: u32,
+        tile: &Tile,
+    ) -> Result<LinkedTile, OutOfMemory>
+        requires datatype { datatype < length self.old.elems }
+        requires tile { length tile.now ≡ slice_index self.old.elems datatype }
+        ensures ok { IfOk result (λ made. made.0 ≡ tile.now) }
+        ensures elems { self.new.elems ≡ self.old.elems }
+        ensures spare { UsesTile self.old.spare self.new.spare (Some datatype) }
+        ensures succeeds { 0 < slice_index self.old.spare datatype → IsOk result }
+    {
+        let stock = &mut self.types[datatype as usize];
+        stock.copy_and_link(tile)
+    }
+
+    // A copy of a tile of this type and a link to hold it, if there is a tile.
+    pub(crate) fn copy_if_any(
+        &mut self,
+        datatype: u32,
+        tile: Option<&Tile>,
+    ) -> Result<Option<LinkedTile>, OutOfMemory>
+        requires { IfSome (option_copied tile) (λ t. IsTileOf self.old.elems datatype t) }
+        ensures ok { IfOk result (λ made. option_map (λ m. m.0) made ≡ option_copied tile.entry) }
+        ensures elems { self.new.elems ≡ self.old.elems }
+        ensures spare { UsesTile self.old.spare self.new.spare (if is_some tile.entry then Some datatype else None) }
+        ensures succeeds { (IsSome tile.entry → 0 < slice_index self.old.spare datatype) → IsOk result }
+    {
+        match tile {
+            Some(from) => Ok(Some(self.copy_and_link(datatype, from)?)),
+            None => Ok(None),
+        }
+    }
+}

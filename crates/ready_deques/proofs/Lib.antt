@@ -1,0 +1,6 @@
+pub mod Sums
+pub mod Keeps
+pub mod Outcomes
+pub mod Accounts
+pub mod Rows
+pub mod Settled

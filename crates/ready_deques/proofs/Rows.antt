@@ -1,0 +1,172 @@
+-- A list of which the first elements are changed, as a loop by an index leaves it.
+use Rattle.std.proofs.Common.{◌≡◌, ℕ, zero, suc, ◌+◌, ◌-◌, ◌<◌, ◌≤◌, List, [], ◌∷◌, ◌++◌, length, map, set, get_or, take, drop, replicate, Some, All, sym, refl, ap, subst, ◌∙◌, arith, add-one}
+use Rattle.std.proofs.lemmas.List.Elements.{All-head, All-tail, All-nil, All-cons, All-append, All-get_or}
+use Rattle.std.proofs.lemmas.Option.{get_or_from_slice_get, slice_get_within, slice_get-map}
+use Rattle.std.specs.Prelude.{slice_get, option_map}
+use Rattle.ready_deques.specs.Ends.{Owner, Thief, less, new_thief, IsNew}
+use Rattle.ready_deques.specs.Hands.{Account, fresh}
+use Rattle.ready_deques.proofs.Accounts.{account}
+
+module _ {X Y : Type 0} (f : X → Y) where
+  grows : (xs : List X) (k : ℕ) (d : X) → k < length xs → map f (take k xs) ++ f (get_or xs k d) ∷ [] ≡ map f (take (suc k) xs)
+  grows [] k d within = absurd (omega arith)
+  grows (x ∷ xs) zero d within = refl
+  grows (x ∷ xs) (suc k) d within = ap (λ ys. f x ∷ ys) (grows xs k d (omega arith))
+
+  -- one more is mapped
+  pub mapped-more : (xs : List X) (k : ℕ) (d : X) → k < length xs → map f (take k xs) ++ f (get_or xs k d) ∷ [] ≡ map f (take (k + 1) xs)
+  mapped-more xs k d within = subst (λ m. map f (take k xs) ++ f (get_or xs k d) ∷ [] ≡ map f (take m xs)) (sym (add-one k)) (grows xs k d within)
+
+  pub mapped-all : (xs : List X) → map f (take (length xs) xs) ≡ map f xs
+  mapped-all [] = refl
+  mapped-all (x ∷ xs) = ap (λ ys. f x ∷ ys) (mapped-all xs)
+
+module _ {X : Type 0} (f : X → X) where
+  -- the first k elements are changed
+  abbrev pub partly : ℕ → List X → List X
+  partly k xs = map f (take k xs) ++ drop k xs
+
+  changes : (xs : List X) (k : ℕ) (d : X) → k < length xs → set (partly k xs) k (f (get_or xs k d)) ≡ partly (suc k) xs
+  changes [] k d within = absurd (omega arith)
+  changes (x ∷ xs) zero d within = refl
+  changes (x ∷ xs) (suc k) d within = ap (λ ys. f x ∷ ys) (changes xs k d (omega arith))
+
+  pub partly-more : (xs : List X) (k : ℕ) (d : X) → k < length xs → set (partly k xs) k (f (get_or xs k d)) ≡ partly (k + 1) xs
+  partly-more xs k d within = subst (λ m. set (partly k xs) k (f (get_or xs k d)) ≡ partly m xs) (sym (add-one k)) (changes xs k d within)
+
+  -- the next one is as it was
+  pub get_or-partly : (xs : List X) (k : ℕ) (d : X) → get_or (partly k xs) k d ≡ get_or xs k d
+  get_or-partly [] zero d = refl
+  get_or-partly [] (suc k) d = refl
+  get_or-partly (x ∷ xs) zero d = refl
+  get_or-partly (x ∷ xs) (suc k) d = get_or-partly xs k d
+
+  pub partly-all : (xs : List X) → partly (length xs) xs ≡ map f xs
+  partly-all [] = refl
+  partly-all (x ∷ xs) = ap (λ ys. f x ∷ ys) (partly-all xs)
+
+  pub length-partly : (xs : List X) (k : ℕ) → length (partly k xs) ≡ length xs
+  length-partly [] zero = refl
+  length-partly [] (suc k) = refl
+  length-partly (x ∷ xs) zero = refl
+  length-partly (x ∷ xs) (suc k) = ap suc (length-partly xs k)
+
+abbrev pub IsUntaken : Thief → Type 0
+IsUntaken f = f.taken ≡ []
+
+-- no account has taken anything at first
+pub none_taken : (thieves : List Thief) (n : ℕ) → All (λ (f : Thief). f.taken ≡ []) thieves
+    → set (map (λ (f : Thief). f.taken) thieves) n [] ≡ replicate (length (map (λ (f : Thief). f.deque) thieves)) []
+none_taken [] n all = refl
+none_taken (f ∷ thieves) zero all = ap (λ ys. [] ∷ ys) (rest thieves (All-tail IsUntaken f thieves all))
+  where
+    rest : (fs : List Thief) → All IsUntaken fs → map (λ (x : Thief). x.taken) fs ≡ replicate (length (map (λ (x : Thief). x.deque) fs)) []
+    rest [] all' = refl
+    rest (x ∷ fs) all' = λ i. All-head IsUntaken x fs all' i ∷ rest fs (All-tail IsUntaken x fs all') i
+none_taken (f ∷ thieves) (suc n) all = λ i. All-head IsUntaken f thieves all i ∷ none_taken thieves n (All-tail IsUntaken f thieves all) i
+
+-- parts that are given away one after another
+pub less-less : (owners : List Owner) (k : ℕ) → map (less 1) (map (less k) owners) ≡ map (less (k + 1)) owners
+less-less [] k = refl
+less-less (b ∷ owners) k = let parts : b.parts - k - 1 ≡ b.parts - (k + 1) = omega arith in λ i. record b { parts = parts i } ∷ less-less owners k i
+
+pub new_thief-less : (owners : List Owner) (k : ℕ) → map new_thief (map (less k) owners) ≡ map new_thief owners
+new_thief-less [] k = refl
+new_thief-less (b ∷ owners) k = ap (λ ys. new_thief b ∷ ys) (new_thief-less owners k)
+
+pub more_than_one : (owners : List Owner) (k n : ℕ) → k < n → All (λ (b : Owner). n < b.parts) owners → All (λ (b : Owner). 1 < b.parts) (map (less k) owners)
+more_than_one [] k n within all = All-nil _
+more_than_one (b ∷ owners) k n within all =
+    let first = All-head (λ (x : Owner). n < x.parts) b owners all in
+    All-cons (λ (x : Owner). 1 < x.parts) (less k b) (map (less k) owners) (omega arith) (more_than_one owners k n within (All-tail (λ (x : Owner). n < x.parts) b owners all))
+
+-- the account of ends that nothing was pushed to or taken from
+pub unused : (n : ℕ) (own : Owner) (thieves : List Thief) → IsNew (length thieves) own → All (λ (f : Thief). f.taken ≡ []) thieves → account n own thieves ≡ fresh (map (λ (f : Thief). f.deque) thieves) n
+unused n own thieves new all =
+    let ts = map (λ (f : Thief). f.taken) thieves in
+    let taken : set ts n own.taken ≡ replicate (length (map (λ (f : Thief). f.deque) thieves)) [] = ap (λ ids. set ts n ids) new.taken ∙ none_taken thieves n all in
+    λ i. record { number = n; deques = map (λ (f : Thief). f.deque) thieves; pushed = new.pushed i; taken = taken i }
+
+-- one more deque gave an end
+pub one_more : (init owners : List Owner) (thieves thieves' : List Thief) (k : ℕ) (b b' : Owner) (f : Thief) → k < length init
+    → owners ≡ partly (less 1) k init → thieves ≡ map new_thief (take k init)
+    → b ≡ get_or owners k b → b' ≡ less 1 b → f ≡ new_thief b → thieves' ≡ thieves ++ f ∷ []
+    → (set owners k b' ≡ partly (less 1) (k + 1) init) × (thieves' ≡ map new_thief (take (k + 1) init))
+one_more init owners thieves thieves' k b b' f within owners_are thieves_are here gave new added =
+    let was : b ≡ get_or init k b = here ∙ (ap (λ xs. get_or xs k b) owners_are ∙ get_or-partly (less 1) init k b) in (
+      ap (λ xs. set xs k b') owners_are ∙ (ap (λ x. set (partly (less 1) k init) k x) (gave ∙ ap (less 1) was) ∙ partly-more (less 1) init k b within),
+      added ∙ (ap (λ xs. xs ++ f ∷ []) thieves_are ∙ (ap (λ x. map new_thief (take k init) ++ x ∷ []) (new ∙ ap new_thief was) ∙ mapped-more new_thief init k b within)),
+    )
+
+pub less-none : (owners : List Owner) → map (less 0) owners ≡ owners
+less-none [] = refl
+less-none (b ∷ owners) = let parts : b.parts - 0 ≡ b.parts = omega arith in λ i. record b { parts = parts i } ∷ less-none owners i
+
+pub all_more : {X : Type 0} (P : X → Type 0) (xs ys : List X) (x : X) → ys ≡ xs ++ x ∷ [] → All P xs → P x → All P ys
+all_more P xs ys x added all holds = subst (All P) (sym added) (All-append P xs (x ∷ []) all (All-cons P x [] holds (All-nil P)))
+
+-- the account of each place, after one more
+pub each_more : (xs ys : List Account) (a : Account) (f : ℕ → Account) → ys ≡ xs ++ a ∷ [] → a ≡ f (length xs)
+    → ((k : ℕ) → k < length xs → slice_get xs k ≡ Some (f k)) → (k : ℕ) → k < length ys → slice_get ys k ≡ Some (f k)
+each_more xs ys a f added is each = subst (λ zs. (k : ℕ) → k < length zs → slice_get zs k ≡ Some (f k)) (sym added) (snoc xs a f is each)
+  where
+    snoc : (zs : List Account) (b : Account) (g : ℕ → Account) → b ≡ g (length zs)
+        → ((k : ℕ) → k < length zs → slice_get zs k ≡ Some (g k)) → (k : ℕ) → k < length (zs ++ b ∷ []) → slice_get (zs ++ b ∷ []) k ≡ Some (g k)
+    snoc [] b g is' each' zero within = ap Some is'
+    snoc [] b g is' each' (suc k) within = absurd (omega arith)
+    snoc (z ∷ zs) b g is' each' zero within = each' 0 (omega arith)
+    snoc (z ∷ zs) b g is' each' (suc k) within = snoc zs b (λ j. g (suc j)) is' (λ j h. each' (suc j) (omega arith)) k (omega arith)
+
+-- the next of a list, where the first n are gone
+pub record IsNext {X : Type 0} (xs : List X) (n : ℕ) (x : X) (rest : List X) : Type 0 where
+  pub within : n < length xs
+  pub here : slice_get xs n ≡ Some x
+  pub after : drop (n + 1) xs ≡ rest
+
+pub next : {X : Type 0} (xs : List X) (n : ℕ) (x : X) (rest : List X) → drop n xs ≡ x ∷ rest → IsNext xs n x rest
+next xs n x rest e = let found = look xs n x rest e in record { within = found.0; here = found.1; after = subst (λ m. drop m xs ≡ rest) (sym (add-one n)) found.2 }
+  where
+    look : {X : Type 0} (ys : List X) (m : ℕ) (y : X) (others : List X) → drop m ys ≡ y ∷ others → (m < length ys) × (slice_get ys m ≡ Some y) × (drop (suc m) ys ≡ others)
+    look [] zero y others e' = absurd (cc e')
+    look [] (suc m) y others e' = absurd (cc e')
+    look (z ∷ ys) zero y others e' = (omega arith, ap Some (cc e'), cc e')
+    look (z ∷ ys) (suc m) y others e' = let h = look ys m y others e' in (omega arith, h.1, h.2)
+
+pub all_at_next : {X : Type 0} (P : X → Type 0) (xs : List X) (n : ℕ) (x : X) → slice_get xs n ≡ Some x → All P xs → P x
+all_at_next P xs n x here all = subst P (get_or_from_slice_get xs n x x here) (All-get_or P xs n x (slice_get_within xs n x here) all)
+
+pub deques_of_row : (owners : List Owner) → map (λ (f : Thief). f.deque) (map new_thief owners) ≡ map (λ (b : Owner). b.deque) owners
+deques_of_row [] = refl
+deques_of_row (b ∷ owners) = ap (λ ds. b.deque ∷ ds) (deques_of_row owners)
+
+pub untaken_row : (owners : List Owner) → All IsUntaken (map new_thief owners)
+untaken_row [] = All-nil IsUntaken
+untaken_row (b ∷ owners) = All-cons IsUntaken (new_thief b) (map new_thief owners) refl (untaken_row owners)
+
+pub all_but_last : {X : Type 0} (P : X → Type 0) (xs ys : List X) (x : X) → xs ≡ ys ++ x ∷ [] → All P xs → All P ys × P x
+all_but_last {X = X} P xs ys x e all = split ys (subst (All P) e all)
+  where
+    split : (zs : List X) → All P (zs ++ x ∷ []) → All P zs × P x
+    split [] h = (All-nil P, All-head P x [] h)
+    split (z ∷ zs) h = let rest = split zs (All-tail P z (zs ++ x ∷ []) h) in (All-cons P z zs (All-head P z (zs ++ x ∷ []) h) rest.0, rest.1)
+
+-- in a row of new thieves' ends, the deque at a worker's place is the worker's own
+pub deque_at : (owners : List Owner) (thieves : List Thief) (n : ℕ) (own : Owner) → thieves ≡ map new_thief owners → slice_get owners n ≡ Some own
+    → slice_get (map (λ (f : Thief). f.deque) thieves) n ≡ Some own.deque
+deque_at owners thieves n own row here =
+    ap (λ r. slice_get (map (λ (f : Thief). f.deque) r) n) row
+    ∙ (ap (λ ds. slice_get ds n) (deques_of_row owners) ∙ (slice_get-map (λ (b : Owner). b.deque) owners n ∙ ap (option_map (λ (b : Owner). b.deque)) here))
+
+-- after each worker got one part, an owner's end has the others
+pub given_away : (owners : List Owner) (given : ℕ) → given ≤ 64 → All (IsNew 0) owners → All (IsNew given) (map (less given) owners)
+given_away [] given within all = All-nil (IsNew given)
+given_away (b ∷ owners) given within all =
+    let new = All-head (IsNew 0) b owners all in
+    let whole = new.parts in
+    All-cons (IsNew given) (less given b) (map (less given) owners) (record { parts = omega arith; pushed = new.pushed; taken = new.taken }) (given_away owners given within (All-tail (IsNew 0) b owners all))
+
+pub many_parts : (owners : List Owner) (n : ℕ) → n ≤ 64 → All (IsNew 0) owners → All (λ (b : Owner). n < b.parts) owners
+many_parts [] n within all = All-nil (λ (b : Owner). n < b.parts)
+many_parts (b ∷ owners) n within all =
+    let whole = (All-head (IsNew 0) b owners all).parts in
+    All-cons (λ (x : Owner). n < x.parts) b owners (omega arith) (many_parts owners n within (All-tail (IsNew 0) b owners all))

@@ -1,0 +1,34 @@
+-- What contracts see of the ends of a deque.
+use Rattle.std.specs.Prelude.{◌≡◌, ℕ, ◌+◌, ◌-◌, List, []}
+use Rattle.std.specs.declared.alloc.Global.{Global}
+use Rattle.ptg_base.specs.Task.{Task}
+
+-- Which deque it is. Clauses only compare these.
+abbrev pub DequeId : Type 0
+DequeId = (ℕ × ℕ) × Global
+
+-- The owner's end, which pushes and pops at the back: its deque, its parts of the right to know the whole, and the ids that it pushed and took.
+pub record Owner : Type 0 where
+  pub deque : DequeId
+  pub parts : ℕ
+  pub pushed : List Task
+  pub taken : List Task
+
+-- A thief's end, which takes at the front: its deque, and the ids that it took.
+pub record Thief : Type 0 where
+  pub deque : DequeId
+  pub taken : List Task
+
+-- The owner's end after so many parts were given away.
+abbrev pub less : ℕ → Owner → Owner
+less given b = record b { parts = b.parts - given }
+
+-- A thief's end of the same deque that has taken nothing.
+abbrev pub new_thief : Owner → Thief
+new_thief b = record { deque = b.deque; taken = [] }
+
+-- Nothing was pushed or taken, and so many parts are given away.
+pub record IsNew (given : ℕ) (b : Owner) : Type 0 where
+  pub parts : b.parts + given ≡ 65
+  pub pushed : b.pushed ≡ []
+  pub taken : b.taken ≡ []

@@ -1,0 +1,34 @@
+-- The rule of a deque of ready tasks, over all who hold an end of it: an id is taken from it at most as often as it was pushed to it.
+use Rattle.std.specs.Prelude.{◌≡◌, ℕ, ◌+◌, ◌≤◌, List, [], ◌++◌, length, Contains, All, sum_by, count_by}
+use Rattle.ptg_base.specs.Task.{Task}
+use Rattle.ptg_base.specs.TaskComparing.{same_task}
+use Rattle.ready_deques.specs.declared.tally.Tally.{Tally}
+
+-- How often an id is in a list.
+abbrev pub times : Task → List Task → ℕ
+times id ids = count_by (same_task id) ids
+
+abbrev pub tally : ℕ → List Task → List Task → Tally
+tally parts pushed taken = record { parts = parts; pushed = pushed; taken = taken }
+
+-- One who has no part of the right to know the whole has pushed and taken nothing.
+abbrev pub IdleIsEmpty : Tally → Type 0
+IdleIsEmpty t = t.parts ≡ 0 → (t.pushed ≡ []) × (t.taken ≡ [])
+
+-- Each id was pushed as often as it was taken and is held, by all tallies together. There are 65 parts.
+pub record Balanced (held : List Task) (tallies : List Tally) : Type 0 where
+  pub ids : (id : Task) → sum_by (λ t. times id t.pushed) tallies ≡ sum_by (λ t. times id t.taken) tallies + times id held
+  pub parts : sum_by (λ t. t.parts) tallies ≡ 65
+  pub idle : All IdleIsEmpty tallies
+
+-- At one moment the deque held these ids, and the rule held of them and of all tallies, one of them with these pushed and taken.
+abbrev pub AtOneMoment : List Task → List Task → List Task → Type 0
+AtOneMoment held pushed taken = (tallies : List Tally) × (parts : ℕ) × Contains tallies (tally parts pushed taken) × Balanced held tallies
+
+-- The same for some ids, at most so many.
+abbrev pub HeldAtMost : ℕ → List Task → List Task → Type 0
+HeldAtMost most pushed taken = (held : List Task) × (length held ≤ most) × AtOneMoment held pushed taken
+
+-- One tally takes over another.
+abbrev pub joined : Tally → Tally → Tally
+joined t other = tally (t.parts + other.parts) (t.pushed ++ other.pushed) (t.taken ++ other.taken)

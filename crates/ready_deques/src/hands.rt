@@ -1,0 +1,143 @@
+//! One worker's hold on the deques: where it pushes, pops and steals.
+ghost use Rattle.std.specs.Prelude.{◌≡◌, ◌≢◌, ◌+◌, ◌<◌, ◌≤◌, [], ◌∷◌, length, ⊤, All, map, sum_by, slice_get, Some, IfErr, IfNone, MatchOption, MatchResult};
+ghost use Rattle.ptg_base.specs.Task.{Task};
+ghost use Rattle.ready_deques.specs.Ends.{IsNew};
+ghost use Rattle.ready_deques.specs.Hands.{AreTheOthers, SameWorker, TakenAtMostAsPushed, fresh, taken_from, after_push, after_take};
+ghost use Rattle.ready_deques.specs.Rule.{AtOneMoment, HeldAtMost, times};
+ghost use Rattle.ready_deques.specs.Stolen.{MatchStolen};
+
+use crate::ends::{OwnerEnd, ThiefEnd};
+use crate::stolen::Stolen;
+use ptg_base::TaskId;
+use std::marker::Model;
+use std::sync::Wait;
+use std::thread::Threads;
+
+/// One worker's hold on the deques of ready tasks. Each worker has a deque of its own, where it pushes and pops at the back, and steals at the front of the others'.
+///
+/// An id only steers: the right to run its task comes from the table of dependences.
+#[derive(Drop)]
+pub struct Hands {
+    number: u32,
+    own: OwnerEnd,
+    thieves: Vec<ThiefEnd>,
+}
+
+impl Model for Hands {
+    ghost use Rattle.std.specs.Prelude.{◌≡◌, ◌+◌, ◌<◌, length, map, slice_get, slice_set, Some};
+    ghost use Rattle.ready_deques.specs.Hands.{Account};
+
+    ghost Value = { Account };
+
+    ghost view = { λ h. record {
+      number = h.number;
+      deques = map (λ f. f.deque) h.thieves.items;
+      pushed = h.own.pushed;
+      taken = slice_set (map (λ f. f.taken) h.thieves.items) h.number h.own.taken;
+    } };
+
+    ghost invariant = { λ h. (h.number < length h.thieves.items) × (h.own.parts + length h.thieves.items ≡ 65)
+        × (slice_get (map (λ f. f.deque) h.thieves.items) h.number ≡ Some h.own.deque) };
+}
+
+impl Hands {
+    // The hands of a worker, before the first call.
+    pub(crate) fn new(number: u32, own: OwnerEnd, thieves: Vec<ThiefEnd>) -> Hands
+        requires number { number < length thieves.items }
+        requires new { IsNew (length thieves.items) own }
+        requires deque { slice_get (map (λ f. f.deque) thieves.items) number ≡ Some own.deque }
+        requires none { All (λ f. f.taken ≡ []) thieves.items }
+        ensures { result ≡ fresh (map (λ f. f.deque) thieves.items) number }
+    {
+        Hands {
+            number,
+            own,
+            thieves,
+        }
+    }
+
+    /// The worker's number.
+    pub fn number(&self) -> u32
+        ensures { result ≡ self.now.number }
+    {
+        self.number
+    }
+
+    /// How many workers there are.
+    pub fn workers(&self) -> u32
+        ensures { result ≡ length self.now.deques }
+    {
+        self.thieves.len() as u32
+    }
+
+    /// Adds at the back of the worker's own deque. It may take memory; an id that it cannot take comes back, and only after 16 were pushed.
+    pub fn push(&mut self, id: TaskId) -> Result<(), TaskId>
+        ensures pushed { MatchResult result (λ _. self.new ≡ after_push self.old id) (λ back. (back ≡ id) × (self.new ≡ self.old)) }
+        ensures refused { IfErr result (λ _. 16 ≤ length self.old.pushed) }
+        ensures same { SameWorker self.old self.new }
+    {
+        self.own.push(id)
+    }
+
+    /// Takes at the back of the worker's own deque. None only where it was empty at one moment of this call.
+    pub fn pop(&mut self) -> Option<TaskId>
+        ensures taken { MatchOption result (self.new ≡ self.old) (λ id. self.new ≡ after_take self.old.number self.old id) }
+        ensures empty { IfNone result (AtOneMoment [] self.old.pushed (taken_from self.old.number self.old)) }
+        ensures same { SameWorker self.old self.new }
+    {
+        self.own.pop()
+    }
+
+    /// Takes at the front of another worker's deque. `Empty` only where it held at most one id at one moment of this call.
+    /// It tries again where another worker was first, and so may wait.
+    pub fn steal<R: Threads + Wait + Sync>(&mut self, rt: &R, from: u32) -> Stolen
+        requires another { (from < length self.old.deques) × (from ≢ self.old.number) }
+        ensures taken { MatchStolen result (λ id. self.new ≡ after_take from self.old id) (self.new ≡ self.old) }
+        ensures empty { MatchStolen result (λ _. ⊤) (HeldAtMost 1 [] (taken_from from self.old)) }
+        ensures same { SameWorker self.old self.new }
+    {
+        self.thieves[from as usize].take(rt)
+    }
+
+    /// Ends the use of this worker's deque, and of all hands: the others of the same `make` come along.
+    /// So each id was taken from the deque at most as often as it was pushed to it, by all of them together.
+    pub fn settle(self, others: Vec<Hands>)
+        requires { AreTheOthers self others.items }
+        ensures { TakenAtMostAsPushed self others.items }
+    {
+        let Hands {
+            number,
+            mut own,
+            mut thieves,
+        } = self;
+        own.absorb(thieves.swap_remove(number as usize));
+        gather(&mut own, number, others);
+        own.audit();
+    }
+
+    // The thief's end of this worker's deque.
+    fn into_thief(self, worker: u32) -> ThiefEnd
+        requires { worker < length self.deques }
+        ensures deque { slice_get self.deques worker ≡ Some result.deque }
+        ensures taken { worker ≢ self.number → result.taken ≡ taken_from worker self }
+    {
+        let Hands {
+            number: _,
+            own: _,
+            mut thieves,
+        } = self;
+        thieves.swap_remove(worker as usize)
+    }
+}
+
+// The owner's end of this worker's deque takes over the others' ends of it.
+fn gather(own: &mut OwnerEnd, worker: u32, others: Vec<Hands>)
+    requires { All (λ o. (slice_get o.deques worker ≡ Some own.old.deque) × (o.number ≢ worker)) others.items }
+    ensures same { (own.new.deque ≡ own.old.deque) × (own.new.pushed ≡ own.old.pushed) }
+    ensures parts { own.new.parts ≡ own.old.parts + length others.items }
+    ensures taken { (id : Task) → times id own.new.taken ≡ times id own.old.taken + sum_by (λ o. times id (taken_from worker o)) others.items }
+{
+    for hands in others {
+        own.absorb(hands.into_thief(worker));
+    }
+}

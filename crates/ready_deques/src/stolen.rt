@@ -1,0 +1,11 @@
+//! What a steal answers.
+
+use ptg_base::TaskId;
+
+/// What a steal answers.
+#[derive(Debug, Drop)]
+pub enum Stolen {
+    Task(TaskId),
+    /// There was nothing to steal, or only an id that its worker may have been popping.
+    Empty,
+}

@@ -1,0 +1,93 @@
+//! The rule of a deque of ready tasks, and what each step under it tells.
+
+use crossbeam_deque::protocol::{Join, Lesson, Outcome, Protocol, Split};
+use ptg_base::TaskId;
+use std::collections::LinkedList;
+
+/// What one who holds an end of a deque pushed to it and took from it, and its parts of the right to know the whole.
+/// No value of it is made.
+pub struct Tally {
+    pub parts: u64,
+    pub pushed: LinkedList<TaskId>,
+    pub taken: LinkedList<TaskId>,
+}
+
+/// The rule: each id was pushed as often as it was taken and is in the deque.
+pub struct DequeRule;
+
+impl Protocol<TaskId, Tally> for DequeRule {
+    ghost use Rattle.std.specs.Prelude.{[]};
+    ghost use Rattle.ready_deques.specs.Rule.{Balanced, tally};
+
+    ghost holds = { Balanced };
+
+    ghost first = { tally 65 [] [] };
+
+    ghost guest = { tally 0 [] [] };
+}
+
+/// A part of the right to know the whole is cut off, and put back together with what its holder took.
+pub struct Shares;
+
+impl Split<Tally> for Shares {
+    ghost use Rattle.std.specs.Prelude.{[], ◌-◌};
+    ghost use Rattle.ready_deques.specs.Rule.{tally};
+
+    ghost left = { λ t. tally (t.parts - 1) t.pushed t.taken };
+
+    ghost right = { λ t. tally 1 [] [] };
+}
+
+impl Join<Tally> for Shares {
+    ghost use Rattle.std.specs.Prelude.{[]};
+    ghost use Rattle.ready_deques.specs.Rule.{tally, joined};
+
+    ghost both = { joined };
+
+    ghost spent = { tally 0 [] [] };
+}
+
+/// An id was pushed.
+pub struct Pushed;
+
+impl Outcome<TaskId, Tally> for Pushed {
+    ghost use Rattle.std.specs.Prelude.{◌≡◌, ◌++◌};
+    ghost use Rattle.ready_deques.specs.Rule.{tally};
+
+    ghost then = { λ t ids after. after ≡ tally t.parts (t.pushed ++ ids) t.taken };
+}
+
+/// An id was taken at the back, or the deque was empty at one moment.
+pub struct Popped;
+
+impl Outcome<TaskId, Tally> for Popped {
+    ghost use Rattle.std.specs.Prelude.{◌≡◌, ◌++◌, []};
+    ghost use Rattle.ready_deques.specs.Rule.{tally, AtOneMoment};
+
+    ghost then = { λ t ids after. after ≡ tally t.parts t.pushed (t.taken ++ ids) };
+
+    ghost empty = { λ t. AtOneMoment [] t.pushed t.taken };
+}
+
+/// An id was taken at the front, or the deque held one id at most at one moment.
+pub struct Taken;
+
+impl Outcome<TaskId, Tally> for Taken {
+    ghost use Rattle.std.specs.Prelude.{◌≡◌, ◌++◌};
+    ghost use Rattle.ready_deques.specs.Rule.{tally, HeldAtMost};
+
+    ghost then = { λ t ids after. after ≡ tally t.parts t.pushed (t.taken ++ ids) };
+
+    ghost empty = { λ t. HeldAtMost 1 t.pushed t.taken };
+}
+
+/// Who has all parts knows of every id that was taken.
+pub struct Whole;
+
+impl Lesson<TaskId, Tally> for Whole {
+    ghost use Rattle.std.specs.Prelude.{◌≡◌, ◌+◌};
+    ghost use Rattle.ptg_base.specs.Task.{Task};
+    ghost use Rattle.ready_deques.specs.Rule.{times};
+
+    ghost fact = { λ t held. (id : Task) → times id t.pushed ≡ times id t.taken + times id held };
+}

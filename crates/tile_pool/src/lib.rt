@@ -1,0 +1,9 @@
+//! Reserved tiles, which are taken and given back without memory.
+#![tactic(auto)]
+
+mod pool;
+
+pub use pool::TilePool;
+
+#[cfg(test)]
+mod tests;
