@@ -1,4 +1,4 @@
--- What a class says outside of its body reads no tile, and names only locals of its tasks. Source: the JDF documentation.
+-- Expressions outside of bodies: they read no tile, and name only locals of their class. Source: the JDF documentation.
 use Rattle.std.specs.Prelude.{ℕ, Option, Some, None, Bool, true, false}
 use Rattle.term_core.specs.Term.{Term}
 use Rattle.term_core.specs.Value.{is_closed}
@@ -7,12 +7,12 @@ use Rattle.term_core.specs.declared.space.Def.TheVariants as def
 use Rattle.plan_core.specs.declared.target.Arg.{Arg}
 use Rattle.plan_core.specs.declared.target.Arg.TheVariants.{One, Span}
 
--- whether a guard or a priority, if there is one, names only so many locals
+-- whether a guard or a priority, if there is one, is an expression over so many locals
 abbrev pub is_closed_option : ℕ → Option Term → Bool
 is_closed_option locals None = true
 is_closed_option locals (Some e) = is_closed locals e
 
--- whether an argument names only so many locals
+-- whether an argument is over so many locals
 abbrev pub is_closed_arg : ℕ → Arg → Bool
 is_closed_arg locals (One e) = is_closed locals e
 is_closed_arg locals (Span r) = is_closed_def locals (def.Span r)

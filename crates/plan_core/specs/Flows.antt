@@ -1,6 +1,7 @@
--- Which targets a flow may have, by its kind. Source: PaRSEC 2013 and the JDF documentation; that `-> NULL` is allowed on a flow with a tile is this project's own choice, and so are the limits.
-use Rattle.std.specs.Prelude.{ℕ, List, Option, Some, None, Bool, true, false, not, ◌&&◌, ◌+◌, nat_le, length}
+-- Which targets a flow may have, by its kind and its datatype. Source: PaRSEC 2013 and the JDF documentation; that `-> NULL` is allowed on a flow with a tile is this project's own choice, and so are the limits.
+use Rattle.std.specs.Prelude.{ℕ, List, Option, Some, None, Bool, true, false, not, ◌&&◌, ◌==◌, ◌+◌, nat_le, nat_lt, length, is_some}
 use Rattle.std.specs.List.{list_all, list_any}
+use Rattle.term_core.specs.Term.{Term}
 use Rattle.term_core.specs.declared.flow.FlowKind.{FlowKind}
 use Rattle.term_core.specs.declared.flow.FlowKind.TheVariants.{Read, Write, Rw, Ctl}
 use Rattle.term_core.specs.declared.space.ClassSpace.{ClassSpace}
@@ -12,7 +13,7 @@ use Rattle.plan_core.specs.declared.target.Target.{Target}
 use Rattle.plan_core.specs.declared.target.Target.TheVariants.{Task, Element, New, Null}
 use Rattle.plan_core.specs.Closed.{is_closed_option, is_span}
 use Rattle.plan_core.specs.Kinds.{kind_of, is_control, is_data}
-use Rattle.plan_core.specs.Targets.{is_there}
+use Rattle.plan_core.specs.Targets.{exists_target, has_datatype}
 
 -- order goes only between CTL flows of tasks
 abbrev pub may_order : List ClassPlan → Target → Bool
@@ -29,11 +30,11 @@ may_read classes New = true
 may_read classes Null = true
 
 -- a tile that is only written comes from an element or is new
-abbrev pub may_open : Target → Bool
-may_open (Task class flow args) = false
-may_open (Element coll indices) = true
-may_open New = true
-may_open Null = false
+abbrev pub may_start : Target → Bool
+may_start (Task class flow args) = false
+may_start (Element coll indices) = true
+may_start New = true
+may_start Null = false
 
 -- a tile goes to flows with a tile or to an element, or is dropped
 abbrev pub may_send : List ClassPlan → Target → Bool
@@ -43,31 +44,48 @@ may_send classes New = false
 may_send classes Null = true
 
 -- whether an in dependence of a flow of this kind may have the target
-abbrev pub may_come : List ClassPlan → FlowKind → Target → Bool
-may_come classes Read t = may_read classes t
-may_come classes Write t = may_open t
-may_come classes Rw t = may_read classes t
-may_come classes Ctl t = may_order classes t
+abbrev pub is_in_target : List ClassPlan → FlowKind → Target → Bool
+is_in_target classes Read t = may_read classes t
+is_in_target classes Write t = may_start t
+is_in_target classes Rw t = may_read classes t
+is_in_target classes Ctl t = may_order classes t
 
 -- whether an out dependence of a flow of this kind may have the target
-abbrev pub may_go : List ClassPlan → FlowKind → Target → Bool
-may_go classes Read t = may_send classes t
-may_go classes Write t = may_send classes t
-may_go classes Rw t = may_send classes t
-may_go classes Ctl t = may_order classes t
+abbrev pub is_out_target : List ClassPlan → FlowKind → Target → Bool
+is_out_target classes Read t = may_send classes t
+is_out_target classes Write t = may_send classes t
+is_out_target classes Rw t = may_send classes t
+is_out_target classes Ctl t = may_order classes t
 
--- whether a second target, if there is one, passes
-abbrev pub other_passes : (Target → Bool) → Option Target → Bool
-other_passes passes None = true
-other_passes passes (Some t) = passes t
+-- whether a second target, if there is one, stands behind a guard and passes
+abbrev pub is_second : (Target → Bool) → Option Term → Option Target → Bool
+is_second passes guard None = true
+is_second passes guard (Some t) = is_some guard && passes t
 
--- whether both targets of a dependence pass, and its guard names only so many locals
+-- whether the targets of a dependence pass, and its guard is over so many locals
 abbrev pub is_dependence : ℕ → (Target → Bool) → DepPlan → Bool
-is_dependence locals passes d = is_closed_option locals d.guard && passes d.yes && other_passes passes d.no
+is_dependence locals passes d = is_closed_option locals d.guard && passes d.yes && is_second passes d.guard d.no
 
--- whether a flow of a class with so many locals has at most 16 dependences, whose targets are there and which it may have
-abbrev pub is_flow : List ClassPlan → List ClassSpace → List Shape → ℕ → FlowPlan → Bool
-is_flow classes spaces colls locals f =
-    nat_le (length f.ins + length f.outs) 16
-    && list_all (is_dependence locals (λ t. is_there classes spaces colls locals t && may_come classes f.kind t)) f.ins
-    && list_all (is_dependence locals (λ t. is_there classes spaces colls locals t && may_go classes f.kind t)) f.outs
+-- whether a flow of this kind may have the datatype, of so many: a CTL flow has none, which counts as 0
+abbrev pub is_datatype : ℕ → FlowKind → ℕ → Bool
+is_datatype types Read n = nat_lt n types
+is_datatype types Write n = nat_lt n types
+is_datatype types Rw n = nat_lt n types
+is_datatype types Ctl n = n == 0
+
+-- whether a target exists, has the flow's datatype, and may be that of an in dependence, or of an out dependence
+abbrev pub is_source : List ClassPlan → List ClassSpace → List Shape → ℕ → FlowPlan → Target → Bool
+is_source classes spaces colls locals f t =
+    exists_target classes spaces colls locals t && has_datatype classes colls f.datatype t && is_in_target classes f.kind t
+
+abbrev pub is_destination : List ClassPlan → List ClassSpace → List Shape → ℕ → FlowPlan → Target → Bool
+is_destination classes spaces colls locals f t =
+    exists_target classes spaces colls locals t && has_datatype classes colls f.datatype t && is_out_target classes f.kind t
+
+-- whether a flow of a class with so many locals has one of so many datatypes, and at most 16 dependences, each with targets that it may have
+abbrev pub is_flow : List ClassPlan → List ClassSpace → List Shape → ℕ → ℕ → FlowPlan → Bool
+is_flow classes spaces colls types locals f =
+    is_datatype types f.kind f.datatype
+    && nat_le (length f.ins + length f.outs) 16
+    && list_all (is_dependence locals (is_source classes spaces colls locals f)) f.ins
+    && list_all (is_dependence locals (is_destination classes spaces colls locals f)) f.outs

@@ -1,14 +1,17 @@
--- What a flow is for: a CTL flow carries order alone, every other flow carries a tile. Source: PaRSEC 2013.
+-- The flows of a job by number, and their kinds: a CTL flow carries order alone, every other flow carries a tile. Source: PaRSEC 2013.
 use Rattle.std.specs.Prelude.{ℕ, List, Option, Some, None, Bool, true, false, slice_get, option_map, option_and_then}
 use Rattle.term_core.specs.declared.flow.FlowKind.{FlowKind}
 use Rattle.term_core.specs.declared.flow.FlowKind.TheVariants.{Read, Write, Rw, Ctl}
 use Rattle.plan_core.specs.declared.flow.FlowPlan.{FlowPlan}
 use Rattle.plan_core.specs.declared.class.ClassPlan.{ClassPlan}
 
--- the kind of a flow, by the number of its class and its own, if it is there
+-- the flow with this number of the class with this number, if there is one
+abbrev pub flow_of : List ClassPlan → ℕ → ℕ → Option FlowPlan
+flow_of classes class flow = option_and_then (λ (c : ClassPlan). slice_get c.flows flow) (slice_get classes class)
+
+-- its kind
 abbrev pub kind_of : List ClassPlan → ℕ → ℕ → Option FlowKind
-kind_of classes class flow =
-    option_and_then (λ (c : ClassPlan). option_map (λ (f : FlowPlan). f.kind) (slice_get c.flows flow)) (slice_get classes class)
+kind_of classes class flow = option_map (λ (f : FlowPlan). f.kind) (flow_of classes class flow)
 
 -- whether there is a flow, and it carries order alone
 abbrev pub is_control : Option FlowKind → Bool
@@ -27,9 +30,9 @@ is_data (Some Rw) = true
 is_data (Some Ctl) = false
 
 -- whether there is a flow, and a body may change its tile
-abbrev pub is_changed : Option FlowKind → Bool
-is_changed None = false
-is_changed (Some Read) = false
-is_changed (Some Write) = true
-is_changed (Some Rw) = true
-is_changed (Some Ctl) = false
+abbrev pub is_writable : Option FlowKind → Bool
+is_writable None = false
+is_writable (Some Read) = false
+is_writable (Some Write) = true
+is_writable (Some Rw) = true
+is_writable (Some Ctl) = false

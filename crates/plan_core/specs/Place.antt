@@ -3,15 +3,15 @@ use Rattle.std.specs.Prelude.{◌≡◌, ℕ, ℤ, pos, ◌≤ℤ◌, ◌<ℤ◌
 use Rattle.ptg_base.specs.declared.place.Place.{Place}
 use Rattle.plan_core.specs.declared.shape.Shape.{Shape}
 
--- a number is one of so many rows
+-- i is one of so many rows
 abbrev pub IsRow : ℕ → ℤ → Type 0
 IsRow rows i = (pos 0 ≤ℤ i) × (i <ℤ pos rows)
 
--- a number is one of the columns; with one dimension, 0 stands for the column
+-- j is one of the columns; it is 0 in a collection of one dimension
 abbrev pub IsColumn : Option ℕ → ℤ → Type 0
 IsColumn None j = j ≡ pos 0
 IsColumn (Some cols) j = (pos 0 ≤ℤ j) × (j <ℤ pos cols)
 
--- the collection is there, with the place's row and column
+-- the place's collection exists, and has its row and column
 abbrev pub HasPlace : List Shape → Place → Type 0
 HasPlace colls p = IsSomeAnd (slice_get colls p.coll) (λ shape. IsRow shape.rows p.i × IsColumn shape.cols p.j)

@@ -1,5 +1,5 @@
 -- When the parts of a plan fit one another. Source: the JDF documentation and PaRSEC 2013; the limits are this project's own choice.
-use Rattle.std.specs.Prelude.{◌≡◌, ℕ, List, Option, Some, None, Bool, ◌&&◌, ◌*◌, ◌≤◌, nat_le, length, map, IsTrue, slice_get}
+use Rattle.std.specs.Prelude.{◌≡◌, ℕ, List, Option, Some, None, Bool, ◌&&◌, ◌*◌, ◌≤◌, nat_le, nat_lt, length, map, IsTrue, slice_get}
 use Rattle.std.specs.List.{list_all}
 use Rattle.term_core.specs.WellSpace.{IsWellSpace}
 use Rattle.term_core.specs.WellBody.{IsWellBody}
@@ -8,35 +8,43 @@ use Rattle.plan_core.specs.declared.class.ClassPlan.{ClassPlan}
 use Rattle.plan_core.specs.declared.flow.FlowPlan.{FlowPlan}
 use Rattle.plan_core.specs.declared.shape.Shape.{Shape}
 use Rattle.plan_core.specs.Closed.{is_closed_option}
+use Rattle.plan_core.specs.Names.{are_distinct}
 use Rattle.plan_core.specs.Targets.{is_element}
 use Rattle.plan_core.specs.Flows.{is_flow}
-use Rattle.plan_core.specs.Bodies.{keeps_kinds, has_words, keeps_turns}
+use Rattle.plan_core.specs.Bodies.{respects_kinds, has_words, keeps_loop_variables}
 
--- a class of this space, in a job of these classes, spaces and collections; its well made body says that it has at most 8 flows
-pub record IsWellClass (classes : List ClassPlan) (spaces : List ClassSpace) (colls : List Shape) (s : ClassSpace) (c : ClassPlan) : Type 0 where
+-- a class with this space, in a job with these classes, spaces, collections and so many datatypes; that its body is well made bounds its flows by 8
+pub record IsWellClass (classes : List ClassPlan) (spaces : List ClassSpace) (colls : List Shape) (types : ℕ) (s : ClassSpace) (c : ClassPlan) : Type 0 where
   pub space : IsWellSpace s
   pub affinity : IsTrue (is_element colls (length s.defs) c.affinity.0 c.affinity.1)
-  pub flows : IsTrue (list_all (is_flow classes spaces colls (length s.defs)) c.flows)
+  pub flows : IsTrue (list_all (is_flow classes spaces colls types (length s.defs)) c.flows)
+  pub flow_names : IsTrue (are_distinct (map (λ (f : FlowPlan). f.name) c.flows))
   pub priority : IsTrue (is_closed_option (length s.defs) c.priority)
   pub body : IsWellBody (length s.defs) (length c.flows) c.body
-  pub kinds : IsTrue (keeps_kinds (map (λ (f : FlowPlan). f.kind) c.flows) c.body.statements)
+  pub kinds : IsTrue (respects_kinds (map (λ (f : FlowPlan). f.kind) c.flows) c.body.statements)
   pub words : IsTrue (has_words (length c.trap_words) c.body.statements)
-  pub turns : IsTrue (keeps_turns c.body.statements)
+  pub loops : IsTrue (keeps_loop_variables c.body.statements)
 
 -- how many tiles a collection has, by its rows and columns
 abbrev pub tile_count : ℕ → Option ℕ → ℕ
 tile_count rows None = rows
 tile_count rows (Some cols) = rows * cols
 
--- whether a collection has at least 1 tile, and at most 65,536
-abbrev pub is_shape : Shape → Bool
-is_shape s = nat_le 1 (tile_count s.rows s.cols) && nat_le (tile_count s.rows s.cols) 65536
+-- whether a collection has 1 to 65,536 tiles, of one of so many datatypes
+abbrev pub is_shape : ℕ → Shape → Bool
+is_shape types s = nat_le 1 (tile_count s.rows s.cols) && nat_le (tile_count s.rows s.cols) 65536 && nat_lt s.datatype types
 
--- at most 64 classes, each with its space, well made collections, and tiles of 1 to 4,096 numbers
-pub record IsWellMade (classes : List ClassPlan) (spaces : List ClassSpace) (colls : List Shape) (elems : ℕ) : Type 0 where
-  pub few_classes : length classes ≤ 64
+-- whether a tile may have so many numbers
+abbrev pub is_tile_length : ℕ → Bool
+is_tile_length n = nat_le 1 n && nat_le n 4096
+
+-- at most 64 classes of different names, each with its space; 1 to 16 datatypes, given by the length of their tiles; collections of these
+pub record IsWellMade (classes : List ClassPlan) (spaces : List ClassSpace) (colls : List Shape) (elems : List ℕ) : Type 0 where
+  pub classes_at_most : length classes ≤ 64
   pub one_space_each : length spaces ≡ length classes
-  pub fit : (n : ℕ) (c : ClassPlan) (s : ClassSpace) → slice_get classes n ≡ Some c → slice_get spaces n ≡ Some s → IsWellClass classes spaces colls s c
-  pub shapes : IsTrue (list_all is_shape colls)
-  pub some_elems : 1 ≤ elems
-  pub few_elems : elems ≤ 4096
+  pub class_names : IsTrue (are_distinct (map (λ (c : ClassPlan). c.name) classes))
+  pub fit : (n : ℕ) (c : ClassPlan) (s : ClassSpace) → slice_get classes n ≡ Some c → slice_get spaces n ≡ Some s → IsWellClass classes spaces colls (length elems) s c
+  pub shapes : IsTrue (list_all (is_shape (length elems)) colls)
+  pub has_default : 1 ≤ length elems
+  pub types_at_most : length elems ≤ 16
+  pub tile_lengths : IsTrue (list_all is_tile_length elems)

@@ -1,8 +1,10 @@
+//! Flows and their dependences.
+
 use crate::target::Target;
-use ptg_base::{Row, Text};
+use ptg_base::{Seq, Text};
 use term_core::{Expr, FlowKind};
 
-/// A dependence: `yes` where it has no guard or the guard is not 0, else `no`.
+/// A dependence on `yes` where it has no guard or the guard is not 0, else on `no`.
 #[derive(Debug, Drop)]
 pub struct DepPlan {
     pub guard: Option<Expr>,
@@ -15,8 +17,10 @@ pub struct DepPlan {
 pub struct FlowPlan {
     pub name: Text,
     pub kind: FlowKind,
+    /// The number of the type of its tiles; 0 for a CTL flow, which has none.
+    pub datatype: u32,
     /// Its in dependences, in the text's order.
-    pub ins: Row<DepPlan>,
+    pub ins: Seq<DepPlan>,
     /// Its out dependences, in the text's order.
-    pub outs: Row<DepPlan>,
+    pub outs: Seq<DepPlan>,
 }

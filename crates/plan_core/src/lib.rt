@@ -1,4 +1,4 @@
-//! A job with all its names resolved: classes, their flows and spaces, and collections, by number.
+//! A job with all its names resolved: its classes, their flows and spaces, and its collections, by number.
 #![tactic(auto)]
 
 mod class;

@@ -1,35 +1,37 @@
+//! Plans.
+
 ghost use Rattle.std.specs.Prelude.{◌≡◌, ◌<◌, ◌↔◌, IsTrue, Some, length, slice_get};
 ghost use Rattle.term_core.specs.declared.space.ClassSpace.{ClassSpace};
 ghost use Rattle.plan_core.specs.Place.{HasPlace};
-ghost use Rattle.plan_core.specs.WellMade.{IsWellClass, IsWellMade};
+ghost use Rattle.plan_core.specs.WellMade.{is_tile_length, IsWellClass, IsWellMade};
 
 use crate::class::ClassPlan;
 use crate::shape::Shape;
-use ptg_base::{Place, Row};
+use ptg_base::{Place, Seq};
 use term_core::ClassSpace;
 
 /// A job with all its names resolved, for the data that it was resolved with.
 #[derive(Debug, Drop)]
 pub struct Plan {
     /// The classes, in the text's order.
-    pub classes: Row<ClassPlan>,
+    pub classes: Seq<ClassPlan>,
     /// The space of each class.
-    pub spaces: Row<ClassSpace>,
+    pub spaces: Seq<ClassSpace>,
     /// The collections, in the data's order.
-    pub colls: Row<Shape>,
-    /// Numbers in a tile.
-    pub elems: u32,
-    /// Every number names something, numbers of arguments agree, and flows, targets and bodies fit one another.
+    pub colls: Seq<Shape>,
+    /// How many numbers a tile has, by the number of its type; type 0 is DEFAULT.
+    pub elems: Seq<u32>,
+    /// Every number is that of something, numbers of arguments agree, and flows, targets, datatypes and bodies fit one another.
     pub ghost well_made: { IsWellMade classes spaces colls elems },
 }
 
 impl Plan {
-    /// The job of these parts.
+    /// The plan with these parts.
     pub fn new(
-        classes: Row<ClassPlan>,
-        spaces: Row<ClassSpace>,
-        colls: Row<Shape>,
-        elems: u32,
+        classes: Seq<ClassPlan>,
+        spaces: Seq<ClassSpace>,
+        colls: Seq<Shape>,
+        elems: Seq<u32>,
     ) -> Plan
         requires { IsWellMade classes spaces colls elems }
         ensures classes { result.classes ≡ classes }
@@ -45,16 +47,16 @@ impl Plan {
         }
     }
 
-    /// The class of this number.
+    /// The class with this number.
     pub fn class(&self, n: u32) -> &ClassPlan
         requires { n < length self.now.classes }
         ensures class { slice_get self.now.classes n ≡ Some result.now }
-        ensures well_made { (s : ClassSpace) → slice_get self.now.spaces n ≡ Some s → IsWellClass self.now.classes self.now.spaces self.now.colls s result.now }
+        ensures well_made { (s : ClassSpace) → slice_get self.now.spaces n ≡ Some s → IsWellClass self.now.classes self.now.spaces self.now.colls (length self.now.elems) s result.now }
     {
         self.classes.get(n as usize)
     }
 
-    /// The space of the class of this number.
+    /// The space of the class with this number.
     pub fn space(&self, n: u32) -> &ClassSpace
         requires { n < length self.now.classes }
         ensures { slice_get self.now.spaces n ≡ Some result.now }
@@ -62,7 +64,7 @@ impl Plan {
         self.spaces.get(n as usize)
     }
 
-    /// The collection of this number.
+    /// The collection with this number.
     pub fn coll(&self, n: u32) -> &Shape
         requires { n < length self.now.colls }
         ensures { slice_get self.now.colls n ≡ Some result.now }
@@ -70,7 +72,16 @@ impl Plan {
         self.colls.get(n as usize)
     }
 
-    /// Whether the collection is there, with this row and this column.
+    /// How many numbers a tile of this type has.
+    pub fn elements(&self, datatype: u32) -> u32
+        requires { datatype < length self.now.elems }
+        ensures elements { slice_get self.now.elems datatype ≡ Some result }
+        ensures within { IsTrue (is_tile_length result) }
+    {
+        *self.elems.get(datatype as usize)
+    }
+
+    /// Whether the place's collection exists and has its row and column.
     pub fn has_place(&self, p: &Place) -> bool
         ensures { IsTrue result ↔ HasPlace self.now.colls p.now }
     {

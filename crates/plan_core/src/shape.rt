@@ -1,14 +1,18 @@
+//! The shapes of collections.
+
 ghost use Rattle.std.specs.Prelude.{◌↔◌, IsTrue};
 ghost use Rattle.plan_core.specs.Place.{IsRow, IsColumn};
 
 use ptg_base::Text;
 
-/// A collection of the data: its name, and how many rows of tiles it has, and columns where it has two dimensions.
+/// A collection of the data, without its tiles: how many rows of tiles it has, and how many columns where it has two dimensions.
 #[derive(Debug, Drop)]
 pub struct Shape {
     pub name: Text,
     pub rows: u32,
     pub cols: Option<u32>,
+    /// The number of the type of its tiles.
+    pub datatype: u32,
 }
 
 impl Shape {
@@ -19,7 +23,7 @@ impl Shape {
         0 <= i && i < i64::from(self.rows)
     }
 
-    /// Whether it has this column, which is 0 where it has one dimension.
+    /// Whether it has this column, which is 0 in one dimension.
     pub fn has_column(&self, j: i64) -> bool
         ensures { IsTrue result ↔ IsColumn self.now.cols j }
     {

@@ -1,21 +1,24 @@
-use ptg_base::Row;
+//! The targets of dependences.
+
+use ptg_base::Seq;
 use term_core::{Expr, Range};
 
-/// An argument of a task target: the value of a parameter, or each value of a range.
+/// An argument of a task target.
 #[derive(Debug, Drop)]
 pub enum Arg {
+    /// The value of a parameter.
     One(Expr),
-    /// One edge for each value.
+    /// Each value of a range, with an edge for each.
     Span(Range),
 }
 
-/// Where a dependence leads.
+/// The other end of a dependence.
 #[derive(Debug, Drop)]
 pub enum Target {
     /// The numbers of a class and of a flow of it, and an argument for each parameter of the class.
-    Task(u32, u8, Row<Arg>),
+    Task(u32, u8, Seq<Arg>),
     /// The number of a collection, and an index for each of its dimensions.
-    Element(u32, Row<Expr>),
+    Element(u32, Seq<Expr>),
     /// A tile of zeros.
     New,
     /// No tile.

@@ -7,42 +7,42 @@ use Rattle.range_space.specs.declared.fault.SpanFault.{SpanFault}
 use Rattle.range_space.specs.declared.fault.SpaceFault.{SpaceFault}
 use Rattle.range_space.specs.Values.{values}
 use Rattle.range_space.specs.Fault.{Bounds}
-use Rattle.range_space.specs.Nested.{full_lists, def_values, or_none, params_of}
-use Rattle.range_space.specs.Later.{def_bounds, lists_among}
-use Rattle.range_space.specs.Size.{Mark, Prefix, Task, Lacking, met, walk, walk_among, walk_all, task_count, prefix_count, NoneLacking, IsFine, StopsAt, IsFirstFault, Walked, task_total}
+use Rattle.range_space.specs.Tasks.{full_lists, def_values, or_empty, params_of}
+use Rattle.range_space.specs.ListsAfter.{def_bounds, lists_over}
+use Rattle.range_space.specs.Walk.{Visit, Prefix, Task, NoValue, visits, walk, walk_among, walk_all, task_count, prefix_count, AllHaveValues, StopsAt, IsFirstFault, IsWalked, task_total}
 use Rattle.range_space.proofs.Nesting.{def_values-bounds, def_values-fault}
 
-pub task_count-append : (xs ys : List Mark) → task_count (xs ++ ys) ≡ task_count xs + task_count ys
+pub task_count-append : (xs ys : List Visit) → task_count (xs ++ ys) ≡ task_count xs + task_count ys
 task_count-append [] ys = omega arith
 task_count-append (Prefix c ∷ xs) ys = task_count-append xs ys
 task_count-append (Task c ∷ xs) ys = omega (arith, task_count-append xs ys)
-task_count-append (Lacking c vs ∷ xs) ys = task_count-append xs ys
+task_count-append (NoValue c vs ∷ xs) ys = task_count-append xs ys
 
-pub prefix_count-append : (xs ys : List Mark) → prefix_count (xs ++ ys) ≡ prefix_count xs + prefix_count ys
+pub prefix_count-append : (xs ys : List Visit) → prefix_count (xs ++ ys) ≡ prefix_count xs + prefix_count ys
 prefix_count-append [] ys = omega arith
 prefix_count-append (Prefix c ∷ xs) ys = omega (arith, prefix_count-append xs ys)
 prefix_count-append (Task c ∷ xs) ys = prefix_count-append xs ys
-prefix_count-append (Lacking c vs ∷ xs) ys = prefix_count-append xs ys
+prefix_count-append (NoValue c vs ∷ xs) ys = prefix_count-append xs ys
 
-pub NoneLacking-append : (xs ys : List Mark) → NoneLacking xs → NoneLacking ys → NoneLacking (xs ++ ys)
-NoneLacking-append [] ys f g = g
-NoneLacking-append (Prefix c ∷ xs) ys f g = NoneLacking-append xs ys f g
-NoneLacking-append (Task c ∷ xs) ys f g = NoneLacking-append xs ys f g
-NoneLacking-append (Lacking c vs ∷ xs) ys f g = absurd f
+pub AllHaveValues-append : (xs ys : List Visit) → AllHaveValues xs → AllHaveValues ys → AllHaveValues (xs ++ ys)
+AllHaveValues-append [] ys f g = g
+AllHaveValues-append (Prefix c ∷ xs) ys f g = AllHaveValues-append xs ys f g
+AllHaveValues-append (Task c ∷ xs) ys f g = AllHaveValues-append xs ys f g
+AllHaveValues-append (NoValue c vs ∷ xs) ys f g = absurd f
 
--- a mark that stops the walk at once
-pub stops_at_once : (t p : ℕ) (m : Mark) (f : SpaceFault) → t ≤ 1000000 → p ≤ 16000000 → StopsAt t p m f → IsFirstFault t p (m ∷ []) f
+-- a visit that stops the walk at once
+pub stops_at_once : (t p : ℕ) (m : Visit) (f : SpaceFault) → t ≤ 1000000 → p ≤ 16000000 → StopsAt t p m f → IsFirstFault t p (m ∷ []) f
 stops_at_once t p m f h k s = record {
   before = [];
-  mark = m;
-  later = [];
+  visit = m;
+  rest = [];
   split = refl;
-  fine = record { valued = tt; few_tasks = omega arith; few_prefixes = omega arith };
+  unstopped = record { all_have_values = tt; tasks_at_most = omega arith; prefixes_at_most = omega arith };
   stops = rw (add-zero, add-zero) s;
 }
 
 -- two parts that nothing stops, one after the other
-pub walked_more : (t p t' p' t'' p'' : ℕ) (xs ys : List Mark) → Walked t p t' p' xs → Walked t' p' t'' p'' ys → Walked t p t'' p'' (xs ++ ys)
+pub walked_more : (t p t' p' t'' p'' : ℕ) (xs ys : List Visit) → IsWalked t p t' p' xs → IsWalked t' p' t'' p'' ys → IsWalked t p t'' p'' (xs ++ ys)
 walked_more t p t' p' t'' p'' xs ys w u =
     let e = task_count-append xs ys in
     let k = prefix_count-append xs ys in
@@ -50,61 +50,61 @@ walked_more t p t' p' t'' p'' xs ys w u =
     let b = u.all_tasks in
     let c = w.all_prefixes in
     let d = u.all_prefixes in
-    let g = u.fine.few_tasks in
-    let h = u.fine.few_prefixes in
+    let g = u.unstopped.tasks_at_most in
+    let h = u.unstopped.prefixes_at_most in
     record {
-      fine = record { valued = NoneLacking-append xs ys w.fine.valued u.fine.valued; few_tasks = omega arith; few_prefixes = omega arith };
+      unstopped = record { all_have_values = AllHaveValues-append xs ys w.unstopped.all_have_values u.unstopped.all_have_values; tasks_at_most = omega arith; prefixes_at_most = omega arith };
       all_tasks = omega arith;
       all_prefixes = omega arith;
     }
 
 -- a fault of the first part is one of both
-pub fault_before : (t p : ℕ) (xs ys : List Mark) (f : SpaceFault) → IsFirstFault t p xs f → IsFirstFault t p (xs ++ ys) f
+pub fault_before : (t p : ℕ) (xs ys : List Visit) (f : SpaceFault) → IsFirstFault t p xs f → IsFirstFault t p (xs ++ ys) f
 fault_before t p xs ys f w = record {
   before = w.before;
-  mark = w.mark;
-  later = w.later ++ ys;
-  split = ap (λ l. l ++ ys) w.split ∙ append_assoc w.before (w.mark ∷ w.later) ys;
-  fine = w.fine;
+  visit = w.visit;
+  rest = w.rest ++ ys;
+  split = ap (λ l. l ++ ys) w.split ∙ append_assoc w.before (w.visit ∷ w.rest) ys;
+  unstopped = w.unstopped;
   stops = w.stops;
 }
 
 -- a fault of the second part is one of both, where nothing stops the first
-pub fault_after : (t p t' p' : ℕ) (xs ys : List Mark) (f : SpaceFault) → Walked t p t' p' xs → IsFirstFault t' p' ys f → IsFirstFault t p (xs ++ ys) f
+pub fault_after : (t p t' p' : ℕ) (xs ys : List Visit) (f : SpaceFault) → IsWalked t p t' p' xs → IsFirstFault t' p' ys f → IsFirstFault t p (xs ++ ys) f
 fault_after t p t' p' xs ys f w u =
-    let both = walked_more t p t' p' (t' + task_count u.before) (p' + prefix_count u.before) xs u.before w (record { fine = u.fine; all_tasks = refl; all_prefixes = refl }) in
+    let both = walked_more t p t' p' (t' + task_count u.before) (p' + prefix_count u.before) xs u.before w (record { unstopped = u.unstopped; all_tasks = refl; all_prefixes = refl }) in
     record {
       before = xs ++ u.before;
-      mark = u.mark;
-      later = u.later;
-      split = ap (λ l. xs ++ l) u.split ∙ sym (append_assoc xs u.before (u.mark ∷ u.later));
-      fine = both.fine;
+      visit = u.visit;
+      rest = u.rest;
+      split = ap (λ l. xs ++ l) u.split ∙ sym (append_assoc xs u.before (u.visit ∷ u.rest));
+      unstopped = both.unstopped;
       stops = rw (sym both.all_tasks, sym both.all_prefixes) u.stops;
     }
 
 -- the walk under a definition, by its bounds
-pub walk-bounds : (class : ℕ) (d : Def) (ds : List Def) (begun : List ℤ) (b : Bounds) → def_bounds d begun ≡ Ok b → walk class (d ∷ ds) begun ≡ walk_among class ds begun (values b.lo b.hi b.step)
-walk-bounds class d ds begun b e = ap (met (λ v. Prefix class ∷ walk class ds (begun ++ v ∷ [])) (Lacking class begun)) (def_values-bounds d begun b e)
+pub walk-bounds : (class : ℕ) (d : Def) (ds : List Def) (outer : List ℤ) (b : Bounds) → def_bounds d outer ≡ Ok b → walk class (d ∷ ds) outer ≡ walk_among class ds outer (values b.lo b.hi b.step)
+walk-bounds class d ds outer b e = ap (visits (λ v. Prefix class ∷ walk class ds (outer ++ v ∷ [])) (NoValue class outer)) (def_values-bounds d outer b e)
 
-pub walk-fault : (class : ℕ) (d : Def) (ds : List Def) (begun : List ℤ) (f : SpanFault) → def_bounds d begun ≡ Err f → walk class (d ∷ ds) begun ≡ Lacking class begun ∷ []
-walk-fault class d ds begun f e = ap (met (λ v. Prefix class ∷ walk class ds (begun ++ v ∷ [])) (Lacking class begun)) (def_values-fault d begun f e)
+pub walk-fault : (class : ℕ) (d : Def) (ds : List Def) (outer : List ℤ) (f : SpanFault) → def_bounds d outer ≡ Err f → walk class (d ∷ ds) outer ≡ NoValue class outer ∷ []
+walk-fault class d ds outer f e = ap (visits (λ v. Prefix class ∷ walk class ds (outer ++ v ∷ [])) (NoValue class outer)) (def_values-fault d outer f e)
 
 -- there is a task for each full list of locals
-among_count : (class : ℕ) (ds : List Def) (begun : List ℤ) → ((b : List ℤ) → task_count (walk class ds b) ≡ length (full_lists ds b)) → (vs : List ℤ) → task_count (walk_among class ds begun vs) ≡ length (lists_among ds begun vs)
-among_count class ds begun nested [] = refl
-among_count class ds begun nested (v ∷ vs) =
-    task_count-append (walk class ds (begun ++ v ∷ [])) (walk_among class ds begun vs)
-    ∙ ap (λ n. n + task_count (walk_among class ds begun vs)) (nested (begun ++ v ∷ []))
-    ∙ ap (λ n. length (full_lists ds (begun ++ v ∷ [])) + n) (among_count class ds begun nested vs)
-    ∙ sym (length-append (full_lists ds (begun ++ v ∷ [])) (lists_among ds begun vs))
+among_count : (class : ℕ) (ds : List Def) (outer : List ℤ) → ((b : List ℤ) → task_count (walk class ds b) ≡ length (full_lists ds b)) → (vs : List ℤ) → task_count (walk_among class ds outer vs) ≡ length (lists_over ds outer vs)
+among_count class ds outer nested [] = refl
+among_count class ds outer nested (v ∷ vs) =
+    task_count-append (walk class ds (outer ++ v ∷ [])) (walk_among class ds outer vs)
+    ∙ ap (λ n. n + task_count (walk_among class ds outer vs)) (nested (outer ++ v ∷ []))
+    ∙ ap (λ n. length (full_lists ds (outer ++ v ∷ [])) + n) (among_count class ds outer nested vs)
+    ∙ sym (length-append (full_lists ds (outer ++ v ∷ [])) (lists_over ds outer vs))
 
-under_count : (class : ℕ) (ds : List Def) (begun : List ℤ) → ((b : List ℤ) → task_count (walk class ds b) ≡ length (full_lists ds b)) → (r : Result (List ℤ) SpanFault) → task_count (met (λ v. Prefix class ∷ walk class ds (begun ++ v ∷ [])) (Lacking class begun) r) ≡ length (lists_among ds begun (or_none r))
-under_count class ds begun nested (Ok vs) = among_count class ds begun nested vs
-under_count class ds begun nested (Err e) = refl
+under_count : (class : ℕ) (ds : List Def) (outer : List ℤ) → ((b : List ℤ) → task_count (walk class ds b) ≡ length (full_lists ds b)) → (r : Result (List ℤ) SpanFault) → task_count (visits (λ v. Prefix class ∷ walk class ds (outer ++ v ∷ [])) (NoValue class outer) r) ≡ length (lists_over ds outer (or_empty r))
+under_count class ds outer nested (Ok vs) = among_count class ds outer nested vs
+under_count class ds outer nested (Err e) = refl
 
-task_count-walk : (class : ℕ) (ds : List Def) (begun : List ℤ) → task_count (walk class ds begun) ≡ length (full_lists ds begun)
-task_count-walk class [] begun = refl
-task_count-walk class (d ∷ ds) begun = under_count class ds begun (λ b. task_count-walk class ds b) (def_values d begun)
+task_count-walk : (class : ℕ) (ds : List Def) (outer : List ℤ) → task_count (walk class ds outer) ≡ length (full_lists ds outer)
+task_count-walk class [] outer = refl
+task_count-walk class (d ∷ ds) outer = under_count class ds outer (λ b. task_count-walk class ds b) (def_values d outer)
 
 pub task_count-walk_all : (class : ℕ) (ss : List ClassSpace) → task_count (walk_all class ss) ≡ task_total ss
 task_count-walk_all class [] = refl
@@ -116,42 +116,42 @@ task_count-walk_all class (s ∷ ss) =
     omega arith
 
 -- the part of a walk that is behind, where these values are still to come
-pub record IsSoFar (t p t' p' class : ℕ) (ds : List Def) (begun all left : List ℤ) : Type 0 where
-  pub done : List Mark
-  pub split : walk_among class ds begun all ≡ done ++ walk_among class ds begun left
-  pub walked : Walked t p t' p' done
+pub record IsSoFar (t p t' p' class : ℕ) (ds : List Def) (outer all left : List ℤ) : Type 0 where
+  pub done : List Visit
+  pub split : walk_among class ds outer all ≡ done ++ walk_among class ds outer left
+  pub walked : IsWalked t p t' p' done
 
-pub nothing_yet : (t p class : ℕ) (ds : List Def) (begun all : List ℤ) → t ≤ 1000000 → p ≤ 16000000 → IsSoFar t p t p class ds begun all all
-nothing_yet t p class ds begun all h k = record {
+pub nothing_yet : (t p class : ℕ) (ds : List Def) (outer all : List ℤ) → t ≤ 1000000 → p ≤ 16000000 → IsSoFar t p t p class ds outer all all
+nothing_yet t p class ds outer all h k = record {
   done = [];
   split = refl;
-  walked = record { fine = record { valued = tt; few_tasks = omega arith; few_prefixes = omega arith }; all_tasks = omega arith; all_prefixes = omega arith };
+  walked = record { unstopped = record { all_have_values = tt; tasks_at_most = omega arith; prefixes_at_most = omega arith }; all_tasks = omega arith; all_prefixes = omega arith };
 }
 
-module _ (t p t' p' class : ℕ) (ds : List Def) (begun all left : List ℤ) (v : ℤ) (more : List ℤ)
-    (next : left ≡ v ∷ more) (w : IsSoFar t p t' p' class ds begun all left) where
+module _ (t p t' p' class : ℕ) (ds : List Def) (outer all left : List ℤ) (v : ℤ) (more : List ℤ)
+    (next : left ≡ v ∷ more) (w : IsSoFar t p t' p' class ds outer all left) where
   -- what is left, with the prefix and what is nested in it apart
-  left-apart : walk_among class ds begun all ≡ (w.done ++ Prefix class ∷ []) ++ walk class ds (begun ++ v ∷ []) ++ walk_among class ds begun more
-  left-apart = w.split ∙ ap (λ l. w.done ++ walk_among class ds begun l) next ∙ regroup w.done (Prefix class) (walk class ds (begun ++ v ∷ [])) (walk_among class ds begun more)
+  left-apart : walk_among class ds outer all ≡ (w.done ++ Prefix class ∷ []) ++ walk class ds (outer ++ v ∷ []) ++ walk_among class ds outer more
+  left-apart = w.split ∙ ap (λ l. w.done ++ walk_among class ds outer l) next ∙ regroup w.done (Prefix class) (walk class ds (outer ++ v ∷ [])) (walk_among class ds outer more)
     where
-      regroup : (xs : List Mark) (m : Mark) (ys zs : List Mark) → xs ++ ((m ∷ ys) ++ zs) ≡ (xs ++ m ∷ []) ++ ys ++ zs
+      regroup : (xs : List Visit) (m : Visit) (ys zs : List Visit) → xs ++ ((m ∷ ys) ++ zs) ≡ (xs ++ m ∷ []) ++ ys ++ zs
       regroup xs m ys zs = simp append_assoc
 
-  pub fault_at_prefix : (f : SpaceFault) → IsFirstFault t' p' (Prefix class ∷ []) f → IsFirstFault t p (walk_among class ds begun all) f
+  pub fault_at_prefix : (f : SpaceFault) → IsFirstFault t' p' (Prefix class ∷ []) f → IsFirstFault t p (walk_among class ds outer all) f
   fault_at_prefix f u =
-      rw left-apart (fault_before t p _ (walk_among class ds begun more) f (fault_before t p _ (walk class ds (begun ++ v ∷ [])) f (fault_after t p t' p' w.done (Prefix class ∷ []) f w.walked u)))
+      rw left-apart (fault_before t p _ (walk_among class ds outer more) f (fault_before t p _ (walk class ds (outer ++ v ∷ [])) f (fault_after t p t' p' w.done (Prefix class ∷ []) f w.walked u)))
 
-  module _ (t'' p'' : ℕ) (one : Walked t' p' t'' p'' (Prefix class ∷ [])) where
-    pub fault_inside : (f : SpaceFault) → IsFirstFault t'' p'' (walk class ds (begun ++ v ∷ [])) f → IsFirstFault t p (walk_among class ds begun all) f
+  module _ (t'' p'' : ℕ) (one : IsWalked t' p' t'' p'' (Prefix class ∷ [])) where
+    pub fault_inside : (f : SpaceFault) → IsFirstFault t'' p'' (walk class ds (outer ++ v ∷ [])) f → IsFirstFault t p (walk_among class ds outer all) f
     fault_inside f u =
-        rw left-apart (fault_before t p _ (walk_among class ds begun more) f (fault_after t p t'' p'' _ _ f (walked_more _ _ t' p' _ _ w.done (Prefix class ∷ []) w.walked one) u))
+        rw left-apart (fault_before t p _ (walk_among class ds outer more) f (fault_after t p t'' p'' _ _ f (walked_more _ _ t' p' _ _ w.done (Prefix class ∷ []) w.walked one) u))
 
-    pub one_more : (t3 p3 : ℕ) → Walked t'' p'' t3 p3 (walk class ds (begun ++ v ∷ [])) → IsSoFar t p t3 p3 class ds begun all more
+    pub one_more : (t3 p3 : ℕ) → IsWalked t'' p'' t3 p3 (walk class ds (outer ++ v ∷ [])) → IsSoFar t p t3 p3 class ds outer all more
     one_more t3 p3 u = record {
-      done = (w.done ++ Prefix class ∷ []) ++ walk class ds (begun ++ v ∷ []);
+      done = (w.done ++ Prefix class ∷ []) ++ walk class ds (outer ++ v ∷ []);
       split = left-apart;
-      walked = walked_more _ _ t'' p'' _ _ (w.done ++ Prefix class ∷ []) (walk class ds (begun ++ v ∷ [])) (walked_more _ _ t' p' _ _ w.done (Prefix class ∷ []) w.walked one) u;
+      walked = walked_more _ _ t'' p'' _ _ (w.done ++ Prefix class ∷ []) (walk class ds (outer ++ v ∷ [])) (walked_more _ _ t' p' _ _ w.done (Prefix class ∷ []) w.walked one) u;
     }
 
-pub walked_whole : (t p t' p' class : ℕ) (ds : List Def) (begun all : List ℤ) → IsSoFar t p t' p' class ds begun all [] → Walked t p t' p' (walk_among class ds begun all)
-walked_whole t p t' p' class ds begun all w = rw (w.split ∙ append-nil w.done) w.walked
+pub walked_whole : (t p t' p' class : ℕ) (ds : List Def) (outer all : List ℤ) → IsSoFar t p t' p' class ds outer all [] → IsWalked t p t' p' (walk_among class ds outer all)
+walked_whole t p t' p' class ds outer all w = rw (w.split ∙ append-nil w.done) w.walked

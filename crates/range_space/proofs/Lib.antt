@@ -4,3 +4,5 @@ pub mod Nesting
 pub mod MemberLists
 pub mod Counting
 pub mod Soundness
+pub mod Distinct
+pub mod FirstFault

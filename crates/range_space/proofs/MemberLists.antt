@@ -12,11 +12,11 @@ use Rattle.term_core.specs.declared.space.Def.{Def}
 use Rattle.term_core.specs.declared.space.Def.TheVariants.{Span, Value}
 use Rattle.term_core.specs.declared.space.ClassSpace.{ClassSpace}
 use Rattle.term_core.specs.WellSpace.{IsWellSpace, is_among, are_different, spans_are_params}
-use Rattle.range_space.specs.Nested.{full_lists, def_values, or_none, params_of, tasks, all_locals}
-use Rattle.range_space.specs.Member.{wanted, Suits, IsAskedIfRanged, AreLocals, AllSuit, SuitsWhole, NoneSuits}
+use Rattle.range_space.specs.Tasks.{full_lists, def_values, or_empty, params_of, tasks, all_locals}
+use Rattle.range_space.specs.Completion.{param_value, AgreesWith, IsGivenIfRanged, AreLocals, AllAgree, IsCompletion, HasNoCompletion}
 use Rattle.range_space.proofs.Stepping.{by_test}
 
-and_left : (a b : Bool) → (a && b) ≡ true → a ≡ true
+pub and_left : (a b : Bool) → (a && b) ≡ true → a ≡ true
 and_left true b h = refl
 and_left false b h = h
 
@@ -63,106 +63,106 @@ from_map f [] y w = absurd w
 from_map f (x ∷ xs) y w = elim w [ inl e ↦ (x, inl refl, e) | inr t ↦ let p = from_map f xs y t in (p.0, inr p.1, p.2) ]
 
 -- the full lists are those of the locals that are values of their definitions
-pub full_from_locals : (ds : List Def) (begun locals : List ℤ) → AreLocals ds begun locals → IsIn (begun ++ locals) (full_lists ds begun)
-full_from_locals [] begun [] w = inl (append-nil begun)
-full_from_locals [] begun (v ∷ locals) w = absurd w
-full_from_locals (d ∷ ds) begun [] w = absurd w
-full_from_locals (d ∷ ds) begun (v ∷ locals) w =
-    IsIn-flat_map (λ z. full_lists ds (begun ++ z ∷ [])) (or_none (def_values d begun)) v (begun ++ v ∷ locals) w.0
-    (subst (λ l. IsIn l (full_lists ds (begun ++ v ∷ []))) (append_assoc begun (v ∷ []) locals) (full_from_locals ds (begun ++ v ∷ []) locals w.1))
+pub full_from_locals : (ds : List Def) (outer locals : List ℤ) → AreLocals ds outer locals → IsIn (outer ++ locals) (full_lists ds outer)
+full_from_locals [] outer [] w = inl (append-nil outer)
+full_from_locals [] outer (v ∷ locals) w = absurd w
+full_from_locals (d ∷ ds) outer [] w = absurd w
+full_from_locals (d ∷ ds) outer (v ∷ locals) w =
+    IsIn-flat_map (λ z. full_lists ds (outer ++ z ∷ [])) (or_empty (def_values d outer)) v (outer ++ v ∷ locals) w.0
+    (subst (λ l. IsIn l (full_lists ds (outer ++ v ∷ []))) (append_assoc outer (v ∷ []) locals) (full_from_locals ds (outer ++ v ∷ []) locals w.1))
 
-pub locals_from_full : (ds : List Def) (begun l : List ℤ) → IsIn l (full_lists ds begun) → (locals : List ℤ) × (l ≡ begun ++ locals) × AreLocals ds begun locals
-locals_from_full [] begun l w = elim w [ inl e ↦ ([], e ∙ sym (append-nil begun), tt) | inr t ↦ absurd t ]
-locals_from_full (d ∷ ds) begun l w =
-    let p = from_flat_map (λ z. full_lists ds (begun ++ z ∷ [])) (or_none (def_values d begun)) l w in
-    let q = locals_from_full ds (begun ++ p.0 ∷ []) l p.2 in
-    (p.0 ∷ q.0, q.1 ∙ append_assoc begun (p.0 ∷ []) q.0, (p.1, q.2))
+pub locals_from_full : (ds : List Def) (outer l : List ℤ) → IsIn l (full_lists ds outer) → (locals : List ℤ) × (l ≡ outer ++ locals) × AreLocals ds outer locals
+locals_from_full [] outer l w = elim w [ inl e ↦ ([], e ∙ sym (append-nil outer), tt) | inr t ↦ absurd t ]
+locals_from_full (d ∷ ds) outer l w =
+    let p = from_flat_map (λ z. full_lists ds (outer ++ z ∷ [])) (or_empty (def_values d outer)) l w in
+    let q = locals_from_full ds (outer ++ p.0 ∷ []) l p.2 in
+    (p.0 ∷ q.0, q.1 ∙ append_assoc outer (p.0 ∷ []) q.0, (p.1, q.2))
 
-pub length-locals : (ds : List Def) (begun locals : List ℤ) → AreLocals ds begun locals → length locals ≡ length ds
-length-locals [] begun [] w = refl
-length-locals [] begun (v ∷ locals) w = absurd w
-length-locals (d ∷ ds) begun [] w = absurd w
-length-locals (d ∷ ds) begun (v ∷ locals) w = ap suc (length-locals ds (begun ++ v ∷ []) locals w.1)
+pub length-locals : (ds : List Def) (outer locals : List ℤ) → AreLocals ds outer locals → length locals ≡ length ds
+length-locals [] outer [] w = refl
+length-locals [] outer (v ∷ locals) w = absurd w
+length-locals (d ∷ ds) outer [] w = absurd w
+length-locals (d ∷ ds) outer (v ∷ locals) w = ap suc (length-locals ds (outer ++ v ∷ []) locals w.1)
 
--- nothing is asked of a definition that is no parameter
-pub not_wanted : (ps : List ℕ) (vs : List ℤ) (n : ℕ) → is_among n ps ≡ false → wanted ps vs n ≡ None
-not_wanted [] vs n h = refl
-not_wanted (p ∷ ps) [] n h = refl
-not_wanted (p ∷ ps) (v ∷ vs) n h =
+-- nothing is given of a definition that is no parameter
+pub no_param_value : (ps : List ℕ) (vs : List ℤ) (n : ℕ) → is_among n ps ≡ false → param_value ps vs n ≡ None
+no_param_value [] vs n h = refl
+no_param_value (p ∷ ps) [] n h = refl
+no_param_value (p ∷ ps) (v ∷ vs) n h =
     by_test (p == n)
     (λ k. absurd (false≢true (sym h ∙ ap (λ b. b || is_among n ps) k)))
-    (λ k. rw k (not_wanted ps vs n (ap (λ b. b || is_among n ps) (sym k) ∙ h)))
+    (λ k. rw k (no_param_value ps vs n (ap (λ b. b || is_among n ps) (sym k) ∙ h)))
 
--- a value is asked of each parameter
-pub IsSome-wanted : (ps : List ℕ) (vs : List ℤ) (n : ℕ) → length ps ≡ length vs → is_among n ps ≡ true → IsSome (wanted ps vs n)
-IsSome-wanted [] vs n e h = absurd (false≢true h)
-IsSome-wanted (p ∷ ps) [] n e h = absurd (omega arith)
-IsSome-wanted (p ∷ ps) (v ∷ vs) n e h =
+-- a value is given of each parameter
+pub IsSome-param_value : (ps : List ℕ) (vs : List ℤ) (n : ℕ) → length ps ≡ length vs → is_among n ps ≡ true → IsSome (param_value ps vs n)
+IsSome-param_value [] vs n e h = absurd (false≢true h)
+IsSome-param_value (p ∷ ps) [] n e h = absurd (omega arith)
+IsSome-param_value (p ∷ ps) (v ∷ vs) n e h =
     by_test (p == n)
     (λ k. rw k (search rules))
-    (λ k. rw k (IsSome-wanted ps vs n (omega arith) (ap (λ b. b || is_among n ps) (sym k) ∙ h)))
+    (λ k. rw k (IsSome-param_value ps vs n (omega arith) (ap (λ b. b || is_among n ps) (sym k) ∙ h)))
 
--- what is asked of all, place by place
-pub suits_at : (ps : List ℕ) (vs : List ℤ) (k : ℕ) (l : List ℤ) → AllSuit ps vs k l → (i : ℕ) → i < length l → Suits (wanted ps vs (k + i)) (slice_index_or l i (pos 0))
-suits_at ps vs k [] w i h = absurd (omega arith)
-suits_at ps vs k (v ∷ l) w zero h = rw add-zero w.0
-suits_at ps vs k (v ∷ l) w (suc i) h = subst (λ n. Suits (wanted ps vs n) (slice_index_or l i (pos 0))) (omega arith) (suits_at ps vs (suc k) l w.1 i (omega arith))
+-- what is given of all, place by place
+pub agrees_at : (ps : List ℕ) (vs : List ℤ) (k : ℕ) (l : List ℤ) → AllAgree ps vs k l → (i : ℕ) → i < length l → AgreesWith (param_value ps vs (k + i)) (slice_index_or l i (pos 0))
+agrees_at ps vs k [] w i h = absurd (omega arith)
+agrees_at ps vs k (v ∷ l) w zero h = rw add-zero w.0
+agrees_at ps vs k (v ∷ l) w (suc i) h = subst (λ n. AgreesWith (param_value ps vs n) (slice_index_or l i (pos 0))) (omega arith) (agrees_at ps vs (suc k) l w.1 i (omega arith))
 
-pub all_suit : (ps : List ℕ) (vs : List ℤ) (k : ℕ) (l : List ℤ) → ((i : ℕ) → i < length l → Suits (wanted ps vs (k + i)) (slice_index_or l i (pos 0))) → AllSuit ps vs k l
-all_suit ps vs k [] f = tt
-all_suit ps vs k (v ∷ l) f = (
+pub all_agree : (ps : List ℕ) (vs : List ℤ) (k : ℕ) (l : List ℤ) → ((i : ℕ) → i < length l → AgreesWith (param_value ps vs (k + i)) (slice_index_or l i (pos 0))) → AllAgree ps vs k l
+all_agree ps vs k [] f = tt
+all_agree ps vs k (v ∷ l) f = (
   rw add-zero at (f 0 (omega arith)),
-  all_suit ps vs (suc k) l (λ i h. subst (λ n. Suits (wanted ps vs n) (slice_index_or l i (pos 0))) (omega arith) (f (suc i) (omega arith))),
+  all_agree ps vs (suc k) l (λ i h. subst (λ n. AgreesWith (param_value ps vs n) (slice_index_or l i (pos 0))) (omega arith) (f (suc i) (omega arith))),
 )
 
--- locals that suit have the parameters that are asked for
-pub params_from_suits : (ps : List ℕ) (vs l : List ℤ) → length ps ≡ length vs → are_different ps ≡ true → list_all (λ p. nat_lt p (length l)) ps ≡ true → ((i : ℕ) → i < length l → Suits (wanted ps vs i) (slice_index_or l i (pos 0))) → params_of ps l ≡ vs
-params_from_suits [] [] l e d w f = refl
-params_from_suits [] (v ∷ vs) l e d w f = absurd (omega arith)
-params_from_suits (p ∷ ps) [] l e d w f = absurd (omega arith)
-params_from_suits (p ∷ ps) (v ∷ vs) l e d w f =
+-- locals that suit have the parameters that are given for
+pub params_from_agreement : (ps : List ℕ) (vs l : List ℤ) → length ps ≡ length vs → are_different ps ≡ true → list_all (λ p. nat_lt p (length l)) ps ≡ true → ((i : ℕ) → i < length l → AgreesWith (param_value ps vs i) (slice_index_or l i (pos 0))) → params_of ps l ≡ vs
+params_from_agreement [] [] l e d w f = refl
+params_from_agreement [] (v ∷ vs) l e d w f = absurd (omega arith)
+params_from_agreement (p ∷ ps) [] l e d w f = absurd (omega arith)
+params_from_agreement (p ∷ ps) (v ∷ vs) l e d w f =
     let first_below = and_left (nat_lt p (length l)) (list_all (λ q. nat_lt q (length l)) ps) w in
     let below : p < length l = grind (arith, nat_tests) in
-    let here : Suits (if p == p then Some v else wanted ps vs p) (slice_index_or l p (pos 0)) = f p below in
+    let here : AgreesWith (if p == p then Some v else param_value ps vs p) (slice_index_or l p (pos 0)) = f p below in
     let first : slice_index_or l p (pos 0) ≡ v = rw (eq-eqb p p refl) at here in
-    let others = params_from_suits ps vs l (omega arith) (and_right _ _ d) (and_right _ _ w) (λ i h.
+    let others = params_from_agreement ps vs l (omega arith) (and_right _ _ d) (and_right _ _ w) (λ i h.
     by_test (p == i)
-    (λ k. rw (not_wanted ps vs i (subst (λ j. is_among j ps ≡ false) (eqb-true p i k) (not_false _ (and_left _ _ d)))) tt)
+    (λ k. rw (no_param_value ps vs i (subst (λ j. is_among j ps ≡ false) (eqb-true p i k) (not_false _ (and_left _ _ d)))) tt)
     (λ k. rw k at (f i h))) in
     ap (λ z. z ∷ params_of ps l) first ∙ ap (λ zs. v ∷ zs) others
 
 -- and locals that have them suit
-pub suits_from_params : (ps : List ℕ) (vs l : List ℤ) → params_of ps l ≡ vs → (i : ℕ) → Suits (wanted ps vs i) (slice_index_or l i (pos 0))
-suits_from_params [] vs l e i = tt
-suits_from_params (p ∷ ps) [] l e i = tt
-suits_from_params (p ∷ ps) (v ∷ vs) l e i =
+pub agreement_from_params : (ps : List ℕ) (vs l : List ℤ) → params_of ps l ≡ vs → (i : ℕ) → AgreesWith (param_value ps vs i) (slice_index_or l i (pos 0))
+agreement_from_params [] vs l e i = tt
+agreement_from_params (p ∷ ps) [] l e i = tt
+agreement_from_params (p ∷ ps) (v ∷ vs) l e i =
     by_test (p == i)
     (λ k. rw k (ap (λ j. slice_index_or l j (pos 0)) (sym (eqb-true p i k)) ∙ cc))
-    (λ k. rw k (suits_from_params ps vs l (cc) i))
+    (λ k. rw k (agreement_from_params ps vs l (cc) i))
 
--- in a well made space a value is asked of each range
-pub asked_if_ranged : (d : Def) (ds : List Def) (ps : List ℕ) (vs : List ℤ) (n : ℕ) → length ps ≡ length vs → spans_are_params n (d ∷ ds) ps ≡ true → IsAskedIfRanged d (wanted ps vs n)
-asked_if_ranged (Span r) ds ps vs n e h = IsSome-wanted ps vs n e (and_left (is_among n ps) (spans_are_params (suc n) ds ps) h)
-asked_if_ranged (Value t) ds ps vs n e h = tt
+-- in a well made space a value is given of each range
+pub given_if_ranged : (d : Def) (ds : List Def) (ps : List ℕ) (vs : List ℤ) (n : ℕ) → length ps ≡ length vs → spans_are_params n (d ∷ ds) ps ≡ true → IsGivenIfRanged d (param_value ps vs n)
+given_if_ranged (Span r) ds ps vs n e h = IsSome-param_value ps vs n e (and_left (is_among n ps) (spans_are_params (suc n) ds ps) h)
+given_if_ranged (Value t) ds ps vs n e h = tt
 
 module _ (s : ClassSpace) (well : IsWellSpace s) (vs : List ℤ) (arity : length s.params ≡ length vs) where
-  pub locals_whole : (now : List ℤ) → SuitsWhole s.defs s.params vs 0 [] now → IsIn now (all_locals s)
-  locals_whole now w = rw w.goes_on (full_from_locals s.defs [] w.locals w.are_locals)
+  pub locals_whole : (now : List ℤ) → IsCompletion s.defs s.params vs 0 [] now → IsIn now (all_locals s)
+  locals_whole now w = rw w.extends (full_from_locals s.defs [] w.locals w.are_locals)
 
-  pub params_whole : (now : List ℤ) → SuitsWhole s.defs s.params vs 0 [] now → params_of s.params now ≡ vs
+  pub params_whole : (now : List ℤ) → IsCompletion s.defs s.params vs 0 [] now → params_of s.params now ≡ vs
   params_whole now w =
-      let e : length now ≡ length s.defs = ap length w.goes_on ∙ length-locals s.defs [] w.locals w.are_locals in
-      let here = rw (sym w.goes_on) at w.all_suit in
-      params_from_suits s.params vs now arity well.different (rw e well.within) (λ i h. rw zero-add at (suits_at s.params vs 0 now here i h))
+      let e : length now ≡ length s.defs = ap length w.extends ∙ length-locals s.defs [] w.locals w.are_locals in
+      let here = rw (sym w.extends) at w.all_agree in
+      params_from_agreement s.params vs now arity well.different (rw e well.within) (λ i h. rw zero-add at (agrees_at s.params vs 0 now here i h))
 
-  pub task_whole : (now : List ℤ) → SuitsWhole s.defs s.params vs 0 [] now → IsIn vs (tasks s)
+  pub task_whole : (now : List ℤ) → IsCompletion s.defs s.params vs 0 [] now → IsIn vs (tasks s)
   task_whole now w = rw (sym (params_whole now w)) (IsIn-map (params_of s.params) (all_locals s) now (locals_whole now w))
 
-  pub none_whole : NoneSuits s.defs s.params vs 0 [] → IsIn vs (tasks s) → ⊥
+  pub none_whole : HasNoCompletion s.defs s.params vs 0 [] → IsIn vs (tasks s) → ⊥
   none_whole none t =
       let m = from_map (params_of s.params) (all_locals s) vs t in
       let q = locals_from_full s.defs [] m.0 m.1 in
-      none q.0 q.2 (all_suit s.params vs 0 q.0 (λ i h. rw (zero-add, sym q.1) (suits_from_params s.params vs m.0 (sym m.2) i)))
+      none q.0 q.2 (all_agree s.params vs 0 q.0 (λ i h. rw (zero-add, sym q.1) (agreement_from_params s.params vs m.0 (sym m.2) i)))
 
 pub arity_of_task : (s : ClassSpace) (vs : List ℤ) → IsIn vs (tasks s) → length s.params ≡ length vs
 arity_of_task s vs t =

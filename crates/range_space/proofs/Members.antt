@@ -27,7 +27,7 @@ module _ (hi step : ℤ) where
   unfolding values
   length_values_in v h = length_while (suc (gap hi v)) v (omega arith) h
 
--- what holds of a range's direction
+-- how values and ends of a range compare in its direction
 past_self : (hi step v : ℤ) → is_within hi step v ≡ true → is_within v step v ≡ true
 past_self hi (pos zero) v h = absurd cc
 past_self hi (pos (suc n)) v h = grind (arith, ints)
@@ -78,7 +78,8 @@ at_start hi step v h = record {
   whole_steps = ap (λ d. d % unsigned_abs step) (gap-self v) ∙ zero-mod (unsigned_abs step);
 }
 
-on_way : (hi step : ℤ) (n : ℕ) (v x : ℤ) → IsIn x (while_within hi step n v) → IsOnWay hi step v x
+-- every value of a range is on its way
+pub on_way : (hi step : ℤ) (n : ℕ) (v x : ℤ) → IsIn x (while_within hi step n v) → IsOnWay hi step v x
 unfolding while_within
 on_way hi step zero v x w = absurd w
 on_way hi step (suc n) v x w =

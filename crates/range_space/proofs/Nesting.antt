@@ -4,14 +4,14 @@ use Rattle.std.proofs.lemmas.List.{take_more}
 use Rattle.std.specs.Bool.{OnTrue, OnFalse}
 use Rattle.std.proofs.lemmas.Int.{ints}
 use Rattle.std.proofs.Math.Seq.{drop-cons}
-use Rattle.term_core.specs.Value.{after}
+use Rattle.term_core.specs.Value.{and_then}
 use Rattle.term_core.specs.declared.space.Def.{Def}
 use Rattle.term_core.specs.declared.space.Def.TheVariants.{Span, Value}
 use Rattle.range_space.specs.declared.fault.SpanFault.{SpanFault}
 use Rattle.range_space.specs.Values.{is_within, values}
 use Rattle.range_space.specs.Fault.{Bounds, number}
-use Rattle.range_space.specs.Nested.{full_lists, def_values, or_none}
-use Rattle.range_space.specs.Later.{def_bounds, lists_among, lists_past, later_lists, StandsFirst, StandsAmong}
+use Rattle.range_space.specs.Tasks.{full_lists, def_values, or_empty}
+use Rattle.range_space.specs.ListsAfter.{def_bounds, lists_over, lists_over_rest, lists_after, IsFirstOf, IsFirstOver}
 use Rattle.range_space.proofs.Stepping.{values_in, values_past, by_test}
 
 -- what follows from a fact of one answer
@@ -29,13 +29,13 @@ values-one z =
     values_in z (pos 1) z (grind (arith, ints)) ∙ ap (λ vs. z ∷ vs) (values_past z (pos 1) (z +ℤ pos 1) (grind (arith, ints)))
 
 -- the values of a definition are those of its bounds
-values_of_number : (r : Result ℤ SpanFault) (b : Bounds) → after r (λ z. Ok (record { lo = z; hi = z; step = pos 1 })) ≡ Ok b → after r (λ z. Ok (z ∷ [])) ≡ Ok (values b.lo b.hi b.step)
+values_of_number : (r : Result ℤ SpanFault) (b : Bounds) → and_then r (λ z. Ok (record { lo = z; hi = z; step = pos 1 })) ≡ Ok b → and_then r (λ z. Ok (z ∷ [])) ≡ Ok (values b.lo b.hi b.step)
 values_of_number (Ok z) b e =
     let h : record { lo = z; hi = z; step = pos 1 } ≡ b = cc in
     ap Ok (sym (values-one z) ∙ ap (λ (x : Bounds). values x.lo x.hi x.step) h)
 values_of_number (Err f) b e = absurd cc
 
-fault_of_number : (r : Result ℤ SpanFault) (f : SpanFault) → ◌≡◌ {A = Result Bounds SpanFault} (after r (λ z. Ok (record { lo = z; hi = z; step = pos 1 }))) (Err f) → after r (λ z. Ok (z ∷ [])) ≡ Err f
+fault_of_number : (r : Result ℤ SpanFault) (f : SpanFault) → ◌≡◌ {A = Result Bounds SpanFault} (and_then r (λ z. Ok (record { lo = z; hi = z; step = pos 1 }))) (Err f) → and_then r (λ z. Ok (z ∷ [])) ≡ Err f
 fault_of_number (Ok z) f e = absurd cc
 fault_of_number (Err g) f e = cc
 
@@ -72,26 +72,26 @@ pub popped : {A : Type 0} (r : Option A) (xs ys : List A) (v : A) → MatchOptio
 popped None xs ys v h = absurd (not_empty xs v h.0)
 popped (Some w) xs ys v h = (unsnoc xs ys v w h).0
 
-module _ (d : Def) (ds : List Def) (begun now : List ℤ) (b : Bounds) (e : def_bounds d begun ≡ Ok b) where
-  full-among : full_lists (d ∷ ds) begun ≡ lists_among ds begun (values b.lo b.hi b.step)
-  full-among = ap (λ r. lists_among ds begun (or_none r)) (def_values-bounds d begun b e)
+module _ (d : Def) (ds : List Def) (outer now : List ℤ) (b : Bounds) (e : def_bounds d outer ≡ Ok b) where
+  full-among : full_lists (d ∷ ds) outer ≡ lists_over ds outer (values b.lo b.hi b.step)
+  full-among = ap (λ r. lists_over ds outer (or_empty r)) (def_values-bounds d outer b e)
 
-  pub first_of_among : StandsAmong (Ok b) ds begun now (lists_among ds begun (values b.lo b.hi b.step)) → StandsFirst (d ∷ ds) begun now (full_lists (d ∷ ds) begun)
+  pub first_of_among : IsFirstOver (Ok b) ds outer now (lists_over ds outer (values b.lo b.hi b.step)) → IsFirstOf (d ∷ ds) outer now (full_lists (d ∷ ds) outer)
   first_of_among s = record {
     locals = s.value ∷ s.locals;
-    goes_on = s.goes_on;
+    extends = s.extends;
     one_each = ap suc s.one_each;
-    first = full-among ∙ s.first ∙ ap (λ r. now ∷ later_lists ds (begun ++ s.value ∷ []) s.locals ++ lists_past ds begun r s.value) (sym e);
+    first = full-among ∙ s.first ∙ ap (λ r. now ∷ lists_after ds (outer ++ s.value ∷ []) s.locals ++ lists_over_rest ds outer r s.value) (sym e);
   }
 
-  pub none_of_among : lists_among ds begun (values b.lo b.hi b.step) ≡ [] → full_lists (d ∷ ds) begun ≡ []
+  pub none_of_among : lists_over ds outer (values b.lo b.hi b.step) ≡ [] → full_lists (d ∷ ds) outer ≡ []
   none_of_among h = full-among ∙ h
 
-pub none_of_fault : (d : Def) (ds : List Def) (begun : List ℤ) (f : SpanFault) → def_bounds d begun ≡ Err f → full_lists (d ∷ ds) begun ≡ []
-none_of_fault d ds begun f e = ap (λ r. lists_among ds begun (or_none r)) (def_values-fault d begun f e)
+pub none_of_fault : (d : Def) (ds : List Def) (outer : List ℤ) (f : SpanFault) → def_bounds d outer ≡ Err f → full_lists (d ∷ ds) outer ≡ []
+none_of_fault d ds outer f e = ap (λ r. lists_over ds outer (or_empty r)) (def_values-fault d outer f e)
 
-module _ (ds : List Def) (begun : List ℤ) (b : Bounds) (at v : ℤ) (vs more : List ℤ)
-    (behind : lists_among ds begun (values b.lo b.hi b.step) ≡ lists_among ds begun vs)
+module _ (ds : List Def) (outer : List ℤ) (b : Bounds) (at v : ℤ) (vs more : List ℤ)
+    (so_far : lists_over ds outer (values b.lo b.hi b.step) ≡ lists_over ds outer vs)
     (in_steps : vs ≡ values at b.hi b.step) (next : vs ≡ v ∷ more) where
   pub others : more ≡ values (at +ℤ b.step) b.hi b.step
   others = (values-uncons at b.hi b.step v more (sym in_steps ∙ next)).1
@@ -99,20 +99,20 @@ module _ (ds : List Def) (begun : List ℤ) (b : Bounds) (at v : ℤ) (vs more :
   pub here : v ≡ at
   here = (values-uncons at b.hi b.step v more (sym in_steps ∙ next)).0
 
-  among-here : lists_among ds begun (values b.lo b.hi b.step) ≡ full_lists ds (begun ++ v ∷ []) ++ lists_among ds begun more
-  among-here = behind ∙ ap (lists_among ds begun) next
+  among-here : lists_over ds outer (values b.lo b.hi b.step) ≡ full_lists ds (outer ++ v ∷ []) ++ lists_over ds outer more
+  among-here = so_far ∙ ap (lists_over ds outer) next
 
-  pub found_here : (now : List ℤ) → StandsFirst ds (begun ++ v ∷ []) now (full_lists ds (begun ++ v ∷ [])) → StandsAmong (Ok b) ds begun now (lists_among ds begun (values b.lo b.hi b.step))
+  pub found_here : (now : List ℤ) → IsFirstOf ds (outer ++ v ∷ []) now (full_lists ds (outer ++ v ∷ [])) → IsFirstOver (Ok b) ds outer now (lists_over ds outer (values b.lo b.hi b.step))
   found_here now s = record {
     value = v;
     locals = s.locals;
-    goes_on = s.goes_on ∙ append_assoc begun (v ∷ []) s.locals;
+    extends = s.extends ∙ append_assoc outer (v ∷ []) s.locals;
     one_each = s.one_each;
-    first = among-here ∙ ap (λ l. l ++ lists_among ds begun more) s.first ∙ ap (λ m. now ∷ later_lists ds (begun ++ v ∷ []) s.locals ++ lists_among ds begun m) (others ∙ ap (λ z. values (z +ℤ b.step) b.hi b.step) (sym here));
+    first = among-here ∙ ap (λ l. l ++ lists_over ds outer more) s.first ∙ ap (λ m. now ∷ lists_after ds (outer ++ v ∷ []) s.locals ++ lists_over ds outer m) (others ∙ ap (λ z. values (z +ℤ b.step) b.hi b.step) (sym here));
   }
 
-  pub none_here : full_lists ds (begun ++ v ∷ []) ≡ [] → lists_among ds begun (values b.lo b.hi b.step) ≡ lists_among ds begun more
-  none_here h = among-here ∙ ap (λ l. l ++ lists_among ds begun more) h
+  pub none_here : full_lists ds (outer ++ v ∷ []) ≡ [] → lists_over ds outer (values b.lo b.hi b.step) ≡ lists_over ds outer more
+  none_here h = among-here ∙ ap (λ l. l ++ lists_over ds outer more) h
 
 -- where a list is cut: the values before a place, the one there, and those after it
 pub record IsCut (old : List ℤ) (depth : ℕ) (v : ℤ) : Type 0 where
@@ -123,29 +123,29 @@ pub cut : (old : List ℤ) (depth : ℕ) → depth < length old → IsCut old de
 cut old depth h = record { before = take_more old depth (pos 0) h; from = rw (add-one) (drop-cons old depth (pos 0) h) }
 
 module _ (d : Def) (ds : List Def) (old : List ℤ) (depth : ℕ) (v : ℤ) (c : IsCut old depth v) where
-  later-cut : later_lists (d ∷ ds) (take depth old) (drop depth old) ≡ later_lists ds (take (depth + 1) old) (drop (depth + 1) old) ++ lists_past ds (take depth old) (def_bounds d (take depth old)) v
-  later-cut =
-      ap (later_lists (d ∷ ds) (take depth old)) c.from ∙ ap (λ t. later_lists ds t (drop (depth + 1) old) ++ lists_past ds (take depth old) (def_bounds d (take depth old)) v) (sym c.before)
+  rest-cut : lists_after (d ∷ ds) (take depth old) (drop depth old) ≡ lists_after ds (take (depth + 1) old) (drop (depth + 1) old) ++ lists_over_rest ds (take depth old) (def_bounds d (take depth old)) v
+  rest-cut =
+      ap (lists_after (d ∷ ds) (take depth old)) c.from ∙ ap (λ t. lists_after ds t (drop (depth + 1) old) ++ lists_over_rest ds (take depth old) (def_bounds d (take depth old)) v) (sym c.before)
 
-  pub found_deeper : (now : List ℤ) → StandsFirst ds (take (depth + 1) old) now (later_lists ds (take (depth + 1) old) (drop (depth + 1) old)) → StandsFirst (d ∷ ds) (take depth old) now (later_lists (d ∷ ds) (take depth old) (drop depth old))
+  pub found_deeper : (now : List ℤ) → IsFirstOf ds (take (depth + 1) old) now (lists_after ds (take (depth + 1) old) (drop (depth + 1) old)) → IsFirstOf (d ∷ ds) (take depth old) now (lists_after (d ∷ ds) (take depth old) (drop depth old))
   found_deeper now s = record {
     locals = v ∷ s.locals;
-    goes_on = s.goes_on ∙ ap (λ t. t ++ s.locals) c.before ∙ append_assoc (take depth old) (v ∷ []) s.locals;
+    extends = s.extends ∙ ap (λ t. t ++ s.locals) c.before ∙ append_assoc (take depth old) (v ∷ []) s.locals;
     one_each = ap suc s.one_each;
-    first = later-cut ∙ ap (λ l. l ++ lists_past ds (take depth old) (def_bounds d (take depth old)) v) s.first ∙ ap (λ t. now ∷ later_lists ds t s.locals ++ lists_past ds (take depth old) (def_bounds d (take depth old)) v) c.before;
+    first = rest-cut ∙ ap (λ l. l ++ lists_over_rest ds (take depth old) (def_bounds d (take depth old)) v) s.first ∙ ap (λ t. now ∷ lists_after ds t s.locals ++ lists_over_rest ds (take depth old) (def_bounds d (take depth old)) v) c.before;
   }
 
-  module _ (none : later_lists ds (take (depth + 1) old) (drop (depth + 1) old) ≡ []) where
-    later-past : later_lists (d ∷ ds) (take depth old) (drop depth old) ≡ lists_past ds (take depth old) (def_bounds d (take depth old)) v
-    later-past = later-cut ∙ ap (λ l. l ++ lists_past ds (take depth old) (def_bounds d (take depth old)) v) none
+  module _ (none : lists_after ds (take (depth + 1) old) (drop (depth + 1) old) ≡ []) where
+    rest-past : lists_after (d ∷ ds) (take depth old) (drop depth old) ≡ lists_over_rest ds (take depth old) (def_bounds d (take depth old)) v
+    rest-past = rest-cut ∙ ap (λ l. l ++ lists_over_rest ds (take depth old) (def_bounds d (take depth old)) v) none
 
-    pub found_past : (now : List ℤ) → StandsAmong (def_bounds d (take depth old)) ds (take depth old) now (lists_past ds (take depth old) (def_bounds d (take depth old)) v) → StandsFirst (d ∷ ds) (take depth old) now (later_lists (d ∷ ds) (take depth old) (drop depth old))
+    pub found_past : (now : List ℤ) → IsFirstOver (def_bounds d (take depth old)) ds (take depth old) now (lists_over_rest ds (take depth old) (def_bounds d (take depth old)) v) → IsFirstOf (d ∷ ds) (take depth old) now (lists_after (d ∷ ds) (take depth old) (drop depth old))
     found_past now s = record {
       locals = s.value ∷ s.locals;
-      goes_on = s.goes_on;
+      extends = s.extends;
       one_each = ap suc s.one_each;
-      first = later-past ∙ s.first;
+      first = rest-past ∙ s.first;
     }
 
-    pub none_past : lists_past ds (take depth old) (def_bounds d (take depth old)) v ≡ [] → later_lists (d ∷ ds) (take depth old) (drop depth old) ≡ []
-    none_past h = later-past ∙ h
+    pub none_past : lists_over_rest ds (take depth old) (def_bounds d (take depth old)) v ≡ [] → lists_after (d ∷ ds) (take depth old) (drop depth old) ≡ []
+    none_past h = rest-past ∙ h

@@ -2,7 +2,7 @@
 use Rattle.std.specs.Prelude.{ℤ, pos, List, Option, Some, None, Result, Ok, Err, if◌then◌else◌}
 use Rattle.std.specs.Ordering.{int_eq}
 use Rattle.term_core.specs.Term.{Term}
-use Rattle.term_core.specs.Value.{value, after, faulting}
+use Rattle.term_core.specs.Value.{value, and_then, map_fault}
 use Rattle.term_core.specs.declared.space.Range.{Range}
 use Rattle.range_space.specs.declared.fault.SpanFault.{SpanFault}
 use Rattle.range_space.specs.declared.fault.SpanFault.TheVariants.{Expr, ZeroStep}
@@ -10,7 +10,7 @@ use Rattle.range_space.specs.Values.{values}
 
 -- the value of an expression, where each fault is one of a range
 abbrev pub number : Term → List ℤ → Result ℤ SpanFault
-number e env = faulting Expr (value e env)
+number e env = map_fault Expr (value e env)
 
 -- the step of a range is 1 where none is written; its value must not be 0
 abbrev pub nonzero : ℤ → Result ℤ SpanFault
@@ -18,7 +18,7 @@ nonzero z = if int_eq z (pos 0) then Err ZeroStep else Ok z
 
 abbrev pub step_number : Option Term → List ℤ → Result ℤ SpanFault
 step_number None env = Ok (pos 1)
-step_number (Some e) env = after (number e env) nonzero
+step_number (Some e) env = and_then (number e env) nonzero
 
 pub record Bounds : Type 0 where
   pub lo : ℤ
@@ -28,8 +28,8 @@ pub record Bounds : Type 0 where
 -- lo, hi and the step, evaluated in this order
 abbrev pub bounds : Range → List ℤ → Result Bounds SpanFault
 bounds r env =
-    after (number r.lo env) (λ lo. after (number r.hi env) (λ hi. after (step_number r.step env) (λ step. Ok (record { lo = lo; hi = hi; step = step }))))
+    and_then (number r.lo env) (λ lo. and_then (number r.hi env) (λ hi. and_then (step_number r.step env) (λ step. Ok (record { lo = lo; hi = hi; step = step }))))
 
 -- the values of a range
 abbrev pub range_values : Range → List ℤ → Result (List ℤ) SpanFault
-range_values r env = after (bounds r env) (λ b. Ok (values b.lo b.hi b.step))
+range_values r env = and_then (bounds r env) (λ b. Ok (values b.lo b.hi b.step))

@@ -1,8 +1,9 @@
 pub mod Values
 pub mod Fault
-pub mod Nested
-pub mod Later
-pub mod Coming
-pub mod Member
-pub mod Size
+pub mod Tasks
+pub mod Locals
+pub mod ListsAfter
+pub mod RemainingTasks
+pub mod Completion
 pub mod Sound
+pub mod Walk

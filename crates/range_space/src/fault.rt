@@ -1,3 +1,5 @@
+//! The faults of ranges and spaces.
+
 use crate::numbers::Numbers;
 use term_core::ExprFault;
 
@@ -10,7 +12,7 @@ pub enum SpanFault {
     ZeroStep,
 }
 
-/// Why the tasks of the classes are not counted to the end, and the number of the class.
+/// Why the tasks of the classes could not be counted, with the number of the class.
 #[derive(Debug, Drop)]
 pub enum SpaceFault {
     /// A definition has no value under these values of the definitions before it.

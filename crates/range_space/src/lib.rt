@@ -1,7 +1,8 @@
-//! The values of ranges, and the tasks of a class: who they are, in which order, and how many.
+//! The values of ranges, and the tasks of a class: which they are, their order, and how many there are.
 #![tactic(auto)]
 
 mod fault;
+mod laws;
 mod member;
 mod numbers;
 mod size;
@@ -14,6 +15,7 @@ mod walk;
 mod well;
 
 pub use fault::{SpaceFault, SpanFault};
+pub use laws::{a_task_has_one_list_of_locals, one_first_fault, tasks_are_distinct};
 pub use member::{in_space, locals_of};
 pub use numbers::Numbers;
 pub use size::space_size;

@@ -1,77 +1,80 @@
+//! Whether a class has a task, and its locals.
+
 ghost use Rattle.std.specs.Prelude.{◌≡◌, ◌+◌, ◌≤◌, ◌↔◌, [], ◌∷◌, Some, Ok, length, IsTrue};
 ghost use Rattle.std.specs.Bool.{OnTrue, OnFalse};
 ghost use Rattle.ptg_base.specs.Lists.{IsIn};
 ghost use Rattle.term_core.specs.WellSpace.{IsWellSpace, spans_are_params};
-ghost use Rattle.range_space.specs.Nested.{params_of, tasks, all_locals, def_values, or_none};
-ghost use Rattle.range_space.specs.Member.{wanted, IsOnly, IsAskedIfRanged, SuitsWhole, NoneSuits};
+ghost use Rattle.range_space.specs.Tasks.{tasks, def_values, or_empty};
+ghost use Rattle.range_space.specs.Locals.{IsLocalsOf};
+ghost use Rattle.range_space.specs.Completion.{param_value, IsOnlyAgreeing, IsGivenIfRanged, IsCompletion, HasNoCompletion};
 ghost use Rattle.range_space.specs.Fault.{number, range_values};
-ghost use Rattle.term_core.specs.Value.{after};
+ghost use Rattle.term_core.specs.Value.{and_then};
 
 use crate::numbers::Numbers;
 use crate::steps::{number, steps_of};
 use term_core::{ClassSpace, Def, Expr, Range};
 
-/// The value that the parameters ask of the definition of this number, if it is one of theirs.
-fn wanted(params: &[u8], values: &[i64], definition: usize) -> Option<i64>
-    ensures { result ≡ wanted params.now values.now definition }
+// The value given to the definition with this number, if it is that of a parameter.
+fn param_value(params: &[u8], values: &[i64], definition: usize) -> Option<i64>
+    ensures { result ≡ param_value params.now values.now definition }
 {
     let (first, others) = params.split_first()?;
     let (value, more) = values.split_first()?;
     if usize::from(*first) == definition {
         Some(*value)
     } else {
-        wanted(others, more, definition)
+        param_value(others, more, definition)
     }
 }
 
-/// The value asked for, where the range has it.
-fn ranged(range: &Range, asked: i64, env: &[i64]) -> Option<i64>
-    ensures { IsOnly (or_none (range_values range.now env.now)) (Some asked) result }
+// The given value, where the range has it.
+fn ranged(range: &Range, given: i64, env: &[i64]) -> Option<i64>
+    ensures { IsOnlyAgreeing (or_empty (range_values range.now env.now)) (Some given) result }
 {
     let Ok(steps) = steps_of(range, env) else {
         return None;
     };
-    if steps.has(asked) { Some(asked) } else { None }
+    if steps.has(given) { Some(given) } else { None }
 }
 
-/// The value of the expression, where it is what is asked for, if anything is.
-fn derived(e: &Expr, asked: Option<i64>, env: &[i64]) -> Option<i64>
-    ensures { IsOnly (or_none (after (number e.now env.now) (λ z. Ok (z ∷ [])))) asked result }
+// The value of the expression, where it is the given one or none is given.
+fn derived(e: &Expr, given: Option<i64>, env: &[i64]) -> Option<i64>
+    ensures { IsOnlyAgreeing (or_empty (and_then (number e.now env.now) (λ z. Ok (z ∷ [])))) given result }
 {
     let Ok(z) = number(e, env) else {
         return None;
     };
-    match asked {
+    match given {
         Some(w) => { if w == z { Some(z) } else { None } }
         None => Some(z),
     }
 }
 
-/// The value of a definition that is asked for, if it has it.
-fn local_of(def: &Def, asked: Option<i64>, env: &[i64]) -> Option<i64>
-    requires { IsAskedIfRanged def.now asked }
-    ensures { IsOnly (or_none (def_values def.now env.now)) asked result }
+// The only value of a definition that agrees with what is given, if there is one.
+fn local_of(def: &Def, given: Option<i64>, env: &[i64]) -> Option<i64>
+    requires { IsGivenIfRanged def.now given }
+    ensures { IsOnlyAgreeing (or_empty (def_values def.now env.now)) given result }
 {
     match def {
-        Def::Span(range) => ranged(range, asked?, env),
-        Def::Value(e) => derived(e, asked, env),
+        Def::Span(range) => ranged(range, given?, env),
+        Def::Value(e) => derived(e, given, env),
     }
 }
 
-/// Goes on from these locals to a full list that has the values of the parameters, if there is one.
+// Extends these locals to a full list in which the parameters have these values, if there is one.
 fn complete(defs: &[Def], params: &[u8], values: &[i64], locals: &mut Numbers<16>) -> bool
-    requires few { length locals.old + length defs.now ≤ 16 }
+    requires defs_at_most { length locals.old + length defs.now ≤ 16 }
     requires arity { length params.now ≡ length values.now }
     requires spans { IsTrue (spans_are_params (length locals.old) defs.now params.now) }
-    ensures found { OnTrue result (SuitsWhole defs.now params.now values.now (length locals.old) locals.old locals.new) }
-    ensures none { OnFalse result (NoneSuits defs.now params.now values.now (length locals.old) locals.old) }
+    ensures found { OnTrue result (IsCompletion defs.now params.now values.now (length locals.old) locals.old locals.new) }
+    ensures none { OnFalse result (HasNoCompletion defs.now params.now values.now (length locals.old) locals.old) }
 {
     let Some((def, inner)) = defs.split_first() else {
         return true;
     };
     let env = locals.as_slice();
-    let asked = wanted(params, values, env.len());
-    match local_of(def, asked, env) {
+    let given = param_value(params, values, env.len());
+    match local_of(def, given, env) {
         Some(v) => {
             locals.push(v);
             complete(inner, params, values, locals)
@@ -80,7 +83,7 @@ fn complete(defs: &[Def], params: &[u8], values: &[i64], locals: &mut Numbers<16
     }
 }
 
-/// Whether the class has a task with these parameters. No more than the definitions is gone through.
+/// Whether the class has a task with these parameters. Takes one pass over the definitions.
 pub fn in_space(space: &ClassSpace, params: &[i64]) -> bool
     requires well { IsWellSpace space.now }
     requires arity { length params.now ≡ length space.now.params }
@@ -99,8 +102,7 @@ pub fn in_space(space: &ClassSpace, params: &[i64]) -> bool
 pub fn locals_of(space: &ClassSpace, params: &[i64]) -> Numbers<16>
     requires well { IsWellSpace space.now }
     requires task { IsIn params.now (tasks space.now) }
-    ensures full { IsIn result (all_locals space.now) }
-    ensures same { params_of space.now.params result ≡ params.now }
+    ensures { IsLocalsOf space.now params.now result }
 {
     let mut locals = Numbers::new();
     let _ = complete(

@@ -1,32 +1,31 @@
+//! Short lists of numbers.
+
 ghost use Rattle.std.specs.Prelude.{◌≡◌, ◌<◌, ◌≤◌, [], ◌∷◌, ◌++◌, length, MatchOption};
 
+use arrayvec::ArrayVec;
 use std::marker::Model;
 
-/// At most `N` numbers, seen as their list. It takes no memory.
+/// At most `N` numbers. Contracts see it as their list; it takes no memory.
 #[derive(Debug, Drop)]
 pub struct Numbers<const N: usize> {
-    values: [i64; N],
-    count: usize,
+    values: ArrayVec<i64, N>,
 }
 
 impl<const N: usize> Model for Numbers<N> {
-    ghost use Rattle.std.specs.Prelude.{List, ℤ, ◌≤◌, take};
+    ghost use Rattle.std.specs.Prelude.{List, ℤ};
 
     ghost Value = { List ℤ };
 
-    ghost view = { λ n. take n.count n.values };
-
-    ghost invariant = { λ n. n.count ≤ N };
+    ghost view = { λ n. n.values.items };
 }
 
 impl<const N: usize> Numbers<N> {
-    /// No number.
+    /// The empty list.
     pub fn new() -> Numbers<N>
         ensures { result ≡ [] }
     {
         Numbers {
-            values: [0; N],
-            count: 0,
+            values: ArrayVec::new(),
         }
     }
 
@@ -34,7 +33,7 @@ impl<const N: usize> Numbers<N> {
         ensures within { length result.now ≤ N }
         ensures same { result.now ≡ self.now }
     {
-        &self.values[..self.count]
+        self.values.as_slice()
     }
 
     /// Adds a number at the end.
@@ -42,28 +41,22 @@ impl<const N: usize> Numbers<N> {
         requires { length self.old < N }
         ensures { self.new ≡ self.old ++ value ∷ [] }
     {
-        self.values[self.count] = value;
-        self.count += 1;
+        self.values.push(value);
     }
 
     /// Takes the last number away.
     pub fn pop(&mut self) -> Option<i64>
         ensures { MatchOption result ((self.old ≡ []) × (self.new ≡ [])) (λ v. self.old ≡ self.new ++ v ∷ []) }
     {
-        if self.count == 0 {
-            return None;
-        }
-        self.count -= 1;
-        Some(self.values[self.count])
+        self.values.pop()
     }
 
-    /// A second list of the same numbers.
+    /// A copy of the list.
     pub fn copy(&self) -> Numbers<N>
         ensures { result ≡ self.now }
     {
-        Numbers {
-            values: self.values,
-            count: self.count,
-        }
+        let mut values = ArrayVec::new();
+        let _fits = values.try_extend_from_slice(self.as_slice());
+        Numbers { values }
     }
 }

@@ -1,7 +1,10 @@
+//! The number of tasks of all classes.
+
 ghost use Rattle.std.specs.Prelude.{◌≡◌, ◌+◌, ◌<◌, ◌≤◌, [], ◌∷◌, ◌++◌, length, All, OnOk, IfOk, IfErr, IsOk};
+ghost use Rattle.std.specs.List.{AllByRecursion};
 ghost use Rattle.range_space.specs.Values.{values};
-ghost use Rattle.range_space.specs.Sound.{prefix_total, EachOf, IsSound};
-ghost use Rattle.range_space.specs.Size.{Prefix, Task, walk, walk_among, walk_all, IsFine, IsFirstFault, Walked, task_total};
+ghost use Rattle.range_space.specs.Sound.{prefix_total, IsSound};
+ghost use Rattle.range_space.specs.Walk.{Prefix, Task, walk, walk_among, walk_all, IsUnstopped, IsFirstFault, IsWalked, task_total};
 
 use crate::fault::SpaceFault;
 use crate::numbers::Numbers;
@@ -9,23 +12,24 @@ use crate::steps::Steps;
 use crate::walk::def_steps;
 use term_core::{ClassSpace, Def};
 
-/// The most tasks that all classes may have together.
+// The most tasks that all classes may have together.
 const MOST_TASKS: u64 = 1_000_000;
 
-/// The most prefixes that all classes may have together.
+// The most prefixes that all classes may have together.
 const MOST_PREFIXES: u64 = 16_000_000;
 
-/// How many tasks and prefixes a walk has met.
+// How many tasks and prefixes a walk has visited.
 #[derive(Debug, Drop)]
 struct Counts {
     tasks: u64,
     prefixes: u64,
-    ghost few_tasks: { tasks ≤ 1000000 },
-    ghost few_prefixes: { prefixes ≤ 16000000 },
+    ghost tasks_at_most: { tasks ≤ 1000000 },
+    ghost prefixes_at_most: { prefixes ≤ 16000000 },
 }
 
+// Counts a task of this class, or refuses the first one too many.
 fn count_task(class: u32, counts: &mut Counts) -> Result<(), SpaceFault>
-    ensures ok { OnOk result (Walked counts.old.tasks counts.old.prefixes counts.new.tasks counts.new.prefixes (Task class ∷ [])) }
+    ensures ok { OnOk result (IsWalked counts.old.tasks counts.old.prefixes counts.new.tasks counts.new.prefixes (Task class ∷ [])) }
     ensures fault { IfErr result (IsFirstFault counts.old.tasks counts.old.prefixes (Task class ∷ [])) }
 {
     if counts.tasks == MOST_TASKS {
@@ -35,8 +39,9 @@ fn count_task(class: u32, counts: &mut Counts) -> Result<(), SpaceFault>
     Ok(())
 }
 
+// Counts a prefix of this class, or refuses the first one too many.
 fn count_prefix(class: u32, counts: &mut Counts) -> Result<(), SpaceFault>
-    ensures ok { OnOk result (Walked counts.old.tasks counts.old.prefixes counts.new.tasks counts.new.prefixes (Prefix class ∷ [])) }
+    ensures ok { OnOk result (IsWalked counts.old.tasks counts.old.prefixes counts.new.tasks counts.new.prefixes (Prefix class ∷ [])) }
     ensures fault { IfErr result (IsFirstFault counts.old.tasks counts.old.prefixes (Prefix class ∷ [])) }
 {
     if counts.prefixes == MOST_PREFIXES {
@@ -46,76 +51,76 @@ fn count_prefix(class: u32, counts: &mut Counts) -> Result<(), SpaceFault>
     Ok(())
 }
 
-/// Counts what the walk meets that goes on from these values.
+// Counts what the walk visits from these outer values on.
 #[cycle(counting)]
 fn count_from(
     class: u32,
     defs: &[Def],
-    begun: &mut Numbers<16>,
+    outer: &mut Numbers<16>,
     counts: &mut Counts,
 ) -> Result<(), SpaceFault>
-    requires { length begun.old + length defs.now ≤ 16 }
-    ensures ok { OnOk result (Walked counts.old.tasks counts.old.prefixes counts.new.tasks counts.new.prefixes (walk class defs.now begun.old)) }
-    ensures fault { IfErr result (IsFirstFault counts.old.tasks counts.old.prefixes (walk class defs.now begun.old)) }
-    ensures same { OnOk result (begun.new ≡ begun.old) }
+    requires { length outer.old + length defs.now ≤ 16 }
+    ensures ok { OnOk result (IsWalked counts.old.tasks counts.old.prefixes counts.new.tasks counts.new.prefixes (walk class defs.now outer.old)) }
+    ensures fault { IfErr result (IsFirstFault counts.old.tasks counts.old.prefixes (walk class defs.now outer.old)) }
+    ensures same { OnOk result (outer.new ≡ outer.old) }
 {
     let Some((def, inner)) = defs.split_first() else {
         return count_task(class, counts);
     };
-    match def_steps(def, begun.as_slice()) {
-        Ok(steps) => count_among(class, &steps, inner, begun, counts),
-        Err(_) => Err(SpaceFault::BadExpr(class, begun.copy())),
+    match def_steps(def, outer.as_slice()) {
+        Ok(steps) => count_among(class, &steps, inner, outer, counts),
+        Err(_) => Err(SpaceFault::BadExpr(class, outer.copy())),
     }
 }
 
-/// Counts what the walk meets that goes on from these values by each of the steps.
+// Counts what the walk visits from these outer values on, by each value of the next definition.
 #[cycle(counting)]
 fn count_among(
     class: u32,
     steps: &Steps,
     inner: &[Def],
-    begun: &mut Numbers<16>,
+    outer: &mut Numbers<16>,
     counts: &mut Counts,
 ) -> Result<(), SpaceFault>
-    requires { length begun.old + length inner.now < 16 }
-    ensures ok { OnOk result (Walked counts.old.tasks counts.old.prefixes counts.new.tasks counts.new.prefixes (walk_among class inner.now begun.old (values steps.now.lo steps.now.hi steps.now.step))) }
-    ensures fault { IfErr result (IsFirstFault counts.old.tasks counts.old.prefixes (walk_among class inner.now begun.old (values steps.now.lo steps.now.hi steps.now.step))) }
-    ensures same { OnOk result (begun.new ≡ begun.old) }
+    requires { length outer.old + length inner.now < 16 }
+    ensures ok { OnOk result (IsWalked counts.old.tasks counts.old.prefixes counts.new.tasks counts.new.prefixes (walk_among class inner.now outer.old (values steps.now.lo steps.now.hi steps.now.step))) }
+    ensures fault { IfErr result (IsFirstFault counts.old.tasks counts.old.prefixes (walk_among class inner.now outer.old (values steps.now.lo steps.now.hi steps.now.step))) }
+    ensures same { OnOk result (outer.new ≡ outer.old) }
 {
     for v in steps.values() {
         count_prefix(class, counts)?;
-        begun.push(v);
-        count_from(class, inner, begun, counts)?;
-        let _ = begun.pop();
+        outer.push(v);
+        count_from(class, inner, outer, counts)?;
+        let _ = outer.pop();
     }
     Ok(())
 }
 
-/// Counts what the walk through these classes meets, which are numbered from `class` on.
+// Counts what the walk through these classes visits; they are numbered from `class` on.
 fn count_all(class: u32, spaces: &[ClassSpace], counts: &mut Counts) -> Result<(), SpaceFault>
     requires classes { class + length spaces.now ≤ 64 }
-    requires few { All (λ s. length s.defs ≤ 16) spaces.now }
-    ensures ok { OnOk result (Walked counts.old.tasks counts.old.prefixes counts.new.tasks counts.new.prefixes (walk_all class spaces.now)) }
+    requires defs_at_most { All (λ s. length s.defs ≤ 16) spaces.now }
+    ensures ok { OnOk result (IsWalked counts.old.tasks counts.old.prefixes counts.new.tasks counts.new.prefixes (walk_all class spaces.now)) }
     ensures fault { IfErr result (IsFirstFault counts.old.tasks counts.old.prefixes (walk_all class spaces.now)) }
 {
     let Some((space, others)) = spaces.split_first() else {
         return Ok(());
     };
-    let mut begun = Numbers::new();
-    count_from(class, space.defs.as_slice(), &mut begun, counts)?;
+    let mut outer = Numbers::new();
+    count_from(class, space.defs.as_slice(), &mut outer, counts)?;
     count_all(class + 1, others, counts)
 }
 
-/// How many tasks the classes have, or the first fault in walk order. The walk goes through every prefix.
+/// How many tasks the classes have, or the first fault in walk order. Visits every prefix.
 pub fn space_size(spaces: &[ClassSpace]) -> Result<u64, SpaceFault>
     requires classes { length spaces.now ≤ 64 }
-    requires few { All (λ s. length s.defs ≤ 16) spaces.now }
-    ensures fine { IfOk result (λ _. IsFine 0 0 (walk_all 0 spaces.now)) }
+    requires defs_at_most { All (λ s. length s.defs ≤ 16) spaces.now }
+    ensures unstopped { IfOk result (λ _. IsUnstopped 0 0 (walk_all 0 spaces.now)) }
     ensures tasks { IfOk result (λ n. (n ≡ task_total spaces.now) × (n ≤ 1000000)) }
     ensures prefixes { IfOk result (λ _. prefix_total spaces.now ≤ 16000000) }
-    ensures sound { IfOk result (λ _. EachOf IsSound spaces.now) }
+    ensures sound { IfOk result (λ _. AllByRecursion IsSound spaces.now) }
     ensures fault { IfErr result (IsFirstFault 0 0 (walk_all 0 spaces.now)) }
-    ensures no_fault { EachOf IsSound spaces.now → task_total spaces.now ≤ 1000000 → prefix_total spaces.now ≤ 16000000 → IsOk result }
+    ensures no_fault { AllByRecursion IsSound spaces.now → task_total spaces.now ≤ 1000000 → prefix_total spaces.now ≤ 16000000 → IsOk result }
 {
     let mut counts = Counts {
         tasks: 0,

@@ -1,3 +1,5 @@
+//! Ranges as progressions, and their members by arithmetic.
+
 ghost use Rattle.std.specs.Prelude.{◌≡◌, ◌≢◌, ◌↔◌, ℤ, pos, ◌%◌, length, IsTrue, IfOk, IfErr, Ok, Err, unsigned_abs, ◌-ℤ◌};
 ghost use Rattle.ptg_base.specs.Lists.{IsIn};
 ghost use Rattle.range_space.specs.Values.{is_within, values};
@@ -7,16 +9,16 @@ use crate::fault::SpanFault;
 use crate::values::Values;
 use term_core::{Expr, Range, eval};
 
-/// The numbers `lo`, `lo + step` and so on while they are not past `hi`.
+/// The numbers `lo`, `lo + step` and so on while they are within `hi`.
 #[derive(Clone, Copy, Debug)]
 pub struct Steps {
     pub lo: i64,
     pub hi: i64,
     pub step: i64,
-    ghost moves: { step ≢ pos 0 },
+    ghost step_nonzero: { step ≢ pos 0 },
 }
 
-/// Whether a value is not past `hi` on a way of this step.
+// Whether a value is still within `hi` in the direction of the step.
 pub(crate) fn within(hi: i64, step: i64, v: i64) -> bool
     ensures { result ≡ is_within hi step v }
 {
@@ -27,6 +29,7 @@ pub(crate) fn within(hi: i64, step: i64, v: i64) -> bool
     }
 }
 
+// The value of an expression, or its fault as one of a range.
 pub(crate) fn number(e: &Expr, env: &[i64]) -> Result<i64, SpanFault>
     ensures { result ≡ number e.now env.now }
 {
@@ -36,6 +39,7 @@ pub(crate) fn number(e: &Expr, env: &[i64]) -> Result<i64, SpanFault>
     }
 }
 
+// The step of a range: 1 where none is written, and never 0.
 fn step_number(step: &Option<Expr>, env: &[i64]) -> Result<i64, SpanFault>
     ensures { result ≡ step_number step.now env.now }
 {
@@ -52,7 +56,7 @@ fn step_number(step: &Option<Expr>, env: &[i64]) -> Result<i64, SpanFault>
     }
 }
 
-/// The steps of a range under the values of the definitions before it, or its first fault.
+/// The progression of a range, under the values of the definitions before it, or its first fault.
 pub fn steps_of(range: &Range, env: &[i64]) -> Result<Steps, SpanFault>
     ensures steps { IfOk result (λ s. bounds range.now env.now ≡ Ok (record { lo = s.lo; hi = s.hi; step = s.step })) }
     ensures fault { IfErr result (λ e. bounds range.now env.now ≡ Err e) }

@@ -1,13 +1,15 @@
+//! The tasks of a class, one after another.
+
 ghost use Rattle.std.specs.Prelude.{◌≡◌, ◌≤◌, length};
 ghost use Rattle.std.specs.Iterator.{YieldsFirst, item_count};
-ghost use Rattle.range_space.specs.Nested.{params_of, tasks};
+ghost use Rattle.range_space.specs.Tasks.{params_of, tasks};
 
 use crate::numbers::Numbers;
 use crate::walk::{advance, first};
 use std::marker::Model;
 use term_core::{ClassSpace, local};
 
-/// A walk through the tasks of a class, seen as the list of those that are still to come, each by its parameters.
+/// An iterator over the tasks of a class, each by its parameters, in walk order. Contracts see it as the list of those not yet given.
 /// Where a definition has no value there is no task.
 #[derive(Debug, Drop)]
 pub struct Space<'a> {
@@ -18,16 +20,16 @@ pub struct Space<'a> {
 
 impl<'a> Model for Space<'a> {
     ghost use Rattle.std.specs.Prelude.{◌≡◌, ◌≤◌, true, List, ℤ, length};
-    ghost use Rattle.range_space.specs.Coming.{to_come};
+    ghost use Rattle.range_space.specs.RemainingTasks.{remaining_tasks};
 
     ghost Value = { List (List ℤ) };
 
-    ghost view = { λ s. to_come s.live s.space.now s.locals };
+    ghost view = { λ s. remaining_tasks s.live s.space.now s.locals };
 
     ghost invariant = { λ s. (length s.space.now.defs ≤ 16) × (s.live ≡ true → length s.locals ≡ length s.space.now.defs) };
 }
 
-/// The values of the parameters among these locals.
+// The values of the parameters among these locals.
 pub(crate) fn params_at(space: &ClassSpace, locals: &[i64]) -> Numbers<8>
     ensures { result ≡ params_of space.now.params locals.now }
 {
@@ -39,7 +41,7 @@ pub(crate) fn params_at(space: &ClassSpace, locals: &[i64]) -> Numbers<8>
 }
 
 impl<'a> Space<'a> {
-    /// The tasks of a class from the first on.
+    /// All tasks of a class.
     pub fn new(space: &'a ClassSpace) -> Space<'a>
         requires { length space.now.defs ≤ 16 }
         ensures { result ≡ tasks space.now }
@@ -57,9 +59,9 @@ impl<'a> Space<'a> {
 impl Iterator for Space<'_> {
     type Item = Numbers<8>;
 
-    ghost next_gives = { YieldsFirst (λ left. left) };
+    ghost next_gives = { YieldsFirst (λ rest. rest) };
 
-    ghost remaining = { item_count (λ left. left) };
+    ghost remaining = { item_count (λ rest. rest) };
 
     /// The parameters of the next task in walk order, and then None.
     fn next(&mut self) -> Option<Numbers<8>> {

@@ -1,3 +1,5 @@
+//! The values of a range, one after another.
+
 ghost use Rattle.std.specs.Prelude.{◌≡◌};
 ghost use Rattle.std.specs.Iterator.{YieldsFirst, item_count};
 ghost use Rattle.range_space.specs.Values.{values};
@@ -5,7 +7,7 @@ ghost use Rattle.range_space.specs.Values.{values};
 use crate::steps::within;
 use std::marker::Model;
 
-/// The values of a range that are still to come.
+/// An iterator over the values of a range. Contracts see it as the list of those not yet given.
 #[derive(Debug, Drop)]
 pub struct Values {
     at: Option<i64>,
@@ -37,9 +39,9 @@ impl Values {
 impl Iterator for Values {
     type Item = i64;
 
-    ghost next_gives = { YieldsFirst (λ left. left) };
+    ghost next_gives = { YieldsFirst (λ rest. rest) };
 
-    ghost remaining = { item_count (λ left. left) };
+    ghost remaining = { item_count (λ rest. rest) };
 
     fn next(&mut self) -> Option<i64> {
         let v = self.at?;

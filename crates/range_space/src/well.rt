@@ -1,3 +1,5 @@
+//! The test whether a space is well made.
+
 ghost use Rattle.std.specs.Prelude.{◌≡◌, ◌+◌, ◌<◌, ◌≤◌, ◌↔◌, ◌==◌, ◌&&◌, nat_lt, length, IsTrue};
 ghost use Rattle.std.specs.List.{list_all, list_any};
 ghost use Rattle.term_core.specs.NodeTerm.{term_of};
@@ -6,7 +8,7 @@ ghost use Rattle.term_core.specs.WellSpace.{is_closed_step, is_closed_def, are_c
 
 use term_core::{ClassSpace, Def, Expr, Node, Range};
 
-/// Whether an expression names only the first so many definitions, and no element of a tile.
+// Whether an expression names only so many definitions, the first ones, and no element of a tile.
 fn closed(before: usize, node: &Node) -> bool
     ensures { result ≡ is_closed before (term_of node.now) }
 {
@@ -46,7 +48,7 @@ fn closed_def(before: usize, def: &Def) -> bool
     }
 }
 
-/// Whether each definition names only those before it, where so many stand before the first.
+// Whether each definition names only those before it; so many come before the first of the list.
 fn all_closed(before: usize, defs: &[Def]) -> bool
     requires { before + length defs.now ≤ 16 }
     ensures { result ≡ are_closed before defs.now }
@@ -57,7 +59,7 @@ fn all_closed(before: usize, defs: &[Def]) -> bool
     }
 }
 
-/// Whether the number is one of the list.
+// Whether the number is one of the list.
 fn among(number: usize, params: &[u8]) -> bool
     ensures { result ≡ is_among number params.now }
 {
@@ -67,7 +69,7 @@ fn among(number: usize, params: &[u8]) -> bool
     }
 }
 
-/// Whether each number is below the limit.
+// Whether each number is below the limit.
 fn all_below(limit: usize, params: &[u8]) -> bool
     ensures { result ≡ list_all (λ p. nat_lt p limit) params.now }
 {
@@ -77,7 +79,7 @@ fn all_below(limit: usize, params: &[u8]) -> bool
     }
 }
 
-/// Whether no number stands twice.
+// Whether no number occurs twice.
 fn all_different(params: &[u8]) -> bool
     ensures { result ≡ are_different params.now }
 {
@@ -87,7 +89,7 @@ fn all_different(params: &[u8]) -> bool
     }
 }
 
-/// Whether each range is the definition of a parameter, where so many definitions stand before the first.
+// Whether each range defines a parameter; so many definitions come before the first of the list.
 fn all_spans_named(before: usize, defs: &[Def], params: &[u8]) -> bool
     requires { before + length defs.now ≤ 16 }
     ensures { result ≡ spans_are_params before defs.now params.now }
@@ -101,7 +103,7 @@ fn all_spans_named(before: usize, defs: &[Def], params: &[u8]) -> bool
     }
 }
 
-/// Whether a space is well made: the test of what the calls on spaces ask for.
+/// Whether a space is well made, which the calls on spaces require.
 pub fn is_well_space(space: &ClassSpace) -> bool
     ensures { IsTrue result ↔ IsWellSpace space.now }
 {

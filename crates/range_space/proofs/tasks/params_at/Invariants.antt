@@ -1,5 +1,5 @@
 use Rattle.std.proofs.Common.{◌≡◌, take}
-use Rattle.range_space.specs.Nested.{params_of}
+use Rattle.range_space.specs.Tasks.{params_of}
 use Rattle.range_space.proofs.tasks.params_at.Given as goal
 
 abbrev pub invariant-loop-definition : goal.invariant-loop-definition

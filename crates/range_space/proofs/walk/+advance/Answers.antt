@@ -19,7 +19,7 @@ kept t c =
     let depth = c.args.depth in
     let l = ap length c.in-Some.ensures.cases.0 in
     let k = cut old depth (omega arith) in
-    unsnoc (take depth old) c.pop.new.self (get_or old depth (pos 0)) c.in-Some-pop.v (sym k.before ∙ sym c.if-advance.ensures.begun ∙ c.in-Some-pop.ensures)
+    unsnoc (take depth old) c.pop.new.self (get_or old depth (pos 0)) c.in-Some-pop.v (sym k.before ∙ sym c.if-advance.ensures.truncated ∙ c.in-Some-pop.ensures)
 
 pub returns-in-Some-pop-clause-found : goal.returns-in-Some-pop-clause-found
 returns-in-Some-pop-clause-found t c =
@@ -45,7 +45,7 @@ returns-in-Some-pop-clause-none t c =
     let f = rw (u.0, u.1) at (simp to_z-of_z at c.first_past.ensures.none) in
     rw e.0 (on_false c.first_past.result (none_past c.in-Some.def.now c.in-Some.inner.now old depth _ k c.if-advance.ensures.none) f)
 
-pub returns-in-Some-pop-clause-begun : goal.returns-in-Some-pop-clause-begun
-returns-in-Some-pop-clause-begun t c =
+pub returns-in-Some-pop-clause-truncated : goal.returns-in-Some-pop-clause-truncated
+returns-in-Some-pop-clause-truncated t c =
     let u = kept t c in
     on_false c.first_past.result (λ e. e ∙ u.0) c.first_past.ensures.same

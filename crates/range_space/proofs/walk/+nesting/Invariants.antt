@@ -1,6 +1,6 @@
 use Rattle.std.proofs.Common.{◌≡◌, ◌+◌, ◌*◌, ℤ, length}
 use Rattle.range_space.specs.Values.{values}
-use Rattle.range_space.specs.Later.{lists_among}
+use Rattle.range_space.specs.ListsAfter.{lists_over}
 use Rattle.range_space.proofs.walk.+nesting.Given as goal
 
 abbrev pub decreases-first : goal.decreases-first
@@ -16,5 +16,5 @@ invariant-first_among-loop-v l = record {
   is_finite : (goal.iterator-first_among-loop-v).is_finite l.v-iterator;
   same_locals : l.locals ≡ l.initial.locals;
   in_steps : (at : ℤ) × (l.v-iterator ≡ values at l.steps.hi l.steps.step);
-  none_behind : lists_among l.inner l.initial.locals (values l.steps.lo l.steps.hi l.steps.step) ≡ lists_among l.inner l.initial.locals l.v-iterator;
+  none_behind : lists_over l.inner l.initial.locals (values l.steps.lo l.steps.hi l.steps.step) ≡ lists_over l.inner l.initial.locals l.v-iterator;
 }

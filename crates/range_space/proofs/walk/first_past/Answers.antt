@@ -1,6 +1,6 @@
 use Rattle.std.proofs.Common.{rules, ap, ◌∙◌, FitsSigned, w64}
 use Rattle.std.proofs.lemmas.Int.{to_z-of_z}
-use Rattle.range_space.specs.Later.{lists_among, lists_past}
+use Rattle.range_space.specs.ListsAfter.{lists_over, lists_over_rest}
 use Rattle.range_space.proofs.Stepping.{values_unfit}
 use Rattle.range_space.proofs.walk.first_past.Goals as goal
 
@@ -12,4 +12,4 @@ returns-in-None-clause-none c =
     let k : FitsSigned w64 s.step = search rules in
     let n = simp to_z-of_z at c.in-None.ensures in
     let b = rw c.as_slice.ensures.same at c.in-Ok.ensures.steps in
-    ap (λ r. lists_past c.args.inner.now c.args.locals.now r c.args.v) b ∙ ap (lists_among c.args.inner.now c.args.locals.now) (values_unfit c.args.v s.hi s.step f g n)
+    ap (λ r. lists_over_rest c.args.inner.now c.args.locals.now r c.args.v) b ∙ ap (lists_over c.args.inner.now c.args.locals.now) (values_unfit c.args.v s.hi s.step f g n)

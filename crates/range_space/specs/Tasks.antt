@@ -1,7 +1,7 @@
 -- The iteration space of a class, built by nesting one definition in the one before it. Source: DAGuE (Parallel Computing, 2012) and the JDF documentation.
 use Rattle.std.specs.Prelude.{ℕ, ℤ, pos, List, [], ◌∷◌, ◌++◌, map, Result, Ok, Err, slice_index_or}
 use Rattle.std.specs.List.{flat_map}
-use Rattle.term_core.specs.Value.{after}
+use Rattle.term_core.specs.Value.{and_then}
 use Rattle.term_core.specs.declared.space.Def.{Def}
 use Rattle.term_core.specs.declared.space.Def.TheVariants.{Span, Value}
 use Rattle.term_core.specs.declared.space.ClassSpace.{ClassSpace}
@@ -11,17 +11,17 @@ use Rattle.range_space.specs.Fault.{number, range_values}
 -- the values of a definition under those of the definitions before it: all of its range, or the one of its expression
 abbrev pub def_values : Def → List ℤ → Result (List ℤ) SpanFault
 def_values (Span r) env = range_values r env
-def_values (Value e) env = after (number e env) (λ z. Ok (z ∷ []))
+def_values (Value e) env = and_then (number e env) (λ z. Ok (z ∷ []))
 
--- a definition that has no value gives no task
-abbrev pub or_none : Result (List ℤ) SpanFault → List ℤ
-or_none (Ok vs) = vs
-or_none (Err e) = []
+-- no values where a definition has a fault, so that it gives no task
+abbrev pub or_empty : Result (List ℤ) SpanFault → List ℤ
+or_empty (Ok vs) = vs
+or_empty (Err e) = []
 
--- the full lists of locals that begin with these values: each value of the next definition, and nested in it all that follows it
+-- the full lists of locals that extend these outer values: for each value of the next definition, all that is nested in it
 abbrev pub full_lists : List Def → List ℤ → List (List ℤ)
-full_lists [] begun = begun ∷ []
-full_lists (d ∷ ds) begun = flat_map (λ v. full_lists ds (begun ++ v ∷ [])) (or_none (def_values d begun))
+full_lists [] outer = outer ∷ []
+full_lists (d ∷ ds) outer = flat_map (λ v. full_lists ds (outer ++ v ∷ [])) (or_empty (def_values d outer))
 
 -- the values of the parameters, in the order of their list
 abbrev pub params_of : List ℕ → List ℤ → List ℤ

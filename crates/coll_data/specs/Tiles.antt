@@ -1,0 +1,36 @@
+-- Places and the tiles at them: rows and columns count from 0, and tiles are listed row by row. Source: this project's own choice.
+use Rattle.std.specs.Prelude.{ℕ, ℤ, pos, negsuc, ◌+◌, ◌*◌, nat_lt, ◌≤ℤ◌, ◌<ℤ◌, ◌≡◌, List, Option, Some, None, IsSomeAnd, slice_get, option_map, option_and_then, if◌then◌else◌}
+use Rattle.ptg_base.specs.declared.place.Place.{Place}
+use Rattle.coll_data.specs.declared.coll.Coll.{Coll}
+
+-- how many tiles a collection has, by its rows and columns
+abbrev pub tile_count : ℕ → Option ℕ → ℕ
+tile_count rows None = rows
+tile_count rows (Some cols) = rows * cols
+
+-- i is one of so many rows
+abbrev pub IsRow : ℕ → ℤ → Type 0
+IsRow rows i = (pos 0 ≤ℤ i) × (i <ℤ pos rows)
+
+-- j is one of the columns; it is 0 in a collection of one dimension
+abbrev pub IsColumn : Option ℕ → ℤ → Type 0
+IsColumn None j = j ≡ pos 0
+IsColumn (Some cols) j = (pos 0 ≤ℤ j) × (j <ℤ pos cols)
+
+-- the place's collection exists, and has its row and column
+abbrev pub HasPlace : List Coll → Place → Type 0
+HasPlace colls p = IsSomeAnd (slice_get colls p.coll) (λ (c : Coll). IsRow c.shape.0 p.i × IsColumn c.shape.1 p.j)
+
+-- a whole number from 0 on, if it is below the limit
+abbrev pub below : ℕ → ℤ → Option ℕ
+below limit (pos n) = if nat_lt n limit then Some n else None
+below limit (negsuc n) = None
+
+-- the index of the tile in row i and column j: all tiles of the rows before it come first, and those before it in its row
+abbrev pub tile_index : ℕ → Option ℕ → ℤ → ℤ → Option ℕ
+tile_index rows None i j = option_and_then (λ column. below rows i) (below 1 j)
+tile_index rows (Some cols) i j = option_and_then (λ column. option_map (λ row. row * cols + column) (below rows i)) (below cols j)
+
+-- the tile at a place, if there is one
+abbrev pub tile_at : List Coll → Place → Option (List ℤ)
+tile_at colls p = option_and_then (λ (c : Coll). option_and_then (slice_get c.tiles) (tile_index c.shape.0 c.shape.1 p.i p.j)) (slice_get colls p.coll)

@@ -1,0 +1,37 @@
+-- What holds of all data: their limits, and that each collection is whole. Source: this project's own choice.
+use Rattle.std.specs.Prelude.{◌≡◌, ℕ, ℤ, ◌≤◌, ◌<◌, ◌*◌, ◌^◌, ◌&&◌, nat_le, Bool, List, ◌∷◌, length, map, IsTrue, IfSome, slice_get, slice_index}
+use Rattle.std.specs.List.{AllByRecursion, list_all, sum_by}
+use Rattle.coll_data.specs.declared.coll.Coll.{Coll}
+use Rattle.coll_data.specs.Data.{Data}
+use Rattle.coll_data.specs.Tiles.{tile_count}
+
+-- whether a type may have so many elements
+abbrev pub is_element_count : ℕ → Bool
+is_element_count n = nat_le 1 n && nat_le n 4096
+
+-- how many elements each type has, by its number; type 0 is DEFAULT
+abbrev pub elements_by_type : Data → List ℕ
+elements_by_type d = d.elems ∷ map (λ (type : List ℕ × ℕ). type.1) d.types
+
+-- a collection of one of these types with 1 to 65,536 places, a tile for each, and as many numbers in each tile as its type has elements
+pub record IsWellColl (elements : List ℕ) (c : Coll) : Type 0 where
+  pub datatype : c.datatype < length elements
+  pub has_tiles : 1 ≤ tile_count c.shape.0 c.shape.1
+  pub tiles_at_most : tile_count c.shape.0 c.shape.1 ≤ 65536
+  pub all_tiles : length c.tiles ≡ tile_count c.shape.0 c.shape.1
+  pub tile_lengths : AllByRecursion (λ (tile : List ℤ). length tile ≡ slice_index elements c.datatype) c.tiles
+
+-- how many elements the tiles of all collections have
+abbrev pub element_total : List ℕ → List Coll → ℕ
+element_total elements colls = sum_by (λ (c : Coll). length c.tiles * slice_index elements c.datatype) colls
+
+-- at most 16 types, DEFAULT among them, each with 1 to 4,096 elements; collections of these, with at most 2 ^ 24 elements in all
+pub record IsWellMade (d : Data) : Type 0 where
+  pub types_at_most : length d.types ≤ 15
+  pub element_counts : IsTrue (list_all is_element_count (elements_by_type d))
+  pub colls : AllByRecursion (IsWellColl (elements_by_type d)) d.colls
+  pub elements_at_most : element_total (elements_by_type d) d.colls ≤ 2 ^ 24
+
+-- the tile has as many numbers as the type of the collection with this number has elements
+abbrev pub IsTileOf : Data → ℕ → List ℤ → Type 0
+IsTileOf d coll tile = IfSome (slice_get d.colls coll) (λ (c : Coll). length tile ≡ slice_index (elements_by_type d) c.datatype)

@@ -1,0 +1,112 @@
+//! The data of a job.
+
+ghost use Rattle.std.specs.Prelude.{◌≡◌, ◌≤◌, ◌↔◌, Some, IsTrue, IsSome, IfSome, length, option_copied, slice_get};
+ghost use Rattle.coll_data.specs.Data.{Data};
+ghost use Rattle.coll_data.specs.Tiles.{tile_at, HasPlace};
+ghost use Rattle.coll_data.specs.WellMade.{is_element_count, elements_by_type, IsTileOf, IsWellMade};
+
+use crate::coll::Coll;
+use ptg_base::{Place, Seq, Text, Tile};
+use std::marker::Model;
+
+/// The data of a job, in the order of their file. Contracts see plain lists and numbers.
+///
+/// There are at most 16 types, with 1 to 4,096 elements each, and at most 65,536 tiles a collection, with 16,777,216 elements
+/// in all. Each collection has a tile for each place, and each tile as many numbers as its type has elements.
+#[derive(Debug, Drop)]
+pub struct Given {
+    types: Seq<(Text, u32)>,
+    elems: u32,
+    ints: Seq<(Text, i64)>,
+    colls: Seq<Coll>,
+    rows_read: u64,
+}
+
+impl Model for Given {
+    ghost use Rattle.coll_data.specs.Data.{Data};
+    ghost use Rattle.coll_data.specs.WellMade.{IsWellMade};
+
+    ghost Value = { Data };
+
+    ghost view = { λ g. record { types = g.types; elems = g.elems; ints = g.ints; colls = g.colls; rows_read = g.rows_read } };
+
+    ghost invariant = { λ g. IsWellMade (record { types = g.types; elems = g.elems; ints = g.ints; colls = g.colls; rows_read = g.rows_read }) };
+}
+
+impl Given {
+    /// The data of these parts: the types past DEFAULT with their elements, the elements of DEFAULT, the integers, the
+    /// collections, and the number of records read.
+    pub fn new(
+        types: Seq<(Text, u32)>,
+        elems: u32,
+        ints: Seq<(Text, i64)>,
+        colls: Seq<Coll>,
+        rows_read: u64,
+    ) -> Given
+        requires { IsWellMade (record { types = types; elems = elems; ints = ints; colls = colls; rows_read = rows_read }) }
+        ensures { result ≡ record { types = types; elems = elems; ints = ints; colls = colls; rows_read = rows_read } }
+    {
+        Given {
+            types,
+            elems,
+            ints,
+            colls,
+            rows_read,
+        }
+    }
+
+    /// The types past DEFAULT, each with its number of elements.
+    pub fn types(&self) -> &[(Text, u32)]
+        ensures { result.now ≡ self.now.types }
+    {
+        self.types.as_slice()
+    }
+
+    /// The integers.
+    pub fn ints(&self) -> &[(Text, i64)]
+        ensures { result.now ≡ self.now.ints }
+    {
+        self.ints.as_slice()
+    }
+
+    /// The collections.
+    pub fn colls(&self) -> &[Coll]
+        ensures colls { result.now ≡ self.now.colls }
+        ensures well_made { IsWellMade self.now }
+    {
+        self.colls.as_slice()
+    }
+
+    /// The number of records that were read.
+    pub fn rows_read(&self) -> u64
+        ensures { result ≡ self.now.rows_read }
+    {
+        self.rows_read
+    }
+
+    /// The number of elements of a type; type 0 is DEFAULT, and the others follow in order.
+    pub fn elements(&self, datatype: u32) -> u32
+        requires { datatype ≤ length self.now.types }
+        ensures elements { slice_get (elements_by_type self.now) datatype ≡ Some result }
+        ensures within { IsTrue (is_element_count result) }
+    {
+        if datatype == 0 {
+            self.elems
+        } else {
+            self.types.get(datatype as usize - 1).1
+        }
+    }
+
+    /// The tile at a place, if there is such a place.
+    pub fn tile(&self, place: &Place) -> Option<&Tile>
+        ensures tile { option_copied result ≡ tile_at self.now.colls place.now }
+        ensures exists { IsSome result ↔ HasPlace self.now.colls place.now }
+        ensures elements { IfSome result (λ tile. IsTileOf self.now place.now.coll tile.now) }
+    {
+        let n = place.coll as usize;
+        if n >= self.colls.len() {
+            return None;
+        }
+        self.colls.get(n).tile(place.i, place.j)
+    }
+}

@@ -1,0 +1,14 @@
+//! The data of a job: types of tiles, integers, and collections of tiles.
+#![tactic(auto)]
+
+mod coll;
+mod fault;
+mod given;
+mod index;
+
+pub use coll::Coll;
+pub use fault::{DataCode, DataFault, DataRefusal};
+pub use given::Given;
+
+#[cfg(test)]
+mod tests;

@@ -1,0 +1,45 @@
+-- The full lists of locals of an iteration space that come after one of them in walk order.
+use Rattle.std.specs.Prelude.{◌≡◌, ℤ, pos, ◌+ℤ◌, List, [], ◌∷◌, ◌++◌, length, Result, Ok, Err}
+use Rattle.std.specs.List.{flat_map}
+use Rattle.term_core.specs.Value.{and_then}
+use Rattle.term_core.specs.declared.space.Def.{Def}
+use Rattle.term_core.specs.declared.space.Def.TheVariants.{Span, Value}
+use Rattle.range_space.specs.declared.fault.SpanFault.{SpanFault}
+use Rattle.range_space.specs.Values.{values}
+use Rattle.range_space.specs.Fault.{Bounds, bounds, number}
+use Rattle.range_space.specs.Tasks.{full_lists}
+
+-- the bounds of a definition: those of its range, or the value of its expression as both ends
+abbrev pub def_bounds : Def → List ℤ → Result Bounds SpanFault
+def_bounds (Span r) env = bounds r env
+def_bounds (Value e) env = and_then (number e env) (λ z. Ok (record { lo = z; hi = z; step = pos 1 }))
+
+-- the full lists that extend `outer` by one of these values
+abbrev pub lists_over : List Def → List ℤ → List ℤ → List (List ℤ)
+lists_over ds outer vs = flat_map (λ v. full_lists ds (outer ++ v ∷ [])) vs
+
+-- those that extend it by a value after v, where the values are those of these bounds
+abbrev pub lists_over_rest : List Def → List ℤ → Result Bounds SpanFault → ℤ → List (List ℤ)
+lists_over_rest ds outer (Ok b) v = lists_over ds outer (values (v +ℤ b.step) b.hi b.step)
+lists_over_rest ds outer (Err e) v = []
+
+-- the full lists that extend `outer` and come after the one that extends it by these locals
+abbrev pub lists_after : List Def → List ℤ → List ℤ → List (List ℤ)
+lists_after [] outer locals = []
+lists_after (d ∷ ds) outer [] = []
+lists_after (d ∷ ds) outer (v ∷ locals) = lists_after ds (outer ++ v ∷ []) locals ++ lists_over_rest ds outer (def_bounds d outer) v
+
+-- `now` extends `outer` by one value for each definition and is the first of the lists; the others are those after it
+pub record IsFirstOf (ds : List Def) (outer now : List ℤ) (lists : List (List ℤ)) : Type 0 where
+  pub locals : List ℤ
+  pub extends : now ≡ outer ++ locals
+  pub one_each : length locals ≡ length ds
+  pub first : lists ≡ now ∷ lists_after ds outer locals
+
+-- the same, where the first definition has these bounds
+pub record IsFirstOver (bounds : Result Bounds SpanFault) (ds : List Def) (outer now : List ℤ) (lists : List (List ℤ)) : Type 0 where
+  pub value : ℤ
+  pub locals : List ℤ
+  pub extends : now ≡ outer ++ value ∷ locals
+  pub one_each : length locals ≡ length ds
+  pub first : lists ≡ now ∷ lists_after ds (outer ++ value ∷ []) locals ++ lists_over_rest ds outer bounds value
