@@ -1,28 +1,28 @@
--- More units change nothing but a trap for want of them.
+-- More units change nothing but a trap for want of units.
 use Rattle.std.proofs.Common.{◌≡◌, ◌≢◌, ℕ, zero, suc, ◌+◌, ℤ, Bool, true, false, if◌then◌else◌, List, [], ◌∷◌, ◌⊎◌, inl, inr, Option, Result, Ok, Err, refl, ap, sym, ◌∙◌, arith}
 use Rattle.term_core.specs.Term.{Term}
 use Rattle.term_core.specs.Arith.{holds}
-use Rattle.term_core.specs.Value.{after}
-use Rattle.term_core.specs.Steps.{Steps, Done, SetThen, PutThen, IfThen, ForThen, TrapThen}
+use Rattle.term_core.specs.Value.{and_then}
+use Rattle.term_core.specs.StatementList.{StatementList, Done, SetThen, PutThen, IfThen, ForThen, TrapThen}
 use Rattle.term_core.specs.declared.body.Body.{Body}
 use Rattle.term_core.specs.declared.trap.Trap.{Trap}
 use Rattle.term_core.specs.declared.trap.Trap.TheVariants.{Budget, Word}
-use Rattle.body_eval.specs.State.{State, state_of, spent, assigned, value_in, put}
+use Rattle.body_eval.specs.State.{State, spent, assigned, value_in, put}
 use Rattle.body_eval.specs.Element.{put_element}
 use Rattle.body_eval.specs.Meaning.{first_then, set_meaning, put_meaning, if_meaning, turns, turn_values, for_meaning, run, opening}
 use Rattle.body_eval.specs.MoreUnits.{DoesTheSame}
-use Rattle.body_eval.proofs.Units.{spent_one}
+use Rattle.body_eval.proofs.Units.{state_with, spent_one}
 
 module _ (m : ℕ) where
   -- the same with m units more
   abbrev richer : State → State
-  richer s = record s { left = s.left + m }
+  richer s = record s { units_left = s.units_left + m }
 
   abbrev all_richer : Result State Trap → Result State Trap
   all_richer (Ok s) = Ok (richer s)
   all_richer (Err e) = Err e
 
-  -- the second is what the first becomes by m units more, unless the first wanted units
+  -- the second is what the first becomes by m units more, unless the first lacked units
   abbrev Outcome : Result State Trap → Result State Trap → Type 0
   Outcome r r' = (r ≡ Err Budget) ⊎ (r' ≡ all_richer r)
 
@@ -30,34 +30,34 @@ module _ (m : ℕ) where
   Keeps f = (s : State) → Outcome (f s) (f (richer s))
 
   -- a value that comes first is the same
-  outcome-value : {A : Type 0} (r : Result A Trap) (f g : A → Result State Trap) → ((x : A) → Outcome (f x) (g x)) → Outcome (after r f) (after r g)
+  outcome-value : {A : Type 0} (r : Result A Trap) (f g : A → Result State Trap) → ((x : A) → Outcome (f x) (g x)) → Outcome (and_then r f) (and_then r g)
   outcome-value (Ok x) f g k = k x
   outcome-value (Err e) f g k = inr refl
 
-  outcome-rest : (r r' : Result State Trap) (rest : State → Result State Trap) → Outcome r r' → Keeps rest → Outcome (after r rest) (after r' rest)
-  outcome-rest r r' rest (inl e) k = inl (ap (λ x. after x rest) e)
+  outcome-rest : (r r' : Result State Trap) (rest : State → Result State Trap) → Outcome r r' → Keeps rest → Outcome (and_then r rest) (and_then r' rest)
+  outcome-rest r r' rest (inl e) k = inl (ap (λ x. and_then x rest) e)
   outcome-rest (Ok s) r' rest (inr e) k =
-      elim (k s) [ inl h ↦ inl h | inr h ↦ inr (ap (λ x. after x rest) e ∙ h) ]
-  outcome-rest (Err c) r' rest (inr e) k = inr (ap (λ x. after x rest) e)
+      elim (k s) [ inl h ↦ inl h | inr h ↦ inr (ap (λ x. and_then x rest) e ∙ h) ]
+  outcome-rest (Err c) r' rest (inr e) k = inr (ap (λ x. and_then x rest) e)
 
-  outcome-spent_of : (slots : List ℤ) (tiles : List (Option (List ℤ))) (left : ℕ) → Outcome (spent (state_of slots tiles left)) (spent (state_of slots tiles (left + m)))
+  outcome-spent_of : (slots : List ℤ) (tiles : List (Option (List ℤ))) (units : ℕ) → Outcome (spent (state_with slots tiles units)) (spent (state_with slots tiles (units + m)))
   outcome-spent_of slots tiles zero = inl refl
   outcome-spent_of slots tiles (suc n) =
       inr (spent_one slots tiles (suc n + m) (n + m) (omega arith) ∙ ap all_richer (sym (spent_one slots tiles (suc n) n (omega arith))))
 
   outcome-spent : (s : State) → Outcome (spent s) (spent (richer s))
-  outcome-spent s = outcome-spent_of s.slots s.tiles s.left
+  outcome-spent s = outcome-spent_of s.slots s.tiles s.units_left
 
   keeps-first_then : (act rest : State → Result State Trap) → Keeps act → Keeps rest → Keeps (first_then act rest)
   keeps-first_then act rest k l s =
-      outcome-rest (spent s) (spent (richer s)) (λ t. after (act t) rest) (outcome-spent s) (λ t. outcome-rest (act t) (act (richer t)) rest (k t) l)
+      outcome-rest (spent s) (spent (richer s)) (λ t. and_then (act t) rest) (outcome-spent s) (λ t. outcome-rest (act t) (act (richer t)) rest (k t) l)
 
   keeps-set : (n : ℕ) (e : Term) → Keeps (set_meaning n e)
   keeps-set n e s = outcome-value (value_in s e) (λ v. Ok (assigned n v s)) (λ v. Ok (assigned n v (richer s))) (λ v. inr refl)
 
   keeps-put : (flow : ℕ) (at e : Term) → Keeps (put_meaning flow at e)
   keeps-put flow at e s =
-      outcome-value (value_in s at) (λ i. after (value_in s e) (λ v. put flow i v s)) (λ i. after (value_in s e) (λ v. put flow i v (richer s)))
+      outcome-value (value_in s at) (λ i. and_then (value_in s e) (λ v. put flow i v s)) (λ i. and_then (value_in s e) (λ v. put flow i v (richer s)))
       (λ i. outcome-value (value_in s e) (λ v. put flow i v s) (λ v. put flow i v (richer s))
       (λ v. outcome-value (put_element s.tiles flow i v) (λ tiles. Ok (record s { tiles = tiles })) (λ tiles. Ok (record (richer s) { tiles = tiles })) (λ tiles. inr refl)))
 
@@ -77,11 +77,11 @@ module _ (m : ℕ) where
 
   keeps-for : (n : ℕ) (lo hi : Term) (block : State → Result State Trap) → Keeps block → Keeps (for_meaning n lo hi block)
   keeps-for n lo hi block k s =
-      outcome-value (value_in s lo) (λ a. after (value_in s hi) (λ b. turns block n (turn_values a b) s)) (λ a. after (value_in s hi) (λ b. turns block n (turn_values a b) (richer s)))
+      outcome-value (value_in s lo) (λ a. and_then (value_in s hi) (λ b. turns block n (turn_values a b) s)) (λ a. and_then (value_in s hi) (λ b. turns block n (turn_values a b) (richer s)))
       (λ a. outcome-value (value_in s hi) (λ b. turns block n (turn_values a b) s) (λ b. turns block n (turn_values a b) (richer s))
       (λ b. keeps-turns block n k (turn_values a b) s))
 
-  keeps-run : (b : Steps) → Keeps (run b)
+  keeps-run : (b : StatementList) → Keeps (run b)
   keeps-run Done s = inr refl
   keeps-run (SetThen n e rest) s = keeps-first_then (set_meaning n e) (run rest) (keeps-set n e) (keeps-run rest) s
   keeps-run (PutThen flow at e rest) s = keeps-first_then (put_meaning flow at e) (run rest) (keeps-put flow at e) (keeps-run rest) s
@@ -91,10 +91,10 @@ module _ (m : ℕ) where
       keeps-first_then (for_meaning n lo hi (run turn)) (run rest) (keeps-for n lo hi (run turn) (keeps-run turn)) (keeps-run rest) s
   keeps-run (TrapThen w rest) s = keeps-first_then (λ t. Err (Word w)) (run rest) (λ t. inr refl) (keeps-run rest) s
 
-  tiles_richer : (r r' : Result State Trap) → Outcome r r' → after r (λ s. Ok s.tiles) ≢ Err Budget → after r' (λ s. Ok s.tiles) ≡ after r (λ s. Ok s.tiles)
-  tiles_richer r r' (inl e) want = absurd (want (ap (λ x. after x (λ s. Ok s.tiles)) e))
-  tiles_richer (Ok s) r' (inr e) want = ap (λ x. after x (λ s. Ok s.tiles)) e
-  tiles_richer (Err c) r' (inr e) want = ap (λ x. after x (λ s. Ok s.tiles)) e
+  tiles_richer : (r r' : Result State Trap) → Outcome r r' → and_then r (λ s. Ok s.tiles) ≢ Err Budget → and_then r' (λ s. Ok s.tiles) ≡ and_then r (λ s. Ok s.tiles)
+  tiles_richer r r' (inl e) want = absurd (want (ap (λ x. and_then x (λ s. Ok s.tiles)) e))
+  tiles_richer (Ok s) r' (inr e) want = ap (λ x. and_then x (λ s. Ok s.tiles)) e
+  tiles_richer (Err c) r' (inr e) want = ap (λ x. and_then x (λ s. Ok s.tiles)) e
 
 pub does_the_same : (units more : ℕ) (body : Body) (locals : List ℤ) (tiles : List (Option (List ℤ))) → DoesTheSame units more body locals tiles
 does_the_same units more body locals tiles want =

@@ -1,7 +1,7 @@
 -- The elements of the tiles of a task's flows.
 use Rattle.std.specs.Prelude.{ℕ, ℤ, pos, negsuc, List, length, nat_lt, Result, Ok, Err, Option, Some, None, if◌then◌else◌, slice_index_or, slice_set}
 use Rattle.term_core.specs.Term.{Term}
-use Rattle.term_core.specs.Value.{after, value_with}
+use Rattle.term_core.specs.Value.{and_then, value_with}
 use Rattle.term_core.specs.Trap.{trap_of}
 use Rattle.term_core.specs.declared.trap.Trap.{Trap}
 use Rattle.term_core.specs.declared.trap.Trap.TheVariants.{Index, Absent}
@@ -41,7 +41,7 @@ written (Some xs) at v = written_at xs (index_in (length xs) at) v
 
 -- the tiles with another element in a flow's tile: first the flow must be there, then the index
 abbrev pub put_element : List (Option (List ℤ)) → ℕ → ℤ → ℤ → Result (List (Option (List ℤ))) Trap
-put_element tiles flow at v = after (written (tile_of tiles flow) at v) (λ xs. Ok (slice_set tiles flow (Some xs)))
+put_element tiles flow at v = and_then (written (tile_of tiles flow) at v) (λ xs. Ok (slice_set tiles flow (Some xs)))
 
 -- the value of an expression of a body: a local or a variable by its slot, and an element by its flow's tile
 abbrev pub body_value : List ℤ → List (Option (List ℤ)) → Term → Result ℤ Trap

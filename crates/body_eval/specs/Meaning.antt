@@ -2,28 +2,28 @@
 use Rattle.std.specs.Prelude.{ℕ, zero, suc, ◌-◌, ℤ, pos, ◌+ℤ◌, ◌-ℤ◌, int_lt, unsigned_abs, List, [], ◌∷◌, ◌++◌, length, replicate, Result, Ok, Err, Option, if◌then◌else◌}
 use Rattle.term_core.specs.Term.{Term}
 use Rattle.term_core.specs.Arith.{holds}
-use Rattle.term_core.specs.Value.{after}
-use Rattle.term_core.specs.Steps.{Steps, Done, SetThen, PutThen, IfThen, ForThen, TrapThen}
+use Rattle.term_core.specs.Value.{and_then}
+use Rattle.term_core.specs.StatementList.{StatementList, Done, SetThen, PutThen, IfThen, ForThen, TrapThen}
 use Rattle.term_core.specs.declared.body.Body.{Body}
 use Rattle.term_core.specs.declared.trap.Trap.{Trap}
 use Rattle.term_core.specs.declared.trap.Trap.TheVariants.{Word}
-use Rattle.body_eval.specs.State.{State, state_of, spent, value_in, assigned, put}
+use Rattle.body_eval.specs.State.{State, spent, value_in, assigned, put}
 
 -- what costs one unit as it starts, and what follows it
 abbrev pub first_then : (State → Result State Trap) → (State → Result State Trap) → State → Result State Trap
-first_then act rest s = after (spent s) (λ t. after (act t) rest)
+first_then act rest s = and_then (spent s) (λ t. and_then (act t) rest)
 
 -- `x = e;`
 abbrev pub set_meaning : ℕ → Term → State → Result State Trap
-set_meaning n e s = after (value_in s e) (λ v. Ok (assigned n v s))
+set_meaning n e s = and_then (value_in s e) (λ v. Ok (assigned n v s))
 
 -- `A[at] = e;`: the index is evaluated first, then the value
 abbrev pub put_meaning : ℕ → Term → Term → State → Result State Trap
-put_meaning flow at e s = after (value_in s at) (λ i. after (value_in s e) (λ v. put flow i v s))
+put_meaning flow at e s = and_then (value_in s at) (λ i. and_then (value_in s e) (λ v. put flow i v s))
 
 -- `if (c) { .. } else { .. }`, by what the two blocks do
 abbrev pub if_meaning : Term → (State → Result State Trap) → (State → Result State Trap) → State → Result State Trap
-if_meaning c first second s = after (value_in s c) (λ x. if holds x then first s else second s)
+if_meaning c first second s = and_then (value_in s c) (λ x. if holds x then first s else second s)
 
 -- so many whole numbers from a number upwards
 abbrev pub upwards : ℕ → ℤ → List ℤ
@@ -34,17 +34,17 @@ upwards (suc more) v = v ∷ upwards more (v +ℤ pos 1)
 unfoldable pub turn_values : ℤ → ℤ → List ℤ
 turn_values lo hi = if int_lt hi lo then [] else upwards (suc (unsigned_abs (hi -ℤ lo))) lo
 
--- the turns of a loop for these values of its variable, each of which costs one unit as it starts, by what its block does
+-- the turns of a loop for these values of its variable, by what its block does; each turn costs one unit as it starts
 abbrev pub turns : (State → Result State Trap) → ℕ → List ℤ → State → Result State Trap
 turns block n [] s = Ok s
 turns block n (v ∷ more) s = first_then (λ t. block (assigned n v t)) (turns block n more) s
 
 -- `for i = lo .. hi { .. }`, by what its block does: lo is evaluated first, then hi, each once
 abbrev pub for_meaning : ℕ → Term → Term → (State → Result State Trap) → State → Result State Trap
-for_meaning n lo hi block s = after (value_in s lo) (λ a. after (value_in s hi) (λ b. turns block n (turn_values a b) s))
+for_meaning n lo hi block s = and_then (value_in s lo) (λ a. and_then (value_in s hi) (λ b. turns block n (turn_values a b) s))
 
--- the state after statements in order, each of which costs one unit as it starts, or the first trap
-abbrev pub run : Steps → State → Result State Trap
+-- the state after statements in order, or the first trap; each statement costs one unit as it starts
+abbrev pub run : StatementList → State → Result State Trap
 run Done s = Ok s
 run (SetThen n e rest) s = first_then (set_meaning n e) (run rest) s
 run (PutThen flow at e rest) s = first_then (put_meaning flow at e) (run rest) s
@@ -55,11 +55,11 @@ run (TrapThen w rest) s = first_then (λ t. Err (Word w)) (run rest) s
 -- as a body starts, the first slots hold the locals of the task, and each variable holds 0
 abbrev pub opening : List ℤ → ℕ → List (Option (List ℤ)) → ℕ → State
 opening locals slots tiles units =
-    state_of (locals ++ replicate (slots - length locals) (pos 0)) tiles units
+    record { slots = locals ++ replicate (slots - length locals) (pos 0); tiles = tiles; units_left = units }
 
 -- the tiles of a task after its body within so many units, or why it trapped
 abbrev pub meaning_within : ℕ → Body → List ℤ → List (Option (List ℤ)) → Result (List (Option (List ℤ))) Trap
-meaning_within units body locals tiles = after (run body.statements (opening locals body.slots tiles units)) (λ s. Ok s.tiles)
+meaning_within units body locals tiles = and_then (run body.statements (opening locals body.slots tiles units)) (λ s. Ok s.tiles)
 
 -- the units that a task may use: 2 ^ 24
 unfoldable pub task_budget : ℕ

@@ -1,20 +1,25 @@
--- Where a body stands between two statements.
+-- The state of a body between two statements.
 use Rattle.std.specs.Prelude.{ℕ, ◌-◌, ℤ, List, Result, Ok, Err, Option, ◌==◌, if◌then◌else◌, slice_set}
 use Rattle.term_core.specs.Term.{Term}
-use Rattle.term_core.specs.Value.{after}
+use Rattle.term_core.specs.Value.{and_then}
 use Rattle.term_core.specs.declared.trap.Trap.{Trap}
 use Rattle.term_core.specs.declared.trap.Trap.TheVariants.{Budget}
 use Rattle.body_eval.specs.Element.{put_element, body_value}
 
--- the values of the task's locals and of the body's variables, the tiles of the task's flows, and the units that are left
+-- what a body has of its own while it runs: the values of the task's locals and of its variables, and the units that it has left
+pub record Frame : Type 0 where
+  pub slots : List ℤ
+  pub units_left : ℕ
+
+-- that, and the tiles of the task's flows
 pub record State : Type 0 where
   pub slots : List ℤ
   pub tiles : List (Option (List ℤ))
-  pub left : ℕ
+  pub units_left : ℕ
 
 -- one unit less, where there is one
 abbrev pub spent : State → Result State Trap
-spent s = if s.left == 0 then Err Budget else Ok (record s { left = s.left - 1 })
+spent s = if s.units_left == 0 then Err Budget else Ok (record s { units_left = s.units_left - 1 })
 
 -- the value of an expression
 abbrev pub value_in : State → Term → Result ℤ Trap
@@ -26,8 +31,8 @@ assigned n v s = record s { slots = slice_set s.slots n v }
 
 -- another element in a flow's tile
 abbrev pub put : ℕ → ℤ → ℤ → State → Result State Trap
-put flow at v s = after (put_element s.tiles flow at v) (λ tiles. Ok (record s { tiles = tiles }))
+put flow at v s = and_then (put_element s.tiles flow at v) (λ tiles. Ok (record s { tiles = tiles }))
 
--- the state of these parts
-abbrev pub state_of : List ℤ → List (Option (List ℤ)) → ℕ → State
-state_of slots tiles left = record { slots = slots; tiles = tiles; left = left }
+-- the state of these two
+abbrev pub state_of : Frame → List (Option (List ℤ)) → State
+state_of frame tiles = record { slots = frame.slots; tiles = tiles; units_left = frame.units_left }

@@ -1,39 +1,65 @@
+//! The elements of the tiles of a task's flows.
+
 ghost use Rattle.std.specs.Prelude.{◌≡◌, OnOk, IfErr};
-ghost use Rattle.body_eval.specs.Element.{index_in, element_value, put_element};
+ghost use Rattle.term_core.specs.Trap.{trap_of};
+ghost use Rattle.body_eval.specs.Element.{index_in, element_value, put_element, body_value};
 ghost use Rattle.body_eval.specs.Sizes.{KeepsSizes};
 
 use ptg_base::Tile;
-use term_core::Trap;
+use term_core::{Expr, ExprFault, ReadElement, Trap, eval_with};
 
-/// The number as an index, where it is one of so many elements.
+// The number as an index, where it is one of so many elements.
 fn index(len: u32, at: i64) -> Option<u32>
     ensures { result ≡ index_in len at }
 {
-    if at < 0 {
-        return None;
-    }
-    if at < len as i64 {
+    if 0 <= at && at < len as i64 {
         Some(at as u32)
     } else {
         None
     }
 }
 
-/// The element of the flow's tile at the index.
-pub(crate) fn element(tiles: &[Option<Tile>], flow: u8, at: i64) -> Result<i64, Trap>
-    ensures { result ≡ element_value tiles.now flow at }
-{
-    let flow = flow as usize;
-    if flow >= tiles.len() {
-        return Err(Trap::Absent);
+// The tiles of a task's flows, to read elements from.
+#[derive(Drop)]
+struct Tiles<'a> {
+    tiles: &'a [Option<Tile>],
+}
+
+impl ReadElement for Tiles<'_> {
+    type Fault = Trap;
+
+    ghost fault_of = { trap_of };
+
+    ghost element_of = { λ t. element_value t.tiles.now };
+
+    fn fault(fault: ExprFault) -> Trap
+        ensures { result ≡ trap_of fault }
+    {
+        Trap::from(fault)
     }
-    match &tiles[flow] {
-        None => Err(Trap::Absent),
-        Some(tile) => match index(tile.len(), at) {
+
+    fn element(&self, flow: u8, at: i64) -> Result<i64, Trap>
+        ensures { result ≡ element_value self.now.tiles.now flow at }
+    {
+        let flow = flow as usize;
+        if flow >= self.tiles.len() {
+            return Err(Trap::Absent);
+        }
+        let Some(tile) = &self.tiles[flow] else {
+            return Err(Trap::Absent);
+        };
+        match index(tile.len(), at) {
             None => Err(Trap::Index),
             Some(i) => Ok(tile.get(i)),
-        },
+        }
     }
+}
+
+/// The value of an expression of a body.
+pub(crate) fn value(e: &Expr, slots: &[i64], tiles: &[Option<Tile>]) -> Result<i64, Trap>
+    ensures { result ≡ body_value slots.now tiles.now e.now }
+{
+    eval_with(e, slots, &Tiles { tiles })
 }
 
 /// Puts the value into the flow's tile at the index.

@@ -7,7 +7,6 @@ mod run;
 mod scratch;
 #[cfg(test)]
 mod tests;
-mod value;
 mod well;
 
 pub use laws::more_units_change_nothing;

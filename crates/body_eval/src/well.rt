@@ -6,7 +6,7 @@ ghost use Rattle.body_eval.specs.WellStatement.{is_well_made};
 
 use term_core::{Block, Body, Expr, Node, Stmt};
 
-/// Whether an expression names only the first so many slots and flows.
+// Does an expression name only the first so many slots and flows?
 fn closed(slots: usize, flows: usize, e: &Expr) -> bool
     ensures { result ≡ is_closed_with slots flows e.now }
 {
@@ -30,7 +30,7 @@ fn closed_node(slots: usize, flows: usize, node: &Node) -> bool
     }
 }
 
-/// Whether the slot is that of a variable, behind the slots of the locals.
+// Is the slot that of a variable? The slots of the locals come first.
 fn variable(locals: usize, slots: usize, number: u16) -> bool
     ensures { result ≡ is_variable locals slots number }
 {
@@ -74,7 +74,7 @@ fn well_statement(locals: usize, slots: usize, flows: usize, statement: &Stmt) -
     }
 }
 
-/// Whether a body is well made for so many locals and flows: the test of what `run_body` asks for.
+/// Is a body well made for so many locals and flows? This is the condition of `run_body`.
 ///
 /// It goes as deep as blocks nest, whatever the number of statements.
 pub fn is_well_body(body: &Body, locals: usize, flows: usize) -> bool

@@ -1,7 +1,7 @@
 ghost use Rattle.std.specs.Prelude.{◌≡◌};
 ghost use Rattle.body_first.specs.Trap.{trap_of};
 
-use ptg_base::Row;
+use ptg_base::Seq;
 use term_core::{Expr, ExprFault};
 
 /// A statement of a body.
@@ -14,7 +14,7 @@ pub enum Stmt {
 /// What a task does to its tiles.
 #[derive(Debug, Drop)]
 pub struct Body {
-    pub statements: Row<Stmt>,
+    pub statements: Seq<Stmt>,
 }
 
 /// Why a body did not end well.

@@ -42,7 +42,7 @@ fn run_statement(statement: &Stmt, locals: &[i64], tiles: &mut [Option<Tile>]) -
 #[cfg(test)]
 mod tests {
     use super::*;
-    use ptg_base::{OutOfMemory, Row};
+    use ptg_base::{OutOfMemory, Seq};
     use std::alloc::Global;
     use term_core::{BinOp, Expr};
 
@@ -51,7 +51,7 @@ mod tests {
         let first = Expr::elem(alloc, 0, Expr::num(0))?;
         let sum = Expr::binary(alloc, BinOp::Add, first, Expr::local(0))?;
         let again = Expr::elem(alloc, 0, Expr::num(0))?;
-        let mut statements = Row::new(alloc);
+        let mut statements = Seq::new(alloc);
         statements.push(Stmt::Put(0, Expr::num(1), sum))?;
         statements.push(Stmt::Put(0, again, Expr::num(7)))?;
         Ok(Body { statements })

@@ -1,7 +1,7 @@
 ghost use Rattle.std.specs.Prelude.{◌≡◌};
 ghost use Rattle.term_core.specs.NodeTerm.{term_of};
 ghost use Rattle.body_first.specs.Trap.{trap_of};
-ghost use Rattle.term_core.specs.Value.{faulting};
+ghost use Rattle.term_core.specs.Value.{map_fault};
 ghost use Rattle.body_first.specs.Meaning.{body_value};
 
 use crate::body::Trap;
@@ -10,7 +10,7 @@ use ptg_base::Tile;
 use term_core::{Expr, ExprFault, Node, arith, decide, local, unary};
 
 fn trapping(value: Result<i64, ExprFault>) -> Result<i64, Trap>
-    ensures { result ≡ faulting trap_of value }
+    ensures { result ≡ map_fault trap_of value }
 {
     match value {
         Ok(z) => Ok(z),

@@ -1,25 +1,25 @@
--- The names at the front of a text have the fault of the whole text or none, whatever stands behind the next token.
+-- The names at the front of a text have the fault of the whole text or none, whatever follows the next token.
 use Rattle.std.proofs.Common.{◌≡◌, ℕ, zero, suc, ◌<◌, List, [], ◌∷◌, ◌++◌, length, Ok, Err, ◌⊎◌, inl, inr, refl, ap, arith}
 use Rattle.jdf_lex.specs.declared.token.Token.{Token}
-use Rattle.term_core.specs.Value.{after}
+use Rattle.term_core.specs.Value.{and_then}
 use Rattle.body_names.specs.declared.scope.Scope.{Scope}
-use Rattle.body_names.specs.Terms.{Resolved}
-use Rattle.body_names.specs.Standing.{Standing, behind, judged, judged_among}
+use Rattle.body_names.specs.Expressions.{Resolved}
+use Rattle.body_names.specs.TokenScan.{TokenScan, after_token, judged, judged_among}
 
 module _ (scope : Scope) where
-  pub none_or_whole : (st : Standing) (n : ℕ) (s : List Token) → (judged_among scope st n s ≡ Ok tt) ⊎ (judged_among scope st n s ≡ judged_among scope st (length s) s)
+  pub none_or_whole : (st : TokenScan) (n : ℕ) (s : List Token) → (judged_among scope st n s ≡ Ok tt) ⊎ (judged_among scope st n s ≡ judged_among scope st (length s) s)
   none_or_whole st zero s = inl refl
   none_or_whole st (suc n) [] = inl refl
-  none_or_whole st (suc n) (x ∷ s) = go (judged scope st (x ∷ s)) (none_or_whole (behind x st) n s)
+  none_or_whole st (suc n) (x ∷ s) = go (judged scope st (x ∷ s)) (none_or_whole (after_token x st) n s)
     where
-      go : (v : Resolved (Unit {0})) → (judged_among scope (behind x st) n s ≡ Ok tt) ⊎ (judged_among scope (behind x st) n s ≡ judged_among scope (behind x st) (length s) s)
-          → (after v (λ _. judged_among scope (behind x st) n s) ≡ Ok tt) ⊎ (after v (λ _. judged_among scope (behind x st) n s) ≡ after v (λ _. judged_among scope (behind x st) (length s) s))
+      go : (v : Resolved (Unit {0})) → (judged_among scope (after_token x st) n s ≡ Ok tt) ⊎ (judged_among scope (after_token x st) n s ≡ judged_among scope (after_token x st) (length s) s)
+          → (and_then v (λ _. judged_among scope (after_token x st) n s) ≡ Ok tt) ⊎ (and_then v (λ _. judged_among scope (after_token x st) n s) ≡ and_then v (λ _. judged_among scope (after_token x st) (length s) s))
       go (Ok u) h = h
       go (Err e) h = inr refl
 
-  pub whatever_behind : (st : Standing) (n : ℕ) (w r q : List Token) → n < length w → judged_among scope st n (w ++ r) ≡ judged_among scope st n (w ++ q)
+  pub whatever_behind : (st : TokenScan) (n : ℕ) (w r q : List Token) → n < length w → judged_among scope st n (w ++ r) ≡ judged_among scope st n (w ++ q)
   whatever_behind st zero w r q h = refl
   whatever_behind st (suc n) [] r q h = absurd (omega arith)
   whatever_behind st (suc n) (x ∷ []) r q h = absurd (omega arith)
   whatever_behind st (suc n) (x ∷ (y ∷ w)) r q h =
-      ap (λ (u : Resolved (Unit {0})). after (judged scope st (x ∷ (y ∷ (w ++ r)))) (λ _. u)) (whatever_behind (behind x st) n (y ∷ w) r q (omega (arith, h)))
+      ap (λ (u : Resolved (Unit {0})). and_then (judged scope st (x ∷ (y ∷ (w ++ r)))) (λ _. u)) (whatever_behind (after_token x st) n (y ∷ w) r q (omega (arith, h)))

@@ -12,14 +12,15 @@ use Rattle.jdf_tree.specs.Statements.{Statements, Done, DeclareThen, SetThen, Pu
 use Rattle.term_core.specs.declared.body.Body.{Body}
 use Rattle.term_core.specs.declared.body.Stmt.{Stmt}
 use Rattle.term_core.specs.declared.body.Stmt.TheVariants as stmt
-use Rattle.term_core.specs.BlockSteps.{then}
-use Rattle.term_core.specs.Steps.{Steps}
-use Rattle.term_core.specs.Value.{after}
+use Rattle.term_core.specs.BlockStatementList.{then}
+use Rattle.term_core.specs.StatementList.{StatementList}
+use Rattle.term_core.specs.Value.{and_then}
 use Rattle.body_names.specs.declared.scope.Scope.{Scope}
-use Rattle.body_names.specs.Names.{meaning_of}
-use Rattle.body_names.specs.Terms.{Resolved, slot_of, written_flow, term_of}
-use Rattle.body_names.specs.Known.{Known, nothing_known, opened, with_variable, room_for, fresh_in, numbered}
-use Rattle.body_names.specs.Resolved.{Resolver, declare, set, put, inside, choice, counted, stop, follow, resolved, body_of}
+use Rattle.body_names.specs.Meanings.{meaning_of}
+use Rattle.body_names.specs.Expressions.{Resolved, slot_of, written_flow, term_of}
+use Rattle.body_names.specs.Bindings.{Bindings, no_bindings, block_opened, with_variable, room_for, fresh_in, numbered}
+use Rattle.body_names.specs.Statements.{Resolver, declare, set, put, in_block, if_else, for_loop, trap, follow, resolved, body_of}
+use Rattle.body_lang.proofs.VariableCount.{Any}
 use Rattle.body_lang.specs.TrapWords.{words_of, numbers_of, with_word, each_once}
 
 -- ---- words in the order of their first use
@@ -54,14 +55,14 @@ abbrev each_some : List (List ℕ) → List (Option (List ℕ))
 each_some ws = map (λ (w : List ℕ). Some w) ws
 
 -- from k to m traps of these words came, with these numbers
-record Told (k m : Known) (ws : List (List ℕ)) (ns : List ℕ) : Type 0 where
+record Told (k m : Bindings) (ws : List (List ℕ)) (ns : List ℕ) : Type 0 where
   words : m.words ≡ each_once k.words ws
   own : (more : List (List ℕ)) → looked_up (m.words ++ more) ns ≡ each_some ws
 
-none_told : (k m : Known) → m.words ≡ k.words → Told k m [] []
+none_told : (k m : Bindings) → m.words ≡ k.words → Told k m [] []
 none_told k m e = record { words = e; own = λ more. refl }
 
-both_told : (k m q : Known) (ws vs : List (List ℕ)) (ns ms : List ℕ) → Told k m ws ns → Told m q vs ms → Told k q (ws ++ vs) (ns ++ ms)
+both_told : (k m q : Bindings) (ws vs : List (List ℕ)) (ns ms : List ℕ) → Told k m ws ns → Told m q vs ms → Told k q (ws ++ vs) (ns ++ ms)
 both_told k m q ws vs ns ms a b =
     let l = once_longer m.words vs in
     record {
@@ -80,10 +81,7 @@ abbrev Good : {A : Type 0} → (A → Type 0) → Resolved A → Type 0
 Good P (Ok x) = P x
 Good P (Err f) = Unit {0}
 
-abbrev Any : {A : Type 0} → A → Type 0
-Any x = Unit {0}
-
-after_good : {A B : Type 0} (P : A → Type 0) (Q : B → Type 0) (r : Resolved A) (f : A → Resolved B) → Good P r → ((x : A) → P x → Good Q (f x)) → Good Q (after r f)
+after_good : {A B : Type 0} (P : A → Type 0) (Q : B → Type 0) (r : Resolved A) (f : A → Resolved B) → Good P r → ((x : A) → P x → Good Q (f x)) → Good Q (and_then r f)
 after_good P Q (Ok x) f h k = k x h
 after_good P Q (Err e) f h k = tt
 
@@ -92,7 +90,7 @@ any_good (Ok x) = tt
 any_good (Err e) = tt
 
 -- a first step that says nothing of words
-past : {A B : Type 0} (Q : B → Type 0) (r : Resolved A) (f : A → Resolved B) → ((x : A) → Good Q (f x)) → Good Q (after r f)
+past : {A B : Type 0} (Q : B → Type 0) (r : Resolved A) (f : A → Resolved B) → ((x : A) → Good Q (f x)) → Good Q (and_then r f)
 past Q r f k = after_good Any Q r f (any_good r) (λ x _. k x)
 
 -- the numbers of the traps of one statement
@@ -103,24 +101,24 @@ numbers_in (stmt.If c first second) = numbers_of first ++ numbers_of second
 numbers_in (stmt.For n lo hi turn) = numbers_of turn
 numbers_in (stmt.Trap n) = n ∷ []
 
-numbers_then : (s : Stmt) (rest : Steps) → numbers_of (then s rest) ≡ numbers_in s ++ numbers_of rest
+numbers_then : (s : Stmt) (rest : StatementList) → numbers_of (then s rest) ≡ numbers_in s ++ numbers_of rest
 numbers_then (stmt.Set n e) rest = refl
 numbers_then (stmt.Put flow i e) rest = refl
 numbers_then (stmt.If c first second) rest = refl
 numbers_then (stmt.For n lo hi turn) rest = refl
 numbers_then (stmt.Trap n) rest = refl
 
-abbrev ToldOf : Known → List (List ℕ) → Stmt × Known → Type 0
+abbrev ToldOf : Bindings → List (List ℕ) → Stmt × Bindings → Type 0
 ToldOf k ws x = Told k x.1 ws (numbers_in x.0)
 
-abbrev ToldAll : Known → List (List ℕ) → Steps × Known → Type 0
+abbrev ToldAll : Bindings → List (List ℕ) → StatementList × Bindings → Type 0
 ToldAll k ws x = Told k x.1 ws (numbers_of x.0)
 
 abbrev Tells : Resolver → List (List ℕ) → Type 0
-Tells block ws = (k : Known) → Good (ToldAll k ws) (block k)
+Tells block ws = (k : Bindings) → Good (ToldAll k ws) (block k)
 
--- the words of a trap behind which this is known
-stop_told_by : (text : List ℕ) (k : Known) (o : Option ℕ) → position (λ (v : List ℕ). bytes_eq v text) k.words ≡ o → Told k (numbered text k o).1 (text ∷ []) ((numbered text k o).0 ∷ [])
+-- the words of a trap after which this is known
+stop_told_by : (text : List ℕ) (k : Bindings) (o : Option ℕ) → position (λ (v : List ℕ). bytes_eq v text) k.words ≡ o → Told k (numbered text k o).1 (text ∷ []) ((numbered text k o).0 ∷ [])
 stop_told_by text k None e =
     record {
       words = sym (ap (with_word k.words text) e);
@@ -145,39 +143,39 @@ stop_told_by text k (Some n) e =
     at_front (x ∷ xs) more (suc n) h = at_front xs more n h
 
 module _ (scope : Scope) where
-  declare_told : (w : Word) (e : Expression) (k : Known) → Good (ToldOf k []) (declare scope w e k)
+  declare_told : (w : Word) (e : Expression) (k : Bindings) → Good (ToldOf k []) (declare scope w e k)
   declare_told w e k =
       past (ToldOf k []) (room_for w k) _ (λ _. past (ToldOf k []) (fresh_in w k) _ (λ _. past (ToldOf k []) (term_of scope k.seen e) _ (λ x. none_told k _ refl)))
 
-  set_told : (w : Word) (e : Expression) (k : Known) → Good (ToldOf k []) (set scope w e k)
+  set_told : (w : Word) (e : Expression) (k : Bindings) → Good (ToldOf k []) (set scope w e k)
   set_told w e k = past (ToldOf k []) (slot_of w (meaning_of scope k.seen w.text)) _ (λ n. past (ToldOf k []) (term_of scope k.seen e) _ (λ x. none_told k _ refl))
 
-  put_told : (w : Word) (i e : Expression) (k : Known) → Good (ToldOf k []) (put scope w i e k)
+  put_told : (w : Word) (i e : Expression) (k : Bindings) → Good (ToldOf k []) (put scope w i e k)
   put_told w i e k =
       past (ToldOf k []) (written_flow scope w) _ (λ flow. past (ToldOf k []) (term_of scope k.seen i) _ (λ x. past (ToldOf k []) (term_of scope k.seen e) _ (λ y. none_told k _ refl)))
 
-  inside_told : (opening : Known → Known) (block : Resolver) (ws : List (List ℕ)) → Tells block ws → (k : Known) → (opening k).words ≡ k.words → Good (ToldAll k ws) (inside opening block k)
+  inside_told : (opening : Bindings → Bindings) (block : Resolver) (ws : List (List ℕ)) → Tells block ws → (k : Bindings) → (opening k).words ≡ k.words → Good (ToldAll k ws) (in_block opening block k)
   inside_told opening block ws h k e =
       after_good (ToldAll (opening k) ws) (ToldAll k ws) (block (opening k)) _ (h (opening k)) (λ x t. record { words = t.words ∙ ap (λ (f : List (List ℕ)). each_once f ws) e; own = t.own })
 
-  choice_told : (c : Expression) (first second : Resolver) (ws vs : List (List ℕ)) → Tells first ws → Tells second vs → (k : Known) → Good (ToldOf k (ws ++ vs)) (choice scope c first second k)
+  choice_told : (c : Expression) (first second : Resolver) (ws vs : List (List ℕ)) → Tells first ws → Tells second vs → (k : Bindings) → Good (ToldOf k (ws ++ vs)) (if_else scope c first second k)
   choice_told c first second ws vs one two k =
       past (ToldOf k (ws ++ vs)) (term_of scope k.seen c) _
-      (λ x. after_good (ToldAll k ws) (ToldOf k (ws ++ vs)) (inside opened first k) _ (inside_told opened first ws one k refl)
-      (λ a s. after_good (ToldAll a.1 vs) (ToldOf k (ws ++ vs)) (inside opened second a.1) _ (inside_told opened second vs two a.1 refl)
+      (λ x. after_good (ToldAll k ws) (ToldOf k (ws ++ vs)) (in_block block_opened first k) _ (inside_told block_opened first ws one k refl)
+      (λ a s. after_good (ToldAll a.1 vs) (ToldOf k (ws ++ vs)) (in_block block_opened second a.1) _ (inside_told block_opened second vs two a.1 refl)
       (λ b t. both_told k a.1 b.1 ws vs (numbers_of a.0) (numbers_of b.0) s t)))
 
-  counted_told : (w : Word) (lo hi : Expression) (turn : Resolver) (ws : List (List ℕ)) → Tells turn ws → (k : Known) → Good (ToldOf k ws) (counted scope w lo hi turn k)
+  counted_told : (w : Word) (lo hi : Expression) (turn : Resolver) (ws : List (List ℕ)) → Tells turn ws → (k : Bindings) → Good (ToldOf k ws) (for_loop scope w lo hi turn k)
   counted_told w lo hi turn ws h k =
       past (ToldOf k ws) (room_for w k) _
       (λ _. past (ToldOf k ws) (term_of scope k.seen lo) _
       (λ x. past (ToldOf k ws) (term_of scope k.seen hi) _
-      (λ y. after_good (ToldAll k ws) (ToldOf k ws) (inside (λ m. with_variable scope w.text true (opened m)) turn k) _ (inside_told (λ m. with_variable scope w.text true (opened m)) turn ws h k refl) (λ t s. s))))
+      (λ y. after_good (ToldAll k ws) (ToldOf k ws) (in_block (λ m. with_variable scope w.text true (block_opened m)) turn k) _ (inside_told (λ m. with_variable scope w.text true (block_opened m)) turn ws h k refl) (λ t s. s))))
 
-  stop_told : (w : Word) (k : Known) → Good (ToldOf k (w.text ∷ [])) (stop w k)
+  stop_told : (w : Word) (k : Bindings) → Good (ToldOf k (w.text ∷ [])) (trap w k)
   stop_told w k = stop_told_by w.text k (position (λ (v : List ℕ). bytes_eq v w.text) k.words) refl
 
-  follow_told : (k : Known) (ws vs : List (List ℕ)) (first : Resolved (Stmt × Known)) (rest : Resolver) → Good (ToldOf k ws) first → Tells rest vs → Good (ToldAll k (ws ++ vs)) (follow first rest)
+  follow_told : (k : Bindings) (ws vs : List (List ℕ)) (first : Resolved (Stmt × Bindings)) (rest : Resolver) → Good (ToldOf k ws) first → Tells rest vs → Good (ToldAll k (ws ++ vs)) (follow first rest)
   follow_told k ws vs first rest one more =
       after_good (ToldOf k ws) (ToldAll k (ws ++ vs)) first _ one
       (λ x s. after_good (ToldAll x.1 vs) (ToldAll k (ws ++ vs)) (rest x.1) _ (more x.1)
@@ -189,11 +187,11 @@ module _ (scope : Scope) where
   told (SetThen w e rest) k = follow_told k [] (words_of rest) (set scope w e k) (resolved scope rest) (set_told w e k) (told rest)
   told (PutThen w i e rest) k = follow_told k [] (words_of rest) (put scope w i e k) (resolved scope rest) (put_told w i e k) (told rest)
   told (IfThen c first second rest) k =
-      follow_told k (words_of first ++ words_of second) (words_of rest) (choice scope c (resolved scope first) (resolved scope second) k) (resolved scope rest)
+      follow_told k (words_of first ++ words_of second) (words_of rest) (if_else scope c (resolved scope first) (resolved scope second) k) (resolved scope rest)
       (choice_told c (resolved scope first) (resolved scope second) (words_of first) (words_of second) (told first) (told second) k) (told rest)
   told (ForThen w lo hi turn rest) k =
-      follow_told k (words_of turn) (words_of rest) (counted scope w lo hi (resolved scope turn) k) (resolved scope rest) (counted_told w lo hi (resolved scope turn) (words_of turn) (told turn) k) (told rest)
-  told (TrapThen w rest) k = follow_told k (w.text ∷ []) (words_of rest) (stop w k) (resolved scope rest) (stop_told w k) (told rest)
+      follow_told k (words_of turn) (words_of rest) (for_loop scope w lo hi (resolved scope turn) k) (resolved scope rest) (counted_told w lo hi (resolved scope turn) (words_of turn) (told turn) k) (told rest)
+  told (TrapThen w rest) k = follow_told k (w.text ∷ []) (words_of rest) (trap w k) (resolved scope rest) (stop_told w k) (told rest)
 
   -- ---- a whole body
 
@@ -202,7 +200,7 @@ module _ (scope : Scope) where
 
   body_told : (t : Statements) → Good (ToldBody t) (body_of scope t)
   body_told t =
-      after_good (ToldAll nothing_known (words_of t)) (ToldBody t) (resolved scope t nothing_known) _ (told t nothing_known)
+      after_good (ToldAll no_bindings (words_of t)) (ToldBody t) (resolved scope t no_bindings) _ (told t no_bindings)
       (λ x h. (ap (λ (l : List (List ℕ)). looked_up l (numbers_of x.0)) (sym (append-nil x.1.words)) ∙ h.own [], h.words))
 
   of_body : (t : Statements) (x : Body × List (List ℕ)) → body_of scope t ≡ Ok x → ToldBody t x

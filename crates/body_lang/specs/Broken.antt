@@ -1,14 +1,14 @@
--- The first fault of a body whose text is broken at a place.
+-- The first fault of a body whose text is broken at the token of an index.
 use Rattle.std.specs.Prelude.{ℕ, List, Err}
 use Rattle.jdf_lex.specs.declared.token.Spot.{Spot}
 use Rattle.jdf_lex.specs.declared.token.Token.{Token}
 use Rattle.grammar_core.specs.declared.code.Code.{Code}
-use Rattle.term_core.specs.Value.{after}
+use Rattle.term_core.specs.Value.{and_then}
 use Rattle.expr_read.specs.Front.{fault_at}
 use Rattle.body_names.specs.declared.scope.Scope.{Scope}
-use Rattle.body_names.specs.Terms.{Resolved}
-use Rattle.body_names.specs.Standing.{front_fault}
+use Rattle.body_names.specs.Expressions.{Resolved}
+use Rattle.body_names.specs.TokenScan.{front_fault}
 
--- the first fault of a name in front of the place, and else that of the text at the place
+-- the first fault of a name before that token, and else that of the text there
 abbrev pub broken_fault : Scope → List Token → Spot → ℕ → Code → Resolved (Unit {0})
-broken_fault scope tokens finish place code = after (front_fault scope tokens place) (λ _. Err (fault_at tokens finish place code))
+broken_fault scope tokens finish index code = and_then (front_fault scope tokens index) (λ _. Err (fault_at tokens finish index code))

@@ -4,14 +4,14 @@ use Rattle.jdf_lex.specs.declared.fault.JdfCode.TheVariants.{TooManyVars}
 use Rattle.jdf_lex.specs.declared.fault.JdfFault.{JdfFault}
 use Rattle.jdf_lex.specs.declared.token.Spot.{Spot}
 use Rattle.jdf_lex.specs.declared.token.Token.{Token}
-use Rattle.grammar_core.specs.Form.{IsText}
+use Rattle.grammar_core.specs.Production.{IsText}
 use Rattle.term_core.specs.declared.body.Body.{Body}
 use Rattle.jdf_tree.specs.BodyGrammar.{body}
-use Rattle.jdf_tree.specs.Grammar.{inner}
+use Rattle.jdf_tree.specs.Grammar.{productions}
 use Rattle.jdf_tree.specs.Statements.{Statements}
 use Rattle.body_names.specs.declared.scope.Scope.{Scope}
-use Rattle.body_names.specs.Resolved.{body_of}
-use Rattle.body_names.specs.Standing.{fault_of, front_fault}
+use Rattle.body_names.specs.Statements.{body_of}
+use Rattle.body_names.specs.TokenScan.{fault_of, front_fault}
 use Rattle.body_lang.specs.Body.{IsBody, IsNameFault, IsBodyFault}
 use Rattle.body_lang.specs.Declarations.{declarations}
 use Rattle.body_lang.specs.TrapWords.{words_of, numbers_of, each_once}
@@ -38,14 +38,14 @@ SlotForEach = (scope : Scope) (tokens : List Token) (x : Body × List (List ℕ)
 
 -- In a text without a fault the names have the same first fault, or none, by the tokens beside them and by the tree.
 abbrev pub NamesAgree : Type 0
-NamesAgree = (scope : Scope) (tokens : List Token) (tree : Statements) → IsText inner body tokens tree None → front_fault scope tokens (length tokens) ≡ fault_of (body_of scope tree)
+NamesAgree = (scope : Scope) (tokens : List Token) (tree : Statements) → IsText productions body tokens tree None → front_fault scope tokens (length tokens) ≡ fault_of (body_of scope tree)
 
 -- The names at the front of such a text have no fault, or that of the tree.
 abbrev pub FrontsAgree : Type 0
-FrontsAgree = (scope : Scope) (tokens : List Token) (tree : Statements) (n : ℕ) → IsText inner body tokens tree None
+FrontsAgree = (scope : Scope) (tokens : List Token) (tree : Statements) (n : ℕ) → IsText productions body tokens tree None
     → (front_fault scope tokens n ≡ Ok tt) ⊎ (front_fault scope tokens n ≡ fault_of (body_of scope tree))
 
--- Behind the names at the front of any tokens only the next token counts.
+-- Behind the names at the front of any tokens only the next token matters.
 abbrev pub OnlyTheNextCounts : Type 0
 OnlyTheNextCounts = (scope : Scope) (front rest other : List Token) (n : ℕ) → n < length front → front_fault scope (front ++ rest) n ≡ front_fault scope (front ++ other) n
 

@@ -2,8 +2,8 @@
 use Rattle.std.specs.Prelude.{ℕ, List, [], ◌∷◌, ◌++◌, Option, Some, None, position}
 use Rattle.std.specs.Str.{bytes_eq}
 use Rattle.jdf_tree.specs.Statements.{Statements, Done, DeclareThen, SetThen, PutThen, IfThen, ForThen, TrapThen}
-use Rattle.term_core.specs.Steps.{Steps}
-use Rattle.term_core.specs.Steps as steps
+use Rattle.term_core.specs.StatementList.{StatementList}
+use Rattle.term_core.specs.StatementList as steps
 
 -- the word of each trap, in the text's order
 abbrev pub words_of : Statements → List (List ℕ)
@@ -16,7 +16,7 @@ words_of (ForThen w lo hi turn rest) = words_of turn ++ words_of rest
 words_of (TrapThen w rest) = w.text ∷ words_of rest
 
 -- the number of each trap, in the same order
-abbrev pub numbers_of : Steps → List ℕ
+abbrev pub numbers_of : StatementList → List ℕ
 numbers_of steps.Done = []
 numbers_of (steps.SetThen n e rest) = numbers_of rest
 numbers_of (steps.PutThen flow at e rest) = numbers_of rest
@@ -24,12 +24,12 @@ numbers_of (steps.IfThen c first second rest) = (numbers_of first ++ numbers_of 
 numbers_of (steps.ForThen n lo hi turn rest) = numbers_of turn ++ numbers_of rest
 numbers_of (steps.TrapThen n rest) = n ∷ numbers_of rest
 
--- one more word, unless it has a place among those before
+-- one more word, unless it is one of those before
 abbrev pub with_word : List (List ℕ) → List ℕ → Option ℕ → List (List ℕ)
 with_word front w None = front ++ w ∷ []
 with_word front w (Some n) = front
 
--- behind some words, others in the order of their first use, each once
+-- after some words, more of them in the order of their first use, each once
 abbrev pub each_once : List (List ℕ) → List (List ℕ) → List (List ℕ)
 each_once front [] = front
 each_once front (w ∷ more) = each_once (with_word front w (position (λ (v : List ℕ). bytes_eq v w) front)) more

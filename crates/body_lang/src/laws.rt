@@ -17,7 +17,7 @@ pub fn a_slot_for_each_variable()
     ensures { SlotForEach }
 {}
 
-/// A law of `front_fault`, by which names are judged in a broken body: in a text without a fault it says what the tree says, at its front too, and of what stands behind only the next token counts.
+/// A law of `front_fault`, by which names are judged in a broken body: in a text without a fault it agrees with the tree, at each front of the text too, and of the tokens after a front only the next one matters.
 pub fn names_agree()
     ensures whole { NamesAgree }
     ensures front { FrontsAgree }

@@ -4,7 +4,7 @@ use Rattle.std.specs.Prelude.{Option, Some, None, find, reverse}
 use Rattle.std.specs.Str.{bytes_eq}
 use Rattle.std.proofs.lemmas.List.{reverse-append}
 use Rattle.body_names.specs.declared.variable.Variable.{Variable}
-use Rattle.body_names.specs.Names.{last_named}
+use Rattle.body_names.specs.Meanings.{last_named}
 
 last_step : (front : List Variable) (last : Variable) (name : List ℕ) → last_named (front ++ last ∷ []) name ≡ cond (bytes_eq last.name name) (Some last) (last_named front name)
 last_step front last name = ap (λ (l : List Variable). find (λ (v : Variable). bytes_eq v.name name) l) (reverse-append front (last ∷ []))

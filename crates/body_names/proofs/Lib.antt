@@ -1,7 +1,8 @@
-pub mod Steps
+pub mod Refusals
 pub mod Last
 pub mod Blocks
 pub mod Slots
 pub mod Well
 pub mod WellBlocks
 pub mod Fronts
+pub mod Renaming

@@ -8,7 +8,7 @@ use Rattle.term_core.specs.declared.flow.FlowKind.{FlowKind}
 use Rattle.term_core.specs.declared.flow.FlowKind.TheVariants as kind
 use Rattle.term_core.specs.Term.{Term}
 use Rattle.term_core.specs.Term as term
-use Rattle.term_core.specs.Value.{after, is_closed_with}
+use Rattle.term_core.specs.Value.{and_then, is_closed_with}
 use Rattle.jdf_tree.specs.declared.expression.Word.{Word}
 use Rattle.jdf_tree.specs.Expression.{Expression, Num, Name, Elem, Unary, Binary, Choose}
 use Rattle.body_names.specs.declared.meaning.Meaning.{Meaning}
@@ -16,13 +16,13 @@ use Rattle.body_names.specs.declared.meaning.Meaning.TheVariants as meaning
 use Rattle.body_names.specs.declared.scope.Scope.{Scope}
 use Rattle.body_names.specs.declared.scope.FlowName.{FlowName}
 use Rattle.body_names.specs.declared.variable.Variable.{Variable}
-use Rattle.body_names.specs.Names.{last_named, variable_or, local_named, local_or, integer_named, integer_or, has_collection, collection_or_nothing, meaning_of, flow_named}
-use Rattle.body_names.specs.Terms.{Resolved, value_of, slot_of, readable, writable, if_flow, flow_by, read_flow, written_flow, term_of}
+use Rattle.body_names.specs.Meanings.{last_named, variable_or, local_named, local_or, integer_named, integer_or, has_collection, collection_or_nothing, meaning_of, flow_named}
+use Rattle.body_names.specs.Expressions.{Resolved, value_of, slot_of, readable, writable, if_flow, flow_by, read_flow, written_flow, term_of}
 use Rattle.body_names.proofs.Slots.{AreSlots, last_found, place_below}
 
 -- ---- what comes before a value
 
-pub after_ok : {A B F : Type 0} (r : Result A F) (f : A → Result B F) (y : B) → after r f ≡ Ok y → (x : A) × (r ≡ Ok x) × (f x ≡ Ok y)
+pub after_ok : {A B F : Type 0} (r : Result A F) (f : A → Result B F) (y : B) → and_then r f ≡ Ok y → (x : A) × (r ≡ Ok x) × (f x ≡ Ok y)
 after_ok (Ok x) f y e = (x, refl, e)
 after_ok (Err d) f y e = absurd cc
 
@@ -38,7 +38,7 @@ module _ (scope : Scope) (end : ℕ) (room : length scope.locals ≤ end) where
   -- a slot that a meaning names is there
   abbrev IsThere : Meaning → Type 0
   IsThere (meaning.Variable n) = (length scope.locals ≤ n) × (n < end)
-  IsThere (meaning.Counter n) = (length scope.locals ≤ n) × (n < end)
+  IsThere (meaning.LoopVariable n) = (length scope.locals ≤ n) × (n < end)
   IsThere (meaning.Local n) = n < length scope.locals
   IsThere (meaning.Integer z) = Unit {0}
   IsThere meaning.Collection = Unit {0}
@@ -55,9 +55,9 @@ module _ (scope : Scope) (end : ℕ) (room : length scope.locals ≤ end) where
 
   variable_there : (o : Option Variable) (m : Meaning) → ((v : Variable) → o ≡ Some v → (length scope.locals ≤ v.slot) × (v.slot < end)) → IsThere m → IsThere (variable_or o m)
   variable_there None m found h = h
-  variable_there (Some v) m found h = go v.counts
+  variable_there (Some v) m found h = go v.is_loop_variable
     where
-      go : (b : Bool) → IsThere (cond b (meaning.Counter v.slot) (meaning.Variable v.slot))
+      go : (b : Bool) → IsThere (cond b (meaning.LoopVariable v.slot) (meaning.Variable v.slot))
       go true = found v refl
       go false = found v refl
 
@@ -72,7 +72,7 @@ module _ (scope : Scope) (end : ℕ) (room : length scope.locals ≤ end) where
     -- what a name stands for is closed
     value_closed : (w : Word) (m : Meaning) (t : Term) → IsThere m → value_of w m ≡ Ok t → is_closed_with end (length scope.flows) t ≡ true
     value_closed w (meaning.Variable n) t h e = rw (← (value_is (term.Local n) t e)) (lt-ltb n end h.1)
-    value_closed w (meaning.Counter n) t h e = rw (← (value_is (term.Local n) t e)) (lt-ltb n end h.1)
+    value_closed w (meaning.LoopVariable n) t h e = rw (← (value_is (term.Local n) t e)) (lt-ltb n end h.1)
     value_closed w (meaning.Local n) t h e = rw (← (value_is (term.Local n) t e)) (lt-ltb n end (omega (arith, h, room)))
     value_closed w (meaning.Integer z) t h e = rw (← (value_is (term.Num z) t e)) refl
     value_closed w meaning.Collection t h e = absurd cc
@@ -80,7 +80,7 @@ module _ (scope : Scope) (end : ℕ) (room : length scope.locals ≤ end) where
 
     slot_there : (w : Word) (m : Meaning) (n : ℕ) → IsThere m → slot_of w m ≡ Ok n → (length scope.locals ≤ n) × (n < end)
     slot_there w (meaning.Variable k) n h e = let same = value_is k n e in subst (λ (j : ℕ). (length scope.locals ≤ j) × (j < end)) same h
-    slot_there w (meaning.Counter k) n h e = absurd cc
+    slot_there w (meaning.LoopVariable k) n h e = absurd cc
     slot_there w (meaning.Local k) n h e = absurd cc
     slot_there w (meaning.Integer z) n h e = absurd cc
     slot_there w meaning.Collection n h e = absurd cc
@@ -121,19 +121,19 @@ module _ (scope : Scope) (end : ℕ) (room : length scope.locals ≤ end) where
     term_closed (Num z spot) t e = rw (← (value_is (term.Num z) t e)) refl
     term_closed (Name w) t e = value_closed w (meaning_of scope seen w.text) t (meaning_there w.text) e
     term_closed (Elem w at) t e =
-        let a = after_ok (read_flow scope w) (λ flow. after (term_of scope seen at) (λ i. Ok (term.Elem flow i))) t e in
+        let a = after_ok (read_flow scope w) (λ flow. and_then (term_of scope seen at) (λ i. Ok (term.Elem flow i))) t e in
         let b = after_ok (term_of scope seen at) (λ i. Ok (term.Elem a.0 i)) t a.2 in
         rw (← (value_is (term.Elem a.0 b.0) t b.2)) (both (nat_lt a.0 (length scope.flows)) (is_closed_with end (length scope.flows) b.0) (lt-ltb a.0 (length scope.flows) (read_below w a.0 a.1)) (term_closed at b.0 b.1))
     term_closed (Unary o x spot) t e =
         let a = after_ok (term_of scope seen x) (λ y. Ok (term.Unary o y)) t e in
         rw (← (value_is (term.Unary o a.0) t a.2)) (term_closed x a.0 a.1)
     term_closed (Binary o x y) t e =
-        let a = after_ok (term_of scope seen x) (λ u. after (term_of scope seen y) (λ v. Ok (term.Binary o u v))) t e in
+        let a = after_ok (term_of scope seen x) (λ u. and_then (term_of scope seen y) (λ v. Ok (term.Binary o u v))) t e in
         let b = after_ok (term_of scope seen y) (λ v. Ok (term.Binary o a.0 v)) t a.2 in
         rw (← (value_is (term.Binary o a.0 b.0) t b.2)) (both (is_closed_with end (length scope.flows) a.0) (is_closed_with end (length scope.flows) b.0) (term_closed x a.0 a.1) (term_closed y b.0 b.1))
     term_closed (Choose c x y) t e =
-        let a = after_ok (term_of scope seen c) (λ u. after (term_of scope seen x) (λ v. after (term_of scope seen y) (λ w. Ok (term.Choose u v w)))) t e in
-        let b = after_ok (term_of scope seen x) (λ v. after (term_of scope seen y) (λ w. Ok (term.Choose a.0 v w))) t a.2 in
+        let a = after_ok (term_of scope seen c) (λ u. and_then (term_of scope seen x) (λ v. and_then (term_of scope seen y) (λ w. Ok (term.Choose u v w)))) t e in
+        let b = after_ok (term_of scope seen x) (λ v. and_then (term_of scope seen y) (λ w. Ok (term.Choose a.0 v w))) t a.2 in
         let d = after_ok (term_of scope seen y) (λ w. Ok (term.Choose a.0 b.0 w)) t b.2 in
         rw (← (value_is (term.Choose a.0 b.0 d.0) t d.2))
         (both (is_closed_with end (length scope.flows) a.0 && is_closed_with end (length scope.flows) b.0) (is_closed_with end (length scope.flows) d.0)

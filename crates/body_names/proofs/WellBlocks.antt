@@ -7,21 +7,21 @@ use Rattle.jdf_lex.specs.declared.fault.JdfCode.TheVariants.{TooManyVars}
 use Rattle.term_core.specs.declared.body.Body.{Body}
 use Rattle.term_core.specs.declared.body.Stmt.{Stmt}
 use Rattle.term_core.specs.declared.body.Stmt.TheVariants as stmt
-use Rattle.term_core.specs.BlockSteps.{then}
-use Rattle.term_core.specs.Steps.{Steps}
-use Rattle.term_core.specs.Steps as steps
+use Rattle.term_core.specs.BlockStatementList.{then}
+use Rattle.term_core.specs.StatementList.{StatementList}
+use Rattle.term_core.specs.StatementList as steps
 use Rattle.term_core.specs.Term.{Term}
-use Rattle.term_core.specs.Value.{after, is_closed_with}
+use Rattle.term_core.specs.Value.{and_then, is_closed_with}
 use Rattle.term_core.specs.WellBody.{is_variable, are_well_made, IsWellBody}
 use Rattle.jdf_tree.specs.declared.expression.Word.{Word}
 use Rattle.jdf_tree.specs.Expression.{Expression}
 use Rattle.jdf_tree.specs.Statements.{Statements, Done, DeclareThen, SetThen, PutThen, IfThen, ForThen, TrapThen}
 use Rattle.body_names.specs.declared.scope.Scope.{Scope}
 use Rattle.body_names.specs.declared.variable.Variable.{Variable}
-use Rattle.body_names.specs.Names.{meaning_of}
-use Rattle.body_names.specs.Terms.{Resolved, fault_at, slot_of, written_flow, term_of}
-use Rattle.body_names.specs.Known.{Known, nothing_known, opened, closed, next_slot, with_variable, room_for, fresh_in, numbered, word_number}
-use Rattle.body_names.specs.Resolved.{Resolver, declare, set, put, inside, choice, counted, stop, follow, resolved, body_of}
+use Rattle.body_names.specs.Meanings.{meaning_of}
+use Rattle.body_names.specs.Expressions.{Resolved, fault_at, slot_of, written_flow, term_of}
+use Rattle.body_names.specs.Bindings.{Bindings, no_bindings, block_opened, block_closed, next_slot, with_variable, room_for, fresh_in, numbered, word_number}
+use Rattle.body_names.specs.Statements.{Resolver, declare, set, put, in_block, if_else, for_loop, trap, follow, resolved, body_of}
 use Rattle.body_names.proofs.Slots.{AreSlots, slots_append, slots_take, slots_raise}
 use Rattle.body_names.proofs.Well.{after_ok, both, set_there, written_below, term_closed}
 
@@ -33,8 +33,8 @@ slot_test locals end n h k = both (nat_le locals n) (nat_lt n end) (grind (arith
 
 module _ (scope : Scope) where
   -- the variables that are seen have slots among those of the variables so far
-  record IsSound (k : Known) : Type 0 where
-    few : k.declared ≤ 256
+  record IsSound (k : Bindings) : Type 0 where
+    at_most : k.declared ≤ 256
     slots : AreSlots (length scope.locals) (length scope.locals + k.declared) k.seen
 
   -- a statement names only what is there, with so many slots
@@ -47,7 +47,7 @@ module _ (scope : Scope) where
       is_variable (length scope.locals) end n && is_closed_with end (length scope.flows) lo && is_closed_with end (length scope.flows) hi && are_well_made (length scope.locals) end (length scope.flows) turn
   is_well end (stmt.Trap w) = true
 
-  then_well : (end : ℕ) (s : Stmt) (rest : Steps) → is_well end s ≡ true → are_well_made (length scope.locals) end (length scope.flows) rest ≡ true → are_well_made (length scope.locals) end (length scope.flows) (then s rest) ≡ true
+  then_well : (end : ℕ) (s : Stmt) (rest : StatementList) → is_well end s ≡ true → are_well_made (length scope.locals) end (length scope.flows) rest ≡ true → are_well_made (length scope.locals) end (length scope.flows) (then s rest) ≡ true
   then_well end (stmt.Set n e) rest h k = both (is_well end (stmt.Set n e)) (are_well_made (length scope.locals) end (length scope.flows) rest) h k
   then_well end (stmt.Put flow at e) rest h k = both (is_well end (stmt.Put flow at e)) (are_well_made (length scope.locals) end (length scope.flows) rest) h k
   then_well end (stmt.If c first second) rest h k = both (is_well end (stmt.If c first second)) (are_well_made (length scope.locals) end (length scope.flows) rest) h k
@@ -55,45 +55,45 @@ module _ (scope : Scope) where
   then_well end (stmt.Trap w) rest h k = k
 
   -- what follows what was known before, and a test that each number of slots from there on passes
-  record Keeps (k m : Known) (test : ℕ → Bool) : Type 0 where
+  record Keeps (k m : Bindings) (test : ℕ → Bool) : Type 0 where
     rises : k.declared ≤ m.declared
     sound : IsSound m
     well : (end : ℕ) → length scope.locals + m.declared ≤ end → test end ≡ true
 
-  abbrev IsStatement : Known → Resolved (Stmt × Known) → Type 0
-  IsStatement k r = (x : Stmt × Known) → r ≡ Ok x → Keeps k x.1 (λ end. is_well end x.0)
+  abbrev IsStatement : Bindings → Resolved (Stmt × Bindings) → Type 0
+  IsStatement k r = (x : Stmt × Bindings) → r ≡ Ok x → Keeps k x.1 (λ end. is_well end x.0)
 
   abbrev IsBlock : Resolver → Type 0
-  IsBlock block = (k : Known) → IsSound k → (x : Steps × Known) → block k ≡ Ok x → Keeps k x.1 (λ end. are_well_made (length scope.locals) end (length scope.flows) x.0)
+  IsBlock block = (k : Bindings) → IsSound k → (x : StatementList × Bindings) → block k ≡ Ok x → Keeps k x.1 (λ end. are_well_made (length scope.locals) end (length scope.flows) x.0)
 
   -- expressions, with slots for more variables
-  closed_at : (k : Known) → IsSound k → (e : Expression) (t : Term) → term_of scope k.seen e ≡ Ok t → (end : ℕ) → length scope.locals + k.declared ≤ end → is_closed_with end (length scope.flows) t ≡ true
+  closed_at : (k : Bindings) → IsSound k → (e : Expression) (t : Term) → term_of scope k.seen e ≡ Ok t → (end : ℕ) → length scope.locals + k.declared ≤ end → is_closed_with end (length scope.flows) t ≡ true
   closed_at k sound e t h end le =
       term_closed scope end (omega (arith, le)) k.seen (slots_raise (length scope.locals) (length scope.locals + k.declared) end k.seen le sound.slots) e t h
 
-  has_room : (w : Word) (k : Known) (u : Unit {0}) → room_for w k ≡ Ok u → k.declared < 256
+  has_room : (w : Word) (k : Bindings) (u : Unit {0}) → room_for w k ≡ Ok u → k.declared < 256
   has_room w k u e = go (nat_lt k.declared 256) refl e
     where
       go : (b : Bool) → nat_lt k.declared 256 ≡ b → (let r : Resolved (Unit {0}) = cond b (Ok tt) (fault_at w TooManyVars) in r ≡ Ok u) → k.declared < 256
       go true t e = ltb-true k.declared 256 t
       go false t e = absurd cc
 
-  declared_sound : (k : Known) (name : List ℕ) (counts : Bool) → IsSound k → k.declared < 256 → IsSound (with_variable scope name counts k)
-  declared_sound k name counts sound room =
-      let one : AreSlots (length scope.locals) (length scope.locals + (k.declared + 1)) (record { name = name; slot = next_slot scope k; counts = counts } ∷ []) = (omega arith, omega arith, tt) in
+  declared_sound : (k : Bindings) (name : List ℕ) (is_loop_variable : Bool) → IsSound k → k.declared < 256 → IsSound (with_variable scope name is_loop_variable k)
+  declared_sound k name is_loop_variable sound room =
+      let one : AreSlots (length scope.locals) (length scope.locals + (k.declared + 1)) (record { name = name; slot = next_slot scope k; is_loop_variable = is_loop_variable } ∷ []) = (omega arith, omega arith, tt) in
       record {
-        few = omega (arith, room);
+        at_most = omega (arith, room);
         slots =
-            slots_append (length scope.locals) (length scope.locals + (k.declared + 1)) k.seen (record { name = name; slot = next_slot scope k; counts = counts } ∷ [])
+            slots_append (length scope.locals) (length scope.locals + (k.declared + 1)) k.seen (record { name = name; slot = next_slot scope k; is_loop_variable = is_loop_variable } ∷ [])
             (slots_raise (length scope.locals) (length scope.locals + k.declared) (length scope.locals + (k.declared + 1)) k.seen (omega arith) sound.slots) one;
       }
 
-  declare_well : (w : Word) (e : Expression) (k : Known) → IsSound k → IsStatement k (declare scope w e k)
+  declare_well : (w : Word) (e : Expression) (k : Bindings) → IsSound k → IsStatement k (declare scope w e k)
   declare_well w e k sound x h =
-      let a = after_ok (room_for w k) (λ _. after (fresh_in w k) (λ _. after (term_of scope k.seen e) (λ t. Ok (stmt.Set (next_slot scope k) t, with_variable scope w.text false k)))) x h in
-      let b = after_ok (fresh_in w k) (λ _. after (term_of scope k.seen e) (λ t. Ok (stmt.Set (next_slot scope k) t, with_variable scope w.text false k))) x a.2 in
+      let a = after_ok (room_for w k) (λ _. and_then (fresh_in w k) (λ _. and_then (term_of scope k.seen e) (λ t. Ok (stmt.Set (next_slot scope k) t, with_variable scope w.text false k)))) x h in
+      let b = after_ok (fresh_in w k) (λ _. and_then (term_of scope k.seen e) (λ t. Ok (stmt.Set (next_slot scope k) t, with_variable scope w.text false k))) x a.2 in
       let d = after_ok (term_of scope k.seen e) (λ t. Ok (stmt.Set (next_slot scope k) t, with_variable scope w.text false k)) x b.2 in
-      subst (λ (y : Stmt × Known). Keeps k y.1 (λ end. is_well end y.0)) (pair_is (stmt.Set (next_slot scope k) d.0, with_variable scope w.text false k) x d.2)
+      subst (λ (y : Stmt × Bindings). Keeps k y.1 (λ end. is_well end y.0)) (pair_is (stmt.Set (next_slot scope k) d.0, with_variable scope w.text false k) x d.2)
       (record {
         rises = omega arith;
         sound = declared_sound k w.text false sound (has_room w k a.0 a.1);
@@ -102,12 +102,12 @@ module _ (scope : Scope) where
             (slot_test (length scope.locals) end (next_slot scope k) (omega arith) (omega (arith, le))) (closed_at k sound e d.0 d.1 end (omega (arith, le)));
       })
 
-  set_well : (w : Word) (e : Expression) (k : Known) → IsSound k → IsStatement k (set scope w e k)
+  set_well : (w : Word) (e : Expression) (k : Bindings) → IsSound k → IsStatement k (set scope w e k)
   set_well w e k sound x h =
-      let a = after_ok (slot_of w (meaning_of scope k.seen w.text)) (λ n. after (term_of scope k.seen e) (λ t. Ok (stmt.Set n t, k))) x h in
+      let a = after_ok (slot_of w (meaning_of scope k.seen w.text)) (λ n. and_then (term_of scope k.seen e) (λ t. Ok (stmt.Set n t, k))) x h in
       let b = after_ok (term_of scope k.seen e) (λ t. Ok (stmt.Set a.0 t, k)) x a.2 in
       let there = set_there scope (length scope.locals + k.declared) (omega arith) k.seen sound.slots w a.0 a.1 in
-      subst (λ (y : Stmt × Known). Keeps k y.1 (λ end. is_well end y.0)) (pair_is (stmt.Set a.0 b.0, k) x b.2)
+      subst (λ (y : Stmt × Bindings). Keeps k y.1 (λ end. is_well end y.0)) (pair_is (stmt.Set a.0 b.0, k) x b.2)
       (record {
         rises = omega arith;
         sound = sound;
@@ -116,13 +116,13 @@ module _ (scope : Scope) where
             (slot_test (length scope.locals) end a.0 there.0 (let t = there.1 in omega (arith, t, le))) (closed_at k sound e b.0 b.1 end le);
       })
 
-  put_well : (w : Word) (at e : Expression) (k : Known) → IsSound k → IsStatement k (put scope w at e k)
+  put_well : (w : Word) (at e : Expression) (k : Bindings) → IsSound k → IsStatement k (put scope w at e k)
   put_well w at e k sound x h =
-      let a = after_ok (written_flow scope w) (λ flow. after (term_of scope k.seen at) (λ i. after (term_of scope k.seen e) (λ t. Ok (stmt.Put flow i t, k)))) x h in
-      let b = after_ok (term_of scope k.seen at) (λ i. after (term_of scope k.seen e) (λ t. Ok (stmt.Put a.0 i t, k))) x a.2 in
+      let a = after_ok (written_flow scope w) (λ flow. and_then (term_of scope k.seen at) (λ i. and_then (term_of scope k.seen e) (λ t. Ok (stmt.Put flow i t, k)))) x h in
+      let b = after_ok (term_of scope k.seen at) (λ i. and_then (term_of scope k.seen e) (λ t. Ok (stmt.Put a.0 i t, k))) x a.2 in
       let d = after_ok (term_of scope k.seen e) (λ t. Ok (stmt.Put a.0 b.0 t, k)) x b.2 in
       let there = written_below scope (length scope.locals + k.declared) (omega arith) k.seen sound.slots w a.0 a.1 in
-      subst (λ (y : Stmt × Known). Keeps k y.1 (λ end. is_well end y.0)) (pair_is (stmt.Put a.0 b.0 d.0, k) x d.2)
+      subst (λ (y : Stmt × Bindings). Keeps k y.1 (λ end. is_well end y.0)) (pair_is (stmt.Put a.0 b.0 d.0, k) x d.2)
       (record {
         rises = omega arith;
         sound = sound;
@@ -131,34 +131,34 @@ module _ (scope : Scope) where
             (both (nat_lt a.0 (length scope.flows)) (is_closed_with end (length scope.flows) b.0) (lt-ltb a.0 (length scope.flows) there) (closed_at k sound at b.0 b.1 end le)) (closed_at k sound e d.0 d.1 end le);
       })
 
-  opened_sound : (k : Known) → IsSound k → IsSound (opened k)
-  opened_sound k sound = record { few = sound.few; slots = sound.slots }
+  opened_sound : (k : Bindings) → IsSound k → IsSound (block_opened k)
+  opened_sound k sound = record { at_most = sound.at_most; slots = sound.slots }
 
-  inside_well : (opening : Known → Known) (block : Resolver) → IsBlock block → (k : Known) → IsSound (opening k) → k.declared ≤ (opening k).declared → (x : Steps × Known) → inside opening block k ≡ Ok x
+  inside_well : (opening : Bindings → Bindings) (block : Resolver) → IsBlock block → (k : Bindings) → IsSound (opening k) → k.declared ≤ (opening k).declared → (x : StatementList × Bindings) → in_block opening block k ≡ Ok x
       → ((opening k).declared ≤ x.1.declared) × Keeps k x.1 (λ end. are_well_made (length scope.locals) end (length scope.flows) x.0)
   inside_well opening block good k sound rises x h =
-      let a = after_ok (block (opening k)) (λ y. Ok (y.0, closed k y.1)) x h in
+      let a = after_ok (block (opening k)) (λ y. Ok (y.0, block_closed k y.1)) x h in
       let g = good (opening k) sound a.0 a.1 in
       let up = g.rises in
-      subst (λ (y : Steps × Known). ((opening k).declared ≤ y.1.declared) × Keeps k y.1 (λ end. are_well_made (length scope.locals) end (length scope.flows) y.0)) (pair_is (a.0.0, closed k a.0.1) x a.2) (
+      subst (λ (y : StatementList × Bindings). ((opening k).declared ≤ y.1.declared) × Keeps k y.1 (λ end. are_well_made (length scope.locals) end (length scope.flows) y.0)) (pair_is (a.0.0, block_closed k a.0.1) x a.2) (
         up,
         record {
           rises = omega (arith, rises, up);
-          sound = record { few = g.sound.few; slots = slots_take (length scope.locals) (length scope.locals + a.0.1.declared) (length k.seen) a.0.1.seen g.sound.slots };
+          sound = record { at_most = g.sound.at_most; slots = slots_take (length scope.locals) (length scope.locals + a.0.1.declared) (length k.seen) a.0.1.seen g.sound.slots };
           well = g.well;
         },
       )
 
-  choice_well : (c : Expression) (first second : Resolver) → IsBlock first → IsBlock second → (k : Known) → IsSound k → IsStatement k (choice scope c first second k)
+  choice_well : (c : Expression) (first second : Resolver) → IsBlock first → IsBlock second → (k : Bindings) → IsSound k → IsStatement k (if_else scope c first second k)
   choice_well c first second one two k sound x h =
-      let a = after_ok (term_of scope k.seen c) (λ t. after (inside opened first k) (λ u. after (inside opened second u.1) (λ v. Ok (stmt.If t u.0 v.0, v.1)))) x h in
-      let b = after_ok (inside opened first k) (λ u. after (inside opened second u.1) (λ v. Ok (stmt.If a.0 u.0 v.0, v.1))) x a.2 in
-      let d = after_ok (inside opened second b.0.1) (λ v. Ok (stmt.If a.0 b.0.0 v.0, v.1)) x b.2 in
-      let g = (inside_well opened first one k (opened_sound k sound) (omega arith) b.0 b.1).1 in
-      let i = (inside_well opened second two b.0.1 (opened_sound b.0.1 g.sound) (omega arith) d.0 d.1).1 in
+      let a = after_ok (term_of scope k.seen c) (λ t. and_then (in_block block_opened first k) (λ u. and_then (in_block block_opened second u.1) (λ v. Ok (stmt.If t u.0 v.0, v.1)))) x h in
+      let b = after_ok (in_block block_opened first k) (λ u. and_then (in_block block_opened second u.1) (λ v. Ok (stmt.If a.0 u.0 v.0, v.1))) x a.2 in
+      let d = after_ok (in_block block_opened second b.0.1) (λ v. Ok (stmt.If a.0 b.0.0 v.0, v.1)) x b.2 in
+      let g = (inside_well block_opened first one k (opened_sound k sound) (omega arith) b.0 b.1).1 in
+      let i = (inside_well block_opened second two b.0.1 (opened_sound b.0.1 g.sound) (omega arith) d.0 d.1).1 in
       let up = g.rises in
       let on = i.rises in
-      subst (λ (y : Stmt × Known). Keeps k y.1 (λ end. is_well end y.0)) (pair_is (stmt.If a.0 b.0.0 d.0.0, d.0.1) x d.2)
+      subst (λ (y : Stmt × Bindings). Keeps k y.1 (λ end. is_well end y.0)) (pair_is (stmt.If a.0 b.0.0 d.0.0, d.0.1) x d.2)
       (record {
         rises = omega (arith, up, on);
         sound = i.sound;
@@ -167,17 +167,17 @@ module _ (scope : Scope) where
             (both (is_closed_with end (length scope.flows) a.0) (are_well_made (length scope.locals) end (length scope.flows) b.0.0) (closed_at k sound c a.0 a.1 end (omega (arith, le, up, on))) (g.well end (omega (arith, le, on)))) (i.well end le);
       })
 
-  counted_well : (w : Word) (lo hi : Expression) (turn : Resolver) → IsBlock turn → (k : Known) → IsSound k → IsStatement k (counted scope w lo hi turn k)
+  counted_well : (w : Word) (lo hi : Expression) (turn : Resolver) → IsBlock turn → (k : Bindings) → IsSound k → IsStatement k (for_loop scope w lo hi turn k)
   counted_well w lo hi turn good k sound x h =
-      let opening : Known → Known = λ m. with_variable scope w.text true (opened m) in
-      let a = after_ok (room_for w k) (λ _. after (term_of scope k.seen lo) (λ t. after (term_of scope k.seen hi) (λ u. after (inside opening turn k) (λ v. Ok (stmt.For (next_slot scope k) t u v.0, v.1))))) x h in
-      let b = after_ok (term_of scope k.seen lo) (λ t. after (term_of scope k.seen hi) (λ u. after (inside opening turn k) (λ v. Ok (stmt.For (next_slot scope k) t u v.0, v.1)))) x a.2 in
-      let d = after_ok (term_of scope k.seen hi) (λ u. after (inside opening turn k) (λ v. Ok (stmt.For (next_slot scope k) b.0 u v.0, v.1))) x b.2 in
-      let f = after_ok (inside opening turn k) (λ v. Ok (stmt.For (next_slot scope k) b.0 d.0 v.0, v.1)) x d.2 in
+      let opening : Bindings → Bindings = λ m. with_variable scope w.text true (block_opened m) in
+      let a = after_ok (room_for w k) (λ _. and_then (term_of scope k.seen lo) (λ t. and_then (term_of scope k.seen hi) (λ u. and_then (in_block opening turn k) (λ v. Ok (stmt.For (next_slot scope k) t u v.0, v.1))))) x h in
+      let b = after_ok (term_of scope k.seen lo) (λ t. and_then (term_of scope k.seen hi) (λ u. and_then (in_block opening turn k) (λ v. Ok (stmt.For (next_slot scope k) t u v.0, v.1)))) x a.2 in
+      let d = after_ok (term_of scope k.seen hi) (λ u. and_then (in_block opening turn k) (λ v. Ok (stmt.For (next_slot scope k) b.0 u v.0, v.1))) x b.2 in
+      let f = after_ok (in_block opening turn k) (λ v. Ok (stmt.For (next_slot scope k) b.0 d.0 v.0, v.1)) x d.2 in
       let room = has_room w k a.0 a.1 in
-      let g = inside_well opening turn good k (declared_sound (opened k) w.text true (opened_sound k sound) room) (omega arith) f.0 f.1 in
+      let g = inside_well opening turn good k (declared_sound (block_opened k) w.text true (opened_sound k sound) room) (omega arith) f.0 f.1 in
       let up : k.declared + 1 ≤ f.0.1.declared = g.0 in
-      subst (λ (y : Stmt × Known). Keeps k y.1 (λ end. is_well end y.0)) (pair_is (stmt.For (next_slot scope k) b.0 d.0 f.0.0, f.0.1) x f.2)
+      subst (λ (y : Stmt × Bindings). Keeps k y.1 (λ end. is_well end y.0)) (pair_is (stmt.For (next_slot scope k) b.0 d.0 f.0.0, f.0.1) x f.2)
       (record {
         rises = omega (arith, up);
         sound = g.1.sound;
@@ -188,23 +188,23 @@ module _ (scope : Scope) where
             (slot_test (length scope.locals) end (next_slot scope k) (omega arith) (omega (arith, le, up))) (closed_at k sound lo b.0 b.1 end (omega (arith, le, up)))) (closed_at k sound hi d.0 d.1 end (omega (arith, le, up)))) (g.1.well end le);
       })
 
-  stop_well : (w : Word) (k : Known) → IsSound k → IsStatement k (stop w k)
-  stop_well w k sound x h = subst (λ (y : Stmt × Known). Keeps k y.1 (λ end. is_well end y.0)) (pair_is (stmt.Trap (word_number w.text k).0, (word_number w.text k).1) x h) (go _)
+  stop_well : (w : Word) (k : Bindings) → IsSound k → IsStatement k (trap w k)
+  stop_well w k sound x h = subst (λ (y : Stmt × Bindings). Keeps k y.1 (λ end. is_well end y.0)) (pair_is (stmt.Trap (word_number w.text k).0, (word_number w.text k).1) x h) (go _)
     where
       go : (o : _) → Keeps k (numbered w.text k o).1 (λ end. true)
       go (Some n) = record { rises = omega arith; sound = sound; well = λ end le. refl }
-      go None = record { rises = omega arith; sound = record { few = sound.few; slots = sound.slots }; well = λ end le. refl }
+      go None = record { rises = omega arith; sound = record { at_most = sound.at_most; slots = sound.slots }; well = λ end le. refl }
 
-  follow_well : (k : Known) (first : Resolved (Stmt × Known)) (rest : Resolver) → IsStatement k first → IsBlock rest → (x : Steps × Known) → follow first rest ≡ Ok x
+  follow_well : (k : Bindings) (first : Resolved (Stmt × Bindings)) (rest : Resolver) → IsStatement k first → IsBlock rest → (x : StatementList × Bindings) → follow first rest ≡ Ok x
       → Keeps k x.1 (λ end. are_well_made (length scope.locals) end (length scope.flows) x.0)
   follow_well k first rest one more x h =
-      let a = after_ok first (λ s. after (rest s.1) (λ y. Ok (then s.0 y.0, y.1))) x h in
+      let a = after_ok first (λ s. and_then (rest s.1) (λ y. Ok (then s.0 y.0, y.1))) x h in
       let b = after_ok (rest a.0.1) (λ y. Ok (then a.0.0 y.0, y.1)) x a.2 in
       let g = one a.0 a.1 in
       let i = more a.0.1 g.sound b.0 b.1 in
       let up = g.rises in
       let on = i.rises in
-      subst (λ (y : Steps × Known). Keeps k y.1 (λ end. are_well_made (length scope.locals) end (length scope.flows) y.0)) (pair_is (then a.0.0 b.0.0, b.0.1) x b.2)
+      subst (λ (y : StatementList × Bindings). Keeps k y.1 (λ end. are_well_made (length scope.locals) end (length scope.flows) y.0)) (pair_is (then a.0.0 b.0.0, b.0.1) x b.2)
       (record {
         rises = omega (arith, up, on);
         sound = i.sound;
@@ -213,28 +213,28 @@ module _ (scope : Scope) where
 
   block_well : (statements : Statements) → IsBlock (resolved scope statements)
   block_well Done k sound x h =
-      subst (λ (y : Steps × Known). Keeps k y.1 (λ end. are_well_made (length scope.locals) end (length scope.flows) y.0)) (pair_is (steps.Done, k) x h) (record { rises = omega arith; sound = sound; well = λ end le. refl })
+      subst (λ (y : StatementList × Bindings). Keeps k y.1 (λ end. are_well_made (length scope.locals) end (length scope.flows) y.0)) (pair_is (steps.Done, k) x h) (record { rises = omega arith; sound = sound; well = λ end le. refl })
   block_well (DeclareThen w e rest) k sound x h = follow_well k (declare scope w e k) (resolved scope rest) (declare_well w e k sound) (block_well rest) x h
   block_well (SetThen w e rest) k sound x h = follow_well k (set scope w e k) (resolved scope rest) (set_well w e k sound) (block_well rest) x h
   block_well (PutThen w at e rest) k sound x h = follow_well k (put scope w at e k) (resolved scope rest) (put_well w at e k sound) (block_well rest) x h
   block_well (IfThen c first second rest) k sound x h =
-      follow_well k (choice scope c (resolved scope first) (resolved scope second) k) (resolved scope rest) (choice_well c (resolved scope first) (resolved scope second) (block_well first) (block_well second) k sound) (block_well rest) x h
+      follow_well k (if_else scope c (resolved scope first) (resolved scope second) k) (resolved scope rest) (choice_well c (resolved scope first) (resolved scope second) (block_well first) (block_well second) k sound) (block_well rest) x h
   block_well (ForThen w lo hi turn rest) k sound x h =
-      follow_well k (counted scope w lo hi (resolved scope turn) k) (resolved scope rest) (counted_well w lo hi (resolved scope turn) (block_well turn) k sound) (block_well rest) x h
-  block_well (TrapThen w rest) k sound x h = follow_well k (stop w k) (resolved scope rest) (stop_well w k sound) (block_well rest) x h
+      follow_well k (for_loop scope w lo hi (resolved scope turn) k) (resolved scope rest) (counted_well w lo hi (resolved scope turn) (block_well turn) k sound) (block_well rest) x h
+  block_well (TrapThen w rest) k sound x h = follow_well k (trap w k) (resolved scope rest) (stop_well w k sound) (block_well rest) x h
 
-  -- what is known behind a whole body, and that the body is well made
-  pub whole_well : (statements : Statements) (x : Steps × Known) → resolved scope statements nothing_known ≡ Ok x
+  -- what is known after a whole body, and that the body is well made
+  pub whole_well : (statements : Statements) (x : StatementList × Bindings) → resolved scope statements no_bindings ≡ Ok x
       → (x.1.declared ≤ 256) × IsWellBody (length scope.locals) (length scope.flows) (record { statements = x.0; slots = length scope.locals + x.1.declared })
   whole_well statements x h =
-      let g = block_well statements nothing_known (record { few = omega arith; slots = tt }) x h in
-      let few : x.1.declared ≤ 256 = g.sound.few in (
-        few,
+      let g = block_well statements no_bindings (record { at_most = omega arith; slots = tt }) x h in
+      let at_most : x.1.declared ≤ 256 = g.sound.at_most in (
+        at_most,
         record {
-          few_locals = scope.few_locals;
-          few_flows = scope.few_flows;
-          holds_locals = omega arith;
-          few_variables = omega (arith, few);
+          locals_at_most = scope.locals_at_most;
+          flows_at_most = scope.flows_at_most;
+          slots_hold_locals = omega arith;
+          variables_at_most = omega (arith, at_most);
           statements = g.well (length scope.locals + x.1.declared) (omega arith);
         },
       )

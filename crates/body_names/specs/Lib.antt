@@ -1,7 +1,8 @@
-pub mod Answers
-pub mod Names
-pub mod Terms
-pub mod Known
-pub mod Resolved
-pub mod Standing
-pub mod Walk
+pub mod Returns
+pub mod Meanings
+pub mod Expressions
+pub mod Bindings
+pub mod Statements
+pub mod TokenScan
+pub mod Scanner
+pub mod Renaming

@@ -1,11 +1,11 @@
 //! The flows that the elements of a body name.
 
 ghost use Rattle.std.specs.Prelude.{◌≡◌};
-ghost use Rattle.jdf_lex.specs.declared.fault.JdfRefusal.TheVariants.{Fault};
-ghost use Rattle.body_names.specs.Answers.{Answers};
-ghost use Rattle.body_names.specs.Terms.{read_flow, written_flow};
+ghost use Rattle.ptg_base.specs.declared.refusal.Refusal.TheVariants.{Fault};
+ghost use Rattle.body_names.specs.Returns.{Returns};
+ghost use Rattle.body_names.specs.Expressions.{read_flow, written_flow};
 
-use crate::names::flow_named;
+use crate::lookup::flow_named;
 use crate::scope::Scope;
 use jdf_lex::{JdfCode, JdfFault, JdfRefusal};
 use jdf_tree::Word;
@@ -23,7 +23,7 @@ pub(crate) fn fault_at(word: &Word, code: JdfCode) -> JdfRefusal
 
 /// The number of a flow whose elements are read.
 pub(crate) fn read_flow(scope: &Scope, word: &Word) -> Result<u8, JdfRefusal>
-    ensures { Answers (λ n. n) result (read_flow scope.now word.now) }
+    ensures { Returns (λ n. n) result (read_flow scope.now word.now) }
 {
     let Some(number) = flow_named(scope, word.text.bytes()) else {
         return Err(fault_at(word, JdfCode::UnknownName));
@@ -36,7 +36,7 @@ pub(crate) fn read_flow(scope: &Scope, word: &Word) -> Result<u8, JdfRefusal>
 
 /// The number of a flow whose elements are assigned to.
 pub(crate) fn written_flow(scope: &Scope, word: &Word) -> Result<u8, JdfRefusal>
-    ensures { Answers (λ n. n) result (written_flow scope.now word.now) }
+    ensures { Returns (λ n. n) result (written_flow scope.now word.now) }
 {
     let Some(number) = flow_named(scope, word.text.bytes()) else {
         return Err(fault_at(word, JdfCode::UnknownName));

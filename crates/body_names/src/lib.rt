@@ -1,15 +1,16 @@
-//! What the names of a body mean: its statements with all names resolved, or the first name that means nothing where it stands.
+//! Resolves the names of a body: its statements with slots, numbers and flows for names, or the first name that has a fault.
 #![tactic(auto)]
 
+mod bindings;
 mod expression;
 mod flow;
 mod front;
-mod known;
+mod laws;
+mod lookup;
 mod meaning;
-mod names;
 mod role;
+mod scanner;
 mod scope;
-mod standing;
 mod statement;
 #[cfg(test)]
 mod tests;
@@ -17,5 +18,6 @@ mod variable;
 mod whole;
 
 pub use front::front_fault;
-pub use scope::{FlowName, IntGlobal, Scope};
+pub use laws::another_name_changes_nothing;
+pub use scope::{FlowName, Scope};
 pub use whole::resolve;

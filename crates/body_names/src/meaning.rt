@@ -4,7 +4,7 @@ pub enum Meaning {
     /// A variable of the body, by its slot.
     Variable(u16),
     /// The variable of a loop, by its slot.
-    Counter(u16),
+    LoopVariable(u16),
     /// A definition of the class, by its number.
     Local(u16),
     /// A global that is an integer, by its value.

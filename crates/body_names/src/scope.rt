@@ -1,14 +1,11 @@
+//! What the names in a body may mean beside its own variables.
+
 ghost use Rattle.std.specs.Prelude.{◌≤◌, length};
 
-use ptg_base::{Row, Text};
+use name_table::{NameSet, NameTable};
+use ptg_base::{Seq, Text};
+use std::alloc::Global;
 use term_core::FlowKind;
-
-/// An integer that is a global of the JDF.
-#[derive(Debug, Drop)]
-pub struct IntGlobal {
-    pub name: Text,
-    pub value: i64,
-}
 
 /// A flow of a class.
 #[derive(Debug, Drop)]
@@ -17,16 +14,24 @@ pub struct FlowName {
     pub kind: FlowKind,
 }
 
-/// What the names in a body may mean beside its own variables. Of two of one name the first is meant.
-#[derive(Debug, Drop)]
+/// What the names in a body may mean beside its own variables. Of two definitions or two flows of one name the first is meant.
+#[derive(Drop)]
 pub struct Scope {
     /// The definitions of the class, in the text's order: at most 16.
-    pub locals: Row<Text>,
-    pub ints: Row<IntGlobal>,
+    pub locals: Seq<Text>,
+    /// The globals that are integers, with their values.
+    pub ints: NameTable<i64>,
     /// The globals that are collections.
-    pub colls: Row<Text>,
+    pub colls: NameSet,
     /// The flows of the class, in the text's order: at most 8.
-    pub flows: Row<FlowName>,
-    pub ghost few_locals: { length locals ≤ 16 },
-    pub ghost few_flows: { length flows ≤ 8 },
+    pub flows: Seq<FlowName>,
+    pub ghost locals_at_most: { length locals ≤ 16 },
+    pub ghost flows_at_most: { length flows ≤ 8 },
+}
+
+/// What a body is resolved with: where it gets memory, and what names mean beside its variables.
+#[derive(Drop)]
+pub(crate) struct Context<'a> {
+    pub(crate) alloc: Global,
+    pub(crate) scope: &'a Scope,
 }

@@ -1,177 +1,176 @@
 //! Statements and blocks with their names resolved.
 
 ghost use Rattle.std.specs.Prelude.{◌≡◌, true};
-ghost use Rattle.body_names.specs.Answers.{Answers};
-ghost use Rattle.body_names.specs.Known.{known_of, opened};
-ghost use Rattle.body_names.specs.Resolved.{declare, set, put, inside, choice, counted, stop, resolved, statement_of};
+ghost use Rattle.body_names.specs.Returns.{Returns};
+ghost use Rattle.body_names.specs.Bindings.{bindings_of, block_opened};
+ghost use Rattle.body_names.specs.Statements.{declare, set, put, in_block, if_else, for_loop, trap, resolved, statement_of};
 
+use crate::bindings::{add_variable, close, fresh_in, next_slot, room_for, word_number};
 use crate::expression::{slot_of, term_of};
 use crate::flow::written_flow;
-use crate::known::{add_variable, close, fresh_in, next_slot, room_for, word_number};
-use crate::scope::Scope;
-use crate::variable::Names;
+use crate::scope::Context;
+use crate::variable::BindingTable;
 use jdf_lex::JdfRefusal;
 use jdf_tree::{BlockTree, ExprTree, StmtTree, Word};
-use ptg_base::Row;
-use std::alloc::Global;
+use ptg_base::Seq;
 use term_core::{Block, Stmt};
 
-#[tactic(auto, using(crate::proofs::Steps::refuses_before))]
+#[tactic(auto, using(crate::proofs::Refusals::refuses_before))]
 fn declare(
-    alloc: Global,
-    scope: &Scope,
-    names: &mut Names,
+    context: &Context,
+    bindings: &mut BindingTable,
     word: &Word,
     value: &ExprTree,
 ) -> Result<Stmt, JdfRefusal>
-    ensures { Answers (λ s. (s, known_of names.new)) result (declare scope.now word.now value.now (known_of names.old)) }
+    ensures { Returns (λ s. (s, bindings_of bindings.new)) result (declare context.now.scope.now word.now value.now (bindings_of bindings.old)) }
 {
-    room_for(word, names)?;
-    fresh_in(word, names)?;
-    let value = term_of(alloc, scope, names.seen.as_slice(), value)?;
-    let slot = next_slot(scope, names);
-    add_variable(alloc, scope, names, word, false)?;
+    room_for(word, bindings)?;
+    fresh_in(word, bindings)?;
+    let value = term_of(context, bindings.seen.as_slice(), value)?;
+    let slot = next_slot(context.scope, bindings);
+    add_variable(context, bindings, word, false)?;
     Ok(Stmt::Set(slot, value))
 }
 
-#[tactic(auto, using(crate::proofs::Steps::refuses_before))]
+#[tactic(auto, using(crate::proofs::Refusals::refuses_before))]
 fn set(
-    alloc: Global,
-    scope: &Scope,
-    names: &Names,
+    context: &Context,
+    bindings: &BindingTable,
     word: &Word,
     value: &ExprTree,
 ) -> Result<Stmt, JdfRefusal>
-    ensures { Answers (λ s. (s, known_of names.now)) result (set scope.now word.now value.now (known_of names.now)) }
+    ensures { Returns (λ s. (s, bindings_of bindings.now)) result (set context.now.scope.now word.now value.now (bindings_of bindings.now)) }
 {
-    let seen = names.seen.as_slice();
-    let slot = slot_of(scope, seen, word)?;
-    let value = term_of(alloc, scope, seen, value)?;
+    let seen = bindings.seen.as_slice();
+    let slot = slot_of(context.scope, seen, word)?;
+    let value = term_of(context, seen, value)?;
     Ok(Stmt::Set(slot, value))
 }
 
-#[tactic(auto, using(crate::proofs::Steps::refuses_before))]
+#[tactic(auto, using(crate::proofs::Refusals::refuses_before))]
 fn put(
-    alloc: Global,
-    scope: &Scope,
-    names: &Names,
+    context: &Context,
+    bindings: &BindingTable,
     word: &Word,
     at: &ExprTree,
     value: &ExprTree,
 ) -> Result<Stmt, JdfRefusal>
-    ensures { Answers (λ s. (s, known_of names.now)) result (put scope.now word.now at.now value.now (known_of names.now)) }
+    ensures { Returns (λ s. (s, bindings_of bindings.now)) result (put context.now.scope.now word.now at.now value.now (bindings_of bindings.now)) }
 {
-    let seen = names.seen.as_slice();
-    let flow = written_flow(scope, word)?;
-    let at = term_of(alloc, scope, seen, at)?;
-    let value = term_of(alloc, scope, seen, value)?;
+    let seen = bindings.seen.as_slice();
+    let flow = written_flow(context.scope, word)?;
+    let at = term_of(context, seen, at)?;
+    let value = term_of(context, seen, value)?;
     Ok(Stmt::Put(flow, at, value))
 }
 
-fn stop(alloc: Global, names: &mut Names, word: &Word) -> Result<Stmt, JdfRefusal>
-    ensures { Answers (λ s. (s, known_of names.new)) result (stop word.now (known_of names.old)) }
+fn trap(context: &Context, bindings: &mut BindingTable, word: &Word) -> Result<Stmt, JdfRefusal>
+    ensures { Returns (λ s. (s, bindings_of bindings.new)) result (trap word.now (bindings_of bindings.old)) }
 {
-    let number = word_number(alloc, names, word)?;
+    let number = word_number(context.alloc, bindings, word)?;
     Ok(Stmt::Trap(number))
 }
 
-// A block behind which its variables are no longer seen.
+// A block, after which its variables are no longer seen.
 #[cycle(block)]
-#[tactic(auto, using(crate::proofs::Steps::refuses_before))]
-fn inside(
-    alloc: Global,
-    scope: &Scope,
-    names: &mut Names,
+#[tactic(auto, using(crate::proofs::Refusals::refuses_before))]
+fn in_block(
+    context: &Context,
+    bindings: &mut BindingTable,
     tree: &BlockTree,
 ) -> Result<Block, JdfRefusal>
-    ensures { Answers (λ b. (b, known_of names.new)) result (inside opened (resolved scope.now tree.now) (known_of names.old)) }
+    ensures { Returns (λ b. (b, bindings_of bindings.new)) result (in_block block_opened (resolved context.now.scope.now tree.now) (bindings_of bindings.old)) }
 {
-    let seen = names.seen.len();
-    let outside = names.outside;
-    names.outside = seen;
-    let resolved = block(alloc, scope, names, tree)?;
-    close(names, seen, outside);
+    let seen = bindings.seen.len();
+    let outside = bindings.outside;
+    bindings.outside = seen;
+    let resolved = block(context, bindings, tree)?;
+    close(bindings, seen, outside);
     Ok(resolved)
 }
 
 #[cycle(block)]
-#[tactic(auto, using(crate::proofs::Steps::refuses_before))]
-fn choice(
-    alloc: Global,
-    scope: &Scope,
-    names: &mut Names,
+#[tactic(auto, using(crate::proofs::Refusals::refuses_before))]
+fn if_else(
+    context: &Context,
+    bindings: &mut BindingTable,
     condition: &ExprTree,
     first: &BlockTree,
     second: &BlockTree,
 ) -> Result<Stmt, JdfRefusal>
-    ensures { Answers (λ s. (s, known_of names.new)) result (choice scope.now condition.now (resolved scope.now first.now) (resolved scope.now second.now) (known_of names.old)) }
+    ensures { Returns (λ s. (s, bindings_of bindings.new)) result (if_else context.now.scope.now condition.now (resolved context.now.scope.now first.now) (resolved context.now.scope.now second.now) (bindings_of bindings.old)) }
 {
-    let condition = term_of(alloc, scope, names.seen.as_slice(), condition)?;
-    let first = inside(alloc, scope, names, first)?;
-    let second = inside(alloc, scope, names, second)?;
+    let condition = term_of(context, bindings.seen.as_slice(), condition)?;
+    let first = in_block(context, bindings, first)?;
+    let second = in_block(context, bindings, second)?;
     Ok(Stmt::If(condition, first, second))
 }
 
+// The first and the last value of a loop's variable.
+#[derive(Drop)]
+struct Bounds<'a> {
+    low: &'a ExprTree,
+    high: &'a ExprTree,
+}
+
 #[cycle(block)]
-#[tactic(auto, using(crate::proofs::Steps::refuses_before))]
-fn counted(
-    alloc: Global,
-    scope: &Scope,
-    names: &mut Names,
+#[tactic(auto, using(crate::proofs::Refusals::refuses_before))]
+fn for_loop(
+    context: &Context,
+    bindings: &mut BindingTable,
     word: &Word,
-    low: &ExprTree,
-    high: &ExprTree,
+    bounds: Bounds,
     turn: &BlockTree,
 ) -> Result<Stmt, JdfRefusal>
-    ensures { Answers (λ s. (s, known_of names.new)) result (counted scope.now word.now low.now high.now (resolved scope.now turn.now) (known_of names.old)) }
+    ensures { Returns (λ s. (s, bindings_of bindings.new)) result (for_loop context.now.scope.now word.now bounds.entry.low.now bounds.entry.high.now (resolved context.now.scope.now turn.now) (bindings_of bindings.old)) }
 {
-    room_for(word, names)?;
-    let low = term_of(alloc, scope, names.seen.as_slice(), low)?;
-    let high = term_of(alloc, scope, names.seen.as_slice(), high)?;
-    let slot = next_slot(scope, names);
-    let seen = names.seen.len();
-    let outside = names.outside;
-    names.outside = seen;
-    add_variable(alloc, scope, names, word, true)?;
-    let turn = block(alloc, scope, names, turn)?;
-    close(names, seen, outside);
+    room_for(word, bindings)?;
+    let low = term_of(context, bindings.seen.as_slice(), bounds.low)?;
+    let high = term_of(context, bindings.seen.as_slice(), bounds.high)?;
+    let slot = next_slot(context.scope, bindings);
+    let seen = bindings.seen.len();
+    let outside = bindings.outside;
+    bindings.outside = seen;
+    add_variable(context, bindings, word, true)?;
+    let turn = block(context, bindings, turn)?;
+    close(bindings, seen, outside);
     Ok(Stmt::For(slot, low, high, turn))
 }
 
 #[cycle(block)]
 fn statement(
-    alloc: Global,
-    scope: &Scope,
-    names: &mut Names,
+    context: &Context,
+    bindings: &mut BindingTable,
     tree: &StmtTree,
 ) -> Result<Stmt, JdfRefusal>
-    ensures { Answers (λ s. (s, known_of names.new)) result (statement_of scope.now tree.now (known_of names.old)) }
+    ensures { Returns (λ s. (s, bindings_of bindings.new)) result (statement_of context.now.scope.now tree.now (bindings_of bindings.old)) }
 {
     match tree {
-        StmtTree::Declare(word, value) => declare(alloc, scope, names, word, value),
-        StmtTree::Set(word, value) => set(alloc, scope, names, word, value),
-        StmtTree::Put(word, at, value) => put(alloc, scope, names, word, at, value),
-        StmtTree::If(condition, first, second) => choice(
-            alloc, scope, names, condition, first, second,
+        StmtTree::Declare(word, value) => declare(context, bindings, word, value),
+        StmtTree::Set(word, value) => set(context, bindings, word, value),
+        StmtTree::Put(word, at, value) => put(context, bindings, word, at, value),
+        StmtTree::If(condition, first, second) => if_else(
+            context, bindings, condition, first, second,
         ),
-        StmtTree::For(word, low, high, turn) => counted(alloc, scope, names, word, low, high, turn),
-        StmtTree::Trap(word) => stop(alloc, names, word),
+        StmtTree::For(word, low, high, turn) => {
+            for_loop(context, bindings, word, Bounds { low, high }, turn)
+        }
+        StmtTree::Trap(word) => trap(context, bindings, word),
     }
 }
 
 /// The statements of a block, in order.
 #[cycle(block)]
 pub(crate) fn block(
-    alloc: Global,
-    scope: &Scope,
-    names: &mut Names,
+    context: &Context,
+    bindings: &mut BindingTable,
     tree: &BlockTree,
 ) -> Result<Block, JdfRefusal>
-    ensures { Answers (λ b. (b, known_of names.new)) result (resolved scope.now tree.now (known_of names.old)) }
+    ensures { Returns (λ b. (b, bindings_of bindings.new)) result (resolved context.now.scope.now tree.now (bindings_of bindings.old)) }
 {
-    let mut list = Row::new(alloc);
+    let mut list = Seq::new(context.alloc);
     for statement_tree in tree.as_slice() {
-        let next = statement(alloc, scope, names, statement_tree)?;
+        let next = statement(context, bindings, statement_tree)?;
         list.push(next)?;
     }
     Ok(Block::of(list))

@@ -1,5 +1,8 @@
-use grammar_core::Sort;
-use ptg_base::{Row, Text};
+//! The variables of a body, and what is known of them at one of its tokens.
+
+use grammar_core::Terminal;
+use name_table::NameSet;
+use ptg_base::Text;
 
 /// A variable that a body declares.
 #[derive(Debug, Drop)]
@@ -7,13 +10,12 @@ pub struct Variable {
     pub name: Text,
     /// The number of its slot.
     pub slot: u16,
-    /// Whether it is the variable of a loop.
-    pub counts: bool,
+    pub is_loop_variable: bool,
 }
 
-/// What is known at a place of a body.
-#[derive(Debug, Drop)]
-pub struct Names {
+/// What the names of a body are bound to, between two of its tokens.
+#[derive(Drop)]
+pub struct BindingTable {
     /// The variables that are seen there, in the order of their declarations.
     pub seen: Vec<Variable>,
     /// How many of these are of blocks around the innermost one.
@@ -21,18 +23,18 @@ pub struct Names {
     /// How many variables the body has declared so far.
     pub declared: u16,
     /// The trap words so far, in the order of their first use.
-    pub words: Row<Text>,
+    pub words: NameSet,
 }
 
 /// What is known at a token of a body.
-#[derive(Debug, Drop)]
-pub struct Walk {
-    pub names: Names,
+#[derive(Drop)]
+pub struct Scanner {
+    pub bindings: BindingTable,
     /// For each block that is open, the innermost last, how many variables were seen before it, and how many of these were
     /// of blocks around.
-    pub around: Vec<(usize, usize)>,
+    pub open_blocks: Vec<(usize, usize)>,
     /// The variable whose declaration has begun.
     pub naming: Option<Text>,
     /// The token before.
-    pub last: Option<Sort>,
+    pub previous: Option<Terminal>,
 }

@@ -1,82 +1,81 @@
 -- What the next token tells of the statements of a body.
 use Rattle.std.proofs.Common.{◌≡◌, ◌<◌, ◌≤◌, Bool, true, false, cond, List, [], ◌∷◌, ◌++◌, length, Ok, Err, refl, sym, ap, ◌∙◌, subst}
 use Rattle.jdf_lex.specs.declared.token.Token.{Token}
-use Rattle.grammar_core.specs.declared.sort.Sort.{Sort}
-use Rattle.grammar_core.specs.declared.sort.Sort.TheVariants as sort
-use Rattle.grammar_core.specs.declared.fault.ReadError.{ReadError}
-use Rattle.grammar_core.specs.Form.{Form, one_of, star}
-use Rattle.grammar_core.specs.Gives.{Fails}
-use Rattle.grammar_core.specs.Reading.{Read, ◌>>=◌, first, starts, token_at, name_at, reading}
-use Rattle.grammar_core.specs.Sorts.{sort_of, is}
-use Rattle.grammar_core.proofs.Fuel.{name_is, name_shrinks, run_shrinks}
+use Rattle.grammar_core.specs.declared.terminal.Terminal.{Terminal}
+use Rattle.grammar_core.specs.declared.terminal.Terminal.TheVariants as terminal
+use Rattle.grammar_core.specs.Production.{Production, one_of, star}
+use Rattle.grammar_core.specs.Returns.{ReadRefusal, Fails}
+use Rattle.grammar_core.specs.Reading.{Read, ◌>>=◌, first, starts, token_at, nonterminal_at, reading}
+use Rattle.grammar_core.specs.Terminals.{terminal_of, is}
+use Rattle.grammar_core.proofs.Fuel.{nonterminal_is, nonterminal_shrinks, run_shrinks}
 use Rattle.grammar_core.proofs.Loops as loops
 use Rattle.grammar_core.proofs.Loops.{applied, so_far, fails_before, IsListed}
 use Rattle.jdf_tree.specs.declared.body.StmtTree.{StmtTree}
-use Rattle.jdf_tree.specs.Inner.{Inner, a_block, TreeOf}
-use Rattle.jdf_tree.specs.Pieces.{any}
+use Rattle.jdf_tree.specs.Nonterminal.{Nonterminal, a_block, TreeOf}
+use Rattle.jdf_tree.specs.GrammarParts.{any}
 use Rattle.jdf_tree.specs.Statements.{Statements}
 use Rattle.jdf_tree.specs.BlockStatements.{statements_of}
-use Rattle.jdf_tree.specs.BodyGrammar.{declaration, element, assignment, choice, for_loop, stop, block, otherwise, statement, begins_statement, statements, block_behind, text}
-use Rattle.jdf_tree.specs.Grammar.{inner}
+use Rattle.jdf_tree.specs.BodyGrammar.{declaration, element, assignment, choice, for_loop, trap_statement, block, otherwise, statement, begins_statement, statements, block_rest, text}
+use Rattle.jdf_tree.specs.Grammar.{productions}
 use Rattle.jdf_tree.proofs.Lists.{rest_of, rest_begins, rest_goes_on, rest_fails, rest_ends}
 
 -- what is left is no longer than what there was
-pub reading_shrinks : {A : Type 0} (g : Form Inner TreeOf A) (s : List Token) (t : A) (r : List Token) → reading inner g s ≡ Ok (t, r) → length r ≤ length s
-reading_shrinks g s t r e = loops.reading_shrinks inner g s t r e
+pub reading_shrinks : {A : Type 0} (g : Production Nonterminal TreeOf A) (s : List Token) (t : A) (r : List Token) → reading productions g s ≡ Ok (t, r) → length r ≤ length s
+reading_shrinks g s t r e = loops.reading_shrinks productions g s t r e
 
-pub token_shrinks : (q : Sort → Bool) (s : List Token) (t : Token) (r : List Token) → token_at q s ≡ Ok (t, r) → length r < length s
-token_shrinks q s t r e = (run_shrinks {N = Inner} {Tree = TreeOf} (name_at inner) (name_shrinks inner) (one_of q) s (t, r) e).1 refl
+pub token_shrinks : (q : Terminal → Bool) (s : List Token) (t : Token) (r : List Token) → token_at q s ≡ Ok (t, r) → length r < length s
+token_shrinks q s t r e = (run_shrinks {N = Nonterminal} {Tree = TreeOf} (nonterminal_at productions) (nonterminal_shrinks productions) (one_of q) s (t, r) e).1 refl
 
 -- what the name of a block reads
-pub block_is : (s : List Token) → name_at inner a_block s ≡ reading inner block_behind s
-unfolding inner
-block_is s = name_is inner a_block s
+pub block_is : (s : List Token) → nonterminal_at productions a_block s ≡ reading productions block_rest s
+unfolding productions
+block_is s = nonterminal_is productions a_block s
 
-pub element_begins : (s : List Token) → starts (first element) s ≡ starts (is sort.LeftBracket) s
+pub element_begins : (s : List Token) → starts (first element) s ≡ starts (is terminal.LeftBracket) s
 unfolding element
 element_begins s = refl
 
-pub otherwise_begins : (s : List Token) → starts (first otherwise) s ≡ starts (is sort.Else) s
+pub otherwise_begins : (s : List Token) → starts (first otherwise) s ≡ starts (is terminal.Else) s
 unfolding otherwise
 otherwise_begins s = refl
 
 -- the next token tells which statement comes
-pub statement_reads : (s : List Token) → reading inner statement s ≡ cond (starts (is sort.Int) s) (reading inner declaration s) (cond (starts (is sort.If) s) (reading inner choice s) (cond (starts (is sort.For) s) (reading inner for_loop s) (cond (starts (is sort.Trap) s) (reading inner stop s) (reading inner assignment s))))
-unfolding statement declaration choice for_loop stop
+pub statement_reads : (s : List Token) → reading productions statement s ≡ cond (starts (is terminal.Int) s) (reading productions declaration s) (cond (starts (is terminal.If) s) (reading productions choice s) (cond (starts (is terminal.For) s) (reading productions for_loop s) (cond (starts (is terminal.Trap) s) (reading productions trap_statement s) (reading productions assignment s))))
+unfolding statement declaration choice for_loop trap_statement
 statement_reads s = refl
 
-pub text_reads : (s : List Token) → reading inner text s ≡ cond (starts (is sort.LeftBrace) s) (reading inner block s) (reading inner statements s)
+pub text_reads : (s : List Token) → reading productions text s ≡ cond (starts (is terminal.LeftBrace) s) (reading productions block s) (reading productions statements s)
 unfolding text block
 text_reads s = refl
 
 -- ---- statements, one after the other
 
-pub statements_listed : IsListed inner statement begins_statement
-unfolding statement declaration choice for_loop stop assignment
+pub statements_listed : IsListed productions statement begins_statement
+unfolding statement declaration choice for_loop trap_statement assignment
 statements_listed = record { full = refl; begins = same }
   where
-    each : (k : Sort) → first statement k ≡ begins_statement k
-    each sort.Name = refl
+    each : (k : Terminal) → first statement k ≡ begins_statement k
+    each terminal.Name = refl
     each _ = refl
 
     same : (s : List Token) → starts (first statement) s ≡ starts begins_statement s
     same [] = refl
-    same (x ∷ s) = each (sort_of x)
+    same (x ∷ s) = each (terminal_of x)
 
-pub statements_begin : (s : List Token) → so_far [] (rest_of statement s) ≡ reading inner (star any statement) s
+pub statements_begin : (s : List Token) → so_far [] (rest_of statement s) ≡ reading productions (star any statement) s
 statements_begin s = rest_begins statement s
 
-pub statements_go_on : (old : List StmtTree) (s : List Token) (x : StmtTree) (next : List Token) (total : Read (List StmtTree)) (new : List StmtTree) → new ≡ old ++ x ∷ [] → starts begins_statement s ≡ true → reading inner statement s ≡ Ok (x, next)
+pub statements_go_on : (old : List StmtTree) (s : List Token) (x : StmtTree) (next : List Token) (total : Read (List StmtTree)) (new : List StmtTree) → new ≡ old ++ x ∷ [] → starts begins_statement s ≡ true → reading productions statement s ≡ Ok (x, next)
     → so_far old (rest_of statement s) ≡ total → so_far new (rest_of statement next) ≡ total
 statements_go_on old s x next total new e t r before = rest_goes_on old s x next total new statements_listed e t r before
 
 abbrev block_of : List StmtTree × List Token → Read Statements
 block_of = applied statements_of
 
-pub statements_fail : (e : ReadError) (old : List StmtTree) (s tokens : List Token) → starts begins_statement s ≡ true → Fails e (reading inner statement s) → so_far old (rest_of statement s) ≡ reading inner (star any statement) tokens → Fails e (reading inner statements tokens)
+pub statements_fail : (e : ReadRefusal) (old : List StmtTree) (s tokens : List Token) → starts begins_statement s ≡ true → Fails e (reading productions statement s) → so_far old (rest_of statement s) ≡ reading productions (star any statement) tokens → Fails e (reading productions statements tokens)
 unfolding statements
-statements_fail e old s tokens t f before = fails_before e (reading inner (star any statement) tokens) block_of (rest_fails e old s (reading inner (star any statement) tokens) statements_listed t f before)
+statements_fail e old s tokens t f before = fails_before e (reading productions (star any statement) tokens) block_of (rest_fails e old s (reading productions (star any statement) tokens) statements_listed t f before)
 
-pub statements_end : (old : List StmtTree) (s tokens : List Token) → starts begins_statement s ≡ false → so_far old (rest_of statement s) ≡ reading inner (star any statement) tokens → reading inner statements tokens ≡ Ok (statements_of old, s)
+pub statements_end : (old : List StmtTree) (s tokens : List Token) → starts begins_statement s ≡ false → so_far old (rest_of statement s) ≡ reading productions (star any statement) tokens → reading productions statements tokens ≡ Ok (statements_of old, s)
 unfolding statements
-statements_end old s tokens t before = ap (λ (r : Read (List StmtTree)). r >>= block_of) (rest_ends old s (reading inner (star any statement) tokens) statements_listed t before)
+statements_end old s tokens t before = ap (λ (r : Read (List StmtTree)). r >>= block_of) (rest_ends old s (reading productions (star any statement) tokens) statements_listed t before)

@@ -1,6 +1,6 @@
 pub mod Begins
 pub mod Windows
 pub mod Limited
-pub mod Places
-pub mod Behind
+pub mod LimitSearch
+pub mod AfterLookahead
 pub mod Whole

@@ -6,25 +6,25 @@ use Rattle.std.proofs.lemmas.Bool.Decides.{nat_tests}
 use Rattle.jdf_lex.specs.declared.token.Token.{Token}
 use Rattle.grammar_core.specs.declared.code.Code.{Code}
 use Rattle.grammar_core.specs.declared.code.Code.TheVariants.{TooDeep, TooManyVars}
-use Rattle.grammar_core.specs.Form.{Limit, Spells, Derived}
+use Rattle.grammar_core.specs.Production.{Limit, Derives, Derived}
 use Rattle.grammar_core.specs.Predictive.{is_fine}
-use Rattle.grammar_core.specs.Reading.{Stop, Read, judge, reading}
+use Rattle.grammar_core.specs.Reading.{FaultFromEnd, Read, judge, reading}
 use Rattle.grammar_core.proofs.Sound.{Sound}
 use Rattle.grammar_core.proofs.Whole.{sound}
 use Rattle.jdf_tree.specs.BodyLimits.{block_limit, variable_limit}
 use Rattle.jdf_tree.specs.ExpressionGrammar.{number, parens, index, reference, signed, unary, product, sum, relation, equality, conjunction, disjunction, branches, expr, outer}
-use Rattle.jdf_tree.specs.BodyGrammar.{block, value, declaration, element, assignment, condition, otherwise, choice, for_loop, stop, statement, statements, block_behind, text, body}
-use Rattle.jdf_tree.specs.Grammar.{inner, claims}
+use Rattle.jdf_tree.specs.BodyGrammar.{block, value, declaration, element, assignment, condition, otherwise, choice, for_loop, trap_statement, statement, statements, block_rest, text, body}
+use Rattle.jdf_tree.specs.Grammar.{productions, claims}
 use Rattle.jdf_tree.specs.Statements.{Statements}
-use Rattle.jdf_tree.proofs.Fine.{inner_fine}
+use Rattle.jdf_tree.proofs.Fine.{productions_fine}
 use Rattle.body_read.proofs.Windows as windows
 
 pub text_fine : is_fine claims text ≡ true
-unfolding text block statements statement declaration choice for_loop stop assignment element value condition otherwise outer expr branches disjunction conjunction equality relation sum product unary signed number reference index parens
+unfolding text block statements statement declaration choice for_loop trap_statement assignment element value condition otherwise outer expr branches disjunction conjunction equality relation sum product unary signed number reference index parens
 text_fine = refl
 
-text_sound : (s : List Token) → Sound (Spells (Derived inner) text) (reading inner text) s
-text_sound s = sound inner claims inner_fine text text_fine s
+text_sound : (s : List Token) → Sound (Derives (Derived productions) text) (reading productions text) s
+text_sound s = sound productions claims productions_fine text text_fine s
 
 -- ---- the first of two limits
 
@@ -58,7 +58,7 @@ both =
 abbrev pub code_of : List Token → Code
 code_of s = if nat_le (block_limit.at s) (variable_limit.at s) then TooDeep else TooManyVars
 
-abbrev failed : Stop → Read Statements
+abbrev failed : FaultFromEnd → Read Statements
 failed n = Err n
 
 abbrev left_of : Read Statements → ℕ
@@ -108,57 +108,57 @@ one_limit {A} a b c d s (Err e) = elim (cases_lt a (length s - e.0)) [
   | inr le ↦ rw (le-ltb a (length s - e.0) le) (kept a b (length s) c d (length s - e.0) (Err e) le)
 ]
 
-judged : (s : List Token) → reading inner body s ≡ judge (both.at s) (code_of s) s (reading inner text s)
+judged : (s : List Token) → reading productions body s ≡ judge (both.at s) (code_of s) s (reading productions text s)
 unfolding body both
-judged s = one_limit (block_limit.at s) (variable_limit.at s) TooDeep TooManyVars s (reading inner text s)
+judged s = one_limit (block_limit.at s) (variable_limit.at s) TooDeep TooManyVars s (reading productions text s)
 
 -- ---- a body in its window
 
-pub short : (s : List Token) → length s ≤ min (block_limit.at s) (variable_limit.at s) → reading inner body s ≡ reading inner text s
+pub within_limit : (s : List Token) → length s ≤ min (block_limit.at s) (variable_limit.at s) → reading productions body s ≡ reading productions text s
 unfolding both
-short s le = windows.short both code_of (Spells (Derived inner) text) (reading inner text) text_sound (reading inner body) judged s le
+within_limit s le = windows.within_limit both code_of (Derives (Derived productions) text) (reading productions text) text_sound (reading productions body) judged s le
 
-pub text_within : (s : List Token) (n : ℕ) (d : Code) → reading inner text s ≡ Err (n, d) → n ≤ length s
-text_within s n d e = windows.fault_within both code_of (Spells (Derived inner) text) (reading inner text) text_sound (reading inner body) judged s n d e
+pub text_within : (s : List Token) (n : ℕ) (d : Code) → reading productions text s ≡ Err (n, d) → n ≤ length s
+text_within s n d e = windows.fault_within both code_of (Derives (Derived productions) text) (reading productions text) text_sound (reading productions body) judged s n d e
 
 module _ (s w v : List Token) (limit : ℕ) (is_limit : limit ≡ min (block_limit.at s) (variable_limit.at s)) (front : w ≡ take (limit + 1) s) (back : v ≡ drop (limit + 1) s) (long : limit < length s) where
-  pub slice : (t : Statements) (rest : List Token) → reading inner text w ≡ Ok (t, rest) → false ≡ (length rest == 0)
-      → reading inner body s ≡ Ok (t, take (length s - (length w - length rest)) (drop (length w - length rest) s))
+  pub slice : (t : Statements) (rest : List Token) → reading productions text w ≡ Ok (t, rest) → false ≡ (length rest == 0)
+      → reading productions body s ≡ Ok (t, take (length s - (length w - length rest)) (drop (length w - length rest) s))
   unfolding both
-  slice t rest e some = windows.slice both code_of (Spells (Derived inner) text) (reading inner text) text_sound (reading inner body) judged s w v limit is_limit front back long t rest e some
+  slice t rest e some = windows.slice both code_of (Derives (Derived productions) text) (reading productions text) text_sound (reading productions body) judged s w v limit is_limit front back long t rest e some
 
-  pub fault : (n : ℕ) (d : Code) → 0 < n → reading inner text w ≡ Err (n, d) → reading inner body s ≡ Err (n + length v, d)
+  pub fault : (n : ℕ) (d : Code) → 0 < n → reading productions text w ≡ Err (n, d) → reading productions body s ≡ Err (n + length v, d)
   unfolding both
-  fault n d some e = windows.fault both code_of (Spells (Derived inner) text) (reading inner text) text_sound (reading inner body) judged s w v limit is_limit front back long n d some e
+  fault n d some e = windows.fault both code_of (Derives (Derived productions) text) (reading productions text) text_sound (reading productions body) judged s w v limit is_limit front back long n d some e
 
-  cut : ((t : Statements) (rest : List Token) → 0 < length rest → reading inner text w ≡ Ok (t, rest) → ⊥) → ((n : Stop) → 0 < n.0 → reading inner text w ≡ Err n → ⊥) → reading inner body s ≡ Err (length s - limit, code_of s)
+  cut : ((t : Statements) (rest : List Token) → 0 < length rest → reading productions text w ≡ Ok (t, rest) → ⊥) → ((n : FaultFromEnd) → 0 < n.0 → reading productions text w ≡ Err n → ⊥) → reading productions body s ≡ Err (length s - limit, code_of s)
   unfolding both
-  cut a b = windows.cut both code_of (Spells (Derived inner) text) (reading inner text) text_sound (reading inner body) judged s w v limit is_limit front back long a b
+  cut a b = windows.cut both code_of (Derives (Derived productions) text) (reading productions text) text_sound (reading productions body) judged s w v limit is_limit front back long a b
 
   -- what was read up to the end of the window and no further
-  pub cut_behind : (t : Statements) (rest : List Token) → reading inner text w ≡ Ok (t, rest) → true ≡ (length rest == 0) → reading inner body s ≡ Err (length s - limit, code_of s)
-  cut_behind t rest e none = cut (λ t' rest' some e'. absurd (some_left t' rest' some e')) (λ n some e'. absurd (no_err n e'))
+  pub cut_after : (t : Statements) (rest : List Token) → reading productions text w ≡ Ok (t, rest) → true ≡ (length rest == 0) → reading productions body s ≡ Err (length s - limit, code_of s)
+  cut_after t rest e none = cut (λ t' rest' some e'. absurd (some_left t' rest' some e')) (λ n some e'. absurd (no_err n e'))
     where
-      same : (x y : Statements × List Token) → reading inner text w ≡ Ok x → reading inner text w ≡ Ok y → x ≡ y
+      same : (x y : Statements × List Token) → reading productions text w ≡ Ok x → reading productions text w ≡ Ok y → x ≡ y
       same x y e f = let g : Ok x ≡ Ok y = sym e ∙ f in cc
 
-      some_left : (t' : Statements) (rest' : List Token) → 0 < length rest' → reading inner text w ≡ Ok (t', rest') → ⊥
+      some_left : (t' : Statements) (rest' : List Token) → 0 < length rest' → reading productions text w ≡ Ok (t', rest') → ⊥
       some_left t' rest' some e' =
           let g : length rest ≡ length rest' = ap (λ (x : Statements × List Token). length x.1) (same (t, rest) (t', rest') e e') in
           let z : length rest ≡ 0 = grind (arith, nat_tests) in omega (arith, g, z, some)
 
-      no_err : (n : Stop) → reading inner text w ≡ Err n → ⊥
+      no_err : (n : FaultFromEnd) → reading productions text w ≡ Err n → ⊥
       no_err n e' = cc
 
-  pub cut_at_fault : (d : Code) → reading inner text w ≡ Err (0, d) → reading inner body s ≡ Err (length s - limit, code_of s)
+  pub cut_at_fault : (d : Code) → reading productions text w ≡ Err (0, d) → reading productions body s ≡ Err (length s - limit, code_of s)
   cut_at_fault d e = cut (λ t rest some e'. absurd (no_ok t rest e')) (λ n some e'. absurd (left n some e'))
     where
-      no_ok : (t : Statements) (rest : List Token) → reading inner text w ≡ Ok (t, rest) → ⊥
+      no_ok : (t : Statements) (rest : List Token) → reading productions text w ≡ Ok (t, rest) → ⊥
       no_ok t rest e' = cc
 
-      left : (n : Stop) → 0 < n.0 → reading inner text w ≡ Err n → ⊥
+      left : (n : FaultFromEnd) → 0 < n.0 → reading productions text w ≡ Err n → ⊥
       left n some e' =
           let same : n.0 ≡ 0 = stop_of n (0, d) (sym e' ∙ e) in omega (arith, same, some)
         where
-          stop_of : (n m : Stop) → failed n ≡ failed m → n.0 ≡ m.0
+          stop_of : (n m : FaultFromEnd) → failed n ≡ failed m → n.0 ≡ m.0
           stop_of n m e = ap left_of e

@@ -1,18 +1,19 @@
--- Reading in a window that ends behind the token that a limit says is too many.
+-- Reading in a window that ends after the token that a limit says is too many.
 use Rattle.std.proofs.Common.{◌≡◌, ℕ, suc, ◌-◌, ◌+◌, ◌≤◌, ◌<◌, List, [], ◌∷◌, ◌++◌, length, take, drop, true, false, append_assoc, Ok, Err, refl, sym, ap, ◌∙◌, arith}
 use Rattle.std.specs.Prelude.{◌==◌}
 use Rattle.std.proofs.lemmas.Bool.{le-ltb}
 use Rattle.std.proofs.lemmas.List.{length-append, drop_at, take-append-drop, length-take-le, take_rest}
 use Rattle.jdf_lex.specs.declared.token.Token.{Token}
 use Rattle.grammar_core.specs.declared.code.Code.{Code}
-use Rattle.grammar_core.specs.Form.{Limit, Lang}
-use Rattle.grammar_core.specs.Reading.{Stop, Read, judge}
-use Rattle.grammar_core.proofs.Sound.{Sound, window_ok, window_err, window_long}
+use Rattle.grammar_core.specs.Production.{Limit, Language}
+use Rattle.grammar_core.specs.Reading.{FaultFromEnd, Read, judge}
+use Rattle.grammar_core.proofs.Sound.{Sound}
+use Rattle.grammar_core.proofs.Windows.{window_ok, window_err, window_long}
 
 -- p reads texts of G, and q is what the limit makes of it
-module _ {A : Type 0} (L : Limit) (c : List Token → Code) (G : Lang A) (p : List Token → Read A) (sound : (s : List Token) → Sound G p s) (q : List Token → Read A) (judged : (s : List Token) → q s ≡ judge (L.at s) (c s) s (p s)) where
-  pub short : (s : List Token) → length s ≤ L.at s → q s ≡ p s
-  short s le = judged s ∙ go (p s)
+module _ {A : Type 0} (L : Limit) (c : List Token → Code) (G : Language A) (p : List Token → Read A) (sound : (s : List Token) → Sound G p s) (q : List Token → Read A) (judged : (s : List Token) → q s ≡ judge (L.at s) (c s) s (p s)) where
+  pub within_limit : (s : List Token) → length s ≤ L.at s → q s ≡ p s
+  within_limit s le = judged s ∙ go (p s)
     where
       go : (r : Read A) → judge (L.at s) (c s) s r ≡ r
       go (Ok x) = rw (le-ltb (L.at s) (length s - length x.1) (omega (arith, le))) refl
@@ -20,17 +21,17 @@ module _ {A : Type 0} (L : Limit) (c : List Token → Code) (G : Lang A) (p : Li
 
   pub fault_within : (s : List Token) (n : ℕ) (d : Code) → p s ≡ Err (n, d) → n ≤ length s
   fault_within s n d e =
-      let k = (sound s).stopped (n, d) e in
+      let k = (sound s).faulted (n, d) e in
       omega (arith, k.left, ap (λ (l : List Token). length l) k.parts, length-append k.word k.rest)
 
-  -- the rest of a window, with what is behind it
+  -- the rest of a window, with what is after it
   rest_is : (w v : List Token) (t : A) (rest : List Token) → p w ≡ Ok (t, rest) → drop (length w - length rest) (w ++ v) ≡ rest ++ v
   rest_is w v t rest e =
-      let k = (sound w).took (t, rest) e in
+      let k = (sound w).accepted (t, rest) e in
       let n : length k.word ≡ length w - length rest = omega (arith, ap (λ (l : List Token). length l) k.parts, length-append k.word rest) in
       ap (λ (l : List Token). drop (length w - length rest) (l ++ v)) k.parts ∙ ap (λ (l : List Token). drop (length w - length rest) l) (append_assoc k.word rest v) ∙ drop_at k.word (rest ++ v) (length w - length rest) n
 
-  -- the window and what is behind it, as the code splits the tokens
+  -- the window and what is after it, as the code splits the tokens
   module _ (s w v : List Token) (limit : ℕ) (is_limit : limit ≡ L.at s) (front : w ≡ take (limit + 1) s) (back : v ≡ drop (limit + 1) s) (long : limit < length s) where
     parts : s ≡ w ++ v
     parts = sym (take-append-drop (limit + 1) s) ∙ ap (λ (l : List Token). l ++ drop (limit + 1) s) (sym front) ∙ ap (λ (l : List Token). w ++ l) (sym back)
@@ -38,7 +39,7 @@ module _ {A : Type 0} (L : Limit) (c : List Token → Code) (G : Lang A) (p : Li
     wide : length w ≡ suc (L.at s)
     wide = ap (λ (l : List Token). length l) front ∙ (length-take-le (limit + 1) s (omega (arith, long)) ∙ omega (arith, is_limit))
 
-    -- a text that ends inside the window, and the tokens behind it
+    -- a text that ends inside the window, and the tokens after it
     pub slice : (t : A) (rest : List Token) → p w ≡ Ok (t, rest) → false ≡ (length rest == 0) → q s ≡ Ok (t, take (length s - (length w - length rest)) (drop (length w - length rest) s))
     slice t rest e some =
         let left : 0 < length rest = not_none rest some in
@@ -53,5 +54,5 @@ module _ {A : Type 0} (L : Limit) (c : List Token → Code) (G : Lang A) (p : Li
     pub fault : (n : ℕ) (d : Code) → 0 < n → p w ≡ Err (n, d) → q s ≡ Err (n + length v, d)
     fault n d some e = judged s ∙ window_err L (c s) G p sound s w v parts wide (n, d) some e
 
-    pub cut : ((t : A) (rest : List Token) → 0 < length rest → p w ≡ Ok (t, rest) → ⊥) → ((n : Stop) → 0 < n.0 → p w ≡ Err n → ⊥) → q s ≡ Err (length s - limit, c s)
+    pub cut : ((t : A) (rest : List Token) → 0 < length rest → p w ≡ Ok (t, rest) → ⊥) → ((n : FaultFromEnd) → 0 < n.0 → p w ≡ Err n → ⊥) → q s ≡ Err (length s - limit, c s)
     cut a b = judged s ∙ (window_long L (c s) G p sound s w v parts wide a b ∙ ap (λ (k : ℕ). Err (length s - k, c s)) (sym is_limit))

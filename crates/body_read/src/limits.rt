@@ -1,18 +1,18 @@
 //! Where a body passes its limits.
 
 ghost use Rattle.std.specs.Prelude.{◌≡◌, ◌<◌, ◌-◌, ◌&&◌, nat_le, length, drop, if◌then◌else◌};
-ghost use Rattle.grammar_core.specs.declared.sort.Sort.TheVariants.{LeftBrace};
+ghost use Rattle.grammar_core.specs.declared.terminal.Terminal.TheVariants.{LeftBrace};
 ghost use Rattle.grammar_core.specs.Reading.{starts};
-ghost use Rattle.grammar_core.specs.Sorts.{is};
+ghost use Rattle.grammar_core.specs.Terminals.{is};
 ghost use Rattle.jdf_tree.specs.BodyLimits.{block_limit, variable_limit, declares, most_blocks};
 
-use grammar_core::{Sort, is_next};
+use grammar_core::{Terminal, is_next};
 use jdf_lex::Token;
 
-/// How many blocks may be open before one more is opened. The braces around a whole body do not count.
+// How many blocks may be open before one more is opened. The braces around a whole body do not count.
 const MOST_BLOCKS: usize = 32;
 
-/// How many variables a body may declare.
+// How many variables a body may declare.
 const MOST_VARIABLES: usize = 256;
 
 // 1 where it holds, to count.
@@ -26,48 +26,48 @@ fn one_if(holds: bool) -> usize
 fn most_blocks(tokens: &[Token]) -> usize
     ensures { result ≡ most_blocks tokens.now }
 {
-    if is_next(tokens, Sort::LeftBrace) {
+    if is_next(tokens, Terminal::LeftBrace) {
         MOST_BLOCKS + 1
     } else {
         MOST_BLOCKS
     }
 }
 
-// Does a variable's declaration come next, or a loop?
+// Is a variable's declaration or a loop next?
 fn is_variable_next(tokens: &[Token]) -> bool
     ensures { result ≡ starts declares tokens.now }
 {
-    is_next(tokens, Sort::Int) || is_next(tokens, Sort::For)
+    is_next(tokens, Terminal::Int) || is_next(tokens, Terminal::For)
 }
 
-/// The place of the first brace that opens a block too deep, or one behind all tokens.
+/// The index of the first brace that opens a block too deep, or one past the last token's.
 pub(crate) fn block_limit(tokens: &[Token]) -> usize
     ensures { result ≡ block_limit.at tokens.now }
 {
     let most = most_blocks(tokens);
     let mut opened: usize = 0;
     let mut closed: usize = 0;
-    for place in 0..tokens.len() {
-        let rest = &tokens[place..];
-        let opens = is_next(rest, Sort::LeftBrace);
+    for index in 0..tokens.len() {
+        let rest = &tokens[index..];
+        let opens = is_next(rest, Terminal::LeftBrace);
         if opens && opened.saturating_sub(closed) >= most {
-            return place;
+            return index;
         }
         opened += one_if(opens);
-        closed += one_if(is_next(rest, Sort::RightBrace));
+        closed += one_if(is_next(rest, Terminal::RightBrace));
     }
     tokens.len() + 1
 }
 
-/// The place of the first declaration that is too many, or one behind all tokens.
+/// The index of the first declaration that is too many, or one past the last token's.
 pub(crate) fn variable_limit(tokens: &[Token]) -> usize
     ensures { result ≡ variable_limit.at tokens.now }
 {
     let mut declared: usize = 0;
-    for place in 0..tokens.len() {
-        let declares = is_variable_next(&tokens[place..]);
+    for index in 0..tokens.len() {
+        let declares = is_variable_next(&tokens[index..]);
         if declares && declared >= MOST_VARIABLES {
-            return place;
+            return index;
         }
         declared += one_if(declares);
     }

@@ -1,6 +1,7 @@
 //! The plan of a JDF.
 
 ghost use Rattle.std.specs.Prelude.{◌≡◌, ◌↔◌, Some, Err, IfOk, IsTrue, map};
+ghost use Rattle.ptg_base.specs.declared.refusal.Refusal.TheVariants.{Fault};
 ghost use Rattle.jdf_lex.specs.declared.fault.JdfFault.{JdfFault};
 ghost use Rattle.jdf_lex.specs.Tokens.{not_built};
 ghost use Rattle.plan_first.specs.declared.plan.Plan.{Plan};
@@ -20,7 +21,7 @@ use data_first::{Coll, Given};
 use jdf_first::Jdf;
 use jdf_lex::{JdfCode, JdfFault, JdfRefusal, Spot};
 use plan_first::{ClassPlan, Interval, Plan, Shape};
-use ptg_base::{Row, Text};
+use ptg_base::{Seq, Text};
 use std::alloc::Global;
 use term_core::Expr;
 
@@ -28,7 +29,7 @@ use term_core::Expr;
 pub fn check(alloc: Global, jdf: &Jdf, given: &Given) -> Result<Plan, JdfRefusal>
     requires { IsMissing jdf.now given.now → ⊥ }
     ensures found { IfOk result (λ plan. IsPlan jdf.now given.now plan) }
-    ensures refused { (f : JdfFault) → result ≡ Err (JdfRefusal.Fault f) → (f ≡ not_built) × ((plan : Plan) → IsPlan jdf.now given.now plan → ⊥) }
+    ensures refused { (f : JdfFault) → result ≡ Err (Fault f) → (f ≡ not_built) × ((plan : Plan) → IsPlan jdf.now given.now plan → ⊥) }
 {
     match plan(alloc, jdf, given) {
         Ok(plan) => Ok(plan),
@@ -114,10 +115,10 @@ fn class_plan(alloc: Global, frame: &Frame) -> Result<ClassPlan, Stop>
     })
 }
 
-fn shapes(alloc: Global, colls: &[Coll]) -> Result<Row<Shape>, Stop>
+fn shapes(alloc: Global, colls: &[Coll]) -> Result<Seq<Shape>, Stop>
     ensures { Resolves result (Some (map shape_of colls.now)) }
 {
-    let mut list = Row::new(alloc);
+    let mut list = Seq::new(alloc);
     for coll in colls {
         list.push(shape(alloc, coll)?)?;
     }

@@ -13,7 +13,7 @@ use crate::stop::Stop;
 use body_first::Stmt;
 use jdf_first::{DepTree, ExprTree, StmtTree, TargetTree};
 use plan_first::{DepPlan, Target};
-use ptg_base::Row;
+use ptg_base::Seq;
 use std::alloc::Global;
 use term_core::Expr;
 
@@ -95,11 +95,11 @@ fn goes(dep: &DepTree, inward: bool) -> bool
 }
 
 /// The in dependences of the class's flow, or its out dependences.
-pub fn resolve_deps(alloc: Global, frame: &Frame, inward: bool) -> Result<Row<DepPlan>, Stop>
+pub fn resolve_deps(alloc: Global, frame: &Frame, inward: bool) -> Result<Seq<DepPlan>, Stop>
     requires { IsKeyed frame.now }
     ensures { Resolves result (each (resolved_dep (scope_in frame.now Local)) (filter (goes inward) frame.now.jdf.now.class.deps)) }
 {
-    let mut list = Row::new(alloc);
+    let mut list = Seq::new(alloc);
     for dep in frame.jdf.class.deps.as_slice() {
         if goes(dep, inward) {
             list.push(resolve_dep(alloc, frame, dep)?)?;
@@ -121,11 +121,11 @@ fn resolve_stmt(alloc: Global, frame: &Frame, stmt: &StmtTree) -> Result<Stmt, S
 }
 
 /// The statements of the class's body.
-pub fn resolve_body(alloc: Global, frame: &Frame) -> Result<Row<Stmt>, Stop>
+pub fn resolve_body(alloc: Global, frame: &Frame) -> Result<Seq<Stmt>, Stop>
     requires { IsKeyed frame.now }
     ensures { Resolves result (each (resolved_stmt (scope_in frame.now Elements)) frame.now.jdf.now.class.body) }
 {
-    let mut list = Row::new(alloc);
+    let mut list = Seq::new(alloc);
     for stmt in frame.jdf.class.body.as_slice() {
         list.push(resolve_stmt(alloc, frame, stmt)?)?;
     }

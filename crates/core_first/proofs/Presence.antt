@@ -2,7 +2,7 @@
 use Rattle.std.proofs.Common.{◌≡◌, ℕ, zero, suc, ◌-◌, List, [], ◌∷◌, Bool, true, false, Option, Some, None, Result, Ok, Err, refl, sym, ◌∙◌, subst}
 use Rattle.std.specs.Prelude.{ℤ, ◌==◌, IsSome, slice_set, if◌then◌else◌}
 use Rattle.ptg_base.specs.Task.{Task}
-use Rattle.term_core.specs.Value.{after}
+use Rattle.term_core.specs.Value.{and_then}
 use Rattle.body_first.specs.declared.body.Stmt.{Stmt}
 use Rattle.body_first.specs.declared.body.Stmt.TheVariants.{Put}
 use Rattle.body_first.specs.declared.body.Trap.{Trap}
@@ -18,7 +18,7 @@ use Rattle.core_first.specs.Backward.{output, input, ended_on, ended_within}
 abbrev IsTile : List (Option (List ℤ)) → Type 0
 IsTile tiles = (x : List ℤ) × (tiles ≡ Some x ∷ [])
 
-after_ok : {A B F : Type 0} (r : Result A F) (next : A → Result B F) (y : B) → after r next ≡ Ok y → (x : A) × (r ≡ Ok x) × (next x ≡ Ok y)
+after_ok : {A B F : Type 0} (r : Result A F) (next : A → Result B F) (y : B) → and_then r next ≡ Ok y → (x : A) × (r ≡ Ok x) × (next x ≡ Ok y)
 after_ok (Ok x) next y h = (x, refl, h)
 after_ok (Err e) next y h = absurd cc
 
@@ -31,12 +31,12 @@ put_keeps (suc n) x i v tiles h = absurd cc
 
 statement_keeps : (s : Stmt) (locals : List ℤ) (x : List ℤ) (tiles : List (Option (List ℤ))) → statement_meaning s locals (Some x ∷ []) ≡ Ok tiles → IsTile tiles
 statement_keeps (Put flow at e) locals x tiles h =
-    let a = after_ok (body_value locals (Some x ∷ []) at) (λ i. after (body_value locals (Some x ∷ []) e) (λ v. put (Some x ∷ []) flow i v)) tiles h in
+    let a = after_ok (body_value locals (Some x ∷ []) at) (λ i. and_then (body_value locals (Some x ∷ []) e) (λ v. put (Some x ∷ []) flow i v)) tiles h in
     let b = after_ok (body_value locals (Some x ∷ []) e) (λ v. put (Some x ∷ []) flow a.0 v) tiles a.2 in
     put_keeps flow x a.0 b.0 tiles b.2
 
 run_next : (b : Bool) (r : Result (List (Option (List ℤ))) Trap) (next : List (Option (List ℤ)) → Result (List (Option (List ℤ))) Trap) (tiles : List (Option (List ℤ))) →
-    (if b then Err Budget else after r next) ≡ Ok tiles → after r next ≡ Ok tiles
+    (if b then Err Budget else and_then r next) ≡ Ok tiles → and_then r next ≡ Ok tiles
 run_next true r next tiles h = absurd cc
 run_next false r next tiles h = h
 

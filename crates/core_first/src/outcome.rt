@@ -1,6 +1,6 @@
 use body_first::Trap;
 use data_first::Given;
-use ptg_base::{Row, TaskId};
+use ptg_base::{Seq, TaskId};
 
 /// A task that trapped, and why.
 #[derive(Debug, Drop)]
@@ -23,7 +23,7 @@ pub enum Outcome {
     /// All tasks ran: how many, and the data with what they wrote back.
     Complete(u64, Given),
     /// Some task trapped: all that did, in task order.
-    Trapped(Row<TrapRow>),
+    Trapped(Seq<TrapRow>),
     /// Some task could not run: how many ran, how many there are, and those that wait, in task order.
-    Stalled(u64, u64, Row<WaitRow>),
+    Stalled(u64, u64, Seq<WaitRow>),
 }

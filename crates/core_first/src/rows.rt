@@ -8,7 +8,7 @@ use crate::state::{Ended, known_tile};
 use crate::tasks::task;
 use dep_first::{Source, source_of};
 use plan_first::Plan;
-use ptg_base::{OutOfMemory, Row, TaskId};
+use ptg_base::{OutOfMemory, Seq, TaskId};
 use std::alloc::Global;
 
 /// The rows of the tasks that trapped.
@@ -17,11 +17,11 @@ pub(crate) fn traps(
     plan: &Plan,
     lo: i64,
     states: &[Option<Ended>],
-) -> Result<Row<TrapRow>, OutOfMemory>
+) -> Result<Seq<TrapRow>, OutOfMemory>
     requires { IsRange plan.now lo (length states.now) }
     ensures { IfOk result (λ rows. rows ≡ traps_from lo states.now) }
 {
-    let mut rows = Row::new(alloc);
+    let mut rows = Seq::new(alloc);
     for k in 0..states.len() {
         if let Some(Err(cause)) = &states[k] {
             rows.push(TrapRow {
@@ -63,11 +63,11 @@ pub(crate) fn waits(
     plan: &Plan,
     lo: i64,
     states: &[Option<Ended>],
-) -> Result<Row<WaitRow>, OutOfMemory>
+) -> Result<Seq<WaitRow>, OutOfMemory>
     requires { IsRange plan.now lo (length states.now) }
     ensures { IfOk result (λ rows. rows ≡ waits_from plan.now lo states.now lo states.now) }
 {
-    let mut rows = Row::new(alloc);
+    let mut rows = Seq::new(alloc);
     for k in 0..states.len() {
         if states[k].is_none() {
             if let Some(row) = wait(plan, lo, states, task(plan, lo, states.len(), k)) {

@@ -10,11 +10,11 @@ use crate::tasks::task;
 use data_first::{Coll, Given};
 use dep_first::item_at;
 use plan_first::Plan;
-use ptg_base::{Item, OutOfMemory, Place, Row, TaskId, Tile, WriteBack};
+use ptg_base::{Item, OutOfMemory, Place, Seq, TaskId, Tile, WriteBack};
 use std::alloc::Global;
 
 /// Puts a tile at an index, if there is one.
-fn put_at(tiles: &mut Row<Tile>, at: usize, tile: Tile)
+fn put_at(tiles: &mut Seq<Tile>, at: usize, tile: Tile)
     ensures { tiles.new ≡ slice_set tiles.old at tile }
 {
     if at < tiles.len() {
@@ -116,6 +116,6 @@ pub(crate) fn written(
     Ok(Given {
         elems: given.elems,
         ints: given.ints,
-        colls: Row::of(colls),
+        colls: Seq::of(colls),
     })
 }

@@ -1,6 +1,6 @@
 ghost use Rattle.std.specs.Prelude.{◌≡◌, ◌∷◌, [], true, false, map, codes, length, bytes_eq, position, Err, OnOk, IsTrue, ℕ, IfSome, IfNone};
 ghost use Rattle.data_first.specs.declared.fault.DataFault.{DataFault};
-ghost use Rattle.data_first.specs.declared.fault.DataRefusal.TheVariants.{Fault};
+ghost use Rattle.ptg_base.specs.declared.refusal.Refusal.TheVariants.{Fault};
 ghost use Rattle.data_first.specs.declared.given.Coll.{Coll};
 ghost use Rattle.data_first.specs.Fields.{is_name};
 ghost use Rattle.data_first.specs.Data.{AddsInt, AddsColl, AddsTile, Draft, IsNew, IsFree, not_built};
@@ -12,7 +12,7 @@ use crate::given::{Coll, Int};
 use crate::growing::Growing;
 use crate::names::Known;
 use crate::parts::{not_built, opened_tile, zero_tiles};
-use ptg_base::{Row, Text};
+use ptg_base::{Seq, Text};
 use std::alloc::Global;
 
 /// Whether a further integer or collection may have this name.
@@ -101,7 +101,7 @@ pub fn add_coll(
     all.names.put(alloc, name, Known::Collection(place))?;
     let name = Text::of(alloc, name)?;
     let tiles = zero_tiles(alloc, count, all.elems)?;
-    let flags = Row::of(vec![in alloc; false; count as usize]?);
+    let flags = Seq::of(vec![in alloc; false; count as usize]?);
     all.colls.push(Coll { name, tiles })?;
     all.given.push(flags)?;
     all.tiles += count;

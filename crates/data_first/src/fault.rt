@@ -1,7 +1,4 @@
-ghost use Rattle.std.specs.Prelude.{◌≡◌};
-ghost use Rattle.data_first.specs.declared.fault.DataRefusal.TheVariants.{OutOfMemory};
-
-use std::alloc::{AllocError, AllocFailed};
+use ptg_base::Refusal;
 
 /// Why a data file is refused, as the program prints it.
 #[derive(Clone, Copy, Debug, PartialEq, Eq)]
@@ -18,32 +15,4 @@ pub struct DataFault {
 }
 
 /// Why data were not read.
-#[derive(Clone, Copy, Debug, PartialEq, Eq)]
-pub enum DataRefusal {
-    Fault(DataFault),
-    OutOfMemory,
-}
-
-impl From<ptg_base::OutOfMemory> for DataRefusal {
-    ghost from_gives = { λ _ e. e ≡ OutOfMemory };
-
-    fn from(_e: ptg_base::OutOfMemory) -> DataRefusal {
-        DataRefusal::OutOfMemory
-    }
-}
-
-impl From<AllocError> for DataRefusal {
-    ghost from_gives = { λ _ e. e ≡ OutOfMemory };
-
-    fn from(_e: AllocError) -> DataRefusal {
-        DataRefusal::OutOfMemory
-    }
-}
-
-impl<T: Drop> From<AllocFailed<T>> for DataRefusal {
-    ghost from_gives = { λ _ e. e ≡ OutOfMemory };
-
-    fn from(_e: AllocFailed<T>) -> DataRefusal {
-        DataRefusal::OutOfMemory
-    }
-}
+pub type DataRefusal = Refusal<DataFault>;

@@ -1,4 +1,4 @@
-use ptg_base::{Row, Text, Tile};
+use ptg_base::{Seq, Text, Tile};
 
 /// An integer of the data, by its name.
 #[derive(Debug, Drop)]
@@ -11,7 +11,7 @@ pub struct Int {
 #[derive(Debug, Drop)]
 pub struct Coll {
     pub name: Text,
-    pub tiles: Row<Tile>,
+    pub tiles: Seq<Tile>,
 }
 
 /// The data of a job, in the order of their file.
@@ -19,6 +19,6 @@ pub struct Coll {
 pub struct Given {
     /// Numbers in a tile.
     pub elems: u32,
-    pub ints: Row<Int>,
-    pub colls: Row<Coll>,
+    pub ints: Seq<Int>,
+    pub colls: Seq<Coll>,
 }

@@ -1,6 +1,6 @@
 ghost use Rattle.std.specs.Prelude.{◌≡◌, map, Err, OnOk};
 ghost use Rattle.data_first.specs.declared.fault.DataFault.{DataFault};
-ghost use Rattle.data_first.specs.declared.fault.DataRefusal.TheVariants.{Fault};
+ghost use Rattle.ptg_base.specs.declared.refusal.Refusal.TheVariants.{Fault};
 ghost use Rattle.data_first.specs.Data.{Adds, Draft, fields_of, not_built};
 ghost use Rattle.data_first.specs.Growing.{draft_of, IsKeyed};
 

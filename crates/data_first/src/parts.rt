@@ -1,14 +1,14 @@
 ghost use Rattle.std.specs.Prelude.{◌≡◌, ◌≤◌, ◌||◌, ◌∷◌, [], ℕ, ℤ, Bool, pos, List, map, codes, length, replicate, bytes_eq, position, Err, IfOk, OnOk};
 ghost use Rattle.std.specs.List.{list_any};
 ghost use Rattle.data_first.specs.declared.fault.DataFault.{DataFault};
-ghost use Rattle.data_first.specs.declared.fault.DataRefusal.TheVariants.{Fault};
+ghost use Rattle.ptg_base.specs.declared.refusal.Refusal.TheVariants.{Fault};
 ghost use Rattle.data_first.specs.declared.given.Coll.{Coll};
 ghost use Rattle.data_first.specs.declared.given.Int.{Int};
 ghost use Rattle.data_first.specs.Data.{Opens, not_built};
 
 use crate::fault::{DataCode, DataFault, DataRefusal};
 use crate::field::{is_name, is_word, whole};
-use ptg_base::{OutOfMemory, Row, Text, Tile};
+use ptg_base::{OutOfMemory, Seq, Text, Tile};
 use std::alloc::Global;
 
 pub fn not_built() -> DataRefusal
@@ -22,10 +22,10 @@ pub fn not_built() -> DataRefusal
 
 /// Tiles of zeros.
 #[tactic(auto, using(std::proofs::lemmas::List::replicate_more))]
-pub fn zero_tiles(alloc: Global, count: u32, elems: u32) -> Result<Row<Tile>, OutOfMemory>
+pub fn zero_tiles(alloc: Global, count: u32, elems: u32) -> Result<Seq<Tile>, OutOfMemory>
     ensures { IfOk result (λ tiles. tiles ≡ replicate count (replicate elems (pos 0))) }
 {
-    let mut tiles = Row::new(alloc);
+    let mut tiles = Seq::new(alloc);
     for _ in 0..count {
         tiles.push(Tile::zeros(alloc, elems)?)?;
     }

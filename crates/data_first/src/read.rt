@@ -1,7 +1,7 @@
 ghost use Rattle.std.specs.Prelude.{◌≡◌, ◌⊎◌, ◌≤◌, ◌<◌, ◌∷◌, [], ◌==◌, ℕ, Ok, Err, IfOk, IfSome, IfNone, length, map, position};
 ghost use Rattle.std.specs.List.{slice_split};
 ghost use Rattle.data_first.specs.declared.fault.DataFault.{DataFault};
-ghost use Rattle.data_first.specs.declared.fault.DataRefusal.TheVariants.{Fault, OutOfMemory};
+ghost use Rattle.ptg_base.specs.declared.refusal.Refusal.TheVariants.{Fault, OutOfMemory};
 ghost use Rattle.data_first.specs.declared.given.Given.{Given};
 ghost use Rattle.data_first.specs.Data.{IsData, IsElems, begun, data_of, fields_of, not_built};
 ghost use Rattle.data_first.specs.Growing.{draft_of, IsKeyed};
@@ -15,7 +15,7 @@ use crate::growing::Growing;
 use crate::line::add_line;
 use crate::names::Names;
 use crate::parts::not_built;
-use ptg_base::Row;
+use ptg_base::Seq;
 use std::alloc::Global;
 
 fn lf_at(rest: &[u8]) -> Option<usize>
@@ -66,7 +66,7 @@ fn start(alloc: Global, line: &[u8]) -> Result<Growing, DataRefusal>
     };
     Ok(Growing {
         elems,
-        ints: Row::new(alloc),
+        ints: Seq::new(alloc),
         colls: Vec::new(alloc),
         given: Vec::new(alloc),
         tiles: 0,
@@ -80,7 +80,7 @@ fn finish(all: Growing) -> Given
     Given {
         elems: all.elems,
         ints: all.ints,
-        colls: Row::of(all.colls),
+        colls: Seq::of(all.colls),
     }
 }
 

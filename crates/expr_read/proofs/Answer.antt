@@ -1,40 +1,32 @@
--- What reading at a place of a list of tokens says of the whole list.
+-- What reading from a token index on implies for the whole list of tokens.
 use Rattle.std.proofs.Common.{◌≡◌, ℕ, ◌+◌, ◌-◌, ◌≤◌, List, length, take, drop, Ok, Err, sym, ap, ◌∙◌, arith, subst}
 use Rattle.std.specs.Prelude.{None}
 use Rattle.std.proofs.lemmas.List.{length-drop, take_rest}
 use Rattle.jdf_lex.specs.declared.token.Token.{Token}
 use Rattle.grammar_core.specs.declared.code.Code.{Code}
-use Rattle.grammar_core.specs.declared.fault.ReadError.{ReadError}
-use Rattle.grammar_core.specs.declared.fault.ReadError.TheVariants as errors
-use Rattle.grammar_core.specs.Gives.{Fails}
-use Rattle.grammar_core.specs.Form.{IsText}
+use Rattle.grammar_core.specs.Production.{IsText}
 use Rattle.grammar_core.specs.Reading.{Read, reading}
-use Rattle.jdf_tree.specs.declared.expression.Placed.{Placed}
+use Rattle.jdf_tree.specs.declared.expression.ExprWithSpot.{ExprWithSpot}
 use Rattle.jdf_tree.specs.declared.part.Part.{Part}
 use Rattle.jdf_tree.specs.Expression.{Expression}
-use Rattle.jdf_tree.specs.ExpressionGrammar.{placed, outer}
-use Rattle.jdf_tree.specs.Grammar.{inner}
+use Rattle.jdf_tree.specs.ExpressionGrammar.{with_spot, outer}
+use Rattle.jdf_tree.specs.Grammar.{productions}
 use Rattle.expr_read.specs.Front.{IsEnd, IsExpression, IsFirstFaultOf}
 use Rattle.expr_read.proofs.Loops.{reading_shrinks}
 use Rattle.expr_read.proofs.Ending.{read_ends, read_fails, same_expression, no_expression, no_fault, same_fault}
 
--- the fault that was met
-pub fault_is : {A : Type 0} (r : Read A) (e : ReadError) (n : ℕ) (d : Code) → Fails e r → e ≡ errors.Fault n d → r ≡ Err (n, d)
-fault_is r errors.Memory n d f is = absurd cc
-fault_is r (errors.Fault m b) n d f is = let x : m ≡ n = cc in let y : b ≡ d = cc in f ∙ cc
-
--- the code's slice, and the part that it reads in
-at_front : (tokens : List Token) (from : ℕ) (a b : Part) (r : Read Placed) → a ≡ b → reading inner (outer a) (take (length tokens - from) (drop from tokens)) ≡ r → reading inner (outer b) (drop from tokens) ≡ r
+-- the slice of the code, and the part of the text
+at_front : (tokens : List Token) (from : ℕ) (a b : Part) (r : Read ExprWithSpot) → a ≡ b → reading productions (outer a) (take (length tokens - from) (drop from tokens)) ≡ r → reading productions (outer b) (drop from tokens) ≡ r
 at_front tokens from a b r same e =
-    ap (λ (p : Part). reading inner (outer p) (drop from tokens)) (sym same) ∙ (ap (reading inner (outer a)) (sym (take_rest tokens from)) ∙ e)
+    ap (λ (p : Part). reading productions (outer p) (drop from tokens)) (sym same) ∙ (ap (reading productions (outer a)) (sym (take_rest tokens from)) ∙ e)
 
 module _ (tokens : List Token) (from : ℕ) (within : from ≤ length tokens) (a part : Part) (same : a ≡ part) where
   abbrev slice : List Token
   slice = take (length tokens - from) (drop from tokens)
 
-  -- an expression was read
-  module _ (t : Placed) (rest : List Token) (e : reading inner (outer a) slice ≡ Ok (t, rest)) where
-    here : reading inner (outer part) (drop from tokens) ≡ Ok (t, rest)
+  -- where an expression was read
+  module _ (t : ExprWithSpot) (rest : List Token) (e : reading productions (outer a) slice ≡ Ok (t, rest)) where
+    here : reading productions (outer part) (drop from tokens) ≡ Ok (t, rest)
     here = at_front tokens from a part (Ok (t, rest)) same e
 
     pub rest_within : length rest + from ≤ length tokens
@@ -47,22 +39,22 @@ module _ (tokens : List Token) (from : ℕ) (within : from ≤ length tokens) (a
         record {
           end = subst (λ (m : ℕ). IsEnd part (drop from tokens) m) p k.0;
           spot = t.spot;
-          text = subst (λ (m : ℕ). IsText inner (outer part) (take m (drop from tokens)) t None) p k.1;
+          text = subst (λ (m : ℕ). IsText productions (outer part) (take m (drop from tokens)) t None) p k.1;
         }
 
     pub found_only : (x : Expression) (p : ℕ) → IsExpression part (drop from tokens) x p → (t.tree ≡ x) × (length tokens - length rest ≡ from + p)
     found_only x p h =
-        let k = same_expression part (drop from tokens) (t, rest) here (placed h.spot x) p h.end h.text in
+        let k = same_expression part (drop from tokens) (t, rest) here (with_spot h.spot x) p h.end h.text in
         let n = k.1 in
         let w = rest_within in
-        (ap (λ (y : Placed). y.tree) k.0, omega (arith, n, w, length-drop from tokens))
+        (ap (λ (y : ExprWithSpot). y.tree) k.0, omega (arith, n, w, length-drop from tokens))
 
     pub found_no_fault : (p : ℕ) (d : Code) → IsFirstFaultOf part (drop from tokens) p d → ⊥
     found_no_fault p d h = no_fault part (drop from tokens) (t, rest) here p d h
 
-  -- a fault was met
-  module _ (n : ℕ) (d : Code) (e : reading inner (outer a) slice ≡ Err (n, d)) where
-    met : reading inner (outer part) (drop from tokens) ≡ Err (n, d)
+  -- where a fault was met
+  module _ (n : ℕ) (d : Code) (e : reading productions (outer a) slice ≡ Err (n, d)) where
+    met : reading productions (outer part) (drop from tokens) ≡ Err (n, d)
     met = at_front tokens from a part (Err (n, d)) same e
 
     pub left_within : n + from ≤ length tokens
@@ -75,7 +67,7 @@ module _ (tokens : List Token) (from : ℕ) (within : from ≤ length tokens) (a
     fault_first = (read_fails part (drop from tokens) n d met).0
 
     pub fault_no_expression : (x : Expression) (p : ℕ) → IsExpression part (drop from tokens) x p → ⊥
-    fault_no_expression x p h = no_expression part (drop from tokens) n d met (placed h.spot x) p h.end h.text
+    fault_no_expression x p h = no_expression part (drop from tokens) n d met (with_spot h.spot x) p h.end h.text
 
     pub fault_only : (p : ℕ) (b : Code) → IsFirstFaultOf part (drop from tokens) p b → (length tokens - n ≡ from + p) × (d ≡ b)
     fault_only p b h =

@@ -1,6 +1,5 @@
 pub mod Answer
 pub mod Brief
-pub mod Digits
 pub mod Ending
 pub mod InWindow
 pub mod Loops

@@ -1,63 +1,62 @@
--- Reading operands with operators between them, as a loop does, and what the next token tells.
+-- Reading operands and operators as the loop of the code does, and which production the next token decides for.
 use Rattle.std.proofs.Common.{◌≡◌, ℕ, zero, suc, ◌<◌, ◌≤◌, Bool, true, false, cond, List, [], ◌∷◌, length, Ok, Err, refl, sym, ap, ◌∙◌, subst}
 use Rattle.jdf_lex.specs.declared.token.Spot.{Spot}
 use Rattle.jdf_lex.specs.declared.token.Token.{Token}
 use Rattle.term_core.specs.declared.operator.BinOp.{BinOp}
-use Rattle.grammar_core.specs.declared.sort.Sort.{Sort}
-use Rattle.grammar_core.specs.declared.sort.Sort.TheVariants as sort
-use Rattle.grammar_core.specs.Sorts.{is}
-use Rattle.grammar_core.specs.declared.fault.ReadError.{ReadError}
-use Rattle.grammar_core.specs.Form.{Form, one_of, seq, map, star}
-use Rattle.grammar_core.specs.Reading.{◌>>=◌, Read, starts, token_at, many_at, name_at, reading}
-use Rattle.grammar_core.specs.Gives.{Fails}
-use Rattle.grammar_core.proofs.Fuel.{name_shrinks, run_shrinks, many_is}
+use Rattle.grammar_core.specs.declared.terminal.Terminal.{Terminal}
+use Rattle.grammar_core.specs.declared.terminal.Terminal.TheVariants as terminal
+use Rattle.grammar_core.specs.Terminals.{is}
+use Rattle.grammar_core.specs.Production.{Production, one_of, seq, map, star}
+use Rattle.grammar_core.specs.Reading.{◌>>=◌, Read, starts, token_at, many_at, nonterminal_at, reading}
+use Rattle.grammar_core.specs.Returns.{ReadRefusal, Fails}
+use Rattle.grammar_core.proofs.Fuel.{nonterminal_shrinks, run_shrinks, many_is}
 use Rattle.grammar_core.proofs.Loops as loops
 use Rattle.grammar_core.proofs.Loops.{pair_with, applied, regroup, fails_before, IsListed, many_from, many_step}
 use Rattle.jdf_tree.specs.declared.part.Part.{Part}
 use Rattle.jdf_tree.specs.declared.part.Part.TheVariants.{Class, Body}
-use Rattle.jdf_tree.specs.declared.expression.Placed.{Placed}
+use Rattle.jdf_tree.specs.declared.expression.ExprWithSpot.{ExprWithSpot}
 use Rattle.jdf_tree.specs.Expression.{Expression, Name, Elem, Binary, Choose}
-use Rattle.jdf_tree.specs.Inner.{Inner, TreeOf}
-use Rattle.jdf_tree.specs.Pieces.{any, names, name}
-use Rattle.jdf_tree.specs.ExpressionGrammar.{placed, number, parens, index, reference, signed, unary, product, sum, relation, equality, conjunction, disjunction, branches, expr, is_sign, grouped, named, chosen, operator_of}
-use Rattle.jdf_tree.specs.Grammar.{inner}
+use Rattle.jdf_tree.specs.Nonterminal.{Nonterminal, TreeOf}
+use Rattle.jdf_tree.specs.GrammarParts.{any, names, name}
+use Rattle.jdf_tree.specs.ExpressionGrammar.{with_spot, number, parens, index, reference, signed, unary, product, sum, relation, equality, conjunction, disjunction, branches, expr, is_sign, grouped, named, chosen, operator_of}
+use Rattle.jdf_tree.specs.Grammar.{productions}
 use Rattle.expr_read.specs.declared.rank.Rank.{Rank}
 use Rattle.expr_read.specs.declared.rank.Rank.TheVariants as rank
 use Rattle.expr_read.specs.Ranks.{operators_of, operand_of, of_rank}
 
--- what is left is no longer than what there was
-pub reading_shrinks : {A : Type 0} (g : Form Inner TreeOf A) (s : List Token) (t : A) (r : List Token) → reading inner g s ≡ Ok (t, r) → length r ≤ length s
-reading_shrinks g s t r e = loops.reading_shrinks inner g s t r e
+-- reading leaves no more tokens than there were
+pub reading_shrinks : {A : Type 0} (g : Production Nonterminal TreeOf A) (s : List Token) (t : A) (r : List Token) → reading productions g s ≡ Ok (t, r) → length r ≤ length s
+reading_shrinks g s t r e = loops.reading_shrinks productions g s t r e
 
-pub token_shrinks : (q : Sort → Bool) (s : List Token) (t : Token) (r : List Token) → token_at q s ≡ Ok (t, r) → length r < length s
-token_shrinks q s t r e = (run_shrinks {N = Inner} {Tree = TreeOf} (name_at inner) (name_shrinks inner) (one_of q) s (t, r) e).1 refl
+pub token_shrinks : (q : Terminal → Bool) (s : List Token) (t : Token) (r : List Token) → token_at q s ≡ Ok (t, r) → length r < length s
+token_shrinks q s t r e = (run_shrinks {N = Nonterminal} {Tree = TreeOf} (nonterminal_at productions) (nonterminal_shrinks productions) (one_of q) s (t, r) e).1 refl
 
-pub operator_shrinks : (q : Sort → Bool) (s : List Token) (t : BinOp) (r : List Token) → reading inner (map operator_of (one_of q)) s ≡ Ok (t, r) → length r < length s
-operator_shrinks q s t r e = (run_shrinks {N = Inner} {Tree = TreeOf} (name_at inner) (name_shrinks inner) (map operator_of (one_of q)) s (t, r) e).1 refl
+pub operator_shrinks : (q : Terminal → Bool) (s : List Token) (t : BinOp) (r : List Token) → reading productions (map operator_of (one_of q)) s ≡ Ok (t, r) → length r < length s
+operator_shrinks q s t r e = (run_shrinks {N = Nonterminal} {Tree = TreeOf} (nonterminal_at productions) (nonterminal_shrinks productions) (map operator_of (one_of q)) s (t, r) e).1 refl
 
 -- ---- operators
 
-abbrev operation : Rank → Part → Form Inner TreeOf (BinOp × Placed)
+abbrev operation : Rank → Part → Production Nonterminal TreeOf (BinOp × ExprWithSpot)
 operation rank part = seq (map operator_of (one_of (operators_of rank))) (operand_of rank part)
 
 -- the operators from here on, with their operands
-unfoldable pub tail : Part → Rank → List Token → Read (List (BinOp × Placed))
-tail part rank s = reading inner (star any (operation rank part)) s
+unfoldable pub tail : Part → Rank → List Token → Read (List (BinOp × ExprWithSpot))
+tail part rank s = reading productions (star any (operation rank part)) s
 
-unfoldable pub joined : Spot → Expression → Read (List (BinOp × Placed)) → Read Placed
-joined spot left read = read >>= λ xs. Ok (placed spot (grouped left xs.0), xs.1)
+unfoldable pub joined : Spot → Expression → Read (List (BinOp × ExprWithSpot)) → Read ExprWithSpot
+joined spot left read = read >>= λ xs. Ok (with_spot spot (grouped left xs.0), xs.1)
 
-pub ranked_is : (part : Part) (rank : Rank) (s : List Token) → reading inner (of_rank rank part) s ≡ (reading inner (operand_of rank part) s >>= λ a. joined a.0.spot a.0.tree (tail part rank a.1))
+pub ranked_is : (part : Part) (rank : Rank) (s : List Token) → reading productions (of_rank rank part) s ≡ (reading productions (operand_of rank part) s >>= λ a. joined a.0.spot a.0.tree (tail part rank a.1))
 unfolding product sum relation equality conjunction disjunction tail joined
-ranked_is part rank.Product s = regroup (reading inner (unary part) s) (tail part rank.Product) (λ x. placed x.0.spot (grouped x.0.tree x.1))
-ranked_is part rank.Sum s = regroup (reading inner (product part) s) (tail part rank.Sum) (λ x. placed x.0.spot (grouped x.0.tree x.1))
-ranked_is part rank.Relation s = regroup (reading inner (sum part) s) (tail part rank.Relation) (λ x. placed x.0.spot (grouped x.0.tree x.1))
-ranked_is part rank.Equality s = regroup (reading inner (relation part) s) (tail part rank.Equality) (λ x. placed x.0.spot (grouped x.0.tree x.1))
-ranked_is part rank.Conjunction s = regroup (reading inner (equality part) s) (tail part rank.Conjunction) (λ x. placed x.0.spot (grouped x.0.tree x.1))
-ranked_is part rank.Disjunction s = regroup (reading inner (conjunction part) s) (tail part rank.Disjunction) (λ x. placed x.0.spot (grouped x.0.tree x.1))
+ranked_is part rank.Product s = regroup (reading productions (unary part) s) (tail part rank.Product) (λ x. with_spot x.0.spot (grouped x.0.tree x.1))
+ranked_is part rank.Sum s = regroup (reading productions (product part) s) (tail part rank.Sum) (λ x. with_spot x.0.spot (grouped x.0.tree x.1))
+ranked_is part rank.Relation s = regroup (reading productions (sum part) s) (tail part rank.Relation) (λ x. with_spot x.0.spot (grouped x.0.tree x.1))
+ranked_is part rank.Equality s = regroup (reading productions (relation part) s) (tail part rank.Equality) (λ x. with_spot x.0.spot (grouped x.0.tree x.1))
+ranked_is part rank.Conjunction s = regroup (reading productions (equality part) s) (tail part rank.Conjunction) (λ x. with_spot x.0.spot (grouped x.0.tree x.1))
+ranked_is part rank.Disjunction s = regroup (reading productions (conjunction part) s) (tail part rank.Disjunction) (λ x. with_spot x.0.spot (grouped x.0.tree x.1))
 
--- where none is too many, the number of the first does not matter
-any_index : {A : Type 0} (q : Sort → Bool) (p : List Token → Read A) (n i j : ℕ) (s : List Token) → many_at any q p i n s ≡ many_at any q p j n s
+-- where no element is too many, the index of the first one does not matter
+any_index : {A : Type 0} (q : Terminal → Bool) (p : List Token → Read A) (n i j : ℕ) (s : List Token) → many_at any q p i n s ≡ many_at any q p j n s
 unfolding many_at
 any_index q p zero i j s = refl
 any_index {A} q p (suc n) i j s = ap (λ (r : Read (List A)). cond (starts q s) r (Ok ([], s))) (go (λ t. any_index q p n (suc i) (suc j) t) (p s))
@@ -66,55 +65,55 @@ any_index {A} q p (suc n) i j s = ap (λ (r : Read (List A)). cond (starts q s) 
     go same (Ok a) = ap (λ (m : Read (List A)). m >>= applied (λ (l : List A). a.0 ∷ l)) (same a.1)
     go same (Err e) = refl
 
-tail_is : (part : Part) (rank : Rank) (s : List Token) → tail part rank s ≡ cond (starts (operators_of rank) s) (reading inner (operation rank part) s >>= λ a. tail part rank a.1 >>= applied (λ (more : List (BinOp × Placed)). a.0 ∷ more)) (Ok ([], s))
+tail_is : (part : Part) (rank : Rank) (s : List Token) → tail part rank s ≡ cond (starts (operators_of rank) s) (reading productions (operation rank part) s >>= λ a. tail part rank a.1 >>= applied (λ (more : List (BinOp × ExprWithSpot)). a.0 ∷ more)) (Ok ([], s))
 unfolding tail
 tail_is part rank s =
-    many_is any (operators_of rank) (reading inner (operation rank part)) (λ s' x e. (run_shrinks (name_at inner) (name_shrinks inner) (operation rank part) s' x e).1 refl) 0 s
-    ∙ ap (λ (r : Read (List (BinOp × Placed))). cond (starts (operators_of rank) s) r (Ok ([], s))) (go (reading inner (operation rank part) s))
+    many_is any (operators_of rank) (reading productions (operation rank part)) (λ s' x e. (run_shrinks (nonterminal_at productions) (nonterminal_shrinks productions) (operation rank part) s' x e).1 refl) 0 s
+    ∙ ap (λ (r : Read (List (BinOp × ExprWithSpot))). cond (starts (operators_of rank) s) r (Ok ([], s))) (go (reading productions (operation rank part) s))
   where
-    go : (r : Read (BinOp × Placed)) → (r >>= λ a. many_at any (operators_of rank) (reading inner (operation rank part)) 1 (length a.1) a.1 >>= applied (λ (l : List (BinOp × Placed)). a.0 ∷ l)) ≡ (r >>= λ a. many_at any (operators_of rank) (reading inner (operation rank part)) 0 (length a.1) a.1 >>= applied (λ (l : List (BinOp × Placed)). a.0 ∷ l))
-    go (Ok a) = ap (λ (m : Read (List (BinOp × Placed))). m >>= applied (λ (l : List (BinOp × Placed)). a.0 ∷ l)) (any_index (operators_of rank) (reading inner (operation rank part)) (length a.1) 1 0 a.1)
+    go : (r : Read (BinOp × ExprWithSpot)) → (r >>= λ a. many_at any (operators_of rank) (reading productions (operation rank part)) 1 (length a.1) a.1 >>= applied (λ (l : List (BinOp × ExprWithSpot)). a.0 ∷ l)) ≡ (r >>= λ a. many_at any (operators_of rank) (reading productions (operation rank part)) 0 (length a.1) a.1 >>= applied (λ (l : List (BinOp × ExprWithSpot)). a.0 ∷ l))
+    go (Ok a) = ap (λ (m : Read (List (BinOp × ExprWithSpot))). m >>= applied (λ (l : List (BinOp × ExprWithSpot)). a.0 ∷ l)) (any_index (operators_of rank) (reading productions (operation rank part)) (length a.1) 1 0 a.1)
     go (Err e) = refl
 
-pub tail_ends : (part : Part) (rank : Rank) (spot : Spot) (left : Expression) (s : List Token) → starts (operators_of rank) s ≡ false → joined spot left (tail part rank s) ≡ Ok (placed spot left, s)
+pub tail_ends : (part : Part) (rank : Rank) (spot : Spot) (left : Expression) (s : List Token) → starts (operators_of rank) s ≡ false → joined spot left (tail part rank s) ≡ Ok (with_spot spot left, s)
 unfolding joined
-tail_ends part rank spot left s e = ap (λ (r : Read (List (BinOp × Placed))). joined spot left r) (tail_is part rank s) ∙ rw e refl
+tail_ends part rank spot left s e = ap (λ (r : Read (List (BinOp × ExprWithSpot))). joined spot left r) (tail_is part rank s) ∙ rw e refl
 
-pub tail_goes_on : (part : Part) (rank : Rank) (spot : Spot) (left : Expression) (s : List Token) (o : BinOp) (after : List Token) → starts (operators_of rank) s ≡ true → reading inner (map operator_of (one_of (operators_of rank))) s ≡ Ok (o, after)
-    → joined spot left (tail part rank s) ≡ (reading inner (operand_of rank part) after >>= λ b. joined spot (Binary o left b.0.tree) (tail part rank b.1))
+pub tail_goes_on : (part : Part) (rank : Rank) (spot : Spot) (left : Expression) (s : List Token) (o : BinOp) (after : List Token) → starts (operators_of rank) s ≡ true → reading productions (map operator_of (one_of (operators_of rank))) s ≡ Ok (o, after)
+    → joined spot left (tail part rank s) ≡ (reading productions (operand_of rank part) after >>= λ b. joined spot (Binary o left b.0.tree) (tail part rank b.1))
 unfolding joined
 tail_goes_on part rank spot left s o after t e =
-    ap (λ (r : Read (List (BinOp × Placed))). joined spot left r) (tail_is part rank s) ∙ rw (t, e) (go (reading inner (operand_of rank part) after))
+    ap (λ (r : Read (List (BinOp × ExprWithSpot))). joined spot left r) (tail_is part rank s) ∙ rw (t, e) (go (reading productions (operand_of rank part) after))
   where
-    go : (r : Read Placed) → joined spot left ((r >>= pair_with o) >>= λ a. tail part rank a.1 >>= applied (λ more. a.0 ∷ more)) ≡ (r >>= λ b. joined spot (Binary o left b.0.tree) (tail part rank b.1))
+    go : (r : Read ExprWithSpot) → joined spot left ((r >>= pair_with o) >>= λ a. tail part rank a.1 >>= applied (λ more. a.0 ∷ more)) ≡ (r >>= λ b. joined spot (Binary o left b.0.tree) (tail part rank b.1))
     go (Err e) = refl
     go (Ok b) = inner_go (tail part rank b.1)
       where
-        inner_go : (r : Read (List (BinOp × Placed))) → joined spot left (r >>= applied (λ more. (o, b.0) ∷ more)) ≡ joined spot (Binary o left b.0.tree) r
+        inner_go : (r : Read (List (BinOp × ExprWithSpot))) → joined spot left (r >>= applied (λ more. (o, b.0) ∷ more)) ≡ joined spot (Binary o left b.0.tree) r
         inner_go (Ok x) = refl
         inner_go (Err e) = refl
 
--- the loop goes on, and fails
-pub loop_goes_on : (part : Part) (rank : Rank) (spot : Spot) (left : Expression) (s : List Token) (o : BinOp) (after : List Token) (right : Placed) (next : List Token) (total : Read Placed) → (starts (operators_of rank) s ≡ true) × (reading inner (map operator_of (one_of (operators_of rank))) s ≡ Ok (o, after))
-    → reading inner (operand_of rank part) after ≡ Ok (right, next) → joined spot left (tail part rank s) ≡ total → joined spot (Binary o left right.tree) (tail part rank next) ≡ total
+-- the loop continues, and the loop fails
+pub loop_goes_on : (part : Part) (rank : Rank) (spot : Spot) (left : Expression) (s : List Token) (o : BinOp) (after : List Token) (right : ExprWithSpot) (next : List Token) (total : Read ExprWithSpot) → (starts (operators_of rank) s ≡ true) × (reading productions (map operator_of (one_of (operators_of rank))) s ≡ Ok (o, after))
+    → reading productions (operand_of rank part) after ≡ Ok (right, next) → joined spot left (tail part rank s) ≡ total → joined spot (Binary o left right.tree) (tail part rank next) ≡ total
 loop_goes_on part rank spot left s o after right next total t e so_far = sym (tail_goes_on part rank spot left s o after t.0 t.1 ∙ rw e refl) ∙ so_far
 
-pub loop_fails : (e : ReadError) (part : Part) (rank : Rank) (spot : Spot) (left : Expression) (s : List Token) (o : BinOp) (after : List Token) (total : Read Placed) → (starts (operators_of rank) s ≡ true) × (reading inner (map operator_of (one_of (operators_of rank))) s ≡ Ok (o, after))
-    → Fails e (reading inner (operand_of rank part) after) → joined spot left (tail part rank s) ≡ total → Fails e total
+pub loop_fails : (e : ReadRefusal) (part : Part) (rank : Rank) (spot : Spot) (left : Expression) (s : List Token) (o : BinOp) (after : List Token) (total : Read ExprWithSpot) → (starts (operators_of rank) s ≡ true) × (reading productions (map operator_of (one_of (operators_of rank))) s ≡ Ok (o, after))
+    → Fails e (reading productions (operand_of rank part) after) → joined spot left (tail part rank s) ≡ total → Fails e total
 loop_fails e part rank spot left s o after total t h so_far =
-    subst (λ (r : Read Placed). Fails e r) (sym (tail_goes_on part rank spot left s o after t.0 t.1) ∙ so_far) (fails_before e (reading inner (operand_of rank part) after) (λ b. joined spot (Binary o left b.0.tree) (tail part rank b.1)) h)
+    subst (λ (r : Read ExprWithSpot). Fails e r) (sym (tail_goes_on part rank spot left s o after t.0 t.1) ∙ so_far) (fails_before e (reading productions (operand_of rank part) after) (λ b. joined spot (Binary o left b.0.tree) (tail part rank b.1)) h)
 
--- ---- where a test is on the first sorts of a form
+-- ---- tests of first sets
 
-pub unary_reads : (part : Part) (s : List Token) → reading inner (unary part) s ≡ cond (starts is_sign s) (reading inner (signed part) s) (cond (starts (is sort.Number) s) (reading inner number s) (cond (starts (names part) s) (reading inner (reference part) s) (reading inner (parens part) s)))
+pub unary_reads : (part : Part) (s : List Token) → reading productions (unary part) s ≡ cond (starts is_sign s) (reading productions (signed part) s) (cond (starts (is terminal.Number) s) (reading productions number s) (cond (starts (names part) s) (reading productions (reference part) s) (reading productions (parens part) s)))
 unfolding unary signed number reference
 unary_reads Class s = refl
 unary_reads Body s = refl
 
-pub element_reads : (s : List Token) → reading inner (reference Body) s ≡ (reading inner (name Body) s >>= λ a. cond (starts (is sort.LeftBracket) a.1) (reading inner index a.1 >>= applied (λ (i : Placed). placed a.0.spot (Elem a.0 i.tree))) (Ok (placed a.0.spot (Name a.0), a.1)))
+pub element_reads : (s : List Token) → reading productions (reference Body) s ≡ (reading productions (name Body) s >>= λ a. cond (starts (is terminal.LeftBracket) a.1) (reading productions index a.1 >>= applied (λ (i : ExprWithSpot). with_spot a.0.spot (Elem a.0 i.tree))) (Ok (with_spot a.0.spot (Name a.0), a.1)))
 unfolding reference index
-element_reads s = loops.followed_reads inner (name Body) index named s
+element_reads s = loops.followed_reads productions (name Body) index named s
 
-pub expr_reads : (part : Part) (s : List Token) → reading inner (expr part) s ≡ (reading inner (disjunction part) s >>= λ a. cond (starts (is sort.Question) a.1) (reading inner (branches part) a.1 >>= applied (λ (x : Placed × Placed). placed a.0.spot (Choose a.0.tree x.0.tree x.1.tree))) (Ok (a.0, a.1)))
+pub expr_reads : (part : Part) (s : List Token) → reading productions (expr part) s ≡ (reading productions (disjunction part) s >>= λ a. cond (starts (is terminal.Question) a.1) (reading productions (branches part) a.1 >>= applied (λ (x : ExprWithSpot × ExprWithSpot). with_spot a.0.spot (Choose a.0.tree x.0.tree x.1.tree))) (Ok (a.0, a.1)))
 unfolding expr branches
-expr_reads part s = loops.followed_reads inner (disjunction part) (branches part) chosen s
+expr_reads part s = loops.followed_reads productions (disjunction part) (branches part) chosen s

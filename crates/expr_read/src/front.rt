@@ -1,14 +1,14 @@
-//! An expression of which the end isn't known.
+//! Reads an expression whose end is not known.
 
 ghost use Rattle.std.specs.Prelude.{◌≡◌, ℕ, ◌+◌, ◌-◌, ◌≤◌, IfOk, Ok, Err, ◌⊎◌, length, drop, slice_get};
 ghost use Rattle.grammar_core.specs.declared.code.Code.{Code};
 ghost use Rattle.jdf_lex.specs.declared.fault.JdfFault.{JdfFault};
-ghost use Rattle.jdf_lex.specs.declared.fault.JdfRefusal.TheVariants.{Fault, OutOfMemory};
+ghost use Rattle.ptg_base.specs.declared.refusal.Refusal.TheVariants.{Fault, OutOfMemory};
 ghost use Rattle.jdf_tree.specs.Expression.{Expression};
 ghost use Rattle.expr_read.specs.Front.{part_of, IsExpression, IsFirstFaultOf, spot_or, fault_at};
 
 use crate::window::outer;
-use grammar_core::{Code, ReadError};
+use grammar_core::{Code, ReadRefusal};
 use jdf_lex::{JdfFault, JdfRefusal, Spot, Token};
 use jdf_tree::{ExprTree, Part, code_at_token};
 use std::alloc::Global;
@@ -19,11 +19,11 @@ fn part_of(elements: bool) -> Part
     if elements { Part::Body } else { Part::Class }
 }
 
-/// The fault of this code at the token of number `place`, or at `finish` where that is behind the last one.
-pub fn fault_at(tokens: &[Token], finish: Spot, place: usize, code: Code) -> JdfFault
-    ensures { result ≡ fault_at tokens.now finish place code }
+/// The fault with this code at the token of index `token_index`, or at the spot `finish` where there is no such token.
+pub fn fault_at(tokens: &[Token], finish: Spot, token_index: usize, code: Code) -> JdfFault
+    ensures { result ≡ fault_at tokens.now finish token_index code }
 {
-    let spot = match tokens.get(place) {
+    let spot = match tokens.get(token_index) {
         Some(token) => token.spot,
         None => finish,
     };
@@ -33,8 +33,8 @@ pub fn fault_at(tokens: &[Token], finish: Spot, place: usize, code: Code) -> Jdf
     }
 }
 
-/// The expression that begins at the token of number `from` and goes as far as an expression can, and the number of
-/// the token behind it. Where `elements` holds it is one of a body. A fault that lies behind all tokens is at `finish`.
+/// Reads the longest expression that begins at the token of index `from`: its tree, and the index of the token after it.
+/// Where `elements` holds, it is an expression of a body. A fault after all tokens has the spot `finish`.
 pub fn read_expr(
     alloc: Global,
     tokens: &[Token],
@@ -49,13 +49,13 @@ pub fn read_expr(
     ensures refused { (p : ℕ) → (c : Code) → IsFirstFaultOf (part_of elements) (drop from tokens.now) p c → (result ≡ Err (Fault (fault_at tokens.now finish (from + p) c))) ⊎ (result ≡ Err OutOfMemory) }
 {
     match outer(alloc, part_of(elements), &tokens[from..]) {
-        Ok((placed, rest)) => Ok((placed.tree, tokens.len() - rest.len())),
-        Err(ReadError::Memory) => Err(JdfRefusal::OutOfMemory),
-        Err(ReadError::Fault(left, code)) => Err(JdfRefusal::Fault(fault_at(
+        Ok((expression, rest)) => Ok((expression.tree, tokens.len() - rest.len())),
+        Err(ReadRefusal::OutOfMemory) => Err(JdfRefusal::OutOfMemory),
+        Err(ReadRefusal::Fault(fault)) => Err(JdfRefusal::Fault(fault_at(
             tokens,
             finish,
-            tokens.len() - left,
-            code,
+            tokens.len() - fault.left,
+            fault.code,
         ))),
     }
 }

@@ -1,35 +1,36 @@
-//! Names.
+//! Reads names.
 
 ghost use Rattle.std.specs.Prelude.{◌≡◌, IfOk, OnErr};
-ghost use Rattle.grammar_core.specs.Gives.{Gives};
+ghost use Rattle.grammar_core.specs.Returns.{Returns};
 ghost use Rattle.grammar_core.specs.Reading.{reading, starts};
-ghost use Rattle.jdf_tree.specs.Pieces.{name, names, word_of};
-ghost use Rattle.jdf_tree.specs.Grammar.{inner};
+ghost use Rattle.jdf_tree.specs.GrammarParts.{name, names, word_of};
+ghost use Rattle.jdf_tree.specs.Grammar.{productions};
 
-use grammar_core::{Code, ReadError, Sort};
+use grammar_core::{Code, ReadRefusal, Terminal, refusal_at};
 use jdf_lex::Token;
 use jdf_tree::{Part, Word};
 use ptg_base::{OutOfMemory, Text};
 use std::alloc::Global;
 
-// Is a token of this sort a name in this part?
-fn is_name(part: Part, sort: Sort) -> bool
-    ensures { result ≡ names part sort }
+// Is this terminal a name in this part of a text?
+fn is_name(part: Part, terminal: Terminal) -> bool
+    ensures { result ≡ names part terminal }
 {
-    match sort {
-        Sort::Name | Sort::TypeWord => true,
-        Sort::Int | Sort::If | Sort::Else | Sort::For | Sort::Trap => part == Part::Class,
+    match terminal {
+        Terminal::Name | Terminal::TypeWord => true,
+        Terminal::Int | Terminal::If | Terminal::Else | Terminal::For | Terminal::Trap => part
+            == Part::Class,
         _ => false,
     }
 }
 
-/// Does a name come next?
+/// Is a name next?
 pub fn is_name_next(part: Part, tokens: &[Token]) -> bool
     ensures { result ≡ starts (names part) tokens.now }
 {
     match tokens.split_first() {
         None => false,
-        Some((first, _)) => is_name(part, Sort::of(first)),
+        Some((first, _)) => is_name(part, Terminal::of(first)),
     }
 }
 
@@ -42,12 +43,15 @@ fn word_of(alloc: Global, token: &Token) -> Result<Word, OutOfMemory>
     })
 }
 
-/// A name, and the rest.
-pub fn name(alloc: Global, part: Part, tokens: &[Token]) -> Result<(Word, &[Token]), ReadError>
-    ensures { Gives (λ x. (x.0, x.1.now)) result (reading inner (name part) tokens.now) }
+/// Takes a name: the name, and the tokens after it. Syntax at the next token if that is no name.
+pub fn name(alloc: Global, part: Part, tokens: &[Token]) -> Result<(Word, &[Token]), ReadRefusal>
+    ensures { Returns (λ x. (x.0, x.1.now)) result (reading productions (name part) tokens.now) }
 {
     match tokens.split_first() {
-        Some((first, rest)) if is_name(part, Sort::of(first)) => Ok((word_of(alloc, first)?, rest)),
-        _ => Err(ReadError::Fault(tokens.len(), Code::Syntax)),
+        Some((first, rest)) if is_name(part, Terminal::of(first)) => Ok((
+            word_of(alloc, first)?,
+            rest,
+        )),
+        _ => Err(refusal_at(tokens, Code::Syntax)),
     }
 }

@@ -1,33 +1,37 @@
-//! Expressions.
+//! Reads expressions, without the limit of an outermost one.
 
 ghost use Rattle.std.specs.Prelude.{◌≡◌, MatchOption, IfOk, Ok, true, false};
-ghost use Rattle.grammar_core.specs.Form.{map, one_of};
-ghost use Rattle.grammar_core.specs.Gives.{Gives};
+ghost use Rattle.grammar_core.specs.Production.{map, one_of};
+ghost use Rattle.grammar_core.specs.Returns.{Returns};
 ghost use Rattle.grammar_core.specs.Reading.{reading, starts, token_at};
-ghost use Rattle.grammar_core.specs.Sorts.{sort_of};
+ghost use Rattle.grammar_core.specs.Terminals.{terminal_of};
 ghost use Rattle.jdf_tree.specs.ExpressionGrammar.{index, parens, reference, signed, unary, branches, expr, is_sign, sign_by, operator_by, operator_of};
-ghost use Rattle.jdf_tree.specs.Grammar.{inner};
+ghost use Rattle.jdf_tree.specs.Grammar.{productions};
 ghost use Rattle.jdf_tree.specs.declared.part.Part.TheVariants.{Body};
 ghost use Rattle.expr_read.specs.Ranks.{operators_of, operand_of, of_rank};
 
 use crate::names::{is_name_next, name};
 use crate::number::number;
 use crate::rank::Rank;
-use grammar_core::{Code, ReadError, Sort, expect, is_next};
+use grammar_core::{Code, ReadRefusal, Terminal, expect, is_next, refusal_at};
 use jdf_lex::Token;
-use jdf_tree::{ExprTree, Part, Placed};
+use jdf_tree::{ExprTree, ExprWithSpot, Part};
 use std::alloc::Global;
 use term_core::{BinOp, UnOp};
 
 #[cycle(expression)]
 #[tactic(auto, using(crate::proofs::Named::expr_is, crate::proofs::Loops::token_shrinks), unfolding(jdf_tree::specs::ExpressionGrammar::parens))]
-fn parens(alloc: Global, part: Part, tokens: &[Token]) -> Result<(Placed, &[Token]), ReadError>
-    ensures { Gives (λ x. (x.0, x.1.now)) result (reading inner (parens part) tokens.now) }
+fn parens(
+    alloc: Global,
+    part: Part,
+    tokens: &[Token],
+) -> Result<(ExprWithSpot, &[Token]), ReadRefusal>
+    ensures { Returns (λ x. (x.0, x.1.now)) result (reading productions (parens part) tokens.now) }
 {
-    let (open, rest) = expect(tokens, Sort::LeftParen)?;
+    let (open, rest) = expect(tokens, Terminal::LeftParen)?;
     let (inside, rest) = expression(alloc, part, rest)?;
-    let (_, rest) = expect(rest, Sort::RightParen)?;
-    let whole = Placed {
+    let (_, rest) = expect(rest, Terminal::RightParen)?;
+    let whole = ExprWithSpot {
         spot: open.spot,
         tree: inside.tree,
     };
@@ -36,36 +40,40 @@ fn parens(alloc: Global, part: Part, tokens: &[Token]) -> Result<(Placed, &[Toke
 
 #[cycle(expression)]
 #[tactic(auto, using(crate::proofs::Named::expr_is, crate::proofs::Loops::token_shrinks), unfolding(jdf_tree::specs::ExpressionGrammar::index))]
-fn index(alloc: Global, tokens: &[Token]) -> Result<(Placed, &[Token]), ReadError>
-    ensures { Gives (λ x. (x.0, x.1.now)) result (reading inner index tokens.now) }
+fn index(alloc: Global, tokens: &[Token]) -> Result<(ExprWithSpot, &[Token]), ReadRefusal>
+    ensures { Returns (λ x. (x.0, x.1.now)) result (reading productions index tokens.now) }
 {
-    let (_, rest) = expect(tokens, Sort::LeftBracket)?;
+    let (_, rest) = expect(tokens, Terminal::LeftBracket)?;
     let (inside, rest) = expression(alloc, Part::Body, rest)?;
-    let (_, rest) = expect(rest, Sort::RightBracket)?;
+    let (_, rest) = expect(rest, Terminal::RightBracket)?;
     Ok((inside, rest))
 }
 
-// A name in a body, which may be a flow's before an index.
+// A name in a body, or an element of a flow: `name index?`.
 #[cycle(expression)]
 #[tactic(auto, using(crate::proofs::Loops::element_reads, crate::proofs::Loops::reading_shrinks))]
-fn element(alloc: Global, tokens: &[Token]) -> Result<(Placed, &[Token]), ReadError>
-    ensures { Gives (λ x. (x.0, x.1.now)) result (reading inner (reference Body) tokens.now) }
+fn element(alloc: Global, tokens: &[Token]) -> Result<(ExprWithSpot, &[Token]), ReadRefusal>
+    ensures { Returns (λ x. (x.0, x.1.now)) result (reading productions (reference Body) tokens.now) }
 {
     let (name, rest) = name(alloc, Part::Body, tokens)?;
     let spot = name.spot;
-    if !is_next(rest, Sort::LeftBracket) {
+    if !is_next(rest, Terminal::LeftBracket) {
         let tree = ExprTree::name(name);
-        return Ok((Placed { spot, tree }, rest));
+        return Ok((ExprWithSpot { spot, tree }, rest));
     }
     let (at, rest) = index(alloc, rest)?;
     let tree = ExprTree::elem(alloc, name, at.tree)?;
-    Ok((Placed { spot, tree }, rest))
+    Ok((ExprWithSpot { spot, tree }, rest))
 }
 
 #[cycle(expression)]
 #[tactic(auto, unfolding(jdf_tree::specs::ExpressionGrammar::reference))]
-fn reference(alloc: Global, part: Part, tokens: &[Token]) -> Result<(Placed, &[Token]), ReadError>
-    ensures { Gives (λ x. (x.0, x.1.now)) result (reading inner (reference part) tokens.now) }
+fn reference(
+    alloc: Global,
+    part: Part,
+    tokens: &[Token],
+) -> Result<(ExprWithSpot, &[Token]), ReadRefusal>
+    ensures { Returns (λ x. (x.0, x.1.now)) result (reading productions (reference part) tokens.now) }
 {
     match part {
         Part::Body => element(alloc, tokens),
@@ -73,67 +81,75 @@ fn reference(alloc: Global, part: Part, tokens: &[Token]) -> Result<(Placed, &[T
             let (name, rest) = name(alloc, Part::Class, tokens)?;
             let spot = name.spot;
             let tree = ExprTree::name(name);
-            Ok((Placed { spot, tree }, rest))
+            Ok((ExprWithSpot { spot, tree }, rest))
         }
     }
 }
 
-// The operator that stands before its operand by this mark, where one does.
-fn sign(sort: Sort) -> Option<UnOp>
-    ensures { MatchOption result (is_sign sort ≡ false) (λ o. (is_sign sort ≡ true) × (o ≡ sign_by sort)) }
+// The prefix operator of this mark, if it is one.
+fn sign(terminal: Terminal) -> Option<UnOp>
+    ensures { MatchOption result (is_sign terminal ≡ false) (λ o. (is_sign terminal ≡ true) × (o ≡ sign_by terminal)) }
 {
-    match sort {
-        Sort::Minus => Some(UnOp::Neg),
-        Sort::Not => Some(UnOp::Not),
+    match terminal {
+        Terminal::Minus => Some(UnOp::Neg),
+        Terminal::Not => Some(UnOp::Not),
         _ => None,
     }
 }
 
-// Does an operator come next that stands before its operand?
+// Is a prefix operator next?
 fn is_sign_next(tokens: &[Token]) -> bool
     ensures { result ≡ starts is_sign tokens.now }
 {
     match tokens.split_first() {
         None => false,
-        Some((first, _)) => sign(Sort::of(first)).is_some(),
+        Some((first, _)) => sign(Terminal::of(first)).is_some(),
     }
 }
 
-// The operator that comes next and stands before its operand, its token, and the rest.
-fn sign_at(tokens: &[Token]) -> Result<(UnOp, &Token, &[Token]), ReadError>
-    ensures token { Gives (λ x. (x.1.now, x.2.now)) result (token_at is_sign tokens.now) }
-    ensures operator { IfOk result (λ x. x.0 ≡ sign_by (sort_of x.1.now)) }
+// Takes a prefix operator: the operator, its token, and the tokens after it.
+fn sign_at(tokens: &[Token]) -> Result<(UnOp, &Token, &[Token]), ReadRefusal>
+    ensures token { Returns (λ x. (x.1.now, x.2.now)) result (token_at is_sign tokens.now) }
+    ensures operator { IfOk result (λ x. x.0 ≡ sign_by (terminal_of x.1.now)) }
 {
     let Some((first, rest)) = tokens.split_first() else {
-        return Err(ReadError::Fault(0, Code::Syntax));
+        return Err(refusal_at(tokens, Code::Syntax));
     };
-    match sign(Sort::of(first)) {
+    match sign(Terminal::of(first)) {
         Some(operator) => Ok((operator, first, rest)),
-        None => Err(ReadError::Fault(tokens.len(), Code::Syntax)),
+        None => Err(refusal_at(tokens, Code::Syntax)),
     }
 }
 
 #[cycle(expression)]
 #[tactic(auto, using(crate::proofs::Named::unary_is, crate::proofs::Loops::token_shrinks), unfolding(jdf_tree::specs::ExpressionGrammar::signed))]
-fn signed(alloc: Global, part: Part, tokens: &[Token]) -> Result<(Placed, &[Token]), ReadError>
-    ensures { Gives (λ x. (x.0, x.1.now)) result (reading inner (signed part) tokens.now) }
+fn signed(
+    alloc: Global,
+    part: Part,
+    tokens: &[Token],
+) -> Result<(ExprWithSpot, &[Token]), ReadRefusal>
+    ensures { Returns (λ x. (x.0, x.1.now)) result (reading productions (signed part) tokens.now) }
 {
     let (operator, mark, rest) = sign_at(tokens)?;
     let (operand, rest) = unary(alloc, part, rest)?;
     let spot = mark.spot;
     let tree = ExprTree::unary(alloc, operator, operand.tree, spot)?;
-    Ok((Placed { spot, tree }, rest))
+    Ok((ExprWithSpot { spot, tree }, rest))
 }
 
 #[cycle(expression)]
 #[tactic(auto, using(crate::proofs::Loops::unary_reads))]
-fn unary(alloc: Global, part: Part, tokens: &[Token]) -> Result<(Placed, &[Token]), ReadError>
-    ensures { Gives (λ x. (x.0, x.1.now)) result (reading inner (unary part) tokens.now) }
+fn unary(
+    alloc: Global,
+    part: Part,
+    tokens: &[Token],
+) -> Result<(ExprWithSpot, &[Token]), ReadRefusal>
+    ensures { Returns (λ x. (x.0, x.1.now)) result (reading productions (unary part) tokens.now) }
 {
     if is_sign_next(tokens) {
         return signed(alloc, part, tokens);
     }
-    if is_next(tokens, Sort::Number) {
+    if is_next(tokens, Terminal::Number) {
         return number(tokens);
     }
     if is_name_next(part, tokens) {
@@ -142,35 +158,35 @@ fn unary(alloc: Global, part: Part, tokens: &[Token]) -> Result<(Placed, &[Token
     parens(alloc, part, tokens)
 }
 
-// The operator of this rank that has this mark, where one does.
-fn operator(rank: Rank, sort: Sort) -> Option<BinOp>
-    ensures { MatchOption result (operators_of rank sort ≡ false) (λ o. (operators_of rank sort ≡ true) × (o ≡ operator_by sort)) }
+// The infix operator of this rank with this mark, if there is one.
+fn operator(rank: Rank, terminal: Terminal) -> Option<BinOp>
+    ensures { MatchOption result (operators_of rank terminal ≡ false) (λ o. (operators_of rank terminal ≡ true) × (o ≡ operator_by terminal)) }
 {
-    match (rank, sort) {
-        (Rank::Product, Sort::Star) => Some(BinOp::Mul),
-        (Rank::Product, Sort::Slash) => Some(BinOp::Div),
-        (Rank::Product, Sort::Percent) => Some(BinOp::Rem),
-        (Rank::Sum, Sort::Plus) => Some(BinOp::Add),
-        (Rank::Sum, Sort::Minus) => Some(BinOp::Sub),
-        (Rank::Relation, Sort::Less) => Some(BinOp::Lt),
-        (Rank::Relation, Sort::AtMost) => Some(BinOp::Le),
-        (Rank::Relation, Sort::Greater) => Some(BinOp::Gt),
-        (Rank::Relation, Sort::AtLeast) => Some(BinOp::Ge),
-        (Rank::Equality, Sort::Equal) => Some(BinOp::Eq),
-        (Rank::Equality, Sort::NotEqual) => Some(BinOp::Ne),
-        (Rank::Conjunction, Sort::And | Sort::AndAnd) => Some(BinOp::And),
-        (Rank::Disjunction, Sort::Or | Sort::OrOr) => Some(BinOp::Or),
+    match (rank, terminal) {
+        (Rank::Product, Terminal::Star) => Some(BinOp::Mul),
+        (Rank::Product, Terminal::Slash) => Some(BinOp::Div),
+        (Rank::Product, Terminal::Percent) => Some(BinOp::Rem),
+        (Rank::Sum, Terminal::Plus) => Some(BinOp::Add),
+        (Rank::Sum, Terminal::Minus) => Some(BinOp::Sub),
+        (Rank::Relation, Terminal::Less) => Some(BinOp::Lt),
+        (Rank::Relation, Terminal::AtMost) => Some(BinOp::Le),
+        (Rank::Relation, Terminal::Greater) => Some(BinOp::Gt),
+        (Rank::Relation, Terminal::AtLeast) => Some(BinOp::Ge),
+        (Rank::Equality, Terminal::Equal) => Some(BinOp::Eq),
+        (Rank::Equality, Terminal::NotEqual) => Some(BinOp::Ne),
+        (Rank::Conjunction, Terminal::And | Terminal::AndAnd) => Some(BinOp::And),
+        (Rank::Disjunction, Terminal::Or | Terminal::OrOr) => Some(BinOp::Or),
         _ => None,
     }
 }
 
-// The operator of this rank that comes next, and the rest.
+// The infix operator of this rank that is next, and the tokens after it; None if none is next.
 fn operator_at(rank: Rank, tokens: &[Token]) -> Option<(BinOp, &[Token])>
     ensures { MatchOption result (starts (operators_of rank) tokens.now ≡ false)
-        (λ x. (starts (operators_of rank) tokens.now ≡ true) × (reading inner (map operator_of (one_of (operators_of rank))) tokens.now ≡ Ok (x.0, x.1.now))) }
+        (λ x. (starts (operators_of rank) tokens.now ≡ true) × (reading productions (map operator_of (one_of (operators_of rank))) tokens.now ≡ Ok (x.0, x.1.now))) }
 {
     let (first, rest) = tokens.split_first()?;
-    let found = operator(rank, Sort::of(first))?;
+    let found = operator(rank, Terminal::of(first))?;
     Some((found, rest))
 }
 
@@ -180,8 +196,8 @@ fn operand(
     part: Part,
     rank: Rank,
     tokens: &[Token],
-) -> Result<(Placed, &[Token]), ReadError>
-    ensures { Gives (λ x. (x.0, x.1.now)) result (reading inner (operand_of rank part) tokens.now) }
+) -> Result<(ExprWithSpot, &[Token]), ReadRefusal>
+    ensures { Returns (λ x. (x.0, x.1.now)) result (reading productions (operand_of rank part) tokens.now) }
 {
     match rank {
         Rank::Product => unary(alloc, part, tokens),
@@ -200,8 +216,8 @@ pub(crate) fn ranked(
     part: Part,
     rank: Rank,
     tokens: &[Token],
-) -> Result<(Placed, &[Token]), ReadError>
-    ensures { Gives (λ x. (x.0, x.1.now)) result (reading inner (of_rank rank part) tokens.now) }
+) -> Result<(ExprWithSpot, &[Token]), ReadRefusal>
+    ensures { Returns (λ x. (x.0, x.1.now)) result (reading productions (of_rank rank part) tokens.now) }
 {
     let (first, mut rest) = operand(alloc, part, rank, tokens)?;
     let spot = first.spot;
@@ -211,7 +227,7 @@ pub(crate) fn ranked(
         left = ExprTree::binary(alloc, operator, left, right.tree)?;
         rest = next;
     }
-    Ok((Placed { spot, tree: left }, rest))
+    Ok((ExprWithSpot { spot, tree: left }, rest))
 }
 
 #[cycle(expression)]
@@ -220,12 +236,12 @@ fn branches(
     alloc: Global,
     part: Part,
     tokens: &[Token],
-) -> Result<((Placed, Placed), &[Token]), ReadError>
-    ensures { Gives (λ x. (x.0, x.1.now)) result (reading inner (branches part) tokens.now) }
+) -> Result<((ExprWithSpot, ExprWithSpot), &[Token]), ReadRefusal>
+    ensures { Returns (λ x. (x.0, x.1.now)) result (reading productions (branches part) tokens.now) }
 {
-    let (_, rest) = expect(tokens, Sort::Question)?;
+    let (_, rest) = expect(tokens, Terminal::Question)?;
     let (yes, rest) = expression(alloc, part, rest)?;
-    let (_, rest) = expect(rest, Sort::Colon)?;
+    let (_, rest) = expect(rest, Terminal::Colon)?;
     let (no, rest) = expression(alloc, part, rest)?;
     Ok(((yes, no), rest))
 }
@@ -236,15 +252,15 @@ pub(crate) fn expression(
     alloc: Global,
     part: Part,
     tokens: &[Token],
-) -> Result<(Placed, &[Token]), ReadError>
-    ensures { Gives (λ x. (x.0, x.1.now)) result (reading inner (expr part) tokens.now) }
+) -> Result<(ExprWithSpot, &[Token]), ReadRefusal>
+    ensures { Returns (λ x. (x.0, x.1.now)) result (reading productions (expr part) tokens.now) }
 {
     let (condition, rest) = ranked(alloc, part, Rank::Disjunction, tokens)?;
-    if !is_next(rest, Sort::Question) {
+    if !is_next(rest, Terminal::Question) {
         return Ok((condition, rest));
     }
     let ((yes, no), rest) = branches(alloc, part, rest)?;
     let spot = condition.spot;
     let tree = ExprTree::choose(alloc, condition.tree, yes.tree, no.tree)?;
-    Ok((Placed { spot, tree }, rest))
+    Ok((ExprWithSpot { spot, tree }, rest))
 }

@@ -1,6 +1,8 @@
+//! The precedence of operators, and the kinds of outermost expressions.
+
 use jdf_tree::Part;
 
-/// Which operators between operands are the outermost ones, from the one that binds tightest.
+/// The precedence of infix operators, the tightest first.
 #[derive(Clone, Copy, Debug)]
 pub(crate) enum Rank {
     /// `*`, `/` and `%`
@@ -17,11 +19,11 @@ pub(crate) enum Rank {
     Disjunction,
 }
 
-/// What is read in a window of its own.
+/// The kinds of outermost expressions.
 #[derive(Clone, Copy, Debug)]
 pub(crate) enum Outermost {
     /// Any expression.
     Expression(Part),
-    /// An expression of a class with no `? :` that is not in parentheses.
+    /// A guard: an expression of a class with no `? :` outside of parentheses.
     Guard,
 }

@@ -1,29 +1,29 @@
 //! Outermost expressions, which have a limit.
 
 ghost use Rattle.std.specs.Prelude.{◌≡◌, IfSome, Ok};
-ghost use Rattle.grammar_core.specs.Gives.{Gives};
+ghost use Rattle.grammar_core.specs.Returns.{Returns};
 ghost use Rattle.grammar_core.specs.Reading.{reading};
 ghost use Rattle.jdf_tree.specs.ExpressionGrammar.{outer, guard};
-ghost use Rattle.jdf_tree.specs.Grammar.{inner};
+ghost use Rattle.jdf_tree.specs.Grammar.{productions};
 ghost use Rattle.expr_read.specs.Ranks.{form_of, limited_form};
 
 use crate::operators::{expression, ranked};
 use crate::rank::{Outermost, Rank};
-use grammar_core::{Code, ReadError, expression_limit};
+use grammar_core::{Code, ReadFault, ReadRefusal, expression_limit, refusal_at};
 use jdf_lex::Token;
-use jdf_tree::{Part, Placed};
+use jdf_tree::{ExprWithSpot, Part};
 use std::alloc::Global;
 
-/// So many tokens are within the limit, whatever they are.
+/// This many tokens are within the limit, whatever they are.
 const WITHIN: usize = 128;
 
-// What is outermost, whatever its limit.
+// An outermost expression, without its limit.
 fn form(
     alloc: Global,
     outermost: Outermost,
     tokens: &[Token],
-) -> Result<(Placed, &[Token]), ReadError>
-    ensures { Gives (λ x. (x.0, x.1.now)) result (reading inner (form_of outermost) tokens.now) }
+) -> Result<(ExprWithSpot, &[Token]), ReadRefusal>
+    ensures { Returns (λ x. (x.0, x.1.now)) result (reading productions (form_of outermost) tokens.now) }
 {
     match outermost {
         Outermost::Expression(part) => expression(alloc, part, tokens),
@@ -31,10 +31,10 @@ fn form(
     }
 }
 
-// An expression that ends within the first tokens, if it does: then its limit need not be looked for.
+// An expression that ends within the first `WITHIN` tokens, so that the limit need not be looked for; None if it does not.
 #[tactic(auto, using(crate::proofs::Brief::brief_reads, crate::proofs::Loops::reading_shrinks))]
-fn brief(alloc: Global, outermost: Outermost, tokens: &[Token]) -> Option<(Placed, &[Token])>
-    ensures { IfSome result (λ x. reading inner (limited_form outermost) tokens.now ≡ Ok (x.0, x.1.now)) }
+fn brief(alloc: Global, outermost: Outermost, tokens: &[Token]) -> Option<(ExprWithSpot, &[Token])>
+    ensures { IfSome result (λ x. reading productions (limited_form outermost) tokens.now ≡ Ok (x.0, x.1.now)) }
 {
     if tokens.len() <= WITHIN {
         return None;
@@ -46,14 +46,14 @@ fn brief(alloc: Global, outermost: Outermost, tokens: &[Token]) -> Option<(Place
     }
 }
 
-// An outermost expression is read in a window, so that no text makes the recursion deep.
+// An outermost expression is read in a window of tokens up to its limit, so that no text makes the recursion deep.
 #[tactic(auto, using(crate::proofs::InWindow::short, crate::proofs::InWindow::slice, crate::proofs::InWindow::fault, crate::proofs::InWindow::cut, crate::proofs::InWindow::form_within, crate::proofs::Loops::reading_shrinks))]
 fn within_limit(
     alloc: Global,
     outermost: Outermost,
     tokens: &[Token],
-) -> Result<(Placed, &[Token]), ReadError>
-    ensures { Gives (λ x. (x.0, x.1.now)) result (reading inner (limited_form outermost) tokens.now) }
+) -> Result<(ExprWithSpot, &[Token]), ReadRefusal>
+    ensures { Returns (λ x. (x.0, x.1.now)) result (reading productions (limited_form outermost) tokens.now) }
 {
     if let Some(read) = brief(alloc, outermost, tokens) {
         return Ok(read);
@@ -65,26 +65,33 @@ fn within_limit(
     let (window, behind) = tokens.split_at(limit + 1);
     match form(alloc, outermost, window) {
         Ok((tree, rest)) if !rest.is_empty() => Ok((tree, &tokens[window.len() - rest.len()..])),
-        Ok(_) => Err(ReadError::Fault(tokens.len() - limit, Code::ExprTooLong)),
-        Err(ReadError::Memory) => Err(ReadError::Memory),
-        Err(ReadError::Fault(0, _)) => Err(ReadError::Fault(
-            tokens.len() - limit,
+        Ok(_) => Err(refusal_at(&tokens[limit..], Code::ExprTooLong)),
+        Err(ReadRefusal::OutOfMemory) => Err(ReadRefusal::OutOfMemory),
+        Err(ReadRefusal::Fault(ReadFault { left: 0, .. })) => Err(refusal_at(
+            &tokens[limit..],
             Code::ExprTooLong,
         )),
-        Err(ReadError::Fault(left, code)) => Err(ReadError::Fault(left + behind.len(), code)),
+        Err(ReadRefusal::Fault(ReadFault { left, code })) => Err(ReadRefusal::Fault(ReadFault {
+            left: left + behind.len(),
+            code,
+        })),
     }
 }
 
-/// An outermost expression, and the rest.
-pub fn outer(alloc: Global, part: Part, tokens: &[Token]) -> Result<(Placed, &[Token]), ReadError>
-    ensures { Gives (λ x. (x.0, x.1.now)) result (reading inner (outer part) tokens.now) }
+/// Reads an outermost expression: its tree, and the tokens after it.
+pub fn outer(
+    alloc: Global,
+    part: Part,
+    tokens: &[Token],
+) -> Result<(ExprWithSpot, &[Token]), ReadRefusal>
+    ensures { Returns (λ x. (x.0, x.1.now)) result (reading productions (outer part) tokens.now) }
 {
     within_limit(alloc, Outermost::Expression(part), tokens)
 }
 
-/// A guard, and the rest.
-pub fn guard(alloc: Global, tokens: &[Token]) -> Result<(Placed, &[Token]), ReadError>
-    ensures { Gives (λ x. (x.0, x.1.now)) result (reading inner guard tokens.now) }
+/// Reads a guard: its tree, and the tokens after it.
+pub fn guard(alloc: Global, tokens: &[Token]) -> Result<(ExprWithSpot, &[Token]), ReadRefusal>
+    ensures { Returns (λ x. (x.0, x.1.now)) result (reading productions guard tokens.now) }
 {
     within_limit(alloc, Outermost::Guard, tokens)
 }

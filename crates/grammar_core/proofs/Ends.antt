@@ -1,63 +1,64 @@
--- Where a whole text is read, what follows it is never a syntax fault: reading goes on with the next token, or ends before it.
+-- Where all of the tokens were read as a text, a token after them is never a syntax fault: reading continues with it, or ends before it.
 use Rattle.std.proofs.Common.{◌≡◌, ℕ, zero, suc, ◌-◌, ◌<◌, ◌≤◌, Bool, true, false, cond, List, [], ◌∷◌, ◌++◌, length, Ok, Err, refl, ◌⊎◌, inl, inr, sym, ap, ◌∙◌, append_assoc, arith, subst}
 use Rattle.std.specs.Prelude.{Option, Some, None, not}
 use Rattle.std.proofs.lemmas.Bool.{and_parts, and_from, not-true, both_ways, cases_order}
 use Rattle.std.proofs.lemmas.List.{length-append, nil_from_length}
 use Rattle.jdf_lex.specs.declared.token.Token.{Token}
-use Rattle.grammar_core.specs.declared.sort.Sort.{Sort}
-use Rattle.grammar_core.specs.Sorts.{sort_of, within}
+use Rattle.grammar_core.specs.declared.terminal.Terminal.{Terminal}
+use Rattle.grammar_core.specs.Terminals.{terminal_of, within}
 use Rattle.grammar_core.specs.declared.code.Code.{Code}
 use Rattle.grammar_core.specs.declared.code.Code.TheVariants.{Syntax}
-use Rattle.grammar_core.specs.Form.{Form, one_of, valued, seq, map, alt, opt, star, pick, behind, limited, Lang, Fault, Spells, NameWithin, Derived}
-use Rattle.grammar_core.specs.Reading.{◌>>=◌, Read, Stop, refuse, check, may_be_empty, first, starts, picks, token_at, many_at, name_at, reading}
+use Rattle.grammar_core.specs.Production.{Production, one_of, valued, seq, map, alt, opt, star, pick, after_token, limited, Language, Fault, Derives, DerivedWithin, Derived}
+use Rattle.grammar_core.specs.Reading.{◌>>=◌, Read, FaultFromEnd, refuse, check, may_be_empty, first, starts, picks, token_at, many_at, nonterminal_at, reading}
 use Rattle.grammar_core.specs.Predictive.{Claims, alone, both_first, is_limit, are_limits, is_fine, has_plain, are_names}
 use Rattle.grammar_core.proofs.Sets.{starts_into}
-use Rattle.grammar_core.proofs.Steps.{bind_ok, bind_err, chosen, ok_is, no_ok, token_ok, refuse_ok, refuse_err, check_err, judge_ok, judge_err}
+use Rattle.grammar_core.proofs.ReadCases.{bind_ok, bind_err, chosen, ok_is, no_ok, token_ok, refuse_ok, refuse_err, check_err, judge_ok, judge_err}
 use Rattle.grammar_core.proofs.Begins.{surely_begins, seconds}
-use Rattle.grammar_core.proofs.Fuel.{name_is, name_shrinks, run_shrinks, many_is}
+use Rattle.grammar_core.proofs.Fuel.{nonterminal_is, nonterminal_shrinks, run_shrinks, many_is}
 use Rattle.grammar_core.proofs.Passes.{FaultsWithin, Passes, passes, safe_true}
-use Rattle.grammar_core.proofs.Sound.{SameHead, Sound, front}
+use Rattle.grammar_core.proofs.Sound.{SameHead, Sound}
+use Rattle.grammar_core.proofs.SoundLimits.{front}
 use Rattle.grammar_core.proofs.Whole.{LimitsOnly, sound}
 
-abbrev failed : {A : Type 0} → Stop → Read A
+abbrev failed : {A : Type 0} → FaultFromEnd → Read A
 failed n = Err n
 
-stop_is : {B : Type 0} {a b : Stop} → failed {A = B} a ≡ failed b → a ≡ b
+stop_is : {B : Type 0} {a b : FaultFromEnd} → failed {A = B} a ≡ failed b → a ≡ b
 stop_is e = cc
 
 not_syntax : (d : Code) → is_limit d ≡ true → d ≡ Syntax → ⊥
 not_syntax d h e = both_ways (is_limit d) (rw e refl) h
 
--- no limit is what is wrong here
-no_limit : (d : Code) → is_limit d ≡ true → (a b : Stop) → a ≡ b → a.1 ≡ Syntax → b.1 ≡ d → ⊥
-no_limit d h a b e f g = not_syntax d h (sym g ∙ (sym (ap (λ (x : Stop). x.1) e) ∙ f))
+-- the code of a limit is not Syntax
+no_limit : (d : Code) → is_limit d ≡ true → (a b : FaultFromEnd) → a ≡ b → a.1 ≡ Syntax → b.1 ≡ d → ⊥
+no_limit d h a b e f g = not_syntax d h (sym g ∙ (sym (ap (λ (x : FaultFromEnd). x.1) e) ∙ f))
 
-some_starts : (q : Sort → Bool) (w : List Token) → starts q w ≡ true → 0 < length w
+some_starts : (q : Terminal → Bool) (w : List Token) → starts q w ≡ true → 0 < length w
 some_starts q [] e = absurd cc
 some_starts q (x ∷ w) e = omega arith
 
-starts_front : (q : Sort → Bool) (w r : List Token) → 0 < length w → starts q (w ++ r) ≡ starts q w
+starts_front : (q : Terminal → Bool) (w r : List Token) → 0 < length w → starts q (w ++ r) ≡ starts q w
 starts_front q [] r lt = absurd (omega arith)
 starts_front q (x ∷ w) r lt = refl
 
-token_front : (q : Sort → Bool) (w r : List Token) (x : Token × List Token) → token_at q w ≡ Ok x → token_at q (w ++ r) ≡ Ok (x.0, x.1 ++ r)
+token_front : (q : Terminal → Bool) (w r : List Token) (x : Token × List Token) → token_at q w ≡ Ok x → token_at q (w ++ r) ≡ Ok (x.0, x.1 ++ r)
 token_front q w r x e = let t = token_ok q w x e in rw (t.0, t.1) refl
 
--- nothing, or some tokens
+-- a list is empty or not
 cases_nil : (w : List Token) → (w ≡ []) ⊎ (0 < length w)
 cases_nil [] = inl refl
 cases_nil (x ∷ w) = inr (omega arith)
 
--- ---- one after the other
+-- ---- sequences
 
-module _ {A B : Type 0} (G : Lang A) (q : List Token → Read A) (known : (s : List Token) → Sound G q s) (K : List Token → Read B) (later : FaultsWithin K) where
+module _ {A B : Type 0} (G : Language A) (q : List Token → Read A) (known : (s : List Token) → Sound G q s) (K : List Token → Read B) (later : FaultsWithin K) where
   then_goes_on : (w r : List Token) (a : A × List Token) → q w ≡ Ok a → (K (a.1 ++ r) ≡ Err (length r, Syntax) → ⊥) → (a.1 ≡ [] → q (w ++ r) ≡ Err (length r, Syntax) → ⊥)
       → (q (w ++ r) ≡ Err (length r, Syntax)) ⊎ ((x : A × List Token) × (q (w ++ r) ≡ Ok x) × (K x.1 ≡ Err (length r, Syntax))) → ⊥
   then_goes_on w r a e live alive h = go a.1 refl
     where
       go : (m : List Token) → a.1 ≡ m → ⊥
       go (y ∷ m) is =
-          let t = (known w).took a e in
+          let t = (known w).accepted a e in
           let same : SameHead a.1 (a.1 ++ r) = subst (λ (l : List Token). SameHead l (l ++ r)) (sym is) refl in
           let all : t.word ++ (a.1 ++ r) ≡ w ++ r = sym (append_assoc t.word a.1 r) ∙ ap (λ (l : List Token). l ++ r) (sym t.parts) in
           let goes : q (w ++ r) ≡ Ok (a.0, a.1 ++ r) = ap q (sym all) ∙ t.same (a.1 ++ r) same in
@@ -70,14 +71,14 @@ module _ {A B : Type 0} (G : Lang A) (q : List Token → Read A) (known : (s : L
           by_length : (x : A × List Token) → q (w ++ r) ≡ Ok x → K x.1 ≡ Err (length r, Syntax) → (length x.1 ≡ length r) ⊎ ((length x.1 < length r) ⊎ (length r < length x.1)) → ⊥
           by_length x f g (inr (inl lt)) = let z = later x.1 (length r, Syntax) g in omega (arith, z, lt)
           by_length x f g (inl same) =
-              let t = (known (w ++ r)).took x f in
+              let t = (known (w ++ r)).accepted x f in
               let n = ap (λ (l : List Token). length l) t.parts in
               let v = front w r t.word x.1 t.parts (omega (arith, n, same, length-append w r, length-append t.word x.1)) in
               let none : v.0 ≡ [] = nil_from_length v.0 (omega (arith, ap (λ (l : List Token). length l) v.2, length-append v.0 x.1, same)) in
               let rest : r ≡ x.1 = v.2 ∙ ap (λ (l : List Token). l ++ x.1) none in
               live (ap (λ (l : List Token). K (l ++ r)) is ∙ ap K rest ∙ g)
           by_length x f g (inr (inr lt)) =
-              let t = (known (w ++ r)).took x f in
+              let t = (known (w ++ r)).accepted x f in
               let n = ap (λ (l : List Token). length l) t.parts in
               let v = front t.word x.1 w r (sym t.parts) (omega (arith, n, lt, length-append w r, length-append t.word x.1)) in
               let some : 0 < length v.0 = omega (arith, ap (λ (l : List Token). length l) v.2, length-append v.0 r, lt) in
@@ -90,56 +91,56 @@ module _ {A B : Type 0} (G : Lang A) (q : List Token → Read A) (known : (s : L
               heads [] lt = absurd (omega arith)
               heads (y ∷ v) lt = refl
 
-module _ {N : Type 0} {Tree : N → Type 0} (body : (n : N) → Form N Tree (Tree n)) (c : Claims N) (fine : (n : N) → are_names body c n ≡ true) (names_only : (n : N) → LimitsOnly (body n)) where
+module _ {N : Type 0} {Tree : N → Type 0} (body : (n : N) → Production N Tree (Tree n)) (c : Claims N) (fine : (n : N) → are_names body c n ≡ true) (names_only : (n : N) → LimitsOnly (body n)) where
   name_fine : (n : N) → is_fine c (body n) ≡ true
   name_fine n = (and_parts (is_fine c (body n)) _ (fine n)).0
 
-  within_begins : (k : ℕ) (n : N) (s : List Token) (t : Tree n) (o : Fault) (r : List Token) → NameWithin body k n s t o r → starts (c.firsts n) s ≡ true
+  within_begins : (k : ℕ) (n : N) (s : List Token) (t : Tree n) (o : Fault) (r : List Token) → DerivedWithin body k n s t o r → starts (c.firsts n) s ≡ true
   within_begins zero n s t o r h = absurd h
   within_begins (suc k) n s t o r h =
       let rest = and_parts (not (may_be_empty (body n))) _ (and_parts (has_plain (body n)) _ (and_parts (is_fine c (body n)) _ (fine n)).1).1 in
       let sets = and_parts (within (first (body n)) (c.firsts n)) _ rest.1 in
-      starts_into (first (body n)) (c.firsts n) s sets.0 (surely_begins (NameWithin body k) (body n) (not-true (may_be_empty (body n)) rest.0) s t o r h)
+      starts_into (first (body n)) (c.firsts n) s sets.0 (surely_begins (DerivedWithin body k) (body n) (not-true (may_be_empty (body n)) rest.0) s t o r h)
 
-  form_faults : {A : Type 0} (g : Form N Tree A) → is_fine c g ≡ true → FaultsWithin (reading body g)
+  form_faults : {A : Type 0} (g : Production N Tree A) → is_fine c g ≡ true → FaultsWithin (reading body g)
   form_faults g ok s n e =
-      let k = (sound body c fine g ok s).stopped n e in
+      let k = (sound body c fine g ok s).faulted n e in
       let left = k.left in
       omega (arith, left, ap (λ (l : List Token). length l) k.parts, length-append k.word k.rest)
 
-  name_faults : (n : N) → FaultsWithin (name_at body n)
-  name_faults n s m e = form_faults (body n) (name_fine n) s m (sym (name_is body n s) ∙ e)
+  nonterminal_faults : (n : N) → FaultsWithin (nonterminal_at body n)
+  nonterminal_faults n s m e = form_faults (body n) (name_fine n) s m (sym (nonterminal_is body n s) ∙ e)
 
-  -- where the next token may begin a form, no syntax fault is at it
-  goes_past : {A : Type 0} (g : Form N Tree A) → is_fine c g ≡ true → (s : List Token) → starts (first g) s ≡ true → Passes true (reading body g) s
-  goes_past g ok s b = passes c (name_at body) (name_shrinks body) name_faults true (λ _. false) g ok (safe_true (λ _. false) g) s (λ e. absurd cc) b
+  -- where the next token is in the first set, it is no syntax fault
+  goes_past : {A : Type 0} (g : Production N Tree A) → is_fine c g ≡ true → (s : List Token) → starts (first g) s ≡ true → Passes true (reading body g) s
+  goes_past g ok s b = passes c (nonterminal_at body) (nonterminal_shrinks body) nonterminal_faults true (λ _. false) g ok (safe_true (λ _. false) g) s (λ e. absurd cc) b
 
-  no_fault_at : {A : Type 0} (g : Form N Tree A) → is_fine c g ≡ true → (s : List Token) → starts (first g) s ≡ true → reading body g s ≡ Err (length s, Syntax) → ⊥
+  no_fault_at : {A : Type 0} (g : Production N Tree A) → is_fine c g ≡ true → (s : List Token) → starts (first g) s ≡ true → reading body g s ≡ Err (length s, Syntax) → ⊥
   no_fault_at g ok s b e = let k = (goes_past g ok s b).0 (length s, Syntax) e (λ _. refl) in omega (arith, k)
 
-  -- a single token that both may begin with is no whole text
-  not_alone : (a : Sort → Bool) (y : Token) → a (sort_of y) ≡ true → {A : Type 0} (g : Form N Tree A) → is_fine c g ≡ true → may_be_empty g ≡ false → alone a g ≡ false → (x : A × List Token) → reading body g (y ∷ []) ≡ Ok x → x.1 ≡ [] → ⊥
+  -- a single token of both first sets is no whole text
+  not_alone : (a : Terminal → Bool) (y : Token) → a (terminal_of y) ≡ true → {A : Type 0} (g : Production N Tree A) → is_fine c g ≡ true → may_be_empty g ≡ false → alone a g ≡ false → (x : A × List Token) → reading body g (y ∷ []) ≡ Ok x → x.1 ≡ [] → ⊥
   not_alone a y at g ok full single x e none =
-      let t = (sound body c fine g ok (y ∷ [])).took x e in
+      let t = (sound body c fine g ok (y ∷ [])).accepted x e in
       let all : t.word ++ [] ≡ y ∷ [] = ap (λ (l : List Token). t.word ++ l) (sym none) ∙ sym t.parts in
-      elim (seconds c (Derived body) (λ n s t o r d. within_begins d.depth n s t o r d.spells) a y [] at g ok (t.word ++ []) x.0 None [] all (t.spells [])) [
+      elim (seconds c (Derived body) (λ n s t o r d. within_begins d.depth n s t o r d.derives) a y [] at g ok (t.word ++ []) x.0 None [] all (t.derives [])) [
         | inl u ↦ absurd cc
         | inr (inl u) ↦ both_ways (alone a g) single u.1
         | inr (inr u) ↦ both_ways (may_be_empty g) full u.1
       ]
 
-  -- what follows a whole text does not tell which of two it is
-  same_pick : {A : Type 0} (q : Sort → Bool) (g h : Form N Tree A) → is_fine c (pick q g h) ≡ true → (w r : List Token) (x : A × List Token) → reading body (pick q g h) w ≡ Ok x → x.1 ≡ [] → picks (first g) (first h) q (w ++ r) ≡ picks (first g) (first h) q w
+  -- which of two productions a whole text is of does not depend on what follows it
+  same_pick : {A : Type 0} (q : Terminal → Bool) (g h : Production N Tree A) → is_fine c (pick q g h) ≡ true → (w r : List Token) (x : A × List Token) → reading body (pick q g h) w ≡ Ok x → x.1 ≡ [] → picks (first g) (first h) q (w ++ r) ≡ picks (first g) (first h) q w
   same_pick q g h ok [] r x e none =
       let f2 = and_parts (is_fine c h) _ (and_parts (is_fine c g) _ ok).1 in
       let f3 = and_parts (not (may_be_empty g)) _ f2.1 in
       let f4 = and_parts (not (may_be_empty h)) _ f3.1 in
-      let less = (run_shrinks (name_at body) (name_shrinks body) h [] x e).1 (not-true (may_be_empty h) f4.0) in
+      let less = (run_shrinks (nonterminal_at body) (nonterminal_shrinks body) h [] x e).1 (not-true (may_be_empty h) f4.0) in
       absurd (omega (arith, less))
   same_pick q g h ok (y ∷ z ∷ w) r x e none = refl
-  same_pick {A} q g h ok (y ∷ []) r x e none = go (first h (sort_of y)) refl (first g (sort_of y)) refl
+  same_pick {A} q g h ok (y ∷ []) r x e none = go (first h (terminal_of y)) refl (first g (terminal_of y)) refl
     where
-      go : (b : Bool) → first h (sort_of y) ≡ b → (a : Bool) → first g (sort_of y) ≡ a → picks (first g) (first h) q ((y ∷ []) ++ r) ≡ picks (first g) (first h) q (y ∷ [])
+      go : (b : Bool) → first h (terminal_of y) ≡ b → (a : Bool) → first g (terminal_of y) ≡ a → picks (first g) (first h) q ((y ∷ []) ++ r) ≡ picks (first g) (first h) q (y ∷ [])
       go false eb a ea = rw (eb, ea) refl
       go true eb false ea = rw (eb, ea) refl
       go true eb true ea =
@@ -149,20 +150,20 @@ module _ {N : Type 0} {Tree : N → Type 0} (body : (n : N) → Form N Tree (Tre
           let f4 = and_parts (not (may_be_empty h)) _ f3.1 in
           let f5 = and_parts (not (alone (both_first g h) g)) _ f4.1 in
           let f6 = and_parts (not (alone (both_first g h) h)) _ f5.1 in
-          let both : both_first g h (sort_of y) ≡ true = and_from (first g (sort_of y)) (first h (sort_of y)) ea eb in
+          let both : both_first g h (terminal_of y) ≡ true = and_from (first g (terminal_of y)) (first h (terminal_of y)) ea eb in
           absurd (elim (chosen (picks (first g) (first h) q (y ∷ [])) (reading body g (y ∷ [])) (reading body h (y ∷ [])) (Ok x) e) [
             | inl u ↦ not_alone (both_first g h) y both g f1.0 (not-true (may_be_empty g) f3.0) (not-true (alone (both_first g h) g) f5.0) x u.1 none
             | inr u ↦ not_alone (both_first g h) y both h f2.0 (not-true (may_be_empty h) f4.0) (not-true (alone (both_first g h) h) f6.0) x u.1 none
           ])
 
-  -- No whole text of at most k tokens has a syntax fault right behind it.
+  -- No whole text of at most k tokens has a syntax fault right after it.
   abbrev GoesOn : {A : Type 0} → ℕ → (List Token → Read A) → Type 0
   GoesOn {A} k q = (w r : List Token) (x : A × List Token) → length w ≤ k → q w ≡ Ok x → x.1 ≡ [] → q (w ++ r) ≡ Err (length r, Syntax) → ⊥
 
-  -- ---- any number of them
+  -- ---- lists
 
-  module _ {A : Type 0} (full : ℕ → Option Code) (g : Form N Tree A) (ok : is_fine c g ≡ true) (never : may_be_empty g ≡ false) where
-    -- those from the one of number i on
+  module _ {A : Type 0} (full : ℕ → Option Code) (g : Production N Tree A) (ok : is_fine c g ≡ true) (never : may_be_empty g ≡ false) where
+    -- the elements from index i on
     abbrev many : ℕ → List Token → Read (List A)
     many i s = many_at full (first g) (reading body g) i (length s) s
 
@@ -170,21 +171,21 @@ module _ {N : Type 0} {Tree : N → Type 0} (body : (n : N) → Form N Tree (Tre
     and_more i a = many (suc i) a.1 >>= λ more. Ok (a.0 ∷ more.0, more.1)
 
     many_step : (i : ℕ) (s : List Token) → many i s ≡ cond (starts (first g) s) (refuse (full i) s (reading body g s >>= and_more i)) (Ok ([], s))
-    many_step i s = many_is full (first g) (reading body g) (λ s' x e. (run_shrinks (name_at body) (name_shrinks body) g s' x e).1 never) i s
+    many_step i s = many_is full (first g) (reading body g) (λ s' x e. (run_shrinks (nonterminal_at body) (nonterminal_shrinks body) g s' x e).1 never) i s
 
-    many_faults : (j i : ℕ) (s : List Token) (n : Stop) → length s < j → many i s ≡ Err n → n.0 ≤ length s
+    many_faults : (j i : ℕ) (s : List Token) (n : FaultFromEnd) → length s < j → many i s ≡ Err n → n.0 ≤ length s
     many_faults zero i s n lt e = absurd (omega arith)
     many_faults (suc j) i s n lt e =
         elim (chosen (starts (first g) s) (refuse (full i) s (reading body g s >>= and_more i)) (Ok ([], s)) (Err n) (sym (many_step i s) ∙ e)) [
           | inr u ↦ absurd (no_ok ([], s) n u.1)
           | inl u ↦ elim (refuse_err (full i) s (reading body g s >>= and_more i) n u.1) [
-            | inl v ↦ let x = ap (λ (y : Stop). y.0) v.2 in omega (arith, x)
+            | inl v ↦ let x = ap (λ (y : FaultFromEnd). y.0) v.2 in omega (arith, x)
             | inr v ↦ elim (bind_err (reading body g s) (and_more i) n v.1) [
               | inl y ↦ form_faults g ok s n y
               | inr a ↦ elim (bind_err (many (suc i) a.0.1) (λ more. Ok (a.0.0 ∷ more.0, more.1)) n a.2) [
                 | inr y ↦ absurd (no_ok _ n y.2)
                 | inl y ↦
-                    let less = (run_shrinks (name_at body) (name_shrinks body) g s a.0 a.1).1 never in
+                    let less = (run_shrinks (nonterminal_at body) (nonterminal_shrinks body) g s a.0 a.1).1 never in
                     let k = many_faults j (suc i) a.0.1 n (omega (arith, less, lt)) y in
                     omega (arith, k, less)
               ]
@@ -193,7 +194,7 @@ module _ {N : Type 0} {Tree : N → Type 0} (body : (n : N) → Form N Tree (Tre
         ]
 
     module _ (limits : (i : ℕ) → are_limits (full i) ≡ true) (k : ℕ) (one : GoesOn k (reading body g)) where
-      -- where a list of none was read, and another may begin
+      -- an empty list was read, and an element may begin
       from_nothing : (i : ℕ) (r : List Token) → many i r ≡ Err (length r, Syntax) → ⊥
       from_nothing i r f =
           elim (chosen (starts (first g) r) (refuse (full i) r (reading body g r >>= and_more i)) (Ok ([], r)) (Err (length r, Syntax)) (sym (many_step i r) ∙ f)) [
@@ -205,7 +206,7 @@ module _ {N : Type 0} {Tree : N → Type 0} (body : (n : N) → Form N Tree (Tre
                 | inr a ↦ elim (bind_err (many (suc i) a.0.1) (λ more. Ok (a.0.0 ∷ more.0, more.1)) (length r, Syntax) a.2) [
                   | inr y ↦ no_ok _ (length r, Syntax) y.2
                   | inl y ↦
-                      let less = (run_shrinks (name_at body) (name_shrinks body) g r a.0 a.1).1 never in
+                      let less = (run_shrinks (nonterminal_at body) (nonterminal_shrinks body) g r a.0 a.1).1 never in
                       let m = many_faults (suc (length a.0.1)) (suc i) a.0.1 (length r, Syntax) (omega arith) y in
                       omega (arith, m, less)
                 ]
@@ -225,10 +226,10 @@ module _ {N : Type 0} {Tree : N → Type 0} (body : (n : N) → Form N Tree (Tre
                 let a = bind_ok (reading body g w) (and_more i) x room.1 in
                 let b = bind_ok (many (suc i) a.0.1) (λ more. Ok (a.0.0 ∷ more.0, more.1)) x a.2 in
                 let empty : b.0.1 ≡ [] = ap (λ (z : List A × List Token). z.1) (ok_is (a.0.0 ∷ b.0.0, b.0.1) x b.2) ∙ none in
-                let less = (run_shrinks (name_at body) (name_shrinks body) g w a.0 a.1).1 never in
+                let less = (run_shrinks (nonterminal_at body) (nonterminal_shrinks body) g w a.0 a.1).1 never in
                 let comes : starts (first g) (w ++ r) ≡ true = starts_front (first g) w r (some_starts (first g) w u.0) ∙ u.0 in
                 let goes : (reading body g (w ++ r) >>= and_more i) ≡ Err (length r, Syntax) = sym (many_step i (w ++ r) ∙ rw (comes, room.0) refl) ∙ f in
-                then_goes_on (Spells (Derived body) g) (reading body g) (sound body c fine g ok) (many (suc i)) (λ s n y. many_faults (suc (length s)) (suc i) s n (omega arith) y) w r a.0 a.1
+                then_goes_on (Derives (Derived body) g) (reading body g) (sound body c fine g ok) (many (suc i)) (λ s n y. many_faults (suc (length s)) (suc i) s n (omega arith) y) w r a.0 a.1
                 (λ y. many_goes_on j (suc i) a.0.1 r b.0 (omega (arith, less, lt)) (omega (arith, less, le)) b.1 empty y)
                 (λ z y. one w r a.0 le a.1 z y)
                 (elim (bind_err (reading body g (w ++ r)) (and_more i) (length r, Syntax) goes) [
@@ -237,8 +238,8 @@ module _ {N : Type 0} {Tree : N → Type 0} (body : (n : N) → Form N Tree (Tre
                 ])
           ]
 
-  module _ (k : ℕ) (names : (n : N) (w r : List Token) (x : Tree n × List Token) → length w < k → name_at body n w ≡ Ok x → x.1 ≡ [] → name_at body n (w ++ r) ≡ Err (length r, Syntax) → ⊥) where
-    run_goes_on : {A : Type 0} (g : Form N Tree A) → is_fine c g ≡ true → LimitsOnly g → GoesOn k (reading body g)
+  module _ (k : ℕ) (names : (n : N) (w r : List Token) (x : Tree n × List Token) → length w < k → nonterminal_at body n w ≡ Ok x → x.1 ≡ [] → nonterminal_at body n (w ++ r) ≡ Err (length r, Syntax) → ⊥) where
+    run_goes_on : {A : Type 0} (g : Production N Tree A) → is_fine c g ≡ true → LimitsOnly g → GoesOn k (reading body g)
     run_goes_on (one_of q) ok l w r x le e none f = no_ok (x.0, x.1 ++ r) (length r, Syntax) (sym (token_front q w r x e) ∙ f)
     run_goes_on (valued q good d) ok l w r x le e none f =
         let a = bind_ok (token_at q w) (check good d w) x e in
@@ -264,8 +265,8 @@ module _ {N : Type 0} {Tree : N → Type 0} (body : (n : N) → Form N Tree (Tre
         let a = bind_ok (reading body g w) R x e in
         let b = bind_ok (reading body h a.0.1) (λ b. Ok ((a.0.0, b.0), b.1)) x a.2 in
         let empty : b.0.1 ≡ [] = ap (λ (z : (A1 × B1) × List Token). z.1) (ok_is ((a.0.0, b.0.0), b.0.1) x b.2) ∙ none in
-        let small = (run_shrinks (name_at body) (name_shrinks body) g w a.0 a.1).0 in
-        then_goes_on (Spells (Derived body) g) (reading body g) (sound body c fine g f1.0) (reading body h) (form_faults h f2.0) w r a.0 a.1
+        let small = (run_shrinks (nonterminal_at body) (nonterminal_shrinks body) g w a.0 a.1).0 in
+        then_goes_on (Derives (Derived body) g) (reading body g) (sound body c fine g f1.0) (reading body h) (form_faults h f2.0) w r a.0 a.1
         (λ y. run_goes_on h f2.0 l.1 a.0.1 r b.0 (omega (arith, small, le)) b.1 empty y)
         (λ z y. run_goes_on g f1.0 l.0 w r a.0 le a.1 z y)
         (elim (bind_err (reading body g (w ++ r)) R (length r, Syntax) f) [
@@ -314,20 +315,20 @@ module _ {N : Type 0} {Tree : N → Type 0} (body : (n : N) → Form N Tree (Tre
         let f1 = and_parts (is_fine c g) _ ok in
         let never = not-true (may_be_empty g) (and_parts (not (may_be_empty g)) _ f1.1).0 in
         many_goes_on full g f1.0 never l.1 k (run_goes_on g f1.0 l.0) (suc (length w)) 0 w r x (omega arith) le e none f
-    run_goes_on (behind q n) ok l w r x le e none f =
-        let a = bind_ok (token_at q w) (λ t. name_at body n t.1 >>= λ b. Ok ((t.0, b.0), b.1)) x e in
-        let b = bind_ok (name_at body n a.0.1) (λ b. Ok ((a.0.0, b.0), b.1)) x a.2 in
+    run_goes_on (after_token q n) ok l w r x le e none f =
+        let a = bind_ok (token_at q w) (λ t. nonterminal_at body n t.1 >>= λ b. Ok ((t.0, b.0), b.1)) x e in
+        let b = bind_ok (nonterminal_at body n a.0.1) (λ b. Ok ((a.0.0, b.0), b.1)) x a.2 in
         let empty : b.0.1 ≡ [] = ap (λ (z : _ × List Token). z.1) (ok_is ((a.0.0, b.0.0), b.0.1) x b.2) ∙ none in
         let small = ap (λ (l : List Token). length l) (token_ok q w a.0 a.1).0 in
         let R : Tree n × List Token → Read (Token × Tree n) = λ b. Ok ((a.0.0, b.0), b.1) in
-        let goes : (name_at body n (a.0.1 ++ r) >>= R) ≡ Err (length r, Syntax) = sym (rw (token_front q w r a.0 a.1) refl) ∙ f in
-        elim (bind_err (name_at body n (a.0.1 ++ r)) R (length r, Syntax) goes) [ inl u ↦ names n a.0.1 r b.0 (omega (arith, small, le)) b.1 empty u | inr u ↦ no_ok _ (length r, Syntax) u.2 ]
+        let goes : (nonterminal_at body n (a.0.1 ++ r) >>= R) ≡ Err (length r, Syntax) = sym (rw (token_front q w r a.0 a.1) refl) ∙ f in
+        elim (bind_err (nonterminal_at body n (a.0.1 ++ r)) R (length r, Syntax) goes) [ inl u ↦ names n a.0.1 r b.0 (omega (arith, small, le)) b.1 empty u | inr u ↦ no_ok _ (length r, Syntax) u.2 ]
 
-  name_goes_on : (k : ℕ) (n : N) (w r : List Token) (x : Tree n × List Token) → length w < k → name_at body n w ≡ Ok x → x.1 ≡ [] → name_at body n (w ++ r) ≡ Err (length r, Syntax) → ⊥
+  name_goes_on : (k : ℕ) (n : N) (w r : List Token) (x : Tree n × List Token) → length w < k → nonterminal_at body n w ≡ Ok x → x.1 ≡ [] → nonterminal_at body n (w ++ r) ≡ Err (length r, Syntax) → ⊥
   name_goes_on zero n w r x lt e none f = omega (arith, lt)
   name_goes_on (suc k) n w r x lt e none f =
-      run_goes_on k (name_goes_on k) (body n) (name_fine n) (names_only n) w r x (omega (arith, lt)) (sym (name_is body n w) ∙ e) none (sym (name_is body n (w ++ r)) ∙ f)
+      run_goes_on k (name_goes_on k) (body n) (name_fine n) (names_only n) w r x (omega (arith, lt)) (sym (nonterminal_is body n w) ∙ e) none (sym (nonterminal_is body n (w ++ r)) ∙ f)
 
-  -- Where all of w was read, reading more never has its syntax fault right behind w.
-  pub goes_on_behind : {A : Type 0} (g : Form N Tree A) → is_fine c g ≡ true → LimitsOnly g → (w r : List Token) (x : A × List Token) → reading body g w ≡ Ok x → x.1 ≡ [] → reading body g (w ++ r) ≡ Err (length r, Syntax) → ⊥
-  goes_on_behind g ok l w r x e none f = run_goes_on (length w) (name_goes_on (length w)) g ok l w r x (omega arith) e none f
+  -- Where all of w was read, reading more tokens never has a syntax fault right after w.
+  pub no_syntax_fault_after : {A : Type 0} (g : Production N Tree A) → is_fine c g ≡ true → LimitsOnly g → (w r : List Token) (x : A × List Token) → reading body g w ≡ Ok x → x.1 ≡ [] → reading body g (w ++ r) ≡ Err (length r, Syntax) → ⊥
+  no_syntax_fault_after g ok l w r x e none f = run_goes_on (length w) (name_goes_on (length w)) g ok l w r x (omega arith) e none f

@@ -1,41 +1,41 @@
--- What a form spells is what reading gives, where nothing follows that would go on with it.
+-- What a production derives is what reading gives, where the next token does not continue it.
 use Rattle.std.proofs.Common.{◌≡◌, ℕ, suc, ◌≤◌, arith, Bool, true, false, cond, List, [], ◌∷◌, length, Ok, Err, refl, inl, inr, ap, ◌∙◌}
 use Rattle.std.specs.Prelude.{Option, Some, None, ◌-◌, nat_lt, ◌&&◌, ◌||◌, not}
 use Rattle.std.proofs.lemmas.Bool.{and_parts, and_from, not-true, both_ways, cases_Bool, cond-true, cond-false, ltb-true}
-use Rattle.grammar_core.specs.declared.sort.Sort.{Sort}
+use Rattle.grammar_core.specs.declared.terminal.Terminal.{Terminal}
 use Rattle.jdf_lex.specs.declared.token.Token.{Token}
 use Rattle.grammar_core.specs.declared.code.Code.{Code}
-use Rattle.grammar_core.specs.Sorts.{sort_of, disjoint, within}
-use Rattle.grammar_core.specs.Form.{Form, one_of, valued, seq, map, alt, opt, star, pick, behind, limited, Lang, Fault, then_fault, or_fault, at_start, bad_unless, cut_at, taken, IsOne, Many, Spells}
+use Rattle.grammar_core.specs.Terminals.{terminal_of, disjoint, within}
+use Rattle.grammar_core.specs.Production.{Production, one_of, valued, seq, map, alt, opt, star, pick, after_token, limited, Language, Fault, then_fault, or_fault, at_start, bad_unless, cut_at, taken, IsOne, Many, Derives}
 use Rattle.grammar_core.specs.Reading.{◌>>=◌, Read, refuse, check, judge, may_be_empty, first, starts, picks, token_at, many_at, run}
-use Rattle.grammar_core.specs.Predictive.{Claims, more, alone, second, both_first, is_fine}
+use Rattle.grammar_core.specs.Predictive.{Claims, continuing, alone, second, both_first, is_fine}
 use Rattle.grammar_core.proofs.Sets.{starts_disjoint, starts_into}
 use Rattle.grammar_core.proofs.Begins.{stop_left, stop_right, stop_and, begins, surely_begins, many_begins, seconds}
-use Rattle.grammar_core.proofs.Fuel.{Shrinks, Moves, run_shrinks, many_is}
+use Rattle.grammar_core.proofs.Fuel.{Shrinks, Consumes, run_shrinks, many_is}
 
-token_is : (q : Sort → Bool) (s : List Token) (x : Token) (r : List Token) → IsOne q s x r → token_at q s ≡ Ok (x, r)
+token_is : (q : Terminal → Bool) (s : List Token) (x : Token) (r : List Token) → IsOne q s x r → token_at q s ≡ Ok (x, r)
 token_is q s x r h = rw (h.0, h.1) refl
 
--- which of two comes
-pick_left : (a b q : Sort → Bool) (x : Token) (s : List Token) → a (sort_of x) ≡ true → (b (sort_of x) ≡ true → starts q s ≡ true) → picks a b q (x ∷ s) ≡ true
+-- which of two productions is next
+pick_left : (a b q : Terminal → Bool) (x : Token) (s : List Token) → a (terminal_of x) ≡ true → (b (terminal_of x) ≡ true → starts q s ≡ true) → picks a b q (x ∷ s) ≡ true
 pick_left a b q x s ax h =
-    elim (cases_Bool (b (sort_of x))) [
-      | inl t ↦ cond-true (b (sort_of x)) _ _ t ∙ and_from (a (sort_of x)) (starts q s) ax (h t)
-      | inr f ↦ cond-false (b (sort_of x)) _ _ f ∙ ax
+    elim (cases_Bool (b (terminal_of x))) [
+      | inl t ↦ cond-true (b (terminal_of x)) _ _ t ∙ and_from (a (terminal_of x)) (starts q s) ax (h t)
+      | inr f ↦ cond-false (b (terminal_of x)) _ _ f ∙ ax
     ]
 
-pick_right : (a b q : Sort → Bool) (x : Token) (s : List Token) → b (sort_of x) ≡ true → (a (sort_of x) ≡ true → starts q s ≡ false) → picks a b q (x ∷ s) ≡ false
+pick_right : (a b q : Terminal → Bool) (x : Token) (s : List Token) → b (terminal_of x) ≡ true → (a (terminal_of x) ≡ true → starts q s ≡ false) → picks a b q (x ∷ s) ≡ false
 pick_right a b q x s bx h =
-    elim (cases_Bool (a (sort_of x))) [
-      | inl t ↦ cond-true (b (sort_of x)) _ _ bx ∙ (rw (t, h t) refl)
-      | inr f ↦ cond-true (b (sort_of x)) _ _ bx ∙ (rw f refl)
+    elim (cases_Bool (a (terminal_of x))) [
+      | inl t ↦ cond-true (b (terminal_of x)) _ _ bx ∙ (rw (t, h t) refl)
+      | inr f ↦ cond-true (b (terminal_of x)) _ _ bx ∙ (rw f refl)
     ]
 
-head_tail : (q : Sort → Bool) (s : List Token) → starts q s ≡ true → (x : Token) × (m : List Token) × (s ≡ x ∷ m) × (q (sort_of x) ≡ true)
+head_tail : (q : Terminal → Bool) (s : List Token) → starts q s ≡ true → (x : Token) × (m : List Token) × (s ≡ x ∷ m) × (q (terminal_of x) ≡ true)
 head_tail q [] h = absurd cc
 head_tail q (x ∷ m) h = (x, m, refl, h)
 
--- ---- what a text's fault makes of reading it
+-- ---- what reading gives for a text with this first fault
 
 abbrev pub outcome : {A : Type 0} → List Token → A → Fault → List Token → Read A
 outcome s t None r = Ok (t, r)
@@ -45,7 +45,7 @@ abbrev pub InText : Fault → ℕ → Type 0
 InText None n = Unit {0}
 InText (Some f) n = f.0 ≤ n
 
--- a text is no longer than what there is, and its fault is in it
+-- a text is within the tokens, and its fault is within the text
 abbrev pub Fits : List Token → Fault → List Token → Type 0
 Fits s o r = (length r ≤ length s) × InText o (taken s r)
 
@@ -70,12 +70,12 @@ fits_cut l c s r (Some f) a = (a.0, go (nat_lt l f.0) refl)
     go true e = let k = ltb-true l f.0 e in omega (arith, k, a.1)
     go false e = a.1
 
-many_fits : {A : Type 0} (full : ℕ → Option Code) (G : Lang A) → ((s : List Token) (t : A) (o : Fault) (r : List Token) → G s t o r → Fits s o r) → (i : ℕ) (ts : List A) (s : List Token) (o : Fault) (r : List Token) → Many full G i s ts o r → Fits s o r
+many_fits : {A : Type 0} (full : ℕ → Option Code) (G : Language A) → ((s : List Token) (t : A) (o : Fault) (r : List Token) → G s t o r → Fits s o r) → (i : ℕ) (ts : List A) (s : List Token) (o : Fault) (r : List Token) → Many full G i s ts o r → Fits s o r
 many_fits full G f i [] s o r h = rw (h.0, h.1) (omega arith, tt)
 many_fits full G f i (t ∷ ts) s o r h =
     rw h.5 (fits_then s h.0 r (or_fault (at_start (full i)) h.1) h.2 (fits_start (full i) s h.0 h.1 (f s t h.1 h.0 h.3)) (many_fits full G f (suc i) ts h.0 h.2 r h.4))
 
-pub fits : {N : Type 0} {Tree : N → Type 0} (R : (n : N) → Lang (Tree n)) → ((n : N) (s : List Token) (t : Tree n) (o : Fault) (r : List Token) → R n s t o r → Fits s o r) → {A : Type 0} (g : Form N Tree A) (s : List Token) (t : A) (o : Fault) (r : List Token) → Spells R g s t o r → Fits s o r
+pub fits : {N : Type 0} {Tree : N → Type 0} (R : (n : N) → Language (Tree n)) → ((n : N) (s : List Token) (t : Tree n) (o : Fault) (r : List Token) → R n s t o r → Fits s o r) → {A : Type 0} (g : Production N Tree A) (s : List Token) (t : A) (o : Fault) (r : List Token) → Derives R g s t o r → Fits s o r
 fits R hR (one_of q) s t o r h = rw (h.0.0, h.1) (omega arith, tt)
 fits R hR (valued q good c) s t o r h = rw (h.0.0, h.1) (omega arith, go (good t))
   where
@@ -88,15 +88,15 @@ fits R hR (alt g k) s t o r h = elim h [ inl u ↦ fits R hR g s t o r u | inr u
 fits R hR (pick q g k) s t o r h = elim h [ inl u ↦ fits R hR g s t o r u | inr u ↦ fits R hR k s t o r u ]
 fits R hR (opt g) s None o r h = rw (h.0, h.1) (omega arith, tt)
 fits R hR (opt g) s (Some t) o r h = fits R hR g s t o r h
-fits R hR (star full g) s t o r h = many_fits full (Spells R g) (fits R hR g) 0 t s o r h
-fits R hR (behind q n) s t o r h =
+fits R hR (star full g) s t o r h = many_fits full (Derives R g) (fits R hR g) 0 t s o r h
+fits R hR (after_token q n) s t o r h =
     let one : Fits s None h.0 = rw h.2.0 (omega arith, tt) in
     let k : taken s h.0 ≡ 1 = rw h.2.0 (omega arith) in
     let both = fits_then s h.0 r None h.1 one (hR n h.0 t.1 h.1 r h.3) in
     rw (h.4, ← k) both
 fits R hR (limited l c g) s t o r h = rw h.2 (fits_cut (l.at s) c s r h.0 (fits R hR g s t h.0 r h.1))
 
--- reading two forms, one after the other
+-- reading two productions, one after the other
 then_outcome : {A B C : Type 0} (f : A → B → C) (q : List Token → Read B) (s m r : List Token) (a : A) (b : B) (x y : Fault) → length m ≤ length s → q m ≡ outcome m b y r → (outcome s a x m >>= λ u. q u.1 >>= λ v. Ok (f u.0 v.0, v.1)) ≡ outcome s (f a b) (then_fault x (taken s m) y) r
 then_outcome f q s m r a b (Some d) y le e = refl
 then_outcome f q s m r a b None None le e = rw e refl
@@ -131,30 +131,30 @@ judge_outcome {A} l c s t (Some f) r a =
     go true = refl
     go false = refl
 
-many_only : {A : Type 0} (full : ℕ → Option Code) (G : Lang A) (p : List Token → Read A) (f go : Sort → Bool) → Moves p → ((s : List Token) (t : A) (o : Fault) (r : List Token) → G s t o r → starts f s ≡ true)
+many_only : {A : Type 0} (full : ℕ → Option Code) (G : Language A) (p : List Token → Read A) (f go : Terminal → Bool) → Consumes p → ((s : List Token) (t : A) (o : Fault) (r : List Token) → G s t o r → starts f s ≡ true)
     → ((s : List Token) (t : A) (o : Fault) (r : List Token) → G s t o r → Fits s o r)
     → ((s : List Token) (t : A) (o : Fault) (r : List Token) → G s t o r → starts go r ≡ false → p s ≡ outcome s t o r) → disjoint go f ≡ true
     → (i : ℕ) (ts : List A) (s : List Token) (o : Fault) (r : List Token) → Many full G i s ts o r → starts (λ k. f k || go k) r ≡ false → many_at full f p i (length s) s ≡ outcome s ts o r
-many_only full G p f go moves begin fit only apart i [] s o r h stops =
-    many_is full f p moves i s ∙ rw (h.0, stop_left f go r stops, h.1) refl
-many_only full G p f go moves begin fit only apart i (t ∷ ts) s o r h stops =
+many_only full G p f go consumes begin fit only apart i [] s o r h stops =
+    many_is full f p consumes i s ∙ rw (h.0, stop_left f go r stops, h.1) refl
+many_only full G p f go consumes begin fit only apart i (t ∷ ts) s o r h stops =
     let m = h.0 in
-    let rest = many_only full G p f go moves begin fit only apart (suc i) ts m h.2 r h.4 stops in
+    let rest = many_only full G p f go consumes begin fit only apart (suc i) ts m h.2 r h.4 stops in
     let quiet : starts go m ≡ false = elim (many_begins full G f (λ s t o r u. inl (begin s t o r u)) (suc i) ts m h.2 r h.4) [ inl u ↦ starts_disjoint go f m apart u | inr u ↦ rw u (stop_right f go r stops) ] in
     let le = (fit s t h.1 m h.3).0 in
     let inside : (p s >>= λ a. many_at full f p (suc i) (length a.1) a.1 >>= λ more. Ok (a.0 ∷ more.0, more.1)) ≡ outcome s (t ∷ ts) (then_fault h.1 (taken s m) h.2) r =
     ap (λ (u : Read _). u >>= λ a. many_at full f p (suc i) (length a.1) a.1 >>= λ more. Ok (a.0 ∷ more.0, more.1)) (only s t h.1 m h.3 quiet)
     ∙ then_outcome (λ a more. a ∷ more) (λ l. many_at full f p (suc i) (length l) l) s m r t ts h.1 h.2 le rest in
-    many_is full f p moves i s ∙ rw (begin s t h.1 m h.3, h.5) (refuse_outcome (full i) s (t ∷ ts) _ h.1 m h.2 r inside)
+    many_is full f p consumes i s ∙ rw (begin s t h.1 m h.3, h.5) (refuse_outcome (full i) s (t ∷ ts) _ h.1 m h.2 r inside)
 
 one_more : {A : Type 0} (x : Token) (m : List Token) (t : A) (y : Fault) (r : List Token) → (outcome m t y r >>= λ b. Ok ((x, b.0), b.1)) ≡ outcome {A = Token × A} (x ∷ m) (x, t) (then_fault None 1 y) r
 one_more x m t None r = refl
 one_more x m t (Some f) r = ap (λ (n : ℕ). Err (n, f.1)) (omega arith)
 
-pub only : {N : Type 0} {Tree : N → Type 0} (c : Claims N) (R : (n : N) → Lang (Tree n)) (p : (n : N) → List Token → Read (Tree n))
+pub only : {N : Type 0} {Tree : N → Type 0} (c : Claims N) (R : (n : N) → Language (Tree n)) (p : (n : N) → List Token → Read (Tree n))
     → ((n : N) → Shrinks (p n)) → ((n : N) (s : List Token) (t : Tree n) (o : Fault) (r : List Token) → R n s t o r → Fits s o r) → ((n : N) (s : List Token) (t : Tree n) (o : Fault) (r : List Token) → R n s t o r → starts (c.firsts n) s ≡ true)
-    → ((n : N) (s : List Token) (t : Tree n) (o : Fault) (r : List Token) → R n s t o r → starts (c.goes_on n) r ≡ false → p n s ≡ outcome s t o r)
-    → {A : Type 0} (g : Form N Tree A) → is_fine c g ≡ true → (s : List Token) (t : A) (o : Fault) (r : List Token) → Spells R g s t o r → starts (more c g) r ≡ false → run p g s ≡ outcome s t o r
+    → ((n : N) (s : List Token) (t : Tree n) (o : Fault) (r : List Token) → R n s t o r → starts (c.continues n) r ≡ false → p n s ≡ outcome s t o r)
+    → {A : Type 0} (g : Production N Tree A) → is_fine c g ≡ true → (s : List Token) (t : A) (o : Fault) (r : List Token) → Derives R g s t o r → starts (continuing c g) r ≡ false → run p g s ≡ outcome s t o r
 only c R p shrinks fit firsts known (one_of q) fine s t o r h stops = rw (token_is q s t r h.0, h.1) refl
 only c R p shrinks fit firsts known (valued q good d) fine s t o r h stops = rw (token_is q s t r h.0, h.1) (check_outcome good d s t r)
 only c R p shrinks fit firsts known (limited l d g) fine s t o r h stops =
@@ -163,11 +163,11 @@ only c R p shrinks fit firsts known (seq g k) fine s t o r h stops =
     let f = and_parts (is_fine c g) _ fine in
     let f' = and_parts (is_fine c k) _ f.1 in
     let m = h.0 in
-    let over = stop_left (more c k) (λ x. may_be_empty k && more c g x) r stops in
-    let quiet : starts (more c g) m ≡ false =
+    let over = stop_left (continuing c k) (λ x. may_be_empty k && continuing c g x) r stops in
+    let quiet : starts (continuing c g) m ≡ false =
     elim (begins R k m t.1 h.2 r h.4) [
-      | inl u ↦ starts_disjoint (more c g) (first k) m f'.1 u
-      | inr u ↦ rw u.0 (stop_and (may_be_empty k) (more c g) r (stop_right (more c k) (λ x. may_be_empty k && more c g x) r stops) u.1)
+      | inl u ↦ starts_disjoint (continuing c g) (first k) m f'.1 u
+      | inr u ↦ rw u.0 (stop_and (may_be_empty k) (continuing c g) r (stop_right (continuing c k) (λ x. may_be_empty k && continuing c g x) r stops) u.1)
     ] in
     let le = (fits R fit g s t.0 h.1 m h.3).0 in
     rw (only c R p shrinks fit firsts known g f.0 s t.0 h.1 m h.3 quiet, h.5) (then_outcome (λ a b. (a, b)) (run p k) s m r t.0 t.1 h.1 h.2 le (only c R p shrinks fit firsts known k f'.0 m t.1 h.2 r h.4 over))
@@ -177,17 +177,17 @@ only c R p shrinks fit firsts known (alt g k) fine s t o r h stops =
     let f = and_parts (is_fine c g) _ fine in
     let f' = and_parts (is_fine c k) _ f.1 in
     let f'' = and_parts (not (may_be_empty g)) _ f'.1 in
-    let rest = λ (x : Sort). more c k x || (may_be_empty k && first g x) in
+    let rest = λ (x : Terminal). continuing c k x || (may_be_empty k && first g x) in
     elim h [
-      | inl u ↦ rw (surely_begins R g (not-true (may_be_empty g) f''.0) s t o r u) (only c R p shrinks fit firsts known g f.0 s t o r u (stop_left (more c g) rest r stops))
+      | inl u ↦ rw (surely_begins R g (not-true (may_be_empty g) f''.0) s t o r u) (only c R p shrinks fit firsts known g f.0 s t o r u (stop_left (continuing c g) rest r stops))
       | inr u ↦
-          let over = stop_right (more c g) rest r stops in
+          let over = stop_right (continuing c g) rest r stops in
           let other : starts (first g) s ≡ false =
           elim (begins R k s t o r u) [
             | inl v ↦ starts_disjoint (first g) (first k) s f''.1 v
-            | inr v ↦ rw v.0 (stop_and (may_be_empty k) (first g) r (stop_right (more c k) (λ x. may_be_empty k && first g x) r over) v.1)
+            | inr v ↦ rw v.0 (stop_and (may_be_empty k) (first g) r (stop_right (continuing c k) (λ x. may_be_empty k && first g x) r over) v.1)
           ] in
-          rw other (only c R p shrinks fit firsts known k f'.0 s t o r u (stop_left (more c k) (λ x. may_be_empty k && first g x) r over))
+          rw other (only c R p shrinks fit firsts known k f'.0 s t o r u (stop_left (continuing c k) (λ x. may_be_empty k && first g x) r over))
     ]
 only c R p shrinks fit firsts known (pick q g k) fine s t o r h stops =
     let both = both_first g k in
@@ -204,35 +204,35 @@ only c R p shrinks fit firsts known (pick q g k) fine s t o r h stops =
           let b = surely_begins R g (not-true (may_be_empty g) f3.0) s t o r u in
           let ht = head_tail (first g) s b in
           let x = ht.0 in let m = ht.1 in
-          let after : first k (sort_of x) ≡ true → starts q m ≡ true = λ e.
-          elim (seconds c R firsts both x m (and_from (first g (sort_of x)) (first k (sort_of x)) ht.3 e) g f1.0 s t o r ht.2 u) [
+          let after : first k (terminal_of x) ≡ true → starts q m ≡ true = λ e.
+          elim (seconds c R firsts both x m (and_from (first g (terminal_of x)) (first k (terminal_of x)) ht.3 e) g f1.0 s t o r ht.2 u) [
             | inl v ↦ starts_into (second c both g) q m f7.0 v
             | inr (inl v) ↦ absurd (both_ways (alone both g) (not-true (alone both g) f5.0) v.1)
             | inr (inr v) ↦ absurd (both_ways (may_be_empty g) (not-true (may_be_empty g) f3.0) v.1)
           ] in
           let chosen : picks (first g) (first k) q s ≡ true = rw ht.2 (pick_left (first g) (first k) q x m ht.3 after) in
-          rw chosen (only c R p shrinks fit firsts known g f1.0 s t o r u (stop_left (more c g) (more c k) r stops))
+          rw chosen (only c R p shrinks fit firsts known g f1.0 s t o r u (stop_left (continuing c g) (continuing c k) r stops))
       | inr u ↦
           let b = surely_begins R k (not-true (may_be_empty k) f4.0) s t o r u in
           let ht = head_tail (first k) s b in
           let x = ht.0 in let m = ht.1 in
-          let after : first g (sort_of x) ≡ true → starts q m ≡ false = λ e.
-          elim (seconds c R firsts both x m (and_from (first g (sort_of x)) (first k (sort_of x)) e ht.3) k f2.0 s t o r ht.2 u) [
+          let after : first g (terminal_of x) ≡ true → starts q m ≡ false = λ e.
+          elim (seconds c R firsts both x m (and_from (first g (terminal_of x)) (first k (terminal_of x)) e ht.3) k f2.0 s t o r ht.2 u) [
             | inl v ↦ elim (cases_Bool (starts q m)) [ inl w ↦ absurd (both_ways (starts (second c both k) m) (starts_disjoint (second c both k) q m f8.0 w) v) | inr w ↦ w ]
             | inr (inl v) ↦ absurd (both_ways (alone both k) (not-true (alone both k) f6.0) v.1)
             | inr (inr v) ↦ absurd (both_ways (may_be_empty k) (not-true (may_be_empty k) f4.0) v.1)
           ] in
           let chosen : picks (first g) (first k) q s ≡ false = rw ht.2 (pick_right (first g) (first k) q x m ht.3 after) in
-          rw chosen (only c R p shrinks fit firsts known k f2.0 s t o r u (stop_right (more c g) (more c k) r stops))
+          rw chosen (only c R p shrinks fit firsts known k f2.0 s t o r u (stop_right (continuing c g) (continuing c k) r stops))
     ]
-only c R p shrinks fit firsts known (opt g) fine s None o r h stops = rw (h.0, stop_left (first g) (more c g) r stops, h.1) refl
+only c R p shrinks fit firsts known (opt g) fine s None o r h stops = rw (h.0, stop_left (first g) (continuing c g) r stops, h.1) refl
 only c R p shrinks fit firsts known (opt g) fine s (Some t) o r h stops =
     let f = and_parts (is_fine c g) _ fine in
-    rw (surely_begins R g (not-true (may_be_empty g) f.1) s t o r h, only c R p shrinks fit firsts known g f.0 s t o r h (stop_right (first g) (more c g) r stops)) (map_outcome Some s t o r)
+    rw (surely_begins R g (not-true (may_be_empty g) f.1) s t o r h, only c R p shrinks fit firsts known g f.0 s t o r h (stop_right (first g) (continuing c g) r stops)) (map_outcome Some s t o r)
 only c R p shrinks fit firsts known (star full g) fine s t o r h stops =
     let f = and_parts (is_fine c g) _ fine in
     let f' = and_parts (not (may_be_empty g)) _ f.1 in
     let never = not-true (may_be_empty g) f'.0 in
-    many_only full (Spells R g) (run p g) (first g) (more c g) (λ s' x e. (run_shrinks p shrinks g s' x e).1 never) (surely_begins R g never) (fits R fit g) (only c R p shrinks fit firsts known g f.0) (and_parts (disjoint (more c g) (first g)) _ f'.1).0 0 t s o r h stops
-only c R p shrinks fit firsts known (behind q n) fine s t o r h stops =
+    many_only full (Derives R g) (run p g) (first g) (continuing c g) (λ s' x e. (run_shrinks p shrinks g s' x e).1 never) (surely_begins R g never) (fits R fit g) (only c R p shrinks fit firsts known g f.0) (and_parts (disjoint (continuing c g) (first g)) _ f'.1).0 0 t s o r h stops
+only c R p shrinks fit firsts known (after_token q n) fine s t o r h stops =
     rw (token_is q s t.0 h.0 h.2, h.4, h.2.0) (ap (λ (u : Read _). u >>= λ b. Ok ((t.0, b.0), b.1)) (known n h.0 t.1 h.1 r h.3 stops) ∙ one_more t.0 h.0 t.1 h.1 r)

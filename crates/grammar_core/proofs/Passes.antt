@@ -1,28 +1,28 @@
--- Where the next token may begin a form, reading passes it.
+-- Where the next token is in the first set of a production, reading takes it.
 use Rattle.std.proofs.Common.{◌≡◌, ℕ, zero, suc, ◌<◌, ◌≤◌, Bool, true, false, List, [], ◌∷◌, length, Ok, Err, refl, inl, inr, sym, ap, ◌∙◌, arith}
 use Rattle.std.specs.Prelude.{Option, Some, None, ◌-◌, nat_lt, ◌&&◌, ◌||◌, not}
 use Rattle.std.proofs.lemmas.Bool.{and_parts, and_from, or_cases, not-true, both_ways, cases_Bool, le-ltb}
-use Rattle.grammar_core.specs.declared.sort.Sort.{Sort}
+use Rattle.grammar_core.specs.declared.terminal.Terminal.{Terminal}
 use Rattle.jdf_lex.specs.declared.token.Token.{Token}
 use Rattle.grammar_core.specs.declared.code.Code.{Code}
 use Rattle.grammar_core.specs.declared.code.Code.TheVariants.{Syntax}
-use Rattle.grammar_core.specs.Sorts.{sort_of, all_sorts, some_is, disjoint}
-use Rattle.grammar_core.specs.Form.{Form, one_of, valued, seq, map, alt, opt, star, pick, behind, limited}
-use Rattle.grammar_core.specs.Reading.{◌>>=◌, Read, Stop, refuse, check, may_be_empty, first, starts, picks, token_at, many_at, run}
-use Rattle.grammar_core.specs.Predictive.{Claims, more, is_fine, is_none, is_limit, are_limits, is_safe}
-use Rattle.grammar_core.proofs.Steps.{bind_ok, bind_err, chosen, ok_is, no_ok, token_ok, token_err, refuse_ok, refuse_err, check_err, judge_ok, judge_err}
+use Rattle.grammar_core.specs.Terminals.{terminal_of, all_terminals, some_is, disjoint}
+use Rattle.grammar_core.specs.Production.{Production, one_of, valued, seq, map, alt, opt, star, pick, after_token, limited}
+use Rattle.grammar_core.specs.Reading.{◌>>=◌, Read, FaultFromEnd, refuse, check, may_be_empty, first, starts, picks, token_at, many_at, run}
+use Rattle.grammar_core.specs.Predictive.{Claims, continuing, is_fine, is_none, is_limit, are_limits, is_safe}
+use Rattle.grammar_core.proofs.ReadCases.{bind_ok, bind_err, chosen, ok_is, no_ok, token_ok, token_err, refuse_ok, refuse_err, check_err, judge_ok, judge_err}
 use Rattle.grammar_core.proofs.Sets.{starts_disjoint}
 use Rattle.grammar_core.proofs.Begins.{stop_left, stop_right, and_if_stop, and_if_cases, start_cases}
 use Rattle.grammar_core.proofs.Fuel.{Shrinks, many_shrinks, run_shrinks, many_is}
 
--- a fault lies no further back than where reading began
+-- a fault is not before the tokens that are read
 abbrev pub FaultsWithin : {A : Type 0} → (List Token → Read A) → Type 0
-FaultsWithin p = (s : List Token) (n : Stop) → p s ≡ Err n → n.0 ≤ length s
+FaultsWithin p = (s : List Token) (n : FaultFromEnd) → p s ≡ Err n → n.0 ≤ length s
 
-first_is : {n : Stop} {m : ℕ} {c : Code} → n ≡ (m, c) → n.0 ≡ m
-first_is e = ap (λ (x : Stop). x.0) e
+first_is : {n : FaultFromEnd} {m : ℕ} {c : Code} → n ≡ (m, c) → n.0 ≡ m
+first_is e = ap (λ (x : FaultFromEnd). x.0) e
 
-many_faults : {A : Type 0} (full : ℕ → Option Code) (f : Sort → Bool) (p : List Token → Read A) → Shrinks p → FaultsWithin p → (k i : ℕ) → FaultsWithin (many_at full f p i k)
+many_faults : {A : Type 0} (full : ℕ → Option Code) (f : Terminal → Bool) (p : List Token → Read A) → Shrinks p → FaultsWithin p → (k i : ℕ) → FaultsWithin (many_at full f p i k)
 unfolding many_at
 many_faults full f p h l zero i s n e = absurd (no_ok ([], s) n e)
 many_faults full f p h l (suc k) i s n e =
@@ -40,7 +40,7 @@ many_faults full f p h l (suc k) i s n e =
       | inr u ↦ absurd (no_ok _ n u.1)
     ]
 
-pub run_faults : {N : Type 0} {Tree : N → Type 0} (p : (n : N) → List Token → Read (Tree n)) → ((n : N) → Shrinks (p n)) → ((n : N) → FaultsWithin (p n)) → {A : Type 0} (g : Form N Tree A) → FaultsWithin (run p g)
+pub run_faults : {N : Type 0} {Tree : N → Type 0} (p : (n : N) → List Token → Read (Tree n)) → ((n : N) → Shrinks (p n)) → ((n : N) → FaultsWithin (p n)) → {A : Type 0} (g : Production N Tree A) → FaultsWithin (run p g)
 run_faults p h l (one_of q) s n e = let t = first_is (token_err q s n e).0 in omega (arith, t)
 run_faults p h l (valued q good c) s n e =
     elim (bind_err (token_at q s) (check good c s) n e) [
@@ -70,7 +70,7 @@ run_faults p h l (opt g) s n e =
       | inr u ↦ absurd (no_ok _ n u.1)
     ]
 run_faults p h l (star full g) s n e = many_faults full (first g) (run p g) (λ s' x e'. (run_shrinks p h g s' x e').0) (run_faults p h l g) (length s) 0 s n e
-run_faults p h l (behind q m) s n e =
+run_faults p h l (after_token q m) s n e =
     elim (bind_err (token_at q s) (λ t. p m t.1 >>= λ b. Ok ((t.0, b.0), b.1)) n e) [
       | inl u ↦ let t = first_is (token_err q s n u).0 in omega (arith, t)
       | inr a ↦ elim (bind_err (p m a.0.1) (λ b. Ok ((a.0.0, b.0), b.1)) n a.2) [
@@ -80,23 +80,23 @@ run_faults p h l (behind q m) s n e =
     ]
 
 abbrev pub Passes : Bool → {A : Type 0} → (List Token → Read A) → List Token → Type 0
-Passes w {A} r s = ((n : Stop) → r s ≡ Err n → (w ≡ true → n.1 ≡ Syntax) → n.0 < length s) × ((x : A × List Token) → r s ≡ Ok x → length x.1 < length s)
+Passes w {A} r s = ((n : FaultFromEnd) → r s ≡ Err n → (w ≡ true → n.1 ≡ Syntax) → n.0 < length s) × ((x : A × List Token) → r s ≡ Ok x → length x.1 < length s)
 
-picked_left : (a b q : Sort → Bool) (s : List Token) → picks a b q s ≡ true → starts a s ≡ true
+picked_left : (a b q : Terminal → Bool) (s : List Token) → picks a b q s ≡ true → starts a s ≡ true
 picked_left a b q [] e = absurd cc
-picked_left a b q (x ∷ s) e = elim (chosen (b (sort_of x)) (a (sort_of x) && starts q s) (a (sort_of x)) true e) [ inl u ↦ (and_parts (a (sort_of x)) (starts q s) u.1).0 | inr u ↦ u.1 ]
+picked_left a b q (x ∷ s) e = elim (chosen (b (terminal_of x)) (a (terminal_of x) && starts q s) (a (terminal_of x)) true e) [ inl u ↦ (and_parts (a (terminal_of x)) (starts q s) u.1).0 | inr u ↦ u.1 ]
 
-picked_right : (a b q : Sort → Bool) (s : List Token) → picks a b q s ≡ false → starts (λ x. a x || b x) s ≡ true → starts b s ≡ true
+picked_right : (a b q : Terminal → Bool) (s : List Token) → picks a b q s ≡ false → starts (λ x. a x || b x) s ≡ true → starts b s ≡ true
 picked_right a b q [] e h = absurd cc
 picked_right a b q (x ∷ s) e h =
-    elim (chosen (b (sort_of x)) (a (sort_of x) && starts q s) (a (sort_of x)) false e) [
+    elim (chosen (b (terminal_of x)) (a (terminal_of x) && starts q s) (a (terminal_of x)) false e) [
       | inl u ↦ u.0
-      | inr u ↦ elim (or_cases (a (sort_of x)) (b (sort_of x)) h) [ inl v ↦ absurd (both_ways (a (sort_of x)) u.1 v) | inr v ↦ v ]
+      | inr u ↦ elim (or_cases (a (terminal_of x)) (b (terminal_of x)) h) [ inl v ↦ absurd (both_ways (a (terminal_of x)) u.1 v) | inr v ↦ v ]
     ]
 
 module _ {N : Type 0} {Tree : N → Type 0} (c : Claims N) (p : (n : N) → List Token → Read (Tree n)) (h : (n : N) → Shrinks (p n)) (l : (n : N) → FaultsWithin (p n)) where
-  -- where no token of it comes, an empty text is read
-  stays : {A : Type 0} (g : Form N Tree A) → is_fine c g ≡ true → (s : List Token) → starts (first g) s ≡ false → may_be_empty g ≡ true → (t : A) × (run p g s ≡ Ok (t, s))
+  -- where the next token is not in the first set, an empty text is read
+  stays : {A : Type 0} (g : Production N Tree A) → is_fine c g ≡ true → (s : List Token) → starts (first g) s ≡ false → may_be_empty g ≡ true → (t : A) × (run p g s ≡ Ok (t, s))
   stays (one_of q) fine s e empty = absurd cc
   stays (valued q good d) fine s e empty = absurd cc
   stays (limited d b g) fine s e empty =
@@ -133,24 +133,24 @@ module _ {N : Type 0} {Tree : N → Type 0} (c : Claims N) (p : (n : N) → List
       let f = and_parts (is_fine c g) _ fine in
       let never = not-true (may_be_empty g) (and_parts (not (may_be_empty g)) _ f.1).0 in
       ([], many_is full (first g) (run p g) (λ s' x e'. (run_shrinks p h g s' x e').1 never) 0 s ∙ rw e refl)
-  stays (behind q n) fine s e empty = absurd cc
+  stays (after_token q n) fine s e empty = absurd cc
 
-  token_passes : (q : Sort → Bool) (s : List Token) → starts q s ≡ true → (n : Stop) → token_at q s ≡ Err n → ⊥
+  token_passes : (q : Terminal → Bool) (s : List Token) → starts q s ≡ true → (n : FaultFromEnd) → token_at q s ≡ Err n → ⊥
   token_passes q s b n e = both_ways (starts q s) (token_err q s n e).1 b
 
-  full_list : (q : Sort → Bool) (s : List Token) → starts q s ≡ true → 1 ≤ length s
+  full_list : (q : Terminal → Bool) (s : List Token) → starts q s ≡ true → 1 ≤ length s
   full_list q [] e = absurd cc
   full_list q (x ∷ s) e = omega arith
 
   not_limit : (d : Code) → d ≡ Syntax → is_limit d ≡ true → ⊥
   not_limit d e h = both_ways (is_limit d) (rw e refl) h
 
-  full_bad : (w : Bool) (o : Option Code) (d : Code) → (w || is_none o) ≡ true → are_limits o ≡ true → {n : Stop} {m : ℕ} → (w ≡ true → n.1 ≡ Syntax) → o ≡ Some d → n ≡ (m, d) → ⊥
-  full_bad true o d safe limits y e k = not_limit d (ap (λ (x : Stop). x.1) (sym k) ∙ y refl) (ap are_limits (sym e) ∙ limits)
+  full_bad : (w : Bool) (o : Option Code) (d : Code) → (w || is_none o) ≡ true → are_limits o ≡ true → {n : FaultFromEnd} {m : ℕ} → (w ≡ true → n.1 ≡ Syntax) → o ≡ Some d → n ≡ (m, d) → ⊥
+  full_bad true o d safe limits y e k = not_limit d (ap (λ (x : FaultFromEnd). x.1) (sym k) ∙ y refl) (ap are_limits (sym e) ∙ limits)
   full_bad false None d safe limits y e k = absurd cc
   full_bad false (Some d') d safe limits y e k = absurd cc
 
-  pub passes : (w : Bool) (b0 : Sort → Bool) {A : Type 0} (g : Form N Tree A) → is_fine c g ≡ true → is_safe w b0 g ≡ true → (s : List Token) → (w ≡ false → starts b0 s ≡ true) → starts (first g) s ≡ true → Passes w (run p g) s
+  pub passes : (w : Bool) (b0 : Terminal → Bool) {A : Type 0} (g : Production N Tree A) → is_fine c g ≡ true → is_safe w b0 g ≡ true → (s : List Token) → (w ≡ false → starts b0 s ≡ true) → starts (first g) s ≡ true → Passes w (run p g) s
   passes w b0 (one_of q) fine safe s at b = (λ n e y. absurd (token_passes q s b n e), λ x e. let t = ap (λ (y : List Token). length y) (token_ok q s x e).0 in omega (arith, t))
   passes w b0 (valued q good d) fine safe s at b = (
     λ n e y. elim (bind_err (token_at q s) (check good d s) n e) [
@@ -160,8 +160,8 @@ module _ {N : Type 0} {Tree : N → Type 0} (c : Claims N) (p : (n : N) → List
     λ x e. (run_shrinks p h (valued q good d) s x e).1 refl,
   )
     where
-      bad : (w : Bool) → (w || disjoint b0 q) ≡ true → (w ≡ false → starts b0 s ≡ true) → {n : Stop} → (w ≡ true → n.1 ≡ Syntax) → n ≡ (length s, d) → ⊥
-      bad true safe at y e = not_limit d (ap (λ (x : Stop). x.1) (sym e) ∙ y refl) (and_parts (some_is q all_sorts) (is_limit d) fine).1
+      bad : (w : Bool) → (w || disjoint b0 q) ≡ true → (w ≡ false → starts b0 s ≡ true) → {n : FaultFromEnd} → (w ≡ true → n.1 ≡ Syntax) → n ≡ (length s, d) → ⊥
+      bad true safe at y e = not_limit d (ap (λ (x : FaultFromEnd). x.1) (sym e) ∙ y refl) (and_parts (some_is q all_terminals) (is_limit d) fine).1
       bad false safe at y e = both_ways (starts b0 s) (starts_disjoint b0 q s safe b) (at refl)
   passes w b0 (limited d d0 g) fine safe s at b =
       let one = passes w b0 g fine safe s at b in
@@ -258,7 +258,7 @@ module _ {N : Type 0} {Tree : N → Type 0} (c : Claims N) (p : (n : N) → List
       let one = passes w b0 g f.0 sf.0 s at b in
       let rest : A1 × List Token → Read (List A1) = λ a. many_at full (first g) (run p g) 1 (length a.1) a.1 >>= λ more. Ok (a.0 ∷ more.0, more.1) in
       let goes : run p (star full g) s ≡ refuse (full 0) s (run p g s >>= rest) = many_is full (first g) (run p g) (λ s' x e'. (run_shrinks p h g s' x e').1 never) 0 s ∙ rw b refl in
-      let limits = (and_parts (disjoint (more c g) (first g)) _ (and_parts (not (may_be_empty g)) _ f.1).1).1 in
+      let limits = (and_parts (disjoint (continuing c g) (first g)) _ (and_parts (not (may_be_empty g)) _ f.1).1).1 in
       let later : FaultsWithin (λ l. many_at full (first g) (run p g) 1 (length l) l) = λ l' n e. many_faults full (first g) (run p g) (λ s' x e'. (run_shrinks p h g s' x e').0) (run_faults p h l g) (length l') 1 l' n e in (
         λ n e y. elim (refuse_err (full 0) s (run p g s >>= rest) n (sym goes ∙ e)) [
           | inl u ↦ absurd (full_bad w (full 0) u.0 sf.1 limits y u.1 u.2)
@@ -277,7 +277,7 @@ module _ {N : Type 0} {Tree : N → Type 0} (c : Claims N) (p : (n : N) → List
             let y = one.1 a.0 a.1 in let z = many_shrinks full (first g) (run p g) (λ s' x e'. (run_shrinks p h g s' x e').0) (length a.0.1) 1 a.0.1 d.0 d.1 in
             rw (← same) (omega (arith, y, z)),
       )
-  passes w b0 (behind q m) fine safe s at b = (
+  passes w b0 (after_token q m) fine safe s at b = (
     λ n e y. elim (bind_err (token_at q s) (λ t. p m t.1 >>= λ d. Ok ((t.0, d.0), d.1)) n e) [
       | inl u ↦ absurd (token_passes q s b n u)
       | inr a ↦ elim (bind_err (p m a.0.1) (λ d. Ok ((a.0.0, d.0), d.1)) n a.2) [
@@ -285,11 +285,11 @@ module _ {N : Type 0} {Tree : N → Type 0} (c : Claims N) (p : (n : N) → List
         | inr v ↦ absurd (no_ok _ n v.2)
       ]
     ],
-    λ x e. (run_shrinks p h (behind q m) s x e).1 refl,
+    λ x e. (run_shrinks p h (after_token q m) s x e).1 refl,
   )
 
--- where only Syntax counts, each form is safe
-pub safe_true : {N : Type 0} {Tree : N → Type 0} (b0 : Sort → Bool) {A : Type 0} (g : Form N Tree A) → is_safe true b0 g ≡ true
+-- where only Syntax is asked of, each production is safe
+pub safe_true : {N : Type 0} {Tree : N → Type 0} (b0 : Terminal → Bool) {A : Type 0} (g : Production N Tree A) → is_safe true b0 g ≡ true
 safe_true b0 (one_of q) = refl
 safe_true b0 (valued q good d) = refl
 safe_true b0 (seq g k) = and_from (is_safe true b0 g) (is_safe true b0 k) (safe_true b0 g) (safe_true b0 k)
@@ -298,5 +298,5 @@ safe_true b0 (alt g k) = and_from (is_safe true b0 g) (is_safe true b0 k) (safe_
 safe_true b0 (pick q g k) = and_from (is_safe true b0 g) (is_safe true b0 k) (safe_true b0 g) (safe_true b0 k)
 safe_true b0 (opt g) = safe_true b0 g
 safe_true b0 (star full g) = and_from (is_safe true b0 g) true (safe_true b0 g) refl
-safe_true b0 (behind q n) = refl
+safe_true b0 (after_token q n) = refl
 safe_true b0 (limited l d g) = safe_true b0 g

@@ -1,14 +1,14 @@
--- The derived test on two sorts is that of their codes.
+-- The derived `==` of terminals compares their numbers.
 use Rattle.std.proofs.Common.{◌≡◌, ℕ, refl, ap, ◌∙◌}
 use Rattle.std.specs.Prelude.{◌==◌}
 use denote.Enum.Bare.{sameb}
 use denote.Enum.Declared.{tag_of}
-use Rattle.grammar_core.specs.declared.sort.Sort.{Sort}
-use Rattle.grammar_core.specs.declared.sort.Sort.TheVariants.{Name, TypeWord, Int, If, Else, For, Trap, Number, Quoted, Raw, OptionLine, Other, Extern, Body, End, Read, Write, Rw, Ctl, New, Null, LeftParen, RightParen, LeftBracket, RightBracket, LeftBrace, RightBrace, Comma, Semicolon, Colon, Question, Assign, Dots, Inward, Outward, Plus, Minus, Star, Slash, Percent, Equal, NotEqual, Less, AtMost, Greater, AtLeast, And, AndAnd, Or, OrOr, Not}
-use Rattle.grammar_core.specs.contracts.sort.Sort.{the_type}
-use Rattle.grammar_core.specs.Sorts.{code_of, is}
+use Rattle.grammar_core.specs.declared.terminal.Terminal.{Terminal}
+use Rattle.grammar_core.specs.declared.terminal.Terminal.TheVariants.{Name, TypeWord, Int, If, Else, For, Trap, Number, Quoted, Raw, OptionLine, Other, Extern, Body, End, Read, Write, Rw, Ctl, New, Null, LeftParen, RightParen, LeftBracket, RightBracket, LeftBrace, RightBrace, Comma, Semicolon, Colon, Question, Assign, Dots, Inward, Outward, Plus, Minus, Star, Slash, Percent, Equal, NotEqual, Less, AtMost, Greater, AtLeast, And, AndAnd, Or, OrOr, Not}
+use Rattle.grammar_core.specs.contracts.terminal.Terminal.{the_type}
+use Rattle.grammar_core.specs.Terminals.{code_of, is}
 
-tag_is : (k : Sort) → tag_of the_type k ≡ code_of k
+tag_is : (k : Terminal) → tag_of the_type k ≡ code_of k
 tag_is Name = refl
 tag_is TypeWord = refl
 tag_is Int = refl
@@ -61,5 +61,5 @@ tag_is Or = refl
 tag_is OrOr = refl
 tag_is Not = refl
 
-pub same_is : (a b : Sort) → sameb the_type a b ≡ is a b
+pub same_is : (a b : Terminal) → sameb the_type a b ≡ is a b
 same_is a b = ap (λ (n : ℕ). n == tag_of the_type b) (tag_is a) ∙ ap (λ (n : ℕ). code_of a == n) (tag_is b)

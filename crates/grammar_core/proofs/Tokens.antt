@@ -1,17 +1,17 @@
--- Each sort has a token.
+-- A token of each terminal.
 use Rattle.std.proofs.Common.{◌≡◌, ℕ, List, [], refl}
 use Rattle.std.specs.Prelude.{codes}
 use Rattle.jdf_lex.specs.declared.token.Token.{Token}
 use Rattle.jdf_lex.specs.declared.token.TokenKind.{TokenKind}
 use Rattle.jdf_lex.specs.declared.token.TokenKind.TheVariants as kinds
-use Rattle.grammar_core.specs.declared.sort.Sort.{Sort}
-use Rattle.grammar_core.specs.declared.sort.Sort.TheVariants.{Name, TypeWord, Int, If, Else, For, Trap, Number, Quoted, Raw, OptionLine, Other, Extern, Body, End, Read, Write, Rw, Ctl, New, Null, LeftParen, RightParen, LeftBracket, RightBracket, LeftBrace, RightBrace, Comma, Semicolon, Colon, Question, Assign, Dots, Inward, Outward, Plus, Minus, Star, Slash, Percent, Equal, NotEqual, Less, AtMost, Greater, AtLeast, And, AndAnd, Or, OrOr, Not}
-use Rattle.grammar_core.specs.Sorts.{sort_of, words, marks}
+use Rattle.grammar_core.specs.declared.terminal.Terminal.{Terminal}
+use Rattle.grammar_core.specs.declared.terminal.Terminal.TheVariants.{Name, TypeWord, Int, If, Else, For, Trap, Number, Quoted, Raw, OptionLine, Other, Extern, Body, End, Read, Write, Rw, Ctl, New, Null, LeftParen, RightParen, LeftBracket, RightBracket, LeftBrace, RightBrace, Comma, Semicolon, Colon, Question, Assign, Dots, Inward, Outward, Plus, Minus, Star, Slash, Percent, Equal, NotEqual, Less, AtMost, Greater, AtLeast, And, AndAnd, Or, OrOr, Not}
+use Rattle.grammar_core.specs.Terminals.{terminal_of, words, marks}
 
 abbrev token : TokenKind → List ℕ → Token
 token kind text = record { kind = kind; text = text; start = 0; end = 0; spot = record { line = 0; column = 0 } }
 
-pub token_of : Sort → Token
+pub token_of : Terminal → Token
 token_of Name = token kinds.Name []
 token_of TypeWord = token kinds.Name (codes "type")
 token_of Int = token kinds.Name (codes "int")
@@ -64,56 +64,56 @@ token_of Or = token kinds.Mark (codes "|")
 token_of OrOr = token kinds.Mark (codes "||")
 token_of Not = token kinds.Mark (codes "!")
 
-pub sort_of_token : (k : Sort) → sort_of (token_of k) ≡ k
-unfolding sort_of words marks token_of
-sort_of_token Name = refl
-sort_of_token TypeWord = refl
-sort_of_token Int = refl
-sort_of_token If = refl
-sort_of_token Else = refl
-sort_of_token For = refl
-sort_of_token Trap = refl
-sort_of_token Number = refl
-sort_of_token Quoted = refl
-sort_of_token Raw = refl
-sort_of_token OptionLine = refl
-sort_of_token Other = refl
-sort_of_token Extern = refl
-sort_of_token Body = refl
-sort_of_token End = refl
-sort_of_token Read = refl
-sort_of_token Write = refl
-sort_of_token Rw = refl
-sort_of_token Ctl = refl
-sort_of_token New = refl
-sort_of_token Null = refl
-sort_of_token LeftParen = refl
-sort_of_token RightParen = refl
-sort_of_token LeftBracket = refl
-sort_of_token RightBracket = refl
-sort_of_token LeftBrace = refl
-sort_of_token RightBrace = refl
-sort_of_token Comma = refl
-sort_of_token Semicolon = refl
-sort_of_token Colon = refl
-sort_of_token Question = refl
-sort_of_token Assign = refl
-sort_of_token Dots = refl
-sort_of_token Inward = refl
-sort_of_token Outward = refl
-sort_of_token Plus = refl
-sort_of_token Minus = refl
-sort_of_token Star = refl
-sort_of_token Slash = refl
-sort_of_token Percent = refl
-sort_of_token Equal = refl
-sort_of_token NotEqual = refl
-sort_of_token Less = refl
-sort_of_token AtMost = refl
-sort_of_token Greater = refl
-sort_of_token AtLeast = refl
-sort_of_token And = refl
-sort_of_token AndAnd = refl
-sort_of_token Or = refl
-sort_of_token OrOr = refl
-sort_of_token Not = refl
+pub terminal_of_token : (k : Terminal) → terminal_of (token_of k) ≡ k
+unfolding terminal_of words marks token_of
+terminal_of_token Name = refl
+terminal_of_token TypeWord = refl
+terminal_of_token Int = refl
+terminal_of_token If = refl
+terminal_of_token Else = refl
+terminal_of_token For = refl
+terminal_of_token Trap = refl
+terminal_of_token Number = refl
+terminal_of_token Quoted = refl
+terminal_of_token Raw = refl
+terminal_of_token OptionLine = refl
+terminal_of_token Other = refl
+terminal_of_token Extern = refl
+terminal_of_token Body = refl
+terminal_of_token End = refl
+terminal_of_token Read = refl
+terminal_of_token Write = refl
+terminal_of_token Rw = refl
+terminal_of_token Ctl = refl
+terminal_of_token New = refl
+terminal_of_token Null = refl
+terminal_of_token LeftParen = refl
+terminal_of_token RightParen = refl
+terminal_of_token LeftBracket = refl
+terminal_of_token RightBracket = refl
+terminal_of_token LeftBrace = refl
+terminal_of_token RightBrace = refl
+terminal_of_token Comma = refl
+terminal_of_token Semicolon = refl
+terminal_of_token Colon = refl
+terminal_of_token Question = refl
+terminal_of_token Assign = refl
+terminal_of_token Dots = refl
+terminal_of_token Inward = refl
+terminal_of_token Outward = refl
+terminal_of_token Plus = refl
+terminal_of_token Minus = refl
+terminal_of_token Star = refl
+terminal_of_token Slash = refl
+terminal_of_token Percent = refl
+terminal_of_token Equal = refl
+terminal_of_token NotEqual = refl
+terminal_of_token Less = refl
+terminal_of_token AtMost = refl
+terminal_of_token Greater = refl
+terminal_of_token AtLeast = refl
+terminal_of_token And = refl
+terminal_of_token AndAnd = refl
+terminal_of_token Or = refl
+terminal_of_token OrOr = refl
+terminal_of_token Not = refl

@@ -1,24 +1,27 @@
--- A grammar whose names are fine is read exactly, with the first fault.
+-- Where each nonterminal passes the test, reading is exact: the trees that are derived, and the first fault.
 use Rattle.std.proofs.Common.{◌≡◌, ◌≢◌, ℕ, zero, suc, ◌+◌, ◌-◌, ◌<◌, ◌≤◌, Bool, true, false, cond, List, [], ◌∷◌, ◌++◌, length, take, drop, Result, Ok, Err, refl, inl, inr, sym, ap, ◌∙◌, append_assoc, arith, subst}
 use Rattle.std.specs.Prelude.{Option, Some, None, nat_lt, ◌==◌, not}
 use Rattle.std.proofs.lemmas.Bool.{and_parts, not-true, both_ways, eqb-true, eqb-false, cases_lt, cases_order}
 use Rattle.std.proofs.lemmas.List.{take_at, drop_at, length-append, nil_from_length, take-append-drop, take-take, take-append-le, length-take-le}
 use Rattle.jdf_lex.specs.declared.token.Token.{Token}
-use Rattle.grammar_core.specs.Sorts.{within}
+use Rattle.grammar_core.specs.Terminals.{within}
 use Rattle.grammar_core.specs.declared.code.Code.{Code}
 use Rattle.grammar_core.specs.declared.code.Code.TheVariants.{Syntax}
-use Rattle.grammar_core.specs.Form.{Form, one_of, valued, seq, map, alt, opt, star, pick, behind, limited, Lang, Fault, then_fault, or_fault, at_start, bad_unless, cut_at, taken, Many, IsFrom, Spells, NameWithin, Derived, IsText, Begins, IsSyntaxFault, IsLimitFault, IsFirstFault}
-use Rattle.grammar_core.specs.Reading.{Stop, may_be_empty, first, starts, names_at, name_at, reading, whole}
-use Rattle.grammar_core.specs.Predictive.{Claims, more, is_limit, are_limits, is_fine, has_plain, are_names}
+use Rattle.grammar_core.specs.Production.{Production, one_of, valued, seq, map, alt, opt, star, pick, after_token, limited, Language, Fault, then_fault, or_fault, at_start, bad_unless, cut_at, taken, Many, IsFrom, Derives, DerivedWithin, Derived, IsText, Begins, IsSyntaxFault, IsLimitFault, IsFirstFault}
+use Rattle.grammar_core.specs.Reading.{FaultFromEnd, may_be_empty, first, starts, nonterminal_within, nonterminal_at, reading, whole}
+use Rattle.grammar_core.specs.Predictive.{Claims, continuing, is_limit, are_limits, is_fine, has_plain, are_names}
+pub use Rattle.grammar_core.specs.Predictive.{LimitsOnly}
 use Rattle.grammar_core.proofs.Sets.{starts_into, starts_within}
-use Rattle.grammar_core.proofs.Steps.{bind_ok, bind_err, chosen, ok_is, no_ok}
+use Rattle.grammar_core.proofs.ReadCases.{bind_ok, bind_err, chosen, ok_is, no_ok}
 use Rattle.grammar_core.proofs.Begins.{surely_begins}
-use Rattle.grammar_core.proofs.Fuel.{names_shrink, names_stable, name_is, name_shrinks, run_shrinks}
+use Rattle.grammar_core.proofs.Fuel.{within_shrinks, within_is_stable, nonterminal_is, nonterminal_shrinks, run_shrinks}
 use Rattle.grammar_core.proofs.Passes.{FaultsWithin, run_faults}
 use Rattle.grammar_core.proofs.Only.{only, outcome, Fits, fits}
-use Rattle.grammar_core.proofs.Sound.{SameHead, Stopped, Sound, Text, plain_text, run_sound, front}
+use Rattle.grammar_core.proofs.Sound.{SameHead, Faulted, Sound, Text}
+use Rattle.grammar_core.proofs.SoundLimits.{front}
+use Rattle.grammar_core.proofs.SoundProductions.{plain_text, run_sound}
 
--- two cuts with rests of one length are one
+-- a list is split in one way into a word and a rest of given length
 same_cut : (w w' r r' : List Token) → w ++ r ≡ w' ++ r' → length r ≡ length r' → (w ≡ w') × (r ≡ r')
 same_cut w w' r r' e l =
     let n : length w ≡ length w' = omega (arith, length-append w r, length-append w' r', ap (λ (s : List Token). length s) e) in (
@@ -30,30 +33,17 @@ from_zero : (o : Fault) → IsFrom 0 o
 from_zero None = tt
 from_zero (Some f) = omega arith
 
-abbrev failed : {A : Type 0} → Stop → Result A Stop
+abbrev failed : {A : Type 0} → FaultFromEnd → Result A FaultFromEnd
 failed n = Err n
 
-stop_is : {B : Type 0} {a b : Stop} → failed {A = B} a ≡ failed b → a ≡ b
+stop_is : {B : Type 0} {a b : FaultFromEnd} → failed {A = B} a ≡ failed b → a ≡ b
 stop_is e = cc
 
--- ---- no fault of a text is Syntax
+-- ---- no first fault of a text is Syntax
 
 abbrev pub NotSyntax : Fault → Type 0
 NotSyntax None = Unit {0}
 NotSyntax (Some f) = f.1 ≢ Syntax
-
--- the limits of a form are no Syntax
-abbrev pub LimitsOnly : {N : Type 0} {Tree : N → Type 0} {A : Type 0} → Form N Tree A → Type 0
-LimitsOnly (one_of q) = Unit {0}
-LimitsOnly (valued q good d) = is_limit d ≡ true
-LimitsOnly (seq g h) = LimitsOnly g × LimitsOnly h
-LimitsOnly (map f g) = LimitsOnly g
-LimitsOnly (alt g h) = LimitsOnly g × LimitsOnly h
-LimitsOnly (pick q g h) = LimitsOnly g × LimitsOnly h
-LimitsOnly (opt g) = LimitsOnly g
-LimitsOnly (star full g) = LimitsOnly g × ((i : ℕ) → are_limits (full i) ≡ true)
-LimitsOnly (behind q n) = Unit {0}
-LimitsOnly (limited l d g) = LimitsOnly g × (is_limit d ≡ true)
 
 limit_is : (d : Code) → is_limit d ≡ true → d ≢ Syntax
 limit_is d h e = both_ways (is_limit d) (rw e refl) h
@@ -83,11 +73,11 @@ not_bad : (b : Bool) (c : Code) → is_limit c ≡ true → NotSyntax (bad_unles
 not_bad true c h = tt
 not_bad false c h = limit_is c h
 
-many_limits : {A : Type 0} (full : ℕ → Option Code) (G : Lang A) → ((i : ℕ) → are_limits (full i) ≡ true) → ((s : List Token) (t : A) (o : Fault) (r : List Token) → G s t o r → NotSyntax o) → (i : ℕ) (ts : List A) (s : List Token) (o : Fault) (r : List Token) → Many full G i s ts o r → NotSyntax o
+many_limits : {A : Type 0} (full : ℕ → Option Code) (G : Language A) → ((i : ℕ) → are_limits (full i) ≡ true) → ((s : List Token) (t : A) (o : Fault) (r : List Token) → G s t o r → NotSyntax o) → (i : ℕ) (ts : List A) (s : List Token) (o : Fault) (r : List Token) → Many full G i s ts o r → NotSyntax o
 many_limits full G l f i [] s o r h = rw h.1 tt
 many_limits full G l f i (t ∷ ts) s o r h = rw h.5 (not_then (or_fault (at_start (full i)) h.1) h.2 (taken s h.0) (not_start (full i) h.1 (l i) (f s t h.1 h.0 h.3)) (many_limits full G l f (suc i) ts h.0 h.2 r h.4))
 
-limits : {N : Type 0} {Tree : N → Type 0} (R : (n : N) → Lang (Tree n)) → ((n : N) (s : List Token) (t : Tree n) (o : Fault) (r : List Token) → R n s t o r → NotSyntax o) → {A : Type 0} (g : Form N Tree A) → LimitsOnly g → (s : List Token) (t : A) (o : Fault) (r : List Token) → Spells R g s t o r → NotSyntax o
+limits : {N : Type 0} {Tree : N → Type 0} (R : (n : N) → Language (Tree n)) → ((n : N) (s : List Token) (t : Tree n) (o : Fault) (r : List Token) → R n s t o r → NotSyntax o) → {A : Type 0} (g : Production N Tree A) → LimitsOnly g → (s : List Token) (t : A) (o : Fault) (r : List Token) → Derives R g s t o r → NotSyntax o
 limits R hR (one_of q) l s t o r h = rw h.1 tt
 limits R hR (valued q good d) l s t o r h = rw h.1 (not_bad (good t) d l)
 limits R hR (seq g k) l s t o r h = rw h.5 (not_then h.1 h.2 (taken s h.0) (limits R hR g l.0 s t.0 h.1 h.0 h.3) (limits R hR k l.1 h.0 t.1 h.2 r h.4))
@@ -96,11 +86,11 @@ limits R hR (alt g k) l s t o r h = elim h [ inl u ↦ limits R hR g l.0 s t o r
 limits R hR (pick q g k) l s t o r h = elim h [ inl u ↦ limits R hR g l.0 s t o r u | inr u ↦ limits R hR k l.1 s t o r u ]
 limits R hR (opt g) l s None o r h = rw h.1 tt
 limits R hR (opt g) l s (Some t) o r h = limits R hR g l s t o r h
-limits R hR (star full g) l s t o r h = many_limits full (Spells R g) l.1 (limits R hR g l.0) 0 t s o r h
-limits R hR (behind q n) l s t o r h = rw h.4 (not_then None h.1 1 tt (hR n h.0 t.1 h.1 r h.3))
+limits R hR (star full g) l s t o r h = many_limits full (Derives R g) l.1 (limits R hR g l.0) 0 t s o r h
+limits R hR (after_token q n) l s t o r h = rw h.4 (not_then None h.1 1 tt (hR n h.0 t.1 h.1 r h.3))
 limits R hR (limited d c g) l s t o r h = rw h.2 (not_cut (d.at s) c (taken s r) h.0 l.1 (limits R hR g l.0 s t h.0 r h.1))
 
-module _ {N : Type 0} {Tree : N → Type 0} (body : (n : N) → Form N Tree (Tree n)) (c : Claims N) (fine : (n : N) → are_names body c n ≡ true) where
+module _ {N : Type 0} {Tree : N → Type 0} (body : (n : N) → Production N Tree (Tree n)) (c : Claims N) (fine : (n : N) → are_names body c n ≡ true) where
   name_fine : (n : N) → is_fine c (body n) ≡ true
   name_fine n = (and_parts (is_fine c (body n)) _ (fine n)).0
 
@@ -110,69 +100,69 @@ module _ {N : Type 0} {Tree : N → Type 0} (body : (n : N) → Form N Tree (Tre
   name_full : (n : N) → may_be_empty (body n) ≡ false
   name_full n = not-true (may_be_empty (body n)) (and_parts (not (may_be_empty (body n))) _ (and_parts (has_plain (body n)) _ (and_parts (is_fine c (body n)) _ (fine n)).1).1).0
 
-  name_sets : (n : N) → (within (first (body n)) (c.firsts n) ≡ true) × (within (more c (body n)) (c.goes_on n) ≡ true)
+  name_sets : (n : N) → (within (first (body n)) (c.firsts n) ≡ true) × (within (continuing c (body n)) (c.continues n) ≡ true)
   name_sets n = and_parts (within (first (body n)) (c.firsts n)) _ (and_parts (not (may_be_empty (body n))) _ (and_parts (has_plain (body n)) _ (and_parts (is_fine c (body n)) _ (fine n)).1).1).1
 
-  within_fits : (k : ℕ) (n : N) (s : List Token) (t : Tree n) (o : Fault) (r : List Token) → NameWithin body k n s t o r → Fits s o r
+  within_fits : (k : ℕ) (n : N) (s : List Token) (t : Tree n) (o : Fault) (r : List Token) → DerivedWithin body k n s t o r → Fits s o r
   within_fits zero n s t o r h = absurd h
-  within_fits (suc k) n s t o r h = fits (NameWithin body k) (within_fits k) (body n) s t o r h
+  within_fits (suc k) n s t o r h = fits (DerivedWithin body k) (within_fits k) (body n) s t o r h
 
-  within_begins : (k : ℕ) (n : N) (s : List Token) (t : Tree n) (o : Fault) (r : List Token) → NameWithin body k n s t o r → starts (c.firsts n) s ≡ true
+  within_begins : (k : ℕ) (n : N) (s : List Token) (t : Tree n) (o : Fault) (r : List Token) → DerivedWithin body k n s t o r → starts (c.firsts n) s ≡ true
   within_begins zero n s t o r h = absurd h
-  within_begins (suc k) n s t o r h = starts_into (first (body n)) (c.firsts n) s (name_sets n).0 (surely_begins (NameWithin body k) (body n) (name_full n) s t o r h)
+  within_begins (suc k) n s t o r h = starts_into (first (body n)) (c.firsts n) s (name_sets n).0 (surely_begins (DerivedWithin body k) (body n) (name_full n) s t o r h)
 
-  within_only : (k : ℕ) (n : N) (s : List Token) (t : Tree n) (o : Fault) (r : List Token) → NameWithin body k n s t o r → starts (c.goes_on n) r ≡ false → name_at body n s ≡ outcome s t o r
+  within_only : (k : ℕ) (n : N) (s : List Token) (t : Tree n) (o : Fault) (r : List Token) → DerivedWithin body k n s t o r → starts (c.continues n) r ≡ false → nonterminal_at body n s ≡ outcome s t o r
   within_only zero n s t o r h stops = absurd h
   within_only (suc k) n s t o r h stops =
-      name_is body n s ∙ only c (NameWithin body k) (name_at body) (name_shrinks body) (within_fits k) (within_begins k) (within_only k) (body n) (name_fine n) s t o r h (starts_within (more c (body n)) (c.goes_on n) r (name_sets n).1 stops)
+      nonterminal_is body n s ∙ only c (DerivedWithin body k) (nonterminal_at body) (nonterminal_shrinks body) (within_fits k) (within_begins k) (within_only k) (body n) (name_fine n) s t o r h (starts_within (continuing c (body n)) (c.continues n) r (name_sets n).1 stops)
 
-  -- What a form spells is what reading gives, where nothing follows that would go on with it.
-  pub reads : {A : Type 0} (g : Form N Tree A) → is_fine c g ≡ true → (s : List Token) (t : A) (o : Fault) (r : List Token) → Spells (Derived body) g s t o r → starts (more c g) r ≡ false → reading body g s ≡ outcome s t o r
+  -- What a production derives is what reading gives, where the next token does not continue it.
+  pub reads : {A : Type 0} (g : Production N Tree A) → is_fine c g ≡ true → (s : List Token) (t : A) (o : Fault) (r : List Token) → Derives (Derived body) g s t o r → starts (continuing c g) r ≡ false → reading body g s ≡ outcome s t o r
   reads g ok s t o r h stops =
-      only c (Derived body) (name_at body) (name_shrinks body) (λ n s t o r d. within_fits d.depth n s t o r d.spells) (λ n s t o r d. within_begins d.depth n s t o r d.spells) (λ n s t o r d. within_only d.depth n s t o r d.spells) g ok s t o r h stops
+      only c (Derived body) (nonterminal_at body) (nonterminal_shrinks body) (λ n s t o r d. within_fits d.depth n s t o r d.derives) (λ n s t o r d. within_begins d.depth n s t o r d.derives) (λ n s t o r d. within_only d.depth n s t o r d.derives) g ok s t o r h stops
 
-  names_fault : (k : ℕ) (n : N) → FaultsWithin (names_at body k n)
-  unfolding names_at
-  names_fault zero n s m e = let k : m ≡ (length s, Syntax) = cc in let f = ap (λ (y : Stop). y.0) k in omega (arith, f)
-  names_fault (suc k) n s m e = run_faults (names_at body k) (names_shrink body k) (names_fault k) (body n) s m e
+  within_faults : (k : ℕ) (n : N) → FaultsWithin (nonterminal_within body k n)
+  unfolding nonterminal_within
+  within_faults zero n s m e = let k : m ≡ (length s, Syntax) = cc in let f = ap (λ (y : FaultFromEnd). y.0) k in omega (arith, f)
+  within_faults (suc k) n s m e = run_faults (nonterminal_within body k) (within_shrinks body k) (within_faults k) (body n) s m e
 
-  within_text : (k : ℕ) (n : N) → Text (NameWithin body (suc k) n)
-  within_text k n = plain_text (NameWithin body k) (body n) (name_plain n)
+  within_text : (k : ℕ) (n : N) → Text (DerivedWithin body (suc k) n)
+  within_text k n = plain_text (DerivedWithin body k) (body n) (name_plain n)
 
-  names_sound : (k : ℕ) (n : N) (s : List Token) → Sound (NameWithin body (suc k) n) (names_at body k n) s
-  unfolding names_at
+  names_sound : (k : ℕ) (n : N) (s : List Token) → Sound (DerivedWithin body (suc k) n) (nonterminal_within body k n) s
+  unfolding nonterminal_within
   names_sound zero n s =
       let text = within_text zero n in
       record {
-        took = λ x e. absurd cc;
-        stopped = λ m e.
+        accepted = λ x e. absurd cc;
+        faulted = λ m e.
             let k : m ≡ (length s, Syntax) = cc in
-            let f = ap (λ (y : Stop). y.0) k in let d = ap (λ (y : Stop). y.1) k in
-            record { word = []; rest = s; parts = refl; left = sym f; more = text.word; tree = text.tree; fault = text.fault; late = λ z. record { from = from_zero (text.fault z); exact = λ h. absurd (h d) }; extends = λ h. absurd (h d); spells = text.spells; same = λ r h. ap (λ (c : Code). Err (length r, c)) (sym d) };
+            let f = ap (λ (y : FaultFromEnd). y.0) k in let d = ap (λ (y : FaultFromEnd). y.1) k in
+            record { word = []; rest = s; parts = refl; left = sym f; more = text.word; tree = text.tree; fault = text.fault; late = λ z. record { from = from_zero (text.fault z); exact = λ h. absurd (h d) }; extends = λ h. absurd (h d); derives = text.derives; same = λ r h. ap (λ (c : Code). Err (length r, c)) (sym d) };
       }
-  names_sound (suc k) n s = run_sound c (NameWithin body (suc k)) (names_at body k) (names_shrink body k) (names_fault k) (within_text k) (names_sound k) (body n) (name_fine n) s
+  names_sound (suc k) n s = run_sound c (DerivedWithin body (suc k)) (nonterminal_within body k) (within_shrinks body k) (within_faults k) (within_text k) (names_sound k) (body n) (name_fine n) s
 
-  -- the rest of one bound is the rest of another
-  name_sound : (n : N) (s : List Token) → Sound (Derived body n) (name_at body n) s
-  unfolding name_at
+  -- what is derived within one bound is read with another
+  name_sound : (n : N) (s : List Token) → Sound (Derived body n) (nonterminal_at body n) s
+  unfolding nonterminal_at
   name_sound n s =
       let k = suc (length s) in
       record {
-        took = λ x e.
-            let t = (names_sound k n s).took x e in
+        accepted = λ x e.
+            let t = (names_sound k n s).accepted x e in
             record {
               word = t.word;
               parts = t.parts;
-              spells = λ z. record { depth = suc k; spells = t.spells z };
+              derives = λ z. record { depth = suc k; derives = t.derives z };
               same = λ r h.
                   let k' = suc (length s + length (t.word ++ r)) in
-                  let u = (names_sound k' n s).took x (names_stable body k' k n s (omega arith) (omega arith) ∙ e) in
+                  let u = (names_sound k' n s).accepted x (within_is_stable body k' k n s (omega arith) (omega arith) ∙ e) in
                   let cut = same_cut u.word t.word x.1 x.1 (sym u.parts ∙ t.parts) refl in
-                  let at : names_at body k' n (t.word ++ r) ≡ Ok (x.0, r) = subst (λ (w : List Token). names_at body k' n (w ++ r) ≡ Ok (x.0, r)) cut.0 (u.same r h) in
-                  names_stable body (suc (length (t.word ++ r))) k' n (t.word ++ r) (omega arith) (omega arith) ∙ at;
+                  let at : nonterminal_within body k' n (t.word ++ r) ≡ Ok (x.0, r) = subst (λ (w : List Token). nonterminal_within body k' n (w ++ r) ≡ Ok (x.0, r)) cut.0 (u.same r h) in
+                  within_is_stable body (suc (length (t.word ++ r))) k' n (t.word ++ r) (omega arith) (omega arith) ∙ at;
             };
-        stopped = λ m e.
-            let t = (names_sound k n s).stopped m e in
+        faulted = λ m e.
+            let t = (names_sound k n s).faulted m e in
             record {
               word = t.word;
               rest = t.rest;
@@ -183,36 +173,36 @@ module _ {N : Type 0} {Tree : N → Type 0} (body : (n : N) → Form N Tree (Tre
               fault = t.fault;
               late = t.late;
               extends = t.extends;
-              spells = λ z. record { depth = suc k; spells = t.spells z };
+              derives = λ z. record { depth = suc k; derives = t.derives z };
               same = λ r h.
                   let k' = suc (length s + length (t.word ++ r)) in
-                  let u = (names_sound k' n s).stopped m (names_stable body k' k n s (omega arith) (omega arith) ∙ e) in
+                  let u = (names_sound k' n s).faulted m (within_is_stable body k' k n s (omega arith) (omega arith) ∙ e) in
                   let cut = same_cut u.word t.word u.rest t.rest (sym u.parts ∙ t.parts) (u.left ∙ sym t.left) in
                   let h' : SameHead u.rest r = subst (λ (f : List Token). SameHead f r) (sym cut.1) h in
-                  let at : names_at body k' n (t.word ++ r) ≡ Err (length r, m.1) = subst (λ (w : List Token). names_at body k' n (w ++ r) ≡ Err (length r, m.1)) cut.0 (u.same r h') in
-                  names_stable body (suc (length (t.word ++ r))) k' n (t.word ++ r) (omega arith) (omega arith) ∙ at;
+                  let at : nonterminal_within body k' n (t.word ++ r) ≡ Err (length r, m.1) = subst (λ (w : List Token). nonterminal_within body k' n (w ++ r) ≡ Err (length r, m.1)) cut.0 (u.same r h') in
+                  within_is_stable body (suc (length (t.word ++ r))) k' n (t.word ++ r) (omega arith) (omega arith) ∙ at;
             };
       }
 
-  name_faults : (n : N) → FaultsWithin (name_at body n)
-  unfolding name_at
-  name_faults n s m e = names_fault (suc (length s)) n s m e
+  nonterminal_faults : (n : N) → FaultsWithin (nonterminal_at body n)
+  unfolding nonterminal_at
+  nonterminal_faults n s m e = within_faults (suc (length s)) n s m e
 
   name_text : (n : N) → Text (Derived body n)
-  name_text n = let t = within_text 0 n in record { word = t.word; tree = t.tree; fault = t.fault; spells = λ z. record { depth = 1; spells = t.spells z } }
+  name_text n = let t = within_text 0 n in record { word = t.word; tree = t.tree; fault = t.fault; derives = λ z. record { depth = 1; derives = t.derives z } }
 
-  pub sound : {A : Type 0} (g : Form N Tree A) → is_fine c g ≡ true → (s : List Token) → Sound (Spells (Derived body) g) (reading body g) s
-  sound g ok s = run_sound c (Derived body) (name_at body) (name_shrinks body) name_faults name_text name_sound g ok s
+  pub sound : {A : Type 0} (g : Production N Tree A) → is_fine c g ≡ true → (s : List Token) → Sound (Derives (Derived body) g) (reading body g) s
+  sound g ok s = run_sound c (Derived body) (nonterminal_at body) (nonterminal_shrinks body) nonterminal_faults name_text name_sound g ok s
 
-  within_limits : ((n : N) → LimitsOnly (body n)) → (k : ℕ) (n : N) (s : List Token) (t : Tree n) (o : Fault) (r : List Token) → NameWithin body k n s t o r → NotSyntax o
+  within_limits : ((n : N) → LimitsOnly (body n)) → (k : ℕ) (n : N) (s : List Token) (t : Tree n) (o : Fault) (r : List Token) → DerivedWithin body k n s t o r → NotSyntax o
   within_limits l zero n s t o r h = absurd h
-  within_limits l (suc k) n s t o r h = limits (NameWithin body k) (within_limits l k) (body n) (l n) s t o r h
+  within_limits l (suc k) n s t o r h = limits (DerivedWithin body k) (within_limits l k) (body n) (l n) s t o r h
 
-  -- ---- all of the tokens
+  -- ---- whole texts
 
-  module _ (names_only : (n : N) → LimitsOnly (body n)) {A : Type 0} (g : Form N Tree A) (ok : is_fine c g ≡ true) (only_limits : LimitsOnly g) where
+  module _ (names_only : (n : N) → LimitsOnly (body n)) {A : Type 0} (g : Production N Tree A) (ok : is_fine c g ≡ true) (only_limits : LimitsOnly g) where
     text_limits : (s : List Token) (t : A) (o : Fault) → IsText body g s t o → NotSyntax o
-    text_limits s t o h = limits (Derived body) (λ n s t o r d. within_limits names_only d.depth n s t o r d.spells) g only_limits s t o [] h
+    text_limits s t o h = limits (Derived body) (λ n s t o r d. within_limits names_only d.depth n s t o r d.derives) g only_limits s t o [] h
 
     pub text_found : (s : List Token) (t : A) → whole body g s ≡ Ok t → IsText body g s t None
     text_found s t e =
@@ -220,10 +210,10 @@ module _ {N : Type 0} {Tree : N → Type 0} (body : (n : N) → Form N Tree (Tre
         elim (chosen (length a.0.1 == 0) (Ok a.0.0) (Err (length a.0.1, Syntax)) (Ok t) a.2) [
           | inl u ↦
               let none : a.0.1 ≡ [] = nil_from_length a.0.1 (eqb-true (length a.0.1) 0 u.0) in
-              let k = (sound g ok s).took a.0 a.1 in
+              let k = (sound g ok s).accepted a.0 a.1 in
               let is : a.0.0 ≡ t = ok_is a.0.0 t u.1 in
               let all : s ≡ k.word ++ [] = k.parts ∙ ap (λ (l : List Token). k.word ++ l) none in
-              let at : IsText body g s a.0.0 None = subst (λ (l : List Token). IsText body g l a.0.0 None) (sym all) (k.spells []) in
+              let at : IsText body g s a.0.0 None = subst (λ (l : List Token). IsText body g l a.0.0 None) (sym all) (k.derives []) in
               subst (λ (y : A). IsText body g s y None) is at
           | inr u ↦ absurd cc
         ]
@@ -231,17 +221,17 @@ module _ {N : Type 0} {Tree : N → Type 0} (body : (n : N) → Form N Tree (Tre
     pub text_only : (s : List Token) (t : A) → IsText body g s t None → whole body g s ≡ Ok t
     text_only s t h = rw (reads g ok s t None [] h refl) refl
 
-    pub fault_within : (s : List Token) (n : Stop) → whole body g s ≡ Err n → n.0 ≤ length s
+    pub fault_within : (s : List Token) (n : FaultFromEnd) → whole body g s ≡ Err n → n.0 ≤ length s
     fault_within s n e =
         elim (bind_err (reading body g s) (λ x. cond (length x.1 == 0) (Ok x.0) (Err (length x.1, Syntax))) n e) [
-          | inl u ↦ run_faults (name_at body) (name_shrinks body) name_faults g s n u
+          | inl u ↦ run_faults (nonterminal_at body) (nonterminal_shrinks body) nonterminal_faults g s n u
           | inr a ↦ elim (chosen (length a.0.1 == 0) (Ok a.0.0) (Err (length a.0.1, Syntax)) (Err n) a.2) [
             | inl v ↦ absurd (no_ok a.0.0 n v.1)
-            | inr v ↦ let left : (length a.0.1, Syntax) ≡ n = stop_is v.1 in let f = ap (λ (y : Stop). y.0) left in let k = (run_shrinks (name_at body) (name_shrinks body) g s a.0 a.1).0 in omega (arith, f, k)
+            | inr v ↦ let left : (length a.0.1, Syntax) ≡ n = stop_is v.1 in let f = ap (λ (y : FaultFromEnd). y.0) left in let k = (run_shrinks (nonterminal_at body) (nonterminal_shrinks body) g s a.0 a.1).0 in omega (arith, f, k)
           ]
         ]
 
-    -- what a text makes of reading
+    -- a text with a fault of a limit is not read as Syntax
     meets : (s : List Token) (t : A) (o : Fault) → IsText body g s t o → (n : ℕ) → reading body g s ≡ Err (n, Syntax) → ⊥
     meets s t o h n e = go o (text_limits s t o h) (reads g ok s t o [] h refl)
       where
@@ -249,8 +239,8 @@ module _ {N : Type 0} {Tree : N → Type 0} (body : (n : N) → Form N Tree (Tre
         go None l r = no_ok (t, []) (n, Syntax) (sym r ∙ e)
         go (Some f) l r = l (code_is (sym r ∙ e))
           where
-            code_is : {B : Type 0} {a b : Stop} → failed {A = B} a ≡ failed b → a.1 ≡ b.1
-            code_is e = ap (λ (y : Stop). y.1) (stop_is e)
+            code_is : {B : Type 0} {a b : FaultFromEnd} → failed {A = B} a ≡ failed b → a.1 ≡ b.1
+            code_is e = ap (λ (y : FaultFromEnd). y.1) (stop_is e)
 
     ends : (s : List Token) (t : A) (o : Fault) → IsText body g s t o → (x : A × List Token) → reading body g s ≡ Ok x → length x.1 ≡ 0
     ends s t o h x e = go o (reads g ok s t o [] h refl)
@@ -263,16 +253,16 @@ module _ {N : Type 0} {Tree : N → Type 0} (body : (n : N) → Form N Tree (Tre
     self [] = tt
     self (x ∷ r) = refl
 
-    -- Syntax is the first place
+    -- a fault Syntax is the first one
     syntax_fault : (s word rest more : List Token) (tree : A) (o : Fault) → s ≡ word ++ rest → IsFrom (length word) o → IsText body g (word ++ more) tree o → ((r : List Token) (t : A) (o : Fault) → SameHead rest r → IsText body g (word ++ r) t o → ⊥) → IsSyntaxFault body g s (length s - length rest)
     syntax_fault s word rest more tree o parts from text dead =
         let n : length s ≡ length word + length rest = ap (λ (l : List Token). length l) parts ∙ length-append word rest in
-        let place : length s - length rest ≡ length word = omega (arith, n) in
+        let index : length s - length rest ≡ length word = omega (arith, n) in
         let front : take (length word) s ≡ word = ap (λ (l : List Token). take (length word) l) parts ∙ take_at word rest (length word) refl in
         record {
           within = omega arith;
-          before = rw (place, front) (o, record { more = more; tree = tree; text = text }, from);
-          with_it = rw place (go rest parts dead n);
+          before = rw (index, front) (o, record { more = more; tree = tree; text = text }, from);
+          with_it = rw index (go rest parts dead n);
           at_end = λ e t o h. dead rest t o (self rest) (subst (λ (l : List Token). IsText body g l t o) parts h);
         }
       where
@@ -285,34 +275,34 @@ module _ {N : Type 0} {Tree : N → Type 0} (body : (n : N) → Form N Tree (Tre
             let text : IsText body g (word ++ (x ∷ b.more)) b.tree o = rw (← (append_assoc word (x ∷ []) b.more), ← front) b.text in
             dead (x ∷ b.more) b.tree o refl text
 
-    limit_fault : (s : List Token) (n : Stop) → (k : Stopped (Spells (Derived body) g) (reading body g) s n) → n.1 ≢ Syntax → IsLimitFault body g s (length s - length k.rest) n.1
+    limit_fault : (s : List Token) (n : FaultFromEnd) → (k : Faulted (Derives (Derived body) g) (reading body g) s n) → n.1 ≢ Syntax → IsLimitFault body g s (length s - length k.rest) n.1
     limit_fault s n k d =
         let e = k.extends d in
         let all : length s ≡ length k.word + length k.rest = ap (λ (l : List Token). length l) k.parts ∙ length-append k.word k.rest in
-        let place : length s - length k.rest ≡ length k.word = omega (arith, all) in
+        let index : length s - length k.rest ≡ length k.word = omega (arith, all) in
         let some : length k.rest ≡ suc (length e.rest_tail) = ap (λ (l : List Token). length l) e.rest_is in
         let again : s ≡ (k.word ++ e.head ∷ []) ++ e.rest_tail = k.parts ∙ ap (λ (l : List Token). k.word ++ l) e.rest_is ∙ sym (append_assoc k.word (e.head ∷ []) e.rest_tail) in
         let long : length (k.word ++ e.head ∷ []) ≡ length k.word + 1 = length-append k.word (e.head ∷ []) ∙ refl in
         let front : take (length k.word + 1) s ≡ k.word ++ e.head ∷ [] = ap (λ (l : List Token). take (length k.word + 1) l) again ∙ take_at (k.word ++ e.head ∷ []) e.rest_tail (length k.word + 1) long in
-        let text : IsText body g (k.word ++ (k.more ++ [])) k.tree (Some (length k.word, n.1)) = subst (λ (o : Fault). IsText body g (k.word ++ (k.more ++ [])) k.tree o) ((k.late []).exact d) (k.spells []) in
+        let text : IsText body g (k.word ++ (k.more ++ [])) k.tree (Some (length k.word, n.1)) = subst (λ (o : Fault). IsText body g (k.word ++ (k.more ++ [])) k.tree o) ((k.late []).exact d) (k.derives []) in
         let along : k.word ++ (k.more ++ []) ≡ (k.word ++ e.head ∷ []) ++ (e.more_tail ++ []) = ap (λ (l : List Token). k.word ++ (l ++ [])) e.more_is ∙ sym (append_assoc k.word (e.head ∷ []) (e.more_tail ++ [])) in
         record {
           within = omega (arith, all, some);
-          there = rw (place, front) (record { more = e.more_tail ++ []; tree = k.tree; text = subst (λ (l : List Token). IsText body g l k.tree (Some (length k.word, n.1))) along text });
+          there = rw (index, front) (record { more = e.more_tail ++ []; tree = k.tree; text = subst (λ (l : List Token). IsText body g l k.tree (Some (length k.word, n.1))) along text });
         }
 
-    pub fault_is : (s : List Token) (n : Stop) → whole body g s ≡ Err n → IsFirstFault body g s (length s - n.0) n.1
+    pub fault_is : (s : List Token) (n : FaultFromEnd) → whole body g s ≡ Err n → IsFirstFault body g s (length s - n.0) n.1
     fault_is s n e =
         elim (bind_err (reading body g s) (λ x. cond (length x.1 == 0) (Ok x.0) (Err (length x.1, Syntax))) n e) [
           | inl u ↦ by_code n.1 refl u
           | inr a ↦ elim (chosen (length a.0.1 == 0) (Ok a.0.0) (Err (length a.0.1, Syntax)) (Err n) a.2) [
             | inl v ↦ absurd (no_ok a.0.0 n v.1)
             | inr v ↦
-                let k = (sound g ok s).took a.0 a.1 in
+                let k = (sound g ok s).accepted a.0 a.1 in
                 let is : (length a.0.1, Syntax) ≡ n = stop_is v.1 in
                 let full : length a.0.1 ≡ 0 → ⊥ = eqb-false (length a.0.1) 0 v.0 in
-                let fault = syntax_fault s k.word a.0.1 [] a.0.0 None k.parts tt (k.spells []) (λ r t o h text. full (empty a.0.1 r h (ends (k.word ++ r) t o text (a.0.0, r) (k.same r h)))) in
-                subst (λ (m : Stop). IsFirstFault body g s (length s - m.0) m.1) is fault
+                let fault = syntax_fault s k.word a.0.1 [] a.0.0 None k.parts tt (k.derives []) (λ r t o h text. full (empty a.0.1 r h (ends (k.word ++ r) t o text (a.0.0, r) (k.same r h)))) in
+                subst (λ (m : FaultFromEnd). IsFirstFault body g s (length s - m.0) m.1) is fault
           ]
         ]
       where
@@ -323,11 +313,11 @@ module _ {N : Type 0} {Tree : N → Type 0} (body : (n : N) → Form N Tree (Tre
 
         by_code : (d : Code) → n.1 ≡ d → reading body g s ≡ Err n → IsFirstFault body g s (length s - n.0) n.1
         by_code Syntax is u =
-            let k = (sound g ok s).stopped n u in
-            let fault = syntax_fault s k.word k.rest (k.more ++ []) k.tree (k.fault []) k.parts (k.late []).from (k.spells []) (λ r t o h text. meets (k.word ++ r) t o text (length r) (k.same r h ∙ ap (λ (d : Code). Err (length r, d)) is)) in
+            let k = (sound g ok s).faulted n u in
+            let fault = syntax_fault s k.word k.rest (k.more ++ []) k.tree (k.fault []) k.parts (k.late []).from (k.derives []) (λ r t o h text. meets (k.word ++ r) t o text (length r) (k.same r h ∙ ap (λ (d : Code). Err (length r, d)) is)) in
             rw (is, ← k.left) fault
         by_code d is u =
-            let k = (sound g ok s).stopped n u in
+            let k = (sound g ok s).faulted n u in
             let fault : IsLimitFault body g s (length s - length k.rest) n.1 = limit_fault s n k (λ h. absurd (differs (sym is ∙ h))) in
             rw (is, ← k.left) (subst (λ (d : Code). IsLimitFault body g s (length s - length k.rest) d) is fault)
           where
@@ -350,7 +340,7 @@ module _ {N : Type 0} {Tree : N → Type 0} (body : (n : N) → Form N Tree (Tre
         let s2 = take (p + 1) s ++ b.more in
         let size : length (take (p + 1) s) ≡ p + 1 = length-take-le (p + 1) s (omega (arith, h.within)) in
         let size2 = length-append (take (p + 1) s) b.more in
-        let k = (sound g ok s2).stopped (length s2 - p, d) (reads g ok s2 b.tree (Some (p, d)) [] b.text refl) in
+        let k = (sound g ok s2).faulted (length s2 - p, d) (reads g ok s2 b.tree (Some (p, d)) [] b.text refl) in
         let at : length k.word ≡ p = omega (arith, k.left, size, size2, ap (λ (l : List Token). length l) k.parts, length-append k.word k.rest) in
         let f = front k.word k.rest (take (p + 1) s) b.more (sym k.parts) (omega (arith, at, size)) in
         let one : length f.0 ≡ 1 = omega (arith, at, size, ap (λ (l : List Token). length l) f.1, length-append k.word f.0) in
@@ -374,7 +364,7 @@ module _ {N : Type 0} {Tree : N → Type 0} (body : (n : N) → Form N Tree (Tre
           | inr (inr lt) ↦ absurd (k.with_it (let w = h.within in omega (arith, lt, w)) h.before.0 (begins_shorter s (q + 1) p h.before.0 (omega (arith, lt)) h.before.1))
         ]
 
-        -- a limit before the place would be met by each text that begins so
+        -- a fault of a limit before the index would be one of each text that begins so
         from_limit : (q : ℕ) (d : Code) → IsLimitFault body g s q d → ⊥
         from_limit q d k = elim (cases_lt q p) [
           | inr le ↦ h.with_it (let w = k.within in omega (arith, le, w)) (Some (q, d)) (begins_shorter s (p + 1) (q + 1) (Some (q, d)) (omega (arith, le)) k.there)
@@ -391,12 +381,12 @@ module _ {N : Type 0} {Tree : N → Type 0} (body : (n : N) → Form N Tree (Tre
             later : (o : Fault) (s3 : List Token) (t : A) → IsText body g s3 t o → IsFrom p o → p ≤ length s3 → q < p → whole body g s3 ≡ Err (length s3 - q, d) → ⊥
             later None s3 t text from le lt r = no_ok t (length s3 - q, d) (sym (text_only s3 t text) ∙ r)
             later (Some f) s3 t text from le lt r =
-                let fit = fits (Derived body) (λ n s t o r d. within_fits d.depth n s t o r d.spells) g s3 t (Some f) [] text in
+                let fit = fits (Derived body) (λ n s t o r d. within_fits d.depth n s t o r d.derives) g s3 t (Some f) [] text in
                 let r' : whole body g s3 ≡ Err (length s3 - f.0, f.1) = rw (reads g ok s3 t (Some f) [] text refl) refl in
-                let e = ap (λ (y : Stop). y.0) (stop_is (sym r' ∙ r)) in
+                let e = ap (λ (y : FaultFromEnd). y.0) (stop_is (sym r' ∙ r)) in
                 omega (arith, e, from, lt, fit.1, le)
 
-        go : (r : Result A Stop) → whole body g s ≡ r → whole body g s ≡ Err (length s - p, Syntax)
+        go : (r : Result A FaultFromEnd) → whole body g s ≡ r → whole body g s ≡ Err (length s - p, Syntax)
         go (Ok t) e =
             let text = text_found s t e in
             elim (cases_lt p (length s)) [
@@ -411,10 +401,10 @@ module _ {N : Type 0} {Tree : N → Type 0} (body : (n : N) → Form N Tree (Tre
                 let same = from_syntax (length s - n.0) f' in
                 let w = fault_within s n e in
                 let n0 : n.0 ≡ length s - p = omega (arith, same, w) in
-                ap (λ (m : Stop). failed {A = A} m) (λ i. (n0 i, is i))
+                ap (λ (m : FaultFromEnd). failed {A = A} m) (λ i. (n0 i, is i))
             by_code d is f = absurd (from_limit (length s - n.0) d (subst (λ (c : Code). IsFirstFault body g s (length s - n.0) c) is f))
 
-    -- The first fault is what reading says.
+    -- The first fault is the one that reading gives.
     pub one_fault : (s : List Token) (p : ℕ) (c : Code) → IsFirstFault body g s p c → whole body g s ≡ Err (length s - p, c)
     one_fault s p Syntax h = syntax_is_read s p h
     one_fault s p c h = limit_is_read s p c h

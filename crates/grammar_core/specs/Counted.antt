@@ -1,24 +1,24 @@
--- The limit of an expression: so many tokens, and so many among them that are counted.
+-- The limit of an expression: 512 tokens, and 128 names, numbers and operators among them. Source: this project's own choice.
 use Rattle.std.specs.Prelude.{Bool, ◌||◌}
-use Rattle.grammar_core.specs.declared.sort.Sort.{Sort}
-use Rattle.grammar_core.specs.declared.sort.Sort.TheVariants.{Name, TypeWord, Int, If, Else, For, Trap, Number, Question, Plus, Minus, Star, Slash, Percent, Equal, NotEqual, Less, AtMost, Greater, AtLeast, And, AndAnd, Or, OrOr, Not}
-use Rattle.grammar_core.specs.Sorts.{is}
-use Rattle.grammar_core.specs.Form.{Limit}
+use Rattle.grammar_core.specs.declared.terminal.Terminal.{Terminal}
+use Rattle.grammar_core.specs.declared.terminal.Terminal.TheVariants.{Name, TypeWord, Int, If, Else, For, Trap, Number, Question, Plus, Minus, Star, Slash, Percent, Equal, NotEqual, Less, AtMost, Greater, AtLeast, And, AndAnd, Or, OrOr, Not}
+use Rattle.grammar_core.specs.Terminals.{is}
+use Rattle.grammar_core.specs.Production.{Limit}
 use Rattle.grammar_core.specs.CountedLimit.{limit_one, limit_keeps, limit_stays}
 pub use Rattle.grammar_core.specs.TooMany.{limit_at}
 
--- a name where no body is read
-abbrev pub is_name : Sort → Bool
+-- the words that are names outside of bodies
+abbrev pub is_name : Terminal → Bool
 is_name k = is Name k || is TypeWord k || is Int k || is If k || is Else k || is For k || is Trap k
 
--- names, numbers, operators and "?"
-unfoldable pub is_counted : Sort → Bool
+-- the terminals that are counted: names, numbers, operators and "?"
+unfoldable pub is_counted : Terminal → Bool
 is_counted k =
     is_name k || is Number k || is Question k || is Plus k || is Minus k || is Star k || is Slash k || is Percent k
     || is Equal k || is NotEqual k || is Less k || is AtMost k || is Greater k || is AtLeast k
     || is And k || is AndAnd k || is Or k || is OrOr k || is Not k
 
--- at most 512 tokens, and 128 that are counted
+-- at most 512 tokens, and at most 128 of them counted
 abbrev pub expression_limit : Limit
 expression_limit =
     record {

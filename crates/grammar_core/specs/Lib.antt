@@ -1,9 +1,10 @@
-pub mod Sorts
-pub mod Form
+pub mod Terminals
+pub mod Production
 pub mod Reading
 pub mod Predictive
 pub mod TooMany
 pub mod CountedLimit
 pub mod Counted
 pub mod LimitBy
-pub mod Gives
+pub mod ExactReading
+pub mod Returns

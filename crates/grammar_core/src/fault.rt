@@ -1,39 +1,30 @@
-ghost use Rattle.std.specs.Prelude.{◌≡◌};
-ghost use Rattle.grammar_core.specs.declared.fault.ReadError.TheVariants.{Memory};
+//! Why tokens could not be read.
+
+ghost use Rattle.std.specs.Prelude.{◌≡◌, length};
+ghost use Rattle.grammar_core.specs.Returns.{fault_with};
 
 use crate::code::Code;
-use ptg_base::OutOfMemory;
-use std::alloc::{AllocError, AllocFailed};
+use jdf_lex::Token;
+use ptg_base::Refusal;
 
-/// Why a text could not be read.
-#[derive(Debug, Drop)]
-pub enum ReadError {
-    /// There was no memory.
-    Memory,
-    /// The tokens that are left at the first fault, and what is wrong there.
-    Fault(usize, Code),
+/// The first fault of a list of tokens, by its distance from the end of the list.
+#[derive(Clone, Copy, Debug, PartialEq, Eq)]
+pub struct ReadFault {
+    /// How many tokens are left at the fault: those from the token that is wrong on. Zero says that the tokens end too early.
+    pub left: usize,
+    /// What is wrong there.
+    pub code: Code,
 }
 
-impl From<AllocError> for ReadError {
-    ghost from_gives = { λ _ e. e ≡ Memory };
+/// Why tokens could not be read: their first fault, or want of memory.
+pub type ReadRefusal = Refusal<ReadFault>;
 
-    fn from(_e: AllocError) -> ReadError {
-        ReadError::Memory
-    }
-}
-
-impl<T: Drop> From<AllocFailed<T>> for ReadError {
-    ghost from_gives = { λ _ e. e ≡ Memory };
-
-    fn from(_e: AllocFailed<T>) -> ReadError {
-        ReadError::Memory
-    }
-}
-
-impl From<OutOfMemory> for ReadError {
-    ghost from_gives = { λ _ e. e ≡ Memory };
-
-    fn from(_e: OutOfMemory) -> ReadError {
-        ReadError::Memory
-    }
+/// The refusal for a fault at the first of these tokens, or at the end where there is none.
+pub fn refusal_at(tokens: &[Token], code: Code) -> ReadRefusal
+    ensures { result ≡ fault_with (length tokens.now) code }
+{
+    Refusal::Fault(ReadFault {
+        left: tokens.len(),
+        code,
+    })
 }

@@ -1,46 +1,52 @@
-//! The limit of an expression.
+//! How long an expression may be.
 
 ghost use Rattle.std.specs.Prelude.{◌≡◌};
 ghost use Rattle.grammar_core.specs.Counted.{expression_limit, is_counted};
 
-use crate::sort::Sort;
+use crate::terminal::Terminal;
 use jdf_lex::Token;
 
 /// How many tokens an expression may have.
 const MOST_TOKENS: usize = 512;
 
-/// How many of them may be names, numbers, operators and `?`.
+/// How many of its tokens may be names, numbers, operators and `?`.
 const MOST_COUNTED: usize = 128;
 
-// Is a token of this sort among those that are counted?
+// Is this terminal a name, a number, an operator or `?`?
 #[tactic(auto, unfolding(crate::specs::Counted::is_counted))]
-fn is_counted(sort: Sort) -> bool
-    ensures { result ≡ is_counted sort }
+fn is_counted(terminal: Terminal) -> bool
+    ensures { result ≡ is_counted terminal }
 {
-    match sort {
-        Sort::Name | Sort::TypeWord | Sort::Int | Sort::If | Sort::Else | Sort::For | Sort::Trap =>
+    match terminal {
+        Terminal::Name
+        | Terminal::TypeWord
+        | Terminal::Int
+        | Terminal::If
+        | Terminal::Else
+        | Terminal::For
+        | Terminal::Trap => true,
+        Terminal::Number | Terminal::Question => true,
+        Terminal::Plus | Terminal::Minus | Terminal::Star | Terminal::Slash | Terminal::Percent =>
             true,
-        Sort::Number | Sort::Question => true,
-        Sort::Plus | Sort::Minus | Sort::Star | Sort::Slash | Sort::Percent => true,
-        Sort::Equal | Sort::NotEqual => true,
-        Sort::Less | Sort::AtMost | Sort::Greater | Sort::AtLeast => true,
-        Sort::And | Sort::AndAnd | Sort::Or | Sort::OrOr | Sort::Not => true,
+        Terminal::Equal | Terminal::NotEqual => true,
+        Terminal::Less | Terminal::AtMost | Terminal::Greater | Terminal::AtLeast => true,
+        Terminal::And | Terminal::AndAnd | Terminal::Or | Terminal::OrOr | Terminal::Not => true,
         _ => false,
     }
 }
 
-/// The place of the token that is too many for an expression that begins here.
+/// The index of the first token that is too many for an expression that begins with these tokens.
 pub fn expression_limit(tokens: &[Token]) -> usize
     ensures { result ≡ expression_limit.at tokens.now }
 {
     let mut counted = 0;
-    for (place, token) in tokens.iter().enumerate() {
-        if place == MOST_TOKENS {
+    for (index, token) in tokens.iter().enumerate() {
+        if index == MOST_TOKENS {
             return MOST_TOKENS;
         }
-        if is_counted(Sort::of(token)) {
+        if is_counted(Terminal::of(token)) {
             if counted == MOST_COUNTED {
-                return place;
+                return index;
             }
             counted += 1;
         }

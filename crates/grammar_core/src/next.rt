@@ -1,31 +1,31 @@
-//! The next token.
+//! Looking at the next token.
 
 ghost use Rattle.std.specs.Prelude.{◌≡◌};
-ghost use Rattle.grammar_core.specs.Sorts.{is};
+ghost use Rattle.grammar_core.specs.Terminals.{is};
 ghost use Rattle.grammar_core.specs.Reading.{starts, token_at};
-ghost use Rattle.grammar_core.specs.Gives.{Gives};
+ghost use Rattle.grammar_core.specs.Returns.{Returns};
 
 use crate::code::Code;
-use crate::fault::ReadError;
-use crate::sort::Sort;
+use crate::fault::{ReadRefusal, refusal_at};
+use crate::terminal::Terminal;
 use jdf_lex::Token;
 
-/// Does a token of this sort come next?
-pub fn is_next(tokens: &[Token], wanted: Sort) -> bool
+/// Is the next token this terminal?
+pub fn is_next(tokens: &[Token], wanted: Terminal) -> bool
     ensures { result ≡ starts (is wanted) tokens.now }
 {
     match tokens.split_first() {
         None => false,
-        Some((first, _)) => wanted == Sort::of(first),
+        Some((first, _)) => wanted == Terminal::of(first),
     }
 }
 
-/// A token of this sort, and the rest.
-pub fn expect(tokens: &[Token], wanted: Sort) -> Result<(&Token, &[Token]), ReadError>
-    ensures { Gives (λ x. (x.0.now, x.1.now)) result (token_at (is wanted) tokens.now) }
+/// Takes a token of this terminal: the token and the tokens after it. Syntax at the next token if that is another one.
+pub fn expect(tokens: &[Token], wanted: Terminal) -> Result<(&Token, &[Token]), ReadRefusal>
+    ensures { Returns (λ x. (x.0.now, x.1.now)) result (token_at (is wanted) tokens.now) }
 {
     match tokens.split_first() {
-        Some((first, rest)) if wanted == Sort::of(first) => Ok((first, rest)),
-        _ => Err(ReadError::Fault(tokens.len(), Code::Syntax)),
+        Some((first, rest)) if wanted == Terminal::of(first) => Ok((first, rest)),
+        _ => Err(refusal_at(tokens, Code::Syntax)),
     }
 }

@@ -5,19 +5,19 @@ use Rattle.std.proofs.Common.{inl, inr}
 use Rattle.jdf_lex.specs.declared.token.Spot.{Spot}
 use Rattle.jdf_lex.specs.declared.token.Token.{Token}
 use Rattle.jdf_lex.specs.declared.fault.JdfFault.{JdfFault}
-use Rattle.jdf_lex.specs.declared.fault.JdfRefusal.{JdfRefusal}
-use Rattle.jdf_lex.specs.declared.fault.JdfRefusal.TheVariants.{Fault, OutOfMemory}
+use Rattle.ptg_base.specs.declared.refusal.Refusal.{Refusal}
+use Rattle.ptg_base.specs.declared.refusal.Refusal.TheVariants.{Fault, OutOfMemory}
 use Rattle.jdf_lex.specs.declared.token.Lexed.{Lexed}
 use Rattle.jdf_lex.specs.Tokens.{IsLexed}
-use Rattle.jdf_lex.proofs.Once.{one_list}
+use Rattle.jdf_lex.proofs.Uniqueness.{one_list}
 use Rattle.jdf_first.specs.Plain.{is_plain}
 use Rattle.std.specs.Str.{IsUtf8}
 use Rattle.grammar_core.specs.declared.code.Code.{Code}
 use Rattle.grammar_core.specs.declared.code.Code.TheVariants.{TooManyDeps}
-use Rattle.grammar_core.specs.declared.fault.ReadError.{ReadError}
-use Rattle.grammar_core.specs.declared.fault.ReadError.TheVariants as errors
-use Rattle.grammar_core.specs.Gives.{Fails}
-use Rattle.grammar_core.specs.Form.{IsText}
+use Rattle.ptg_base.specs.declared.refusal.Refusal.TheVariants as errors
+use Rattle.grammar_core.specs.declared.fault.ReadFault.{ReadFault}
+use Rattle.grammar_core.specs.Returns.{ReadRefusal, Fails}
+use Rattle.grammar_core.specs.Production.{IsText}
 use Rattle.grammar_core.specs.Predictive.{are_limits}
 use Rattle.grammar_core.specs.Reading.{whole}
 use Rattle.grammar_core.proofs.Whole.{LimitsOnly, text_found, text_only}
@@ -153,11 +153,11 @@ read_is bytes text lexed slice jdf short utf8 is slices plain e =
       text = found lexed.tokens jdf (ap (whole inner file) (sym slices) ∙ e);
     }
 
-abbrev done : Lexed → Result Lexed JdfRefusal
+abbrev done : Lexed → Result Lexed (Refusal JdfFault)
 done lexed = Ok lexed
 
 -- what is known of the answer of the tokens' reader
-abbrev AreFound : List ℕ → Result Lexed JdfRefusal → Type 0
+abbrev AreFound : List ℕ → Result Lexed (Refusal JdfFault) → Type 0
 AreFound text result =
     (tokens : List Token) (end : Spot) → IsLexed text tokens end → length tokens ≤ 1000000 → (result ≡ Ok (record { tokens = tokens; end = end })) ⊎ (result ≡ Err OutOfMemory)
 
@@ -165,7 +165,7 @@ their_tokens : (lexed : Lexed) (tokens : List Token) (end : Spot) → done lexed
 their_tokens lexed tokens end e = let k : lexed ≡ record { tokens = tokens; end = end } = cc in ap (λ (l : Lexed). l.tokens) k
 
 -- the tokens that are found are those of the text of a tree
-same_tokens : (bytes text : List ℕ) (lexed : Lexed) (result : Result Lexed JdfRefusal) → text ≡ bytes → result ≡ Ok lexed → AreFound text result → (jdf : Jdf) (j : IsJdf bytes jdf) → lexed.tokens ≡ j.tokens
+same_tokens : (bytes text : List ℕ) (lexed : Lexed) (result : Result Lexed (Refusal JdfFault)) → text ≡ bytes → result ≡ Ok lexed → AreFound text result → (jdf : Jdf) (j : IsJdf bytes jdf) → lexed.tokens ≡ j.tokens
 same_tokens bytes text lexed result same is lexes jdf j =
     elim (lexes j.tokens j.end (subst (λ (t : List ℕ). IsLexed t j.tokens j.end) (sym same) j.lexed) j.few) [
       | inl e ↦ their_tokens lexed j.tokens j.end (sym is ∙ e)
@@ -173,13 +173,13 @@ same_tokens bytes text lexed result same is lexes jdf j =
     ]
 
 -- the tree of a text is what its tokens are read to
-pub tree_is : (bytes text : List ℕ) (lexed : Lexed) (slice : List Token) (result : Result Lexed JdfRefusal) → text ≡ bytes → result ≡ Ok lexed → AreFound text result
+pub tree_is : (bytes text : List ℕ) (lexed : Lexed) (slice : List Token) (result : Result Lexed (Refusal JdfFault)) → text ≡ bytes → result ≡ Ok lexed → AreFound text result
     → slice ≡ lexed.tokens → (jdf : Jdf) → IsJdf bytes jdf → whole inner file slice ≡ Ok jdf
 tree_is bytes text lexed slice result same is lexes slices jdf j =
     ap (whole inner file) (slices ∙ same_tokens bytes text lexed result same is lexes jdf j) ∙ only j.tokens jdf j.text
 
 -- a text with a token fault has no tree
-pub no_tokens : (bytes text : List ℕ) (result : Result Lexed JdfRefusal) (f : JdfFault) → text ≡ bytes → result ≡ Err (Fault f) → AreFound text result → (jdf : Jdf) → IsJdf bytes jdf → ⊥
+pub no_tokens : (bytes text : List ℕ) (result : Result Lexed (Refusal JdfFault)) (f : JdfFault) → text ≡ bytes → result ≡ Err (Fault f) → AreFound text result → (jdf : Jdf) → IsJdf bytes jdf → ⊥
 no_tokens bytes text result f same is lexes jdf j =
     elim (lexes j.tokens j.end (subst (λ (t : List ℕ). IsLexed t j.tokens j.end) (sym same) j.lexed) j.few) [ inl e ↦ cc | inr e ↦ cc ]
 
@@ -192,12 +192,12 @@ one_text_one_tree bytes a b one other =
     let tokens = (one_list bytes one.tokens other.tokens one.end other.end one.lexed other.lexed).0 in
     one_tree one.tokens a b (only one.tokens a one.text) (ap (whole inner file) tokens ∙ only other.tokens b other.text)
 
-pub no_tree : (s : List Token) (a : Jdf) (e : ReadError) (n : ℕ) (c : Code) → e ≡ errors.Fault n c → Fails e (whole inner file s) → whole inner file s ≡ Ok a → ⊥
-no_tree s a errors.Memory n c is f h = absurd cc
-no_tree s a (errors.Fault m d) n c is f h = absurd cc
+pub no_tree : (s : List Token) (a : Jdf) (e : ReadRefusal) (f : ReadFault) → e ≡ errors.Fault f → Fails e (whole inner file s) → whole inner file s ≡ Ok a → ⊥
+no_tree s a errors.OutOfMemory fault is f h = absurd cc
+no_tree s a (errors.Fault x) fault is f h = absurd cc
 
-abbrev refused_by : JdfRefusal → Result Jdf JdfRefusal
+abbrev refused_by : Refusal JdfFault → Result Jdf (Refusal JdfFault)
 refused_by e = Err e
 
-pub one_refusal : (r : JdfRefusal) (f g : JdfFault) → r ≡ Fault g → refused_by r ≡ refused_by (Fault f) → f ≡ g
+pub one_refusal : (r : Refusal JdfFault) (f g : JdfFault) → r ≡ Fault g → refused_by r ≡ refused_by (Fault f) → f ≡ g
 one_refusal r f g e d = cc

@@ -4,9 +4,9 @@ use Rattle.jdf_first.specs.declared.part.Part.{Part}
 use Rattle.jdf_first.specs.declared.part.Part.TheVariants.{Class, Body}
 use Rattle.std.specs.Prelude.{Bool, ◌&&◌, ◌||◌}
 use Rattle.jdf_lex.specs.declared.token.Token.{Token}
-use Rattle.grammar_core.specs.declared.sort.Sort.{Sort}
-use Rattle.grammar_core.specs.declared.sort.Sort.TheVariants.{Name, LeftParen}
-use Rattle.grammar_core.specs.Sorts.{is, sort_of}
+use Rattle.grammar_core.specs.declared.terminal.Terminal.{Terminal}
+use Rattle.grammar_core.specs.declared.terminal.Terminal.TheVariants.{Name, LeftParen}
+use Rattle.grammar_core.specs.Terminals.{is, terminal_of}
 use Rattle.grammar_core.specs.Counted.{is_name}
 use Rattle.grammar_core.specs.Reading.{first, starts, picks}
 use Rattle.grammar_core.specs.Predictive.{is_fine, are_names}
@@ -40,8 +40,8 @@ goes_on (x ∷ s) = refl
 pub begins_target : (s : List Token) → picks (first unguarded) (first guarded) goes_on_target s ≡ is_target s
 unfolding unguarded target guarded outer expr sum atom number reference parens
 begins_target [] = refl
-begins_target (x ∷ s) = rw (goes_on s) (go (sort_of x) (starts is_name s || starts (is LeftParen) s))
+begins_target (x ∷ s) = rw (goes_on s) (go (terminal_of x) (starts is_name s || starts (is LeftParen) s))
   where
-    go : (k : Sort) (b : Bool) → cond (first guarded k) (first unguarded k && b) (first unguarded k) ≡ (is_name k && b)
+    go : (k : Terminal) (b : Bool) → cond (first guarded k) (first unguarded k && b) (first unguarded k) ≡ (is_name k && b)
     go Name b = refl
     go _ b = refl

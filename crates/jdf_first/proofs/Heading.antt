@@ -1,12 +1,11 @@
 -- The names before the class, as a loop reads them.
 use Rattle.std.proofs.Common.{◌≡◌, ◌<◌, true, false, cond, List, [], ◌∷◌, ◌++◌, length, Ok, Err, refl, sym, ap, ◌∙◌, subst}
 use Rattle.jdf_lex.specs.declared.token.Token.{Token}
-use Rattle.grammar_core.specs.declared.fault.ReadError.{ReadError}
-use Rattle.grammar_core.specs.declared.fault.ReadError.TheVariants as errors
-use Rattle.grammar_core.specs.Form.{star}
-use Rattle.grammar_core.specs.Reading.{◌>>=◌, Read, starts, name_at, reading}
-use Rattle.grammar_core.specs.Gives.{Fails}
-use Rattle.grammar_core.proofs.Fuel.{name_shrinks, run_shrinks}
+use Rattle.ptg_base.specs.declared.refusal.Refusal.TheVariants as errors
+use Rattle.grammar_core.specs.Production.{star}
+use Rattle.grammar_core.specs.Reading.{◌>>=◌, Read, starts, nonterminal_at, reading}
+use Rattle.grammar_core.specs.Returns.{ReadRefusal, Fails}
+use Rattle.grammar_core.proofs.Fuel.{nonterminal_shrinks, run_shrinks}
 use Rattle.jdf_first.specs.declared.part.Part.TheVariants.{Class}
 use Rattle.jdf_first.specs.declared.expression.Word.{Word}
 use Rattle.jdf_first.specs.declared.tree.ClassTree.{ClassTree}
@@ -25,7 +24,7 @@ heading_is s = regroup (reading inner (name Class) s) (reading inner (star any (
 pub heading_begins : (s : List Token) (last : Word) (next : List Token) → reading inner (name Class) s ≡ Ok (last, next) → headed_so_far [] last (many_of (name Class) next) ≡ reading inner heading s
 heading_begins s last next e = sym (heading_is s ∙ rw e refl)
 
-pub heading_fails : (e : ReadError) (s : List Token) → Fails e (reading inner (name Class) s) → Fails e (reading inner heading s)
+pub heading_fails : (e : ReadRefusal) (s : List Token) → Fails e (reading inner (name Class) s) → Fails e (reading inner heading s)
 heading_fails e s h = subst (λ (r : Read (List Word × Word)). Fails e r) (sym (heading_is s)) (fails_before e (reading inner (name Class) s) (λ a. headed_so_far [] a.0 (many_of (name Class) a.1)) h)
 
 names_step : (s : List Token) → many_of (name Class) s ≡ cond (starts (names Class) s) (reading inner (name Class) s >>= λ a. many_of (name Class) a.1 >>= applied (λ (more : List Word). a.0 ∷ more)) (Ok ([], s))
@@ -41,17 +40,17 @@ heading_goes_on old last s next after total new e t r before =
     go (Ok x) = refl
     go (Err d) = refl
 
-pub heading_stops : (e : ReadError) (old : List Word) (last : Word) (s : List Token) (total : Read (List Word × Word)) → starts (names Class) s ≡ true → Fails e (reading inner (name Class) s) → headed_so_far old last (many_of (name Class) s) ≡ total → Fails e total
+pub heading_stops : (e : ReadRefusal) (old : List Word) (last : Word) (s : List Token) (total : Read (List Word × Word)) → starts (names Class) s ≡ true → Fails e (reading inner (name Class) s) → headed_so_far old last (many_of (name Class) s) ≡ total → Fails e total
 unfolding headed_so_far
-heading_stops errors.Memory old last s total t f before = tt
-heading_stops (errors.Fault n c) old last s total t f before = sym before ∙ (ap (λ (q : Read (List Word)). headed_so_far old last q) (names_step s) ∙ rw (t, f) refl)
+heading_stops errors.OutOfMemory old last s total t f before = tt
+heading_stops (errors.Fault x) old last s total t f before = sym before ∙ (ap (λ (q : Read (List Word)). headed_so_far old last q) (names_step s) ∙ rw (t, f) refl)
 
 pub heading_ends : (old : List Word) (last : Word) (s : List Token) (total : Read (List Word × Word)) → starts (names Class) s ≡ false → headed_so_far old last (many_of (name Class) s) ≡ total → total ≡ Ok ((old, last), s)
 unfolding headed_so_far
 heading_ends old last s total t before = sym before ∙ (ap (λ (q : Read (List Word)). headed_so_far old last q) (names_step s) ∙ rw t refl)
 
 pub name_shrinks_tokens : (s : List Token) (w : Word) (next : List Token) → reading inner (name Class) s ≡ Ok (w, next) → length next < length s
-name_shrinks_tokens s w next e = (run_shrinks (name_at inner) (name_shrinks inner) (name Class) s (w, next) e).1 refl
+name_shrinks_tokens s w next e = (run_shrinks (nonterminal_at inner) (nonterminal_shrinks inner) (name Class) s (w, next) e).1 refl
 
 abbrev jdf_with : List Word → ClassTree → Jdf
 jdf_with globals class = record { globals = globals; class = class }

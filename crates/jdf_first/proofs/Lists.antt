@@ -5,13 +5,12 @@ use Rattle.std.proofs.lemmas.List.{append-nil, length-append}
 use Rattle.std.proofs.lemmas.Bool.Decides.{nat_tests}
 use Rattle.jdf_lex.specs.declared.token.Token.{Token}
 use Rattle.grammar_core.specs.declared.code.Code.TheVariants.{TooManyDeps}
-use Rattle.grammar_core.specs.declared.sort.Sort.{Sort}
-use Rattle.grammar_core.specs.declared.fault.ReadError.{ReadError}
-use Rattle.grammar_core.specs.declared.fault.ReadError.TheVariants as errors
-use Rattle.grammar_core.specs.Form.{Form, star, pick}
-use Rattle.grammar_core.specs.Reading.{◌>>=◌, Read, may_be_empty, first, starts, picks, refuse, many_at, name_at, reading}
-use Rattle.grammar_core.specs.Gives.{Fails}
-use Rattle.grammar_core.proofs.Fuel.{name_shrinks, run_shrinks, many_is}
+use Rattle.grammar_core.specs.declared.terminal.Terminal.{Terminal}
+use Rattle.ptg_base.specs.declared.refusal.Refusal.TheVariants as errors
+use Rattle.grammar_core.specs.Production.{Production, star, pick}
+use Rattle.grammar_core.specs.Reading.{◌>>=◌, Read, may_be_empty, first, starts, picks, refuse, many_at, nonterminal_at, reading}
+use Rattle.grammar_core.specs.Returns.{ReadRefusal, Fails}
+use Rattle.grammar_core.proofs.Fuel.{nonterminal_shrinks, run_shrinks, many_is}
 use Rattle.jdf_first.specs.declared.part.Part.{Part}
 use Rattle.jdf_first.specs.declared.part.Part.TheVariants.{Body}
 use Rattle.jdf_first.specs.declared.tree.DepTree.{DepTree}
@@ -24,8 +23,8 @@ use Rattle.jdf_first.proofs.Loops.{applied, regroup, many_of, many_of_is}
 unfoldable pub so_far : {A : Type 0} → List A → Read (List A) → Read (List A)
 so_far front read = read >>= applied (λ xs. front ++ xs)
 
--- what a list is made of: each begins with one of these sorts
-pub record IsListed {A : Type 0} (g : Form Part TreeOf A) (f : Sort → Bool) : Type 0 where
+-- what a list is made of: each begins with one of these terminals
+pub record IsListed {A : Type 0} (g : Production Part TreeOf A) (f : Terminal → Bool) : Type 0 where
   pub full : may_be_empty g ≡ false
   pub begins : (s : List Token) → starts (first g) s ≡ starts f s
 
@@ -40,29 +39,29 @@ unfolding so_far
 one_more {A} front x (Ok y) = ap (λ (l : List A). Ok (l, y.1)) (sym (append_assoc front (x ∷ []) y.0))
 one_more front x (Err d) = refl
 
-pub star_begins : {A : Type 0} (g : Form Part TreeOf A) (s : List Token) → so_far [] (many_of g s) ≡ reading inner (star any g) s
+pub star_begins : {A : Type 0} (g : Production Part TreeOf A) (s : List Token) → so_far [] (many_of g s) ≡ reading inner (star any g) s
 unfolding many_of
 star_begins g s = so_far_nothing (many_of g s)
 
-pub list_goes_on : {A : Type 0} {g : Form Part TreeOf A} {f : Sort → Bool} (front : List A) (s : List Token) (x : A) (next : List Token) (total : Read (List A)) → IsListed g f → starts f s ≡ true → reading inner g s ≡ Ok (x, next)
+pub list_goes_on : {A : Type 0} {g : Production Part TreeOf A} {f : Terminal → Bool} (front : List A) (s : List Token) (x : A) (next : List Token) (total : Read (List A)) → IsListed g f → starts f s ≡ true → reading inner g s ≡ Ok (x, next)
     → so_far front (many_of g s) ≡ total → so_far (front ++ x ∷ []) (many_of g next) ≡ total
 list_goes_on {A} {g} {f} front s x next total l t e before =
     sym (ap (λ (r : Read (List A)). so_far front r) (many_of_is g l.full s) ∙ rw (l.begins s, t, e) (one_more front x (many_of g next))) ∙ before
 
 -- the same of the values of a row
-pub row_goes_on : {A : Type 0} {g : Form Part TreeOf A} {f : Sort → Bool} (old : List A) (s : List Token) (x : A) (next : List Token) (total : Read (List A)) (new : List A) → IsListed g f → new ≡ old ++ x ∷ [] → starts f s ≡ true → reading inner g s ≡ Ok (x, next)
+pub row_goes_on : {A : Type 0} {g : Production Part TreeOf A} {f : Terminal → Bool} (old : List A) (s : List Token) (x : A) (next : List Token) (total : Read (List A)) (new : List A) → IsListed g f → new ≡ old ++ x ∷ [] → starts f s ≡ true → reading inner g s ≡ Ok (x, next)
     → so_far old (many_of g s) ≡ total → so_far new (many_of g next) ≡ total
 row_goes_on {g = g} old s x next total new l e t h before = rw e (list_goes_on {g = g} old s x next total l t h before)
 
-pub list_shrinks : {A : Type 0} {g : Form Part TreeOf A} {f : Sort → Bool} (s : List Token) (x : A) (next : List Token) → IsListed g f → reading inner g s ≡ Ok (x, next) → length next < length s
-list_shrinks {g = g} s x next l e = (run_shrinks (name_at inner) (name_shrinks inner) g s (x, next) e).1 l.full
+pub list_shrinks : {A : Type 0} {g : Production Part TreeOf A} {f : Terminal → Bool} (s : List Token) (x : A) (next : List Token) → IsListed g f → reading inner g s ≡ Ok (x, next) → length next < length s
+list_shrinks {g = g} s x next l e = (run_shrinks (nonterminal_at inner) (nonterminal_shrinks inner) g s (x, next) e).1 l.full
 
-pub list_fails : {A : Type 0} {g : Form Part TreeOf A} {f : Sort → Bool} (e : ReadError) (front : List A) (s : List Token) (total : Read (List A)) → IsListed g f → starts f s ≡ true → Fails e (reading inner g s) → so_far front (many_of g s) ≡ total → Fails e total
+pub list_fails : {A : Type 0} {g : Production Part TreeOf A} {f : Terminal → Bool} (e : ReadRefusal) (front : List A) (s : List Token) (total : Read (List A)) → IsListed g f → starts f s ≡ true → Fails e (reading inner g s) → so_far front (many_of g s) ≡ total → Fails e total
 unfolding so_far
-list_fails errors.Memory front s total l t h before = tt
-list_fails {A} {g} {f} (errors.Fault n c) front s total l t h before = sym before ∙ (ap (λ (r : Read (List A)). so_far front r) (many_of_is g l.full s) ∙ rw (l.begins s, t, h) refl)
+list_fails errors.OutOfMemory front s total l t h before = tt
+list_fails {A} {g} {f} (errors.Fault x) front s total l t h before = sym before ∙ (ap (λ (r : Read (List A)). so_far front r) (many_of_is g l.full s) ∙ rw (l.begins s, t, h) refl)
 
-pub list_ends : {A : Type 0} {g : Form Part TreeOf A} {f : Sort → Bool} (front : List A) (s : List Token) (total : Read (List A)) → IsListed g f → starts f s ≡ false → so_far front (many_of g s) ≡ total → total ≡ Ok (front, s)
+pub list_ends : {A : Type 0} {g : Production Part TreeOf A} {f : Terminal → Bool} (front : List A) (s : List Token) (total : Read (List A)) → IsListed g f → starts f s ≡ false → so_far front (many_of g s) ≡ total → total ≡ Ok (front, s)
 unfolding so_far
 list_ends {A} {g} {f} front s total l t before = sym before ∙ (ap (λ (r : Read (List A)). so_far front r) (many_of_is g l.full s) ∙ rw (l.begins s, t) (ap (λ (l : List A). Ok (l, s)) (append-nil front)))
 
@@ -78,7 +77,7 @@ deps_from i s = many_at too_many_deps (first dep) (reading inner dep) i (length 
 
 dep_moves : (s : List Token) (x : DepTree × List Token) → reading inner dep s ≡ Ok x → length x.1 < length s
 unfolding dep arrow
-dep_moves s x e = (run_shrinks (name_at inner) (name_shrinks inner) dep s x e).1 refl
+dep_moves s x e = (run_shrinks (nonterminal_at inner) (nonterminal_shrinks inner) dep s x e).1 refl
 
 pub dep_shrinks : (s : List Token) (x : DepTree) (next : List Token) → reading inner dep s ≡ Ok (x, next) → length next < length s
 dep_shrinks s x next e = dep_moves s (x, next) e
@@ -109,10 +108,10 @@ deps_go_on old s x next total new e h t r before =
     ap (λ (q : Read (List DepTree)). so_far old q) (deps_step (length old) s) ∙ rw (t, few (length old) h, r, n, e) (one_more old x (deps_from (suc (length old)) next)) in
     sym one ∙ before
 
-pub deps_fail : (e : ReadError) (old : List DepTree) (s : List Token) (total : Read (List DepTree)) → length old < 16 → starts is_arrow s ≡ true → Fails e (reading inner dep s) → so_far old (deps_from (length old) s) ≡ total → Fails e total
+pub deps_fail : (e : ReadRefusal) (old : List DepTree) (s : List Token) (total : Read (List DepTree)) → length old < 16 → starts is_arrow s ≡ true → Fails e (reading inner dep s) → so_far old (deps_from (length old) s) ≡ total → Fails e total
 unfolding so_far
-deps_fail errors.Memory old s total h t f before = tt
-deps_fail (errors.Fault n c) old s total h t f before = sym before ∙ (ap (λ (q : Read (List DepTree)). so_far old q) (deps_step (length old) s) ∙ rw (t, few (length old) h, f) refl)
+deps_fail errors.OutOfMemory old s total h t f before = tt
+deps_fail (errors.Fault x) old s total h t f before = sym before ∙ (ap (λ (q : Read (List DepTree)). so_far old q) (deps_step (length old) s) ∙ rw (t, few (length old) h, f) refl)
 
 pub deps_full : (old : List DepTree) (s : List Token) (total : Read (List DepTree)) → length old ≡ 16 → starts is_arrow s ≡ true → so_far old (deps_from (length old) s) ≡ total → total ≡ Err (length s, TooManyDeps)
 unfolding so_far

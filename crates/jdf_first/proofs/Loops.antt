@@ -3,15 +3,14 @@ use Rattle.std.proofs.Common.{◌≡◌, ℕ, zero, suc, ◌<◌, ◌≤◌, Boo
 use Rattle.std.specs.Prelude.{Option, Some, None}
 use Rattle.jdf_lex.specs.declared.token.Token.{Token}
 use Rattle.term_core.specs.declared.operator.BinOp.{BinOp}
-use Rattle.grammar_core.specs.declared.sort.Sort.{Sort}
-use Rattle.grammar_core.specs.declared.sort.Sort.TheVariants as sort
-use Rattle.grammar_core.specs.Sorts.{is}
-use Rattle.grammar_core.specs.declared.fault.ReadError.{ReadError}
-use Rattle.grammar_core.specs.declared.fault.ReadError.TheVariants as errors
-use Rattle.grammar_core.specs.Form.{Form, one_of, seq, map, opt, star}
-use Rattle.grammar_core.specs.Reading.{Stop, ◌>>=◌, Read, may_be_empty, first, starts, token_at, many_at, name_at, reading}
-use Rattle.grammar_core.specs.Gives.{Fails}
-use Rattle.grammar_core.proofs.Fuel.{name_shrinks, run_shrinks, many_is}
+use Rattle.grammar_core.specs.declared.terminal.Terminal.{Terminal}
+use Rattle.grammar_core.specs.declared.terminal.Terminal.TheVariants as terminal
+use Rattle.grammar_core.specs.Terminals.{is}
+use Rattle.ptg_base.specs.declared.refusal.Refusal.TheVariants as errors
+use Rattle.grammar_core.specs.Production.{Production, one_of, seq, map, opt, star}
+use Rattle.grammar_core.specs.Reading.{FaultFromEnd, ◌>>=◌, Read, may_be_empty, first, starts, token_at, many_at, nonterminal_at, reading}
+use Rattle.grammar_core.specs.Returns.{ReadRefusal, Fails}
+use Rattle.grammar_core.proofs.Fuel.{nonterminal_shrinks, run_shrinks, many_is}
 use Rattle.jdf_first.specs.declared.part.Part.{Part}
 use Rattle.jdf_first.specs.declared.part.Part.TheVariants.{Class, Body}
 use Rattle.jdf_first.specs.declared.part.Rank.{Rank}
@@ -21,14 +20,14 @@ use Rattle.jdf_first.specs.Grammar.{TreeOf, inner, any, names, name, number, par
 use Rattle.jdf_first.specs.Ranks.{operators_of, operand_of, of_rank}
 
 -- what is left is no longer than what there was
-pub reading_shrinks : {A : Type 0} (g : Form Part TreeOf A) (s : List Token) (t : A) (r : List Token) → reading inner g s ≡ Ok (t, r) → length r ≤ length s
-reading_shrinks g s t r e = (run_shrinks (name_at inner) (name_shrinks inner) g s (t, r) e).0
+pub reading_shrinks : {A : Type 0} (g : Production Part TreeOf A) (s : List Token) (t : A) (r : List Token) → reading inner g s ≡ Ok (t, r) → length r ≤ length s
+reading_shrinks g s t r e = (run_shrinks (nonterminal_at inner) (nonterminal_shrinks inner) g s (t, r) e).0
 
-pub token_shrinks : (q : Sort → Bool) (s : List Token) (t : Token) (r : List Token) → token_at q s ≡ Ok (t, r) → length r < length s
-token_shrinks q s t r e = (run_shrinks {N = Part} {Tree = TreeOf} (name_at inner) (name_shrinks inner) (one_of q) s (t, r) e).1 refl
+pub token_shrinks : (q : Terminal → Bool) (s : List Token) (t : Token) (r : List Token) → token_at q s ≡ Ok (t, r) → length r < length s
+token_shrinks q s t r e = (run_shrinks {N = Part} {Tree = TreeOf} (nonterminal_at inner) (nonterminal_shrinks inner) (one_of q) s (t, r) e).1 refl
 
-pub operator_shrinks : (q : Sort → Bool) (s : List Token) (t : BinOp) (r : List Token) → reading inner (map operator_of (one_of q)) s ≡ Ok (t, r) → length r < length s
-operator_shrinks q s t r e = (run_shrinks {N = Part} {Tree = TreeOf} (name_at inner) (name_shrinks inner) (map operator_of (one_of q)) s (t, r) e).1 refl
+pub operator_shrinks : (q : Terminal → Bool) (s : List Token) (t : BinOp) (r : List Token) → reading inner (map operator_of (one_of q)) s ≡ Ok (t, r) → length r < length s
+operator_shrinks q s t r e = (run_shrinks {N = Part} {Tree = TreeOf} (nonterminal_at inner) (nonterminal_shrinks inner) (map operator_of (one_of q)) s (t, r) e).1 refl
 
 abbrev pub pair_with : {A B : Type 0} → A → B × List Token → Read (A × B)
 pair_with a b = Ok ((a, b.0), b.1)
@@ -44,14 +43,14 @@ regroup {A} {B} {C} (Ok a) q f = go (q a.1)
     go (Err e) = refl
 regroup (Err e) q f = refl
 
-pub fails_before : {A B : Type 0} (e : ReadError) (r : Result A Stop) (f : A → Result B Stop) → Fails e r → Fails e (r >>= f)
-fails_before errors.Memory r f h = tt
-fails_before (errors.Fault n c) r f h = rw h refl
+pub fails_before : {A B : Type 0} (e : ReadRefusal) (r : Result A FaultFromEnd) (f : A → Result B FaultFromEnd) → Fails e r → Fails e (r >>= f)
+fails_before errors.OutOfMemory r f h = tt
+fails_before (errors.Fault x) r f h = rw h refl
 
 -- ---- any number of them
 
 -- where none is too many, the number of the first does not matter
-any_index : {A : Type 0} (q : Sort → Bool) (p : List Token → Read A) (n i j : ℕ) (s : List Token) → many_at any q p i n s ≡ many_at any q p j n s
+any_index : {A : Type 0} (q : Terminal → Bool) (p : List Token → Read A) (n i j : ℕ) (s : List Token) → many_at any q p i n s ≡ many_at any q p j n s
 unfolding many_at
 any_index q p zero i j s = refl
 any_index {A} q p (suc n) i j s = ap (λ (r : Read (List A)). cond (starts q s) r (Ok ([], s))) (go (λ t. any_index q p n (suc i) (suc j) t) (p s))
@@ -60,13 +59,13 @@ any_index {A} q p (suc n) i j s = ap (λ (r : Read (List A)). cond (starts q s) 
     go same (Ok a) = ap (λ (m : Read (List A)). m >>= applied (λ (l : List A). a.0 ∷ l)) (same a.1)
     go same (Err e) = refl
 
-unfoldable pub many_of : {A : Type 0} → Form Part TreeOf A → List Token → Read (List A)
+unfoldable pub many_of : {A : Type 0} → Production Part TreeOf A → List Token → Read (List A)
 many_of g s = reading inner (star any g) s
 
-pub many_of_is : {A : Type 0} (g : Form Part TreeOf A) → may_be_empty g ≡ false → (s : List Token) → many_of g s ≡ cond (starts (first g) s) (reading inner g s >>= λ a. many_of g a.1 >>= λ more. Ok (a.0 ∷ more.0, more.1)) (Ok ([], s))
+pub many_of_is : {A : Type 0} (g : Production Part TreeOf A) → may_be_empty g ≡ false → (s : List Token) → many_of g s ≡ cond (starts (first g) s) (reading inner g s >>= λ a. many_of g a.1 >>= λ more. Ok (a.0 ∷ more.0, more.1)) (Ok ([], s))
 unfolding many_of
 many_of_is {A} g full s =
-    many_is any (first g) (reading inner g) (λ s' x e. (run_shrinks (name_at inner) (name_shrinks inner) g s' x e).1 full) 0 s
+    many_is any (first g) (reading inner g) (λ s' x e. (run_shrinks (nonterminal_at inner) (nonterminal_shrinks inner) g s' x e).1 full) 0 s
     ∙ ap (λ (r : Read (List A)). cond (starts (first g) s) r (Ok ([], s))) (go (reading inner g s))
   where
     go : (r : Read A) → (r >>= λ a. many_at any (first g) (reading inner g) 1 (length a.1) a.1 >>= applied (λ (l : List A). a.0 ∷ l)) ≡ (r >>= λ a. many_at any (first g) (reading inner g) 0 (length a.1) a.1 >>= applied (λ (l : List A). a.0 ∷ l))
@@ -75,7 +74,7 @@ many_of_is {A} g full s =
 
 -- ---- operators
 
-abbrev operation : Rank → Part → Form Part TreeOf (BinOp × Expression)
+abbrev operation : Rank → Part → Production Part TreeOf (BinOp × Expression)
 operation rank part = seq (map operator_of (one_of (operators_of rank))) (operand_of rank part)
 
 unfoldable pub tail : Part → Rank → List Token → Read (List (BinOp × Expression))
@@ -116,14 +115,14 @@ pub loop_goes_on : (part : Part) (rank : Rank) (left : Expression) (s : List Tok
     → reading inner (operand_of rank part) after ≡ Ok (right, next) → joined left (tail part rank s) ≡ total → joined (Binary o left right) (tail part rank next) ≡ total
 loop_goes_on part rank left s o after right next total t e so_far = sym (tail_goes_on part rank left s o after t.0 t.1 ∙ rw e refl) ∙ so_far
 
-pub loop_fails : (e : ReadError) (part : Part) (rank : Rank) (left : Expression) (s : List Token) (o : BinOp) (after : List Token) (total : Read Expression) → (starts (operators_of rank) s ≡ true) × (reading inner (map operator_of (one_of (operators_of rank))) s ≡ Ok (o, after))
+pub loop_fails : (e : ReadRefusal) (part : Part) (rank : Rank) (left : Expression) (s : List Token) (o : BinOp) (after : List Token) (total : Read Expression) → (starts (operators_of rank) s ≡ true) × (reading inner (map operator_of (one_of (operators_of rank))) s ≡ Ok (o, after))
     → Fails e (reading inner (operand_of rank part) after) → joined left (tail part rank s) ≡ total → Fails e total
 loop_fails e part rank left s o after total t h so_far =
     subst (λ (r : Read Expression). Fails e r) (sym (tail_goes_on part rank left s o after t.0 t.1) ∙ so_far) (fails_before e (reading inner (operand_of rank part) after) (λ b. joined (Binary o left b.0) (tail part rank b.1)) h)
 
--- ---- where a test is on the first sorts of a form
+-- ---- where a test is on the first terminals of a form
 
-pub atom_reads : (part : Part) (s : List Token) → reading inner (atom part) s ≡ cond (starts (is sort.Number) s) (reading inner number s) (cond (starts (names part) s) (reading inner (reference part) s) (reading inner (parens part) s))
+pub atom_reads : (part : Part) (s : List Token) → reading inner (atom part) s ≡ cond (starts (is terminal.Number) s) (reading inner number s) (cond (starts (names part) s) (reading inner (reference part) s) (reading inner (parens part) s))
 unfolding atom number reference
 atom_reads Class s = refl
 atom_reads Body s = refl
@@ -135,7 +134,7 @@ with_option true (Err e) t w f = refl
 with_option false r t w f = refl
 
 -- a form that another may follow
-pub followed_reads : {A B C : Type 0} (g : Form Part TreeOf B) (h : Form Part TreeOf A) (f : B × Option A → C) (s : List Token)
+pub followed_reads : {A B C : Type 0} (g : Production Part TreeOf B) (h : Production Part TreeOf A) (f : B × Option A → C) (s : List Token)
     → reading inner (map f (seq g (opt h))) s ≡ (reading inner g s >>= λ a. cond (starts (first h) a.1) (reading inner h a.1 >>= applied (λ x. f (a.0, Some x))) (Ok (f (a.0, None), a.1)))
 followed_reads {A} {B} {C} g h f s = regroup (reading inner g s) (reading inner (opt h)) f ∙ go (reading inner g s)
   where
@@ -144,6 +143,6 @@ followed_reads {A} {B} {C} g h f s = regroup (reading inner g s) (reading inner 
     go (Ok a) = with_option (starts (first h) a.1) (reading inner h a.1) a.1 a.0 f
     go (Err e) = refl
 
-pub element_reads : (s : List Token) → reading inner (reference Body) s ≡ (reading inner (name Body) s >>= λ a. cond (starts (is sort.LeftBracket) a.1) (reading inner index a.1 >>= applied (λ i. Elem a.0 i)) (Ok (Name a.0, a.1)))
+pub element_reads : (s : List Token) → reading inner (reference Body) s ≡ (reading inner (name Body) s >>= λ a. cond (starts (is terminal.LeftBracket) a.1) (reading inner index a.1 >>= applied (λ i. Elem a.0 i)) (Ok (Name a.0, a.1)))
 unfolding reference index
 element_reads s = followed_reads (name Body) index named s

@@ -7,9 +7,10 @@ use Rattle.jdf_lex.specs.declared.token.Token.{Token}
 use Rattle.grammar_core.specs.declared.code.Code.{Code}
 use Rattle.grammar_core.specs.declared.code.Code.TheVariants.{ExprTooLong}
 use Rattle.grammar_core.specs.Counted.{expression_limit}
-use Rattle.grammar_core.specs.Form.{Spells, Derived}
-use Rattle.grammar_core.specs.Reading.{Stop, Read, judge, reading}
-use Rattle.grammar_core.proofs.Sound.{Sound, window_ok, window_err, window_long}
+use Rattle.grammar_core.specs.Production.{Derives, Derived}
+use Rattle.grammar_core.specs.Reading.{FaultFromEnd, Read, judge, reading}
+use Rattle.grammar_core.proofs.Sound.{Sound}
+use Rattle.grammar_core.proofs.Windows.{window_ok, window_err, window_long}
 use Rattle.grammar_core.proofs.Whole.{sound}
 use Rattle.jdf_first.specs.declared.part.Part.{Part}
 use Rattle.jdf_first.specs.Expression.{Expression}
@@ -17,22 +18,22 @@ use Rattle.jdf_first.specs.Grammar.{inner, claims, expr, outer}
 use Rattle.jdf_first.proofs.Fine.{inner_fine, expr_fine}
 
 module _ (part : Part) where
-  expr_sound : (s : List Token) → Sound (Spells (Derived inner) (expr part)) (reading inner (expr part)) s
+  expr_sound : (s : List Token) → Sound (Derives (Derived inner) (expr part)) (reading inner (expr part)) s
   expr_sound s = sound inner claims inner_fine (expr part) (expr_fine part) s
 
   module _ (w v : List Token) (wide : length w ≡ suc (expression_limit.at (w ++ v))) where
     pub outer_ok : (t : Expression) (rest : List Token) → 0 < length rest → reading inner (expr part) w ≡ Ok (t, rest) → reading inner (outer part) (w ++ v) ≡ Ok (t, rest ++ v)
     unfolding outer
-    outer_ok t rest some e = window_ok expression_limit ExprTooLong (Spells (Derived inner) (expr part)) (reading inner (expr part)) expr_sound (w ++ v) w v refl wide t rest some e
+    outer_ok t rest some e = window_ok expression_limit ExprTooLong (Derives (Derived inner) (expr part)) (reading inner (expr part)) expr_sound (w ++ v) w v refl wide t rest some e
 
     pub outer_err : (n : ℕ) (c : Code) → 0 < n → reading inner (expr part) w ≡ Err (n, c) → reading inner (outer part) (w ++ v) ≡ Err (n + length v, c)
     unfolding outer
-    outer_err n c some e = window_err expression_limit ExprTooLong (Spells (Derived inner) (expr part)) (reading inner (expr part)) expr_sound (w ++ v) w v refl wide (n, c) some e
+    outer_err n c some e = window_err expression_limit ExprTooLong (Derives (Derived inner) (expr part)) (reading inner (expr part)) expr_sound (w ++ v) w v refl wide (n, c) some e
 
-    pub outer_long : ((t : Expression) (rest : List Token) → 0 < length rest → reading inner (expr part) w ≡ Ok (t, rest) → ⊥) → ((n : Stop) → 0 < n.0 → reading inner (expr part) w ≡ Err n → ⊥)
+    pub outer_long : ((t : Expression) (rest : List Token) → 0 < length rest → reading inner (expr part) w ≡ Ok (t, rest) → ⊥) → ((n : FaultFromEnd) → 0 < n.0 → reading inner (expr part) w ≡ Err n → ⊥)
         → reading inner (outer part) (w ++ v) ≡ Err (length (w ++ v) - expression_limit.at (w ++ v), ExprTooLong)
     unfolding outer
-    outer_long a b = window_long expression_limit ExprTooLong (Spells (Derived inner) (expr part)) (reading inner (expr part)) expr_sound (w ++ v) w v refl wide a b
+    outer_long a b = window_long expression_limit ExprTooLong (Derives (Derived inner) (expr part)) (reading inner (expr part)) expr_sound (w ++ v) w v refl wide a b
 
   pub outer_short : (s : List Token) → length s ≤ expression_limit.at s → reading inner (outer part) s ≡ reading inner (expr part) s
   unfolding outer
@@ -44,13 +45,13 @@ module _ (part : Part) where
 
   pub expr_within : (s : List Token) (n : ℕ) (c : Code) → reading inner (expr part) s ≡ Err (n, c) → n ≤ length s
   expr_within s n c e =
-      let k = (expr_sound s).stopped (n, c) e in
+      let k = (expr_sound s).faulted (n, c) e in
       omega (arith, k.left, ap (λ (l : List Token). length l) k.parts, length-append k.word k.rest)
 
   -- the rest of a window, with what is behind it
   pub rest_is : (w v : List Token) (t : Expression) (rest : List Token) → reading inner (expr part) w ≡ Ok (t, rest) → drop (length w - length rest) (w ++ v) ≡ rest ++ v
   rest_is w v t rest e =
-      let k = (expr_sound w).took (t, rest) e in
+      let k = (expr_sound w).accepted (t, rest) e in
       let n : length k.word ≡ length w - length rest = omega (arith, ap (λ (l : List Token). length l) k.parts, length-append k.word rest) in
       ap (λ (l : List Token). drop (length w - length rest) (l ++ v)) k.parts ∙ ap (λ (l : List Token). drop (length w - length rest) l) (append_assoc k.word rest v) ∙ drop_at k.word (rest ++ v) (length w - length rest) n
 
@@ -78,7 +79,7 @@ module _ (part : Part) where
     pub outer_fault : (n : ℕ) (c : Code) → 0 < n → reading inner (expr part) w ≡ Err (n, c) → reading inner (outer part) s ≡ Err (n + length v, c)
     outer_fault n c some e = ap (reading inner (outer part)) parts ∙ outer_err w v wide n c some e
 
-    pub outer_cut : ((t : Expression) (rest : List Token) → 0 < length rest → reading inner (expr part) w ≡ Ok (t, rest) → ⊥) → ((n : Stop) → 0 < n.0 → reading inner (expr part) w ≡ Err n → ⊥)
+    pub outer_cut : ((t : Expression) (rest : List Token) → 0 < length rest → reading inner (expr part) w ≡ Ok (t, rest) → ⊥) → ((n : FaultFromEnd) → 0 < n.0 → reading inner (expr part) w ≡ Err n → ⊥)
         → reading inner (outer part) s ≡ Err (length s - limit, ExprTooLong)
     outer_cut a b = ap (reading inner (outer part)) parts ∙ (outer_long w v wide a b ∙ ap (λ (k : ℕ). Err (k, ExprTooLong)) (sym same))
       where

@@ -4,12 +4,12 @@ use Rattle.jdf_lex.specs.declared.token.Spot.{Spot}
 use Rattle.jdf_lex.specs.declared.token.Token.{Token}
 use Rattle.term_core.specs.declared.operator.BinOp.{BinOp}
 use Rattle.term_core.specs.declared.operator.BinOp.TheVariants.{Add, Sub, Eq}
-use Rattle.grammar_core.specs.declared.sort.Sort.{Sort}
-use Rattle.grammar_core.specs.declared.sort.Sort.TheVariants as sort
+use Rattle.grammar_core.specs.declared.terminal.Terminal.{Terminal}
+use Rattle.grammar_core.specs.declared.terminal.Terminal.TheVariants as terminal
 use Rattle.grammar_core.specs.declared.code.Code.{Code}
 use Rattle.grammar_core.specs.declared.code.Code.TheVariants.{BadNumber, ExprTooLong, TooManyDeps}
-use Rattle.grammar_core.specs.Sorts.{sort_of, is}
-use Rattle.grammar_core.specs.Form.{Form, one_of, valued, seq, map, alt, opt, star, pick, behind, limited}
+use Rattle.grammar_core.specs.Terminals.{terminal_of, is}
+use Rattle.grammar_core.specs.Production.{Production, one_of, valued, seq, map, alt, opt, star, pick, after_token, limited}
 use Rattle.grammar_core.specs.Counted.{is_name, expression_limit}
 use Rattle.grammar_core.specs.Predictive.{Claims}
 use Rattle.jdf_first.specs.declared.expression.Word.{Word}
@@ -30,18 +30,18 @@ TreeOf part = Expression
 
 -- a form of text of this grammar
 abbrev pub Grammar : Type 0 → Type 1
-Grammar A = Form Part TreeOf A
+Grammar A = Production Part TreeOf A
 
 -- a word or a mark
-abbrev pub word : Sort → Grammar Token
+abbrev pub word : Terminal → Grammar Token
 word k = one_of (is k)
 
 -- what stands behind a word or a mark
-abbrev pub after : {A : Type 0} → Sort → Grammar A → Grammar A
+abbrev pub after : {A : Type 0} → Terminal → Grammar A → Grammar A
 after k g = map (λ x. x.1) (seq (word k) g)
 
 -- what stands before a word or a mark
-abbrev pub before : {A : Type 0} → Sort → Grammar A → Grammar A
+abbrev pub before : {A : Type 0} → Terminal → Grammar A → Grammar A
 before k g = map (λ x. x.0) (seq g (word k))
 
 -- any number of them
@@ -49,9 +49,9 @@ abbrev pub any : ℕ → Option Code
 any i = None
 
 -- The words that are names: no reserved one, and in a body none of int, if, else, for and trap either.
-abbrev pub names : Part → Sort → Bool
+abbrev pub names : Part → Terminal → Bool
 names Class k = is_name k
-names Body k = is sort.Name k || is sort.TypeWord k
+names Body k = is terminal.Name k || is terminal.TypeWord k
 
 -- the name that a token is
 abbrev pub word_of : Token → Word
@@ -71,19 +71,19 @@ is_good x = is_number x.text
 
 -- number = Number, which has to be a decimal number that fits
 unfoldable pub number : Grammar Expression
-number = map number_at (valued (is sort.Number) is_good BadNumber)
+number = map number_at (valued (is terminal.Number) is_good BadNumber)
 
 -- an expression behind a word or a mark
-abbrev pub inside : Sort → Part → Grammar Expression
-inside k part = map (λ x. x.1) (behind (is k) part)
+abbrev pub inside : Terminal → Part → Grammar Expression
+inside k part = map (λ x. x.1) (after_token (is k) part)
 
 -- parens = "(" expr ")"
 unfoldable pub parens : Part → Grammar Expression
-parens part = before sort.RightParen (inside sort.LeftParen part)
+parens part = before terminal.RightParen (inside terminal.LeftParen part)
 
 -- index = "[" expr "]"
 unfoldable pub index : Grammar Expression
-index = before sort.RightBracket (inside sort.LeftBracket Body)
+index = before terminal.RightBracket (inside terminal.LeftBracket Body)
 
 -- a name alone, or an element of a flow
 abbrev pub named : Word × Option Expression → Expression
@@ -100,14 +100,14 @@ unfoldable pub atom : Part → Grammar Expression
 atom part = alt number (alt (reference part) (parens part))
 
 -- the operator of a mark, where the mark is one of the three
-abbrev pub operator_by : Sort → BinOp
-operator_by sort.Plus = Add
-operator_by sort.Minus = Sub
+abbrev pub operator_by : Terminal → BinOp
+operator_by terminal.Plus = Add
+operator_by terminal.Minus = Sub
 operator_by _ = Eq
 
 -- the operator that a token is
 abbrev pub operator_of : Token → BinOp
-operator_of x = operator_by (sort_of x)
+operator_of x = operator_by (terminal_of x)
 
 -- operators group to the left
 abbrev pub grouped : Expression → List (BinOp × Expression) → Expression
@@ -115,12 +115,12 @@ grouped a [] = a
 grouped a (x ∷ xs) = grouped (Binary x.0 a x.1) xs
 
 -- operands with operators between them
-abbrev pub ranked : (Sort → Bool) → Grammar Expression → Grammar Expression
+abbrev pub ranked : (Terminal → Bool) → Grammar Expression → Grammar Expression
 ranked ops operand = map (λ x. grouped x.0 x.1) (seq operand (star any (seq (map operator_of (one_of ops)) operand)))
 
 -- the marks of a sum
-abbrev pub is_sum : Sort → Bool
-is_sum k = is sort.Plus k || is sort.Minus k
+abbrev pub is_sum : Terminal → Bool
+is_sum k = is terminal.Plus k || is terminal.Minus k
 
 -- sum = atom (("+" | "-") atom)*
 unfoldable pub sum : Part → Grammar Expression
@@ -128,7 +128,7 @@ sum part = ranked is_sum (atom part)
 
 -- expr = sum ("==" sum)*
 unfoldable pub expr : Part → Grammar Expression
-expr part = ranked (is sort.Equal) (sum part)
+expr part = ranked (is terminal.Equal) (sum part)
 
 -- an outermost expression: at most 512 tokens, and 128 names, numbers, operators and "?"
 unfoldable pub outer : Part → Grammar Expression
@@ -136,7 +136,7 @@ outer part = limited expression_limit ExprTooLong (expr part)
 
 -- call = "(" expr ")"
 unfoldable pub call : Grammar Expression
-call = after sort.LeftParen (before sort.RightParen (outer Class))
+call = after terminal.LeftParen (before terminal.RightParen (outer Class))
 
 -- a name alone is a collection's, and the second of two is a class's
 abbrev pub target_of : Word × (Option Word × Expression) → TargetTree
@@ -157,19 +157,19 @@ unguarded = map (λ x. (None, x, None)) target
 
 -- guarded = expr "?" target (":" target)?
 unfoldable pub guarded : Grammar Choice
-guarded = map (λ x. (Some x.0, x.1.0, x.1.1)) (seq (outer Class) (after sort.Question (seq target (opt (after sort.Colon target)))))
+guarded = map (λ x. (Some x.0, x.1.0, x.1.1)) (seq (outer Class) (after terminal.Question (seq target (opt (after terminal.Colon target)))))
 
 -- the two arrows
-abbrev pub is_arrow : Sort → Bool
-is_arrow k = is sort.Inward k || is sort.Outward k
+abbrev pub is_arrow : Terminal → Bool
+is_arrow k = is terminal.Inward k || is terminal.Outward k
 
 -- arrow = "<-" | "->", and whether it is the first
 unfoldable pub arrow : Grammar Bool
-arrow = map (λ x. is sort.Inward (sort_of x)) (one_of is_arrow)
+arrow = map (λ x. is terminal.Inward (terminal_of x)) (one_of is_arrow)
 
 -- a name before a name or "(" begins a target
-abbrev pub goes_on_target : Sort → Bool
-goes_on_target k = is_name k || is sort.LeftParen k
+abbrev pub goes_on_target : Terminal → Bool
+goes_on_target k = is_name k || is terminal.LeftParen k
 
 -- the dependence of an arrow and what stands behind it
 abbrev pub dep_of : Bool × Choice → DepTree
@@ -191,27 +191,27 @@ deps = star too_many_deps dep
 unfoldable pub stmt : Grammar StmtTree
 stmt =
     map (λ x. record { flow = x.0; index = x.1.0; value = x.1.1 })
-    (seq (name Body) (seq (after sort.LeftBracket (before sort.RightBracket (outer Body))) (after sort.Assign (before sort.Semicolon (outer Body)))))
+    (seq (name Body) (seq (after terminal.LeftBracket (before terminal.RightBracket (outer Body))) (after terminal.Assign (before terminal.Semicolon (outer Body)))))
 
 -- param = "(" name ")"
 unfoldable pub param : Grammar Word
-param = after sort.LeftParen (before sort.RightParen (name Class))
+param = after terminal.LeftParen (before terminal.RightParen (name Class))
 
 -- range = name "=" expr ".." expr
 unfoldable pub range : Grammar (Word × Expression × Expression)
-range = map (λ x. (x.0, x.1.0, x.1.1)) (seq (name Class) (seq (after sort.Assign (outer Class)) (after sort.Dots (outer Class))))
+range = map (λ x. (x.0, x.1.0, x.1.1)) (seq (name Class) (seq (after terminal.Assign (outer Class)) (after terminal.Dots (outer Class))))
 
 -- affinity = ":" name "(" expr ")"
 unfoldable pub affinity : Grammar (Word × Expression)
-affinity = after sort.Colon (seq (name Class) call)
+affinity = after terminal.Colon (seq (name Class) call)
 
 -- flow = RW name dep*
 unfoldable pub flow : Grammar (Word × List DepTree)
-flow = after sort.Rw (seq (name Class) deps)
+flow = after terminal.Rw (seq (name Class) deps)
 
 -- body = BODY stmt* END
 unfoldable pub body : Grammar (List StmtTree × Spot)
-body = after sort.Body (seq (star any stmt) (map (λ x. x.spot) (word sort.End)))
+body = after terminal.Body (seq (star any stmt) (map (λ x. x.spot) (word terminal.End)))
 
 -- what a class is behind its name
 abbrev pub Rest : Type 0
@@ -260,14 +260,14 @@ unfoldable pub inner : (part : Part) → Grammar (TreeOf part)
 inner part = expr part
 
 -- what an expression begins with
-abbrev pub begins_atom : Part → Sort → Bool
-begins_atom part k = is sort.Number k || names part k || is sort.LeftParen k
+abbrev pub begins_atom : Part → Terminal → Bool
+begins_atom part k = is terminal.Number k || names part k || is terminal.LeftParen k
 
 -- what an expression goes on with
-abbrev pub goes_on_expr : Part → Sort → Bool
-goes_on_expr Class k = is_sum k || is sort.Equal k
-goes_on_expr Body k = is_sum k || is sort.Equal k || is sort.LeftBracket k
+abbrev pub goes_on_expr : Part → Terminal → Bool
+goes_on_expr Class k = is_sum k || is terminal.Equal k
+goes_on_expr Body k = is_sum k || is terminal.Equal k || is terminal.LeftBracket k
 
 -- both, for what recurs
 abbrev pub claims : Claims Part
-claims = record { firsts = begins_atom; goes_on = goes_on_expr }
+claims = record { firsts = begins_atom; continues = goes_on_expr }

@@ -4,7 +4,7 @@ use Rattle.std.specs.Str.{IsUtf8}
 use Rattle.jdf_lex.specs.declared.token.Spot.{Spot}
 use Rattle.jdf_lex.specs.declared.token.Token.{Token}
 use Rattle.jdf_lex.specs.Tokens.{IsLexed}
-use Rattle.grammar_core.specs.Form.{IsText}
+use Rattle.grammar_core.specs.Production.{IsText}
 use Rattle.jdf_first.specs.declared.tree.Jdf.{Jdf}
 use Rattle.jdf_first.specs.Grammar.{inner, file}
 use Rattle.jdf_first.specs.Plain.{is_plain}

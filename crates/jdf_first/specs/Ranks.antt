@@ -1,9 +1,9 @@
 -- What the readers of the code test and read.
 use Rattle.std.specs.Prelude.{Bool, false, ◌&&◌, ◌||◌, List, [], ◌∷◌}
 use Rattle.jdf_lex.specs.declared.token.Token.{Token}
-use Rattle.grammar_core.specs.declared.sort.Sort.{Sort}
-use Rattle.grammar_core.specs.declared.sort.Sort.TheVariants as sort
-use Rattle.grammar_core.specs.Sorts.{is, sort_of}
+use Rattle.grammar_core.specs.declared.terminal.Terminal.{Terminal}
+use Rattle.grammar_core.specs.declared.terminal.Terminal.TheVariants as terminal
+use Rattle.grammar_core.specs.Terminals.{is, terminal_of}
 use Rattle.grammar_core.specs.Counted.{is_name}
 use Rattle.grammar_core.specs.Reading.{starts}
 use Rattle.jdf_first.specs.declared.part.Part.{Part}
@@ -13,8 +13,8 @@ use Rattle.jdf_first.specs.Expression.{Expression}
 use Rattle.jdf_first.specs.Grammar.{Grammar, atom, sum, expr, is_sum}
 
 -- the marks of the operators of a rank
-abbrev pub operators_of : Rank → Sort → Bool
-operators_of Equal k = is sort.Equal k
+abbrev pub operators_of : Rank → Terminal → Bool
+operators_of Equal k = is terminal.Equal k
 operators_of Sum k = is_sum k
 
 -- what stands between the operators of a rank
@@ -30,4 +30,4 @@ of_rank Sum part = sum part
 -- does a target come next, and no guard: a name before a name or "("
 abbrev pub is_target : List Token → Bool
 is_target [] = false
-is_target (x ∷ s) = is_name (sort_of x) && (starts is_name s || starts (is sort.LeftParen) s)
+is_target (x ∷ s) = is_name (terminal_of x) && (starts is_name s || starts (is terminal.LeftParen) s)

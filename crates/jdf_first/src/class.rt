@@ -1,7 +1,7 @@
 //! Task classes.
 
 ghost use Rattle.std.specs.Prelude.{◌≡◌};
-ghost use Rattle.grammar_core.specs.Gives.{Gives};
+ghost use Rattle.grammar_core.specs.Returns.{Returns};
 ghost use Rattle.grammar_core.specs.Reading.{reading};
 ghost use Rattle.jdf_first.specs.Grammar.{inner, param, range, affinity, flow, body, class_named, heading, file};
 
@@ -12,19 +12,19 @@ use crate::operators::outer;
 use crate::part::Part;
 use crate::statement::stmts;
 use crate::tree::{ClassTree, DepTree, Jdf, StmtTree};
-use grammar_core::{ReadError, Sort, expect};
+use grammar_core::{ReadRefusal, Terminal, expect};
 use jdf_lex::{Spot, Token};
-use ptg_base::Row;
+use ptg_base::Seq;
 use std::alloc::Global;
 
 // `"(" name ")"`
 #[tactic(auto, unfolding(crate::specs::Grammar::param))]
-fn param(alloc: Global, tokens: &[Token]) -> Result<(Word, &[Token]), ReadError>
-    ensures { Gives (λ x. (x.0, x.1.now)) result (reading inner param tokens.now) }
+fn param(alloc: Global, tokens: &[Token]) -> Result<(Word, &[Token]), ReadRefusal>
+    ensures { Returns (λ x. (x.0, x.1.now)) result (reading inner param tokens.now) }
 {
-    let (_, rest) = expect(tokens, Sort::LeftParen)?;
+    let (_, rest) = expect(tokens, Terminal::LeftParen)?;
     let (param, rest) = name(alloc, Part::Class, rest)?;
-    let (_, rest) = expect(rest, Sort::RightParen)?;
+    let (_, rest) = expect(rest, Terminal::RightParen)?;
     Ok((param, rest))
 }
 
@@ -33,23 +33,23 @@ fn param(alloc: Global, tokens: &[Token]) -> Result<(Word, &[Token]), ReadError>
 fn range(
     alloc: Global,
     tokens: &[Token],
-) -> Result<((Word, ExprTree, ExprTree), &[Token]), ReadError>
-    ensures { Gives (λ x. (x.0, x.1.now)) result (reading inner range tokens.now) }
+) -> Result<((Word, ExprTree, ExprTree), &[Token]), ReadRefusal>
+    ensures { Returns (λ x. (x.0, x.1.now)) result (reading inner range tokens.now) }
 {
     let (local, rest) = name(alloc, Part::Class, tokens)?;
-    let (_, rest) = expect(rest, Sort::Assign)?;
+    let (_, rest) = expect(rest, Terminal::Assign)?;
     let (low, rest) = outer(alloc, Part::Class, rest)?;
-    let (_, rest) = expect(rest, Sort::Dots)?;
+    let (_, rest) = expect(rest, Terminal::Dots)?;
     let (high, rest) = outer(alloc, Part::Class, rest)?;
     Ok(((local, low, high), rest))
 }
 
 // `":" name "(" expr ")"`
 #[tactic(auto, unfolding(crate::specs::Grammar::affinity))]
-fn affinity(alloc: Global, tokens: &[Token]) -> Result<((Word, ExprTree), &[Token]), ReadError>
-    ensures { Gives (λ x. (x.0, x.1.now)) result (reading inner affinity tokens.now) }
+fn affinity(alloc: Global, tokens: &[Token]) -> Result<((Word, ExprTree), &[Token]), ReadRefusal>
+    ensures { Returns (λ x. (x.0, x.1.now)) result (reading inner affinity tokens.now) }
 {
-    let (_, rest) = expect(tokens, Sort::Colon)?;
+    let (_, rest) = expect(tokens, Terminal::Colon)?;
     let (collection, rest) = name(alloc, Part::Class, rest)?;
     let (argument, rest) = call(alloc, rest)?;
     Ok(((collection, argument), rest))
@@ -57,10 +57,10 @@ fn affinity(alloc: Global, tokens: &[Token]) -> Result<((Word, ExprTree), &[Toke
 
 // `RW name dep*`
 #[tactic(auto, unfolding(crate::specs::Grammar::flow))]
-fn flow(alloc: Global, tokens: &[Token]) -> Result<((Word, Row<DepTree>), &[Token]), ReadError>
-    ensures { Gives (λ x. (x.0, x.1.now)) result (reading inner flow tokens.now) }
+fn flow(alloc: Global, tokens: &[Token]) -> Result<((Word, Seq<DepTree>), &[Token]), ReadRefusal>
+    ensures { Returns (λ x. (x.0, x.1.now)) result (reading inner flow tokens.now) }
 {
-    let (_, rest) = expect(tokens, Sort::Rw)?;
+    let (_, rest) = expect(tokens, Terminal::Rw)?;
     let (flow, rest) = name(alloc, Part::Class, rest)?;
     let (deps, rest) = deps(alloc, rest)?;
     Ok(((flow, deps), rest))
@@ -68,19 +68,19 @@ fn flow(alloc: Global, tokens: &[Token]) -> Result<((Word, Row<DepTree>), &[Toke
 
 // `BODY stmt* END`, and the place of `END`.
 #[tactic(auto, unfolding(crate::specs::Grammar::body))]
-fn body(alloc: Global, tokens: &[Token]) -> Result<((Row<StmtTree>, Spot), &[Token]), ReadError>
-    ensures { Gives (λ x. (x.0, x.1.now)) result (reading inner body tokens.now) }
+fn body(alloc: Global, tokens: &[Token]) -> Result<((Seq<StmtTree>, Spot), &[Token]), ReadRefusal>
+    ensures { Returns (λ x. (x.0, x.1.now)) result (reading inner body tokens.now) }
 {
-    let (_, rest) = expect(tokens, Sort::Body)?;
+    let (_, rest) = expect(tokens, Terminal::Body)?;
     let (stmts, rest) = stmts(alloc, rest)?;
-    let (end, rest) = expect(rest, Sort::End)?;
+    let (end, rest) = expect(rest, Terminal::End)?;
     Ok(((stmts, end.spot), rest))
 }
 
 // A class behind its name.
 #[tactic(auto, unfolding(crate::specs::Grammar::rest))]
-fn class(alloc: Global, name: Word, tokens: &[Token]) -> Result<(ClassTree, &[Token]), ReadError>
-    ensures { Gives (λ x. (x.0, x.1.now)) result (reading inner (class_named name) tokens.now) }
+fn class(alloc: Global, name: Word, tokens: &[Token]) -> Result<(ClassTree, &[Token]), ReadRefusal>
+    ensures { Returns (λ x. (x.0, x.1.now)) result (reading inner (class_named name) tokens.now) }
 {
     let (param, rest) = param(alloc, tokens)?;
     let ((local, lo, hi), rest) = range(alloc, rest)?;
@@ -107,11 +107,11 @@ fn class(alloc: Global, name: Word, tokens: &[Token]) -> Result<(ClassTree, &[To
 
 // The globals, and the class's name behind them.
 #[tactic(auto, using(crate::proofs::Heading::heading_begins, crate::proofs::Heading::heading_fails, crate::proofs::Heading::heading_goes_on, crate::proofs::Heading::heading_stops, crate::proofs::Heading::heading_ends))]
-fn heading(alloc: Global, tokens: &[Token]) -> Result<((Row<Word>, Word), &[Token]), ReadError>
-    ensures { Gives (λ x. (x.0, x.1.now)) result (reading inner heading tokens.now) }
+fn heading(alloc: Global, tokens: &[Token]) -> Result<((Seq<Word>, Word), &[Token]), ReadRefusal>
+    ensures { Returns (λ x. (x.0, x.1.now)) result (reading inner heading tokens.now) }
 {
     let (mut last, mut rest) = name(alloc, Part::Class, tokens)?;
-    let mut globals = Row::new(alloc);
+    let mut globals = Seq::new(alloc);
     'more: while is_name_next(Part::Class, rest) {
         let (next, after) = name(alloc, Part::Class, rest)?;
         globals.push(last)?;
@@ -123,8 +123,8 @@ fn heading(alloc: Global, tokens: &[Token]) -> Result<((Row<Word>, Word), &[Toke
 
 /// A text.
 #[tactic(auto, using(crate::proofs::Heading::file_reads))]
-pub(crate) fn file(alloc: Global, tokens: &[Token]) -> Result<(Jdf, &[Token]), ReadError>
-    ensures { Gives (λ x. (x.0, x.1.now)) result (reading inner file tokens.now) }
+pub(crate) fn file(alloc: Global, tokens: &[Token]) -> Result<(Jdf, &[Token]), ReadRefusal>
+    ensures { Returns (λ x. (x.0, x.1.now)) result (reading inner file tokens.now) }
 {
     let ((globals, name), rest) = heading(alloc, tokens)?;
     let (class, rest) = class(alloc, name, rest)?;

@@ -1,24 +1,25 @@
 //! Names.
 
 ghost use Rattle.std.specs.Prelude.{◌≡◌, IfOk, OnErr};
-ghost use Rattle.grammar_core.specs.Gives.{Gives};
+ghost use Rattle.grammar_core.specs.Returns.{Returns};
 ghost use Rattle.grammar_core.specs.Reading.{reading, starts};
 ghost use Rattle.jdf_first.specs.Grammar.{inner, name, names, word_of};
 
 use crate::expression::Word;
 use crate::part::Part;
-use grammar_core::{Code, ReadError, Sort};
+use grammar_core::{Code, ReadRefusal, Terminal, refusal_at};
 use jdf_lex::Token;
 use ptg_base::{OutOfMemory, Text};
 use std::alloc::Global;
 
-// Is a token of this sort a name in this part?
-fn is_name(part: Part, sort: Sort) -> bool
-    ensures { result ≡ names part sort }
+// Is a token of this terminal a name in this part?
+fn is_name(part: Part, terminal: Terminal) -> bool
+    ensures { result ≡ names part terminal }
 {
-    match sort {
-        Sort::Name | Sort::TypeWord => true,
-        Sort::Int | Sort::If | Sort::Else | Sort::For | Sort::Trap => part == Part::Class,
+    match terminal {
+        Terminal::Name | Terminal::TypeWord => true,
+        Terminal::Int | Terminal::If | Terminal::Else | Terminal::For | Terminal::Trap => part
+            == Part::Class,
         _ => false,
     }
 }
@@ -29,7 +30,7 @@ pub(crate) fn is_name_next(part: Part, tokens: &[Token]) -> bool
 {
     match tokens.split_first() {
         None => false,
-        Some((first, _)) => is_name(part, Sort::of(first)),
+        Some((first, _)) => is_name(part, Terminal::of(first)),
     }
 }
 
@@ -47,11 +48,14 @@ pub(crate) fn name(
     alloc: Global,
     part: Part,
     tokens: &[Token],
-) -> Result<(Word, &[Token]), ReadError>
-    ensures { Gives (λ x. (x.0, x.1.now)) result (reading inner (name part) tokens.now) }
+) -> Result<(Word, &[Token]), ReadRefusal>
+    ensures { Returns (λ x. (x.0, x.1.now)) result (reading inner (name part) tokens.now) }
 {
     match tokens.split_first() {
-        Some((first, rest)) if is_name(part, Sort::of(first)) => Ok((word_of(alloc, first)?, rest)),
-        _ => Err(ReadError::Fault(tokens.len(), Code::Syntax)),
+        Some((first, rest)) if is_name(part, Terminal::of(first)) => Ok((
+            word_of(alloc, first)?,
+            rest,
+        )),
+        _ => Err(refusal_at(tokens, Code::Syntax)),
     }
 }

@@ -1,13 +1,13 @@
 //! Numbers.
 
 ghost use Rattle.std.specs.Prelude.{◌≡◌, pos, true, false, MatchOption};
-ghost use Rattle.grammar_core.specs.Gives.{Gives};
+ghost use Rattle.grammar_core.specs.Returns.{Returns};
 ghost use Rattle.grammar_core.specs.Reading.{reading};
 ghost use Rattle.jdf_first.specs.Grammar.{inner, number};
 ghost use Rattle.jdf_first.specs.Numbers.{decimal, fits, is_number, has_zero_before};
 
 use crate::expression::ExprTree;
-use grammar_core::{Code, ReadError, Sort, expect};
+use grammar_core::{Code, ReadRefusal, Terminal, expect, refusal_at};
 use jdf_lex::Token;
 
 /// The largest number.
@@ -51,12 +51,12 @@ fn value(text: &[u8]) -> Option<i64>
 
 /// A number, and the rest.
 #[tactic(auto, unfolding(crate::specs::Grammar::number))]
-pub(crate) fn number(tokens: &[Token]) -> Result<(ExprTree, &[Token]), ReadError>
-    ensures { Gives (λ x. (x.0, x.1.now)) result (reading inner number tokens.now) }
+pub(crate) fn number(tokens: &[Token]) -> Result<(ExprTree, &[Token]), ReadRefusal>
+    ensures { Returns (λ x. (x.0, x.1.now)) result (reading inner number tokens.now) }
 {
-    let (token, rest) = expect(tokens, Sort::Number)?;
+    let (token, rest) = expect(tokens, Terminal::Number)?;
     match value(token.text.bytes()) {
         Some(z) => Ok((ExprTree::num(z, token.spot), rest)),
-        None => Err(ReadError::Fault(tokens.len(), Code::BadNumber)),
+        None => Err(refusal_at(tokens, Code::BadNumber)),
     }
 }

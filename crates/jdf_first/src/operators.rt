@@ -1,8 +1,8 @@
 //! Expressions.
 
 ghost use Rattle.std.specs.Prelude.{◌≡◌, MatchOption, Ok, true, false};
-ghost use Rattle.grammar_core.specs.Form.{map, one_of};
-ghost use Rattle.grammar_core.specs.Gives.{Gives};
+ghost use Rattle.grammar_core.specs.Production.{map, one_of};
+ghost use Rattle.grammar_core.specs.Returns.{Returns};
 ghost use Rattle.grammar_core.specs.Reading.{reading, starts};
 ghost use Rattle.jdf_first.specs.Grammar.{inner, index, parens, reference, atom, expr, outer, operator_by, operator_of};
 ghost use Rattle.jdf_first.specs.Ranks.{operators_of, operand_of, of_rank};
@@ -12,41 +12,43 @@ use crate::expression::ExprTree;
 use crate::name::{is_name_next, name};
 use crate::number::number;
 use crate::part::{Part, Rank};
-use grammar_core::{Code, ReadError, Sort, expect, expression_limit, is_next};
+use grammar_core::{
+    Code, ReadFault, ReadRefusal, Terminal, expect, expression_limit, is_next, refusal_at,
+};
 use jdf_lex::Token;
 use std::alloc::Global;
 use term_core::BinOp;
 
 #[cycle(expression)]
 #[tactic(auto, using(crate::proofs::Named::expr_is, crate::proofs::Loops::token_shrinks), unfolding(crate::specs::Grammar::parens))]
-fn parens(alloc: Global, part: Part, tokens: &[Token]) -> Result<(ExprTree, &[Token]), ReadError>
-    ensures { Gives (λ x. (x.0, x.1.now)) result (reading inner (parens part) tokens.now) }
+fn parens(alloc: Global, part: Part, tokens: &[Token]) -> Result<(ExprTree, &[Token]), ReadRefusal>
+    ensures { Returns (λ x. (x.0, x.1.now)) result (reading inner (parens part) tokens.now) }
 {
-    let (_, rest) = expect(tokens, Sort::LeftParen)?;
+    let (_, rest) = expect(tokens, Terminal::LeftParen)?;
     let (inside, rest) = expression(alloc, part, rest)?;
-    let (_, rest) = expect(rest, Sort::RightParen)?;
+    let (_, rest) = expect(rest, Terminal::RightParen)?;
     Ok((inside, rest))
 }
 
 #[cycle(expression)]
 #[tactic(auto, using(crate::proofs::Named::expr_is, crate::proofs::Loops::token_shrinks), unfolding(crate::specs::Grammar::index))]
-fn index(alloc: Global, tokens: &[Token]) -> Result<(ExprTree, &[Token]), ReadError>
-    ensures { Gives (λ x. (x.0, x.1.now)) result (reading inner index tokens.now) }
+fn index(alloc: Global, tokens: &[Token]) -> Result<(ExprTree, &[Token]), ReadRefusal>
+    ensures { Returns (λ x. (x.0, x.1.now)) result (reading inner index tokens.now) }
 {
-    let (_, rest) = expect(tokens, Sort::LeftBracket)?;
+    let (_, rest) = expect(tokens, Terminal::LeftBracket)?;
     let (inside, rest) = expression(alloc, Part::Body, rest)?;
-    let (_, rest) = expect(rest, Sort::RightBracket)?;
+    let (_, rest) = expect(rest, Terminal::RightBracket)?;
     Ok((inside, rest))
 }
 
 // A name in a body, which may be a flow's before an index.
 #[cycle(expression)]
 #[tactic(auto, using(crate::proofs::Loops::element_reads, crate::proofs::Loops::reading_shrinks))]
-fn element(alloc: Global, tokens: &[Token]) -> Result<(ExprTree, &[Token]), ReadError>
-    ensures { Gives (λ x. (x.0, x.1.now)) result (reading inner (reference Body) tokens.now) }
+fn element(alloc: Global, tokens: &[Token]) -> Result<(ExprTree, &[Token]), ReadRefusal>
+    ensures { Returns (λ x. (x.0, x.1.now)) result (reading inner (reference Body) tokens.now) }
 {
     let (name, rest) = name(alloc, Part::Body, tokens)?;
-    if !is_next(rest, Sort::LeftBracket) {
+    if !is_next(rest, Terminal::LeftBracket) {
         return Ok((ExprTree::name(name), rest));
     }
     let (at, rest) = index(alloc, rest)?;
@@ -55,8 +57,12 @@ fn element(alloc: Global, tokens: &[Token]) -> Result<(ExprTree, &[Token]), Read
 
 #[cycle(expression)]
 #[tactic(auto, unfolding(crate::specs::Grammar::reference))]
-fn reference(alloc: Global, part: Part, tokens: &[Token]) -> Result<(ExprTree, &[Token]), ReadError>
-    ensures { Gives (λ x. (x.0, x.1.now)) result (reading inner (reference part) tokens.now) }
+fn reference(
+    alloc: Global,
+    part: Part,
+    tokens: &[Token],
+) -> Result<(ExprTree, &[Token]), ReadRefusal>
+    ensures { Returns (λ x. (x.0, x.1.now)) result (reading inner (reference part) tokens.now) }
 {
     match part {
         Part::Body => element(alloc, tokens),
@@ -69,10 +75,10 @@ fn reference(alloc: Global, part: Part, tokens: &[Token]) -> Result<(ExprTree, &
 
 #[cycle(expression)]
 #[tactic(auto, using(crate::proofs::Loops::atom_reads))]
-fn atom(alloc: Global, part: Part, tokens: &[Token]) -> Result<(ExprTree, &[Token]), ReadError>
-    ensures { Gives (λ x. (x.0, x.1.now)) result (reading inner (atom part) tokens.now) }
+fn atom(alloc: Global, part: Part, tokens: &[Token]) -> Result<(ExprTree, &[Token]), ReadRefusal>
+    ensures { Returns (λ x. (x.0, x.1.now)) result (reading inner (atom part) tokens.now) }
 {
-    if is_next(tokens, Sort::Number) {
+    if is_next(tokens, Terminal::Number) {
         return number(tokens);
     }
     if is_name_next(part, tokens) {
@@ -81,13 +87,13 @@ fn atom(alloc: Global, part: Part, tokens: &[Token]) -> Result<(ExprTree, &[Toke
     parens(alloc, part, tokens)
 }
 
-fn operator(rank: Rank, sort: Sort) -> Option<BinOp>
-    ensures { MatchOption result (operators_of rank sort ≡ false) (λ o. (operators_of rank sort ≡ true) × (o ≡ operator_by sort)) }
+fn operator(rank: Rank, terminal: Terminal) -> Option<BinOp>
+    ensures { MatchOption result (operators_of rank terminal ≡ false) (λ o. (operators_of rank terminal ≡ true) × (o ≡ operator_by terminal)) }
 {
-    match (rank, sort) {
-        (Rank::Sum, Sort::Plus) => Some(BinOp::Add),
-        (Rank::Sum, Sort::Minus) => Some(BinOp::Sub),
-        (Rank::Equal, Sort::Equal) => Some(BinOp::Eq),
+    match (rank, terminal) {
+        (Rank::Sum, Terminal::Plus) => Some(BinOp::Add),
+        (Rank::Sum, Terminal::Minus) => Some(BinOp::Sub),
+        (Rank::Equal, Terminal::Equal) => Some(BinOp::Eq),
         _ => None,
     }
 }
@@ -98,7 +104,7 @@ fn operator_at(rank: Rank, tokens: &[Token]) -> Option<(BinOp, &[Token])>
         (λ x. (starts (operators_of rank) tokens.now ≡ true) × (reading inner (map operator_of (one_of (operators_of rank))) tokens.now ≡ Ok (x.0, x.1.now))) }
 {
     let (first, rest) = tokens.split_first()?;
-    let found = operator(rank, Sort::of(first))?;
+    let found = operator(rank, Terminal::of(first))?;
     Some((found, rest))
 }
 
@@ -108,8 +114,8 @@ fn operand(
     part: Part,
     rank: Rank,
     tokens: &[Token],
-) -> Result<(ExprTree, &[Token]), ReadError>
-    ensures { Gives (λ x. (x.0, x.1.now)) result (reading inner (operand_of rank part) tokens.now) }
+) -> Result<(ExprTree, &[Token]), ReadRefusal>
+    ensures { Returns (λ x. (x.0, x.1.now)) result (reading inner (operand_of rank part) tokens.now) }
 {
     match rank {
         Rank::Equal => ranked(alloc, part, Rank::Sum, tokens),
@@ -124,8 +130,8 @@ fn ranked(
     part: Part,
     rank: Rank,
     tokens: &[Token],
-) -> Result<(ExprTree, &[Token]), ReadError>
-    ensures { Gives (λ x. (x.0, x.1.now)) result (reading inner (of_rank rank part) tokens.now) }
+) -> Result<(ExprTree, &[Token]), ReadRefusal>
+    ensures { Returns (λ x. (x.0, x.1.now)) result (reading inner (of_rank rank part) tokens.now) }
 {
     let (mut left, mut rest) = operand(alloc, part, rank, tokens)?;
     while let Some((operator, after)) = operator_at(rank, rest) {
@@ -141,8 +147,8 @@ fn expression(
     alloc: Global,
     part: Part,
     tokens: &[Token],
-) -> Result<(ExprTree, &[Token]), ReadError>
-    ensures { Gives (λ x. (x.0, x.1.now)) result (reading inner (expr part) tokens.now) }
+) -> Result<(ExprTree, &[Token]), ReadRefusal>
+    ensures { Returns (λ x. (x.0, x.1.now)) result (reading inner (expr part) tokens.now) }
 {
     ranked(alloc, part, Rank::Equal, tokens)
 }
@@ -153,8 +159,8 @@ pub(crate) fn outer(
     alloc: Global,
     part: Part,
     tokens: &[Token],
-) -> Result<(ExprTree, &[Token]), ReadError>
-    ensures { Gives (λ x. (x.0, x.1.now)) result (reading inner (outer part) tokens.now) }
+) -> Result<(ExprTree, &[Token]), ReadRefusal>
+    ensures { Returns (λ x. (x.0, x.1.now)) result (reading inner (outer part) tokens.now) }
 {
     let limit = expression_limit(tokens);
     if tokens.len() <= limit {
@@ -163,12 +169,15 @@ pub(crate) fn outer(
     let (window, behind) = tokens.split_at(limit + 1);
     match expression(alloc, part, window) {
         Ok((tree, rest)) if !rest.is_empty() => Ok((tree, &tokens[window.len() - rest.len()..])),
-        Ok(_) => Err(ReadError::Fault(tokens.len() - limit, Code::ExprTooLong)),
-        Err(ReadError::Memory) => Err(ReadError::Memory),
-        Err(ReadError::Fault(0, _)) => Err(ReadError::Fault(
-            tokens.len() - limit,
+        Ok(_) => Err(refusal_at(&tokens[limit..], Code::ExprTooLong)),
+        Err(ReadRefusal::OutOfMemory) => Err(ReadRefusal::OutOfMemory),
+        Err(ReadRefusal::Fault(ReadFault { left: 0, .. })) => Err(refusal_at(
+            &tokens[limit..],
             Code::ExprTooLong,
         )),
-        Err(ReadError::Fault(left, code)) => Err(ReadError::Fault(left + behind.len(), code)),
+        Err(ReadRefusal::Fault(ReadFault { left, code })) => Err(ReadRefusal::Fault(ReadFault {
+            left: left + behind.len(),
+            code,
+        })),
     }
 }

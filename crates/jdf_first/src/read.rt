@@ -2,8 +2,8 @@
 
 ghost use Rattle.std.specs.Prelude.{◌≡◌, ◌⊎◌, Ok, Err, IfOk};
 ghost use Rattle.jdf_lex.specs.declared.fault.JdfFault.{JdfFault};
-ghost use Rattle.jdf_lex.specs.declared.fault.JdfRefusal.TheVariants.{Fault, OutOfMemory};
-ghost use Rattle.grammar_core.specs.Gives.{Gives};
+ghost use Rattle.ptg_base.specs.declared.refusal.Refusal.TheVariants.{Fault, OutOfMemory};
+ghost use Rattle.grammar_core.specs.Returns.{Returns};
 ghost use Rattle.grammar_core.specs.Reading.{whole};
 ghost use Rattle.jdf_first.specs.Grammar.{inner, file};
 ghost use Rattle.jdf_lex.specs.Tokens.{not_built};
@@ -13,7 +13,7 @@ ghost use Rattle.jdf_first.specs.Jdf.{IsJdf};
 use crate::class::file;
 use crate::plain::is_plain;
 use crate::tree::Jdf;
-use grammar_core::{Code, ReadError};
+use grammar_core::{Code, ReadRefusal, refusal_at};
 use jdf_lex::{JdfCode, JdfFault, JdfRefusal, Spot, Token, tokens};
 use std::alloc::Global;
 
@@ -21,12 +21,12 @@ use std::alloc::Global;
 const MOST_BYTES: usize = 16777216;
 
 // All of the tokens.
-fn whole(alloc: Global, tokens: &[Token]) -> Result<Jdf, ReadError>
-    ensures { Gives (λ jdf. jdf) result (whole inner file tokens.now) }
+fn whole(alloc: Global, tokens: &[Token]) -> Result<Jdf, ReadRefusal>
+    ensures { Returns (λ jdf. jdf) result (whole inner file tokens.now) }
 {
     let (jdf, rest) = file(alloc, tokens)?;
     if !rest.is_empty() {
-        return Err(ReadError::Fault(rest.len(), Code::Syntax));
+        return Err(refusal_at(rest, Code::Syntax));
     }
     Ok(jdf)
 }
@@ -68,7 +68,7 @@ pub fn read_first(alloc: Global, bytes: &[u8]) -> Result<Jdf, JdfRefusal>
     }
     match whole(alloc, found) {
         Ok(jdf) => Ok(jdf),
-        Err(ReadError::Memory) => Err(JdfRefusal::OutOfMemory),
-        Err(ReadError::Fault(_, _)) => Err(not_built()),
+        Err(ReadRefusal::OutOfMemory) => Err(JdfRefusal::OutOfMemory),
+        Err(ReadRefusal::Fault(_)) => Err(not_built()),
     }
 }

@@ -1,6 +1,6 @@
 use crate::expression::{ExprTree, Word};
 use jdf_lex::Spot;
-use ptg_base::Row;
+use ptg_base::Seq;
 
 /// A statement of a body, `flow[index] = value;`.
 #[derive(Debug, Drop)]
@@ -41,8 +41,8 @@ pub struct ClassTree {
     pub affinity: Word,
     pub affinity_arg: ExprTree,
     pub flow: Word,
-    pub deps: Row<DepTree>,
-    pub body: Row<StmtTree>,
+    pub deps: Seq<DepTree>,
+    pub body: Seq<StmtTree>,
     /// The place of `END`.
     pub finish: Spot,
 }
@@ -50,6 +50,6 @@ pub struct ClassTree {
 /// A text of the language.
 #[derive(Debug, Drop)]
 pub struct Jdf {
-    pub globals: Row<Word>,
+    pub globals: Seq<Word>,
     pub class: ClassTree,
 }

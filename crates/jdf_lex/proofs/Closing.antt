@@ -1,10 +1,9 @@
--- What ends a piece that is opened: the first byte that ends it, and no later one.
-use Rattle.std.proofs.Common.{◌≡◌, ℕ, suc, ◌+◌, ◌<◌, ◌≤◌, Bool, true, false, cond, ◌⊎◌, List, [], ◌∷◌, ◌++◌, length, take, drop, get_or, Option, Some, None, refl, sym, ◌∙◌, ap, subst, inl, inr, arith}
+-- A unit with a closing mark ends at the first byte that ends it.
+use Rattle.std.proofs.Common.{◌≡◌, ℕ, suc, ◌+◌, ◌<◌, ◌≤◌, Bool, true, false, cond, ◌⊎◌, List, [], ◌∷◌, ◌++◌, length, take, Option, Some, None, refl, sym, ◌∙◌, subst, inl, inr, arith}
 use Rattle.std.proofs.lemmas.Bool.{cases_Bool, false≢true, cond-true, cond-false}
-use Rattle.std.proofs.lemmas.List.{at_drop_more}
-use Rattle.jdf_lex.specs.declared.piece.Piece.{Piece}
-use Rattle.jdf_lex.specs.Spelling.{ends_piece, holds_next, is_empty, is_closed}
-use Rattle.jdf_lex.specs.Reading.{closed_len, more}
+use Rattle.jdf_lex.specs.declared.lexical_unit.LexicalUnit.{LexicalUnit}
+use Rattle.jdf_lex.specs.Spelling.{ends_unit, affects_next, is_empty, is_closed}
+use Rattle.jdf_lex.specs.Reading.{closed_len, add_length}
 
 abbrev Length : Type 0
 Length = Option ℕ
@@ -22,50 +21,37 @@ chosen false x y z e = inr (refl, e)
 pub one_more : (n : ℕ) → suc n ≡ 1 + n
 one_more n = omega arith
 
-pub more_more : (i : ℕ) (o : Length) → more i (more 1 o) ≡ more (i + 1) o
-more_more i None = refl
-more_more i (Some m) = ap some_length (omega arith)
+pub add_length_found : (n : ℕ) (o : Length) (m : ℕ) → add_length n o ≡ some_length m → (k : ℕ) × (o ≡ some_length k) × (m ≡ n + k)
+add_length_found n None m e = absurd (cc)
+add_length_found n (Some k) m e = (k, refl, cc)
 
-pub more_nothing : (o : Length) → more 0 o ≡ o
-more_nothing None = refl
-more_nothing (Some m) = ap some_length (omega arith)
+pub add_length_none : (n : ℕ) (o : Length) → add_length n o ≡ no_length → o ≡ no_length
+add_length_none n None e = refl
+add_length_none n (Some k) e = absurd (cc)
 
-pub more_found : (n : ℕ) (o : Length) (m : ℕ) → more n o ≡ some_length m → (k : ℕ) × (o ≡ some_length k) × (m ≡ n + k)
-more_found n None m e = absurd (cc)
-more_found n (Some k) m e = (k, refl, cc)
-
-pub more_none : (n : ℕ) (o : Length) → more n o ≡ no_length → o ≡ no_length
-more_none n None e = refl
-more_none n (Some k) e = absurd (cc)
-
--- the byte at a place, and those behind it
-pub closed_step : (p : Piece) (h : Bool) (xs : List ℕ) (i : ℕ) → i < length xs
-    → closed_len p h (drop i xs) ≡ cond (ends_piece p h (get_or xs i 0)) (some_length 1) (more 1 (closed_len p (holds_next p h (get_or xs i 0)) (drop (i + 1) xs)))
-closed_step p h xs i within = at_drop_more (closed_len p h) xs i 0 within
-
-pub record IsClosedIn (p : Piece) (h : Bool) (xs : List ℕ) (m : ℕ) : Type 0 where
-  pub some : 0 < m
+pub record IsClosedIn (p : LexicalUnit) (h : Bool) (xs : List ℕ) (m : ℕ) : Type 0 where
+  pub nonempty : 0 < m
   pub within : m ≤ length xs
   pub closed : is_closed p h (take m xs) ≡ true
 
-pub closed_found : (p : Piece) (h : Bool) (xs : List ℕ) (m : ℕ) → closed_len p h xs ≡ some_length m → IsClosedIn p h xs m
+pub closed_found : (p : LexicalUnit) (h : Bool) (xs : List ℕ) (m : ℕ) → closed_len p h xs ≡ some_length m → IsClosedIn p h xs m
 closed_found p h [] m e = absurd (cc)
 closed_found p h (b ∷ bs) m e =
-    let held = holds_next p h b in
-    elim (chosen (ends_piece p h b) (some_length 1) (more 1 (closed_len p held bs)) (some_length m) e) [
+    let affected = affects_next p h b in
+    elim (chosen (ends_unit p h b) (some_length 1) (add_length 1 (closed_len p affected bs)) (some_length m) e) [
       | inl ends ↦
           let one : 1 ≡ m = (let same : some_length 1 ≡ some_length m = ends.1 in cc) in
           subst (λ n. IsClosedIn p h (b ∷ bs) n) one
-          (record { some = omega arith; within = omega arith; closed = cond-true (ends_piece p h b) true (is_closed p held []) ends.0 })
+          (record { nonempty = omega arith; within = omega arith; closed = cond-true (ends_unit p h b) true (is_closed p affected []) ends.0 })
       | inr goes ↦
-          let found = more_found 1 (closed_len p held bs) m goes.1 in
-          let later = closed_found p held bs found.0 found.1 in
+          let found = add_length_found 1 (closed_len p affected bs) m goes.1 in
+          let later = closed_found p affected bs found.0 found.1 in
           let size : suc found.0 ≡ m = one_more found.0 ∙ sym found.2 in
           subst (λ n. IsClosedIn p h (b ∷ bs) n) size
           (record {
-            some = omega arith;
+            nonempty = omega arith;
             within = omega (arith, later.within);
-            closed = cond-false (ends_piece p h b) (is_empty (take found.0 bs)) (is_closed p held (take found.0 bs)) goes.0 ∙ later.closed;
+            closed = cond-false (ends_unit p h b) (is_empty (take found.0 bs)) (is_closed p affected (take found.0 bs)) goes.0 ∙ later.closed;
           })
     ]
 
@@ -74,32 +60,32 @@ empty_more [] [] e f = refl
 empty_more [] (m ∷ ms) e f = absurd (false≢true f)
 empty_more (b ∷ bs) more e f = absurd (false≢true e)
 
--- what is closed is not closed later
-pub closed_once : (p : Piece) (h : Bool) (w more : List ℕ) → is_closed p h w ≡ true → is_closed p h (w ++ more) ≡ true → more ≡ []
+-- A word that ends at the first such byte has no longer one.
+pub closed_once : (p : LexicalUnit) (h : Bool) (w more : List ℕ) → is_closed p h w ≡ true → is_closed p h (w ++ more) ≡ true → more ≡ []
 closed_once p h [] more e f = absurd (false≢true e)
 closed_once p h (b ∷ bs) more e f =
-    let t = ends_piece p h b in
-    let held = holds_next p h b in
+    let t = ends_unit p h b in
+    let affected = affects_next p h b in
     elim (cases_Bool t) [
       | inl ends ↦
-          empty_more bs more (sym (cond-true t (is_empty bs) (is_closed p held bs) ends) ∙ e)
-          (sym (cond-true t (is_empty (bs ++ more)) (is_closed p held (bs ++ more)) ends) ∙ f)
+          empty_more bs more (sym (cond-true t (is_empty bs) (is_closed p affected bs) ends) ∙ e)
+          (sym (cond-true t (is_empty (bs ++ more)) (is_closed p affected (bs ++ more)) ends) ∙ f)
       | inr goes ↦
-          closed_once p held bs more (sym (cond-false t (is_empty bs) (is_closed p held bs) goes) ∙ e)
-          (sym (cond-false t (is_empty (bs ++ more)) (is_closed p held (bs ++ more)) goes) ∙ f)
+          closed_once p affected bs more (sym (cond-false t (is_empty bs) (is_closed p affected bs) goes) ∙ e)
+          (sym (cond-false t (is_empty (bs ++ more)) (is_closed p affected (bs ++ more)) goes) ∙ f)
     ]
 
--- where no end is found there is none
-pub closed_none : (p : Piece) (h : Bool) (xs : List ℕ) → closed_len p h xs ≡ no_length → (w after : List ℕ) → xs ≡ w ++ after → is_closed p h w ≡ true → ⊥
+-- If no end is found, there is none.
+pub closed_none : (p : LexicalUnit) (h : Bool) (xs : List ℕ) → closed_len p h xs ≡ no_length → (w after : List ℕ) → xs ≡ w ++ after → is_closed p h w ≡ true → ⊥
 closed_none p h xs e [] after is closed = false≢true closed
 closed_none p h [] e (b ∷ w) after is closed = cc
 closed_none p h (x ∷ xs) e (b ∷ w) after is closed =
     let heads : x ≡ b = cc in
     let tails : xs ≡ w ++ after = cc in
-    let t = ends_piece p h x in
-    let held = holds_next p h x in
+    let t = ends_unit p h x in
+    let affected = affects_next p h x in
     let here : is_closed p h (x ∷ w) ≡ true = subst (λ z. is_closed p h (z ∷ w) ≡ true) (sym heads) closed in
-    elim (chosen t (some_length 1) (more 1 (closed_len p held xs)) no_length e) [
+    elim (chosen t (some_length 1) (add_length 1 (closed_len p affected xs)) no_length e) [
       | inl ends ↦ (let never : some_length 1 ≡ no_length = ends.1 in cc)
-      | inr goes ↦ closed_none p held xs (more_none 1 (closed_len p held xs) goes.1) w after tails (sym (cond-false t (is_empty w) (is_closed p held w) goes.0) ∙ here)
+      | inr goes ↦ closed_none p affected xs (add_length_none 1 (closed_len p affected xs) goes.1) w after tails (sym (cond-false t (is_empty w) (is_closed p affected w) goes.0) ∙ here)
     ]

@@ -1,8 +1,10 @@
 pub mod Closing
-pub mod Either
+pub mod ClosingMarks
 pub mod Fronts
-pub mod Going
 pub mod Longest
-pub mod Once
 pub mod Runs
+pub mod Scanning
 pub mod Spots
+pub mod TokensOrFault
+pub mod Uniqueness
+pub mod WrittenForms

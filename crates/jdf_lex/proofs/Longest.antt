@@ -1,16 +1,16 @@
--- The piece that begins at a place is told alike by each longer word there, so that the longest word is taken.
+-- The same unit begins with each longer word at a position, so the longest word is taken.
 use Rattle.std.proofs.Common.{◌≡◌, ℕ, ◌≤◌, ◌⊎◌, Bool, true, false, cond, not, eqb, List, [], ◌∷◌, ◌++◌, length, drop, Option, Some, refl, sym, ◌∙◌, ap, subst, inl, inr, arith}
 use Rattle.std.specs.Prelude.{codes}
 use Rattle.std.specs.List.{starts_with}
 use Rattle.std.proofs.lemmas.Bool.{and_parts, and_from, cases_lt, cases_Bool, false≢true, eqb-true, not-true}
 use Rattle.std.proofs.lemmas.List.{append-nil, drop-append-le}
-use Rattle.jdf_lex.specs.declared.piece.Piece.{Piece}
-use Rattle.jdf_lex.specs.declared.piece.Piece.TheVariants.{LineComment, BlockComment, Word}
+use Rattle.jdf_lex.specs.declared.lexical_unit.LexicalUnit.{LexicalUnit}
+use Rattle.jdf_lex.specs.declared.lexical_unit.LexicalUnit.TheVariants.{LineComment, BlockComment, TokenOf}
 use Rattle.jdf_lex.specs.declared.token.TokenKind.TheVariants.{Raw, OptionLine}
-use Rattle.jdf_lex.specs.Spelling.{is_mark, begins_part, begins_option, plain_piece, first_piece, piece_at, is_spelling}
-use Rattle.jdf_lex.specs.Tokens.{IsPiece, LongestIsTaken}
+use Rattle.jdf_lex.specs.Spelling.{is_mark, begins_part, begins_option, plain_unit, first_unit, unit_at, is_spelling}
+use Rattle.jdf_lex.specs.Tokens.{IsUnit, LongestIsTaken}
 use Rattle.jdf_lex.proofs.Fronts.{spelling_is_some}
-use Rattle.jdf_lex.proofs.Once.{longer_front}
+use Rattle.jdf_lex.proofs.Uniqueness.{longer_front}
 
 abbrev option_word : List ℕ
 option_word = codes "%option"
@@ -34,7 +34,7 @@ part_more (x ∷ xs) after e f = e
 flip : (b : Bool) → b ≡ false → not b ≡ true
 flip b e = ap not e
 
--- an option line that no letter follows is one in the longer text
+-- An option line that no letter follows is also one in the longer text.
 option_more : (xs after : List ℕ) → begins_option xs ≡ true → begins_part after ≡ false → begins_option (xs ++ after) ≡ true
 option_more xs after e f =
     let parts = and_parts (starts_with eqb xs option_word) (not (begins_part (drop 7 xs))) e in
@@ -54,86 +54,86 @@ no_long_mark : (x : List ℕ) → is_mark (37 ∷ 111 ∷ x) ≡ true → ⊥
 no_long_mark [] e = false≢true e
 no_long_mark (c ∷ x) e = false≢true e
 
--- `%o` begins no piece but an option line that is two bytes long
-no_piece : (a b : ℕ) (x : List ℕ) → a ≡ 37 → b ≡ 111 → is_spelling (plain_piece a (b ∷ x)) (a ∷ b ∷ x) ≡ true → ⊥
-no_piece a b x one two spelled =
-    let first : is_spelling (plain_piece 37 (b ∷ x)) (37 ∷ b ∷ x) ≡ true = subst (λ z. is_spelling (plain_piece z (b ∷ x)) (z ∷ b ∷ x) ≡ true) one spelled in
-    no_long_mark x (subst (λ z. is_spelling (plain_piece 37 (z ∷ x)) (37 ∷ z ∷ x) ≡ true) two first)
+-- `%o` begins no unit of two bytes or more but an option line.
+no_unit : (a b : ℕ) (x : List ℕ) → a ≡ 37 → b ≡ 111 → is_spelling (plain_unit a (b ∷ x)) (a ∷ b ∷ x) ≡ true → ⊥
+no_unit a b x one two spelled =
+    let first : is_spelling (plain_unit 37 (b ∷ x)) (37 ∷ b ∷ x) ≡ true = subst (λ z. is_spelling (plain_unit z (b ∷ x)) (z ∷ b ∷ x) ≡ true) one spelled in
+    no_long_mark x (subst (λ z. is_spelling (plain_unit 37 (z ∷ x)) (37 ∷ z ∷ x) ≡ true) two first)
 
--- what begins with two bytes, where it is told whether an option line does
-abbrev piece_of : ℕ → ℕ → List ℕ → Bool → Piece
-piece_of a b x option =
+-- The unit that begins with two bytes, given whether an option line does.
+abbrev unit_of : ℕ → ℕ → List ℕ → Bool → LexicalUnit
+unit_of a b x option =
     cond (starts_with eqb (a ∷ b ∷ x) (codes "//")) LineComment
     (cond (starts_with eqb (a ∷ b ∷ x) (codes "/*")) BlockComment
-    (cond (starts_with eqb (a ∷ b ∷ x) (codes "%{")) (Word Raw)
-    (cond option (Word OptionLine) (plain_piece a (b ∷ x)))))
+    (cond (starts_with eqb (a ∷ b ∷ x) (codes "%{")) (TokenOf Raw)
+    (cond option (TokenOf OptionLine) (plain_unit a (b ∷ x)))))
 
--- either it makes no difference, or no longer form stands there
-tells : (a b : ℕ) (x : List ℕ) (s t : Bool) → (piece_of a b x s ≡ piece_of a b x t) ⊎ ((piece_of a b x true ≡ Word OptionLine) × (piece_of a b x false ≡ plain_piece a (b ∷ x)))
-tells a b x s t =
-    told (starts_with eqb (a ∷ b ∷ x) (codes "//")) (starts_with eqb (a ∷ b ∷ x) (codes "/*")) (starts_with eqb (a ∷ b ∷ x) (codes "%{")) (plain_piece a (b ∷ x))
+-- Either that makes no difference, or no comment or raw block begins there.
+option_decides : (a b : ℕ) (x : List ℕ) (s t : Bool) → (unit_of a b x s ≡ unit_of a b x t) ⊎ ((unit_of a b x true ≡ TokenOf OptionLine) × (unit_of a b x false ≡ plain_unit a (b ∷ x)))
+option_decides a b x s t =
+    decided (starts_with eqb (a ∷ b ∷ x) (codes "//")) (starts_with eqb (a ∷ b ∷ x) (codes "/*")) (starts_with eqb (a ∷ b ∷ x) (codes "%{")) (plain_unit a (b ∷ x))
   where
-    told : (c d e : Bool) (p : Piece)
-        → (cond c LineComment (cond d BlockComment (cond e (Word Raw) (cond s (Word OptionLine) p))) ≡ cond c LineComment (cond d BlockComment (cond e (Word Raw) (cond t (Word OptionLine) p))))
-        ⊎ ((cond c LineComment (cond d BlockComment (cond e (Word Raw) (cond true (Word OptionLine) p))) ≡ Word OptionLine)
-        × (cond c LineComment (cond d BlockComment (cond e (Word Raw) (cond false (Word OptionLine) p))) ≡ p))
-    told true d e p = inl refl
-    told false true e p = inl refl
-    told false false true p = inl refl
-    told false false false p = inr (refl, refl)
+    decided : (c d e : Bool) (p : LexicalUnit)
+        → (cond c LineComment (cond d BlockComment (cond e (TokenOf Raw) (cond s (TokenOf OptionLine) p))) ≡ cond c LineComment (cond d BlockComment (cond e (TokenOf Raw) (cond t (TokenOf OptionLine) p))))
+        ⊎ ((cond c LineComment (cond d BlockComment (cond e (TokenOf Raw) (cond true (TokenOf OptionLine) p))) ≡ TokenOf OptionLine)
+        × (cond c LineComment (cond d BlockComment (cond e (TokenOf Raw) (cond false (TokenOf OptionLine) p))) ≡ p))
+    decided true d e p = inl refl
+    decided false true e p = inl refl
+    decided false false true p = inl refl
+    decided false false false p = inr (refl, refl)
 
--- the longer text begins with the same piece
-same_begin : (a b : ℕ) (x after : List ℕ) (other : Piece) → piece_of a b x (begins_option (a ∷ b ∷ x)) ≡ other → is_spelling other (a ∷ b ∷ x) ≡ true → (other ≡ Word OptionLine → begins_part after ≡ false)
-    → piece_of a b x (begins_option (a ∷ b ∷ (x ++ after))) ≡ other
+-- The longer text begins with the same unit.
+same_begin : (a b : ℕ) (x after : List ℕ) (other : LexicalUnit) → unit_of a b x (begins_option (a ∷ b ∷ x)) ≡ other → is_spelling other (a ∷ b ∷ x) ≡ true → (other ≡ TokenOf OptionLine → begins_part after ≡ false)
+    → unit_of a b x (begins_option (a ∷ b ∷ (x ++ after))) ≡ other
 same_begin a b x after other is spelled follows =
     let s = begins_option (a ∷ b ∷ x) in
     let t = begins_option (a ∷ b ∷ (x ++ after)) in
-    elim (tells a b x s t) [
+    elim (option_decides a b x s t) [
       | inl same ↦ sym same ∙ is
       | inr apart ↦
           elim (cases_Bool s) [
             | inl yes_s ↦
-                let option : other ≡ Word OptionLine = sym is ∙ ap (piece_of a b x) yes_s ∙ apart.0 in
+                let option : other ≡ TokenOf OptionLine = sym is ∙ ap (unit_of a b x) yes_s ∙ apart.0 in
                 let yes_t : t ≡ true = option_more (a ∷ b ∷ x) after yes_s (follows option) in
-                ap (piece_of a b x) (yes_t ∙ sym yes_s) ∙ is
+                ap (unit_of a b x) (yes_t ∙ sym yes_s) ∙ is
             | inr no_s ↦
                 elim (cases_Bool t) [
                   | inl yes_t ↦
                       let bytes = option_bytes a b (x ++ after) yes_t in
-                      let plain : other ≡ plain_piece a (b ∷ x) = sym is ∙ ap (piece_of a b x) no_s ∙ apart.1 in
-                      absurd (no_piece a b x bytes.0 bytes.1 (subst (λ p. is_spelling p (a ∷ b ∷ x) ≡ true) plain spelled))
-                  | inr no_t ↦ ap (piece_of a b x) (no_t ∙ sym no_s) ∙ is
+                      let plain : other ≡ plain_unit a (b ∷ x) = sym is ∙ ap (unit_of a b x) no_s ∙ apart.1 in
+                      absurd (no_unit a b x bytes.0 bytes.1 (subst (λ p. is_spelling p (a ∷ b ∷ x) ≡ true) plain spelled))
+                  | inr no_t ↦ ap (unit_of a b x) (no_t ∙ sym no_s) ∙ is
                 ]
           ]
     ]
 
-abbrev piece_told : Piece → Option Piece
-piece_told p = Some p
+abbrev some_unit : LexicalUnit → Option LexicalUnit
+some_unit p = Some p
 
-same_told : (p q : Piece) → piece_told p ≡ piece_told q → p ≡ q
-same_told p q e = cc
+same_some : (p q : LexicalUnit) → some_unit p ≡ some_unit q → p ≡ q
+same_some p q e = cc
 
--- a word of the same piece is no longer
-no_longer : (p : Piece) (word left longer after : List ℕ) → IsPiece p word left → word ++ left ≡ longer ++ after → is_spelling p longer ≡ true → length longer ≤ length word
-no_longer p word left longer after piece same spelled =
+-- No word of the same unit is longer.
+no_longer : (p : LexicalUnit) (word left longer after : List ℕ) → IsUnit p word left → word ++ left ≡ longer ++ after → is_spelling p longer ≡ true → length longer ≤ length word
+no_longer p word left longer after unit same spelled =
     elim (cases_lt (length word) (length longer)) [
       | inl below ↦
           let found = longer_front word left longer after same (omega arith) in
-          let none : found.0 ≡ [] = piece.longest found.0 after found.2 (subst (λ z. is_spelling p z ≡ true) found.1 spelled) in
+          let none : found.0 ≡ [] = unit.longest found.0 after found.2 (subst (λ z. is_spelling p z ≡ true) found.1 spelled) in
           let is : longer ≡ word = found.1 ∙ ap (λ z. word ++ z) none ∙ append-nil word in
           omega (arith, ap length is)
       | inr fits ↦ fits
     ]
 
-some_word : (p : Piece) (word left : List ℕ) → IsPiece p word left → 1 ≤ length word
-some_word p [] left piece = absurd (spelling_is_some p piece.spelled)
-some_word p (b ∷ bs) left piece = omega arith
+some_word : (p : LexicalUnit) (word left : List ℕ) → IsUnit p word left → 1 ≤ length word
+some_word p [] left unit = absurd (spelling_is_some p unit.spelled)
+some_word p (b ∷ bs) left unit = omega arith
 
 pub longest : LongestIsTaken
-longest piece other word left [] after is same begins spelled follows = omega arith
-longest piece other word left (a ∷ []) after is same begins spelled follows = omega (arith, some_word piece word left is)
-longest piece other word left (a ∷ b ∷ x) after is same begins spelled follows =
-    let here : piece_of a b x (begins_option (a ∷ b ∷ (x ++ after))) ≡ other = same_begin a b x after other (same_told (first_piece a (b ∷ x)) other begins) spelled follows in
-    let whole : piece_told piece ≡ piece_told (first_piece a (b ∷ (x ++ after))) = sym is.begins ∙ ap piece_at same in
-    let one : piece ≡ other = same_told piece (first_piece a (b ∷ (x ++ after))) whole ∙ here in
-    no_longer piece word left (a ∷ b ∷ x) after is same (subst (λ p. is_spelling p (a ∷ b ∷ x) ≡ true) (sym one) spelled)
+longest unit other word left [] after is same begins spelled follows = omega arith
+longest unit other word left (a ∷ []) after is same begins spelled follows = omega (arith, some_word unit word left is)
+longest unit other word left (a ∷ b ∷ x) after is same begins spelled follows =
+    let here : unit_of a b x (begins_option (a ∷ b ∷ (x ++ after))) ≡ other = same_begin a b x after other (same_some (first_unit a (b ∷ x)) other begins) spelled follows in
+    let whole : some_unit unit ≡ some_unit (first_unit a (b ∷ (x ++ after))) = sym is.begins ∙ ap unit_at same in
+    let one : unit ≡ other = same_some unit (first_unit a (b ∷ (x ++ after))) whole ∙ here in
+    no_longer unit word left (a ∷ b ∷ x) after is same (subst (λ p. is_spelling p (a ∷ b ∷ x) ≡ true) (sym one) spelled)

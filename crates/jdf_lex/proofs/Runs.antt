@@ -1,4 +1,4 @@
--- The longest front of a list of which each element passes a test.
+-- The longest front of a list whose elements all pass a test.
 use Rattle.std.proofs.Common.{◌≡◌, ℕ, suc, ◌+◌, Bool, true, false, cond, List, [], ◌∷◌, ◌++◌, length, take, drop, get_or, refl, sym, ◌∙◌, ap, subst, inl, inr}
 use Rattle.std.specs.List.{list_all, prefix_len}
 use Rattle.std.proofs.lemmas.Bool.{and_parts, and_from, both_ways, cases_lt, cases_Bool}
@@ -12,7 +12,7 @@ prefix_more q x xs passes = one_more (prefix_len q xs) ∙ sym (ap (λ b. cond b
 prefix_none : (q : ℕ → Bool) (x : ℕ) (xs : List ℕ) → q x ≡ false → 0 ≡ prefix_len q (x ∷ xs)
 prefix_none q x xs fails = sym (ap (λ b. cond b (1 + prefix_len q xs) 0) fails)
 
--- each element of the longest front that passes does
+-- Each element of that front passes.
 pub prefix_passes : (q : ℕ → Bool) (xs : List ℕ) → list_all q (take (prefix_len q xs) xs) ≡ true
 prefix_passes q [] = refl
 prefix_passes q (x ∷ xs) =
@@ -21,7 +21,7 @@ prefix_passes q (x ∷ xs) =
       | inr fails ↦ subst (λ n. list_all q (take n (x ∷ xs)) ≡ true) (prefix_none q x xs fails) refl
     ]
 
--- the element behind it does not
+-- The element after it does not.
 prefix_stops : (q : ℕ → Bool) (xs : List ℕ) (m : ℕ) (ys : List ℕ) → drop (prefix_len q xs) xs ≡ m ∷ ys → q m ≡ true → ⊥
 prefix_stops q xs m ys e passes =
     elim (cases_lt (prefix_len q xs) (length xs)) [
@@ -36,7 +36,7 @@ list_all_middle : (q : ℕ → Bool) (xs : List ℕ) (m : ℕ) (ys : List ℕ) �
 list_all_middle q [] m ys all = (and_parts (q m) (list_all q ys) all).0
 list_all_middle q (x ∷ xs) m ys all = list_all_middle q xs m ys (and_parts (q x) (list_all q (xs ++ (m ∷ ys))) all).1
 
--- so no longer front passes
+-- So no longer front passes.
 pub run_longest : (q : ℕ → Bool) (bs more after : List ℕ) → drop (prefix_len q bs) bs ≡ more ++ after → list_all q (take (prefix_len q bs) bs ++ more) ≡ true → more ≡ []
 run_longest q bs [] after e all = refl
 run_longest q bs (m ∷ more) after e all =

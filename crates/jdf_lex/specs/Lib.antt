@@ -1,3 +1,4 @@
+pub mod Forms
 pub mod Reading
 pub mod Spelling
 pub mod Tokens

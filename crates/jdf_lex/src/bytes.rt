@@ -1,44 +1,52 @@
+//! Classes of bytes, and marks.
+
 ghost use Rattle.std.specs.Prelude.{◌≡◌, [], ◌∷◌};
-ghost use Rattle.jdf_lex.specs.Spelling.{is_letter, is_digit, is_part, is_blank, is_no_lf, goes_on_character, is_mark};
+ghost use Rattle.jdf_lex.specs.Spelling.{is_letter, is_digit, is_part, is_blank, is_not_lf, continues_character, is_mark};
 ghost use Rattle.jdf_lex.specs.Reading.{mark_len};
 
+/// Whether the byte is a letter or `_`.
 pub fn is_letter(b: u8) -> bool
     ensures { result ≡ is_letter b }
 {
     b.is_ascii_alphabetic() || b == b'_'
 }
 
+/// Whether the byte is a decimal digit.
 pub fn is_digit(b: u8) -> bool
     ensures { result ≡ is_digit b }
 {
     b.is_ascii_digit()
 }
 
+/// Whether the byte may follow the first byte of a name or a number.
 pub fn is_part(b: u8) -> bool
     ensures { result ≡ is_part b }
 {
     is_letter(b) || is_digit(b)
 }
 
+/// Whether the byte is a space, a tab, CR or LF.
 pub fn is_blank(b: u8) -> bool
     ensures { result ≡ is_blank b }
 {
     matches!(b, b' ' | b'\t' | b'\r' | b'\n')
 }
 
-pub fn is_no_lf(b: u8) -> bool
-    ensures { result ≡ is_no_lf b }
+/// Whether the byte is not LF.
+pub fn is_not_lf(b: u8) -> bool
+    ensures { result ≡ is_not_lf b }
 {
     b != b'\n'
 }
 
-/// Whether a byte goes on a character of UTF-8.
-pub fn goes_on_character(b: u8) -> bool
-    ensures { result ≡ goes_on_character b }
+/// Whether the byte continues a UTF-8 character.
+pub fn continues_character(b: u8) -> bool
+    ensures { result ≡ continues_character b }
 {
     matches!(b, 128..=191)
 }
 
+// Whether the byte is a mark.
 fn is_short_mark(a: u8) -> bool
     ensures { result ≡ is_mark (a ∷ []) }
 {
@@ -67,6 +75,7 @@ fn is_short_mark(a: u8) -> bool
     )
 }
 
+// Whether the two bytes are a mark.
 fn is_long_mark(a: u8, b: u8) -> bool
     ensures { result ≡ is_mark (a ∷ b ∷ []) }
 {
@@ -79,7 +88,7 @@ fn is_long_mark(a: u8, b: u8) -> bool
     }
 }
 
-/// How long the longest mark at the front is, or 0 where there is none.
+/// The length of the longest mark at the front, or 0 if there is none.
 pub fn mark_len(rest: &[u8]) -> usize
     ensures { result ≡ mark_len rest.now }
 {

@@ -1,23 +1,26 @@
+//! Positions in a text.
+
 ghost use Rattle.std.specs.Prelude.{◌≡◌, ◌+◌, ◌<◌, ◌≤◌, length};
-ghost use Rattle.jdf_lex.specs.Reading.{IsAt};
+ghost use Rattle.jdf_lex.specs.Reading.{IsCursorIn};
 
 use crate::token::Spot;
 
-/// A place in a text.
+/// A position in a text: the index of its byte, and its spot.
 #[derive(Clone, Copy, Debug)]
 pub struct Cursor {
-    pub at: usize,
+    pub index: usize,
     pub spot: Spot,
 }
 
-fn past_byte(text: &[u8], here: Cursor) -> Cursor
+// The cursor after the next byte.
+fn advance_byte(text: &[u8], here: Cursor) -> Cursor
     requires small { length text.now ≤ 16777216 }
-    requires at { IsAt text.now here }
-    requires inside { here.at < length text.now }
-    ensures at { IsAt text.now result }
-    ensures place { result.at ≡ here.at + 1 }
+    requires cursor { IsCursorIn text.now here }
+    requires inside { here.index < length text.now }
+    ensures cursor { IsCursorIn text.now result }
+    ensures index { result.index ≡ here.index + 1 }
 {
-    let spot = if text[here.at] == b'\n' {
+    let spot = if text[here.index] == b'\n' {
         Spot {
             line: here.spot.line + 1,
             column: 1,
@@ -29,22 +32,22 @@ fn past_byte(text: &[u8], here: Cursor) -> Cursor
         }
     };
     Cursor {
-        at: here.at + 1,
+        index: here.index + 1,
         spot,
     }
 }
 
-/// The place so many bytes on.
-pub fn past_word(text: &[u8], here: Cursor, len: usize) -> Cursor
+/// The cursor `len` bytes later.
+pub fn advance(text: &[u8], here: Cursor, len: usize) -> Cursor
     requires small { length text.now ≤ 16777216 }
-    requires at { IsAt text.now here }
-    requires inside { here.at + len ≤ length text.now }
-    ensures at { IsAt text.now result }
-    ensures place { result.at ≡ here.at + len }
+    requires cursor { IsCursorIn text.now here }
+    requires inside { here.index + len ≤ length text.now }
+    ensures cursor { IsCursorIn text.now result }
+    ensures index { result.index ≡ here.index + len }
 {
     let mut now = here;
     for _ in 0..len {
-        now = past_byte(text, now);
+        now = advance_byte(text, now);
     }
     now
 }

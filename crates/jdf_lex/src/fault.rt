@@ -1,41 +1,40 @@
-ghost use Rattle.std.specs.Prelude.{◌≡◌};
-ghost use Rattle.jdf_lex.specs.declared.fault.JdfRefusal.TheVariants.{OutOfMemory};
+//! Why a text is refused.
 
 use crate::token::Spot;
-use std::alloc::{AllocError, AllocFailed};
+use ptg_base::Refusal;
 
 /// Why a JDF text is refused, as the program prints it.
 #[derive(Clone, Copy, Debug, PartialEq, Eq)]
 pub enum JdfCode {
     /// The text has more than 16 MiB.
     TooLong,
-    /// The text is not UTF-8 from this place on.
+    /// The text is not UTF-8 from this spot on.
     NotUtf8,
-    /// A comment, a quoted text or a raw block begins that the text does not end.
+    /// A comment, a quoted text or a raw block is not closed.
     Unclosed,
-    /// The text has more than 1000000 tokens, and this is the first of the others.
+    /// The text has more than 1,000,000 tokens; the spot is that of token 1,000,001.
     TooManyTokens,
-    /// No text of the grammar begins with the tokens up to and with this one.
+    /// No text of the grammar begins with the tokens up to and including this one.
     Syntax,
-    /// The text ends before its grammar does.
+    /// The text ends where the grammar requires more tokens.
     Truncated,
-    /// A number is not spelled as decimal digits without a leading 0, or is over the largest one.
+    /// A number is not spelled as decimal digits without a leading 0, or is above the largest number.
     BadNumber,
     /// An expression has too many tokens, or too many names, numbers and operators.
     ExprTooLong,
-    /// A class more than there may be.
+    /// More classes than a text may have.
     TooManyClasses,
-    /// A parameter more than a class may have.
+    /// More parameters than a class may have.
     TooManyParams,
-    /// A definition more than a class may have.
+    /// More definitions than a class may have.
     TooManyLocals,
-    /// A flow more than a class may have.
+    /// More flows than a class may have.
     TooManyFlows,
-    /// A dependence more than a flow may have.
+    /// More dependences than a flow may have.
     TooManyDeps,
-    /// A block of a body lies in more blocks than it may.
+    /// The blocks of a body are nested too deeply.
     TooDeep,
-    /// A body declares more variables than it may.
+    /// More variables than a body may declare.
     TooManyVars,
     /// A global, a class, a parameter, a flow or a variable of a block has the name of an earlier one.
     NameTwice,
@@ -43,70 +42,42 @@ pub enum JdfCode {
     LocalTwice,
     /// A parameter has no definition.
     ParamUndefined,
-    /// A range defines a name that is no parameter.
+    /// A range defines a name that is not a parameter.
     RangedLocal,
-    /// A name means nothing where it stands.
+    /// A name is not in scope.
     UnknownName,
-    /// A collection stands where a number has to, or the other way round.
+    /// A collection is named where a number is needed, or a number where a collection is.
     WrongKind,
-    /// The class of a target has no flow of that name.
+    /// The class of a target has no flow with this name.
     NoSuchFlow,
-    /// A task or a place is named with another number of arguments than it takes.
+    /// A task or an element of a collection has the wrong number of arguments.
     Arity,
-    /// A control flow is joined with a flow of data, or a body names it.
+    /// A control flow is connected to a data flow, or a body names it.
     CtlMixed,
-    /// A flow that is only written takes an input.
+    /// A flow that is only written has an input.
     WriteInput,
-    /// New memory stands as a target of an output.
+    /// `NEW` is the target of an output.
     NewSent,
-    /// A range stands in the input of a flow of data.
+    /// An input of a data flow has a range.
     RangeInDataInput,
-    /// A range stands in a place of a collection.
+    /// A range is an index of a collection.
     RangeInPlace,
-    /// A dependence has another datatype than it may.
+    /// A dependence has a datatype that it may not have.
     Datatype,
     /// A body assigns to an element of a flow that is only read.
     ReadAssigned,
-    /// A body assigns to a name that keeps its value.
+    /// A body assigns to a global, a local or a loop variable.
     NotAssignable,
-    /// The text is outside of the forms that are built so far.
+    /// The text has a form that is not supported yet.
     NotBuilt,
 }
 
-/// A refusal of a text: where, and why.
+/// A fault of a text: where, and why.
 #[derive(Clone, Copy, Debug, PartialEq, Eq)]
 pub struct JdfFault {
     pub spot: Spot,
     pub code: JdfCode,
 }
 
-/// Why a text was not read.
-#[derive(Clone, Copy, Debug, PartialEq, Eq)]
-pub enum JdfRefusal {
-    Fault(JdfFault),
-    OutOfMemory,
-}
-
-impl From<ptg_base::OutOfMemory> for JdfRefusal {
-    ghost from_gives = { λ _ e. e ≡ OutOfMemory };
-
-    fn from(_e: ptg_base::OutOfMemory) -> JdfRefusal {
-        JdfRefusal::OutOfMemory
-    }
-}
-
-impl From<AllocError> for JdfRefusal {
-    ghost from_gives = { λ _ e. e ≡ OutOfMemory };
-
-    fn from(_e: AllocError) -> JdfRefusal {
-        JdfRefusal::OutOfMemory
-    }
-}
-
-impl<T: Drop> From<AllocFailed<T>> for JdfRefusal {
-    ghost from_gives = { λ _ e. e ≡ OutOfMemory };
-
-    fn from(_e: AllocFailed<T>) -> JdfRefusal {
-        JdfRefusal::OutOfMemory
-    }
-}
+/// Why a text was not read: its fault, or want of memory.
+pub type JdfRefusal = Refusal<JdfFault>;

@@ -1,106 +1,110 @@
-//! How long what begins at a place is.
+//! Length of the lexical unit at a position.
 
 ghost use Rattle.std.specs.Prelude.{◌≡◌, ◌≤◌, ◌+◌, ℕ, false, length, Some};
 ghost use Rattle.std.specs.List.{prefix_len};
-ghost use Rattle.jdf_lex.specs.Spelling.{goes_on, ends_piece, holds_next};
-ghost use Rattle.jdf_lex.specs.Reading.{closed_len, more, piece_len, front_piece};
+ghost use Rattle.jdf_lex.specs.Spelling.{continues, ends_unit, affects_next};
+ghost use Rattle.jdf_lex.specs.Reading.{closed_len, add_length, unit_len, front_unit};
 
-use crate::bytes::{goes_on_character, is_no_lf, is_part, mark_len};
-use crate::opening::piece_at;
-use crate::piece::Piece;
+use crate::bytes::{continues_character, is_not_lf, is_part, mark_len};
+use crate::lexical_unit::LexicalUnit;
+use crate::opening::unit_at;
 use crate::token::TokenKind;
 
-/// Whether a byte goes on a piece that ends by what follows it.
-fn goes_on(piece: Piece, b: u8) -> bool
-    ensures { result ≡ goes_on piece b }
+// Whether the byte continues a unit that has no closing mark.
+fn continues(unit: LexicalUnit, b: u8) -> bool
+    ensures { result ≡ continues unit b }
 {
-    match piece {
-        Piece::LineComment | Piece::Word(TokenKind::OptionLine) => is_no_lf(b),
-        Piece::Word(TokenKind::Name | TokenKind::Number) => is_part(b),
-        Piece::Word(TokenKind::Other) => goes_on_character(b),
+    match unit {
+        LexicalUnit::LineComment | LexicalUnit::TokenOf(TokenKind::OptionLine) => is_not_lf(b),
+        LexicalUnit::TokenOf(TokenKind::Name | TokenKind::Number) => is_part(b),
+        LexicalUnit::TokenOf(TokenKind::Other) => continues_character(b),
         _ => false,
     }
 }
 
-/// Whether a byte ends a piece, with what the bytes before it hold.
-fn ends_piece(piece: Piece, held: bool, b: u8) -> bool
-    ensures { result ≡ ends_piece piece held b }
+// Whether the byte ends a unit that has a closing mark. `affected`: the byte before it escapes it, or may begin the
+// closing mark with it.
+fn ends_unit(unit: LexicalUnit, affected: bool, b: u8) -> bool
+    ensures { result ≡ ends_unit unit affected b }
 {
-    match piece {
-        Piece::BlockComment => held && b == b'/',
-        Piece::Word(TokenKind::Raw) => held && b == b'}',
-        Piece::Word(TokenKind::Quoted) => !held && b == b'"',
+    match unit {
+        LexicalUnit::BlockComment => affected && b == b'/',
+        LexicalUnit::TokenOf(TokenKind::Raw) => affected && b == b'}',
+        LexicalUnit::TokenOf(TokenKind::Quoted) => !affected && b == b'"',
         _ => false,
     }
 }
 
-/// Whether a byte has a hold on the one behind it.
-fn holds_next(piece: Piece, held: bool, b: u8) -> bool
-    ensures { result ≡ holds_next piece held b }
+// Whether the byte escapes the next byte, or may begin a closing mark with it.
+fn affects_next(unit: LexicalUnit, affected: bool, b: u8) -> bool
+    ensures { result ≡ affects_next unit affected b }
 {
-    match piece {
-        Piece::BlockComment => b == b'*',
-        Piece::Word(TokenKind::Raw) => b == b'%',
-        Piece::Word(TokenKind::Quoted) => !held && b == b'\\',
+    match unit {
+        LexicalUnit::BlockComment => b == b'*',
+        LexicalUnit::TokenOf(TokenKind::Raw) => b == b'%',
+        LexicalUnit::TokenOf(TokenKind::Quoted) => !affected && b == b'\\',
         _ => false,
     }
 }
 
-fn run_len(piece: Piece, rest: &[u8]) -> usize
-    ensures value { result ≡ prefix_len (goes_on piece) rest.now }
+// The number of bytes at the front that continue the unit.
+fn run_len(unit: LexicalUnit, rest: &[u8]) -> usize
+    ensures value { result ≡ prefix_len (continues unit) rest.now }
     ensures within { result ≤ length rest.now }
 {
     for (i, b) in rest.iter().enumerate() {
-        if !goes_on(piece, *b) {
+        if !continues(unit, *b) {
             return i;
         }
     }
     rest.len()
 }
 
-fn closed_len(piece: Piece, rest: &[u8]) -> Option<usize>
-    ensures value { result ≡ closed_len piece false rest.now }
+// The number of bytes up to and including the end of the unit, if the text ends it.
+fn closed_len(unit: LexicalUnit, rest: &[u8]) -> Option<usize>
+    ensures value { result ≡ closed_len unit false rest.now }
     ensures within { (n : ℕ) → result ≡ Some n → n ≤ length rest.now }
 {
-    let mut held = false;
+    let mut affected = false;
     for (i, b) in rest.iter().enumerate() {
-        if ends_piece(piece, held, *b) {
+        if ends_unit(unit, affected, *b) {
             return Some(i + 1);
         }
-        held = holds_next(piece, held, *b);
+        affected = affects_next(unit, affected, *b);
     }
     None
 }
 
-/// How many bytes a piece has whose opening has so many.
-fn opened_len(piece: Piece, opening: usize, rest: &[u8]) -> Option<usize>
+// The length of a unit from the length of its opening and the bytes after the opening.
+fn opened_len(unit: LexicalUnit, opening: usize, rest: &[u8]) -> Option<usize>
     requires { opening ≤ 2 }
-    ensures { result ≡ more opening (closed_len piece false rest.now) }
+    ensures { result ≡ add_length opening (closed_len unit false rest.now) }
 {
-    let n = closed_len(piece, rest)?;
+    let n = closed_len(unit, rest)?;
     Some(opening + n)
 }
 
-fn piece_len(piece: Piece, rest: &[u8]) -> Option<usize>
-    ensures { result ≡ piece_len piece rest.now }
+// The length of the unit at the front, if the text ends it.
+fn unit_len(unit: LexicalUnit, rest: &[u8]) -> Option<usize>
+    ensures { result ≡ unit_len unit rest.now }
 {
-    let (_, behind) = rest.split_first()?;
-    match piece {
-        Piece::BlockComment | Piece::Word(TokenKind::Raw) => {
-            let (_, inner) = behind.split_first()?;
-            opened_len(piece, 2, inner)
+    let (_, after) = rest.split_first()?;
+    match unit {
+        LexicalUnit::BlockComment | LexicalUnit::TokenOf(TokenKind::Raw) => {
+            let (_, inner) = after.split_first()?;
+            opened_len(unit, 2, inner)
         }
-        Piece::Word(TokenKind::Quoted) => opened_len(piece, 1, behind),
-        Piece::Word(TokenKind::Mark) => Some(mark_len(rest)),
-        _ => Some(1 + run_len(piece, behind)),
+        LexicalUnit::TokenOf(TokenKind::Quoted) => opened_len(unit, 1, after),
+        LexicalUnit::TokenOf(TokenKind::Mark) => Some(mark_len(rest)),
+        _ => Some(1 + run_len(unit, after)),
     }
 }
 
-/// What begins here, with its length, where the text ends it.
-pub fn front_piece(rest: &[u8]) -> Option<(Piece, usize)>
-    ensures { result ≡ front_piece rest.now }
+/// The lexical unit at the front, with its length, if the text ends it.
+pub fn front_unit(rest: &[u8]) -> Option<(LexicalUnit, usize)>
+    ensures { result ≡ front_unit rest.now }
 {
-    let piece = piece_at(rest)?;
-    let len = piece_len(piece, rest)?;
-    Some((piece, len))
+    let unit = unit_at(rest)?;
+    let len = unit_len(unit, rest)?;
+    Some((unit, len))
 }

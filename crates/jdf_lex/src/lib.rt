@@ -1,4 +1,4 @@
-//! The tokens of a JDF text, with their places.
+//! The tokens of a JDF text, with their spots.
 #![tactic(auto)]
 
 mod bytes;
@@ -7,13 +7,13 @@ mod fault;
 mod front;
 mod laws;
 mod lex;
+mod lexical_unit;
 mod opening;
-mod piece;
 #[cfg(test)]
 mod tests;
 mod token;
 
 pub use fault::{JdfCode, JdfFault, JdfRefusal};
-pub use laws::{longest_is_taken, one_list_of_tokens, tokens_or_one_fault};
+pub use laws::{longest_is_taken, one_list_of_tokens, tokens_or_one_fault, units_as_written};
 pub use lex::tokens;
 pub use token::{Lexed, Spot, Token, TokenKind};

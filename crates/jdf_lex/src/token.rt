@@ -1,24 +1,26 @@
-use ptg_base::{Row, Text};
+//! Tokens and their spots.
 
-/// A place in a text: its line and its column in bytes, both from 1.
+use ptg_base::{Seq, Text};
+
+/// A position in a text: its line and its column in bytes, both from 1.
 #[derive(Clone, Copy, Debug, PartialEq, Eq)]
 pub struct Spot {
     pub line: u32,
     pub column: u32,
 }
 
-/// What a token is, by its spelling.
+/// The kind of a token, decided by its spelling.
 #[derive(Clone, Copy, Debug, PartialEq, Eq)]
 pub enum TokenKind {
     /// A letter or `_`, then letters, digits and `_`.
     Name,
     /// A digit, then letters, digits and `_`.
     Number,
-    /// `"` up to the next `"` that no backslash takes.
+    /// `"` up to and including the next `"` that no backslash escapes.
     Quoted,
-    /// `%{` up to the first `%}`.
+    /// `%{` up to and including the first `%}` after it.
     Raw,
-    /// `%option` up to the end of the line.
+    /// `%option` up to the end of its line.
     OptionLine,
     /// Punctuation, arrows and operators.
     Mark,
@@ -26,7 +28,8 @@ pub enum TokenKind {
     Other,
 }
 
-/// A token: its kind, its bytes, which are those of the text from `start` to before `end`, and its place.
+/// A token: its kind, its spot, and its bytes, which are those of the text from index `start` up to but not including
+/// `end`.
 #[derive(Debug, Drop)]
 pub struct Token {
     pub kind: TokenKind,
@@ -36,9 +39,9 @@ pub struct Token {
     pub spot: Spot,
 }
 
-/// The tokens of a text in order, and the place after its last byte.
+/// The tokens of a text in order, and the spot after its last byte.
 #[derive(Debug, Drop)]
 pub struct Lexed {
-    pub tokens: Row<Token>,
+    pub tokens: Seq<Token>,
     pub end: Spot,
 }

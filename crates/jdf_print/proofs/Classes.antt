@@ -1,4 +1,4 @@
--- What the tokens of flows, classes and whole jobs say.
+-- The tokens of flows, classes and whole jobs derive them.
 use Rattle.std.proofs.Common.{◌≡◌, ℕ, ◌+◌, ◌*◌, ◌≤◌, Bool, true, List, [], ◌∷◌, ◌++◌, length, map, refl, sym, ap, subst, ◌∙◌, inl, inr, arith, append_assoc, length-append}
 use Rattle.std.specs.Prelude.{Option, Some, None, option_map, codes}
 use Rattle.std.specs.List.{flat_map}
@@ -7,13 +7,13 @@ use Rattle.jdf_lex.specs.declared.token.Token.{Token}
 use Rattle.jdf_lex.specs.declared.token.TokenKind.{TokenKind}
 use Rattle.term_core.specs.declared.flow.FlowKind.{FlowKind}
 use Rattle.term_core.specs.declared.flow.FlowKind.TheVariants as kind
-use Rattle.grammar_core.specs.declared.sort.Sort.{Sort}
-use Rattle.grammar_core.specs.declared.sort.Sort.TheVariants as sort
+use Rattle.grammar_core.specs.declared.terminal.Terminal.{Terminal}
+use Rattle.grammar_core.specs.declared.terminal.Terminal.TheVariants as terminal
 use Rattle.grammar_core.specs.declared.code.Code.TheVariants.{TooManyParams, TooManyLocals, TooManyFlows, TooManyDeps, TooManyClasses}
-use Rattle.grammar_core.specs.Sorts.{words, marks, sort_of, is}
+use Rattle.grammar_core.specs.Terminals.{words, marks, terminal_of, is}
 use Rattle.grammar_core.specs.Counted.{is_name}
-use Rattle.grammar_core.specs.Form as form
-use Rattle.grammar_core.specs.Form.{seq, opt, star, one_of, limited, taken, Spells, Derived}
+use Rattle.grammar_core.specs.Production as form
+use Rattle.grammar_core.specs.Production.{seq, opt, star, one_of, limited, taken, Derives, Derived}
 use Rattle.jdf_tree.specs.declared.expression.Word.{Word}
 use Rattle.jdf_tree.specs.declared.part.Part.TheVariants.{Class}
 use Rattle.jdf_tree.specs.declared.tree.ArgTree.{ArgTree}
@@ -23,27 +23,27 @@ use Rattle.jdf_tree.specs.declared.tree.FlowTree.{FlowTree}
 use Rattle.jdf_tree.specs.declared.tree.ClassTree.{ClassTree}
 use Rattle.jdf_tree.specs.declared.tree.Jdf.{Jdf}
 use Rattle.jdf_tree.specs.Expression.{Expression}
-use Rattle.jdf_tree.specs.Inner.{an_opening}
-use Rattle.jdf_tree.specs.Pieces.{word, before, any, maybe, name, word_of}
+use Rattle.jdf_tree.specs.Nonterminal.{an_opening}
+use Rattle.jdf_tree.specs.GrammarParts.{word, suffixed_by, any, maybe, name, word_of}
 use Rattle.jdf_tree.specs.ExpressionGrammar.{outer}
 use Rattle.jdf_tree.specs.ClassGrammar as grammar
 use Rattle.jdf_tree.specs.ClassGrammar.{full_at, eight_names}
 use Rattle.jdf_tree.specs.Grammar as whole
-use Rattle.jdf_tree.specs.Grammar.{inner}
-use Rattle.jdf_print.specs.Pieces.{Piece, token, space, between, separated, with_commas, line, token_count}
+use Rattle.jdf_tree.specs.Grammar.{productions}
+use Rattle.jdf_print.specs.Fragments.{Fragment, token, space, between, separated, with_commas, line, token_count}
 use Rattle.jdf_print.specs.Spelling as print
 use Rattle.jdf_print.specs.Same as same
 use Rattle.jdf_print.specs.Same.{nowhere}
 use Rattle.jdf_print.proofs.Depth.{named}
-use Rattle.jdf_print.proofs.Readable.{IsLike, IsWritten, Reads, reads_both, sort_at, like_sort, is_one, kind_of}
+use Rattle.jdf_print.proofs.Readable.{IsLike, IsWritten, Reads, reads_both, terminal_at, like_terminal, is_one, kind_of}
 use Rattle.jdf_print.proofs.Limits.{no_cut}
 use Rattle.jdf_print.proofs.Separated.{separated_is}
 use Rattle.jdf_print.proofs.Spent.{cover}
-use Rattle.jdf_print.proofs.Expressions.{Says, IsName}
-use Rattle.jdf_print.proofs.Forms.{Tells, Every, EachTells, IsOuter, outer_tells, listed_tells, star_tells, not_full, word_says, after_says, before_says, name_says, same_word, reads_line}
-use Rattle.jdf_print.proofs.Targets.{IsArgument, argument_tells, call_tells, IsDependence, dependence_tells}
+use Rattle.jdf_print.proofs.Expressions.{DerivesTree, IsName}
+use Rattle.jdf_print.proofs.Forms.{ReadsBackAs, Every, EachReadsBack, IsOuter, outer_reads_back, listed_reads_back, star_reads_back, not_full, word_derives, after_derives, before_derives, name_derives, same_word, reads_line}
+use Rattle.jdf_print.proofs.Targets.{IsArgument, argument_reads_back, call_reads_back, IsDependence, dependence_reads_back}
 
--- ---- trees by their parts
+-- ---- trees from their parts
 
 abbrev flow_from : FlowKind → Word → List DepTree → FlowTree
 flow_from k w ds = record { kind = k; name = w; deps = ds }
@@ -74,47 +74,47 @@ job ws cs = record { globals = ws; classes = cs }
 
 -- ---- flows
 
-is_kind_of : (k : FlowKind) → grammar.is_kind (sort_at (print.kind_word k)) ≡ true
+is_kind_of : (k : FlowKind) → grammar.is_kind (terminal_at (print.kind_word k)) ≡ true
 unfolding words marks
 is_kind_of kind.Read = refl
 is_kind_of kind.Write = refl
 is_kind_of kind.Rw = refl
 is_kind_of kind.Ctl = refl
 
-kind_back : (k : FlowKind) → grammar.kind_by (sort_at (print.kind_word k)) ≡ k
+kind_back : (k : FlowKind) → grammar.kind_by (terminal_at (print.kind_word k)) ≡ k
 unfolding words marks
 kind_back kind.Read = refl
 kind_back kind.Write = refl
 kind_back kind.Rw = refl
 kind_back kind.Ctl = refl
 
-kind_says : (k : FlowKind) (x : Token) (s m : List Token) → s ≡ x ∷ m → IsLike x (print.kind_word k) → Says grammar.kind_of_flow s k m
+kind_derives : (k : FlowKind) (x : Token) (s m : List Token) → s ≡ x ∷ m → IsLike x (print.kind_word k) → DerivesTree grammar.kind_of_flow s k m
 unfolding grammar.kind_of_flow
-kind_says k x s m h like =
-    (x, (is_one grammar.is_kind (print.kind_word k) (is_kind_of k) x s m h like, refl), ap grammar.kind_by (like_sort x (print.kind_word k) like) ∙ kind_back k)
+kind_derives k x s m h like =
+    (x, (is_one grammar.is_kind (print.kind_word k) (is_kind_of k) x s m h like, refl), ap grammar.kind_by (like_terminal x (print.kind_word k) like) ∙ kind_back k)
 
 pub record IsFlow (f : FlowTree) : Type 0 where
   pub name : IsName f.name.text
   pub few : length f.deps ≤ 16
   pub deps : Every IsDependence f.deps
 
-pub flow_tells : (f : FlowTree) → IsFlow f → (s r : List Token) → Reads (print.flow f) s r → Tells grammar.flow same.flow (same.flow f) s r
+pub flow_reads_back : (f : FlowTree) → IsFlow f → (s r : List Token) → Reads (print.flow f) s r → ReadsBackAs grammar.flow same.flow (same.flow f) s r
 unfolding grammar.flow grammar.dependences
-flow_tells f made s r h =
+flow_reads_back f formed s r h =
     let split = reads_both (line (token (print.kind_word f.kind) ∷ space ∷ token f.name.text ∷ [])) (flat_map print.dependence f.deps) s r h in
     let l = reads_line (token (print.kind_word f.kind) ∷ space ∷ token f.name.text ∷ []) s split.0 split.1 in
     let n = l.4 in
     let end : l.1 ≡ n.0 ∷ split.0 = n.2 ∙ ap (λ (w : List Token). n.0 ∷ w) n.4 in
-    let k = star_tells 16 (full_at 16 TooManyDeps) (λ i lt. not_full 16 i TooManyDeps lt) grammar.dependence same.dependence IsDependence print.dependence dependence_tells f.deps made.few made.deps split.0 r split.2 in
+    let k = star_reads_back 16 (full_at 16 TooManyDeps) (λ i lt. not_full 16 i TooManyDeps lt) grammar.dependence same.dependence IsDependence print.dependence dependence_reads_back f.deps formed.few formed.deps split.0 r split.2 in
     record {
       tree = grammar.flow_of (f.kind, (word_of n.0, k.tree));
-      says = ((f.kind, (word_of n.0, k.tree)), (l.1, None, None, kind_says f.kind l.0 s l.1 l.2 l.3, (split.0, None, None, name_says f.name.text made.name n.0 l.1 split.0 end n.3, k.says, refl), refl), refl);
+      derives = ((f.kind, (word_of n.0, k.tree)), (l.1, None, None, kind_derives f.kind l.0 s l.1 l.2 l.3, (split.0, None, None, name_derives f.name.text formed.name n.0 l.1 split.0 end n.3, k.derives, refl), refl), refl);
       like = ap (λ (w : Word). flow_from f.kind w (map same.dependence k.tree)) (same_word n.0 f.name n.3) ∙ ap (λ (ds : List DepTree). flow_from f.kind (same.word f.name) ds) k.like;
     }
 
 -- ---- definitions, parameters, affinity, priority
 
-is_assign : is sort.Assign (sort_at (codes "=")) ≡ true
+is_assign : is terminal.Assign (terminal_at (codes "=")) ≡ true
 unfolding words marks
 is_assign = refl
 
@@ -122,88 +122,88 @@ pub record IsDefinition (d : DefTree) : Type 0 where
   pub name : IsName d.name.text
   pub value : IsArgument d.value
 
-pub definition_tells : (d : DefTree) → IsDefinition d → (s r : List Token) → Reads (print.definition d) s r → Tells grammar.definition same.definition (same.definition d) s r
+pub definition_reads_back : (d : DefTree) → IsDefinition d → (s r : List Token) → Reads (print.definition d) s r → ReadsBackAs grammar.definition same.definition (same.definition d) s r
 unfolding grammar.definition
-definition_tells d made s r h =
+definition_reads_back d formed s r h =
     let l = reads_line (token d.name.text ∷ (between (codes "=") ++ print.argument d.value)) s r h in
     let e = l.4 in
-    let k = argument_tells d.value made.value e.1 r e.4 in
+    let k = argument_reads_back d.value formed.value e.1 r e.4 in
     record {
       tree = grammar.definition_of (word_of l.0, k.tree);
-      says = ((word_of l.0, k.tree), (l.1, None, None, name_says d.name.text made.name l.0 s l.1 l.2 l.3, after_says sort.Assign grammar.argument (codes "=") is_assign e.0 l.1 e.1 k.tree r e.2 e.3 k.says, refl), refl);
+      derives = ((word_of l.0, k.tree), (l.1, None, None, name_derives d.name.text formed.name l.0 s l.1 l.2 l.3, after_derives terminal.Assign grammar.argument (codes "=") is_assign e.0 l.1 e.1 k.tree r e.2 e.3 k.derives, refl), refl);
       like = ap (λ (w : Word). definition_from w (same.argument k.tree)) (same_word l.0 d.name l.3) ∙ ap (λ (v : ArgTree). definition_from (same.word d.name) v) k.like;
     }
 
-is_left : is sort.LeftParen (sort_at (codes "(")) ≡ true
+is_left : is terminal.LeftParen (terminal_at (codes "(")) ≡ true
 unfolding words marks
 is_left = refl
 
-is_right : is sort.RightParen (sort_at (codes ")")) ≡ true
+is_right : is terminal.RightParen (terminal_at (codes ")")) ≡ true
 unfolding words marks
 is_right = refl
 
 abbrev pub IsParameter : Word → Type 0
 IsParameter w = IsName w.text
 
-parameter_tells : EachTells (name Class) same.word IsParameter (λ w. token w.text ∷ [])
-parameter_tells w made s r h =
-    record { tree = word_of h.0; says = name_says w.text made h.0 s r (h.2 ∙ ap (λ (l : List Token). h.0 ∷ l) h.4) h.3; like = same_word h.0 w h.3 }
+parameter_reads_back : EachReadsBack (name Class) same.word IsParameter (λ w. token w.text ∷ [])
+parameter_reads_back w formed s r h =
+    record { tree = word_of h.0; derives = name_derives w.text formed h.0 s r (h.2 ∙ ap (λ (l : List Token). h.0 ∷ l) h.4) h.3; like = same_word h.0 w h.3 }
 
--- names with commas between are one token fewer than twice as many
+-- Names with commas between them have one token less than twice their number.
 names_count : (w : Word) (ws : List Word) → token_count (with_commas (map (λ v. token v.text ∷ []) (w ∷ ws))) + 1 ≡ 2 * (1 + length ws)
 names_count w [] = refl
 names_count w (v ∷ ws) = let k = names_count v ws in omega (arith, k)
 
 parameters_tell : (w : Word) (ws : List Word) → IsParameter w → Every IsParameter ws → length ws ≤ 7 → (s r : List Token)
-    → Reads (with_commas (map (λ v. token v.text ∷ []) (w ∷ ws))) s r → Tells grammar.parameters (map same.word) (map same.word (w ∷ ws)) s r
+    → Reads (with_commas (map (λ v. token v.text ∷ []) (w ∷ ws))) s r → ReadsBackAs grammar.parameters (map same.word) (map same.word (w ∷ ws)) s r
 unfolding grammar.parameters
 parameters_tell w ws m ms few s r h =
-    let k = listed_tells (name Class) same.word IsParameter (λ v. token v.text ∷ []) parameter_tells w ws m ms s r h in
+    let k = listed_reads_back (name Class) same.word IsParameter (λ v. token v.text ∷ []) parameter_reads_back w ws m ms s r h in
     let c = cover is_name (with_commas (map (λ v. token v.text ∷ []) (w ∷ ws))) s r h in
     let size : length s ≡ length c.front + length r = ap (λ (l : List Token). length l) c.whole ∙ length-append c.front r in
-    record { tree = k.tree; says = (None, k.says, no_cut 16 TooManyParams (taken s r) (omega (arith, size, c.size, names_count w ws))); like = k.like }
+    record { tree = k.tree; derives = (None, k.derives, no_cut 16 TooManyParams (taken s r) (omega (arith, size, c.size, names_count w ws))); like = k.like }
 
-maybe_parameters : (ws : List Word) → Every IsParameter ws → length ws ≤ 8 → (s r : List Token) → Reads (with_commas (map (λ w. token w.text ∷ []) ws)) s r → Tells (maybe grammar.parameters) (map same.word) (map same.word ws) s r
-maybe_parameters [] made few s r h = record { tree = []; says = (None, (h, refl), refl); like = refl }
-maybe_parameters (w ∷ ws) made few s r h =
-    let k = parameters_tell w ws made.0 made.1 (omega arith) s r h in
-    record { tree = k.tree; says = (Some k.tree, k.says, refl); like = k.like }
+maybe_parameters : (ws : List Word) → Every IsParameter ws → length ws ≤ 8 → (s r : List Token) → Reads (with_commas (map (λ w. token w.text ∷ []) ws)) s r → ReadsBackAs (maybe grammar.parameters) (map same.word) (map same.word ws) s r
+maybe_parameters [] formed few s r h = record { tree = []; derives = (None, (h, refl), refl); like = refl }
+maybe_parameters (w ∷ ws) formed few s r h =
+    let k = parameters_tell w ws formed.0 formed.1 (omega arith) s r h in
+    record { tree = k.tree; derives = (Some k.tree, k.derives, refl); like = k.like }
 
-parameter_list_tells : (ws : List Word) → Every IsParameter ws → length ws ≤ 8 → (s r : List Token) → Reads (print.enclosed (with_commas (map (λ w. token w.text ∷ []) ws))) s r → Tells grammar.parameter_list (map same.word) (map same.word ws) s r
+parameter_list_reads_back : (ws : List Word) → Every IsParameter ws → length ws ≤ 8 → (s r : List Token) → Reads (print.enclosed (with_commas (map (λ w. token w.text ∷ []) ws))) s r → ReadsBackAs grammar.parameter_list (map same.word) (map same.word ws) s r
 unfolding grammar.parameter_list
-parameter_list_tells ws made few s r h =
+parameter_list_reads_back ws formed few s r h =
     let split = reads_both (with_commas (map (λ w. token w.text ∷ []) ws)) (token (codes ")") ∷ []) h.1 r h.4 in
-    let k = maybe_parameters ws made few h.1 split.0 split.1 in
+    let k = maybe_parameters ws formed few h.1 split.0 split.1 in
     let end : split.0 ≡ split.2.0 ∷ r = split.2.2 ∙ ap (λ (l : List Token). split.2.0 ∷ l) split.2.4 in
     record {
       tree = k.tree;
-      says =
-          after_says sort.LeftParen (before sort.RightParen (maybe grammar.parameters)) (codes "(") is_left h.0 s h.1 k.tree r h.2 h.3
-          (before_says sort.RightParen (maybe grammar.parameters) (codes ")") is_right split.2.0 h.1 split.0 k.tree r k.says end split.2.3);
+      derives =
+          after_derives terminal.LeftParen (suffixed_by terminal.RightParen (maybe grammar.parameters)) (codes "(") is_left h.0 s h.1 k.tree r h.2 h.3
+          (before_derives terminal.RightParen (maybe grammar.parameters) (codes ")") is_right split.2.0 h.1 split.0 k.tree r k.derives end split.2.3);
       like = k.like;
     }
 
-is_colon : is sort.Colon (sort_at (codes ":")) ≡ true
+is_colon : is terminal.Colon (terminal_at (codes ":")) ≡ true
 unfolding words marks
 is_colon = refl
 
--- a place: a collection and its indices
+-- A collection and its indices.
 abbrev affinity_plain : Word × List ArgTree → Word × List ArgTree
 affinity_plain x = (same.word x.0, map same.argument x.1)
 
-affinity_tells : (c : ClassTree) → IsName c.affinity.text → Every IsArgument c.affinity_args → (s r : List Token) → Reads (print.affinity c) s r → Tells grammar.affinity affinity_plain (affinity_plain (c.affinity, c.affinity_args)) s r
+affinity_reads_back : (c : ClassTree) → IsName c.affinity.text → Every IsArgument c.affinity_args → (s r : List Token) → Reads (print.affinity c) s r → ReadsBackAs grammar.affinity affinity_plain (affinity_plain (c.affinity, c.affinity_args)) s r
 unfolding grammar.affinity
-affinity_tells c name_made args_made s r h =
+affinity_reads_back c name_well_formed args_well_formed s r h =
     let l = reads_line (token (codes ":") ∷ space ∷ token c.affinity.text ∷ print.arguments c.affinity_args) s r h in
     let n = l.4 in
-    let k = call_tells c.affinity_args args_made n.1 r n.4 in
+    let k = call_reads_back c.affinity_args args_well_formed n.1 r n.4 in
     record {
       tree = (word_of n.0, k.tree);
-      says = after_says sort.Colon (seq (name Class) grammar.call) (codes ":") is_colon l.0 s l.1 (word_of n.0, k.tree) r l.2 l.3 (n.1, None, None, name_says c.affinity.text name_made n.0 l.1 n.1 n.2 n.3, k.says, refl);
+      derives = after_derives terminal.Colon (seq (name Class) grammar.call) (codes ":") is_colon l.0 s l.1 (word_of n.0, k.tree) r l.2 l.3 (n.1, None, None, name_derives c.affinity.text name_well_formed n.0 l.1 n.1 n.2 n.3, k.derives, refl);
       like = ap (λ (w : Word). pair w (map same.argument k.tree)) (same_word n.0 c.affinity n.3) ∙ ap (λ (a : List ArgTree). pair (same.word c.affinity) a) k.like;
     }
 
-is_semicolon : is sort.Semicolon (sort_at (codes ";")) ≡ true
+is_semicolon : is terminal.Semicolon (terminal_at (codes ";")) ≡ true
 unfolding words marks
 is_semicolon = refl
 
@@ -211,84 +211,84 @@ abbrev pub IsPriority : Option Expression → Type 0
 IsPriority None = Unit {0}
 IsPriority (Some e) = IsOuter e
 
-priority_tells : (p : Option Expression) → IsPriority p → (s r : List Token) → Reads (print.priority p) s r → Tells (opt grammar.priority) (option_map same.expression) (option_map same.expression p) s r
+priority_reads_back : (p : Option Expression) → IsPriority p → (s r : List Token) → Reads (print.priority p) s r → ReadsBackAs (opt grammar.priority) (option_map same.expression) (option_map same.expression p) s r
 unfolding grammar.priority
-priority_tells None made s r h = record { tree = None; says = (h, refl); like = refl }
-priority_tells (Some e) made s r h =
+priority_reads_back None formed s r h = record { tree = None; derives = (h, refl); like = refl }
+priority_reads_back (Some e) formed s r h =
     let l = reads_line (token (codes ";") ∷ space ∷ print.expression e) s r h in
-    let k = outer_tells e made l.1 r l.4 in
-    record { tree = Some k.tree.tree; says = (k.tree, after_says sort.Semicolon (outer Class) (codes ";") is_semicolon l.0 s l.1 k.tree r l.2 l.3 k.says, refl); like = ap Some k.like }
+    let k = outer_reads_back e formed l.1 r l.4 in
+    record { tree = Some k.tree.tree; derives = (k.tree, after_derives terminal.Semicolon (outer Class) (codes ";") is_semicolon l.0 s l.1 k.tree r l.2 l.3 k.derives, refl); like = ap Some k.like }
 
 -- ---- bodies
 
--- a token of a body, written as it is
+-- A token of a body, printed as it is.
 pub record IsInBody (x : Token) : Type 0 where
   pub kind : x.kind ≡ kind_of x.text
   pub written : IsWritten x.text
-  pub allowed : grammar.is_in_body (sort_of x) ≡ true
+  pub allowed : grammar.is_in_body (terminal_of x) ≡ true
 
--- the first of them is no "["
+-- The first of them is not `[`.
 abbrev pub IsBody : List Token → Type 0
 IsBody [] = Unit {0}
-IsBody (x ∷ xs) = IsInBody x × (grammar.begins_body (sort_of x) ≡ true) × Every IsInBody xs
+IsBody (x ∷ xs) = IsInBody x × (grammar.begins_body (terminal_of x) ≡ true) × Every IsInBody xs
 
--- the same sort as the token that it is like
-same_sort : (x y : Token) → y.kind ≡ kind_of y.text → IsLike x y.text → sort_of x ≡ sort_of y
-same_sort x y kind like = like_sort x y.text like ∙ sym (like_sort y y.text (kind, refl))
+-- The terminal of the token that it is like.
+same_terminal : (x y : Token) → y.kind ≡ kind_of y.text → IsLike x y.text → terminal_of x ≡ terminal_of y
+same_terminal x y kind like = like_terminal x y.text like ∙ sym (like_terminal y y.text (kind, refl))
 
 same_token : (x y : Token) → y.kind ≡ kind_of y.text → IsLike x y.text → same.token x ≡ same.token y
 same_token x y kind like = ap (λ (k : TokenKind). plain_token k x.text) (like.0 ∙ sym kind) ∙ ap (λ (t : List ℕ). plain_token y.kind t) like.1
 
-body_token : (q : Sort → Bool) (y : Token) → IsInBody y → q (sort_of y) ≡ true → (s r : List Token) → Reads (token y.text ∷ []) s r → Tells (one_of q) same.token (same.token y) s r
-body_token q y made t s r h =
-    record { tree = h.0; says = ((h.2 ∙ ap (λ (l : List Token). h.0 ∷ l) h.4, ap q (same_sort h.0 y made.kind h.3) ∙ t), refl); like = same_token h.0 y made.kind h.3 }
+body_token : (q : Terminal → Bool) (y : Token) → IsInBody y → q (terminal_of y) ≡ true → (s r : List Token) → Reads (token y.text ∷ []) s r → ReadsBackAs (one_of q) same.token (same.token y) s r
+body_token q y formed t s r h =
+    record { tree = h.0; derives = ((h.2 ∙ ap (λ (l : List Token). h.0 ∷ l) h.4, ap q (same_terminal h.0 y formed.kind h.3) ∙ t), refl); like = same_token h.0 y formed.kind h.3 }
 
 tokens_tell : (x : Token) (xs : List Token) → IsBody (x ∷ xs) → (s r : List Token) → Reads (separated (space ∷ []) (map (λ t. token t.text ∷ []) (x ∷ xs))) s r
-    → Tells grammar.body_tokens (map same.token) (map same.token (x ∷ xs)) s r
+    → ReadsBackAs grammar.body_tokens (map same.token) (map same.token (x ∷ xs)) s r
 unfolding grammar.body_tokens
-tokens_tell x xs made s r h =
-    let R : List Piece → Type 0 = λ ps. Reads ps s r in
+tokens_tell x xs formed s r h =
+    let R : List Fragment → Type 0 = λ ps. Reads ps s r in
     let flat = subst R (separated_is (space ∷ []) (λ (t : Token). token t.text ∷ []) x xs) h in
     let split = reads_both (token x.text ∷ []) (flat_map (λ (t : Token). space ∷ token t.text ∷ []) xs) s r flat in
-    let a = body_token grammar.begins_body x made.0 made.1 s split.0 split.1 in
+    let a = body_token grammar.begins_body x formed.0 formed.1 s split.0 split.1 in
     let b =
-    star_tells (length xs) any (λ i lt. refl) (one_of grammar.is_in_body) same.token IsInBody (λ t. space ∷ token t.text ∷ [])
-    (λ y m t u k. body_token grammar.is_in_body y m m.allowed t u k) xs (omega arith) made.2 split.0 r split.2 in
-    record { tree = a.tree ∷ b.tree; says = ((a.tree, b.tree), (split.0, None, None, a.says, b.says, refl), refl); like = ap (λ (t : Token). t ∷ map same.token b.tree) a.like ∙ ap (λ (l : List Token). same.token x ∷ l) b.like }
+    star_reads_back (length xs) any (λ i lt. refl) (one_of grammar.is_in_body) same.token IsInBody (λ t. space ∷ token t.text ∷ [])
+    (λ y m t u k. body_token grammar.is_in_body y m m.allowed t u k) xs (omega arith) formed.2 split.0 r split.2 in
+    record { tree = a.tree ∷ b.tree; derives = ((a.tree, b.tree), (split.0, None, None, a.derives, b.derives, refl), refl); like = ap (λ (t : Token). t ∷ map same.token b.tree) a.like ∙ ap (λ (l : List Token). same.token x ∷ l) b.like }
 
-maybe_tokens : (xs : List Token) → IsBody xs → (s r : List Token) → Reads (print.body xs) s r → Tells (maybe grammar.body_tokens) (map same.token) (map same.token xs) s r
-maybe_tokens [] made s r h = record { tree = []; says = (None, (h, refl), refl); like = refl }
-maybe_tokens (x ∷ xs) made s r h =
+maybe_tokens : (xs : List Token) → IsBody xs → (s r : List Token) → Reads (print.body xs) s r → ReadsBackAs (maybe grammar.body_tokens) (map same.token) (map same.token xs) s r
+maybe_tokens [] formed s r h = record { tree = []; derives = (None, (h, refl), refl); like = refl }
+maybe_tokens (x ∷ xs) formed s r h =
     let l = reads_line (separated (space ∷ []) (map (λ t. token t.text ∷ []) (x ∷ xs))) s r h in
-    let k = tokens_tell x xs made s r l in
-    record { tree = k.tree; says = (Some k.tree, k.says, refl); like = k.like }
+    let k = tokens_tell x xs formed s r l in
+    record { tree = k.tree; derives = (Some k.tree, k.derives, refl); like = k.like }
 
-is_body : is sort.Body (sort_at (codes "BODY")) ≡ true
+is_body : is terminal.Body (terminal_at (codes "BODY")) ≡ true
 unfolding words marks
 is_body = refl
 
-is_end : is sort.End (sort_at (codes "END")) ≡ true
+is_end : is terminal.End (terminal_at (codes "END")) ≡ true
 unfolding words marks
 is_end = refl
 
 abbrev body_plain : List Token × Spot → List Token
 body_plain x = map same.token x.0
 
-body_tells : (xs : List Token) → IsBody xs → (s r : List Token) → Reads (line (token (codes "BODY") ∷ []) ++ (print.body xs ++ line (token (codes "END") ∷ []))) s r → Tells grammar.body body_plain (map same.token xs) s r
+body_reads_back : (xs : List Token) → IsBody xs → (s r : List Token) → Reads (line (token (codes "BODY") ∷ []) ++ (print.body xs ++ line (token (codes "END") ∷ []))) s r → ReadsBackAs grammar.body body_plain (map same.token xs) s r
 unfolding grammar.body
-body_tells xs made s r h =
+body_reads_back xs formed s r h =
     let first = reads_both (line (token (codes "BODY") ∷ [])) (print.body xs ++ line (token (codes "END") ∷ [])) s r h in
     let b = reads_line (token (codes "BODY") ∷ []) s first.0 first.1 in
     let second = reads_both (print.body xs) (line (token (codes "END") ∷ [])) first.0 r first.2 in
     let e = reads_line (token (codes "END") ∷ []) second.0 r second.2 in
-    let k = maybe_tokens xs made first.0 second.0 second.1 in
+    let k = maybe_tokens xs formed first.0 second.0 second.1 in
     let begin : s ≡ b.0 ∷ first.0 = b.2 ∙ ap (λ (l : List Token). b.0 ∷ l) b.4 in
     let end : second.0 ≡ e.0 ∷ r = e.2 ∙ ap (λ (l : List Token). e.0 ∷ l) e.4 in
     record {
       tree = (k.tree, e.0.spot);
-      says =
-          after_says sort.Body (form.map grammar.body_of (seq (opt grammar.properties) (seq (maybe grammar.body_tokens) (word sort.End)))) (codes "BODY") is_body b.0 s first.0 (k.tree, e.0.spot) r begin b.3
-          ((None, (k.tree, e.0)), (first.0, None, None, (refl, refl), (second.0, None, None, k.says, word_says sort.End (codes "END") is_end e.0 second.0 r end e.3, refl), refl), refl);
+      derives =
+          after_derives terminal.Body (form.map grammar.body_of (seq (opt grammar.properties) (seq (maybe grammar.body_tokens) (word terminal.End)))) (codes "BODY") is_body b.0 s first.0 (k.tree, e.0.spot) r begin b.3
+          ((None, (k.tree, e.0)), (first.0, None, None, (refl, refl), (second.0, None, None, k.derives, word_derives terminal.End (codes "END") is_end e.0 second.0 r end e.3, refl), refl), refl);
       like = k.like;
     }
 
@@ -296,13 +296,13 @@ body_tells xs made s r h =
 
 pub record IsClass (c : ClassTree) : Type 0 where
   pub name : IsName c.name.text
-  pub few_params : length c.params ≤ 8
+  pub params_at_most : length c.params ≤ 8
   pub params : Every IsParameter c.params
-  pub few_defs : length c.defs ≤ 16
+  pub defs_at_most : length c.defs ≤ 16
   pub defs : Every IsDefinition c.defs
   pub affinity : IsName c.affinity.text
   pub affinity_args : Every IsArgument c.affinity_args
-  pub few_flows : length c.flows ≤ 8
+  pub flows_at_most : length c.flows ≤ 8
   pub flows : Every IsFlow c.flows
   pub priority : IsPriority c.priority
   pub body : IsBody c.body
@@ -310,20 +310,20 @@ pub record IsClass (c : ClassTree) : Type 0 where
 abbrev head_plain : Word × (List Word × Option (List Token)) → Word × List Word
 head_plain x = (same.word x.0, map same.word x.1.0)
 
-head_tells : (c : ClassTree) → IsClass c → (s r : List Token) → Reads (print.head c) s r → Tells grammar.head head_plain (head_pair (same.word c.name) (map same.word c.params)) s r
+head_reads_back : (c : ClassTree) → IsClass c → (s r : List Token) → Reads (print.head c) s r → ReadsBackAs grammar.head head_plain (head_pair (same.word c.name) (map same.word c.params)) s r
 unfolding grammar.head
-head_tells c made s r h =
+head_reads_back c formed s r h =
     let l = reads_line (token c.name.text ∷ print.enclosed (with_commas (map (λ w. token w.text ∷ []) c.params))) s r h in
-    let k = parameter_list_tells c.params made.params made.few_params l.1 r l.4 in
+    let k = parameter_list_reads_back c.params formed.params formed.params_at_most l.1 r l.4 in
     record {
       tree = (word_of l.0, (k.tree, None));
-      says = (l.1, None, None, name_says c.name.text made.name l.0 s l.1 l.2 l.3, (r, None, None, k.says, (refl, refl), refl), refl);
+      derives = (l.1, None, None, name_derives c.name.text formed.name l.0 s l.1 l.2 l.3, (r, None, None, k.derives, (refl, refl), refl), refl);
       like = ap (λ (w : Word). head_pair w (map same.word k.tree)) (same_word l.0 c.name l.3) ∙ ap (λ (ws : List Word). head_pair (same.word c.name) ws) k.like;
     }
 
-pub class_tells : (c : ClassTree) → IsClass c → (s r : List Token) → Reads (print.class c) s r → Tells grammar.class same.class (same.class c) s r
+pub class_reads_back : (c : ClassTree) → IsClass c → (s r : List Token) → Reads (print.class c) s r → ReadsBackAs grammar.class same.class (same.class c) s r
 unfolding grammar.class grammar.rest grammar.definitions grammar.flows
-class_tells c made s r h =
+class_reads_back c formed s r h =
     let B = line (token (codes "BODY") ∷ []) ++ (print.body c.body ++ line (token (codes "END") ∷ [])) in
     let P = print.priority c.priority ++ B in
     let F = flat_map print.flow c.flows ++ P in
@@ -334,17 +334,17 @@ class_tells c made s r h =
     let s3 = reads_both (print.affinity c) F s2.0 r s2.2 in
     let s4 = reads_both (flat_map print.flow c.flows) P s3.0 r s3.2 in
     let s5 = reads_both (print.priority c.priority) B s4.0 r s4.2 in
-    let k1 = head_tells c made s s1.0 s1.1 in
-    let k2 = star_tells 16 (full_at 16 TooManyLocals) (λ i lt. not_full 16 i TooManyLocals lt) grammar.definition same.definition IsDefinition print.definition definition_tells c.defs made.few_defs made.defs s1.0 s2.0 s2.1 in
-    let k3 = affinity_tells c made.affinity made.affinity_args s2.0 s3.0 s3.1 in
-    let k4 = star_tells 8 (full_at 8 TooManyFlows) (λ i lt. not_full 8 i TooManyFlows lt) grammar.flow same.flow IsFlow print.flow flow_tells c.flows made.few_flows made.flows s3.0 s4.0 s4.1 in
-    let k5 = priority_tells c.priority made.priority s4.0 s5.0 s5.1 in
-    let k6 = body_tells c.body made.body s5.0 r s5.2 in
+    let k1 = head_reads_back c formed s s1.0 s1.1 in
+    let k2 = star_reads_back 16 (full_at 16 TooManyLocals) (λ i lt. not_full 16 i TooManyLocals lt) grammar.definition same.definition IsDefinition print.definition definition_reads_back c.defs formed.defs_at_most formed.defs s1.0 s2.0 s2.1 in
+    let k3 = affinity_reads_back c formed.affinity formed.affinity_args s2.0 s3.0 s3.1 in
+    let k4 = star_reads_back 8 (full_at 8 TooManyFlows) (λ i lt. not_full 8 i TooManyFlows lt) grammar.flow same.flow IsFlow print.flow flow_reads_back c.flows formed.flows_at_most formed.flows s3.0 s4.0 s4.1 in
+    let k5 = priority_reads_back c.priority formed.priority s4.0 s5.0 s5.1 in
+    let k6 = body_reads_back c.body formed.body s5.0 r s5.2 in
     record {
       tree = grammar.class_of (k1.tree, (k2.tree, (k3.tree, (k4.tree, (k5.tree, k6.tree)))));
-      says = (
+      derives = (
         (k1.tree, (k2.tree, (k3.tree, (k4.tree, (k5.tree, k6.tree))))),
-        (s1.0, None, None, k1.says, (s2.0, None, None, k2.says, (s3.0, None, None, k3.says, (s4.0, None, None, k4.says, (s5.0, None, None, k5.says, k6.says, refl), refl), refl), refl), refl),
+        (s1.0, None, None, k1.derives, (s2.0, None, None, k2.derives, (s3.0, None, None, k3.derives, (s4.0, None, None, k4.derives, (s5.0, None, None, k5.derives, k6.derives, refl), refl), refl), refl), refl),
         refl,
       );
       like = same_parts (same.word k1.tree.0, map same.word k1.tree.1.0) _ k1.like _ _ k2.like (affinity_plain k3.tree) _ k3.like _ _ k4.like _ _ k5.like _ _ k6.like;
@@ -358,54 +358,54 @@ pub record IsJob (jdf : Jdf) : Type 0 where
   pub some : 1 ≤ length jdf.classes
   pub classes : Every IsClass jdf.classes
 
-and_skips : (c : ClassTree) → IsClass c → (s r : List Token) → Reads (print.class c) s r → Tells whole.class_and_skips same.class (same.class c) s r
+and_skips : (c : ClassTree) → IsClass c → (s r : List Token) → Reads (print.class c) s r → ReadsBackAs whole.class_and_skips same.class (same.class c) s r
 unfolding whole.class_and_skips
-and_skips c made s r h =
-    let k = class_tells c made s r h in
-    record { tree = k.tree; says = ((k.tree, []), (r, None, None, k.says, (refl, refl), refl), refl); like = k.like }
+and_skips c formed s r h =
+    let k = class_reads_back c formed s r h in
+    record { tree = k.tree; derives = ((k.tree, []), (r, None, None, k.derives, (refl, refl), refl), refl); like = k.like }
 
-classes_tell : (c : ClassTree) (cs : List ClassTree) → IsClass c → Every IsClass cs → length cs ≤ 63 → (s r : List Token) → Reads (flat_map print.class (c ∷ cs)) s r → Tells whole.classes (map same.class) (map same.class (c ∷ cs)) s r
+classes_tell : (c : ClassTree) (cs : List ClassTree) → IsClass c → Every IsClass cs → length cs ≤ 63 → (s r : List Token) → Reads (flat_map print.class (c ∷ cs)) s r → ReadsBackAs whole.classes (map same.class) (map same.class (c ∷ cs)) s r
 unfolding whole.classes
 classes_tell c cs m ms few s r h =
     let split = reads_both (print.class c) (flat_map print.class cs) s r h in
     let a = and_skips c m s split.0 split.1 in
-    let b = star_tells 63 (full_at 63 TooManyClasses) (λ i lt. not_full 63 i TooManyClasses lt) whole.class_and_skips same.class IsClass print.class and_skips cs few ms split.0 r split.2 in
-    record { tree = a.tree ∷ b.tree; says = ((a.tree, b.tree), (split.0, None, None, a.says, b.says, refl), refl); like = ap (λ (t : ClassTree). t ∷ map same.class b.tree) a.like ∙ ap (λ (l : List ClassTree). same.class c ∷ l) b.like }
+    let b = star_reads_back 63 (full_at 63 TooManyClasses) (λ i lt. not_full 63 i TooManyClasses lt) whole.class_and_skips same.class IsClass print.class and_skips cs few ms split.0 r split.2 in
+    record { tree = a.tree ∷ b.tree; derives = ((a.tree, b.tree), (split.0, None, None, a.derives, b.derives, refl), refl); like = ap (λ (t : ClassTree). t ∷ map same.class b.tree) a.like ∙ ap (λ (l : List ClassTree). same.class c ∷ l) b.like }
 
-abbrev globals_pieces : List Word → List Piece
+abbrev globals_pieces : List Word → List Fragment
 globals_pieces ws = flat_map (λ w. line (token w.text ∷ [])) ws
 
-opening_name : (s : List Token) (t : Jdf) (r : List Token) → Says whole.opening s t r → Derived inner an_opening s t None r
-unfolding inner
-opening_name s t r h = named inner an_opening s t None r h
+opening_name : (s : List Token) (t : Jdf) (r : List Token) → DerivesTree whole.opening s t r → Derived productions an_opening s t None r
+unfolding productions
+opening_name s t r h = named productions an_opening s t None r h
 
-opening_tells : (ws : List Word) (c : ClassTree) (cs : List ClassTree) → Every IsParameter ws → IsClass c → Every IsClass cs → length cs ≤ 63 → (s r : List Token)
-    → Reads (globals_pieces ws ++ flat_map print.class (c ∷ cs)) s r → Tells whole.opening same.plain (same.plain (record { globals = ws; classes = c ∷ cs })) s r
-unfolding whole.opening whole.behind_global
-opening_tells [] c cs wm m ms few s r h =
+opening_reads_back : (ws : List Word) (c : ClassTree) (cs : List ClassTree) → Every IsParameter ws → IsClass c → Every IsClass cs → length cs ≤ 63 → (s r : List Token)
+    → Reads (globals_pieces ws ++ flat_map print.class (c ∷ cs)) s r → ReadsBackAs whole.opening same.plain (same.plain (record { globals = ws; classes = c ∷ cs })) s r
+unfolding whole.opening whole.opening_after_global
+opening_reads_back [] c cs wm m ms few s r h =
     let k = classes_tell c cs m ms few s r h in
-    record { tree = whole.without_globals k.tree; says = inr (inr (inl (k.tree, k.says, refl))); like = ap (λ (l : List ClassTree). job [] l) k.like }
-opening_tells (w ∷ ws) c cs wm m ms few s r h =
-    let R : List Piece → Type 0 = λ ps. Reads ps s r in
+    record { tree = whole.without_globals k.tree; derives = inr (inr (inl (k.tree, k.derives, refl))); like = ap (λ (l : List ClassTree). job [] l) k.like }
+opening_reads_back (w ∷ ws) c cs wm m ms few s r h =
+    let R : List Fragment → Type 0 = λ ps. Reads ps s r in
     let split = reads_both (line (token w.text ∷ [])) (globals_pieces ws ++ flat_map print.class (c ∷ cs)) s r (subst R (append_assoc (line (token w.text ∷ [])) (globals_pieces ws) (flat_map print.class (c ∷ cs))) h) in
     let l = reads_line (token w.text ∷ []) s split.0 split.1 in
-    let k = opening_tells ws c cs wm.1 m ms few split.0 r split.2 in
+    let k = opening_reads_back ws c cs wm.1 m ms few split.0 r split.2 in
     let begin : s ≡ l.0 ∷ split.0 = l.2 ∙ ap (λ (v : List Token). l.0 ∷ v) l.4 in
     record {
       tree = whole.with_global (word_of l.0) k.tree;
-      says = inr (inr (inr (inr ((l.0, k.tree), (split.0, None, is_one is_name w.text wm.0.1 l.0 s split.0 begin l.3, opening_name split.0 k.tree r k.says, refl), refl))));
+      derives = inr (inr (inr (inr ((l.0, k.tree), (split.0, None, is_one is_name w.text wm.0.1 l.0 s split.0 begin l.3, opening_name split.0 k.tree r k.derives, refl), refl))));
       like = ap (λ (v : Word). job (v ∷ map same.word k.tree.globals) (map same.class k.tree.classes)) (same_word l.0 w l.3) ∙ ap (λ (j : Jdf). job (same.word w ∷ j.globals) j.classes) k.like;
     }
 
--- The tokens of the spelling of a well-made tree are the text of that tree but for places.
-pub job_tells : (jdf : Jdf) → IsJob jdf → (s r : List Token) → Reads (print.pieces jdf) s r → Tells whole.file same.plain (same.plain jdf) s r
-job_tells jdf made s r h = go jdf.classes refl
+-- The tokens of the spelling of a well-formed tree derive that tree but for positions.
+pub job_reads_back : (jdf : Jdf) → IsJob jdf → (s r : List Token) → Reads (print.fragments jdf) s r → ReadsBackAs whole.file same.plain (same.plain jdf) s r
+job_reads_back jdf formed s r h = go jdf.classes refl
   where
-    go : (cs : List ClassTree) → jdf.classes ≡ cs → Tells whole.file same.plain (same.plain jdf) s r
-    go [] e = absurd (omega (arith, made.some, ap (λ (l : List ClassTree). length l) e))
+    go : (cs : List ClassTree) → jdf.classes ≡ cs → ReadsBackAs whole.file same.plain (same.plain jdf) s r
+    go [] e = absurd (omega (arith, formed.some, ap (λ (l : List ClassTree). length l) e))
     go (c ∷ cs) e =
         let E : List ClassTree → Type 0 = λ l. Every IsClass l in
         let R : List ClassTree → Type 0 = λ l. Reads (globals_pieces jdf.globals ++ flat_map print.class l) s r in
-        let G : List ClassTree → Type 0 = λ l. Tells whole.file same.plain (same.plain (record { globals = jdf.globals; classes = l })) s r in
-        let all = subst E e made.classes in
-        subst G (sym e) (opening_tells jdf.globals c cs made.globals all.0 all.1 (omega (arith, made.few, ap (λ (l : List ClassTree). length l) e)) s r (subst R e h))
+        let G : List ClassTree → Type 0 = λ l. ReadsBackAs whole.file same.plain (same.plain (record { globals = jdf.globals; classes = l })) s r in
+        let all = subst E e formed.classes in
+        subst G (sym e) (opening_reads_back jdf.globals c cs formed.globals all.0 all.1 (omega (arith, formed.few, ap (λ (l : List ClassTree). length l) e)) s r (subst R e h))

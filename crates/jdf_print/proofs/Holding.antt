@@ -1,38 +1,38 @@
--- What holds of each tree of a form, from what holds of those of its parts.
+-- Properties of the trees of a production from properties of the trees of its parts.
 use Rattle.std.proofs.Common.{◌≡◌, ℕ, suc, ◌+◌, ◌≤◌, Bool, true, false, cond, List, [], ◌∷◌, length, refl, sym, subst, ◌∙◌, inl, inr, arith}
 use Rattle.std.specs.Prelude.{Option, Some, None, nat_le}
 use Rattle.std.proofs.lemmas.Bool.{leb-false}
 use Rattle.jdf_lex.specs.declared.token.Token.{Token}
-use Rattle.grammar_core.specs.declared.sort.Sort.{Sort}
-use Rattle.grammar_core.specs.declared.sort.Sort.TheVariants as sort
+use Rattle.grammar_core.specs.declared.terminal.Terminal.{Terminal}
+use Rattle.grammar_core.specs.declared.terminal.Terminal.TheVariants as terminal
 use Rattle.grammar_core.specs.declared.code.Code.{Code}
-use Rattle.grammar_core.specs.Form.{map, seq, alt, opt, star, pick, Fault, Lang, Many, Spells, taken, at_start, or_fault}
+use Rattle.grammar_core.specs.Production.{map, seq, alt, opt, star, pick, Fault, Language, Many, Derives, taken, at_start, or_fault}
 use Rattle.jdf_tree.specs.declared.expression.Word.{Word}
 use Rattle.jdf_tree.specs.declared.part.Part.TheVariants.{Class}
-use Rattle.jdf_tree.specs.Inner.{Inner, TreeOf, Grammar}
-use Rattle.jdf_tree.specs.Pieces.{word, after, before, any, listed, maybe, or_none, name}
+use Rattle.jdf_tree.specs.Nonterminal.{Nonterminal, TreeOf, Grammar}
+use Rattle.jdf_tree.specs.GrammarParts.{word, prefixed_by, suffixed_by, any, listed, maybe, or_none, name}
 use Rattle.jdf_tree.specs.ClassGrammar.{full_at}
 use Rattle.jdf_print.proofs.Expressions.{IsName}
 use Rattle.jdf_print.proofs.Forms.{Every}
-use Rattle.jdf_print.proofs.Behind.{Shortens, spells_behind, none_then, none_or}
+use Rattle.jdf_print.proofs.Ends.{Shortens, derives_has_end, none_then, none_or}
 use Rattle.jdf_print.proofs.Known.{IsKnown, name_known}
-use Rattle.jdf_print.proofs.MadeExpressions.{known_rest}
+use Rattle.jdf_print.proofs.WellFormedExpressions.{known_rest}
 
--- of the tree, where there is one
-abbrev pub IfThere : {A : Type 0} → (A → Type 0) → Option A → Type 0
-IfThere P None = Unit {0}
-IfThere P (Some a) = P a
+-- The property holds of the tree, if there is one.
+abbrev pub IfPresent : {A : Type 0} → (A → Type 0) → Option A → Type 0
+IfPresent P None = Unit {0}
+IfPresent P (Some a) = P a
 
--- of each tree, and there are so few
-abbrev pub FewEvery : {A : Type 0} → ℕ → (A → Type 0) → List A → Type 0
-FewEvery n P ts = (length ts ≤ n) × Every P ts
+-- The property holds of each tree, and there are at most n.
+abbrev pub AtMostEvery : {A : Type 0} → ℕ → (A → Type 0) → List A → Type 0
+AtMostEvery n P ts = (length ts ≤ n) × Every P ts
 
-module _ (R : (n : Inner) → Lang (TreeOf n)) (B : (n : Inner) → Shortens (R n)) where
+module _ (R : (n : Nonterminal) → Language (TreeOf n)) (B : (n : Nonterminal) → Shortens (R n)) where
   abbrev pub Holds : {A : Type 0} → Grammar A → (A → Type 0) → Type 0
-  Holds {A = A} g P = (s : List Token) (t : A) (o : Fault) (r : List Token) → Spells R g s t o r → o ≡ None → Every IsKnown s → P t
+  Holds {A = A} g P = (s : List Token) (t : A) (o : Fault) (r : List Token) → Derives R g s t o r → o ≡ None → Every IsKnown s → P t
 
-  rest : {A : Type 0} (g : Grammar A) (s : List Token) (t : A) (o : Fault) (r : List Token) → Spells R g s t o r → Every IsKnown s → Every IsKnown r
-  rest g s t o r h known = known_rest s r (spells_behind R B g s t o r h) known
+  rest : {A : Type 0} (g : Grammar A) (s : List Token) (t : A) (o : Fault) (r : List Token) → Derives R g s t o r → Every IsKnown s → Every IsKnown r
+  rest g s t o r h known = known_rest s r (derives_has_end R B g s t o r h) known
 
   pub free : {A : Type 0} (g : Grammar A) → Holds g (λ t. Unit {0})
   free g s t o r h e known = tt
@@ -48,14 +48,14 @@ module _ (R : (n : Inner) → Lang (TreeOf n)) (B : (n : Inner) → Shortens (R 
   pub one_or : {A : Type 0} (g k : Grammar A) (P : A → Type 0) → Holds g P → Holds k P → Holds (alt g k) P
   one_or g k P f q s t o r h e known = elim h [ inl u ↦ f s t o r u e known | inr u ↦ q s t o r u e known ]
 
-  pub picked : {A : Type 0} (a : Sort → Bool) (g k : Grammar A) (P : A → Type 0) → Holds g P → Holds k P → Holds (pick a g k) P
+  pub picked : {A : Type 0} (a : Terminal → Bool) (g k : Grammar A) (P : A → Type 0) → Holds g P → Holds k P → Holds (pick a g k) P
   picked a g k P f q s t o r h e known = elim h [ inl u ↦ f s t o r u e known | inr u ↦ q s t o r u e known ]
 
-  pub there : {A : Type 0} (g : Grammar A) (P : A → Type 0) → Holds g P → Holds (opt g) (IfThere P)
-  there g P f s None o r h e known = tt
-  there g P f s (Some t) o r h e known = f s t o r h e known
+  pub if_present : {A : Type 0} (g : Grammar A) (P : A → Type 0) → Holds g P → Holds (opt g) (IfPresent P)
+  if_present g P f s None o r h e known = tt
+  if_present g P f s (Some t) o r h e known = f s t o r h e known
 
-  many_hold : {A : Type 0} (full : ℕ → Option Code) (g : Grammar A) (P : A → Type 0) → Holds g P → (i : ℕ) (ts : List A) (s : List Token) (o : Fault) (r : List Token) → Many full (Spells R g) i s ts o r → o ≡ None → Every IsKnown s → Every P ts
+  many_hold : {A : Type 0} (full : ℕ → Option Code) (g : Grammar A) (P : A → Type 0) → Holds g P → (i : ℕ) (ts : List A) (s : List Token) (o : Fault) (r : List Token) → Many full (Derives R g) i s ts o r → o ≡ None → Every IsKnown s → Every P ts
   many_hold full g P f i [] s o r h e known = tt
   many_hold full g P f i (t ∷ ts) s o r h e known =
       let parts = none_then (or_fault (at_start (full i)) h.1) (taken s h.0) h.2 (sym h.5 ∙ e) in
@@ -72,37 +72,37 @@ module _ (R : (n : Inner) → Lang (TreeOf n)) (B : (n : Inner) → Shortens (R 
       go true e k = absurd (cc)
       go false e k = let low = leb-false n i e in omega (arith, low)
 
-  many_few : {A : Type 0} (n : ℕ) (c : Code) (g : Grammar A) (i : ℕ) (ts : List A) (s : List Token) (o : Fault) (r : List Token) → i ≤ n → Many (full_at n c) (Spells R g) i s ts o r → o ≡ None → i + length ts ≤ n
-  many_few n c g i [] s o r le h e = omega arith
-  many_few n c g i (t ∷ ts) s o r le h e =
+  many_at_most : {A : Type 0} (n : ℕ) (c : Code) (g : Grammar A) (i : ℕ) (ts : List A) (s : List Token) (o : Fault) (r : List Token) → i ≤ n → Many (full_at n c) (Derives R g) i s ts o r → o ≡ None → i + length ts ≤ n
+  many_at_most n c g i [] s o r le h e = omega arith
+  many_at_most n c g i (t ∷ ts) s o r le h e =
       let parts = none_then (or_fault (at_start (full_at n c i)) h.1) (taken s h.0) h.2 (sym h.5 ∙ e) in
       let start = none_or (full_at n c i) h.1 parts.0 in
-      let more = many_few n c g (suc i) ts h.0 h.2 r (not_yet n i c start.0) h.4 parts.1 in
+      let more = many_at_most n c g (suc i) ts h.0 h.2 r (not_yet n i c start.0) h.4 parts.1 in
       omega (arith, more)
 
-  pub few : {A : Type 0} (n : ℕ) (c : Code) (g : Grammar A) (P : A → Type 0) → Holds g P → Holds (star (full_at n c) g) (FewEvery n P)
-  few n c g P f s t o r h e known = (let k = many_few n c g 0 t s o r (omega arith) h e in omega (arith, k), many_hold (full_at n c) g P f 0 t s o r h e known)
+  pub few : {A : Type 0} (n : ℕ) (c : Code) (g : Grammar A) (P : A → Type 0) → Holds g P → Holds (star (full_at n c) g) (AtMostEvery n P)
+  few n c g P f s t o r h e known = (let k = many_at_most n c g 0 t s o r (omega arith) h e in omega (arith, k), many_hold (full_at n c) g P f 0 t s o r h e known)
 
-  pub behind_word : {A : Type 0} (k : Sort) (g : Grammar A) (P : A → Type 0) → Holds g P → Holds (after k g) P
-  behind_word k g P f = mapped (λ x. x.1) (seq (word k) g) (λ x. Unit {0} × P x.1) P (both (word k) g (λ x. Unit {0}) P (free (word k)) f) (λ a h. h.1)
+  pub after_word : {A : Type 0} (k : Terminal) (g : Grammar A) (P : A → Type 0) → Holds g P → Holds (prefixed_by k g) P
+  after_word k g P f = mapped (λ x. x.1) (seq (word k) g) (λ x. Unit {0} × P x.1) P (both (word k) g (λ x. Unit {0}) P (free (word k)) f) (λ a h. h.1)
 
-  pub before_word : {A : Type 0} (k : Sort) (g : Grammar A) (P : A → Type 0) → Holds g P → Holds (before k g) P
+  pub before_word : {A : Type 0} (k : Terminal) (g : Grammar A) (P : A → Type 0) → Holds g P → Holds (suffixed_by k g) P
   before_word k g P f = mapped (λ x. x.0) (seq g (word k)) (λ x. P x.0 × Unit {0}) P (both g (word k) P (λ x. Unit {0}) f (free (word k))) (λ a h. h.0)
 
   pub in_list : {A : Type 0} (g : Grammar A) (P : A → Type 0) → Holds g P → Holds (listed g) (Every P)
   in_list g P f =
-      mapped (λ x. x.0 ∷ x.1) (seq g (star any (after sort.Comma g))) (λ x. P x.0 × Every P x.1) (Every P)
-      (both g (star any (after sort.Comma g)) P (Every P) f (all any (after sort.Comma g) P (behind_word sort.Comma g P f))) (λ a h. h)
+      mapped (λ x. x.0 ∷ x.1) (seq g (star any (prefixed_by terminal.Comma g))) (λ x. P x.0 × Every P x.1) (Every P)
+      (both g (star any (prefixed_by terminal.Comma g)) P (Every P) f (all any (prefixed_by terminal.Comma g) P (after_word terminal.Comma g P f))) (λ a h. h)
 
   pub or_nothing : {A : Type 0} (g : Grammar (List A)) (P : List A → Type 0) → P [] → Holds g P → Holds (maybe g) P
-  or_nothing {A = A} g P nil f = mapped or_none (opt g) (IfThere P) P (there g P f) go
+  or_nothing {A = A} g P nil f = mapped or_none (opt g) (IfPresent P) P (if_present g P f) go
     where
-      go : (a : Option (List A)) → IfThere P a → P (or_none a)
+      go : (a : Option (List A)) → IfPresent P a → P (or_none a)
       go None h = nil
       go (Some a) h = h
 
-  pub name_made : Holds (name Class) (λ w. IsName w.text)
-  name_made s t o r h e known =
+  pub name_well_formed : Holds (name Class) (λ w. IsName w.text)
+  name_well_formed s t o r h e known =
       let q = h.1 in
       let K : List Token → Type 0 = λ l. Every IsKnown l in
       let all_known = subst K q.0.0 known in

@@ -1,4 +1,4 @@
--- What the sort of a token says of its kind and its word.
+-- The kind and the word of a token, from its terminal.
 use Rattle.std.proofs.Common.{◌≡◌, ℕ, Bool, true, false, cond, List, [], ◌∷◌, refl, sym, ap, ◌∙◌}
 use Rattle.std.specs.Prelude.{not, ◌&&◌}
 use Rattle.std.specs.Str.{bytes_eq}
@@ -6,15 +6,15 @@ use Rattle.std.proofs.lemmas.Bool.{and_parts}
 use Rattle.jdf_lex.specs.declared.token.Token.{Token}
 use Rattle.jdf_lex.specs.declared.token.TokenKind.{TokenKind}
 use Rattle.jdf_lex.specs.declared.token.TokenKind.TheVariants as kinds
-use Rattle.grammar_core.specs.declared.sort.Sort.{Sort}
-use Rattle.grammar_core.specs.declared.sort.Sort.TheVariants as sort
-use Rattle.grammar_core.specs.Sorts.{spelled, words, marks, sort_by, sort_of, is}
+use Rattle.grammar_core.specs.declared.terminal.Terminal.{Terminal}
+use Rattle.grammar_core.specs.declared.terminal.Terminal.TheVariants as terminal
+use Rattle.grammar_core.specs.Terminals.{spelled, words, marks, terminal_by, terminal_of, is}
 use Rattle.grammar_core.specs.Counted.{is_name}
 use Rattle.jdf_tree.specs.ClassGrammar.{is_in_body}
-use Rattle.jdf_print.proofs.Readable.{IsWritten, kind_of, like_sort}
+use Rattle.jdf_print.proofs.Readable.{IsWritten, kind_of, like_terminal}
 use Rattle.jdf_print.proofs.Expressions.{IsName}
 
--- A word of such a kind is spelled as such a word is; the others do not matter here.
+-- A name, a number or a mark is spelled as its kind is; the other kinds do not matter here.
 abbrev pub IsKnownAs : TokenKind → List ℕ → Type 0
 IsKnownAs kinds.Name w = (kind_of w ≡ kinds.Name) × IsWritten w
 IsKnownAs kinds.Number w = (kind_of w ≡ kinds.Number) × IsWritten w
@@ -24,8 +24,8 @@ IsKnownAs _ w = Unit {0}
 abbrev pub IsKnown : Token → Type 0
 IsKnown x = IsKnownAs x.kind x.text
 
--- no sort of the table is in the set
-abbrev has_none : (Sort → Bool) → List (List ℕ × Sort) → Bool
+-- No terminal of the table is in the set.
+abbrev has_none : (Terminal → Bool) → List (List ℕ × Terminal) → Bool
 has_none q [] = true
 has_none q (w ∷ ws) = not (q w.1) && has_none q ws
 
@@ -33,11 +33,11 @@ not_in : (b : Bool) → not b ≡ true → b ≡ false
 not_in true h = absurd (cc)
 not_in false h = refl
 
-choose : (q : Sort → Bool) (b : Bool) (x y : Sort) → q x ≡ false → q y ≡ false → q (cond b x y) ≡ false
+choose : (q : Terminal → Bool) (b : Bool) (x y : Terminal) → q x ≡ false → q y ≡ false → q (cond b x y) ≡ false
 choose q true x y f g = f
 choose q false x y f g = g
 
-spelled_out : (q : Sort → Bool) (table : List (List ℕ × Sort)) (text : List ℕ) (else_sort : Sort) → has_none q table ≡ true → q else_sort ≡ false → q (spelled table text else_sort) ≡ false
+spelled_out : (q : Terminal → Bool) (table : List (List ℕ × Terminal)) (text : List ℕ) (else_terminal : Terminal) → has_none q table ≡ true → q else_terminal ≡ false → q (spelled table text else_terminal) ≡ false
 spelled_out q [] text rest h k = k
 spelled_out q (w ∷ ws) text rest h k =
     let p = and_parts (not (q w.1)) (has_none q ws) h in
@@ -47,19 +47,19 @@ apart : (b : Bool) → b ≡ true → b ≡ false → ⊥
 apart true h k = cc
 apart false h k = cc
 
-pub no_mark_is_name : (w : List ℕ) → is_name (spelled marks w sort.Other) ≡ false
+pub no_mark_is_name : (w : List ℕ) → is_name (spelled marks w terminal.Other) ≡ false
 unfolding marks
-no_mark_is_name w = spelled_out is_name marks w sort.Other refl refl
+no_mark_is_name w = spelled_out is_name marks w terminal.Other refl refl
 
-no_mark_is_number : (w : List ℕ) → is sort.Number (spelled marks w sort.Other) ≡ false
+no_mark_is_number : (w : List ℕ) → is terminal.Number (spelled marks w terminal.Other) ≡ false
 unfolding marks
-no_mark_is_number w = spelled_out (is sort.Number) marks w sort.Other refl refl
+no_mark_is_number w = spelled_out (is terminal.Number) marks w terminal.Other refl refl
 
-no_word_is_number : (w : List ℕ) → is sort.Number (spelled words w sort.Name) ≡ false
+no_word_is_number : (w : List ℕ) → is terminal.Number (spelled words w terminal.Name) ≡ false
 unfolding words
-no_word_is_number w = spelled_out (is sort.Number) words w sort.Name refl refl
+no_word_is_number w = spelled_out (is terminal.Number) words w terminal.Name refl refl
 
-name_kind : (k : TokenKind) (w : List ℕ) → is_name (sort_by k w) ≡ true → IsKnownAs k w → (k ≡ kind_of w) × IsWritten w
+name_kind : (k : TokenKind) (w : List ℕ) → is_name (terminal_by k w) ≡ true → IsKnownAs k w → (k ≡ kind_of w) × IsWritten w
 name_kind kinds.Name w h known = (sym known.0, known.1)
 name_kind kinds.Number w h known = absurd (cc)
 name_kind kinds.Quoted w h known = absurd (cc)
@@ -68,14 +68,14 @@ name_kind kinds.OptionLine w h known = absurd (cc)
 name_kind kinds.Mark w h known = absurd (apart _ h (no_mark_is_name w))
 name_kind kinds.Other w h known = absurd (cc)
 
--- a token that is a name
-pub name_known : (x : Token) → is_name (sort_of x) ≡ true → IsKnown x → IsName x.text
-unfolding sort_of
+-- A token that is a name.
+pub name_known : (x : Token) → is_name (terminal_of x) ≡ true → IsKnown x → IsName x.text
+unfolding terminal_of
 name_known x h known =
     let k = name_kind x.kind x.text h known in
-    (k.1, ap is_name (sym (like_sort x x.text (k.0, refl))) ∙ h)
+    (k.1, ap is_name (sym (like_terminal x x.text (k.0, refl))) ∙ h)
 
-body_kind : (k : TokenKind) (w : List ℕ) → is_in_body (sort_by k w) ≡ true → IsKnownAs k w → (k ≡ kind_of w) × IsWritten w
+body_kind : (k : TokenKind) (w : List ℕ) → is_in_body (terminal_by k w) ≡ true → IsKnownAs k w → (k ≡ kind_of w) × IsWritten w
 body_kind kinds.Name w h known = (sym known.0, known.1)
 body_kind kinds.Number w h known = (sym known.0, known.1)
 body_kind kinds.Quoted w h known = absurd (cc)
@@ -84,7 +84,7 @@ body_kind kinds.OptionLine w h known = absurd (cc)
 body_kind kinds.Mark w h known = (sym known.0, known.1)
 body_kind kinds.Other w h known = absurd (cc)
 
--- a token that stands in a body
-pub body_known : (x : Token) → is_in_body (sort_of x) ≡ true → IsKnown x → (x.kind ≡ kind_of x.text) × IsWritten x.text
-unfolding sort_of
+-- A token of a body.
+pub body_known : (x : Token) → is_in_body (terminal_of x) ≡ true → IsKnown x → (x.kind ≡ kind_of x.text) × IsWritten x.text
+unfolding terminal_of
 body_known x h known = body_kind x.kind x.text h known

@@ -9,13 +9,13 @@ pub mod Expressions
 pub mod Forms
 pub mod Targets
 pub mod Classes
-pub mod Behind
+pub mod Ends
 pub mod Known
-pub mod MadeExpressions
+pub mod WellFormedExpressions
 pub mod Holding
-pub mod MadeClasses
+pub mod WellFormedClasses
 pub mod Marks
 pub mod Lexing
-pub mod Fitting
+pub mod Lexable
 pub mod Tokens
 pub mod Back

@@ -1,4 +1,4 @@
-pub mod Pieces
+pub mod Fragments
 pub mod Spelling
 pub mod Same
 pub mod ReadsBack

@@ -1,4 +1,4 @@
--- Trees that are the same but for places: each spot, and the start and end of each token, is set to one value.
+-- Trees that are the same but for positions: every spot, and the start and end of every token, is set to one value.
 use Rattle.std.specs.Prelude.{◌≡◌, map, option_map}
 use Rattle.jdf_lex.specs.declared.token.Spot.{Spot}
 use Rattle.jdf_lex.specs.declared.token.Token.{Token}
@@ -14,7 +14,7 @@ use Rattle.jdf_tree.specs.declared.tree.ClassTree.{ClassTree}
 use Rattle.jdf_tree.specs.declared.tree.Jdf.{Jdf}
 use Rattle.jdf_tree.specs.Expression.{Expression, Num, Name, Elem, Unary, Binary, Choose}
 
--- the one spot
+-- The one spot.
 abbrev pub nowhere : Spot
 nowhere = record { line = 1; column = 1 }
 
@@ -72,10 +72,10 @@ class c =
       finish = nowhere;
     }
 
--- the tree without places
+-- The tree without positions.
 abbrev pub plain : Jdf → Jdf
 plain jdf = record { globals = map word jdf.globals; classes = map class jdf.classes }
 
--- These trees are the same but for places.
+-- The trees are the same but for positions.
 abbrev pub IsSame : Jdf → Jdf → Type 0
 IsSame a b = plain a ≡ plain b

@@ -1,4 +1,5 @@
--- The canonical spelling of a tree: what `show` prints. The form is this project's own choice: a line for each part, every operator in parentheses.
+-- The canonical spelling of a tree, which `show` prints. The form is this project's own choice: a line for each part, and
+-- every operator in parentheses.
 use Rattle.std.specs.Prelude.{ℕ, List, [], ◌∷◌, ◌++◌, map, flat_map, Option, Some, None, Bool, true, false, codes}
 use Rattle.std.specs.Fmt.{signed_decimal}
 use Rattle.jdf_lex.specs.declared.token.Token.{Token}
@@ -20,7 +21,7 @@ use Rattle.jdf_tree.specs.declared.tree.ClassTree.{ClassTree}
 use Rattle.jdf_tree.specs.declared.tree.Jdf.{Jdf}
 use Rattle.jdf_tree.specs.Expression as tree
 use Rattle.jdf_tree.specs.Expression.{Expression}
-use Rattle.jdf_print.specs.Pieces.{Piece, token, blank, space, newline, text, line, between, separated, with_commas}
+use Rattle.jdf_print.specs.Fragments.{Fragment, token, blank, space, newline, text, line, between, separated, with_commas}
 
 abbrev pub sign : UnOp → List ℕ
 sign un.Neg = codes "-"
@@ -42,12 +43,12 @@ operator bin.Ge = codes ">="
 operator bin.And = codes "&&"
 operator bin.Or = codes "||"
 
--- in parentheses
-abbrev pub enclosed : List Piece → List Piece
-enclosed pieces = token (codes "(") ∷ (pieces ++ token (codes ")") ∷ [])
+-- Fragments in parentheses.
+abbrev pub enclosed : List Fragment → List Fragment
+enclosed fragments = token (codes "(") ∷ (fragments ++ token (codes ")") ∷ [])
 
--- an expression: every operator stands in parentheses with its operands, a number is its digits
-abbrev pub expression : Expression → List Piece
+-- An expression: every operator is in parentheses with its operands, and a number is its digits.
+abbrev pub expression : Expression → List Fragment
 expression (tree.Num z spot) = token (signed_decimal z) ∷ []
 expression (tree.Name w) = token w.text ∷ []
 expression (tree.Elem w a) = token w.text ∷ token (codes "[") ∷ (expression a ++ token (codes "]") ∷ [])
@@ -55,34 +56,34 @@ expression (tree.Unary o a spot) = enclosed (token (sign o) ∷ expression a)
 expression (tree.Binary o a b) = enclosed (expression a ++ (between (operator o) ++ expression b))
 expression (tree.Choose c a b) = enclosed (expression c ++ (between (codes "?") ++ (expression a ++ (between (codes ":") ++ expression b))))
 
--- the step of a range, where there is one
-abbrev pub step : Option Expression → List Piece
+-- The step of a range, if there is one.
+abbrev pub step : Option Expression → List Fragment
 step None = []
 step (Some e) = between (codes "..") ++ expression e
 
--- an argument, or what a definition gives
-abbrev pub argument : ArgTree → List Piece
+-- An argument, or the value of a definition.
+abbrev pub argument : ArgTree → List Fragment
 argument (One e) = expression e
 argument (Span spot lo hi by) = expression lo ++ (between (codes "..") ++ (expression hi ++ step by))
 
-abbrev pub arguments : List ArgTree → List Piece
+abbrev pub arguments : List ArgTree → List Fragment
 arguments args = enclosed (with_commas (map argument args))
 
-abbrev pub target : TargetTree → List Piece
+abbrev pub target : TargetTree → List Fragment
 target (Task flow class args) = token flow.text ∷ space ∷ token class.text ∷ arguments args
 target (Element coll args) = token coll.text ∷ arguments args
 target (New spot) = token (codes "NEW") ∷ []
 target (Null spot) = token (codes "NULL") ∷ []
 
-abbrev pub guard : Option Expression → List Piece
+abbrev pub guard : Option Expression → List Fragment
 guard None = []
 guard (Some c) = expression c ++ between (codes "?")
 
-abbrev pub other : Option TargetTree → List Piece
+abbrev pub other : Option TargetTree → List Fragment
 other None = []
 other (Some t) = between (codes ":") ++ target t
 
-abbrev pub datatype : Option Word → List Piece
+abbrev pub datatype : Option Word → List Fragment
 datatype None = []
 datatype (Some w) = space ∷ token (codes "[") ∷ token (codes "type") ∷ (between (codes "=") ++ token w.text ∷ token (codes "]") ∷ [])
 
@@ -90,8 +91,8 @@ abbrev pub arrow : Bool → List ℕ
 arrow true = codes "<-"
 arrow false = codes "->"
 
--- a dependence is two spaces in
-abbrev pub dependence : DepTree → List Piece
+-- A dependence, indented by two spaces.
+abbrev pub dependence : DepTree → List Fragment
 dependence d = line (blank (codes "  ") ∷ token (arrow d.inward) ∷ space ∷ (guard d.guard ++ (target d.yes ++ (other d.no ++ datatype d.datatype))))
 
 abbrev pub kind_word : FlowKind → List ℕ
@@ -100,40 +101,40 @@ kind_word kind.Write = codes "WRITE"
 kind_word kind.Rw = codes "RW"
 kind_word kind.Ctl = codes "CTL"
 
--- a flow, and its dependences below it
-abbrev pub flow : FlowTree → List Piece
+-- A flow, then its dependences.
+abbrev pub flow : FlowTree → List Fragment
 flow f = line (token (kind_word f.kind) ∷ space ∷ token f.name.text ∷ []) ++ flat_map dependence f.deps
 
-abbrev pub definition : DefTree → List Piece
+abbrev pub definition : DefTree → List Fragment
 definition d = line (token d.name.text ∷ (between (codes "=") ++ argument d.value))
 
-abbrev pub priority : Option Expression → List Piece
+abbrev pub priority : Option Expression → List Fragment
 priority None = []
 priority (Some e) = line (token (codes ";") ∷ space ∷ expression e)
 
--- the tokens of a body with single spaces between, and no line where there are none
-abbrev pub body : List Token → List Piece
+-- The tokens of a body with single spaces between them on a line, or nothing if there are none.
+abbrev pub body : List Token → List Fragment
 body [] = []
 body (x ∷ xs) = line (separated (space ∷ []) (map (λ t. token t.text ∷ []) (x ∷ xs)))
 
 -- `Name(p, q)`
-abbrev pub head : ClassTree → List Piece
+abbrev pub head : ClassTree → List Fragment
 head c = line (token c.name.text ∷ enclosed (with_commas (map (λ w. token w.text ∷ []) c.params)))
 
 -- `: D(a, b)`
-abbrev pub affinity : ClassTree → List Piece
+abbrev pub affinity : ClassTree → List Fragment
 affinity c = line (token (codes ":") ∷ space ∷ token c.affinity.text ∷ arguments c.affinity_args)
 
--- a class, an empty line before it
-abbrev pub class : ClassTree → List Piece
+-- A class, an empty line before it.
+abbrev pub class : ClassTree → List Fragment
 class c =
     newline ∷ (head c ++ (flat_map definition c.defs ++ (affinity c ++ (flat_map flow c.flows ++ (priority c.priority
     ++ (line (token (codes "BODY") ∷ []) ++ (body c.body ++ line (token (codes "END") ∷ []))))))))
 
--- each global on a line, then each class
-abbrev pub pieces : Jdf → List Piece
-pieces jdf = flat_map (λ w. line (token w.text ∷ [])) jdf.globals ++ flat_map class jdf.classes
+-- Each global on a line, then each class.
+abbrev pub fragments : Jdf → List Fragment
+fragments jdf = flat_map (λ w. line (token w.text ∷ [])) jdf.globals ++ flat_map class jdf.classes
 
--- the canonical spelling
+-- The canonical spelling.
 abbrev pub spelling : Jdf → List ℕ
-spelling jdf = text (pieces jdf)
+spelling jdf = text (fragments jdf)

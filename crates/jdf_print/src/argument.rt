@@ -1,15 +1,17 @@
+//! Arguments and ranges.
+
 ghost use Rattle.std.specs.Prelude.{◌≡◌, ◌++◌, OnOk, map};
 ghost use Rattle.std.specs.List.{flat_map};
-ghost use Rattle.jdf_print.specs.Pieces.{text, with_commas, comma};
+ghost use Rattle.jdf_print.specs.Fragments.{text, with_commas, comma};
 ghost use Rattle.jdf_print.specs.Spelling.{argument, arguments, step};
 
 use crate::expression::put_expression;
 use crate::writer::put;
 use jdf_tree::{ArgTree, ExprTree};
-use ptg_base::{OutOfMemory, Row};
+use ptg_base::{OutOfMemory, Seq};
 
-/// Puts the step of a range, where there is one.
-fn put_step(out: &mut Row<u8>, by: &Option<ExprTree>) -> Result<(), OutOfMemory>
+// Puts the step of a range, if there is one.
+fn put_step(out: &mut Seq<u8>, by: &Option<ExprTree>) -> Result<(), OutOfMemory>
     ensures { OnOk result (out.new ≡ out.old ++ text (step by.now)) }
 {
     match by {
@@ -21,8 +23,8 @@ fn put_step(out: &mut Row<u8>, by: &Option<ExprTree>) -> Result<(), OutOfMemory>
     }
 }
 
-/// Puts an argument, or what stands behind the `=` of a definition.
-pub(crate) fn put_argument(out: &mut Row<u8>, arg: &ArgTree) -> Result<(), OutOfMemory>
+/// Puts an argument, or the value of a definition.
+pub(crate) fn put_argument(out: &mut Seq<u8>, arg: &ArgTree) -> Result<(), OutOfMemory>
     ensures { OnOk result (out.new ≡ out.old ++ text (argument arg.now)) }
 {
     match arg {
@@ -36,8 +38,8 @@ pub(crate) fn put_argument(out: &mut Row<u8>, arg: &ArgTree) -> Result<(), OutOf
     }
 }
 
-/// Puts arguments that stand behind others, a comma before each.
-fn put_later(out: &mut Row<u8>, args: &[ArgTree]) -> Result<(), OutOfMemory>
+// Puts the arguments after the first, a comma before each.
+fn put_later(out: &mut Seq<u8>, args: &[ArgTree]) -> Result<(), OutOfMemory>
     ensures { OnOk result (out.new ≡ out.old ++ text (flat_map (λ a. comma ++ argument a) args.now)) }
 {
     for arg in args {
@@ -47,8 +49,8 @@ fn put_later(out: &mut Row<u8>, args: &[ArgTree]) -> Result<(), OutOfMemory>
     Ok(())
 }
 
-/// Puts arguments with commas between them.
-fn put_listed(out: &mut Row<u8>, args: &[ArgTree]) -> Result<(), OutOfMemory>
+// Puts arguments with commas between them.
+fn put_listed(out: &mut Seq<u8>, args: &[ArgTree]) -> Result<(), OutOfMemory>
     ensures { OnOk result (out.new ≡ out.old ++ text (with_commas (map argument args.now))) }
 {
     let Some((first, later)) = args.split_first() else {
@@ -59,7 +61,7 @@ fn put_listed(out: &mut Row<u8>, args: &[ArgTree]) -> Result<(), OutOfMemory>
 }
 
 /// Puts a list of arguments in its parentheses.
-pub(crate) fn put_arguments(out: &mut Row<u8>, args: &Row<ArgTree>) -> Result<(), OutOfMemory>
+pub(crate) fn put_arguments(out: &mut Seq<u8>, args: &Seq<ArgTree>) -> Result<(), OutOfMemory>
     ensures { OnOk result (out.new ≡ out.old ++ text (arguments args.now)) }
 {
     put(out, b"(")?;

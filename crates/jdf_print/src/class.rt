@@ -1,6 +1,8 @@
+//! Classes: heads, definitions, affinities, flows, priorities.
+
 ghost use Rattle.std.specs.Prelude.{◌≡◌, ◌∷◌, [], ◌++◌, OnOk, map};
 ghost use Rattle.std.specs.List.{flat_map};
-ghost use Rattle.jdf_print.specs.Pieces.{text, token, with_commas, comma};
+ghost use Rattle.jdf_print.specs.Fragments.{text, token, with_commas, comma};
 ghost use Rattle.jdf_print.specs.Spelling.{kind_word, dependence, flow, definition, priority, head, affinity, class};
 
 use crate::argument::{put_argument, put_arguments};
@@ -9,9 +11,10 @@ use crate::expression::put_expression;
 use crate::target::put_dependence;
 use crate::writer::{put, put_word};
 use jdf_tree::{ClassTree, DefTree, DepTree, ExprTree, FlowTree, Word};
-use ptg_base::{OutOfMemory, Row};
+use ptg_base::{OutOfMemory, Seq};
 use term_core::FlowKind;
 
+// The word of a kind of flow.
 fn word_of_kind(kind: FlowKind) -> &'static [u8]
     ensures { result.now ≡ kind_word kind }
 {
@@ -23,7 +26,8 @@ fn word_of_kind(kind: FlowKind) -> &'static [u8]
     }
 }
 
-fn put_dependences(out: &mut Row<u8>, deps: &[DepTree]) -> Result<(), OutOfMemory>
+// Puts dependences, each on a line.
+fn put_dependences(out: &mut Seq<u8>, deps: &[DepTree]) -> Result<(), OutOfMemory>
     ensures { OnOk result (out.new ≡ out.old ++ text (flat_map dependence deps.now)) }
 {
     for d in deps {
@@ -32,8 +36,8 @@ fn put_dependences(out: &mut Row<u8>, deps: &[DepTree]) -> Result<(), OutOfMemor
     Ok(())
 }
 
-/// Puts a flow on a line, and its dependences below it.
-fn put_flow(out: &mut Row<u8>, f: &FlowTree) -> Result<(), OutOfMemory>
+// Puts a flow on a line, then its dependences.
+fn put_flow(out: &mut Seq<u8>, f: &FlowTree) -> Result<(), OutOfMemory>
     ensures { OnOk result (out.new ≡ out.old ++ text (flow f.now)) }
 {
     put(out, word_of_kind(f.kind))?;
@@ -43,7 +47,8 @@ fn put_flow(out: &mut Row<u8>, f: &FlowTree) -> Result<(), OutOfMemory>
     put_dependences(out, f.deps.as_slice())
 }
 
-fn put_flows(out: &mut Row<u8>, flows: &[FlowTree]) -> Result<(), OutOfMemory>
+// Puts flows.
+fn put_flows(out: &mut Seq<u8>, flows: &[FlowTree]) -> Result<(), OutOfMemory>
     ensures { OnOk result (out.new ≡ out.old ++ text (flat_map flow flows.now)) }
 {
     for f in flows {
@@ -52,7 +57,8 @@ fn put_flows(out: &mut Row<u8>, flows: &[FlowTree]) -> Result<(), OutOfMemory>
     Ok(())
 }
 
-fn put_definition(out: &mut Row<u8>, d: &DefTree) -> Result<(), OutOfMemory>
+// Puts a definition on a line.
+fn put_definition(out: &mut Seq<u8>, d: &DefTree) -> Result<(), OutOfMemory>
     ensures { OnOk result (out.new ≡ out.old ++ text (definition d.now)) }
 {
     put_word(out, &d.name)?;
@@ -61,7 +67,8 @@ fn put_definition(out: &mut Row<u8>, d: &DefTree) -> Result<(), OutOfMemory>
     put(out, b"\n")
 }
 
-fn put_definitions(out: &mut Row<u8>, defs: &[DefTree]) -> Result<(), OutOfMemory>
+// Puts definitions.
+fn put_definitions(out: &mut Seq<u8>, defs: &[DefTree]) -> Result<(), OutOfMemory>
     ensures { OnOk result (out.new ≡ out.old ++ text (flat_map definition defs.now)) }
 {
     for d in defs {
@@ -70,8 +77,8 @@ fn put_definitions(out: &mut Row<u8>, defs: &[DefTree]) -> Result<(), OutOfMemor
     Ok(())
 }
 
-/// Puts parameters that stand behind others, a comma before each.
-fn put_later(out: &mut Row<u8>, names: &[Word]) -> Result<(), OutOfMemory>
+// Puts the parameters after the first, a comma before each.
+fn put_later(out: &mut Seq<u8>, names: &[Word]) -> Result<(), OutOfMemory>
     ensures { OnOk result (out.new ≡ out.old ++ text (flat_map (λ w. comma ++ token w.text ∷ []) names.now)) }
 {
     for name in names {
@@ -81,8 +88,8 @@ fn put_later(out: &mut Row<u8>, names: &[Word]) -> Result<(), OutOfMemory>
     Ok(())
 }
 
-/// Puts parameters with commas between them.
-fn put_parameters(out: &mut Row<u8>, names: &[Word]) -> Result<(), OutOfMemory>
+// Puts parameters with commas between them.
+fn put_parameters(out: &mut Seq<u8>, names: &[Word]) -> Result<(), OutOfMemory>
     ensures { OnOk result (out.new ≡ out.old ++ text (with_commas (map (λ w. token w.text ∷ []) names.now))) }
 {
     let Some((first, later)) = names.split_first() else {
@@ -92,8 +99,8 @@ fn put_parameters(out: &mut Row<u8>, names: &[Word]) -> Result<(), OutOfMemory>
     put_later(out, later)
 }
 
-/// Puts the name of a class and its parameters, on a line.
-fn put_head(out: &mut Row<u8>, c: &ClassTree) -> Result<(), OutOfMemory>
+// Puts the name of a class and its parameters on a line.
+fn put_head(out: &mut Seq<u8>, c: &ClassTree) -> Result<(), OutOfMemory>
     ensures { OnOk result (out.new ≡ out.old ++ text (head c.now)) }
 {
     put_word(out, &c.name)?;
@@ -102,8 +109,8 @@ fn put_head(out: &mut Row<u8>, c: &ClassTree) -> Result<(), OutOfMemory>
     put(out, b")\n")
 }
 
-/// Puts where the tasks of a class are placed, on a line.
-fn put_affinity(out: &mut Row<u8>, c: &ClassTree) -> Result<(), OutOfMemory>
+// Puts the affinity of a class on a line.
+fn put_affinity(out: &mut Seq<u8>, c: &ClassTree) -> Result<(), OutOfMemory>
     ensures { OnOk result (out.new ≡ out.old ++ text (affinity c.now)) }
 {
     put(out, b": ")?;
@@ -112,8 +119,8 @@ fn put_affinity(out: &mut Row<u8>, c: &ClassTree) -> Result<(), OutOfMemory>
     put(out, b"\n")
 }
 
-/// Puts a priority on a line, where there is one.
-fn put_priority(out: &mut Row<u8>, value: &Option<ExprTree>) -> Result<(), OutOfMemory>
+// Puts a priority on a line, if there is one.
+fn put_priority(out: &mut Seq<u8>, value: &Option<ExprTree>) -> Result<(), OutOfMemory>
     ensures { OnOk result (out.new ≡ out.old ++ text (priority value.now)) }
 {
     match value {
@@ -126,8 +133,8 @@ fn put_priority(out: &mut Row<u8>, value: &Option<ExprTree>) -> Result<(), OutOf
     }
 }
 
-/// Puts a class behind an empty line.
-pub(crate) fn put_class(out: &mut Row<u8>, c: &ClassTree) -> Result<(), OutOfMemory>
+/// Puts an empty line and a class.
+pub(crate) fn put_class(out: &mut Seq<u8>, c: &ClassTree) -> Result<(), OutOfMemory>
     ensures { OnOk result (out.new ≡ out.old ++ text (class c.now)) }
 {
     put(out, b"\n")?;

@@ -1,14 +1,17 @@
+//! Expressions.
+
 ghost use Rattle.std.specs.Prelude.{◌≡◌, ◌++◌, OnOk};
-ghost use Rattle.jdf_print.specs.Pieces.{text};
+ghost use Rattle.jdf_print.specs.Fragments.{text};
 ghost use Rattle.jdf_print.specs.Spelling.{sign, operator, expression};
 ghost use Rattle.jdf_tree.specs.NodeExpression.{expression_of};
 
 use crate::number::put_number;
 use crate::writer::{put, put_word};
 use jdf_tree::{ExprNode, ExprTree};
-use ptg_base::{OutOfMemory, Row};
+use ptg_base::{OutOfMemory, Seq};
 use term_core::{BinOp, UnOp};
 
+// The spelling of a prefix operator.
 fn sign_of(op: UnOp) -> &'static [u8]
     ensures { result.now ≡ sign op }
 {
@@ -18,7 +21,7 @@ fn sign_of(op: UnOp) -> &'static [u8]
     }
 }
 
-/// Both spellings of And and of Or are read, and the double one is put.
+// The spelling of an operator; And and Or, which have two, have the double one.
 fn operator_of(op: BinOp) -> &'static [u8]
     ensures { result.now ≡ operator op }
 {
@@ -39,8 +42,8 @@ fn operator_of(op: BinOp) -> &'static [u8]
     }
 }
 
-/// Puts what an operation at the root of an expression spells, every operator in parentheses.
-fn put_node(out: &mut Row<u8>, node: &ExprNode) -> Result<(), OutOfMemory>
+// Puts an expression by the node at its root, every operator in parentheses.
+fn put_node(out: &mut Seq<u8>, node: &ExprNode) -> Result<(), OutOfMemory>
     ensures { OnOk result (out.new ≡ out.old ++ text (expression (expression_of node.now))) }
 {
     match node {
@@ -80,7 +83,7 @@ fn put_node(out: &mut Row<u8>, node: &ExprNode) -> Result<(), OutOfMemory>
 }
 
 /// Puts an expression.
-pub(crate) fn put_expression(out: &mut Row<u8>, e: &ExprTree) -> Result<(), OutOfMemory>
+pub(crate) fn put_expression(out: &mut Seq<u8>, e: &ExprTree) -> Result<(), OutOfMemory>
     ensures { OnOk result (out.new ≡ out.old ++ text (expression e.now)) }
 {
     put_node(out, e.node())

@@ -1,7 +1,9 @@
+//! Laws of the canonical spelling.
+
 ghost use Rattle.jdf_print.specs.ReadsBack.{ReadsBack};
 
-/// The law that what `print` gives of a tree that some text has reads back: where it is itself not too long and has not
-/// too many tokens, it is the text of a tree that is the same but for spots and the places of tokens.
+/// A law: the canonical spelling of a tree that some text has, if it is not too long and has not too many tokens, is
+/// itself the text of a tree, the same but for spots and the indices of tokens.
 pub fn reads_back()
     ensures { ReadsBack }
 {}

@@ -1,16 +1,18 @@
+//! Whole trees.
+
 ghost use Rattle.std.specs.Prelude.{◌≡◌, ◌∷◌, [], ◌++◌, OnOk, IfOk};
 ghost use Rattle.std.specs.List.{flat_map};
-ghost use Rattle.jdf_print.specs.Pieces.{text, token, line};
+ghost use Rattle.jdf_print.specs.Fragments.{text, token, line};
 ghost use Rattle.jdf_print.specs.Spelling.{class, spelling};
 
 use crate::class::put_class;
 use crate::writer::{put, put_word};
 use jdf_tree::{ClassTree, Jdf, Word};
-use ptg_base::{OutOfMemory, Row, Text};
+use ptg_base::{OutOfMemory, Seq, Text};
 use std::alloc::Global;
 
-/// Puts each global on a line.
-fn put_globals(out: &mut Row<u8>, names: &[Word]) -> Result<(), OutOfMemory>
+// Puts each global on a line.
+fn put_globals(out: &mut Seq<u8>, names: &[Word]) -> Result<(), OutOfMemory>
     ensures { OnOk result (out.new ≡ out.old ++ text (flat_map (λ w. line (token w.text ∷ [])) names.now)) }
 {
     for name in names {
@@ -20,7 +22,8 @@ fn put_globals(out: &mut Row<u8>, names: &[Word]) -> Result<(), OutOfMemory>
     Ok(())
 }
 
-fn put_classes(out: &mut Row<u8>, classes: &[ClassTree]) -> Result<(), OutOfMemory>
+// Puts classes, an empty line before each.
+fn put_classes(out: &mut Seq<u8>, classes: &[ClassTree]) -> Result<(), OutOfMemory>
     ensures { OnOk result (out.new ≡ out.old ++ text (flat_map class classes.now)) }
 {
     for c in classes {
@@ -29,11 +32,11 @@ fn put_classes(out: &mut Row<u8>, classes: &[ClassTree]) -> Result<(), OutOfMemo
     Ok(())
 }
 
-/// The canonical spelling of a tree.
+/// The canonical spelling of a tree; fails only if memory runs out.
 pub fn print(alloc: Global, jdf: &Jdf) -> Result<Text, OutOfMemory>
     ensures { IfOk result (λ t. t ≡ spelling jdf.now) }
 {
-    let mut out = Row::new(alloc);
+    let mut out = Seq::new(alloc);
     put_globals(&mut out, jdf.globals.as_slice())?;
     put_classes(&mut out, jdf.classes.as_slice())?;
     Text::of(alloc, out.as_slice())

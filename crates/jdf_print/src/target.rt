@@ -1,15 +1,17 @@
+//! Dependences and their targets.
+
 ghost use Rattle.std.specs.Prelude.{◌≡◌, ◌++◌, OnOk};
-ghost use Rattle.jdf_print.specs.Pieces.{text};
+ghost use Rattle.jdf_print.specs.Fragments.{text};
 ghost use Rattle.jdf_print.specs.Spelling.{arrow, target, guard, other, datatype, dependence};
 
 use crate::argument::put_arguments;
 use crate::expression::put_expression;
 use crate::writer::{put, put_word};
 use jdf_tree::{DepTree, ExprTree, TargetTree, Word};
-use ptg_base::{OutOfMemory, Row};
+use ptg_base::{OutOfMemory, Seq};
 
-/// Puts where a dependence leads, or comes from.
-fn put_target(out: &mut Row<u8>, to: &TargetTree) -> Result<(), OutOfMemory>
+// Puts a target of a dependence.
+fn put_target(out: &mut Seq<u8>, to: &TargetTree) -> Result<(), OutOfMemory>
     ensures { OnOk result (out.new ≡ out.old ++ text (target to.now)) }
 {
     match to {
@@ -28,8 +30,8 @@ fn put_target(out: &mut Row<u8>, to: &TargetTree) -> Result<(), OutOfMemory>
     }
 }
 
-/// Puts a guard and its `?`, where there is one.
-fn put_guard(out: &mut Row<u8>, condition: &Option<ExprTree>) -> Result<(), OutOfMemory>
+// Puts a guard and its `?`, if there is one.
+fn put_guard(out: &mut Seq<u8>, condition: &Option<ExprTree>) -> Result<(), OutOfMemory>
     ensures { OnOk result (out.new ≡ out.old ++ text (guard condition.now)) }
 {
     match condition {
@@ -41,8 +43,8 @@ fn put_guard(out: &mut Row<u8>, condition: &Option<ExprTree>) -> Result<(), OutO
     }
 }
 
-/// Puts the target for a guard that does not hold, where there is one.
-fn put_other(out: &mut Row<u8>, no: &Option<TargetTree>) -> Result<(), OutOfMemory>
+// Puts the target for a guard that is false, if there is one.
+fn put_other(out: &mut Seq<u8>, no: &Option<TargetTree>) -> Result<(), OutOfMemory>
     ensures { OnOk result (out.new ≡ out.old ++ text (other no.now)) }
 {
     match no {
@@ -54,8 +56,8 @@ fn put_other(out: &mut Row<u8>, no: &Option<TargetTree>) -> Result<(), OutOfMemo
     }
 }
 
-/// Puts the name of a datatype in its brackets, where one is written.
-fn put_datatype(out: &mut Row<u8>, name: &Option<Word>) -> Result<(), OutOfMemory>
+// Puts the name of a datatype in its brackets, if there is one.
+fn put_datatype(out: &mut Seq<u8>, name: &Option<Word>) -> Result<(), OutOfMemory>
     ensures { OnOk result (out.new ≡ out.old ++ text (datatype name.now)) }
 {
     match name {
@@ -68,14 +70,15 @@ fn put_datatype(out: &mut Row<u8>, name: &Option<Word>) -> Result<(), OutOfMemor
     }
 }
 
+// The arrow of an in edge or an out edge.
 fn arrow_of(inward: bool) -> &'static [u8]
     ensures { result.now ≡ arrow inward }
 {
     if inward { b"<-" } else { b"->" }
 }
 
-/// Puts a dependence on a line of its own, two spaces in.
-pub(crate) fn put_dependence(out: &mut Row<u8>, d: &DepTree) -> Result<(), OutOfMemory>
+/// Puts a dependence on a line, indented by two spaces.
+pub(crate) fn put_dependence(out: &mut Seq<u8>, d: &DepTree) -> Result<(), OutOfMemory>
     ensures { OnOk result (out.new ≡ out.old ++ text (dependence d.now)) }
 {
     put(out, b"  ")?;

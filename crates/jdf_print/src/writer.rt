@@ -1,17 +1,20 @@
+//! Bytes and words at the end of the output.
+
 ghost use Rattle.std.specs.Prelude.{◌≡◌, ◌++◌, OnOk};
-ghost use Rattle.jdf_print.specs.Pieces.{token, text};
+ghost use Rattle.jdf_print.specs.Fragments.{token, text};
 
 use jdf_tree::Word;
-use ptg_base::{OutOfMemory, Row};
+use ptg_base::{OutOfMemory, Seq};
 
-/// Puts bytes behind what is written already.
-pub(crate) fn put(out: &mut Row<u8>, bytes: &[u8]) -> Result<(), OutOfMemory>
+/// Puts bytes at the end of the output.
+pub(crate) fn put(out: &mut Seq<u8>, bytes: &[u8]) -> Result<(), OutOfMemory>
     ensures { OnOk result (out.new ≡ out.old ++ bytes.now) }
 {
     out.append(bytes)
 }
 
-pub(crate) fn put_word(out: &mut Row<u8>, word: &Word) -> Result<(), OutOfMemory>
+/// Puts the bytes of a word.
+pub(crate) fn put_word(out: &mut Seq<u8>, word: &Word) -> Result<(), OutOfMemory>
     ensures { OnOk result (out.new ≡ out.old ++ word.now.text) }
 {
     put(out, word.text.bytes())

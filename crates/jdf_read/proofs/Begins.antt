@@ -1,57 +1,57 @@
--- Where a test of the code is on the first sorts of a form.
+-- The tests of the code are tests of first sets.
 use Rattle.std.proofs.Common.{◌≡◌, Bool, cond, List, [], ◌∷◌, Ok, Err, refl}
 use Rattle.std.specs.Prelude.{◌&&◌, ◌||◌, Option}
 use Rattle.jdf_lex.specs.declared.token.Token.{Token}
-use Rattle.grammar_core.specs.declared.sort.Sort.{Sort}
-use Rattle.grammar_core.specs.declared.sort.Sort.TheVariants as sort
-use Rattle.grammar_core.specs.Sorts.{is, sort_of}
+use Rattle.grammar_core.specs.declared.terminal.Terminal.{Terminal}
+use Rattle.grammar_core.specs.declared.terminal.Terminal.TheVariants as terminal
+use Rattle.grammar_core.specs.Terminals.{is, terminal_of}
 use Rattle.grammar_core.specs.Counted.{is_name}
-use Rattle.grammar_core.specs.Form.{pick, opt}
+use Rattle.grammar_core.specs.Production.{pick, opt}
 use Rattle.grammar_core.specs.Reading.{Read, ◌>>=◌, first, starts, picks, reading}
 use Rattle.grammar_core.proofs.Loops.{pair_with, applied}
 use Rattle.jdf_tree.specs.declared.expression.Word.{Word}
 use Rattle.jdf_tree.specs.declared.tree.DepTree.{DepTree}
 use Rattle.jdf_tree.specs.declared.part.Part.TheVariants.{Class}
 use Rattle.jdf_tree.specs.ExpressionGrammar.{number, parens, reference, signed, unary, product, sum, relation, equality, conjunction, disjunction, expr, outer, guard}
-use Rattle.jdf_tree.specs.ClassGrammar.{argument, arguments, called, target, Choice, unguarded, guarded, goes_on_target, arrow, datatype, dependence_of, dependence, parameters, properties}
-use Rattle.jdf_tree.specs.Pieces.{names}
-use Rattle.jdf_tree.specs.Grammar.{inner, begins_operand}
+use Rattle.jdf_tree.specs.ClassGrammar.{argument, arguments, called, target, Choice, unguarded, guarded, may_follow_target_name, arrow, datatype, dependence_of, dependence, parameters, properties}
+use Rattle.jdf_tree.specs.GrammarParts.{names}
+use Rattle.jdf_tree.specs.Grammar.{productions, begins_operand}
 use Rattle.jdf_read.specs.Next.{is_target}
 
 -- arguments begin with an operand
 pub arguments_begin : (s : List Token) → starts (first arguments) s ≡ starts (begins_operand Class) s
 unfolding arguments argument outer expr disjunction conjunction equality relation sum product unary signed number reference parens
 arguments_begin [] = refl
-arguments_begin (x ∷ s) = go (sort_of x)
+arguments_begin (x ∷ s) = go (terminal_of x)
   where
-    go : (k : Sort) → first arguments k ≡ begins_operand Class k
-    go sort.Name = refl
+    go : (k : Terminal) → first arguments k ≡ begins_operand Class k
+    go terminal.Name = refl
     go _ = refl
 
-target_goes_on : (s : List Token) → starts goes_on_target s ≡ (starts is_name s || starts (is sort.LeftParen) s)
+target_goes_on : (s : List Token) → starts may_follow_target_name s ≡ (starts is_name s || starts (is terminal.LeftParen) s)
 target_goes_on [] = refl
 target_goes_on (x ∷ s) = refl
 
--- Which of the two comes behind an arrow.
-pub target_begins : (s : List Token) → picks (first unguarded) (first guarded) goes_on_target s ≡ is_target s
+-- Which production is next after an arrow.
+pub target_begins : (s : List Token) → picks (first unguarded) (first guarded) may_follow_target_name s ≡ is_target s
 unfolding unguarded target called guarded guard disjunction conjunction equality relation sum product unary signed number reference parens
 target_begins [] = refl
-target_begins (x ∷ s) = rw (target_goes_on s) (go (sort_of x) (starts is_name s || starts (is sort.LeftParen) s))
+target_begins (x ∷ s) = rw (target_goes_on s) (go (terminal_of x) (starts is_name s || starts (is terminal.LeftParen) s))
   where
-    go : (k : Sort) (b : Bool) → cond (first guarded k) (first unguarded k && b) (first unguarded k) ≡ (is sort.New k || is sort.Null k || (is_name k && b))
-    go sort.Name b = refl
+    go : (k : Terminal) (b : Bool) → cond (first guarded k) (first unguarded k && b) (first unguarded k) ≡ (is terminal.New k || is terminal.Null k || (is_name k && b))
+    go terminal.Name b = refl
     go _ b = refl
 
-pub choice_reads : (s : List Token) → reading inner (pick goes_on_target unguarded guarded) s ≡ cond (is_target s) (reading inner unguarded s) (reading inner guarded s)
+pub choice_reads : (s : List Token) → reading productions (pick may_follow_target_name unguarded guarded) s ≡ cond (is_target s) (reading productions unguarded s) (reading productions guarded s)
 choice_reads s = rw (target_begins s) refl
 
 -- ---- dependences
 
-pub datatype_begins : (s : List Token) → starts (first datatype) s ≡ starts (is sort.LeftBracket) s
+pub datatype_begins : (s : List Token) → starts (first datatype) s ≡ starts (is terminal.LeftBracket) s
 unfolding datatype
 datatype_begins s = refl
 
--- one after the other after another
+-- three productions, one after another
 pub thrice : {A B C D : Type 0} (r : Read A) (q : List Token → Read B) (p : List Token → Read C) (f : A × (B × C) → D)
     → ((r >>= λ a. (q a.1 >>= λ b. p b.1 >>= pair_with b.0) >>= pair_with a.0) >>= applied f) ≡ (r >>= λ a. q a.1 >>= λ b. p b.1 >>= applied (λ (c : C). f (a.0, (b.0, c))))
 thrice {A} {B} {C} {D} (Ok a) q p f = go (q a.1)
@@ -65,12 +65,12 @@ thrice {A} {B} {C} {D} (Ok a) q p f = go (q a.1)
     go (Err e) = refl
 thrice (Err e) q p f = refl
 
-abbrev behind_arrow : Bool → Choice → Option Word → DepTree
-behind_arrow inward x datatype = dependence_of (inward, (x, datatype))
+abbrev after_arrow : Bool → Choice → Option Word → DepTree
+after_arrow inward x datatype = dependence_of (inward, (x, datatype))
 
-pub dependence_reads : (s : List Token) → reading inner dependence s ≡ (reading inner arrow s >>= λ a. reading inner (pick goes_on_target unguarded guarded) a.1 >>= λ b. reading inner (opt datatype) b.1 >>= applied (λ c. behind_arrow a.0 b.0 c))
+pub dependence_reads : (s : List Token) → reading productions dependence s ≡ (reading productions arrow s >>= λ a. reading productions (pick may_follow_target_name unguarded guarded) a.1 >>= λ b. reading productions (opt datatype) b.1 >>= applied (λ c. after_arrow a.0 b.0 c))
 unfolding dependence
-dependence_reads s = thrice (reading inner arrow s) (reading inner (pick goes_on_target unguarded guarded)) (reading inner (opt datatype)) dependence_of
+dependence_reads s = thrice (reading productions arrow s) (reading productions (pick may_follow_target_name unguarded guarded)) (reading productions (opt datatype)) dependence_of
 
 -- ---- classes
 
@@ -78,6 +78,6 @@ pub parameters_begin : (s : List Token) → starts (first parameters) s ≡ star
 unfolding parameters
 parameters_begin s = refl
 
-pub properties_begin : (s : List Token) → starts (first properties) s ≡ starts (is sort.LeftBracket) s
+pub properties_begin : (s : List Token) → starts (first properties) s ≡ starts (is terminal.LeftBracket) s
 unfolding properties
 properties_begin s = refl

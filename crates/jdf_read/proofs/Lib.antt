@@ -1,5 +1,6 @@
 pub mod Begins
 pub mod File
+pub mod Either
 pub mod Limits
 pub mod Listed
 pub mod Once

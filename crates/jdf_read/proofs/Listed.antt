@@ -1,87 +1,86 @@
--- What the lists of the grammar are made of.
+-- The lists of the grammar: their elements are never empty, with these first sets.
 use Rattle.std.proofs.Common.{◌≡◌, List, [], ◌∷◌, ◌++◌, Ok, refl}
 use Rattle.jdf_lex.specs.declared.token.Token.{Token}
-use Rattle.grammar_core.specs.declared.sort.Sort.TheVariants as sort
-use Rattle.grammar_core.specs.Sorts.{is}
-use Rattle.grammar_core.specs.declared.fault.ReadError.{ReadError}
+use Rattle.grammar_core.specs.declared.terminal.Terminal.TheVariants as terminal
+use Rattle.grammar_core.specs.Terminals.{is}
 use Rattle.grammar_core.specs.declared.code.Code.TheVariants.{TooManyClasses, TooManyLocals, TooManyFlows, TooManyDeps}
 use Rattle.grammar_core.specs.Reading.{reading}
-use Rattle.grammar_core.specs.Gives.{Fails}
+use Rattle.grammar_core.specs.Returns.{ReadRefusal, Fails}
 use Rattle.grammar_core.proofs.Loops.{so_far, IsListed}
 use Rattle.jdf_tree.specs.declared.expression.Word.{Word}
 use Rattle.jdf_tree.specs.declared.tree.ArgTree.{ArgTree}
 use Rattle.jdf_tree.specs.declared.tree.ClassTree.{ClassTree}
 use Rattle.jdf_tree.specs.declared.part.Part.TheVariants.{Class}
 use Rattle.jdf_tree.specs.ClassGrammar.{argument, arguments, arrow, is_arrow, dependence, dependences, kind_of_flow, is_kind, flow, flows, definition, definitions, head, class, full_at}
-use Rattle.jdf_tree.specs.Grammar.{inner, skip, class_and_skips, classes}
+use Rattle.jdf_tree.specs.Grammar.{productions, skip, class_and_skips, classes}
 use Rattle.jdf_read.specs.Next.{next_argument, next_parameter, is_skip}
-use Rattle.jdf_tree.proofs.Lists.{rest_of, some_begin, some_fail, counted, counted_begins, counted_behind_one}
-use Rattle.jdf_tree.specs.Pieces.{any, name, names, listed}
+use Rattle.jdf_tree.proofs.Lists.{rest_of, some_begin, some_fail, counted, counted_begins, counted_after_first}
+use Rattle.jdf_tree.specs.GrammarParts.{any, name, names, listed}
 
-pub arguments_listed : IsListed inner next_argument (is sort.Comma)
+pub arguments_listed : IsListed productions next_argument (is terminal.Comma)
 unfolding next_argument
 arguments_listed = record { full = refl; begins = λ s. refl }
 
-pub parameters_listed : IsListed inner next_parameter (is sort.Comma)
+pub parameters_listed : IsListed productions next_parameter (is terminal.Comma)
 unfolding next_parameter
 parameters_listed = record { full = refl; begins = λ s. refl }
 
-pub dependences_listed : IsListed inner dependence is_arrow
+pub dependences_listed : IsListed productions dependence is_arrow
 unfolding dependence arrow
 dependences_listed = record { full = refl; begins = λ s. refl }
 
-pub flows_listed : IsListed inner flow is_kind
+pub flows_listed : IsListed productions flow is_kind
 unfolding flow kind_of_flow
 flows_listed = record { full = refl; begins = λ s. refl }
 
-pub definitions_listed : IsListed inner definition (names Class)
+pub definitions_listed : IsListed productions definition (names Class)
 unfolding definition
 definitions_listed = record { full = refl; begins = λ s. refl }
 
-pub skips_listed : IsListed inner skip is_skip
+pub skips_listed : IsListed productions skip is_skip
 unfolding skip
 skips_listed = record { full = refl; begins = λ s. refl }
 
-pub classes_listed : IsListed inner class_and_skips (names Class)
+pub classes_listed : IsListed productions class_and_skips (names Class)
 unfolding class_and_skips class head
 classes_listed = record { full = refl; begins = λ s. refl }
 
--- ---- where the first of a list was read, and where it could not be
+-- ---- where the first element of a list was read, and where it was refused
 
-pub arguments_behind : (s : List Token) (x : ArgTree) (next : List Token) (list : List ArgTree) → list ≡ [] ++ x ∷ [] → reading inner argument s ≡ Ok (x, next) → so_far list (rest_of next_argument next) ≡ reading inner arguments s
+pub arguments_after_first : (s : List Token) (x : ArgTree) (next : List Token) (list : List ArgTree) → list ≡ [] ++ x ∷ [] → reading productions argument s ≡ Ok (x, next) → so_far list (rest_of next_argument next) ≡ reading productions arguments s
 unfolding arguments next_argument
-arguments_behind s x next list e r = some_begin argument next_argument s x next list e r
+arguments_after_first s x next list e r = some_begin argument next_argument s x next list e r
 
-pub arguments_fail : (e : ReadError) (s : List Token) → Fails e (reading inner argument s) → Fails e (reading inner arguments s)
+pub arguments_fail : (e : ReadRefusal) (s : List Token) → Fails e (reading productions argument s) → Fails e (reading productions arguments s)
 unfolding arguments next_argument
 arguments_fail e s f = some_fail e any argument next_argument s f
 
-pub parameters_behind : (s : List Token) (x : Word) (next : List Token) (list : List Word) → list ≡ [] ++ x ∷ [] → reading inner (name Class) s ≡ Ok (x, next) → so_far list (rest_of next_parameter next) ≡ reading inner (listed (name Class)) s
+pub parameters_after_first : (s : List Token) (x : Word) (next : List Token) (list : List Word) → list ≡ [] ++ x ∷ [] → reading productions (name Class) s ≡ Ok (x, next) → so_far list (rest_of next_parameter next) ≡ reading productions (listed (name Class)) s
 unfolding next_parameter
-parameters_behind s x next list e r = some_begin (name Class) next_parameter s x next list e r
+parameters_after_first s x next list e r = some_begin (name Class) next_parameter s x next list e r
 
-pub parameters_fail : (e : ReadError) (s : List Token) → Fails e (reading inner (name Class) s) → Fails e (reading inner (listed (name Class)) s)
+pub parameters_fail : (e : ReadRefusal) (s : List Token) → Fails e (reading productions (name Class) s) → Fails e (reading productions (listed (name Class)) s)
 unfolding next_parameter
 parameters_fail e s f = some_fail e any (name Class) next_parameter s f
 
--- ---- lists of which there may be so many
+-- ---- lists with a limit
 
-pub dependences_begin : (s : List Token) → so_far [] (counted 16 TooManyDeps dependence 0 s) ≡ reading inner dependences s
+pub dependences_begin : (s : List Token) → so_far [] (counted 16 TooManyDeps dependence 0 s) ≡ reading productions dependences s
 unfolding dependences
 dependences_begin s = counted_begins 16 TooManyDeps dependence s
 
-pub flows_begin : (s : List Token) → so_far [] (counted 8 TooManyFlows flow 0 s) ≡ reading inner flows s
+pub flows_begin : (s : List Token) → so_far [] (counted 8 TooManyFlows flow 0 s) ≡ reading productions flows s
 unfolding flows
 flows_begin s = counted_begins 8 TooManyFlows flow s
 
-pub definitions_begin : (s : List Token) → so_far [] (counted 16 TooManyLocals definition 0 s) ≡ reading inner definitions s
+pub definitions_begin : (s : List Token) → so_far [] (counted 16 TooManyLocals definition 0 s) ≡ reading productions definitions s
 unfolding definitions
 definitions_begin s = counted_begins 16 TooManyLocals definition s
 
-pub classes_behind : (s : List Token) (x : ClassTree) (next : List Token) (list : List ClassTree) → list ≡ [] ++ x ∷ [] → reading inner class_and_skips s ≡ Ok (x, next) → so_far list (counted 63 TooManyClasses class_and_skips 0 next) ≡ reading inner classes s
+pub classes_after_first : (s : List Token) (x : ClassTree) (next : List Token) (list : List ClassTree) → list ≡ [] ++ x ∷ [] → reading productions class_and_skips s ≡ Ok (x, next) → so_far list (counted 63 TooManyClasses class_and_skips 0 next) ≡ reading productions classes s
 unfolding classes
-classes_behind s x next list e r = counted_behind_one 63 TooManyClasses class_and_skips class_and_skips s x next list e r
+classes_after_first s x next list e r = counted_after_first 63 TooManyClasses class_and_skips class_and_skips s x next list e r
 
-pub classes_fail : (e : ReadError) (s : List Token) → Fails e (reading inner class_and_skips s) → Fails e (reading inner classes s)
+pub classes_fail : (e : ReadRefusal) (s : List Token) → Fails e (reading productions class_and_skips s) → Fails e (reading productions classes s)
 unfolding classes
 classes_fail e s f = some_fail e (full_at 63 TooManyClasses) class_and_skips class_and_skips s f

@@ -1,4 +1,4 @@
--- A text has one tree at most, or one first fault at most, and not both.
+-- Each text has a tree or a first fault, one at most of each, and not both.
 use Rattle.std.proofs.Common.{◌≡◌, ℕ, ◌<◌, ◌≤◌, List, length, take, Result, Ok, Err, sym, ap, ◌∙◌, subst, inl, inr, arith}
 use Rattle.std.specs.Prelude.{Option, Some, None, ◌⊎◌, slice_get}
 use Rattle.std.proofs.lemmas.List.{take_all}
@@ -8,52 +8,52 @@ use Rattle.jdf_lex.specs.declared.fault.JdfFault.{JdfFault}
 use Rattle.jdf_lex.specs.declared.token.Spot.{Spot}
 use Rattle.jdf_lex.specs.declared.token.Token.{Token}
 use Rattle.jdf_lex.specs.Tokens.{spot_after}
-use Rattle.jdf_lex.proofs.Once.{one_list, no_fault}
-use Rattle.jdf_lex.proofs.Once as lex
+use Rattle.jdf_lex.proofs.Uniqueness.{one_list, no_fault}
+use Rattle.jdf_lex.proofs.Uniqueness as lex
 use Rattle.grammar_core.specs.declared.code.Code.{Code}
 use Rattle.grammar_core.specs.declared.code.Code.TheVariants.{Syntax}
-use Rattle.grammar_core.specs.Reading.{Stop, whole}
+use Rattle.grammar_core.specs.Reading.{FaultFromEnd, whole}
 use Rattle.jdf_tree.specs.declared.tree.Jdf.{Jdf}
-use Rattle.jdf_tree.specs.Grammar.{inner, file}
+use Rattle.jdf_tree.specs.Grammar.{productions, file}
 use Rattle.jdf_tree.specs.Jdf.{IsJdf}
 use Rattle.jdf_tree.specs.Fault.{StopsBeingUtf8, code_at_token, IsGrammarFault, IsNoText}
-use Rattle.jdf_read.specs.Laws.{OneTree, OneFault, TreeOrFault}
-use Rattle.jdf_read.proofs.Limits.{only, fault_read, fault_place}
+use Rattle.jdf_read.specs.Laws.{OneTree, OneFault, NotBoth}
+use Rattle.jdf_read.proofs.Limits.{only, fault_read, fault_index}
 
-abbrev tree : Jdf → Result Jdf Stop
+abbrev tree : Jdf → Result Jdf FaultFromEnd
 tree jdf = Ok jdf
 
-abbrev stop : ℕ → Code → Result Jdf Stop
-stop n c = Err (n, c)
+abbrev failed : ℕ → Code → Result Jdf FaultFromEnd
+failed n c = Err (n, c)
 
-abbrev left_of : Result Jdf Stop → ℕ
+abbrev left_of : Result Jdf FaultFromEnd → ℕ
 left_of (Ok t) = 0
 left_of (Err n) = n.0
 
-abbrev code_of : Result Jdf Stop → Code
+abbrev code_of : Result Jdf FaultFromEnd → Code
 code_of (Ok t) = Syntax
 code_of (Err n) = n.1
 
 same_tree : (a b : Jdf) → tree a ≡ tree b → a ≡ b
 same_tree a b e = cc
 
-no_stop : (a : Jdf) (n : ℕ) (c : Code) → tree a ≡ stop n c → ⊥
-no_stop a n c e = cc
+not_failed : (a : Jdf) (n : ℕ) (c : Code) → tree a ≡ failed n c → ⊥
+not_failed a n c e = cc
 
-same_left : (n m : ℕ) (c d : Code) → stop n c ≡ stop m d → n ≡ m
+same_left : (n m : ℕ) (c d : Code) → failed n c ≡ failed m d → n ≡ m
 same_left n m c d e = ap left_of e
 
-same_code : (n m : ℕ) (c d : Code) → stop n c ≡ stop m d → c ≡ d
+same_code : (n m : ℕ) (c d : Code) → failed n c ≡ failed m d → c ≡ d
 same_code n m c d e = ap code_of e
 
 pub one_tree : OneTree
 one_tree bytes a b x y =
     let same = (one_list bytes x.tokens y.tokens x.end y.end x.lexed y.lexed).0 in
-    let first : whole inner file x.tokens ≡ Ok a = only x.tokens a x.text in
-    let second : whole inner file x.tokens ≡ Ok b = ap (whole inner file) same ∙ only y.tokens b y.text in
+    let first : whole productions file x.tokens ≡ Ok a = only x.tokens a x.text in
+    let second : whole productions file x.tokens ≡ Ok b = ap (whole productions file) same ∙ only y.tokens b y.text in
     same_tree a b (sym first ∙ second)
 
--- ---- what is UTF-8 stops nowhere
+-- ---- UTF-8
 
 not_utf8 : (bytes : List ℕ) (at : ℕ) → StopsBeingUtf8 bytes at → IsUtf8 bytes → ⊥
 not_utf8 bytes at stops u =
@@ -62,8 +62,8 @@ not_utf8 bytes at stops u =
     let near = stops.within in
     omega (arith, far, near)
 
-one_stop : (bytes : List ℕ) (a b : ℕ) → StopsBeingUtf8 bytes a → StopsBeingUtf8 bytes b → a ≡ b
-one_stop bytes a b x y =
+one_end_of_utf8 : (bytes : List ℕ) (a b : ℕ) → StopsBeingUtf8 bytes a → StopsBeingUtf8 bytes b → a ≡ b
+one_end_of_utf8 bytes a b x y =
     let low = x.within in
     let high = y.within in
     let up = y.longest a (omega (arith, low)) x.before in
@@ -75,22 +75,22 @@ one_stop bytes a b x y =
 no_grammar_fault : (bytes : List ℕ) (a : Jdf) (f : JdfFault) → IsJdf bytes a → IsNoText bytes f → ⊥
 no_grammar_fault bytes a f x y =
     let same = (one_list bytes x.tokens y.tokens x.end y.end x.lexed y.lexed).0 in
-    let read : whole inner file y.tokens ≡ Ok a = ap (whole inner file) (sym same) ∙ only x.tokens a x.text in
-    no_stop a _ _ (sym read ∙ fault_read y.tokens y.wrong.place y.wrong.code y.wrong.first)
+    let read : whole productions file y.tokens ≡ Ok a = ap (whole productions file) (sym same) ∙ only x.tokens a x.text in
+    not_failed a _ _ (sym read ∙ fault_read y.tokens y.wrong.token_index y.wrong.code y.wrong.first)
 
-pub tree_or_fault : TreeOrFault
-tree_or_fault bytes a f x (inl y) = let short = x.short in let long = y.long in omega (arith, short, long)
-tree_or_fault bytes a f x (inr (inl y)) = not_utf8 bytes y.at y.stops x.utf8
-tree_or_fault bytes a f x (inr (inr (inl y))) = no_fault bytes x.tokens x.end f x.lexed x.few y.wrong
-tree_or_fault bytes a f x (inr (inr (inr y))) = no_grammar_fault bytes a f x y
+pub not_both : NotBoth
+not_both bytes a f x (inl y) = let short = x.bytes_at_most in let long = y.long in omega (arith, short, long)
+not_both bytes a f x (inr (inl y)) = not_utf8 bytes y.at y.stops x.utf8
+not_both bytes a f x (inr (inr (inl y))) = no_fault bytes x.tokens x.end f x.lexed x.tokens_at_most y.wrong
+not_both bytes a f x (inr (inr (inr y))) = no_grammar_fault bytes a f x y
 
 -- ---- one first fault
 
--- how a fault of the grammar is named, by its place and its code
+-- the JDF fault of a token index and a code of the grammar
 abbrev IsNamed : List Token → Spot → ℕ → Code → JdfFault → Type 0
-IsNamed tokens end place c f =
-    ((token : Token) × (slice_get tokens place ≡ Some token) × (f ≡ record { spot = token.spot; code = code_at_token c }))
-    ⊎ ((slice_get tokens place ≡ None) × (f ≡ record { spot = end; code = jdf.Truncated }))
+IsNamed tokens end token_index c f =
+    ((token : Token) × (slice_get tokens token_index ≡ Some token) × (f ≡ record { spot = token.spot; code = code_at_token c }))
+    ⊎ ((slice_get tokens token_index ≡ None) × (f ≡ record { spot = end; code = jdf.Truncated }))
 
 abbrev some_of : Token → Option Token
 some_of t = Some t
@@ -104,24 +104,24 @@ some_token a e = cc
 too_short : (bytes : List ℕ) → 16777216 < length bytes → length bytes ≤ 16777216 → ⊥
 too_short bytes a b = omega (arith, a, b)
 
--- the faults that a place and a code of the grammar name
-same_named : (tokens : List Token) (end : Spot) (place : ℕ) (c : Code) (f g : JdfFault) → IsNamed tokens end place c f → IsNamed tokens end place c g → f ≡ g
-same_named tokens end place c f g (inl x) (inl y) =
+-- a token index and a code have one JDF fault
+same_named : (tokens : List Token) (end : Spot) (token_index : ℕ) (c : Code) (f g : JdfFault) → IsNamed tokens end token_index c f → IsNamed tokens end token_index c g → f ≡ g
+same_named tokens end token_index c f g (inl x) (inl y) =
     let same : x.0 ≡ y.0 = same_token x.0 y.0 (sym x.1 ∙ y.1) in
     x.2 ∙ (ap (λ (t : Token). record { spot = t.spot; code = code_at_token c }) same ∙ sym y.2)
-same_named tokens end place c f g (inl x) (inr y) = absurd (some_token x.0 (sym x.1 ∙ y.0))
-same_named tokens end place c f g (inr x) (inl y) = absurd (some_token y.0 (sym y.1 ∙ x.0))
-same_named tokens end place c f g (inr x) (inr y) = x.1 ∙ sym y.1
+same_named tokens end token_index c f g (inl x) (inr y) = absurd (some_token x.0 (sym x.1 ∙ y.0))
+same_named tokens end token_index c f g (inr x) (inl y) = absurd (some_token y.0 (sym y.1 ∙ x.0))
+same_named tokens end token_index c f g (inr x) (inr y) = x.1 ∙ sym y.1
 
 same_wrong : (tokens : List Token) (end : Spot) (f g : JdfFault) → IsGrammarFault tokens end f → IsGrammarFault tokens end g → f ≡ g
 same_wrong tokens end f g x y =
-    let e = sym (fault_read tokens x.place x.code x.first) ∙ fault_read tokens y.place y.code y.first in
+    let e = sym (fault_read tokens x.token_index x.code x.first) ∙ fault_read tokens y.token_index y.code y.first in
     let left = same_left _ _ x.code y.code e in
     let code : x.code ≡ y.code = same_code _ _ x.code y.code e in
-    let a = fault_place tokens x.place x.code x.first in
-    let b = fault_place tokens y.place y.code y.first in
-    let place : x.place ≡ y.place = omega (arith, left, a, b) in
-    same_named tokens end y.place y.code f g (subst (λ (c : Code). IsNamed tokens end y.place c f) code (subst (λ (p : ℕ). IsNamed tokens end p x.code f) place x.named)) y.named
+    let a = fault_index tokens x.token_index x.code x.first in
+    let b = fault_index tokens y.token_index y.code y.first in
+    let token_index : x.token_index ≡ y.token_index = omega (arith, left, a, b) in
+    same_named tokens end y.token_index y.code f g (subst (λ (c : Code). IsNamed tokens end y.token_index c f) code (subst (λ (p : ℕ). IsNamed tokens end p x.code f) token_index x.named)) y.named
 
 same_no_text : (bytes : List ℕ) (f g : JdfFault) → IsNoText bytes f → IsNoText bytes g → f ≡ g
 same_no_text bytes f g x y =
@@ -131,18 +131,18 @@ same_no_text bytes f g x y =
 
 pub one_fault : OneFault
 one_fault bytes f g (inl x) (inl y) = x.named ∙ sym y.named
-one_fault bytes f g (inl x) (inr (inl y)) = absurd (too_short bytes x.long y.short)
-one_fault bytes f g (inl x) (inr (inr (inl y))) = absurd (too_short bytes x.long y.short)
-one_fault bytes f g (inl x) (inr (inr (inr y))) = absurd (too_short bytes x.long y.short)
-one_fault bytes f g (inr (inl x)) (inl y) = absurd (too_short bytes y.long x.short)
-one_fault bytes f g (inr (inl x)) (inr (inl y)) = x.named ∙ (ap (λ (n : ℕ). record { spot = spot_after (take n bytes); code = jdf.NotUtf8 }) (one_stop bytes x.at y.at x.stops y.stops) ∙ sym y.named)
+one_fault bytes f g (inl x) (inr (inl y)) = absurd (too_short bytes x.long y.bytes_at_most)
+one_fault bytes f g (inl x) (inr (inr (inl y))) = absurd (too_short bytes x.long y.bytes_at_most)
+one_fault bytes f g (inl x) (inr (inr (inr y))) = absurd (too_short bytes x.long y.bytes_at_most)
+one_fault bytes f g (inr (inl x)) (inl y) = absurd (too_short bytes y.long x.bytes_at_most)
+one_fault bytes f g (inr (inl x)) (inr (inl y)) = x.named ∙ (ap (λ (n : ℕ). record { spot = spot_after (take n bytes); code = jdf.NotUtf8 }) (one_end_of_utf8 bytes x.at y.at x.stops y.stops) ∙ sym y.named)
 one_fault bytes f g (inr (inl x)) (inr (inr (inl y))) = absurd (not_utf8 bytes x.at x.stops y.utf8)
 one_fault bytes f g (inr (inl x)) (inr (inr (inr y))) = absurd (not_utf8 bytes x.at x.stops y.utf8)
-one_fault bytes f g (inr (inr (inl x))) (inl y) = absurd (too_short bytes y.long x.short)
+one_fault bytes f g (inr (inr (inl x))) (inl y) = absurd (too_short bytes y.long x.bytes_at_most)
 one_fault bytes f g (inr (inr (inl x))) (inr (inl y)) = absurd (not_utf8 bytes y.at y.stops x.utf8)
 one_fault bytes f g (inr (inr (inl x))) (inr (inr (inl y))) = lex.one_fault bytes f g x.wrong y.wrong
-one_fault bytes f g (inr (inr (inl x))) (inr (inr (inr y))) = absurd (no_fault bytes y.tokens y.end f y.lexed y.few x.wrong)
-one_fault bytes f g (inr (inr (inr x))) (inl y) = absurd (too_short bytes y.long x.short)
+one_fault bytes f g (inr (inr (inl x))) (inr (inr (inr y))) = absurd (no_fault bytes y.tokens y.end f y.lexed y.tokens_at_most x.wrong)
+one_fault bytes f g (inr (inr (inr x))) (inl y) = absurd (too_short bytes y.long x.bytes_at_most)
 one_fault bytes f g (inr (inr (inr x))) (inr (inl y)) = absurd (not_utf8 bytes y.at y.stops x.utf8)
-one_fault bytes f g (inr (inr (inr x))) (inr (inr (inl y))) = absurd (no_fault bytes x.tokens x.end g x.lexed x.few y.wrong)
+one_fault bytes f g (inr (inr (inr x))) (inr (inr (inl y))) = absurd (no_fault bytes x.tokens x.end g x.lexed x.tokens_at_most y.wrong)
 one_fault bytes f g (inr (inr (inr x))) (inr (inr (inr y))) = same_no_text bytes f g x y

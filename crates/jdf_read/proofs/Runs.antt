@@ -1,58 +1,58 @@
--- Tokens of some sorts, one after the other: as many as there are.
+-- The longest run of tokens of a set.
 use Rattle.std.proofs.Common.{◌≡◌, ℕ, suc, ◌+◌, length, Bool, true, false, cond, List, [], ◌∷◌, Ok, Err, take, drop, refl, sym, ap, ◌∙◌, arith}
 use Rattle.std.specs.Prelude.{Some, None, not, ◌&&◌}
 use Rattle.std.specs.List.{prefix_len}
-use Rattle.grammar_core.specs.declared.sort.Sort.TheVariants as sort
+use Rattle.grammar_core.specs.declared.terminal.Terminal.TheVariants as terminal
 use Rattle.jdf_tree.specs.ClassGrammar.{is_in_body, begins_body, body_tokens}
 use Rattle.jdf_lex.specs.declared.token.Token.{Token}
-use Rattle.grammar_core.specs.declared.sort.Sort.{Sort}
-use Rattle.grammar_core.specs.Sorts.{is, sort_of}
+use Rattle.grammar_core.specs.declared.terminal.Terminal.{Terminal}
+use Rattle.grammar_core.specs.Terminals.{is, terminal_of}
 use Rattle.grammar_core.specs.declared.code.Code.TheVariants.{Syntax}
-use Rattle.grammar_core.specs.Form.{one_of, star}
+use Rattle.grammar_core.specs.Production.{one_of, star}
 use Rattle.grammar_core.specs.Reading.{◌>>=◌, Read, starts, reading}
 use Rattle.grammar_core.proofs.Loops.{pair_with, applied, IsListed, many_from, many_step}
-use Rattle.jdf_tree.specs.Inner.{Grammar}
-use Rattle.jdf_tree.specs.Pieces.{any, maybe, or_none}
-use Rattle.jdf_tree.specs.Grammar.{inner}
+use Rattle.jdf_tree.specs.Nonterminal.{Grammar}
+use Rattle.jdf_tree.specs.GrammarParts.{any, maybe, or_none}
+use Rattle.jdf_tree.specs.Grammar.{productions}
 
--- a token of these sorts
-abbrev one : (Sort → Bool) → Grammar Token
+-- a token of this set
+abbrev one : (Terminal → Bool) → Grammar Token
 one q = one_of q
 
--- how many come
-abbrev pub run_len : (Sort → Bool) → List Token → ℕ
-run_len q s = prefix_len (λ x. q (sort_of x)) s
+-- the length of the run
+abbrev pub run_len : (Terminal → Bool) → List Token → ℕ
+run_len q s = prefix_len (λ x. q (terminal_of x)) s
 
-listed : (q : Sort → Bool) → IsListed inner (one q) q
+listed : (q : Terminal → Bool) → IsListed productions (one q) q
 listed q = record { full = refl; begins = λ s. refl }
 
--- the token in front, where it is one of them
+-- the first token, if it is in the set
 abbrev token_if : Bool → Token → List Token → Read Token
 token_if b x s = cond b (Ok (x, s)) (Err (length (x ∷ s), Syntax))
 
-run_from : (q : Sort → Bool) (i : ℕ) (s : List Token) → many_from inner any (one q) i s ≡ Ok (take (run_len q s) s, drop (run_len q s) s)
-run_from q i [] = many_step inner any (one q) q (listed q) i []
-run_from q i (x ∷ s) = many_step inner any (one q) q (listed q) i (x ∷ s) ∙ go (q (sort_of x)) (run_from q (suc i) s)
+run_from : (q : Terminal → Bool) (i : ℕ) (s : List Token) → many_from productions any (one q) i s ≡ Ok (take (run_len q s) s, drop (run_len q s) s)
+run_from q i [] = many_step productions any (one q) q (listed q) i []
+run_from q i (x ∷ s) = many_step productions any (one q) q (listed q) i (x ∷ s) ∙ go (q (terminal_of x)) (run_from q (suc i) s)
   where
-    go : (b : Bool) → many_from inner any (one q) (suc i) s ≡ Ok (take (run_len q s) s, drop (run_len q s) s)
-        → cond b (token_if b x s >>= λ a. many_from inner any (one q) (suc i) a.1 >>= applied (λ (more : List Token). a.0 ∷ more)) (Ok ([], x ∷ s))
+    go : (b : Bool) → many_from productions any (one q) (suc i) s ≡ Ok (take (run_len q s) s, drop (run_len q s) s)
+        → cond b (token_if b x s >>= λ a. many_from productions any (one q) (suc i) a.1 >>= applied (λ (more : List Token). a.0 ∷ more)) (Ok ([], x ∷ s))
         ≡ Ok (take (cond b (1 + run_len q s) 0) (x ∷ s), drop (cond b (1 + run_len q s) 0) (x ∷ s))
     go false h = refl
     go true h = let up : 1 + run_len q s ≡ suc (run_len q s) = omega arith in rw (h, up) refl
 
-pub run_reads : (q : Sort → Bool) (s : List Token) → reading inner (star any (one_of q)) s ≡ Ok (take (run_len q s) s, drop (run_len q s) s)
+pub run_reads : (q : Terminal → Bool) (s : List Token) → reading productions (star any (one_of q)) s ≡ Ok (take (run_len q s) s, drop (run_len q s) s)
 unfolding many_from
 run_reads q s = run_from q 0 s
 
 -- ---- properties
 
--- what is left behind the run, where it was split off
-pub split_is : (q : Sort → Bool) (s front back : List Token) → front ≡ take (run_len q s) s → back ≡ drop (run_len q s) s → reading inner (star any (one_of q)) s ≡ Ok (front, back)
+-- the tokens after the run, where it was split off
+pub split_is : (q : Terminal → Bool) (s front back : List Token) → front ≡ take (run_len q s) s → back ≡ drop (run_len q s) s → reading productions (star any (one_of q)) s ≡ Ok (front, back)
 split_is q s front back f b = run_reads q s ∙ sym (rw (f, b) refl)
 
 -- ---- bodies
 
-pub no_body : (s : List Token) → starts begins_body s ≡ false → reading inner (maybe body_tokens) s ≡ Ok ([], s)
+pub no_body : (s : List Token) → starts begins_body s ≡ false → reading productions (maybe body_tokens) s ≡ Ok ([], s)
 unfolding body_tokens
 no_body s h = rw h refl
 
@@ -63,16 +63,16 @@ in_body : (a b : Bool) → (a && b) ≡ true → a ≡ true
 in_body true b h = refl
 in_body false b h = h
 
-pub body_is : (s front back : List Token) → starts begins_body s ≡ true → front ≡ take (run_len is_in_body s) s → back ≡ drop (run_len is_in_body s) s → reading inner (maybe body_tokens) s ≡ Ok (front, back)
+pub body_is : (s front back : List Token) → starts begins_body s ≡ true → front ≡ take (run_len is_in_body s) s → back ≡ drop (run_len is_in_body s) s → reading productions (maybe body_tokens) s ≡ Ok (front, back)
 unfolding body_tokens
 body_is [] front back h f b = absurd cc
 body_is (x ∷ s) front back h f b =
     let n = run_len is_in_body s in
-    let g : is_in_body (sort_of x) ≡ true = in_body (is_in_body (sort_of x)) (not (is sort.LeftBracket (sort_of x))) h in
+    let g : is_in_body (terminal_of x) ≡ true = in_body (is_in_body (terminal_of x)) (not (is terminal.LeftBracket (terminal_of x))) h in
     let up : run_len is_in_body (x ∷ s) ≡ suc n = ap (λ (c : Bool). cond c (1 + n) 0) g ∙ omega arith in
     let front_is : front ≡ x ∷ take n s = f ∙ ap (λ (m : ℕ). take m (x ∷ s)) up in
     let back_is : back ≡ drop n s = b ∙ ap (λ (m : ℕ). drop m (x ∷ s)) up in
-    let read : reading inner (maybe body_tokens) (x ∷ s) ≡ Ok (x ∷ take n s, drop n s) = go (starts begins_body (x ∷ s)) (reading inner (star any (one_of is_in_body))) h (run_reads is_in_body s) in
+    let read : reading productions (maybe body_tokens) (x ∷ s) ≡ Ok (x ∷ take n s, drop n s) = go (starts begins_body (x ∷ s)) (reading productions (star any (one_of is_in_body))) h (run_reads is_in_body s) in
     rw (front_is, back_is) read
   where
     go : (c : Bool) (r : List Token → Read (List Token)) → c ≡ true → r s ≡ Ok (take (run_len is_in_body s) s, drop (run_len is_in_body s) s)

@@ -1,5 +1,5 @@
--- What there is one of: trees and first faults of texts.
-use Rattle.std.specs.Prelude.{◌≡◌, ℕ, List}
+-- Laws of whole texts: each has one tree or one first fault.
+use Rattle.std.specs.Prelude.{◌≡◌, ℕ, List, ◌⊎◌}
 use Rattle.jdf_lex.specs.declared.fault.JdfFault.{JdfFault}
 use Rattle.jdf_tree.specs.declared.tree.Jdf.{Jdf}
 use Rattle.jdf_tree.specs.Jdf.{IsJdf}
@@ -13,6 +13,10 @@ OneTree = (bytes : List ℕ) (a b : Jdf) → IsJdf bytes a → IsJdf bytes b →
 abbrev pub OneFault : Type 0
 OneFault = (bytes : List ℕ) (f g : JdfFault) → IsJdfFault bytes f → IsJdfFault bytes g → f ≡ g
 
--- No text has a tree and a fault.
+-- Each text, whatever its bytes, has a tree or a first fault.
 abbrev pub TreeOrFault : Type 0
-TreeOrFault = (bytes : List ℕ) (a : Jdf) (f : JdfFault) → IsJdf bytes a → IsJdfFault bytes f → ⊥
+TreeOrFault = (bytes : List ℕ) → ((jdf : Jdf) × IsJdf bytes jdf) ⊎ ((fault : JdfFault) × IsJdfFault bytes fault)
+
+-- No text has a tree and a fault.
+abbrev pub NotBoth : Type 0
+NotBoth = (bytes : List ℕ) (jdf : Jdf) (fault : JdfFault) → IsJdf bytes jdf → IsJdfFault bytes fault → ⊥

@@ -1,57 +1,57 @@
--- What the readers of the code test, and what they pass over.
+-- The tests of the next tokens that the readers of the code make, and the parts that they skip.
 use Rattle.std.specs.Prelude.{Bool, false, ◌&&◌, ◌||◌, List, [], ◌∷◌, Option, Some, None, Result, Ok}
 use Rattle.jdf_lex.specs.declared.token.Token.{Token}
-use Rattle.grammar_core.specs.declared.sort.Sort.{Sort}
-use Rattle.grammar_core.specs.declared.sort.Sort.TheVariants as sort
-use Rattle.grammar_core.specs.Sorts.{is, sort_of}
+use Rattle.grammar_core.specs.declared.terminal.Terminal.{Terminal}
+use Rattle.grammar_core.specs.declared.terminal.Terminal.TheVariants as terminal
+use Rattle.grammar_core.specs.Terminals.{is, terminal_of}
 use Rattle.grammar_core.specs.Counted.{is_name}
-use Rattle.grammar_core.specs.Form.{seq, map, alt, opt}
-use Rattle.grammar_core.specs.Reading.{Stop, ◌>>=◌, starts, reading}
+use Rattle.grammar_core.specs.Production.{seq, map, alt, opt}
+use Rattle.grammar_core.specs.Reading.{FaultFromEnd, ◌>>=◌, starts, reading}
 use Rattle.jdf_tree.specs.declared.expression.Word.{Word}
 use Rattle.jdf_tree.specs.declared.part.Part.TheVariants.{Class}
-use Rattle.jdf_tree.specs.Inner.{Grammar}
+use Rattle.jdf_tree.specs.Nonterminal.{Grammar}
 use Rattle.jdf_tree.specs.declared.tree.ArgTree.{ArgTree}
 use Rattle.jdf_tree.specs.declared.tree.ClassTree.{ClassTree}
-use Rattle.jdf_tree.specs.Pieces.{after, name}
+use Rattle.jdf_tree.specs.GrammarParts.{prefixed_by, name}
 use Rattle.jdf_tree.specs.ClassGrammar.{argument, properties, head, Rest, rest, class_of}
-use Rattle.jdf_tree.specs.Grammar.{inner, skip}
+use Rattle.jdf_tree.specs.Grammar.{productions, skip}
 
--- What is left behind a text of this form, of which nothing is kept.
-abbrev pub past : {A : Type 0} → Grammar A → List Token → Result (List Token) Stop
-past g s = reading inner g s >>= λ x. Ok x.1
+-- The tokens after a text of this production, whose tree is not kept.
+abbrev pub past : {A : Type 0} → Grammar A → List Token → Result (List Token) FaultFromEnd
+past g s = reading productions g s >>= λ x. Ok x.1
 
--- Does a target come behind an arrow, and no guard: `NEW`, `NULL`, or a name before a name or "(".
+-- Is a target next, and not a guard: `NEW`, `NULL`, or a name before a name or "("?
 abbrev pub is_target : List Token → Bool
 is_target [] = false
-is_target (x ∷ s) = is sort.New (sort_of x) || is sort.Null (sort_of x) || (is_name (sort_of x) && (starts is_name s || starts (is sort.LeftParen) s))
+is_target (x ∷ s) = is terminal.New (terminal_of x) || is terminal.Null (terminal_of x) || (is_name (terminal_of x) && (starts is_name s || starts (is terminal.LeftParen) s))
 
--- Does a class come next, and nothing that stands before the first one: a name before "(".
+-- Is a class next, and not a global or a skipped part: a name before "("?
 abbrev pub is_class : List Token → Bool
 is_class [] = false
-is_class (x ∷ s) = is_name (sort_of x) && starts (is sort.LeftParen) s
+is_class (x ∷ s) = is_name (terminal_of x) && starts (is terminal.LeftParen) s
 
--- what is skipped begins so
-abbrev pub is_skip : Sort → Bool
-is_skip k = is sort.Extern k || is sort.OptionLine k
+-- the first set of a skipped part
+abbrev pub is_skip : Terminal → Bool
+is_skip k = is terminal.Extern k || is terminal.OptionLine k
 
--- One of those that stand before the first class: a global, or what is skipped.
+-- One part before the first class: a global, or a part that is skipped.
 unfoldable pub leading : Grammar (Option Word)
 leading = alt (map (λ x. None) skip) (map (λ x. Some x.0) (seq (name Class) (opt properties)))
 
--- the class of this name and these parameters, and of what stands behind them
+-- the class with this name, these parameters and this rest
 abbrev pub class_from : Word × List Word → Rest → ClassTree
 class_from x y = class_of ((x.0, (x.1, None)), y)
 
--- a class behind its name and its parameters
-abbrev pub class_behind : Word × List Word → Grammar ClassTree
-class_behind x = map (class_from x) rest
+-- a class after its name and its parameters
+abbrev pub class_rest : Word × List Word → Grammar ClassTree
+class_rest x = map (class_from x) rest
 
--- a further argument, and a further parameter
+-- another argument, and another parameter
 unfoldable pub next_argument : Grammar ArgTree
-next_argument = after sort.Comma argument
+next_argument = prefixed_by terminal.Comma argument
 
 unfoldable pub next_parameter : Grammar Word
-next_parameter = after sort.Comma (name Class)
+next_parameter = prefixed_by terminal.Comma (name Class)
 
 -- the name and the parameters of a class
 abbrev pub signature : Grammar (Word × List Word)

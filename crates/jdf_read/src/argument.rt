@@ -1,36 +1,36 @@
-//! Arguments.
+//! Reads arguments.
 
 ghost use Rattle.std.specs.Prelude.{◌≡◌};
-ghost use Rattle.grammar_core.specs.Gives.{Gives};
+ghost use Rattle.grammar_core.specs.Returns.{Returns};
 ghost use Rattle.grammar_core.specs.Reading.{reading, starts};
 ghost use Rattle.jdf_tree.specs.ClassGrammar.{argument, arguments, call};
-ghost use Rattle.jdf_tree.specs.Grammar.{inner, begins_operand};
+ghost use Rattle.jdf_tree.specs.Grammar.{productions, begins_operand};
 ghost use Rattle.jdf_tree.specs.declared.part.Part.TheVariants.{Class};
-ghost use Rattle.jdf_tree.specs.Pieces.{maybe};
+ghost use Rattle.jdf_tree.specs.GrammarParts.{maybe};
 ghost use Rattle.jdf_read.specs.Next.{next_argument};
 
 use expr_read::{is_name_next, outer};
-use grammar_core::{ReadError, Sort, expect, is_next};
+use grammar_core::{ReadRefusal, Terminal, expect, is_next};
 use jdf_lex::Token;
 use jdf_tree::{ArgTree, Part};
-use ptg_base::Row;
+use ptg_base::Seq;
 use std::alloc::Global;
 
 /// `expr (".." expr (".." expr)?)?`
 #[tactic(auto, unfolding(jdf_tree::specs::ClassGrammar::argument))]
-pub(crate) fn argument(alloc: Global, tokens: &[Token]) -> Result<(ArgTree, &[Token]), ReadError>
-    ensures { Gives (λ x. (x.0, x.1.now)) result (reading inner argument tokens.now) }
+pub(crate) fn argument(alloc: Global, tokens: &[Token]) -> Result<(ArgTree, &[Token]), ReadRefusal>
+    ensures { Returns (λ x. (x.0, x.1.now)) result (reading productions argument tokens.now) }
 {
     let (low, rest) = outer(alloc, Part::Class, tokens)?;
-    if !is_next(rest, Sort::Dots) {
+    if !is_next(rest, Terminal::Dots) {
         return Ok((ArgTree::One(low.tree), rest));
     }
-    let (_, rest) = expect(rest, Sort::Dots)?;
+    let (_, rest) = expect(rest, Terminal::Dots)?;
     let (high, rest) = outer(alloc, Part::Class, rest)?;
-    if !is_next(rest, Sort::Dots) {
+    if !is_next(rest, Terminal::Dots) {
         return Ok((ArgTree::Span(low.spot, low.tree, high.tree, None), rest));
     }
-    let (_, rest) = expect(rest, Sort::Dots)?;
+    let (_, rest) = expect(rest, Terminal::Dots)?;
     let (step, rest) = outer(alloc, Part::Class, rest)?;
     Ok((
         ArgTree::Span(low.spot, low.tree, high.tree, Some(step.tree)),
@@ -40,23 +40,23 @@ pub(crate) fn argument(alloc: Global, tokens: &[Token]) -> Result<(ArgTree, &[To
 
 // `"," argument`
 #[tactic(auto, unfolding(crate::specs::Next::next_argument))]
-fn next_argument(alloc: Global, tokens: &[Token]) -> Result<(ArgTree, &[Token]), ReadError>
-    ensures { Gives (λ x. (x.0, x.1.now)) result (reading inner next_argument tokens.now) }
+fn next_argument(alloc: Global, tokens: &[Token]) -> Result<(ArgTree, &[Token]), ReadRefusal>
+    ensures { Returns (λ x. (x.0, x.1.now)) result (reading productions next_argument tokens.now) }
 {
-    let (_, rest) = expect(tokens, Sort::Comma)?;
+    let (_, rest) = expect(tokens, Terminal::Comma)?;
     let (next, rest) = argument(alloc, rest)?;
     Ok((next, rest))
 }
 
 /// `argument ("," argument)*`
-#[tactic(auto, using(crate::proofs::Listed::arguments_listed, crate::proofs::Listed::arguments_behind, crate::proofs::Listed::arguments_fail, jdf_tree::proofs::Lists::rest_goes_on, jdf_tree::proofs::Lists::rest_fails, jdf_tree::proofs::Lists::rest_ends))]
-fn arguments(alloc: Global, tokens: &[Token]) -> Result<(Row<ArgTree>, &[Token]), ReadError>
-    ensures { Gives (λ x. (x.0, x.1.now)) result (reading inner arguments tokens.now) }
+#[tactic(auto, using(crate::proofs::Listed::arguments_listed, crate::proofs::Listed::arguments_after_first, crate::proofs::Listed::arguments_fail, jdf_tree::proofs::Lists::rest_goes_on, jdf_tree::proofs::Lists::rest_fails, jdf_tree::proofs::Lists::rest_ends))]
+fn arguments(alloc: Global, tokens: &[Token]) -> Result<(Seq<ArgTree>, &[Token]), ReadRefusal>
+    ensures { Returns (λ x. (x.0, x.1.now)) result (reading productions arguments tokens.now) }
 {
     let (first, mut rest) = argument(alloc, tokens)?;
-    let mut list = Row::new(alloc);
+    let mut list = Seq::new(alloc);
     list.push(first)?;
-    'more: while is_next(rest, Sort::Comma) {
+    'more: while is_next(rest, Terminal::Comma) {
         let (next, after) = next_argument(alloc, rest)?;
         list.push(next)?;
         rest = after;
@@ -64,14 +64,14 @@ fn arguments(alloc: Global, tokens: &[Token]) -> Result<(Row<ArgTree>, &[Token])
     Ok((list, rest))
 }
 
-// Does an argument come next?
+// Is an argument next?
 fn is_argument_next(tokens: &[Token]) -> bool
     ensures { result ≡ starts (begins_operand Class) tokens.now }
 {
     match tokens.split_first() {
         None => false,
-        Some((first, _)) => match Sort::of(first) {
-            Sort::Minus | Sort::Not | Sort::Number | Sort::LeftParen => true,
+        Some((first, _)) => match Terminal::of(first) {
+            Terminal::Minus | Terminal::Not | Terminal::Number | Terminal::LeftParen => true,
             _ => is_name_next(Part::Class, tokens),
         },
     }
@@ -79,11 +79,11 @@ fn is_argument_next(tokens: &[Token]) -> bool
 
 /// `arguments?`
 #[tactic(auto, using(crate::proofs::Begins::arguments_begin))]
-fn maybe_arguments(alloc: Global, tokens: &[Token]) -> Result<(Row<ArgTree>, &[Token]), ReadError>
-    ensures { Gives (λ x. (x.0, x.1.now)) result (reading inner (maybe arguments) tokens.now) }
+fn maybe_arguments(alloc: Global, tokens: &[Token]) -> Result<(Seq<ArgTree>, &[Token]), ReadRefusal>
+    ensures { Returns (λ x. (x.0, x.1.now)) result (reading productions (maybe arguments) tokens.now) }
 {
     if !is_argument_next(tokens) {
-        return Ok((Row::new(alloc), tokens));
+        return Ok((Seq::new(alloc), tokens));
     }
     let (list, rest) = arguments(alloc, tokens)?;
     Ok((list, rest))
@@ -91,11 +91,11 @@ fn maybe_arguments(alloc: Global, tokens: &[Token]) -> Result<(Row<ArgTree>, &[T
 
 /// `"(" arguments? ")"`
 #[tactic(auto, unfolding(jdf_tree::specs::ClassGrammar::call))]
-pub(crate) fn call(alloc: Global, tokens: &[Token]) -> Result<(Row<ArgTree>, &[Token]), ReadError>
-    ensures { Gives (λ x. (x.0, x.1.now)) result (reading inner call tokens.now) }
+pub(crate) fn call(alloc: Global, tokens: &[Token]) -> Result<(Seq<ArgTree>, &[Token]), ReadRefusal>
+    ensures { Returns (λ x. (x.0, x.1.now)) result (reading productions call tokens.now) }
 {
-    let (_, rest) = expect(tokens, Sort::LeftParen)?;
+    let (_, rest) = expect(tokens, Terminal::LeftParen)?;
     let (list, rest) = maybe_arguments(alloc, rest)?;
-    let (_, rest) = expect(rest, Sort::RightParen)?;
+    let (_, rest) = expect(rest, Terminal::RightParen)?;
     Ok((list, rest))
 }

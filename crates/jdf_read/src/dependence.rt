@@ -1,30 +1,30 @@
-//! Dependences.
+//! Reads dependences.
 
 ghost use Rattle.std.specs.Prelude.{◌≡◌};
-ghost use Rattle.grammar_core.specs.Form.{opt, pick};
-ghost use Rattle.grammar_core.specs.Gives.{Gives};
+ghost use Rattle.grammar_core.specs.Production.{opt, pick};
+ghost use Rattle.grammar_core.specs.Returns.{Returns};
 ghost use Rattle.grammar_core.specs.Reading.{reading, starts};
-ghost use Rattle.jdf_tree.specs.ClassGrammar.{unguarded, guarded, arrow, is_arrow, goes_on_target, datatype, dependence, dependences};
-ghost use Rattle.jdf_tree.specs.Grammar.{inner};
+ghost use Rattle.jdf_tree.specs.ClassGrammar.{unguarded, guarded, arrow, is_arrow, may_follow_target_name, datatype, dependence, dependences};
+ghost use Rattle.jdf_tree.specs.Grammar.{productions};
 ghost use Rattle.jdf_read.specs.Next.{is_target};
 
 use crate::target::target;
 use expr_read::{guard, is_name_next, name};
-use grammar_core::{Code, ReadError, Sort, expect, is_next};
+use grammar_core::{Code, ReadRefusal, Terminal, expect, is_next, refusal_at};
 use jdf_lex::Token;
 use jdf_tree::{DepTree, ExprTree, Part, TargetTree, Word};
-use ptg_base::Row;
+use ptg_base::Seq;
 use std::alloc::Global;
 
 /// How many dependences a flow may have.
 const MOST_DEPENDENCES: usize = 16;
 
-// How a dependence goes on behind its arrow: a guard, and where it leads then and else.
+// A dependence after its arrow: its guard, the target where the guard holds, and the target where it does not.
 type Choice = (Option<ExprTree>, TargetTree, Option<TargetTree>);
 
 #[tactic(auto, unfolding(jdf_tree::specs::ClassGrammar::unguarded))]
-fn unguarded(alloc: Global, tokens: &[Token]) -> Result<(Choice, &[Token]), ReadError>
-    ensures { Gives (λ x. (x.0, x.1.now)) result (reading inner unguarded tokens.now) }
+fn unguarded(alloc: Global, tokens: &[Token]) -> Result<(Choice, &[Token]), ReadRefusal>
+    ensures { Returns (λ x. (x.0, x.1.now)) result (reading productions unguarded tokens.now) }
 {
     let (yes, rest) = target(alloc, tokens)?;
     Ok(((None, yes, None), rest))
@@ -32,39 +32,39 @@ fn unguarded(alloc: Global, tokens: &[Token]) -> Result<(Choice, &[Token]), Read
 
 // `guard "?" target (":" target)?`
 #[tactic(auto, unfolding(jdf_tree::specs::ClassGrammar::guarded))]
-fn guarded(alloc: Global, tokens: &[Token]) -> Result<(Choice, &[Token]), ReadError>
-    ensures { Gives (λ x. (x.0, x.1.now)) result (reading inner guarded tokens.now) }
+fn guarded(alloc: Global, tokens: &[Token]) -> Result<(Choice, &[Token]), ReadRefusal>
+    ensures { Returns (λ x. (x.0, x.1.now)) result (reading productions guarded tokens.now) }
 {
     let (guard, rest) = guard(alloc, tokens)?;
-    let (_, rest) = expect(rest, Sort::Question)?;
+    let (_, rest) = expect(rest, Terminal::Question)?;
     let (yes, rest) = target(alloc, rest)?;
-    if !is_next(rest, Sort::Colon) {
+    if !is_next(rest, Terminal::Colon) {
         return Ok(((Some(guard.tree), yes, None), rest));
     }
-    let (_, rest) = expect(rest, Sort::Colon)?;
+    let (_, rest) = expect(rest, Terminal::Colon)?;
     let (no, rest) = target(alloc, rest)?;
     Ok(((Some(guard.tree), yes, Some(no)), rest))
 }
 
-// Does a target come next, and no guard?
+// Is a target next, and not a guard?
 fn is_target_next(tokens: &[Token]) -> bool
     ensures { result ≡ is_target tokens.now }
 {
     match tokens.split_first() {
         None => false,
         Some((_, rest)) => {
-            is_next(tokens, Sort::New)
-                || is_next(tokens, Sort::Null)
+            is_next(tokens, Terminal::New)
+                || is_next(tokens, Terminal::Null)
                 || (is_name_next(Part::Class, tokens)
-                    && (is_name_next(Part::Class, rest) || is_next(rest, Sort::LeftParen)))
+                    && (is_name_next(Part::Class, rest) || is_next(rest, Terminal::LeftParen)))
         }
     }
 }
 
-// What stands behind an arrow: a name before a name or `(` begins a target.
+// The targets after an arrow, with or without a guard: a name before a name or `(` begins a target.
 #[tactic(auto, using(crate::proofs::Begins::choice_reads))]
-fn choice(alloc: Global, tokens: &[Token]) -> Result<(Choice, &[Token]), ReadError>
-    ensures { Gives (λ x. (x.0, x.1.now)) result (reading inner (pick goes_on_target unguarded guarded) tokens.now) }
+fn choice(alloc: Global, tokens: &[Token]) -> Result<(Choice, &[Token]), ReadRefusal>
+    ensures { Returns (λ x. (x.0, x.1.now)) result (reading productions (pick may_follow_target_name unguarded guarded) tokens.now) }
 {
     if is_target_next(tokens) {
         unguarded(alloc, tokens)
@@ -73,56 +73,56 @@ fn choice(alloc: Global, tokens: &[Token]) -> Result<(Choice, &[Token]), ReadErr
     }
 }
 
-// Does an arrow come next?
+// Is an arrow next?
 fn is_arrow_next(tokens: &[Token]) -> bool
     ensures { result ≡ starts is_arrow tokens.now }
 {
     match tokens.split_first() {
         None => false,
-        Some((first, _)) => matches!(Sort::of(first), Sort::Inward | Sort::Outward),
+        Some((first, _)) => matches!(Terminal::of(first), Terminal::Inward | Terminal::Outward),
     }
 }
 
-// An arrow, and whether it leads into the task.
+// Takes an arrow: whether it is `<-`, and the tokens after it.
 #[tactic(auto, unfolding(jdf_tree::specs::ClassGrammar::arrow))]
-fn arrow(tokens: &[Token]) -> Result<(bool, &[Token]), ReadError>
-    ensures { Gives (λ x. (x.0, x.1.now)) result (reading inner arrow tokens.now) }
+fn arrow(tokens: &[Token]) -> Result<(bool, &[Token]), ReadRefusal>
+    ensures { Returns (λ x. (x.0, x.1.now)) result (reading productions arrow tokens.now) }
 {
     match tokens.split_first() {
-        Some((_, rest)) if is_arrow_next(tokens) => Ok((is_next(tokens, Sort::Inward), rest)),
-        _ => Err(ReadError::Fault(tokens.len(), Code::Syntax)),
+        Some((_, rest)) if is_arrow_next(tokens) => Ok((is_next(tokens, Terminal::Inward), rest)),
+        _ => Err(refusal_at(tokens, Code::Syntax)),
     }
 }
 
 // `"[" type "=" name "]"`
 #[tactic(auto, unfolding(jdf_tree::specs::ClassGrammar::datatype))]
-fn datatype(alloc: Global, tokens: &[Token]) -> Result<(Word, &[Token]), ReadError>
-    ensures { Gives (λ x. (x.0, x.1.now)) result (reading inner datatype tokens.now) }
+fn datatype(alloc: Global, tokens: &[Token]) -> Result<(Word, &[Token]), ReadRefusal>
+    ensures { Returns (λ x. (x.0, x.1.now)) result (reading productions datatype tokens.now) }
 {
-    let (_, rest) = expect(tokens, Sort::LeftBracket)?;
-    let (_, rest) = expect(rest, Sort::TypeWord)?;
-    let (_, rest) = expect(rest, Sort::Assign)?;
+    let (_, rest) = expect(tokens, Terminal::LeftBracket)?;
+    let (_, rest) = expect(rest, Terminal::TypeWord)?;
+    let (_, rest) = expect(rest, Terminal::Assign)?;
     let (datatype, rest) = name(alloc, Part::Class, rest)?;
-    let (_, rest) = expect(rest, Sort::RightBracket)?;
+    let (_, rest) = expect(rest, Terminal::RightBracket)?;
     Ok((datatype, rest))
 }
 
 // `datatype?`
 #[tactic(auto, using(crate::proofs::Begins::datatype_begins))]
-fn maybe_datatype(alloc: Global, tokens: &[Token]) -> Result<(Option<Word>, &[Token]), ReadError>
-    ensures { Gives (λ x. (x.0, x.1.now)) result (reading inner (opt datatype) tokens.now) }
+fn maybe_datatype(alloc: Global, tokens: &[Token]) -> Result<(Option<Word>, &[Token]), ReadRefusal>
+    ensures { Returns (λ x. (x.0, x.1.now)) result (reading productions (opt datatype) tokens.now) }
 {
-    if !is_next(tokens, Sort::LeftBracket) {
+    if !is_next(tokens, Terminal::LeftBracket) {
         return Ok((None, tokens));
     }
     let (datatype, rest) = datatype(alloc, tokens)?;
     Ok((Some(datatype), rest))
 }
 
-// An arrow, what stands behind it, and a datatype.
+// `arrow targets datatype?`
 #[tactic(auto, using(crate::proofs::Begins::dependence_reads))]
-fn dependence(alloc: Global, tokens: &[Token]) -> Result<(DepTree, &[Token]), ReadError>
-    ensures { Gives (λ x. (x.0, x.1.now)) result (reading inner dependence tokens.now) }
+fn dependence(alloc: Global, tokens: &[Token]) -> Result<(DepTree, &[Token]), ReadRefusal>
+    ensures { Returns (λ x. (x.0, x.1.now)) result (reading productions dependence tokens.now) }
 {
     let (inward, rest) = arrow(tokens)?;
     let ((guard, yes, no), rest) = choice(alloc, rest)?;
@@ -144,14 +144,14 @@ fn dependence(alloc: Global, tokens: &[Token]) -> Result<(DepTree, &[Token]), Re
 pub(crate) fn dependences(
     alloc: Global,
     tokens: &[Token],
-) -> Result<(Row<DepTree>, &[Token]), ReadError>
-    ensures { Gives (λ x. (x.0, x.1.now)) result (reading inner dependences tokens.now) }
+) -> Result<(Seq<DepTree>, &[Token]), ReadRefusal>
+    ensures { Returns (λ x. (x.0, x.1.now)) result (reading productions dependences tokens.now) }
 {
-    let mut list = Row::new(alloc);
+    let mut list = Seq::new(alloc);
     let mut rest = tokens;
     'more: while is_arrow_next(rest) {
         if list.len() == MOST_DEPENDENCES {
-            return Err(ReadError::Fault(rest.len(), Code::TooManyDeps));
+            return Err(refusal_at(rest, Code::TooManyDeps));
         }
         let (next, after) = dependence(alloc, rest)?;
         list.push(next)?;

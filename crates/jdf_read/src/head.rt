@@ -1,26 +1,26 @@
-//! What a class has before its flows.
+//! Reads the parts of a class before its flows.
 
 ghost use Rattle.std.specs.Prelude.{◌≡◌, ◌-◌, ◌≤◌, nat_lt, length};
 ghost use Rattle.std.specs.List.{prefix_len};
-ghost use Rattle.grammar_core.specs.Form.{opt};
-ghost use Rattle.grammar_core.specs.Gives.{Gives};
+ghost use Rattle.grammar_core.specs.Production.{opt};
+ghost use Rattle.grammar_core.specs.Returns.{Returns};
 ghost use Rattle.grammar_core.specs.Reading.{reading};
-ghost use Rattle.grammar_core.specs.Sorts.{sort_of};
+ghost use Rattle.grammar_core.specs.Terminals.{terminal_of};
 ghost use Rattle.jdf_tree.specs.declared.part.Part.TheVariants.{Class};
 ghost use Rattle.jdf_tree.specs.ClassGrammar.{parameters, parameter_list, definition, definitions, affinity, is_no_right_bracket, properties};
-ghost use Rattle.jdf_tree.specs.Grammar.{inner};
-ghost use Rattle.jdf_tree.specs.Pieces.{name, listed, maybe};
+ghost use Rattle.jdf_tree.specs.Grammar.{productions};
+ghost use Rattle.jdf_tree.specs.GrammarParts.{name, listed, maybe};
 ghost use Rattle.jdf_read.specs.Next.{next_parameter, past, signature};
 
 use crate::argument::{argument, call};
 use expr_read::{is_name_next, name};
-use grammar_core::{Code, ReadError, Sort, expect, is_next};
+use grammar_core::{Code, ReadFault, ReadRefusal, Terminal, expect, is_next, refusal_at};
 use jdf_lex::Token;
 use jdf_tree::{ArgTree, DefTree, Part, Word};
-use ptg_base::Row;
+use ptg_base::Seq;
 use std::alloc::Global;
 
-/// How many tokens eight parameters are, with the commas between and behind them.
+/// How many tokens eight parameters are, with the comma after each.
 const MOST_PARAMETER_TOKENS: usize = 16;
 
 /// How many definitions a class may have.
@@ -28,23 +28,23 @@ const MOST_DEFINITIONS: usize = 16;
 
 // `"," name`
 #[tactic(auto, unfolding(crate::specs::Next::next_parameter))]
-fn next_parameter(alloc: Global, tokens: &[Token]) -> Result<(Word, &[Token]), ReadError>
-    ensures { Gives (λ x. (x.0, x.1.now)) result (reading inner next_parameter tokens.now) }
+fn next_parameter(alloc: Global, tokens: &[Token]) -> Result<(Word, &[Token]), ReadRefusal>
+    ensures { Returns (λ x. (x.0, x.1.now)) result (reading productions next_parameter tokens.now) }
 {
-    let (_, rest) = expect(tokens, Sort::Comma)?;
+    let (_, rest) = expect(tokens, Terminal::Comma)?;
     let (next, rest) = name(alloc, Part::Class, rest)?;
     Ok((next, rest))
 }
 
 // `name ("," name)*`
-#[tactic(auto, using(crate::proofs::Listed::parameters_listed, crate::proofs::Listed::parameters_behind, crate::proofs::Listed::parameters_fail, jdf_tree::proofs::Lists::rest_goes_on, jdf_tree::proofs::Lists::rest_fails, jdf_tree::proofs::Lists::rest_ends))]
-fn names(alloc: Global, tokens: &[Token]) -> Result<(Row<Word>, &[Token]), ReadError>
-    ensures { Gives (λ x. (x.0, x.1.now)) result (reading inner (listed (name Class)) tokens.now) }
+#[tactic(auto, using(crate::proofs::Listed::parameters_listed, crate::proofs::Listed::parameters_after_first, crate::proofs::Listed::parameters_fail, jdf_tree::proofs::Lists::rest_goes_on, jdf_tree::proofs::Lists::rest_fails, jdf_tree::proofs::Lists::rest_ends))]
+fn names(alloc: Global, tokens: &[Token]) -> Result<(Seq<Word>, &[Token]), ReadRefusal>
+    ensures { Returns (λ x. (x.0, x.1.now)) result (reading productions (listed (name Class)) tokens.now) }
 {
     let (first, mut rest) = name(alloc, Part::Class, tokens)?;
-    let mut list = Row::new(alloc);
+    let mut list = Seq::new(alloc);
     list.push(first)?;
-    'more: while is_next(rest, Sort::Comma) {
+    'more: while is_next(rest, Terminal::Comma) {
         let (next, after) = next_parameter(alloc, rest)?;
         list.push(next)?;
         rest = after;
@@ -52,7 +52,7 @@ fn names(alloc: Global, tokens: &[Token]) -> Result<(Row<Word>, &[Token]), ReadE
     Ok((list, rest))
 }
 
-// Are more tokens taken than eight parameters are, where so many are left?
+// Were more tokens taken than eight parameters have, if this many are left?
 fn is_over(tokens: &[Token], left: usize) -> bool
     ensures { result ≡ nat_lt 16 (length tokens.now - left) }
 {
@@ -61,27 +61,27 @@ fn is_over(tokens: &[Token], left: usize) -> bool
 
 // The names, at most 8.
 #[tactic(auto, unfolding(jdf_tree::specs::ClassGrammar::parameters))]
-fn parameters(alloc: Global, tokens: &[Token]) -> Result<(Row<Word>, &[Token]), ReadError>
-    ensures { Gives (λ x. (x.0, x.1.now)) result (reading inner parameters tokens.now) }
+fn parameters(alloc: Global, tokens: &[Token]) -> Result<(Seq<Word>, &[Token]), ReadRefusal>
+    ensures { Returns (λ x. (x.0, x.1.now)) result (reading productions parameters tokens.now) }
 {
-    let over = ReadError::Fault(
-        tokens.len().saturating_sub(MOST_PARAMETER_TOKENS),
-        Code::TooManyParams,
-    );
+    let over = ReadRefusal::Fault(ReadFault {
+        left: tokens.len().saturating_sub(MOST_PARAMETER_TOKENS),
+        code: Code::TooManyParams,
+    });
     match names(alloc, tokens) {
         Ok((_, rest)) if is_over(tokens, rest.len()) => Err(over),
-        Err(ReadError::Fault(left, _)) if is_over(tokens, left) => Err(over),
+        Err(ReadRefusal::Fault(ReadFault { left, .. })) if is_over(tokens, left) => Err(over),
         read => read,
     }
 }
 
 // `parameters?`
 #[tactic(auto, using(crate::proofs::Begins::parameters_begin))]
-fn maybe_parameters(alloc: Global, tokens: &[Token]) -> Result<(Row<Word>, &[Token]), ReadError>
-    ensures { Gives (λ x. (x.0, x.1.now)) result (reading inner (maybe parameters) tokens.now) }
+fn maybe_parameters(alloc: Global, tokens: &[Token]) -> Result<(Seq<Word>, &[Token]), ReadRefusal>
+    ensures { Returns (λ x. (x.0, x.1.now)) result (reading productions (maybe parameters) tokens.now) }
 {
     if !is_name_next(Part::Class, tokens) {
-        return Ok((Row::new(alloc), tokens));
+        return Ok((Seq::new(alloc), tokens));
     }
     let (list, rest) = parameters(alloc, tokens)?;
     Ok((list, rest))
@@ -89,43 +89,43 @@ fn maybe_parameters(alloc: Global, tokens: &[Token]) -> Result<(Row<Word>, &[Tok
 
 // `"(" parameters? ")"`
 #[tactic(auto, unfolding(jdf_tree::specs::ClassGrammar::parameter_list))]
-fn parameter_list(alloc: Global, tokens: &[Token]) -> Result<(Row<Word>, &[Token]), ReadError>
-    ensures { Gives (λ x. (x.0, x.1.now)) result (reading inner parameter_list tokens.now) }
+fn parameter_list(alloc: Global, tokens: &[Token]) -> Result<(Seq<Word>, &[Token]), ReadRefusal>
+    ensures { Returns (λ x. (x.0, x.1.now)) result (reading productions parameter_list tokens.now) }
 {
-    let (_, rest) = expect(tokens, Sort::LeftParen)?;
+    let (_, rest) = expect(tokens, Terminal::LeftParen)?;
     let (list, rest) = maybe_parameters(alloc, rest)?;
-    let (_, rest) = expect(rest, Sort::RightParen)?;
+    let (_, rest) = expect(rest, Terminal::RightParen)?;
     Ok((list, rest))
 }
 
-// How many tokens there are before the first `]`.
-fn bracket_place(tokens: &[Token]) -> usize
-    ensures value { result ≡ prefix_len (λ x. is_no_right_bracket (sort_of x)) tokens.now }
+// The index of the first `]`, or the number of tokens.
+fn bracket_index(tokens: &[Token]) -> usize
+    ensures value { result ≡ prefix_len (λ x. is_no_right_bracket (terminal_of x)) tokens.now }
     ensures within { result ≤ length tokens.now }
 {
     tokens
         .iter()
-        .take_while(|token| Sort::of(token) != Sort::RightBracket)
+        .take_while(|token| Terminal::of(token) != Terminal::RightBracket)
         .count()
 }
 
 // `"[", tokens other than "]", "]"`: the tokens between the brackets.
 #[tactic(auto, using(crate::proofs::Runs::split_is), unfolding(jdf_tree::specs::ClassGrammar::properties))]
-fn properties(tokens: &[Token]) -> Result<(&[Token], &[Token]), ReadError>
-    ensures { Gives (λ x. (x.0.now, x.1.now)) result (reading inner properties tokens.now) }
+fn properties(tokens: &[Token]) -> Result<(&[Token], &[Token]), ReadRefusal>
+    ensures { Returns (λ x. (x.0.now, x.1.now)) result (reading productions properties tokens.now) }
 {
-    let (_, inside) = expect(tokens, Sort::LeftBracket)?;
-    let (skipped, rest) = inside.split_at(bracket_place(inside));
-    let (_, rest) = expect(rest, Sort::RightBracket)?;
+    let (_, inside) = expect(tokens, Terminal::LeftBracket)?;
+    let (skipped, rest) = inside.split_at(bracket_index(inside));
+    let (_, rest) = expect(rest, Terminal::RightBracket)?;
     Ok((skipped, rest))
 }
 
-/// What is left behind properties, where they come.
+/// `properties?`: the tokens after them.
 #[tactic(auto, using(crate::proofs::Begins::properties_begin))]
-pub(crate) fn past_properties(tokens: &[Token]) -> Result<&[Token], ReadError>
-    ensures { Gives (λ rest. rest.now) result (past (opt properties) tokens.now) }
+pub(crate) fn past_properties(tokens: &[Token]) -> Result<&[Token], ReadRefusal>
+    ensures { Returns (λ rest. rest.now) result (past (opt properties) tokens.now) }
 {
-    if !is_next(tokens, Sort::LeftBracket) {
+    if !is_next(tokens, Terminal::LeftBracket) {
         return Ok(tokens);
     }
     let (_, rest) = properties(tokens)?;
@@ -137,8 +137,8 @@ pub(crate) fn past_properties(tokens: &[Token]) -> Result<&[Token], ReadError>
 pub(crate) fn signature(
     alloc: Global,
     tokens: &[Token],
-) -> Result<((Word, Row<Word>), &[Token]), ReadError>
-    ensures { Gives (λ x. (x.0, x.1.now)) result (reading inner signature tokens.now) }
+) -> Result<((Word, Seq<Word>), &[Token]), ReadRefusal>
+    ensures { Returns (λ x. (x.0, x.1.now)) result (reading productions signature tokens.now) }
 {
     let (class, rest) = name(alloc, Part::Class, tokens)?;
     let (params, rest) = parameter_list(alloc, rest)?;
@@ -148,11 +148,11 @@ pub(crate) fn signature(
 
 // `name "=" argument`
 #[tactic(auto, unfolding(jdf_tree::specs::ClassGrammar::definition))]
-fn definition(alloc: Global, tokens: &[Token]) -> Result<(DefTree, &[Token]), ReadError>
-    ensures { Gives (λ x. (x.0, x.1.now)) result (reading inner definition tokens.now) }
+fn definition(alloc: Global, tokens: &[Token]) -> Result<(DefTree, &[Token]), ReadRefusal>
+    ensures { Returns (λ x. (x.0, x.1.now)) result (reading productions definition tokens.now) }
 {
     let (name, rest) = name(alloc, Part::Class, tokens)?;
-    let (_, rest) = expect(rest, Sort::Assign)?;
+    let (_, rest) = expect(rest, Terminal::Assign)?;
     let (value, rest) = argument(alloc, rest)?;
     Ok((DefTree { name, value }, rest))
 }
@@ -162,14 +162,14 @@ fn definition(alloc: Global, tokens: &[Token]) -> Result<(DefTree, &[Token]), Re
 pub(crate) fn definitions(
     alloc: Global,
     tokens: &[Token],
-) -> Result<(Row<DefTree>, &[Token]), ReadError>
-    ensures { Gives (λ x. (x.0, x.1.now)) result (reading inner definitions tokens.now) }
+) -> Result<(Seq<DefTree>, &[Token]), ReadRefusal>
+    ensures { Returns (λ x. (x.0, x.1.now)) result (reading productions definitions tokens.now) }
 {
-    let mut list = Row::new(alloc);
+    let mut list = Seq::new(alloc);
     let mut rest = tokens;
     'more: while is_name_next(Part::Class, rest) {
         if list.len() == MOST_DEFINITIONS {
-            return Err(ReadError::Fault(rest.len(), Code::TooManyLocals));
+            return Err(refusal_at(rest, Code::TooManyLocals));
         }
         let (next, after) = definition(alloc, rest)?;
         list.push(next)?;
@@ -183,10 +183,10 @@ pub(crate) fn definitions(
 pub(crate) fn affinity(
     alloc: Global,
     tokens: &[Token],
-) -> Result<((Word, Row<ArgTree>), &[Token]), ReadError>
-    ensures { Gives (λ x. (x.0, x.1.now)) result (reading inner affinity tokens.now) }
+) -> Result<((Word, Seq<ArgTree>), &[Token]), ReadRefusal>
+    ensures { Returns (λ x. (x.0, x.1.now)) result (reading productions affinity tokens.now) }
 {
-    let (_, rest) = expect(tokens, Sort::Colon)?;
+    let (_, rest) = expect(tokens, Terminal::Colon)?;
     let (collection, rest) = name(alloc, Part::Class, rest)?;
     let (arguments, rest) = call(alloc, rest)?;
     Ok(((collection, arguments), rest))

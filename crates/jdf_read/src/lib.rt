@@ -1,4 +1,4 @@
-//! Reads the text of a JDF into its tree, or names the text's first fault.
+//! Reads the text of a JDF into its tree, or gives its first fault.
 #![tactic(auto)]
 
 mod argument;
@@ -14,5 +14,5 @@ mod target;
 mod tests;
 mod text;
 
-pub use laws::{one_fault, one_tree, tree_or_fault};
+pub use laws::{JdfGrammar, one_fault, one_tree, tree_or_fault};
 pub use text::read;

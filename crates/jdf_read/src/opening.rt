@@ -1,34 +1,34 @@
-//! What stands before the first class, and the whole text.
+//! Reads the globals before the first class, and the whole text.
 
 ghost use Rattle.std.specs.Prelude.{◌≡◌};
-ghost use Rattle.grammar_core.specs.Gives.{Gives};
+ghost use Rattle.grammar_core.specs.Returns.{Returns};
 ghost use Rattle.grammar_core.specs.Reading.{reading};
-ghost use Rattle.jdf_tree.specs.Grammar.{inner, opening};
+ghost use Rattle.jdf_tree.specs.Grammar.{productions, opening};
 ghost use Rattle.jdf_read.specs.Next.{is_class, leading};
 
 use crate::class::{classes, is_skip_next, past_skip};
 use crate::head::past_properties;
 use expr_read::{is_name_next, name};
-use grammar_core::{ReadError, Sort, is_next};
+use grammar_core::{ReadRefusal, Terminal, is_next};
 use jdf_lex::Token;
 use jdf_tree::{Jdf, Part, Word};
-use ptg_base::Row;
+use ptg_base::Seq;
 use std::alloc::Global;
 
-// Does a class come next: a name before `(`?
+// Is a class next: a name before `(`?
 fn is_class_next(tokens: &[Token]) -> bool
     ensures { result ≡ is_class tokens.now }
 {
     match tokens.split_first() {
         None => false,
-        Some((_, rest)) => is_name_next(Part::Class, tokens) && is_next(rest, Sort::LeftParen),
+        Some((_, rest)) => is_name_next(Part::Class, tokens) && is_next(rest, Terminal::LeftParen),
     }
 }
 
-// What is skipped, or a global and its properties.
+// A part that is skipped, or a global and its properties.
 #[tactic(auto, using(crate::proofs::Openings::leading_reads))]
-fn leading(alloc: Global, tokens: &[Token]) -> Result<(Option<Word>, &[Token]), ReadError>
-    ensures { Gives (λ x. (x.0, x.1.now)) result (reading inner leading tokens.now) }
+fn leading(alloc: Global, tokens: &[Token]) -> Result<(Option<Word>, &[Token]), ReadRefusal>
+    ensures { Returns (λ x. (x.0, x.1.now)) result (reading productions leading tokens.now) }
 {
     if is_skip_next(tokens) {
         let rest = past_skip(tokens)?;
@@ -39,12 +39,12 @@ fn leading(alloc: Global, tokens: &[Token]) -> Result<(Option<Word>, &[Token]), 
     Ok((Some(global), rest))
 }
 
-/// A text: what stands before the first class, and the classes.
+/// A text: globals and skipped parts, and the classes.
 #[tactic(auto, using(crate::proofs::Openings::opening_begins, crate::proofs::Openings::opening_fails, crate::proofs::Openings::opening_ends, crate::proofs::Openings::opening_stops, crate::proofs::Openings::skipped_goes_on, crate::proofs::Openings::global_goes_on))]
-pub(crate) fn opening(alloc: Global, tokens: &[Token]) -> Result<(Jdf, &[Token]), ReadError>
-    ensures { Gives (λ x. (x.0, x.1.now)) result (reading inner opening tokens.now) }
+pub(crate) fn opening(alloc: Global, tokens: &[Token]) -> Result<(Jdf, &[Token]), ReadRefusal>
+    ensures { Returns (λ x. (x.0, x.1.now)) result (reading productions opening tokens.now) }
 {
-    let mut globals = Row::new(alloc);
+    let mut globals = Seq::new(alloc);
     let mut rest = tokens;
     'more: while !is_class_next(rest) {
         let (global, after) = leading(alloc, rest)?;

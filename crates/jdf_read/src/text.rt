@@ -1,21 +1,21 @@
-//! Reads a whole text.
+//! Reads a whole text from its bytes.
 
 ghost use Rattle.std.specs.Prelude.{◌≡◌, ◌⊎◌, ◌-◌, ◌≤◌, ◌==◌, not, count_by, Ok, Err, Some, None, IfOk, length, slice_get};
 ghost use Rattle.std.specs.List.{suffix_len};
 ghost use Rattle.jdf_lex.specs.declared.fault.JdfCode.TheVariants.{Truncated};
 ghost use Rattle.jdf_lex.specs.declared.fault.JdfFault.{JdfFault};
-ghost use Rattle.jdf_lex.specs.declared.fault.JdfRefusal.TheVariants.{Fault, OutOfMemory};
+ghost use Rattle.ptg_base.specs.declared.refusal.Refusal.TheVariants.{Fault, OutOfMemory};
 ghost use Rattle.jdf_lex.specs.declared.token.Token.{Token};
 ghost use Rattle.jdf_lex.specs.Tokens.{spot_after};
-ghost use Rattle.grammar_core.specs.Gives.{Gives};
+ghost use Rattle.grammar_core.specs.Returns.{Returns};
 ghost use Rattle.grammar_core.specs.Reading.{whole};
 ghost use Rattle.jdf_tree.specs.declared.tree.Jdf.{Jdf};
-ghost use Rattle.jdf_tree.specs.Grammar.{inner, file};
+ghost use Rattle.jdf_tree.specs.Grammar.{productions, file};
 ghost use Rattle.jdf_tree.specs.Jdf.{IsJdf};
 ghost use Rattle.jdf_tree.specs.Fault.{IsJdfFault, code_at_token};
 
 use crate::opening::opening;
-use grammar_core::{Code, ReadError};
+use grammar_core::{Code, ReadRefusal, refusal_at};
 use jdf_lex::{JdfCode, JdfFault, JdfRefusal, Lexed, Spot, Token, tokens};
 use jdf_tree::{Jdf, code_at_token};
 use std::alloc::Global;
@@ -23,18 +23,18 @@ use std::alloc::Global;
 /// How many bytes a text may have.
 const MOST_BYTES: usize = 16777216;
 
-// All of the tokens.
-fn whole(alloc: Global, tokens: &[Token]) -> Result<Jdf, ReadError>
-    ensures { Gives (λ jdf. jdf) result (whole inner file tokens.now) }
+// Reads all of the tokens as one text.
+fn whole(alloc: Global, tokens: &[Token]) -> Result<Jdf, ReadRefusal>
+    ensures { Returns (λ jdf. jdf) result (whole productions file tokens.now) }
 {
     let (jdf, rest) = opening(alloc, tokens)?;
     if !rest.is_empty() {
-        return Err(ReadError::Fault(rest.len(), Code::Syntax));
+        return Err(refusal_at(rest, Code::Syntax));
     }
     Ok(jdf)
 }
 
-// How many lines end in these bytes.
+// The number of line ends in these bytes.
 fn lines_in(front: &[u8]) -> usize
     ensures value { result ≡ count_by (λ b. b == 10) front.now }
     ensures within { result ≤ length front.now }
@@ -42,7 +42,7 @@ fn lines_in(front: &[u8]) -> usize
     front.iter().filter(|b| **b == b'\n').count()
 }
 
-// How many bytes stand behind the last line's end.
+// The number of bytes after the last line end.
 fn columns_in(front: &[u8]) -> usize
     ensures value { result ≡ suffix_len (λ b. not (b == 10)) front.now }
     ensures within { result ≤ length front.now }
@@ -50,7 +50,7 @@ fn columns_in(front: &[u8]) -> usize
     front.iter().rev().take_while(|b| **b != b'\n').count()
 }
 
-// The place behind these bytes.
+// The spot after these bytes.
 fn spot_after(front: &[u8]) -> Spot
     requires { length front.now ≤ 16777216 }
     ensures { result ≡ spot_after front.now }
@@ -61,7 +61,7 @@ fn spot_after(front: &[u8]) -> Spot
     }
 }
 
-// The fault of the grammar where so many tokens are left.
+// The fault with this code where this many tokens are left: at the next token, or Truncated at the end.
 fn grammar_fault(lexed: &Lexed, left: usize, code: Code) -> JdfFault
     ensures at_token { (token : Token) → slice_get lexed.now.tokens (length lexed.now.tokens - left) ≡ Some token → result ≡ record { spot = token.spot; code = code_at_token code } }
     ensures at_end { slice_get lexed.now.tokens (length lexed.now.tokens - left) ≡ None → result ≡ record { spot = lexed.now.end; code = Truncated } }
@@ -88,9 +88,9 @@ fn read_text(alloc: Global, text: &str) -> Result<Jdf, JdfRefusal>
     let lexed = tokens(alloc, text)?;
     match whole(alloc, lexed.tokens.as_slice()) {
         Ok(jdf) => Ok(jdf),
-        Err(ReadError::Memory) => Err(JdfRefusal::OutOfMemory),
-        Err(ReadError::Fault(left, code)) => Err(JdfRefusal::Fault(grammar_fault(
-            &lexed, left, code,
+        Err(ReadRefusal::OutOfMemory) => Err(JdfRefusal::OutOfMemory),
+        Err(ReadRefusal::Fault(fault)) => Err(JdfRefusal::Fault(grammar_fault(
+            &lexed, fault.left, fault.code,
         ))),
     }
 }
@@ -121,9 +121,9 @@ pub fn read(alloc: Global, bytes: &[u8]) -> Result<Jdf, JdfRefusal>
     ensures found { IfOk result (λ jdf. IsJdf bytes.now jdf) }
     // A text that has a tree is read, unless memory runs out.
     ensures only { (jdf : Jdf) → IsJdf bytes.now jdf → (result ≡ Ok jdf) ⊎ (result ≡ Err OutOfMemory) }
-    // A fault that is answered is the first one of the text.
+    // A fault in the result is the first one of the text.
     ensures fault { (f : JdfFault) → result ≡ Err (Fault f) → IsJdfFault bytes.now f }
-    // Where the text has a first fault that is the answer, unless memory runs out.
+    // If the text has a first fault, that is the result, unless memory runs out.
     ensures refused { (f : JdfFault) → IsJdfFault bytes.now f → (result ≡ Err (Fault f)) ⊎ (result ≡ Err OutOfMemory) }
 {
     read_bytes(alloc, bytes)

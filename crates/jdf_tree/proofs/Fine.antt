@@ -1,35 +1,35 @@
--- The grammar is read with one token of lookahead, and a second one where two forms begin alike.
+-- The grammar is predictive: one token of lookahead reads it, and a second one where two productions begin alike.
 use Rattle.std.proofs.Common.{◌≡◌, true, refl}
 use Rattle.jdf_tree.specs.declared.part.Part.{Part}
 use Rattle.jdf_tree.specs.declared.part.Part.TheVariants.{Class, Body}
 use Rattle.grammar_core.specs.Predictive.{is_fine, are_names}
-use Rattle.jdf_tree.specs.Inner.{Inner, an_expr, a_unary, an_opening, a_block}
+use Rattle.jdf_tree.specs.Nonterminal.{Nonterminal, an_expr, a_unary, an_opening, a_block}
 use Rattle.jdf_tree.specs.ExpressionGrammar.{number, parens, index, reference, signed, unary, product, sum, relation, equality, conjunction, disjunction, branches, expr, outer, guard}
 use Rattle.jdf_tree.specs.ClassGrammar.{argument, arguments, call, called, target, unguarded, guarded, arrow, datatype, dependence, dependences, kind_of_flow, flow, flows, parameters, parameter_list, definition, definitions, affinity, priority, properties, body_tokens, body, head, rest, class}
-use Rattle.jdf_tree.specs.BodyGrammar.{block, value, declaration, element, assignment, condition, otherwise, choice, for_loop, stop, statement, statements, block_behind}
-use Rattle.jdf_tree.specs.Grammar.{skip, class_and_skips, classes, behind_extern, behind_option, behind_properties, behind_global, opening, inner, claims}
+use Rattle.jdf_tree.specs.BodyGrammar.{block, value, declaration, element, assignment, condition, otherwise, choice, for_loop, trap_statement, statement, statements, block_rest}
+use Rattle.jdf_tree.specs.Grammar.{skip, class_and_skips, classes, opening_after_extern, opening_after_option, opening_after_properties, opening_after_global, opening, productions, claims}
 
-pub unary_fine : (part : Part) → are_names inner claims (a_unary part) ≡ true
-unfolding inner unary signed number reference index parens
+pub unary_fine : (part : Part) → are_names productions claims (a_unary part) ≡ true
+unfolding productions unary signed number reference index parens
 unary_fine Class = refl
 unary_fine Body = refl
 
-pub expr_fine : (part : Part) → are_names inner claims (an_expr part) ≡ true
-unfolding inner expr branches disjunction conjunction equality relation sum product unary signed number reference index parens
+pub expr_fine : (part : Part) → are_names productions claims (an_expr part) ≡ true
+unfolding productions expr branches disjunction conjunction equality relation sum product unary signed number reference index parens
 expr_fine Class = refl
 expr_fine Body = refl
 
-pub opening_fine : are_names inner claims an_opening ≡ true
-unfolding inner opening behind_extern behind_option behind_properties behind_global classes class_and_skips skip class rest head body body_tokens properties priority affinity definitions definition parameter_list parameters flows flow kind_of_flow dependences dependence datatype arrow guarded unguarded target called call arguments argument guard outer expr branches disjunction conjunction equality relation sum product unary signed number reference index parens
+pub opening_fine : are_names productions claims an_opening ≡ true
+unfolding productions opening opening_after_extern opening_after_option opening_after_properties opening_after_global classes class_and_skips skip class rest head body body_tokens properties priority affinity definitions definition parameter_list parameters flows flow kind_of_flow dependences dependence datatype arrow guarded unguarded target called call arguments argument guard outer expr branches disjunction conjunction equality relation sum product unary signed number reference index parens
 opening_fine = refl
 
-pub block_fine : are_names inner claims a_block ≡ true
-unfolding inner block_behind statements statement declaration choice for_loop stop assignment element value condition otherwise block outer expr branches disjunction conjunction equality relation sum product unary signed number reference index parens
+pub block_fine : are_names productions claims a_block ≡ true
+unfolding productions block_rest statements statement declaration choice for_loop trap_statement assignment element value condition otherwise block outer expr branches disjunction conjunction equality relation sum product unary signed number reference index parens
 block_fine = refl
 
--- Each name of the grammar passes the test.
-pub inner_fine : (n : Inner) → are_names inner claims n ≡ true
-inner_fine (an_expr part) = expr_fine part
-inner_fine (a_unary part) = unary_fine part
-inner_fine an_opening = opening_fine
-inner_fine a_block = block_fine
+-- Each nonterminal of the grammar passes the test.
+pub productions_fine : (n : Nonterminal) → are_names productions claims n ≡ true
+productions_fine (an_expr part) = expr_fine part
+productions_fine (a_unary part) = unary_fine part
+productions_fine an_opening = opening_fine
+productions_fine a_block = block_fine

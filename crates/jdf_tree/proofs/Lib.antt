@@ -1,3 +1,5 @@
 pub mod Fine
 pub mod Limits
 pub mod Lists
+pub mod Numbers
+pub mod Predictive

@@ -1,4 +1,4 @@
--- No limit of the grammar is a syntax fault.
+-- No limit of the grammar has the code Syntax.
 use Rattle.std.proofs.Common.{◌≡◌, ℕ, Bool, true, false, cond, refl}
 use Rattle.std.specs.Prelude.{Some, None, nat_le}
 use Rattle.grammar_core.specs.declared.code.Code.{Code}
@@ -6,11 +6,11 @@ use Rattle.grammar_core.specs.Predictive.{is_limit, are_limits}
 use Rattle.grammar_core.proofs.Whole.{LimitsOnly}
 use Rattle.jdf_tree.specs.declared.part.Part.{Part}
 use Rattle.jdf_tree.specs.declared.part.Part.TheVariants.{Class, Body}
-use Rattle.jdf_tree.specs.Inner.{Inner, an_expr, a_unary, an_opening, a_block}
+use Rattle.jdf_tree.specs.Nonterminal.{Nonterminal, an_expr, a_unary, an_opening, a_block}
 use Rattle.jdf_tree.specs.ExpressionGrammar.{number, parens, index, reference, signed, unary, product, sum, relation, equality, conjunction, disjunction, branches, expr, outer, guard}
 use Rattle.jdf_tree.specs.ClassGrammar.{full_at, argument, arguments, call, called, target, unguarded, guarded, arrow, datatype, dependence, dependences, kind_of_flow, flow, flows, parameters, parameter_list, definition, definitions, affinity, priority, properties, body_tokens, body, head, rest, class}
-use Rattle.jdf_tree.specs.BodyGrammar.{block, value, declaration, element, assignment, condition, otherwise, choice, for_loop, stop, statement, statements, block_behind, text, body as body_text}
-use Rattle.jdf_tree.specs.Grammar.{skip, class_and_skips, classes, behind_extern, behind_option, behind_properties, behind_global, opening, inner}
+use Rattle.jdf_tree.specs.BodyGrammar.{block, value, declaration, element, assignment, condition, otherwise, choice, for_loop, trap_statement, statement, statements, block_rest, text, body as body_text}
+use Rattle.jdf_tree.specs.Grammar.{skip, class_and_skips, classes, opening_after_extern, opening_after_option, opening_after_properties, opening_after_global, opening, productions}
 
 -- ---- expressions
 
@@ -183,7 +183,7 @@ unfolding classes
 classes_limits = (class_and_skips_limits, (class_and_skips_limits, from_number 63 _ refl))
 
 pub opening_limits : LimitsOnly opening
-unfolding opening behind_extern behind_option behind_properties behind_global
+unfolding opening opening_after_extern opening_after_option opening_after_properties opening_after_global
 opening_limits = ((tt, (tt, tt)), (tt, (classes_limits, ((tt, (tt, ((tt, λ i. refl), tt))), tt))))
 
 -- ---- bodies
@@ -224,8 +224,8 @@ for_loop_limits : LimitsOnly for_loop
 unfolding for_loop
 for_loop_limits = (tt, (tt, ((tt, outer_limits Body), ((tt, outer_limits Body), block_limits))))
 
-stop_limits : LimitsOnly stop
-unfolding stop
+stop_limits : LimitsOnly trap_statement
+unfolding trap_statement
 stop_limits = (tt, (tt, tt))
 
 statement_limits : LimitsOnly statement
@@ -236,9 +236,9 @@ statements_limits : LimitsOnly statements
 unfolding statements
 statements_limits = (statement_limits, λ i. refl)
 
-block_behind_limits : LimitsOnly block_behind
-unfolding block_behind
-block_behind_limits = (statements_limits, tt)
+block_rest_limits : LimitsOnly block_rest
+unfolding block_rest
+block_rest_limits = (statements_limits, tt)
 
 pub text_limits : LimitsOnly text
 unfolding text
@@ -248,9 +248,9 @@ pub body_text_limits : LimitsOnly body_text
 unfolding body_text
 body_text_limits = ((text_limits, refl), refl)
 
-pub inner_limits : (n : Inner) → LimitsOnly (inner n)
-unfolding inner
-inner_limits (an_expr part) = expr_limits part
-inner_limits (a_unary part) = unary_limits part
-inner_limits an_opening = opening_limits
-inner_limits a_block = block_behind_limits
+pub productions_limits : (n : Nonterminal) → LimitsOnly (productions n)
+unfolding productions
+productions_limits (an_expr part) = expr_limits part
+productions_limits (a_unary part) = unary_limits part
+productions_limits an_opening = opening_limits
+productions_limits a_block = block_rest_limits

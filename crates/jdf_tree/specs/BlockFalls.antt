@@ -1,4 +1,4 @@
--- Each block inside of a block has fewer statements.
+-- Each block inside a block has fewer statements. This proof stands in specs/ since the model of a block cites it.
 use Rattle.std.specs.Prelude.{◌≤◌, List, [], ◌∷◌, max}
 use Rattle.std.proofs.Common.{arith}
 use denote.Param.Weighed.{most}

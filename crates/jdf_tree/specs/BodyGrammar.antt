@@ -1,43 +1,43 @@
 -- The grammar of the body of a class. The language of bodies is this project's own choice.
 use Rattle.std.specs.Prelude.{Bool, Option, Some, None, ◌||◌}
-use Rattle.grammar_core.specs.declared.sort.Sort.{Sort}
-use Rattle.grammar_core.specs.declared.sort.Sort.TheVariants as sort
+use Rattle.grammar_core.specs.declared.terminal.Terminal.{Terminal}
+use Rattle.grammar_core.specs.declared.terminal.Terminal.TheVariants as terminal
 use Rattle.grammar_core.specs.declared.code.Code.TheVariants.{TooDeep, TooManyVars}
-use Rattle.grammar_core.specs.Sorts.{is}
-use Rattle.grammar_core.specs.Form.{seq, map, alt, opt, star, behind, limited}
+use Rattle.grammar_core.specs.Terminals.{is}
+use Rattle.grammar_core.specs.Production.{seq, map, alt, opt, star, after_token, limited}
 use Rattle.jdf_tree.specs.declared.expression.Word.{Word}
-use Rattle.jdf_tree.specs.declared.expression.Placed.{Placed}
+use Rattle.jdf_tree.specs.declared.expression.ExprWithSpot.{ExprWithSpot}
 use Rattle.jdf_tree.specs.declared.body.StmtTree.{StmtTree}
 use Rattle.jdf_tree.specs.declared.body.StmtTree.TheVariants.{Declare, Set, Put, If, For, Trap}
 use Rattle.jdf_tree.specs.declared.part.Part.TheVariants.{Body}
 use Rattle.jdf_tree.specs.Statements.{Statements, Done}
 use Rattle.jdf_tree.specs.BlockStatements.{statements_of}
-use Rattle.jdf_tree.specs.Inner.{a_block, Grammar}
-use Rattle.jdf_tree.specs.Pieces.{after, before, any, names, name}
+use Rattle.jdf_tree.specs.Nonterminal.{a_block, Grammar}
+use Rattle.jdf_tree.specs.GrammarParts.{prefixed_by, suffixed_by, any, names, name}
 use Rattle.jdf_tree.specs.ExpressionGrammar.{outer}
 use Rattle.jdf_tree.specs.BodyLimits.{block_limit, variable_limit}
 
 -- block = "{" statement* "}"
 unfoldable pub block : Grammar Statements
-block = map (λ x. x.1) (behind (is sort.LeftBrace) a_block)
+block = map (λ x. x.1) (after_token (is terminal.LeftBrace) a_block)
 
 -- value = "=" expr ";"
-unfoldable pub value : Grammar Placed
-value = after sort.Assign (before sort.Semicolon (outer Body))
+unfoldable pub value : Grammar ExprWithSpot
+value = prefixed_by terminal.Assign (suffixed_by terminal.Semicolon (outer Body))
 
-abbrev pub declare_of : Word × Placed → StmtTree
+abbrev pub declare_of : Word × ExprWithSpot → StmtTree
 declare_of x = Declare x.0 x.1.tree
 
 -- declaration = int name value
 unfoldable pub declaration : Grammar StmtTree
-declaration = map declare_of (after sort.Int (seq (name Body) value))
+declaration = map declare_of (prefixed_by terminal.Int (seq (name Body) value))
 
 -- element = "[" expr "]"
-unfoldable pub element : Grammar Placed
-element = after sort.LeftBracket (before sort.RightBracket (outer Body))
+unfoldable pub element : Grammar ExprWithSpot
+element = prefixed_by terminal.LeftBracket (suffixed_by terminal.RightBracket (outer Body))
 
--- to a variable, or to an element of a flow
-abbrev pub assign_of : Word × (Option Placed × Placed) → StmtTree
+-- an assignment to a variable or to an element of a flow
+abbrev pub assign_of : Word × (Option ExprWithSpot × ExprWithSpot) → StmtTree
 assign_of (w, (None, e)) = Set w e.tree
 assign_of (w, (Some at, e)) = Put w at.tree e.tree
 
@@ -50,47 +50,47 @@ abbrev pub or_done : Option Statements → Statements
 or_done None = Done
 or_done (Some block) = block
 
-abbrev pub if_of : Placed × (Statements × Option Statements) → StmtTree
+abbrev pub if_of : ExprWithSpot × (Statements × Option Statements) → StmtTree
 if_of x = If x.0.tree x.1.0 (or_done x.1.1)
 
 -- condition = "(" expr ")"
-unfoldable pub condition : Grammar Placed
-condition = after sort.LeftParen (before sort.RightParen (outer Body))
+unfoldable pub condition : Grammar ExprWithSpot
+condition = prefixed_by terminal.LeftParen (suffixed_by terminal.RightParen (outer Body))
 
 -- otherwise = else block
 unfoldable pub otherwise : Grammar Statements
-otherwise = after sort.Else block
+otherwise = prefixed_by terminal.Else block
 
 -- choice = if condition block otherwise?
 unfoldable pub choice : Grammar StmtTree
-choice = map if_of (after sort.If (seq condition (seq block (opt otherwise))))
+choice = map if_of (prefixed_by terminal.If (seq condition (seq block (opt otherwise))))
 
-abbrev pub for_of : Word × (Placed × (Placed × Statements)) → StmtTree
+abbrev pub for_of : Word × (ExprWithSpot × (ExprWithSpot × Statements)) → StmtTree
 for_of x = For x.0 x.1.0.tree x.1.1.0.tree x.1.1.1
 
 -- for_loop = for name "=" expr ".." expr block
 unfoldable pub for_loop : Grammar StmtTree
-for_loop = map for_of (after sort.For (seq (name Body) (seq (after sort.Assign (outer Body)) (seq (after sort.Dots (outer Body)) block))))
+for_loop = map for_of (prefixed_by terminal.For (seq (name Body) (seq (prefixed_by terminal.Assign (outer Body)) (seq (prefixed_by terminal.Dots (outer Body)) block))))
 
--- stop = trap name ";"
-unfoldable pub stop : Grammar StmtTree
-stop = map Trap (after sort.Trap (before sort.Semicolon (name Body)))
+-- trap_statement = trap name ";"
+unfoldable pub trap_statement : Grammar StmtTree
+trap_statement = map Trap (prefixed_by terminal.Trap (suffixed_by terminal.Semicolon (name Body)))
 
--- statement = declaration | choice | for_loop | stop | assignment
+-- statement = declaration | choice | for_loop | trap_statement | assignment
 unfoldable pub statement : Grammar StmtTree
-statement = alt declaration (alt choice (alt for_loop (alt stop assignment)))
+statement = alt declaration (alt choice (alt for_loop (alt trap_statement assignment)))
 
--- what a statement begins with
-abbrev pub begins_statement : Sort → Bool
-begins_statement k = is sort.Int k || is sort.If k || is sort.For k || is sort.Trap k || names Body k
+-- the first set of a statement
+abbrev pub begins_statement : Terminal → Bool
+begins_statement k = is terminal.Int k || is terminal.If k || is terminal.For k || is terminal.Trap k || names Body k
 
 -- statements = statement*
 unfoldable pub statements : Grammar Statements
 statements = map statements_of (star any statement)
 
--- what is left of a block behind its opening brace: statements "}"
-unfoldable pub block_behind : Grammar Statements
-block_behind = before sort.RightBrace statements
+-- block_rest = statements "}": a block after its opening brace
+unfoldable pub block_rest : Grammar Statements
+block_rest = suffixed_by terminal.RightBrace statements
 
 -- text = block | statements
 unfoldable pub text : Grammar Statements

@@ -1,47 +1,47 @@
--- How deep blocks of a body may nest, and how many variables it may declare. Both are this project's own choice.
+-- How deep the blocks of a body may nest, and how many variables it may declare. Source: this project's own choice.
 use Rattle.std.specs.Prelude.{◌≡◌, ℕ, ◌-◌, Bool, true, false, nat_le, ◌&&◌, ◌||◌, List, [], if◌then◌else◌, count_by, refl}
 use Rattle.jdf_lex.specs.declared.token.Token.{Token}
-use Rattle.grammar_core.specs.declared.sort.Sort.{Sort}
-use Rattle.grammar_core.specs.declared.sort.Sort.TheVariants as sort
-use Rattle.grammar_core.specs.Sorts.{sort_of, is}
-use Rattle.grammar_core.specs.Form.{Limit}
+use Rattle.grammar_core.specs.declared.terminal.Terminal.{Terminal}
+use Rattle.grammar_core.specs.declared.terminal.Terminal.TheVariants as terminal
+use Rattle.grammar_core.specs.Terminals.{terminal_of, is}
+use Rattle.grammar_core.specs.Production.{Limit}
 use Rattle.grammar_core.specs.LimitBy.{limit_by}
 use Rattle.grammar_core.specs.Reading.{starts}
 
--- how many of the tokens are of these sorts
-abbrev pub how_many : (Sort → Bool) → List Token → ℕ
-how_many q s = count_by (λ x. q (sort_of x)) s
+-- how many of the tokens are in this set
+abbrev pub how_many : (Terminal → Bool) → List Token → ℕ
+how_many q s = count_by (λ x. q (terminal_of x)) s
 
--- how many blocks are open behind these tokens
+-- how many blocks are open after these tokens
 abbrev pub open_blocks : List Token → ℕ
-open_blocks s = how_many (is sort.LeftBrace) s - how_many (is sort.RightBrace) s
+open_blocks s = how_many (is terminal.LeftBrace) s - how_many (is terminal.RightBrace) s
 
--- how many may be open before a brace that opens one more: 32, and the braces around a whole body do not count
+-- How many blocks may be open before a brace that opens another one: 32, and the braces around a whole body do not count.
 abbrev pub most_blocks : List Token → ℕ
-most_blocks s = if starts (is sort.LeftBrace) s then 33 else 32
+most_blocks s = if starts (is terminal.LeftBrace) s then 33 else 32
 
--- a brace is too deep where as many blocks are open before it as may be
+-- A brace is too deep if as many blocks are open before it as may be.
 unfoldable pub is_too_deep : List Token → Token → Bool
-is_too_deep front x = is sort.LeftBrace (sort_of x) && nat_le (most_blocks front) (open_blocks front)
+is_too_deep front x = is terminal.LeftBrace (terminal_of x) && nat_le (most_blocks front) (open_blocks front)
 
--- the words behind which a variable is named
-abbrev pub declares : Sort → Bool
-declares k = is sort.Int k || is sort.For k
+-- the words that declare a variable
+abbrev pub declares : Terminal → Bool
+declares k = is terminal.Int k || is terminal.For k
 
--- a declaration is too many where 256 stand before it
+-- A declaration is too many if 256 are before it.
 unfoldable pub is_too_many : List Token → Token → Bool
-is_too_many front x = declares (sort_of x) && nat_le 256 (how_many declares front)
+is_too_many front x = declares (terminal_of x) && nat_le 256 (how_many declares front)
 
 never : (b : Bool) → (b && false) ≡ false
 never b = elim b as (λ v. (v && false) ≡ false) [ true ↦ refl | false ↦ refl ]
 
 pub none_too_deep : (x : Token) → is_too_deep [] x ≡ false
 unfolding is_too_deep
-none_too_deep x = never (is sort.LeftBrace (sort_of x))
+none_too_deep x = never (is terminal.LeftBrace (terminal_of x))
 
 pub none_too_many : (x : Token) → is_too_many [] x ≡ false
 unfolding is_too_many
-none_too_many x = never (declares (sort_of x))
+none_too_many x = never (declares (terminal_of x))
 
 -- at most 32 blocks inside one another
 unfoldable pub block_limit : Limit

@@ -5,15 +5,15 @@ use Rattle.jdf_lex.specs.declared.token.Spot.{Spot}
 use Rattle.jdf_lex.specs.declared.token.Token.{Token}
 use Rattle.term_core.specs.declared.flow.FlowKind.{FlowKind}
 use Rattle.term_core.specs.declared.flow.FlowKind.TheVariants as kind
-use Rattle.grammar_core.specs.declared.sort.Sort.{Sort}
-use Rattle.grammar_core.specs.declared.sort.Sort.TheVariants as sort
+use Rattle.grammar_core.specs.declared.terminal.Terminal.{Terminal}
+use Rattle.grammar_core.specs.declared.terminal.Terminal.TheVariants as terminal
 use Rattle.grammar_core.specs.declared.code.Code.{Code}
 use Rattle.grammar_core.specs.declared.code.Code.TheVariants.{TooManyParams, TooManyLocals, TooManyFlows, TooManyDeps}
-use Rattle.grammar_core.specs.Sorts.{sort_of, is}
+use Rattle.grammar_core.specs.Terminals.{terminal_of, is}
 use Rattle.grammar_core.specs.Counted.{is_name}
-use Rattle.grammar_core.specs.Form.{Limit, one_of, seq, map, alt, opt, star, pick, limited}
+use Rattle.grammar_core.specs.Production.{Limit, one_of, seq, map, alt, opt, star, pick, limited}
 use Rattle.jdf_tree.specs.declared.expression.Word.{Word}
-use Rattle.jdf_tree.specs.declared.expression.Placed.{Placed}
+use Rattle.jdf_tree.specs.declared.expression.ExprWithSpot.{ExprWithSpot}
 use Rattle.jdf_tree.specs.declared.part.Part.TheVariants.{Class}
 use Rattle.jdf_tree.specs.declared.tree.ArgTree.{ArgTree}
 use Rattle.jdf_tree.specs.declared.tree.ArgTree.TheVariants.{One, Span}
@@ -24,24 +24,24 @@ use Rattle.jdf_tree.specs.declared.tree.DepTree.{DepTree}
 use Rattle.jdf_tree.specs.declared.tree.FlowTree.{FlowTree}
 use Rattle.jdf_tree.specs.declared.tree.ClassTree.{ClassTree}
 use Rattle.jdf_tree.specs.Expression.{Expression}
-use Rattle.jdf_tree.specs.Inner.{Grammar}
-use Rattle.jdf_tree.specs.Pieces.{word, after, before, any, listed, maybe, name}
+use Rattle.jdf_tree.specs.Nonterminal.{Grammar}
+use Rattle.jdf_tree.specs.GrammarParts.{word, prefixed_by, suffixed_by, any, listed, maybe, name}
 use Rattle.jdf_tree.specs.ExpressionGrammar.{outer, guard}
 
--- too many from the one of this number on, counted from 0
+-- the elements from index n on are too many, with this code
 abbrev pub full_at : ℕ → Code → ℕ → Option Code
 full_at n c i = if nat_le n i then Some c else None
 
 -- ---- arguments
 
--- what is behind the first expression makes a range of it
-abbrev pub argument_of : Placed × Option (Placed × Option Placed) → ArgTree
+-- one expression is a value; two or three are a range
+abbrev pub argument_of : ExprWithSpot × Option (ExprWithSpot × Option ExprWithSpot) → ArgTree
 argument_of (a, None) = One a.tree
 argument_of (a, Some x) = Span a.spot a.tree x.0.tree (option_map (λ s. s.tree) x.1)
 
 -- argument = expr (".." expr (".." expr)?)?
 unfoldable pub argument : Grammar ArgTree
-argument = map argument_of (seq (outer Class) (opt (seq (after sort.Dots (outer Class)) (opt (after sort.Dots (outer Class))))))
+argument = map argument_of (seq (outer Class) (opt (seq (prefixed_by terminal.Dots (outer Class)) (opt (prefixed_by terminal.Dots (outer Class))))))
 
 -- arguments = argument ("," argument)*
 unfoldable pub arguments : Grammar (List ArgTree)
@@ -49,11 +49,11 @@ arguments = listed argument
 
 -- call = "(" arguments? ")"
 unfoldable pub call : Grammar (List ArgTree)
-call = after sort.LeftParen (before sort.RightParen (maybe arguments))
+call = prefixed_by terminal.LeftParen (suffixed_by terminal.RightParen (maybe arguments))
 
 -- ---- dependences
 
--- a name alone is a collection's, and the second of two is a class's
+-- one name is a collection's; of two names the second is a class's
 abbrev pub target_of : Word × (Option Word × List ArgTree) → TargetTree
 target_of (a, (None, args)) = Element a args
 target_of (a, (Some b, args)) = Task a b args
@@ -64,9 +64,9 @@ called = map target_of (seq (name Class) (seq (opt (name Class)) call))
 
 -- target = name name "(" arguments? ")" | name "(" arguments? ")" | NEW | NULL
 unfoldable pub target : Grammar TargetTree
-target = alt (map (λ x. New x.spot) (word sort.New)) (alt (map (λ x. Null x.spot) (word sort.Null)) called)
+target = alt (map (λ x. New x.spot) (word terminal.New)) (alt (map (λ x. Null x.spot) (word terminal.Null)) called)
 
--- how a dependence goes on behind its arrow: a guard, and where it leads then and else
+-- a dependence after its arrow: its guard, the target where the guard holds, and the target where it does not
 abbrev pub Choice : Type 0
 Choice = Option Expression × TargetTree × Option TargetTree
 
@@ -76,31 +76,31 @@ unguarded = map (λ x. (None, x, None)) target
 
 -- guarded = guard "?" target (":" target)?
 unfoldable pub guarded : Grammar Choice
-guarded = map (λ x. (Some x.0.tree, x.1.0, x.1.1)) (seq guard (after sort.Question (seq target (opt (after sort.Colon target)))))
+guarded = map (λ x. (Some x.0.tree, x.1.0, x.1.1)) (seq guard (prefixed_by terminal.Question (seq target (opt (prefixed_by terminal.Colon target)))))
 
 -- the two arrows
-abbrev pub is_arrow : Sort → Bool
-is_arrow k = is sort.Inward k || is sort.Outward k
+abbrev pub is_arrow : Terminal → Bool
+is_arrow k = is terminal.Inward k || is terminal.Outward k
 
 -- arrow = "<-" | "->", and whether it is the first
 unfoldable pub arrow : Grammar Bool
-arrow = map (λ x. is sort.Inward (sort_of x)) (one_of is_arrow)
+arrow = map (λ x. is terminal.Inward (terminal_of x)) (one_of is_arrow)
 
--- a name before a name or "(" begins a target
-abbrev pub goes_on_target : Sort → Bool
-goes_on_target k = is_name k || is sort.LeftParen k
+-- the terminals that may follow the first name of a target
+abbrev pub may_follow_target_name : Terminal → Bool
+may_follow_target_name k = is_name k || is terminal.LeftParen k
 
 -- datatype = "[" type "=" name "]"
 unfoldable pub datatype : Grammar Word
-datatype = after sort.LeftBracket (after sort.TypeWord (after sort.Assign (before sort.RightBracket (name Class))))
+datatype = prefixed_by terminal.LeftBracket (prefixed_by terminal.TypeWord (prefixed_by terminal.Assign (suffixed_by terminal.RightBracket (name Class))))
 
--- the dependence of an arrow and what stands behind it
+-- the dependence of an arrow, its targets and its datatype
 abbrev pub dependence_of : Bool × (Choice × Option Word) → DepTree
 dependence_of x = record { inward = x.0; guard = x.1.0.0; yes = x.1.0.1; no = x.1.0.2; datatype = x.1.1 }
 
 -- dependence = ("<-" | "->") (target | guard "?" target (":" target)?) datatype?
 unfoldable pub dependence : Grammar DepTree
-dependence = map dependence_of (seq arrow (seq (pick goes_on_target unguarded guarded) (opt datatype)))
+dependence = map dependence_of (seq arrow (seq (pick may_follow_target_name unguarded guarded) (opt datatype)))
 
 -- dependences = dependence*, at most 16
 unfoldable pub dependences : Grammar (List DepTree)
@@ -108,18 +108,18 @@ dependences = star (full_at 16 TooManyDeps) dependence
 
 -- ---- flows
 
-abbrev pub is_kind : Sort → Bool
-is_kind k = is sort.Read k || is sort.Write k || is sort.Rw k || is sort.Ctl k
+abbrev pub is_kind : Terminal → Bool
+is_kind k = is terminal.Read k || is terminal.Write k || is terminal.Rw k || is terminal.Ctl k
 
-abbrev pub kind_by : Sort → FlowKind
-kind_by sort.Read = kind.Read
-kind_by sort.Write = kind.Write
-kind_by sort.Rw = kind.Rw
+abbrev pub kind_by : Terminal → FlowKind
+kind_by terminal.Read = kind.Read
+kind_by terminal.Write = kind.Write
+kind_by terminal.Rw = kind.Rw
 kind_by _ = kind.Ctl
 
 -- kind = READ | WRITE | RW | CTL
 unfoldable pub kind_of_flow : Grammar FlowKind
-kind_of_flow = map (λ x. kind_by (sort_of x)) (one_of is_kind)
+kind_of_flow = map (λ x. kind_by (terminal_of x)) (one_of is_kind)
 
 abbrev pub flow_of : FlowKind × (Word × List DepTree) → FlowTree
 flow_of x = record { kind = x.0; name = x.1.0; deps = x.1.1 }
@@ -137,7 +137,7 @@ flows = star (full_at 8 TooManyFlows) flow
 pub some_tokens : 1 ≤ 16
 some_tokens = omega arith
 
--- Eight names and the commas between and behind them are 16 tokens, so the token that is too many is the ninth name.
+-- Eight names and the comma after each are 16 tokens, so the first token that is too many is the ninth name.
 abbrev pub eight_names : Limit
 eight_names = record { at = λ s. 16; one = λ s. some_tokens; keeps = λ w r r' h. h; stays = λ w x r r' h. h }
 
@@ -147,14 +147,14 @@ parameters = limited eight_names TooManyParams (listed (name Class))
 
 -- parameter list = "(" parameters? ")"
 unfoldable pub parameter_list : Grammar (List Word)
-parameter_list = after sort.LeftParen (before sort.RightParen (maybe parameters))
+parameter_list = prefixed_by terminal.LeftParen (suffixed_by terminal.RightParen (maybe parameters))
 
 abbrev pub definition_of : Word × ArgTree → DefTree
 definition_of x = record { name = x.0; value = x.1 }
 
 -- definition = name "=" argument
 unfoldable pub definition : Grammar DefTree
-definition = map definition_of (seq (name Class) (after sort.Assign argument))
+definition = map definition_of (seq (name Class) (prefixed_by terminal.Assign argument))
 
 -- definitions = definition*, at most 16
 unfoldable pub definitions : Grammar (List DefTree)
@@ -162,43 +162,43 @@ definitions = star (full_at 16 TooManyLocals) definition
 
 -- affinity = ":" name "(" arguments? ")"
 unfoldable pub affinity : Grammar (Word × List ArgTree)
-affinity = after sort.Colon (seq (name Class) call)
+affinity = prefixed_by terminal.Colon (seq (name Class) call)
 
 -- priority = ";" expr
 unfoldable pub priority : Grammar Expression
-priority = map (λ x. x.tree) (after sort.Semicolon (outer Class))
+priority = map (λ x. x.tree) (prefixed_by terminal.Semicolon (outer Class))
 
 -- ---- properties and bodies
 
-abbrev pub is_no_right_bracket : Sort → Bool
-is_no_right_bracket k = not (is sort.RightBracket k)
+abbrev pub is_no_right_bracket : Terminal → Bool
+is_no_right_bracket k = not (is terminal.RightBracket k)
 
 -- properties = "[", tokens other than "]", "]"
 unfoldable pub properties : Grammar (List Token)
-properties = after sort.LeftBracket (before sort.RightBracket (star any (one_of is_no_right_bracket)))
+properties = prefixed_by terminal.LeftBracket (suffixed_by terminal.RightBracket (star any (one_of is_no_right_bracket)))
 
 -- the tokens of a body: names, numbers and marks, reserved words but END among them
-abbrev pub is_in_body : Sort → Bool
-is_in_body k = not (is sort.End k || is sort.Quoted k || is sort.Raw k || is sort.OptionLine k || is sort.Other k)
+abbrev pub is_in_body : Terminal → Bool
+is_in_body k = not (is terminal.End k || is terminal.Quoted k || is terminal.Raw k || is terminal.OptionLine k || is terminal.Other k)
 
--- the first of them, which is not "["
-abbrev pub begins_body : Sort → Bool
-begins_body k = is_in_body k && not (is sort.LeftBracket k)
+-- the first token of a body, which is not "["
+abbrev pub begins_body : Terminal → Bool
+begins_body k = is_in_body k && not (is terminal.LeftBracket k)
 
--- the tokens of a body, some
+-- the tokens of a body, at least one
 unfoldable pub body_tokens : Grammar (List Token)
 body_tokens = map (λ x. x.0 ∷ x.1) (seq (one_of begins_body) (star any (one_of is_in_body)))
 
 abbrev pub body_of : Option (List Token) × (List Token × Token) → List Token × Spot
 body_of x = (x.1.0, x.1.1.spot)
 
--- body = BODY properties? tokens? END, and the place of END
+-- body = BODY properties? tokens? END: the tokens, and the spot of END
 unfoldable pub body : Grammar (List Token × Spot)
-body = after sort.Body (map body_of (seq (opt properties) (seq (maybe body_tokens) (word sort.End))))
+body = prefixed_by terminal.Body (map body_of (seq (opt properties) (seq (maybe body_tokens) (word terminal.End))))
 
 -- ---- classes
 
--- what a class has behind its head: definitions, affinity, flows, priority and body
+-- a class after its head: definitions, affinity, flows, priority and body
 abbrev pub Rest : Type 0
 Rest = List DefTree × ((Word × List ArgTree) × (List FlowTree × (Option Expression × (List Token × Spot))))
 

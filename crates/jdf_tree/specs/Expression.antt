@@ -1,4 +1,4 @@
--- Expressions of the text as trees. Parentheses are not kept.
+-- Expressions in the text as trees. Parentheses are not kept.
 use Rattle.std.specs.Prelude.{ℤ}
 use Rattle.jdf_lex.specs.declared.token.Spot.{Spot}
 use Rattle.term_core.specs.declared.operator.UnOp.{UnOp}
@@ -6,12 +6,12 @@ use Rattle.term_core.specs.declared.operator.BinOp.{BinOp}
 use Rattle.jdf_tree.specs.declared.expression.Word.{Word}
 
 pub data Expression : Type 0 where
-  -- a number, and its place
+  -- a number, and its spot
   Num : ℤ → Spot → Expression
   Name : Word → Expression
   -- an element of the tile of a flow
   Elem : Word → Expression → Expression
-  -- an operator before its operand, and the operator's place
+  -- a prefix operator, its operand, and the operator's spot
   Unary : UnOp → Expression → Spot → Expression
   Binary : BinOp → Expression → Expression → Expression
   -- the second where the first is not 0, else the third

@@ -1,4 +1,4 @@
--- The code of an expression, by which a proof tells expressions apart.
+-- An injective code of expressions as trees of numbers, which the model of an expression needs. Its proof stands here since the model holds it.
 use Rattle.std.specs.Prelude.{◌≡◌, ℕ, List, [], ◌∷◌, refl}
 use Rattle.std.proofs.Common.{ap, sym, ◌∙◌, get_or}
 use Rattle.std.specs.Coded.{Coded, code_by, coded×, coded_list, coded_ℕ, coded_ℤ}
@@ -11,7 +11,7 @@ use Rattle.term_core.specs.declared.operator.UnOp.TheVariants.{Neg, Not}
 use Rattle.term_core.specs.declared.operator.BinOp.{BinOp}
 use Rattle.term_core.specs.declared.operator.BinOp.TheVariants.{Add, Sub, Mul, Div, Rem, Eq, Ne, Lt, Le, Gt, Ge, And, Or}
 
--- operators by number
+-- a number for each operator
 unaries : List UnOp
 unaries = Neg ∷ Not ∷ []
 
@@ -70,7 +70,7 @@ spot_code = code_by (ℕ × ℕ) (coded× coded_ℕ coded_ℕ) (λ s. (s.line, s
 pub word_code : Coded Word
 word_code = code_by (List ℕ × Spot) (coded× (coded_list coded_ℕ) spot_code) (λ w. (w.text, w.spot)) (λ p. record { text = p.0; spot = p.1 }) (λ _. refl)
 
--- an expression as a tree of numbers
+-- the code of an expression
 pub ghost_of : Expression → Gv
 ghost_of (Num z s) = gcons (gnum 0) (gcons (coded_ℤ.code z) (spot_code.code s))
 ghost_of (Name w) = gcons (gnum 1) (word_code.code w)

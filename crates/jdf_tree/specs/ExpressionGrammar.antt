@@ -6,175 +6,175 @@ use Rattle.term_core.specs.declared.operator.UnOp.{UnOp}
 use Rattle.term_core.specs.declared.operator.UnOp.TheVariants as un
 use Rattle.term_core.specs.declared.operator.BinOp.{BinOp}
 use Rattle.term_core.specs.declared.operator.BinOp.TheVariants as bin
-use Rattle.grammar_core.specs.declared.sort.Sort.{Sort}
-use Rattle.grammar_core.specs.declared.sort.Sort.TheVariants as sort
+use Rattle.grammar_core.specs.declared.terminal.Terminal.{Terminal}
+use Rattle.grammar_core.specs.declared.terminal.Terminal.TheVariants as terminal
 use Rattle.grammar_core.specs.declared.code.Code.TheVariants.{BadNumber, ExprTooLong}
-use Rattle.grammar_core.specs.Sorts.{sort_of, is}
+use Rattle.grammar_core.specs.Terminals.{terminal_of, is}
 use Rattle.grammar_core.specs.Counted.{expression_limit}
-use Rattle.grammar_core.specs.Form.{one_of, valued, seq, map, alt, opt, star, behind, limited}
+use Rattle.grammar_core.specs.Production.{one_of, valued, seq, map, alt, opt, star, after_token, limited}
 use Rattle.jdf_tree.specs.declared.expression.Word.{Word}
-use Rattle.jdf_tree.specs.declared.expression.Placed.{Placed}
+use Rattle.jdf_tree.specs.declared.expression.ExprWithSpot.{ExprWithSpot}
 use Rattle.jdf_tree.specs.declared.part.Part.{Part}
 use Rattle.jdf_tree.specs.declared.part.Part.TheVariants.{Class, Body}
 use Rattle.jdf_tree.specs.Expression.{Expression, Num, Name, Elem, Unary, Binary, Choose}
 use Rattle.jdf_tree.specs.Numbers.{decimal, is_number}
-use Rattle.jdf_tree.specs.Inner.{an_expr, a_unary, Grammar}
-use Rattle.jdf_tree.specs.Pieces.{word, before, any, names, name}
+use Rattle.jdf_tree.specs.Nonterminal.{an_expr, a_unary, Grammar}
+use Rattle.jdf_tree.specs.GrammarParts.{word, suffixed_by, any, names, name}
 
--- an expression whose first token stands there
-abbrev pub placed : Spot → Expression → Placed
-placed spot tree = record { spot = spot; tree = tree }
+-- an expression whose first token has this spot
+abbrev pub with_spot : Spot → Expression → ExprWithSpot
+with_spot spot tree = record { spot = spot; tree = tree }
 
--- the number that a token is
-abbrev pub number_at : Token → Placed
-number_at x = placed x.spot (Num (pos (decimal x.text)) x.spot)
+-- the expression that a number token is
+abbrev pub number_at : Token → ExprWithSpot
+number_at x = with_spot x.spot (Num (pos (decimal x.text)) x.spot)
 
--- may the number stand in an expression
+-- Is the number written as an expression may have it?
 abbrev pub is_good : Token → Bool
 is_good x = is_number x.text
 
--- number = Number, which has to be a decimal number that fits
-unfoldable pub number : Grammar Placed
-number = map number_at (valued (is sort.Number) is_good BadNumber)
+-- number = Number, written in decimal and within the limit
+unfoldable pub number : Grammar ExprWithSpot
+number = map number_at (valued (is terminal.Number) is_good BadNumber)
 
--- an expression behind a mark
-abbrev pub inside : Sort → Part → Grammar Placed
-inside k part = map (λ x. x.1) (behind (is k) (an_expr part))
+-- an expression after a mark
+abbrev pub inside : Terminal → Part → Grammar ExprWithSpot
+inside k part = map (λ x. x.1) (after_token (is k) (an_expr part))
 
--- an expression in parentheses begins with the first of them
-abbrev pub enclosed : (Token × Placed) × Token → Placed
-enclosed x = placed x.0.0.spot x.0.1.tree
+-- an expression in parentheses has the spot of the first parenthesis
+abbrev pub enclosed : (Token × ExprWithSpot) × Token → ExprWithSpot
+enclosed x = with_spot x.0.0.spot x.0.1.tree
 
 -- parens = "(" expr ")"
-unfoldable pub parens : Part → Grammar Placed
-parens part = map enclosed (seq (behind (is sort.LeftParen) (an_expr part)) (word sort.RightParen))
+unfoldable pub parens : Part → Grammar ExprWithSpot
+parens part = map enclosed (seq (after_token (is terminal.LeftParen) (an_expr part)) (word terminal.RightParen))
 
 -- index = "[" expr "]"
-unfoldable pub index : Grammar Placed
-index = before sort.RightBracket (inside sort.LeftBracket Body)
+unfoldable pub index : Grammar ExprWithSpot
+index = suffixed_by terminal.RightBracket (inside terminal.LeftBracket Body)
 
 -- a name alone, or an element of a flow
-abbrev pub named : Word × Option Placed → Placed
-named (w, None) = placed w.spot (Name w)
-named (w, Some a) = placed w.spot (Elem w a.tree)
+abbrev pub named : Word × Option ExprWithSpot → ExprWithSpot
+named (w, None) = with_spot w.spot (Name w)
+named (w, Some a) = with_spot w.spot (Elem w a.tree)
 
-abbrev pub name_alone : Word → Placed
-name_alone w = placed w.spot (Name w)
+abbrev pub name_alone : Word → ExprWithSpot
+name_alone w = with_spot w.spot (Name w)
 
--- In a class a name stands alone. In a body it may be a flow's, before an index.
-unfoldable pub reference : Part → Grammar Placed
+-- reference = name, or in a body name index?
+unfoldable pub reference : Part → Grammar ExprWithSpot
 reference Class = map name_alone (name Class)
 reference Body = map named (seq (name Body) (opt index))
 
--- the marks of the operators before their operand
-abbrev pub is_sign : Sort → Bool
-is_sign k = is sort.Minus k || is sort.Not k
+-- the marks of prefix operators
+abbrev pub is_sign : Terminal → Bool
+is_sign k = is terminal.Minus k || is terminal.Not k
 
-abbrev pub sign_by : Sort → UnOp
-sign_by sort.Minus = un.Neg
+abbrev pub sign_by : Terminal → UnOp
+sign_by terminal.Minus = un.Neg
 sign_by _ = un.Not
 
-abbrev pub signed_of : Token × Placed → Placed
-signed_of x = placed x.0.spot (Unary (sign_by (sort_of x.0)) x.1.tree x.0.spot)
+abbrev pub signed_of : Token × ExprWithSpot → ExprWithSpot
+signed_of x = with_spot x.0.spot (Unary (sign_by (terminal_of x.0)) x.1.tree x.0.spot)
 
 -- signed = ("-" | "!") unary
-unfoldable pub signed : Part → Grammar Placed
-signed part = map signed_of (behind is_sign (a_unary part))
+unfoldable pub signed : Part → Grammar ExprWithSpot
+signed part = map signed_of (after_token is_sign (a_unary part))
 
 -- unary = ("-" | "!") unary | Number | name | "(" expr ")" | name "[" expr "]" in a body
-unfoldable pub unary : Part → Grammar Placed
+unfoldable pub unary : Part → Grammar ExprWithSpot
 unary part = alt (signed part) (alt number (alt (reference part) (parens part)))
 
--- the operator of a mark, where the mark is one
-abbrev pub operator_by : Sort → BinOp
-operator_by sort.Star = bin.Mul
-operator_by sort.Slash = bin.Div
-operator_by sort.Percent = bin.Rem
-operator_by sort.Plus = bin.Add
-operator_by sort.Minus = bin.Sub
-operator_by sort.Less = bin.Lt
-operator_by sort.AtMost = bin.Le
-operator_by sort.Greater = bin.Gt
-operator_by sort.AtLeast = bin.Ge
-operator_by sort.Equal = bin.Eq
-operator_by sort.NotEqual = bin.Ne
-operator_by sort.And = bin.And
-operator_by sort.AndAnd = bin.And
+-- the infix operator of a mark; other marks give Or
+abbrev pub operator_by : Terminal → BinOp
+operator_by terminal.Star = bin.Mul
+operator_by terminal.Slash = bin.Div
+operator_by terminal.Percent = bin.Rem
+operator_by terminal.Plus = bin.Add
+operator_by terminal.Minus = bin.Sub
+operator_by terminal.Less = bin.Lt
+operator_by terminal.AtMost = bin.Le
+operator_by terminal.Greater = bin.Gt
+operator_by terminal.AtLeast = bin.Ge
+operator_by terminal.Equal = bin.Eq
+operator_by terminal.NotEqual = bin.Ne
+operator_by terminal.And = bin.And
+operator_by terminal.AndAnd = bin.And
 operator_by _ = bin.Or
 
 -- the operator that a token is
 abbrev pub operator_of : Token → BinOp
-operator_of x = operator_by (sort_of x)
+operator_of x = operator_by (terminal_of x)
 
 -- operators group to the left
-abbrev pub grouped : Expression → List (BinOp × Placed) → Expression
+abbrev pub grouped : Expression → List (BinOp × ExprWithSpot) → Expression
 grouped a [] = a
 grouped a (x ∷ xs) = grouped (Binary x.0 a x.1.tree) xs
 
--- operands with operators between them
-abbrev pub ranked : (Sort → Bool) → Grammar Placed → Grammar Placed
-ranked ops operand = map (λ x. placed x.0.spot (grouped x.0.tree x.1)) (seq operand (star any (seq (map operator_of (one_of ops)) operand)))
+-- operand (operator operand)*, where the operators are in this set
+abbrev pub ranked : (Terminal → Bool) → Grammar ExprWithSpot → Grammar ExprWithSpot
+ranked ops operand = map (λ x. with_spot x.0.spot (grouped x.0.tree x.1)) (seq operand (star any (seq (map operator_of (one_of ops)) operand)))
 
--- the marks of each rank
-abbrev pub is_product : Sort → Bool
-is_product k = is sort.Star k || is sort.Slash k || is sort.Percent k
+-- the marks of each precedence, the tightest first
+abbrev pub is_product : Terminal → Bool
+is_product k = is terminal.Star k || is terminal.Slash k || is terminal.Percent k
 
-abbrev pub is_sum : Sort → Bool
-is_sum k = is sort.Plus k || is sort.Minus k
+abbrev pub is_sum : Terminal → Bool
+is_sum k = is terminal.Plus k || is terminal.Minus k
 
-abbrev pub is_relation : Sort → Bool
-is_relation k = is sort.Less k || is sort.AtMost k || is sort.Greater k || is sort.AtLeast k
+abbrev pub is_relation : Terminal → Bool
+is_relation k = is terminal.Less k || is terminal.AtMost k || is terminal.Greater k || is terminal.AtLeast k
 
-abbrev pub is_equality : Sort → Bool
-is_equality k = is sort.Equal k || is sort.NotEqual k
+abbrev pub is_equality : Terminal → Bool
+is_equality k = is terminal.Equal k || is terminal.NotEqual k
 
-abbrev pub is_conjunction : Sort → Bool
-is_conjunction k = is sort.AndAnd k || is sort.And k
+abbrev pub is_conjunction : Terminal → Bool
+is_conjunction k = is terminal.AndAnd k || is terminal.And k
 
-abbrev pub is_disjunction : Sort → Bool
-is_disjunction k = is sort.OrOr k || is sort.Or k
+abbrev pub is_disjunction : Terminal → Bool
+is_disjunction k = is terminal.OrOr k || is terminal.Or k
 
 -- product = unary (("*" | "/" | "%") unary)*
-unfoldable pub product : Part → Grammar Placed
+unfoldable pub product : Part → Grammar ExprWithSpot
 product part = ranked is_product (unary part)
 
 -- sum = product (("+" | "-") product)*
-unfoldable pub sum : Part → Grammar Placed
+unfoldable pub sum : Part → Grammar ExprWithSpot
 sum part = ranked is_sum (product part)
 
 -- relation = sum (("<" | "<=" | ">" | ">=") sum)*
-unfoldable pub relation : Part → Grammar Placed
+unfoldable pub relation : Part → Grammar ExprWithSpot
 relation part = ranked is_relation (sum part)
 
 -- equality = relation (("==" | "!=") relation)*
-unfoldable pub equality : Part → Grammar Placed
+unfoldable pub equality : Part → Grammar ExprWithSpot
 equality part = ranked is_equality (relation part)
 
 -- conjunction = equality (("&&" | "&") equality)*
-unfoldable pub conjunction : Part → Grammar Placed
+unfoldable pub conjunction : Part → Grammar ExprWithSpot
 conjunction part = ranked is_conjunction (equality part)
 
 -- disjunction = conjunction (("||" | "|") conjunction)*
-unfoldable pub disjunction : Part → Grammar Placed
+unfoldable pub disjunction : Part → Grammar ExprWithSpot
 disjunction part = ranked is_disjunction (conjunction part)
 
--- a condition alone, or a choice
-abbrev pub chosen : Placed × Option (Placed × Placed) → Placed
+-- a condition alone, or one with two branches
+abbrev pub chosen : ExprWithSpot × Option (ExprWithSpot × ExprWithSpot) → ExprWithSpot
 chosen (c, None) = c
-chosen (c, Some x) = placed c.spot (Choose c.tree x.0.tree x.1.tree)
+chosen (c, Some x) = with_spot c.spot (Choose c.tree x.0.tree x.1.tree)
 
 -- branches = "?" expr ":" expr
-unfoldable pub branches : Part → Grammar (Placed × Placed)
-branches part = seq (inside sort.Question part) (inside sort.Colon part)
+unfoldable pub branches : Part → Grammar (ExprWithSpot × ExprWithSpot)
+branches part = seq (inside terminal.Question part) (inside terminal.Colon part)
 
 -- expr = disjunction ("?" expr ":" expr)?
-unfoldable pub expr : Part → Grammar Placed
+unfoldable pub expr : Part → Grammar ExprWithSpot
 expr part = map chosen (seq (disjunction part) (opt (branches part)))
 
--- an outermost expression: at most 512 tokens, and 128 names, numbers, operators and "?"
-unfoldable pub outer : Part → Grammar Placed
+-- An outermost expression, which has a limit: at most 512 tokens, and 128 names, numbers, operators and "?".
+unfoldable pub outer : Part → Grammar ExprWithSpot
 outer part = limited expression_limit ExprTooLong (expr part)
 
 -- guard = disjunction, an outermost expression too
-unfoldable pub guard : Grammar Placed
+unfoldable pub guard : Grammar ExprWithSpot
 guard = limited expression_limit ExprTooLong (disjunction Class)

@@ -9,20 +9,20 @@ use Rattle.jdf_lex.specs.declared.token.Token.{Token}
 use Rattle.jdf_lex.specs.Tokens.{IsLexed, IsTokenFault, spot_after}
 use Rattle.grammar_core.specs.declared.code.Code.{Code}
 use Rattle.grammar_core.specs.declared.code.Code.TheVariants as code
-use Rattle.grammar_core.specs.Form.{IsFirstFault}
-use Rattle.jdf_tree.specs.Grammar.{inner, file}
+use Rattle.grammar_core.specs.Production.{IsFirstFault}
+use Rattle.jdf_tree.specs.Grammar.{productions, file}
 
--- the place of the first byte
+-- the spot of the first byte
 abbrev pub start : Spot
 start = record { line = 1; column = 1 }
 
--- The text stops being UTF-8 at this byte: what stands before it is UTF-8, and no longer front of the text is.
+-- The text stops being UTF-8 at this byte: the bytes before it are UTF-8, and no longer prefix of the text is.
 pub record StopsBeingUtf8 (bytes : List ℕ) (at : ℕ) : Type 0 where
   pub within : at < length bytes
   pub before : IsUtf8 (take at bytes)
   pub longest : (n : ℕ) → n ≤ length bytes → IsUtf8 (take n bytes) → n ≤ at
 
--- the name of a fault of the grammar, at a token
+-- the JDF code for a code of the grammar
 abbrev pub code_at_token : Code → JdfCode
 code_at_token code.Syntax = jdf.Syntax
 code_at_token code.BadNumber = jdf.BadNumber
@@ -35,43 +35,43 @@ code_at_token code.TooManyDeps = jdf.TooManyDeps
 code_at_token code.TooDeep = jdf.TooDeep
 code_at_token code.TooManyVars = jdf.TooManyVars
 
--- The first fault of the grammar is this one: at a token, or behind the last one, where the text is cut short.
+-- The first fault of the tokens by the grammar: at a token, or Truncated at the end of the text.
 pub record IsGrammarFault (tokens : List Token) (end : Spot) (fault : JdfFault) : Type 0 where
-  pub place : ℕ
+  pub token_index : ℕ
   pub code : Code
-  pub first : IsFirstFault inner file tokens place code
+  pub first : IsFirstFault productions file tokens token_index code
   pub named :
-      ((token : Token) × (slice_get tokens place ≡ Some token) × (fault ≡ record { spot = token.spot; code = code_at_token code }))
-      ⊎ ((slice_get tokens place ≡ None) × (fault ≡ record { spot = end; code = jdf.Truncated }))
+      ((token : Token) × (slice_get tokens token_index ≡ Some token) × (fault ≡ record { spot = token.spot; code = code_at_token code }))
+      ⊎ ((slice_get tokens token_index ≡ None) × (fault ≡ record { spot = end; code = jdf.Truncated }))
 
 -- the text has more than 16 MiB
 pub record IsTooLong (bytes : List ℕ) (fault : JdfFault) : Type 0 where
   pub long : 16777216 < length bytes
   pub named : fault ≡ record { spot = start; code = jdf.TooLong }
 
--- it has not, and is not UTF-8
+-- the text has at most 16 MiB, and is not UTF-8
 pub record IsNotUtf8 (bytes : List ℕ) (fault : JdfFault) : Type 0 where
-  pub short : length bytes ≤ 16777216
+  pub bytes_at_most : length bytes ≤ 16777216
   pub at : ℕ
   pub stops : StopsBeingUtf8 bytes at
   pub named : fault ≡ record { spot = spot_after (take at bytes); code = jdf.NotUtf8 }
 
--- it is UTF-8, and has a token fault
+-- the text is UTF-8, and has a token fault
 pub record IsBadToken (bytes : List ℕ) (fault : JdfFault) : Type 0 where
-  pub short : length bytes ≤ 16777216
+  pub bytes_at_most : length bytes ≤ 16777216
   pub utf8 : IsUtf8 bytes
   pub wrong : IsTokenFault bytes fault
 
--- it has tokens, at most 1000000, which are no text of the grammar
+-- the text has tokens, at most 1000000, which are no text of the grammar
 pub record IsNoText (bytes : List ℕ) (fault : JdfFault) : Type 0 where
-  pub short : length bytes ≤ 16777216
+  pub bytes_at_most : length bytes ≤ 16777216
   pub utf8 : IsUtf8 bytes
   pub tokens : List Token
   pub end : Spot
   pub lexed : IsLexed bytes tokens end
-  pub few : length tokens ≤ 1000000
+  pub tokens_at_most : length tokens ≤ 1000000
   pub wrong : IsGrammarFault tokens end fault
 
--- this is the first fault of the bytes: of their length, their characters, their tokens or their grammar
+-- The first fault of the bytes: of their length, their encoding, their tokens or their grammar, in this order.
 abbrev pub IsJdfFault : List ℕ → JdfFault → Type 0
 IsJdfFault bytes fault = IsTooLong bytes fault ⊎ (IsNotUtf8 bytes fault ⊎ (IsBadToken bytes fault ⊎ IsNoText bytes fault))

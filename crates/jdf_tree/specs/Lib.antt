@@ -6,8 +6,8 @@ pub mod Statements
 pub mod StatementsCode
 pub mod BlockStatements
 pub mod BlockFalls
-pub mod Inner
-pub mod Pieces
+pub mod Nonterminal
+pub mod GrammarParts
 pub mod ExpressionGrammar
 pub mod ClassGrammar
 pub mod BodyLimits

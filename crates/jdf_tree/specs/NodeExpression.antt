@@ -1,4 +1,4 @@
--- The tree that nodes in memory make.
+-- The expression of a tree of boxed nodes.
 use Rattle.jdf_tree.specs.declared.expression.ExprNode.{ExprNode}
 use Rattle.jdf_tree.specs.declared.expression.ExprNode.TheVariants as node
 use Rattle.jdf_tree.specs.Expression.{Expression, Num, Name, Elem, Unary, Binary, Choose}

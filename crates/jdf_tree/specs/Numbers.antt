@@ -1,23 +1,14 @@
--- Numbers as they are written.
-use Rattle.std.specs.Prelude.{ℕ, ◌+◌, ◌-◌, ◌*◌, ◌^◌, nat_le, Bool, false, not, ◌&&◌, ◌==◌, List, [], ◌∷◌, length}
-use Rattle.std.specs.List.{list_all}
-use Rattle.jdf_lex.specs.Spelling.{is_digit}
+-- How numbers are written in an expression.
+use Rattle.std.specs.Prelude.{ℕ, Bool, false, not, ◌&&◌, ◌==◌, List, [], ◌∷◌}
+use Rattle.ptg_base.specs.Decimal.{is_decimal}
+pub use Rattle.ptg_base.specs.Decimal.{decimal}
 
--- the number of these digits, in decimal: each digit counts ten times what the next one does
-abbrev pub decimal : List ℕ → ℕ
-decimal [] = 0
-decimal (b ∷ bs) = (b - 48) * 10 ^ length bs + decimal bs
+-- Does a number of several digits begin with 0?
+abbrev pub has_leading_zero : List ℕ → Bool
+has_leading_zero [] = false
+has_leading_zero (b ∷ []) = false
+has_leading_zero (b ∷ c ∷ bs) = b == 48
 
--- a 0 at the front of a longer number
-abbrev pub has_zero_before : List ℕ → Bool
-has_zero_before [] = false
-has_zero_before (b ∷ []) = false
-has_zero_before (b ∷ c ∷ bs) = b == 48
-
--- digits alone, and a number of at most 2^63 - 1
-unfoldable pub fits : List ℕ → Bool
-fits text = list_all is_digit text && nat_le (decimal text) 9223372036854775807
-
--- A number stands in an expression as decimal digits, without a leading 0 unless it is 0, and is at most 2^63 - 1.
+-- A number of an expression is written in decimal digits without leading zeros, and is at most 2^63 - 1.
 unfoldable pub is_number : List ℕ → Bool
-is_number text = not (has_zero_before text) && fits text
+is_number text = not (has_leading_zero text) && is_decimal 9223372036854775807 text

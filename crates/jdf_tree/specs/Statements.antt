@@ -1,10 +1,10 @@
--- Statements of the text of a body as a tree: none, or one and what follows it.
+-- Statements in the text of a body as a tree: none, or one and the statements after it.
 use Rattle.std.specs.Prelude.{ℕ, ◌+◌}
 use Rattle.jdf_tree.specs.declared.expression.Word.{Word}
 use Rattle.jdf_tree.specs.Expression.{Expression}
 
 pub data Statements : Type 0 where
-  -- nothing
+  -- no statement
   Done : Statements
   -- `int x = e;`, and the rest
   DeclareThen : Word → Expression → Statements → Statements
@@ -19,7 +19,7 @@ pub data Statements : Type 0 where
   -- `trap word;`, and the rest
   TrapThen : Word → Statements → Statements
 
--- how many statements there are, with those of the blocks inside
+-- the number of statements, with those of inner blocks
 abbrev pub count_of_statements : Statements → ℕ
 count_of_statements Done = 0
 count_of_statements (DeclareThen w e rest) = count_of_statements rest + 1

@@ -1,11 +1,11 @@
--- The code of statements, by which a proof tells two such trees apart.
+-- An injective code of statements as trees of numbers, which the model of a block needs. Its proof stands here since the model holds it.
 use Rattle.std.specs.Prelude.{◌≡◌, refl}
 use Rattle.std.specs.Coded.{Coded}
 use base.Stored.{Gv, gnum, gcons}
 use Rattle.jdf_tree.specs.ExpressionCode.{word_code, ghost_of, one_expression}
 use Rattle.jdf_tree.specs.Statements.{Statements, Done, DeclareThen, SetThen, PutThen, IfThen, ForThen, TrapThen}
 
--- the tree as a tree of numbers
+-- the code of statements
 pub ghost_of_statements : Statements → Gv
 ghost_of_statements Done = gnum 0
 ghost_of_statements (DeclareThen a b c) = gcons (gnum 1) (gcons (word_code.code a) (gcons (ghost_of b) (ghost_of_statements c)))

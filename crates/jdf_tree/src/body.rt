@@ -1,11 +1,13 @@
+//! The text of a body as a tree.
+
 ghost use Rattle.std.specs.Prelude.{◌≡◌};
 ghost use Rattle.jdf_tree.specs.BlockStatements.{statements_of};
 
 use crate::expression::{ExprTree, Word};
-use ptg_base::Row;
+use ptg_base::Seq;
 use std::marker::Model;
 
-/// A statement of the text of a body.
+/// A statement in the text of a body.
 #[cycle(block_tree)]
 #[derive(Debug, Drop)]
 pub enum StmtTree {
@@ -23,9 +25,9 @@ pub enum StmtTree {
     Trap(Word),
 }
 
-/// Statements in the text's order, seen as their tree and not as where that lies in memory.
+/// A block: statements in the order of the text. Contracts see the tree, not its vectors.
 ///
-/// Dropping a block goes as deep as blocks nest, whatever the number of its statements.
+/// The recursion of dropping a block is as deep as blocks nest, whatever the number of statements.
 #[cycle(block_tree)]
 #[derive(Debug, Drop)]
 pub struct BlockTree {
@@ -53,7 +55,7 @@ impl Model for BlockTree {
 
 impl BlockTree {
     /// The block of these statements.
-    pub fn of(statements: Row<StmtTree>) -> BlockTree
+    pub fn of(statements: Seq<StmtTree>) -> BlockTree
         ensures { result ≡ statements_of statements }
     {
         BlockTree {
@@ -61,6 +63,7 @@ impl BlockTree {
         }
     }
 
+    /// The statements of the block in their order.
     pub fn as_slice(&self) -> &[StmtTree]
         ensures { statements_of result.now ≡ self.now }
     {

@@ -1,10 +1,12 @@
+//! The codes of the grammar as codes of JDF.
+
 ghost use Rattle.std.specs.Prelude.{◌≡◌};
 ghost use Rattle.jdf_tree.specs.Fault.{code_at_token};
 
 use grammar_core::Code;
 use jdf_lex::JdfCode;
 
-/// The code of a fault of the grammar, at a token.
+/// The JDF code for a code of the grammar.
 pub fn code_at_token(code: Code) -> JdfCode
     ensures { result ≡ code_at_token code }
 {

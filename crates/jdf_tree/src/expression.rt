@@ -1,3 +1,5 @@
+//! Expressions of a text as trees.
+
 ghost use Rattle.std.specs.Prelude.{◌≡◌, IfOk};
 ghost use Rattle.jdf_tree.specs.Expression.{Num, Name, Elem, Unary, Binary, Choose};
 ghost use Rattle.jdf_tree.specs.NodeExpression.{expression_of};
@@ -8,14 +10,14 @@ use std::alloc::Global;
 use std::marker::Model;
 use term_core::{BinOp, UnOp};
 
-/// A name of the text, and its place.
+/// A name in the text, with its spot.
 #[derive(Debug, Drop)]
 pub struct Word {
     pub text: Text,
     pub spot: Spot,
 }
 
-/// An expression of the text, seen as its tree and not as where that lies in memory. Parentheses are not kept.
+/// An expression in the text. Contracts see the tree, not its boxes. Parentheses are not kept.
 #[derive(Debug, Drop)]
 pub struct ExprTree {
     pub(crate) node: ExprNode,
@@ -24,21 +26,23 @@ pub struct ExprTree {
 /// One operation of an expression, and its operands.
 #[derive(Debug, Drop)]
 pub enum ExprNode {
-    /// A number, and its place.
+    /// A number, and its spot.
     Num(i64, Spot),
+    /// A name alone.
     Name(Word),
     /// An element of the tile of a flow.
     Elem(Word, Box<ExprNode>),
-    /// The operator, its operand and the operator's place.
+    /// The operator, its operand and the operator's spot.
     Unary(UnOp, Box<ExprNode>, Spot),
+    /// An infix operator and its two operands.
     Binary(BinOp, Box<ExprNode>, Box<ExprNode>),
     /// `c ? a : b`
     Choose(Box<ExprNode>, Box<ExprNode>, Box<ExprNode>),
 }
 
-/// An expression, and the place of its first token, which may be a parenthesis.
+/// An expression, and the spot of its first token, which may be a parenthesis.
 #[derive(Debug, Drop)]
-pub struct Placed {
+pub struct ExprWithSpot {
     pub spot: Spot,
     pub tree: ExprTree,
 }
@@ -57,6 +61,7 @@ impl Model for ExprTree {
 }
 
 impl ExprTree {
+    /// A number.
     pub fn num(z: i64, spot: Spot) -> ExprTree
         ensures { result ≡ Num z spot }
     {
@@ -65,6 +70,7 @@ impl ExprTree {
         }
     }
 
+    /// A name alone.
     pub fn name(name: Word) -> ExprTree
         ensures { result ≡ Name name }
     {
@@ -73,6 +79,7 @@ impl ExprTree {
         }
     }
 
+    /// The element of the tile of a flow at an index.
     pub fn elem(alloc: Global, flow: Word, at: ExprTree) -> Result<ExprTree, OutOfMemory>
         ensures { IfOk result (λ e. e ≡ Elem flow at) }
     {
@@ -81,6 +88,7 @@ impl ExprTree {
         })
     }
 
+    /// A prefix operator and its operand.
     pub fn unary(alloc: Global, op: UnOp, a: ExprTree, spot: Spot) -> Result<ExprTree, OutOfMemory>
         ensures { IfOk result (λ e. e ≡ Unary op a spot) }
     {
@@ -89,6 +97,7 @@ impl ExprTree {
         })
     }
 
+    /// An infix operator and its two operands.
     pub fn binary(
         alloc: Global,
         op: BinOp,
@@ -120,7 +129,7 @@ impl ExprTree {
         })
     }
 
-    /// The operation at the root, for the crates that go down the tree.
+    /// The operation at the root, for callers that walk the tree.
     pub fn node(&self) -> &ExprNode
         ensures { expression_of result.now ≡ self.now }
     {

@@ -1,4 +1,4 @@
-//! The tree of a JDF text, and the grammar that says which tree a text has.
+//! The tree of a JDF text, and the grammar that relates texts and trees.
 #![tactic(auto)]
 
 mod body;
@@ -9,6 +9,6 @@ mod tree;
 
 pub use body::{BlockTree, StmtTree};
 pub use code::code_at_token;
-pub use expression::{ExprNode, ExprTree, Placed, Word};
+pub use expression::{ExprNode, ExprTree, ExprWithSpot, Word};
 pub use part::Part;
 pub use tree::{ArgTree, ClassTree, DefTree, DepTree, FlowTree, Jdf, TargetTree};

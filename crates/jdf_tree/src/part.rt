@@ -1,6 +1,10 @@
-/// Where an expression stands. In a body some more words are reserved, and a flow has elements.
+//! The parts of a text that expressions are in.
+
+/// The part of a text that an expression is in. In a body more words are reserved, and flows have elements.
 #[derive(Clone, Copy, Debug, PartialEq, Eq)]
 pub enum Part {
+    /// A class, outside of its body.
     Class,
+    /// The body of a class.
     Body,
 }

@@ -1,13 +1,16 @@
+//! A JDF text as a tree, down to arguments.
+
 use crate::expression::{ExprTree, Word};
 use jdf_lex::{Spot, Token};
-use ptg_base::Row;
+use ptg_base::Seq;
 use term_core::FlowKind;
 
-/// What stands in a list of arguments, or behind the `=` of a definition.
+/// An argument of a list, or the value of a definition: an expression or a range.
 #[derive(Debug, Drop)]
 pub enum ArgTree {
+    /// One value.
     One(ExprTree),
-    /// `lo .. hi` or `lo .. hi .. step`, with the place of its first token.
+    /// `lo .. hi` or `lo .. hi .. step`, with the spot of its first token.
     Span(Spot, ExprTree, ExprTree, Option<ExprTree>),
 }
 
@@ -18,23 +21,23 @@ pub struct DefTree {
     pub value: ArgTree,
 }
 
-/// Where a dependence leads, or comes from.
+/// The target of a dependence: where it leads to, or comes from.
 #[derive(Debug, Drop)]
 pub enum TargetTree {
     /// A flow of a task: the flow, the class and the arguments.
-    Task(Word, Word, Row<ArgTree>),
+    Task(Word, Word, Seq<ArgTree>),
     /// An element of a collection: the collection and the indices.
-    Element(Word, Row<ArgTree>),
-    /// `NEW`, and its place.
+    Element(Word, Seq<ArgTree>),
+    /// `NEW`, and its spot.
     New(Spot),
-    /// `NULL`, and its place.
+    /// `NULL`, and its spot.
     Null(Spot),
 }
 
-/// A dependence: to `yes` where it has no guard or the guard holds, else to `no`.
+/// A dependence. Its target is `yes` if it has no guard or the guard holds, and else `no`.
 #[derive(Debug, Drop)]
 pub struct DepTree {
-    /// `<-`, and not `->`.
+    /// Is the arrow `<-`, and not `->`?
     pub inward: bool,
     pub guard: Option<ExprTree>,
     pub yes: TargetTree,
@@ -43,32 +46,32 @@ pub struct DepTree {
     pub datatype: Option<Word>,
 }
 
-/// A flow of a class, and its dependences in the text's order.
+/// A flow of a class, with its dependences in the order of the text.
 #[derive(Debug, Drop)]
 pub struct FlowTree {
     pub kind: FlowKind,
     pub name: Word,
-    pub deps: Row<DepTree>,
+    pub deps: Seq<DepTree>,
 }
 
 /// A class of tasks. Its body is kept as its tokens.
 #[derive(Debug, Drop)]
 pub struct ClassTree {
     pub name: Word,
-    pub params: Row<Word>,
-    pub defs: Row<DefTree>,
+    pub params: Seq<Word>,
+    pub defs: Seq<DefTree>,
     pub affinity: Word,
-    pub affinity_args: Row<ArgTree>,
-    pub flows: Row<FlowTree>,
+    pub affinity_args: Seq<ArgTree>,
+    pub flows: Seq<FlowTree>,
     pub priority: Option<ExprTree>,
-    pub body: Row<Token>,
-    /// The place of `END`.
+    pub body: Seq<Token>,
+    /// The spot of `END`.
     pub finish: Spot,
 }
 
-/// A JDF text: its globals and its classes, in the text's order. Extern blocks, options and properties are left out.
+/// A JDF text: its globals and its classes in the order of the text. Extern blocks, options and properties are not kept.
 #[derive(Debug, Drop)]
 pub struct Jdf {
-    pub globals: Row<Word>,
-    pub classes: Row<ClassTree>,
+    pub globals: Seq<Word>,
+    pub classes: Seq<ClassTree>,
 }

@@ -2,7 +2,7 @@ ghost use Rattle.std.specs.Prelude.{◌≡◌, IfOk, IfErr, Err, IsTrue, ◌↔�
 ghost use Rattle.plan_first.specs.declared.plan.Plan.{Plan as Job};
 ghost use Rattle.dep_first.specs.Consistent.{IsConsistent};
 ghost use Rattle.match_first.specs.declared.fault.MatchFault.{MatchFault as Fault};
-ghost use Rattle.match_first.specs.declared.fault.MatchRefusal.TheVariants as refusal;
+ghost use Rattle.ptg_base.specs.declared.refusal.Refusal.TheVariants as refusal;
 
 use crate::fault::{MatchCode, MatchFault, MatchRefusal};
 use crate::tasks::tasks_of;

@@ -1,4 +1,4 @@
-use ptg_base::OutOfMemory;
+use ptg_base::Refusal;
 
 /// Why a job is refused.
 #[derive(Clone, Copy, Debug, PartialEq, Eq)]
@@ -13,9 +13,5 @@ pub struct MatchFault {
     pub code: MatchCode,
 }
 
-/// The answer where no matched plan is given.
-#[derive(Clone, Copy, Debug, PartialEq, Eq)]
-pub enum MatchRefusal {
-    Fault(MatchFault),
-    OutOfMemory,
-}
+/// Why no matched plan was given.
+pub type MatchRefusal = Refusal<MatchFault>;

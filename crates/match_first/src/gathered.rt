@@ -3,7 +3,7 @@ ghost use Rattle.dep_first.specs.Items.{items_of, items};
 
 use dep_first::item_at;
 use plan_first::Plan;
-use ptg_base::{Item, OutOfMemory, Row, TaskId};
+use ptg_base::{Item, OutOfMemory, Seq, TaskId};
 use std::alloc::Global;
 use term_core::ExprFault;
 
@@ -12,10 +12,10 @@ pub(crate) fn items_of(
     alloc: Global,
     plan: &Plan,
     t: &TaskId,
-) -> Result<Result<Row<Item>, ExprFault>, OutOfMemory>
+) -> Result<Result<Seq<Item>, ExprFault>, OutOfMemory>
     ensures { IfOk result (λ gathered. gathered ≡ items_of plan.now t.now) }
 {
-    let mut gathered = Row::new(alloc);
+    let mut gathered = Seq::new(alloc);
     for k in 0..plan.class.outs.len() {
         match item_at(plan, t, k) {
             Err(fault) => return Ok(Err(fault)),
@@ -27,11 +27,11 @@ pub(crate) fn items_of(
 }
 
 /// What leaves a task, and nothing where there is a fault.
-pub(crate) fn items(alloc: Global, plan: &Plan, t: &TaskId) -> Result<Row<Item>, OutOfMemory>
+pub(crate) fn items(alloc: Global, plan: &Plan, t: &TaskId) -> Result<Seq<Item>, OutOfMemory>
     ensures { IfOk result (λ gathered. gathered ≡ items plan.now t.now) }
 {
     match items_of(alloc, plan, t)? {
         Ok(gathered) => Ok(gathered),
-        Err(_) => Ok(Row::new(alloc)),
+        Err(_) => Ok(Seq::new(alloc)),
     }
 }

@@ -1,5 +1,5 @@
 use body_first::Body;
-use ptg_base::{Row, Text};
+use ptg_base::{Seq, Text};
 use term_core::Expr;
 
 /// A collection of the data: its name, and how many tiles it has.
@@ -33,8 +33,8 @@ pub struct ClassPlan {
     /// The number of a collection, and an index: where its tasks would best run.
     pub affinity: (u32, Expr),
     /// The in dependences of its flow, in the text's order.
-    pub ins: Row<DepPlan>,
+    pub ins: Seq<DepPlan>,
     /// The out dependences of its flow, in the text's order.
-    pub outs: Row<DepPlan>,
+    pub outs: Seq<DepPlan>,
     pub body: Body,
 }

@@ -1,3 +1,5 @@
+//! The files of the system.
+
 ghost use Rattle.std.specs.Prelude.{IfSome, ◌≤◌, length};
 
 use ptg_base::Text;
@@ -6,22 +8,24 @@ use std::alloc::Global;
 use std::io::{Read, Seek, SeekFrom};
 use std::{fs, rt};
 
-/// The files of the system. Nothing is told of what they hold.
+/// The files of the system. Their contents are not known to contracts.
+///
+/// The file read last stays open with a copy of its name. Where there is no memory for that copy, the read fails and is counted.
 #[derive(Drop)]
 pub struct OsFiles<'a, R: rt::Files> {
     system: &'a R,
     alloc: Global,
-    // The file that was read last, which a next read goes on with.
+    // The file that was read last; the next read may continue it.
     last: Option<Opened<R::File>>,
     // How many reads failed, of any name.
     faults: u64,
 }
 
-// An open file, and the place up to which it was read.
+// An open file, and the offset up to which it was read.
 #[derive(Drop)]
 struct Opened<F> {
     name: Text,
-    place: u64,
+    offset: u64,
     file: F,
 }
 
@@ -39,13 +43,17 @@ impl<'a, R: rt::Files> OsFiles<'a, R> {
 impl<'a, R: rt::Files> Files for OsFiles<'a, R> {
     ghost use Rattle.std.specs.Prelude.{None};
 
-    ghost told = { λ _. None };
+    ghost contents = { λ _. None };
 
     ghost faults = { λ files _. files.faults };
 
     fn read(&mut self, name: &str, from: u64, into: &mut [u8]) -> Result<usize, Failed> {
         let last = self.last.take();
-        match read_on(self.system, self.alloc, last, name, from, into) {
+        let read = match opened_at(self.system, self.alloc, last, name, from) {
+            Some(opened) => read_next::<R>(opened, into),
+            None => None,
+        };
+        match read {
             Some((n, opened)) => {
                 self.last = Some(opened);
                 Ok(n)
@@ -58,28 +66,34 @@ impl<'a, R: rt::Files> Files for OsFiles<'a, R> {
     }
 }
 
-// Reads a file from a place on, by the open file where that stands there.
-fn read_on<R: rt::Files>(
+// Reads the next bytes of an open file.
+fn read_next<R: rt::Files>(
+    mut opened: Opened<R::File>,
+    into: &mut [u8],
+) -> Option<(usize, Opened<R::File>)>
+    ensures { IfSome result (λ r. r.0 ≤ length into.new) }
+{
+    let n = opened.file.read(into).ok()?;
+    opened.offset = opened.offset.saturating_add(n as u64);
+    Some((n, opened))
+}
+
+// The file of this name at an offset: the one read last if it is there, else opened anew.
+fn opened_at<R: rt::Files>(
     system: &R,
     alloc: Global,
     last: Option<Opened<R::File>>,
     name: &str,
     from: u64,
-    into: &mut [u8],
-) -> Option<(usize, Opened<R::File>)>
-    ensures { IfSome result (λ r. r.0 ≤ length into.new) }
-{
-    let mut opened = match last.filter(|opened| stands_at(opened, name, from)) {
-        Some(opened) => opened,
-        None => open_at(system, alloc, name, from)?,
-    };
-    let n = opened.file.read(into).ok()?;
-    opened.place = opened.place.saturating_add(n as u64);
-    Some((n, opened))
+) -> Option<Opened<R::File>> {
+    match last.filter(|opened| is_at(opened, name, from)) {
+        Some(opened) => Some(opened),
+        None => open_at(system, alloc, name, from),
+    }
 }
 
-fn stands_at<F>(opened: &Opened<F>, name: &str, from: u64) -> bool {
-    opened.place == from && opened.name.bytes() == name.as_bytes()
+fn is_at<F>(opened: &Opened<F>, name: &str, from: u64) -> bool {
+    opened.offset == from && opened.name.bytes() == name.as_bytes()
 }
 
 fn open_at<R: rt::Files>(
@@ -95,7 +109,7 @@ fn open_at<R: rt::Files>(
     }
     Some(Opened {
         name: text,
-        place: from,
+        offset: from,
         file,
     })
 }

@@ -1,7 +1,9 @@
+//! Standard output.
+
 use ptg_io::{Failed, Sink};
 use std::io::Write;
 
-/// Standard output, or any other writer. Nothing is told of what it holds.
+/// Standard output, or any other writer. What it holds is not known to contracts.
 #[derive(Drop)]
 pub struct OsSink<W: Write + Drop> {
     writer: W,
@@ -24,7 +26,7 @@ impl<W: Write + Drop> Sink for OsSink<W> {
 
     fn write(&mut self, piece: &[u8]) -> Result<usize, Failed> {
         match self.writer.write(piece) {
-            // A writer that takes nothing would be asked for ever.
+            // A writer that takes nothing would be tried for ever.
             Ok(n) if n > 0 => Ok(n),
             _ => {
                 self.faults = self.faults.saturating_add(1);

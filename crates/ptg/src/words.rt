@@ -1,13 +1,15 @@
-use ptg_base::{OutOfMemory, Row, Text};
+//! The arguments of the command line.
+
+use ptg_base::{OutOfMemory, Seq, Text};
 use std::alloc::Global;
 use std::env::Env;
 
-/// More than the system takes as one word.
+/// More than the system takes as one argument.
 const LONGEST: usize = 262144;
 
-/// The words of the command line without the program's name, as the system has them, text or not.
-pub fn words(system: &impl Env, alloc: Global) -> Result<Row<Text>, OutOfMemory> {
-    let mut list = Row::new(alloc);
+/// The arguments of the command line without the program's name, as the bytes that the system has, UTF-8 or not.
+pub fn words(system: &impl Env, alloc: Global) -> Result<Seq<Text>, OutOfMemory> {
+    let mut list = Seq::new(alloc);
     let mut buffer = vec![in alloc; 0u8; LONGEST]?;
     for i in 1..usize::MAX {
         match system.arg(i, buffer.as_mut_slice()) {

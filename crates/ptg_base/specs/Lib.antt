@@ -1,3 +1,4 @@
+pub mod Decimal
 pub mod Task
 pub mod Lists
 pub mod TaskOrder

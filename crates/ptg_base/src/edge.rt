@@ -1,7 +1,9 @@
+//! Edges, write-backs and items.
+
 use crate::place::Place;
 use crate::task::TaskId;
 
-/// An edge: what a flow of one task gives to a flow of another task, or of the same one.
+/// An edge: a flow of one task sends its tile to a flow of another task, or of the same task.
 ///
 /// Edges are in order of the first field that differs.
 #[derive(Debug, Drop, PartialEq, Eq, PartialOrd, Ord, Hash)]
@@ -12,7 +14,7 @@ pub struct Edge {
     pub in_flow: u8,
 }
 
-/// A write-back: what a flow of a task leaves at a place of a collection.
+/// A write-back: a flow of a task writes its tile to a place of a collection.
 ///
 /// Write-backs are in order of the first field that differs.
 #[derive(Debug, Drop, PartialEq, Eq, PartialOrd, Ord, Hash)]
@@ -22,7 +24,7 @@ pub struct WriteBack {
     pub place: Place,
 }
 
-/// What leaves a task. An edge is before a write-back.
+/// What a task sends: an edge or a write-back. Edges come before write-backs.
 #[derive(Debug, Drop, PartialEq, Eq, PartialOrd, Ord, Hash)]
 pub enum Item {
     Edge(Edge),

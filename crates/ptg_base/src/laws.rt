@@ -1,3 +1,5 @@
+//! Laws about the order of tasks and items.
+
 ghost use Rattle.std.specs.Cmp.{IsTotalOrder};
 ghost use Rattle.ptg_base.specs.Task.{Task};
 ghost use Rattle.ptg_base.specs.TaskComparing.{task_cmp, ComparesInTaskOrder};

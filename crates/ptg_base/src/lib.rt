@@ -1,20 +1,24 @@
 //! Names, tasks, places and tiles, with their order.
 #![tactic(auto)]
 
+mod digits;
 mod edge;
 mod laws;
 mod memory;
 mod place;
-mod row;
+mod refusal;
+mod seq;
 mod task;
 mod text;
 mod tile;
 
+pub use digits::decimal;
 pub use edge::{Edge, Item, WriteBack};
 pub use laws::{items_compare_field_by_field, tasks_compare_in_task_order};
 pub use memory::OutOfMemory;
 pub use place::Place;
-pub use row::Row;
+pub use refusal::Refusal;
+pub use seq::Seq;
 pub use task::TaskId;
 pub use text::Text;
 pub use tile::Tile;
@@ -37,14 +41,14 @@ mod tests {
     fn texts_and_rows_keep_what_they_are_given(rt: HostRuntime) -> Result<(), Fail> {
         let alloc = rt.alloc();
         assert_eq!(rt; Text::of(alloc, b"potrf")?.bytes(), b"potrf".as_slice());
-        let mut row = Row::of(vec![in alloc; 5u32]?);
+        let mut row = Seq::of(vec![in alloc; 5u32]?);
         row.push(6)?;
         row.append(&[7, 8])?;
         row.set(0, 4);
         assert_eq!(rt; row.as_slice(), [4, 6, 7, 8].as_slice());
         assert_eq!(rt; row.len(), 4);
         assert_eq!(rt; *row.get(2), 7);
-        assert!(rt; Row::<u32>::new(alloc).is_empty());
+        assert!(rt; Seq::<u32>::new(alloc).is_empty());
         Ok(())
     }
 

@@ -1,6 +1,8 @@
+//! Want of memory.
+
 use std::alloc::{AllocError, AllocFailed};
 
-/// There was no memory: the one answer that every call which takes memory may give.
+/// Want of memory: the one answer that every call which takes memory may give.
 #[derive(Clone, Copy, Debug, PartialEq, Eq)]
 pub struct OutOfMemory;
 

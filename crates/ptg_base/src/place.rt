@@ -1,3 +1,5 @@
+//! Places of tiles in collections.
+
 /// A place in a collection of tiles: the collection, the row and the column.
 #[derive(Clone, Copy, Debug, PartialEq, Eq, PartialOrd, Ord, Hash)]
 pub struct Place {

@@ -1,3 +1,5 @@
+//! Tasks and task order.
+
 ghost use Rattle.std.specs.Prelude.{◌≡◌, ◌≤◌, ◌↔◌, length, IsTrue, refl};
 ghost use Rattle.std.proofs.Common.{rules};
 ghost use Rattle.std.specs.Cmp.{po};
@@ -16,7 +18,7 @@ use std::marker::Model;
 /// Tasks are in task order: by class, then by the parameters as signed numbers from the first on.
 #[derive(Debug, Drop)]
 pub struct TaskId {
-    place: u32,
+    number: u32,
     values: ArrayVec<i64, 8>,
 }
 
@@ -25,7 +27,7 @@ impl Model for TaskId {
 
     ghost Value = { Task };
 
-    ghost view = { λ t. record { class = t.place; params = t.values.items } };
+    ghost view = { λ t. record { class = t.number; params = t.values.items } };
 }
 
 impl TaskId {
@@ -37,7 +39,7 @@ impl TaskId {
         let mut values = ArrayVec::new();
         let _fits = values.try_extend_from_slice(params);
         TaskId {
-            place: class,
+            number: class,
             values,
         }
     }
@@ -45,7 +47,7 @@ impl TaskId {
     pub fn class(&self) -> u32
         ensures { result ≡ self.now.class }
     {
-        self.place
+        self.number
     }
 
     pub fn params(&self) -> &[i64]

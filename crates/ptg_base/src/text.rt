@@ -1,3 +1,5 @@
+//! Texts.
+
 ghost use Rattle.std.specs.Prelude.{◌≡◌, ◌↔◌, IfOk, IsTrue, nat_eq, refl};
 ghost use Rattle.std.specs.Hash as fed;
 ghost use Rattle.std.specs.Cmp.{partial_equiv_from_equiv};
@@ -12,7 +14,7 @@ use std::cmp::Ordering;
 use std::hash::{Hash, Hasher};
 use std::marker::Model;
 
-/// A text of its own, seen as its bytes. Texts are in the order of their bytes.
+/// An owned text. Contracts see it as the list of its bytes; texts are ordered by their bytes.
 #[derive(Debug, Drop)]
 pub struct Text {
     bytes: Vec<u8>,

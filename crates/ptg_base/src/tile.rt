@@ -1,10 +1,12 @@
+//! Tiles.
+
 ghost use Rattle.std.specs.Prelude.{◌≡◌, ◌<◌, ◌^◌, length, pos, IfOk, replicate, slice_index_or, slice_set};
 
 use crate::memory::OutOfMemory;
 use std::alloc::Global;
 use std::marker::Model;
 
-/// A tile: a list of fewer than 2 ^ 32 numbers, as long as it was made.
+/// A tile: a list of fewer than 2 ^ 32 numbers whose length never changes.
 #[derive(Debug, Drop)]
 pub struct Tile {
     cells: Vec<i64>,
@@ -30,7 +32,7 @@ impl Tile {
         })
     }
 
-    /// A second tile with the same numbers.
+    /// A copy of the tile.
     pub fn copy(&self, alloc: Global) -> Result<Tile, OutOfMemory>
         ensures { IfOk result (λ tile. tile ≡ self.now) }
     {
@@ -39,7 +41,7 @@ impl Tile {
         })
     }
 
-    /// Takes over the numbers of a tile of the same length. It takes no memory.
+    /// Copies the numbers of a tile of the same length. It takes no memory.
     pub fn copy_from(&mut self, from: &Tile)
         requires { length from.now ≡ length self.old }
         ensures { self.new ≡ from.now }

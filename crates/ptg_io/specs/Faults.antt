@@ -1,9 +1,9 @@
 use Rattle.std.specs.Prelude.{◌≡◌, ◌⊎◌, ℕ, ◌+◌, ◌<◌, min}
 
--- A count of faults rose: it is greater than before, or stands at its last value.
+-- A count of faults rose: it is greater than before, or has reached its last value.
 abbrev pub Rose : ℕ → ℕ → Type 0
 Rose old new = (old < new) ⊎ (new ≡ 18446744073709551615)
 
--- A count after one more fault: it stands still at its last value.
+-- A count after one more fault: it stays at its last value.
 abbrev pub one_more : ℕ → ℕ
 one_more count = min (count + 1) 18446744073709551615

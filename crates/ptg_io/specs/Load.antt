@@ -1,8 +1,8 @@
 use Rattle.std.specs.Prelude.{◌≡◌, ℕ, List, length, take, Option, Some}
 use Rattle.ptg_io.specs.Files.{file_of}
 
--- The bytes read so far are the first ones of the file with this name, where the files are told and it is there.
-abbrev pub IsSoFar : Option (List (List ℕ × List ℕ)) → List ℕ → List ℕ → Type 0
-IsSoFar told name bytes =
+-- The bytes read so far are the first ones of the file with this name, where the contents of the files are known and it is among them.
+abbrev pub IsReadSoFar : Option (List (List ℕ × List ℕ)) → List ℕ → List ℕ → Type 0
+IsReadSoFar contents name bytes =
     (files : List (List ℕ × List ℕ)) (file : List ℕ) →
-    told ≡ Some files → file_of files name ≡ Some file → bytes ≡ take (length bytes) file
+    contents ≡ Some files → file_of files name ≡ Some file → bytes ≡ take (length bytes) file

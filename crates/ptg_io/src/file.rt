@@ -1,13 +1,15 @@
+//! A file in memory.
+
 ghost use Rattle.std.specs.Prelude.{◌≡◌};
 
-use ptg_base::{Row, Text};
+use ptg_base::{Seq, Text};
 use std::marker::Model;
 
 /// A file in memory, seen as its name and its bytes.
 #[derive(Debug, Drop)]
 pub struct File {
     label: Text,
-    content: Row<u8>,
+    content: Seq<u8>,
 }
 
 impl Model for File {
@@ -19,7 +21,7 @@ impl Model for File {
 }
 
 impl File {
-    pub fn new(name: Text, bytes: Row<u8>) -> File
+    pub fn new(name: Text, bytes: Seq<u8>) -> File
         ensures { result ≡ (name, bytes) }
     {
         File {

@@ -1,25 +1,27 @@
+//! Files that are read by name.
+
 ghost use Rattle.std.specs.Prelude.{◌≡◌, ◌<◌, ◌≤◌, List, ℕ, Option, length, IfOk, OnErr};
 ghost use Rattle.ptg_io.specs.Faults.{Rose};
 ghost use Rattle.ptg_io.specs.Files.{ReadsPiece};
 
-/// The outside did not give or take what it was asked for.
+/// A read or a write failed.
 #[derive(Clone, Copy, Debug, PartialEq, Eq)]
 pub struct Failed;
 
 /// Files that can be read by name.
 pub trait Files {
-    /// The files as names and bytes, where the holder tells that.
-    ghost told: { Self → Option (List (List ℕ × List ℕ)) };
+    /// The files as names and bytes, where that is known.
+    ghost contents: { Self → Option (List (List ℕ × List ℕ)) };
 
     /// How many reads of a name failed so far.
     ghost faults: { Self → List ℕ → ℕ };
 
-    /// Puts the next bytes of a file from a place on into a buffer, as many as it likes to. None is the end.
+    /// Puts the next bytes of a file from an offset on into a buffer, any number of them. No bytes means the end.
     fn read(&mut self, name: &str, from: u64, into: &mut [u8]) -> Result<usize, Failed>
         requires { 0 < length into.old }
-        ensures stays { told self.new ≡ told self.old }
+        ensures stays { contents self.new ≡ contents self.old }
         ensures within { IfOk result (λ n. n ≤ length into.new) }
-        ensures given { (files : List (List ℕ × List ℕ)) → told self.old ≡ Some files →
+        ensures given { (files : List (List ℕ × List ℕ)) → contents self.old ≡ Some files →
             IfOk result (λ n. ReadsPiece files name.now from n into.new) }
         ensures grows { (other : List ℕ) → faults self.old other ≤ faults self.new other }
         ensures failed { OnErr result (Rose (faults self.old name.now) (faults self.new name.now)) };

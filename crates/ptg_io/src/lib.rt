@@ -20,7 +20,7 @@ pub use writing::write_all;
 #[cfg(test)]
 mod tests {
     use super::*;
-    use ptg_base::{Row, Text};
+    use ptg_base::{Seq, Text};
     use std::alloc::Global;
     use std::test::Fail;
 
@@ -32,10 +32,10 @@ mod tests {
     /// A file `a` of 100,000 bytes, all of them 7, in files whose reads with these numbers fail.
     fn one_file(alloc: Global, fails: Vec<u64>) -> Result<MemFiles, Fail> {
         let name = Text::of(alloc, b"a")?;
-        let bytes = Row::of(sevens(alloc, 100000)?);
-        let mut files = Row::new(alloc);
+        let bytes = Seq::of(sevens(alloc, 100000)?);
+        let mut files = Seq::new(alloc);
         files.push(File::new(name, bytes))?;
-        Ok(MemFiles::new(alloc, files, Row::of(fails))?)
+        Ok(MemFiles::new(alloc, files, Seq::of(fails))?)
     }
 
     #[test]
@@ -84,10 +84,10 @@ mod tests {
     fn a_failing_third_write_leaves_two_pieces(rt: HostRuntime) -> Result<(), Fail> {
         let alloc = rt.alloc();
         let bytes = sevens(alloc, 10000)?;
-        let mut good = MemSink::new(alloc, Row::new(alloc));
+        let mut good = MemSink::new(alloc, Seq::new(alloc));
         assert_eq!(rt; write_all(&mut good, bytes.as_slice()), Ok(()));
         assert_eq!(rt; good.bytes().len(), 10000);
-        let mut bad = MemSink::new(alloc, Row::of(vec![in alloc; 3]?));
+        let mut bad = MemSink::new(alloc, Seq::of(vec![in alloc; 3]?));
         assert_eq!(rt; write_all(&mut bad, bytes.as_slice()), Err(Failed));
         assert_eq!(rt; bad.bytes().len(), 8192);
         Ok(())

@@ -1,11 +1,13 @@
+//! Reading a whole file.
+
 ghost use Rattle.std.specs.Prelude.{◌≡◌, ◌<◌, ◌≤◌, List, ℕ, length, vec_len, IfOk, OnOk, IsErrOf, IsTrue, IsFalse};
 ghost use Rattle.ptg_io.specs.Faults.{Rose};
 ghost use Rattle.ptg_io.specs.Files.{file_of, IsLonger};
-ghost use Rattle.ptg_io.specs.Load.{IsSoFar};
+ghost use Rattle.ptg_io.specs.Load.{IsReadSoFar};
 ghost use Rattle.ptg_io.specs.declared.loading.LoadFault.TheVariants.{Failed, OutOfMemory};
 
 use crate::files::{self, Files};
-use ptg_base::Row;
+use ptg_base::Seq;
 use std::alloc::{AllocError, AllocFailed, Global};
 
 /// How many bytes are asked for at once.
@@ -48,22 +50,22 @@ impl<T: Drop> From<AllocFailed<T>> for LoadFault {
     }
 }
 
-/// The bytes of a file, read in pieces up to its end. One byte more than 16 MiB, and it is too long.
-pub fn load<F: Files>(alloc: Global, files: &mut F, name: &str) -> Result<Row<u8>, LoadFault>
-    ensures stays { F.told files.new ≡ F.told files.old }
+/// The bytes of a file, read in pieces up to its end. A file of more than 16 MiB is too long, and its reading stops there.
+pub fn load<F: Files>(alloc: Global, files: &mut F, name: &str) -> Result<Seq<u8>, LoadFault>
+    ensures stays { F.contents files.new ≡ F.contents files.old }
     ensures grows { (other : List ℕ) → F.faults files.old other ≤ F.faults files.new other }
-    ensures given { (entries : List (List ℕ × List ℕ)) → F.told files.old ≡ Some entries →
+    ensures given { (entries : List (List ℕ × List ℕ)) → F.contents files.old ≡ Some entries →
         IfOk result (λ bytes. file_of entries name.now ≡ Some bytes) }
     ensures bounded { IfOk result (λ bytes. length bytes ≤ 16777216) }
     ensures failed { IsErrOf result LoadFault.Failed →
         Rose (F.faults files.old name.now) (F.faults files.new name.now) }
     ensures too_long { IsErrOf result LoadFault.TooLong →
-        (entries : List (List ℕ × List ℕ)) → F.told files.old ≡ Some entries →
+        (entries : List (List ℕ × List ℕ)) → F.contents files.old ≡ Some entries →
         IsLonger entries name.now 16777216 }
 {
     let mut piece = zeros(alloc, PIECE)?;
     let bytes = read_all(alloc, files, name, piece.as_mut_slice())?;
-    Ok(Row::of(bytes))
+    Ok(Seq::of(bytes))
 }
 
 /// So many zeros.
@@ -81,15 +83,15 @@ fn read_all<F: Files>(
     piece: &mut [u8],
 ) -> Result<Vec<u8>, LoadFault>
     requires { 0 < length piece.old }
-    ensures stays { F.told files.new ≡ F.told files.old }
+    ensures stays { F.contents files.new ≡ F.contents files.old }
     ensures grows { (other : List ℕ) → F.faults files.old other ≤ F.faults files.new other }
-    ensures given { (entries : List (List ℕ × List ℕ)) → F.told files.old ≡ Some entries →
+    ensures given { (entries : List (List ℕ × List ℕ)) → F.contents files.old ≡ Some entries →
         IfOk result (λ bytes. file_of entries name.now ≡ Some bytes.items) }
     ensures bounded { IfOk result (λ bytes. vec_len bytes ≤ 16777216) }
     ensures failed { IsErrOf result LoadFault.Failed →
         Rose (F.faults files.old name.now) (F.faults files.new name.now) }
     ensures too_long { IsErrOf result LoadFault.TooLong →
-        (entries : List (List ℕ × List ℕ)) → F.told files.old ≡ Some entries →
+        (entries : List (List ℕ × List ℕ)) → F.contents files.old ≡ Some entries →
         IsLonger entries name.now 16777216 }
 {
     let mut bytes = Vec::new(alloc);
@@ -100,7 +102,7 @@ fn read_all<F: Files>(
     }
 }
 
-/// Reads the next piece of a file and adds it. Answers whether there may be more.
+/// Reads the next piece of a file and adds it. Returns whether there may be more.
 fn read_on<F: Files>(
     files: &mut F,
     name: &str,
@@ -109,19 +111,19 @@ fn read_on<F: Files>(
 ) -> Result<bool, LoadFault>
     requires room { 0 < length piece.old }
     requires bounded { vec_len bytes.old ≤ 16777216 }
-    requires so_far { IsSoFar (F.told files.old) name.now bytes.old.items }
-    ensures stays { F.told files.new ≡ F.told files.old }
+    requires so_far { IsReadSoFar (F.contents files.old) name.now bytes.old.items }
+    ensures stays { F.contents files.new ≡ F.contents files.old }
     ensures grows { (other : List ℕ) → F.faults files.old other ≤ F.faults files.new other }
     ensures still_bounded { OnOk result (vec_len bytes.new ≤ 16777216) }
-    ensures still { OnOk result (IsSoFar (F.told files.new) name.now bytes.new.items) }
+    ensures still { OnOk result (IsReadSoFar (F.contents files.new) name.now bytes.new.items) }
     ensures more { IfOk result (λ more. IsTrue more → vec_len bytes.old < vec_len bytes.new) }
     ensures end { IfOk result (λ more. IsFalse more →
-        (entries : List (List ℕ × List ℕ)) → F.told files.old ≡ Some entries →
+        (entries : List (List ℕ × List ℕ)) → F.contents files.old ≡ Some entries →
         file_of entries name.now ≡ Some bytes.new.items) }
     ensures failed { IsErrOf result LoadFault.Failed →
         Rose (F.faults files.old name.now) (F.faults files.new name.now) }
     ensures too_long { IsErrOf result LoadFault.TooLong →
-        (entries : List (List ℕ × List ℕ)) → F.told files.old ≡ Some entries →
+        (entries : List (List ℕ × List ℕ)) → F.contents files.old ≡ Some entries →
         IsLonger entries name.now 16777216 }
 {
     let n = files.read(name, bytes.len() as u64, piece)?;

@@ -1,39 +1,41 @@
+//! Files in memory, some of whose reads fail.
+
 ghost use Rattle.std.specs.Prelude.{◌≡◌, ◌≢◌, ◌<◌, ◌≤◌, ◌+◌, ◌-◌, ◌⊎◌, ◌↔◌, min, List, ℕ, Option, Some, None, length, Contains, IfOk, IfSome, OnOk, OnErr, IsErr};
 ghost use Rattle.ptg_io.specs.Faults.{Rose, one_more};
 ghost use Rattle.ptg_io.specs.Files.{file_of, IsPiece, ReadsPiece};
-ghost use Rattle.ptg_io.specs.Memory.{place_of, count_at, failed_reads, CountsFault};
+ghost use Rattle.ptg_io.specs.Memory.{index_of, fault_count, failed_reads, CountsFault};
 
 use crate::file::File;
 use crate::files::{Failed, Files};
-use ptg_base::{OutOfMemory, Row};
+use ptg_base::{OutOfMemory, Seq};
 use std::alloc::Global;
 use std::marker::Model;
 
-/// Files in memory. They give as much as fits into the buffer; of their reads, those with chosen numbers fail.
+/// Files in memory. They give as much as fits into the buffer; the reads with chosen numbers fail.
 #[derive(Debug, Drop)]
 pub struct MemFiles {
-    all: Row<File>,
-    failed: Row<u64>,
-    lacking: u64,
+    all: Seq<File>,
+    failed: Seq<u64>,
+    missing: u64,
     reads: u64,
-    chosen: Row<u64>,
+    failing: Seq<u64>,
 }
 
 impl Model for MemFiles {
     ghost use Rattle.std.specs.Prelude.{◌≡◌, length};
-    ghost use Rattle.ptg_io.specs.Memory.{Held};
+    ghost use Rattle.ptg_io.specs.Memory.{MemoryFiles};
 
-    ghost Value = { Held };
+    ghost Value = { MemoryFiles };
 
-    ghost view = { λ m. record { files = m.all; failed = m.failed; lacking = m.lacking; reads = m.reads; fails = m.chosen } };
+    ghost view = { λ m. record { files = m.all; failed = m.failed; missing = m.missing; reads = m.reads; fails = m.failing } };
 
     ghost invariant = { λ m. length m.failed ≡ length m.all };
 }
 
 impl MemFiles {
     /// These files; the reads with these numbers, counted from 1, will fail.
-    pub fn new(alloc: Global, files: Row<File>, fails: Row<u64>) -> Result<MemFiles, OutOfMemory>
-        ensures told { IfOk result (λ held. ⟦<MemFiles as Files>⟧.told held ≡ Some files) }
+    pub fn new(alloc: Global, files: Seq<File>, fails: Seq<u64>) -> Result<MemFiles, OutOfMemory>
+        ensures contents { IfOk result (λ held. ⟦<MemFiles as Files>⟧.contents held ≡ Some files) }
         ensures no_faults { IfOk result (λ held. (name : List ℕ) → ⟦<MemFiles as Files>⟧.faults held name ≡ 0) }
         ensures start { IfOk result (λ held. held.reads ≡ 0) }
         ensures fails { IfOk result (λ held. held.fails ≡ fails) }
@@ -41,16 +43,16 @@ impl MemFiles {
         let failed = vec![in alloc; 0u64; files.len()]?;
         Ok(MemFiles {
             all: files,
-            failed: Row::of(failed),
-            lacking: 0,
+            failed: Seq::of(failed),
+            missing: 0,
             reads: 0,
-            chosen: fails,
+            failing: fails,
         })
     }
 }
 
 impl Files for MemFiles {
-    ghost told = { λ m. Some m.files };
+    ghost contents = { λ m. Some m.files };
 
     ghost faults = { failed_reads };
 
@@ -63,9 +65,9 @@ impl Files for MemFiles {
         ensures grows { (other : List ℕ) → failed_reads self.old other ≤ failed_reads self.new other }
         ensures failed { OnErr result (Rose (failed_reads self.old name.now) (failed_reads self.new name.now)) }
 
-        // The chosen reads fail, and those of a name that is lacking.
+        // The chosen reads fail, and those of a name that is missing.
         ensures refused { IsErr result ↔
-            (Contains self.old.fails self.new.reads ⊎ (place_of self.old.files name.now ≡ None)) }
+            (Contains self.old.fails self.new.reads ⊎ (index_of self.old.files name.now ≡ None)) }
         ensures counted { self.new.reads ≡ min (self.old.reads + 1) 18446744073709551615 }
         ensures fails { self.new.fails ≡ self.old.fails }
 
@@ -76,47 +78,47 @@ impl Files for MemFiles {
         ensures no_fault { OnOk result ((other : List ℕ) → failed_reads self.new other ≡ failed_reads self.old other) }
     {
         self.reads = self.reads.saturating_add(1);
-        let place = place_of(self.all.as_slice(), name.as_bytes());
-        let fails = self.chosen.as_slice().contains(&self.reads);
-        match place {
+        let index = index_of(self.all.as_slice(), name.as_bytes());
+        let fails = self.failing.as_slice().contains(&self.reads);
+        match index {
             Some(at) if !fails => Ok(copy_piece(self.all.get(at).bytes(), from, into)),
             _ => {
-                count_fault(&mut self.failed, &mut self.lacking, place);
+                count_fault(&mut self.failed, &mut self.missing, index);
                 Err(Failed)
             }
         }
     }
 }
 
-/// The place of the first file with this name.
-fn place_of(files: &[File], name: &[u8]) -> Option<usize>
-    ensures { result ≡ place_of files.now name.now }
+/// The index of the first file with this name.
+fn index_of(files: &[File], name: &[u8]) -> Option<usize>
+    ensures { result ≡ index_of files.now name.now }
 {
     files.iter().position(|file| file.name() == name)
 }
 
-/// Counts a failed read of the file at a place, or of a name that is lacking.
-fn count_fault(failed: &mut Row<u64>, lacking: &mut u64, place: Option<usize>)
-    requires { IfSome place (λ at. at < length failed.old) }
+/// Counts a failed read of the file at an index, or of a name that is missing.
+fn count_fault(failed: &mut Seq<u64>, missing: &mut u64, index: Option<usize>)
+    requires { IfSome index (λ at. at < length failed.old) }
     ensures length { length failed.new ≡ length failed.old }
-    ensures grows { (other : Option ℕ) → count_at failed.old lacking.old other ≤ count_at failed.new lacking.new other }
-    ensures rose { Rose (count_at failed.old lacking.old place) (count_at failed.new lacking.new place) }
-    ensures own { count_at failed.new lacking.new place ≡ one_more (count_at failed.old lacking.old place) }
-    ensures others { (other : Option ℕ) → other ≢ place →
-        count_at failed.new lacking.new other ≡ count_at failed.old lacking.old other }
+    ensures grows { (other : Option ℕ) → fault_count failed.old missing.old other ≤ fault_count failed.new missing.new other }
+    ensures rose { Rose (fault_count failed.old missing.old index) (fault_count failed.new missing.new index) }
+    ensures own { fault_count failed.new missing.new index ≡ one_more (fault_count failed.old missing.old index) }
+    ensures others { (other : Option ℕ) → other ≢ index →
+        fault_count failed.new missing.new other ≡ fault_count failed.old missing.old other }
 {
-    match place {
+    match index {
         Some(at) => {
             let count = failed.as_slice()[at];
             failed.set(at, count.saturating_add(1));
         }
         None => {
-            *lacking = lacking.saturating_add(1);
+            *missing = missing.saturating_add(1);
         }
     }
 }
 
-/// Puts the bytes from a place on into a buffer, as many as fit.
+/// Puts the bytes from an offset on into a buffer, as many as fit.
 fn copy_piece(bytes: &[u8], from: u64, into: &mut [u8]) -> usize
     requires { 0 < length into.old }
     ensures within { result ≤ length into.new }

@@ -1,40 +1,42 @@
+//! A sink in memory, some of whose writes fail.
+
 ghost use Rattle.std.specs.Prelude.{◌≡◌, ◌<◌, ◌≤◌, ◌+◌, min, [], Some, length, take, Contains, IfOk, OnOk, OnErr, IsErr};
 ghost use Rattle.ptg_io.specs.Faults.{Rose, one_more};
 ghost use Rattle.ptg_io.specs.Sink.{appended};
 
 use crate::files::Failed;
 use crate::sink::Sink;
-use ptg_base::Row;
+use ptg_base::Seq;
 use std::alloc::Global;
 use std::marker::Model;
 
-/// A sink in memory. It takes each piece whole; of its writes, those with chosen numbers fail.
+/// A sink in memory. It takes each piece whole; the writes with chosen numbers fail.
 #[derive(Debug, Drop)]
 pub struct MemSink {
-    content: Row<u8>,
+    content: Seq<u8>,
     failed: u64,
     writes: u64,
-    chosen: Row<u64>,
+    failing: Seq<u64>,
 }
 
 impl Model for MemSink {
-    ghost use Rattle.ptg_io.specs.Memory.{Written};
+    ghost use Rattle.ptg_io.specs.Memory.{MemorySink};
 
-    ghost Value = { Written };
+    ghost Value = { MemorySink };
 
-    ghost view = { λ m. record { bytes = m.content; failed = m.failed; writes = m.writes; fails = m.chosen } };
+    ghost view = { λ m. record { bytes = m.content; failed = m.failed; writes = m.writes; fails = m.failing } };
 }
 
 impl MemSink {
     /// A sink with no bytes; the writes with these numbers, counted from 1, will fail.
-    pub fn new(alloc: Global, fails: Row<u64>) -> MemSink
+    pub fn new(alloc: Global, fails: Seq<u64>) -> MemSink
         ensures { result ≡ record { bytes = []; failed = 0; writes = 0; fails = fails } }
     {
         MemSink {
-            content: Row::new(alloc),
+            content: Seq::new(alloc),
             failed: 0,
             writes: 0,
-            chosen: fails,
+            failing: fails,
         }
     }
 
@@ -60,9 +62,9 @@ impl Sink for MemSink {
         ensures grows { self.old.failed ≤ self.new.failed }
         ensures failed { OnErr result (Rose self.old.failed self.new.failed) }
 
-        // It takes the piece whole. The chosen writes fail, and else one fails for want of memory alone.
+        // It takes the piece whole. The chosen writes fail; any other fails only for want of memory.
         ensures whole { IfOk result (λ n. n ≡ length piece.now) }
-        ensures chosen { Contains self.old.fails self.new.writes → IsErr result }
+        ensures failing { Contains self.old.fails self.new.writes → IsErr result }
         ensures counted { self.new.writes ≡ min (self.old.writes + 1) 18446744073709551615 }
         ensures fails { self.new.fails ≡ self.old.fails }
 
@@ -71,7 +73,7 @@ impl Sink for MemSink {
         ensures no_fault { OnOk result (self.new.failed ≡ self.old.failed) }
     {
         self.writes = self.writes.saturating_add(1);
-        let fails = self.chosen.as_slice().contains(&self.writes);
+        let fails = self.failing.as_slice().contains(&self.writes);
         if fails || self.content.append(piece).is_err() {
             self.failed = self.failed.saturating_add(1);
             return Err(Failed);

@@ -1,18 +1,20 @@
+//! Where bytes are written to.
+
 ghost use Rattle.std.specs.Prelude.{◌≡◌, ◌<◌, ◌≤◌, List, ℕ, Option, length, take, IfOk, OnErr};
 ghost use Rattle.ptg_io.specs.Faults.{Rose};
 ghost use Rattle.ptg_io.specs.Sink.{appended};
 
 use crate::files::Failed;
 
-/// A place that bytes are written to.
+/// Where bytes are written to.
 pub trait Sink {
-    /// The bytes written so far, where the sink tells them.
+    /// The bytes written so far, where that is known.
     ghost bytes: { Self → Option (List ℕ) };
 
     /// How many writes failed so far.
     ghost faults: { Self → ℕ };
 
-    /// Appends the first bytes of a piece, at least one, and tells how many. A failed write appends nothing.
+    /// Appends the first bytes of a piece, at least one, and returns how many. A failed write appends nothing.
     fn write(&mut self, piece: &[u8]) -> Result<usize, Failed>
         requires { 0 < length piece.now }
         ensures some { IfOk result (λ n. 1 ≤ n) }

@@ -1,3 +1,5 @@
+//! Writing all bytes.
+
 ghost use Rattle.std.specs.Prelude.{◌≡◌, ◌<◌, ◌≤◌, ℕ, length, take, OnOk, OnErr};
 ghost use Rattle.ptg_io.specs.Faults.{Rose};
 ghost use Rattle.ptg_io.specs.Sink.{appended};
@@ -8,7 +10,7 @@ use crate::sink::Sink;
 /// How many bytes are written at once, if the sink takes that many.
 const PIECE: usize = 4096;
 
-/// Appends all of the bytes, piece by piece. On `Err` some first bytes went out, and not all.
+/// Appends all of the bytes, piece by piece. On `Err` a proper prefix was written.
 pub fn write_all<O: Sink>(sink: &mut O, bytes: &[u8]) -> Result<(), Failed>
     ensures ok { OnOk result (O.bytes sink.new ≡ appended (O.bytes sink.old) bytes.now) }
     ensures prefix { OnErr result ((n : ℕ) × (n < length bytes.now) ×

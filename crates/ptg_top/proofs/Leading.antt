@@ -37,65 +37,65 @@ pub rose_since : (a b c : ℕ) → a ≤ b → Rose b c → Rose a c
 rose_since a b c le (inl lt) = inl (omega arith)
 rose_since a b c le (inr top) = inr top
 
-unread_reports : (told : Option Entries) (old new : List ℕ → ℕ) (jdf tiles name : List ℕ) (v : Verdict) → v ≡ say.Unread name → Rose (old name) (new name) → IsUnreadOf told jdf tiles name → Reports told old new jdf tiles v
-unread_reports told old new jdf tiles name v e rose of = subst (Reports told old new jdf tiles) (sym e) (rose, of)
+unread_reports : (contents : Option Entries) (old new : List ℕ → ℕ) (jdf tiles name : List ℕ) (v : Verdict) → v ≡ say.Unread name → Rose (old name) (new name) → IsUnreadOf contents jdf tiles name → Reports contents old new jdf tiles v
+unread_reports contents old new jdf tiles name v e rose of = subst (Reports contents old new jdf tiles) (sym e) (rose, of)
 
-jdf_reports : (told : Option Entries) (old new : List ℕ → ℕ) (jdf tiles : List ℕ) (f : JdfFault) (v : Verdict) → v ≡ say.Jdf f → IsMeant told jdf tiles (say.Jdf f) → Reports told old new jdf tiles v
-jdf_reports told old new jdf tiles f v e meant = subst (Reports told old new jdf tiles) (sym e) meant
+jdf_reports : (contents : Option Entries) (old new : List ℕ → ℕ) (jdf tiles : List ℕ) (f : JdfFault) (v : Verdict) → v ≡ say.Jdf f → IsMeant contents jdf tiles (say.Jdf f) → Reports contents old new jdf tiles v
+jdf_reports contents old new jdf tiles f v e meant = subst (Reports contents old new jdf tiles) (sym e) meant
 
-data_reports : (told : Option Entries) (old new : List ℕ → ℕ) (jdf tiles : List ℕ) (f : DataFault) (v : Verdict) → v ≡ say.Data f → IsMeant told jdf tiles (say.Data f) → Reports told old new jdf tiles v
-data_reports told old new jdf tiles f v e meant = subst (Reports told old new jdf tiles) (sym e) meant
+data_reports : (contents : Option Entries) (old new : List ℕ → ℕ) (jdf tiles : List ℕ) (f : DataFault) (v : Verdict) → v ≡ say.Data f → IsMeant contents jdf tiles (say.Data f) → Reports contents old new jdf tiles v
+data_reports contents old new jdf tiles f v e meant = subst (Reports contents old new jdf tiles) (sym e) meant
 
 -- the JDF file leads no further
-tree_reports : (told : Option Entries) (old new : List ℕ → ℕ) (jdf tiles : List ℕ) (v : Verdict) → TreeSaid told (old jdf) (new jdf) jdf v → Reports told old new jdf tiles v
-tree_reports told old new jdf tiles v (inl h) = unread_reports told old new jdf tiles jdf v h.0 h.1 (inl refl)
-tree_reports told old new jdf tiles v (inr h) =
-    jdf_reports told old new jdf tiles jdf_text.not_built v h.0 (λ words files order t.
+tree_reports : (contents : Option Entries) (old new : List ℕ → ℕ) (jdf tiles : List ℕ) (v : Verdict) → TreeSaid contents (old jdf) (new jdf) jdf v → Reports contents old new jdf tiles v
+tree_reports contents old new jdf tiles v (inl h) = unread_reports contents old new jdf tiles jdf v h.0 h.1 (inl refl)
+tree_reports contents old new jdf tiles v (inr h) =
+    jdf_reports contents old new jdf tiles jdf_text.not_built v h.0 (λ words files order t.
     inl (refl, inl (record { jdf = jdf; tiles = tiles; order = order; bytes = (h.1 files t).0; file = (h.1 files t).1; none = (h.1 files t).2 })))
 
-pub tree_stop_reports : (told : Option Entries) (old new : List ℕ → ℕ) (jdf tiles : List ℕ) (s : Stop) → TreeStop told (old jdf) (new jdf) jdf s → Says (Reports told old new jdf tiles) (Err s)
-tree_stop_reports told old new jdf tiles (Said v) h = tree_reports told old new jdf tiles v h
-tree_stop_reports told old new jdf tiles Memory h = tt
+pub tree_stop_reports : (contents : Option Entries) (old new : List ℕ → ℕ) (jdf tiles : List ℕ) (s : Stop) → TreeStop contents (old jdf) (new jdf) jdf s → Says (Reports contents old new jdf tiles) (Err s)
+tree_stop_reports contents old new jdf tiles (Said v) h = tree_reports contents old new jdf tiles v h
+tree_stop_reports contents old new jdf tiles Memory h = tt
 
-module _ (told : Option Entries) (old new : List ℕ → ℕ) (jdf tiles : List ℕ) (J : Jdf) (tree : (files : Entries) → told ≡ Some files → TreeAt files jdf J) where
-  has_tree : (words : List (List ℕ)) (files : Entries) → Orders words (Run jdf tiles) → told ≡ Some files → HasTree words files tiles J
+module _ (contents : Option Entries) (old new : List ℕ → ℕ) (jdf tiles : List ℕ) (J : Jdf) (tree : (files : Entries) → contents ≡ Some files → TreeAt files jdf J) where
+  has_tree : (words : List (List ℕ)) (files : Entries) → Orders words (Run jdf tiles) → contents ≡ Some files → HasTree words files tiles J
   has_tree words files order t = let at = tree files t in record { jdf = jdf; order = order; bytes = at.0; file = at.1; tree = at.2 }
 
   -- the data file leads no further
-  data_reports_of : (mid : ℕ) (v : Verdict) → old tiles ≤ mid → DataSaid told mid (new tiles) tiles v → Reports told old new jdf tiles v
+  data_reports_of : (mid : ℕ) (v : Verdict) → old tiles ≤ mid → DataSaid contents mid (new tiles) tiles v → Reports contents old new jdf tiles v
   data_reports_of mid v le (inl h) =
-      unread_reports told old new jdf tiles tiles v h.0 (rose_since (old tiles) mid (new tiles) le h.1) (inr (refl, λ files t. (J, tree files t)))
+      unread_reports contents old new jdf tiles tiles v h.0 (rose_since (old tiles) mid (new tiles) le h.1) (inr (refl, λ files t. (J, tree files t)))
   data_reports_of mid v le (inr h) =
-      data_reports told old new jdf tiles coll.not_built v h.0 (λ words files order t.
+      data_reports contents old new jdf tiles coll.not_built v h.0 (λ words files order t.
       inl (refl, inl (record { jdf = J; tiles = tiles; tree = has_tree words files order t; bytes = (h.1 files t).0; file = (h.1 files t).1; none = (h.1 files t).2 })))
 
-  pub data_stop_reports : (mid : ℕ) (s : Stop) → old tiles ≤ mid → DataStop told mid (new tiles) tiles s → Says (Reports told old new jdf tiles) (Err s)
+  pub data_stop_reports : (mid : ℕ) (s : Stop) → old tiles ≤ mid → DataStop contents mid (new tiles) tiles s → Says (Reports contents old new jdf tiles) (Err s)
   data_stop_reports mid (Said v) le h = data_reports_of mid v le h
   data_stop_reports mid Memory le h = tt
 
-  module _ (G : Given) (known : (files : Entries) → told ≡ Some files → DataAt files tiles G) where
-    has_data : (words : List (List ℕ)) (files : Entries) → Orders words (Run jdf tiles) → told ≡ Some files → HasData words files J G
+  module _ (G : Given) (known : (files : Entries) → contents ≡ Some files → DataAt files tiles G) where
+    has_data : (words : List (List ℕ)) (files : Entries) → Orders words (Run jdf tiles) → contents ≡ Some files → HasData words files J G
     has_data words files order t = let at = known files t in record { tiles = tiles; tree = has_tree words files order t; bytes = at.0; file = at.1; spelled = at.2 }
 
     -- the names lead no further
-    plan_reports : (v : Verdict) → PlanSaid J G v → Reports told old new jdf tiles v
+    plan_reports : (v : Verdict) → PlanSaid J G v → Reports contents old new jdf tiles v
     plan_reports v (inl h) =
-        data_reports told old new jdf tiles coll.not_built v h.0 (λ words files order t.
+        data_reports contents old new jdf tiles coll.not_built v h.0 (λ words files order t.
         inl (refl, inr (record { jdf = J; given = G; known = has_data words files order t; lacking = h.1 })))
     plan_reports v (inr h) =
-        jdf_reports told old new jdf tiles jdf_text.not_built v h.0 (λ words files order t.
+        jdf_reports contents old new jdf tiles jdf_text.not_built v h.0 (λ words files order t.
         inl (refl, inr (record { jdf = J; given = G; known = has_data words files order t; named = h.1; none = h.2 })))
 
-    pub plan_stop_reports : (s : Stop) → PlanStop J G s → Says (Reports told old new jdf tiles) (Err s)
+    pub plan_stop_reports : (s : Stop) → PlanStop J G s → Says (Reports contents old new jdf tiles) (Err s)
     plan_stop_reports (Said v) h = plan_reports v h
     plan_stop_reports Memory h = tt
 
     module _ (P : Plan) (named : IsMissing J G → ⊥) (plan : IsPlan J G P) where
-      has_plan : (words : List (List ℕ)) (files : Entries) → Orders words (Run jdf tiles) → told ≡ Some files → HasPlan words files G P
+      has_plan : (words : List (List ℕ)) (files : Entries) → Orders words (Run jdf tiles) → contents ≡ Some files → HasPlan words files G P
       has_plan words files order t = record { jdf = J; known = has_data words files order t; named = named; plan = plan }
 
       -- the plan has its answer, or is not consistent
-      answer_reports : (v : Verdict) → AnswerSaid P G v → Reports told old new jdf tiles v
+      answer_reports : (v : Verdict) → AnswerSaid P G v → Reports contents old new jdf tiles v
       answer_reports say.Usage h = absurd h
       answer_reports (say.Unread name) h = absurd h
       answer_reports (say.Jdf fault) h = absurd h
@@ -107,46 +107,46 @@ module _ (told : Option Entries) (old new : List ℕ → ℕ) (jdf tiles : List 
           let Meant : Plan → Type 0 = λ p. Means words files (say.Answer p outcome) in
           subst Meant (sym h.0) (inl (G, has_plan words files order t, h.1, h.2))
 
-      pub answer_result_reports : (r : Result Verdict Stop) → MatchResult r (AnswerSaid P G) (λ stop. stop ≡ Memory) → Says (Reports told old new jdf tiles) r
+      pub answer_result_reports : (r : Result Verdict Stop) → MatchResult r (AnswerSaid P G) (λ stop. stop ≡ Memory) → Says (Reports contents old new jdf tiles) r
       answer_result_reports (Ok v) h = answer_reports v h
-      answer_result_reports (Err s) h = let P' : Stop → Type 0 = λ s. Says (Reports told old new jdf tiles) (Err s) in subst P' (sym h) tt
+      answer_result_reports (Err s) h = let P' : Stop → Type 0 = λ s. Says (Reports contents old new jdf tiles) (Err s) in subst P' (sym h) tt
 
 -- data with the plan that was made of them
 pub plan_fits_data : (J : Jdf) (G : Given) (P : Plan) → IsPlan J G P → HasWholeTiles G → Fits P G
 plan_fits_data J G P plan whole = record { elems = plan.elems; colls = sym plan.colls; whole = whole }
 
 -- what is said for the files of an order is said for its words
-unread_may_be : (words : List (List ℕ)) (told : Option Entries) (jdf tiles name : List ℕ) → Orders words (Run jdf tiles) → IsUnreadOf told jdf tiles name → MayBeUnread words told name
-unread_may_be words told jdf tiles name order (inl e) =
+unread_may_be : (words : List (List ℕ)) (contents : Option Entries) (jdf tiles name : List ℕ) → Orders words (Run jdf tiles) → IsUnreadOf contents jdf tiles name → MayBeUnread words contents name
+unread_may_be words contents jdf tiles name order (inl e) =
     let Ordered : List ℕ → Type 0 = λ j. Orders words (Run j tiles) in inl (tiles, subst Ordered (sym e) order)
-unread_may_be words told jdf tiles name order (inr h) =
+unread_may_be words contents jdf tiles name order (inr h) =
     let Ordered : List ℕ → Type 0 = λ d. Orders words (Run jdf d) in
     let named : Orders words (Run jdf name) = subst Ordered (sym h.0) order in
     inr (inr (jdf, named, λ files t. let at = h.1 files t in (at.0, record { jdf = jdf; order = named; bytes = at.1.0; file = at.1.1; tree = at.1.2 })))
 
-pub judged_by_order : (words : List (List ℕ)) (told : Option Entries) (old new : List ℕ → ℕ) (jdf tiles : List ℕ) (v : Verdict) → Orders words (Run jdf tiles) → Reports told old new jdf tiles v → Judged words told old new v
-judged_by_order words told old new jdf tiles say.Usage order h = absurd h
-judged_by_order words told old new jdf tiles (say.Unread name) order h = (h.0, unread_may_be words told jdf tiles name order h.1, λ none. none (Run jdf tiles) order)
-judged_by_order words told old new jdf tiles (say.Jdf fault) order h = (λ files t. h words files order t, λ none. none (Run jdf tiles) order)
-judged_by_order words told old new jdf tiles (say.Data fault) order h = (λ files t. h words files order t, λ none. none (Run jdf tiles) order)
-judged_by_order words told old new jdf tiles (say.Match fault) order h = (λ files t. h words files order t, λ none. none (Run jdf tiles) order)
-judged_by_order words told old new jdf tiles (say.Spelling text) order h = absurd h
-judged_by_order words told old new jdf tiles (say.Answer P outcome) order h = (λ files t. h words files order t, λ none. none (Run jdf tiles) order)
+pub judged_by_order : (words : List (List ℕ)) (contents : Option Entries) (old new : List ℕ → ℕ) (jdf tiles : List ℕ) (v : Verdict) → Orders words (Run jdf tiles) → Reports contents old new jdf tiles v → Judged words contents old new v
+judged_by_order words contents old new jdf tiles say.Usage order h = absurd h
+judged_by_order words contents old new jdf tiles (say.Unread name) order h = (h.0, unread_may_be words contents jdf tiles name order h.1, λ none. none (Run jdf tiles) order)
+judged_by_order words contents old new jdf tiles (say.Jdf fault) order h = (λ files t. h words files order t, λ none. none (Run jdf tiles) order)
+judged_by_order words contents old new jdf tiles (say.Data fault) order h = (λ files t. h words files order t, λ none. none (Run jdf tiles) order)
+judged_by_order words contents old new jdf tiles (say.Match fault) order h = (λ files t. h words files order t, λ none. none (Run jdf tiles) order)
+judged_by_order words contents old new jdf tiles (say.Spelling text) order h = absurd h
+judged_by_order words contents old new jdf tiles (say.Answer P outcome) order h = (λ files t. h words files order t, λ none. none (Run jdf tiles) order)
 
 -- what is said since a later moment is said since an earlier one
-pub reports_since : (told : Option Entries) (old mid new : List ℕ → ℕ) (jdf tiles : List ℕ) (v : Verdict) → ((name : List ℕ) → old name ≤ mid name) → Reports told mid new jdf tiles v → Reports told old new jdf tiles v
-reports_since told old mid new jdf tiles say.Usage le h = h
-reports_since told old mid new jdf tiles (say.Unread name) le h = (rose_since (old name) (mid name) (new name) (le name) h.0, h.1)
-reports_since told old mid new jdf tiles (say.Jdf fault) le h = h
-reports_since told old mid new jdf tiles (say.Data fault) le h = h
-reports_since told old mid new jdf tiles (say.Match fault) le h = h
-reports_since told old mid new jdf tiles (say.Spelling text) le h = h
-reports_since told old mid new jdf tiles (say.Answer P outcome) le h = h
+pub reports_since : (contents : Option Entries) (old mid new : List ℕ → ℕ) (jdf tiles : List ℕ) (v : Verdict) → ((name : List ℕ) → old name ≤ mid name) → Reports contents mid new jdf tiles v → Reports contents old new jdf tiles v
+reports_since contents old mid new jdf tiles say.Usage le h = h
+reports_since contents old mid new jdf tiles (say.Unread name) le h = (rose_since (old name) (mid name) (new name) (le name) h.0, h.1)
+reports_since contents old mid new jdf tiles (say.Jdf fault) le h = h
+reports_since contents old mid new jdf tiles (say.Data fault) le h = h
+reports_since contents old mid new jdf tiles (say.Match fault) le h = h
+reports_since contents old mid new jdf tiles (say.Spelling text) le h = h
+reports_since contents old mid new jdf tiles (say.Answer P outcome) le h = h
 
-pub result_since : (told : Option Entries) (old mid new : List ℕ → ℕ) (jdf tiles : List ℕ) (r : Result Verdict Stop) → ((name : List ℕ) → old name ≤ mid name) → Says (Reports told mid new jdf tiles) r → Says (Reports told old new jdf tiles) r
-result_since told old mid new jdf tiles (Ok v) le h = reports_since told old mid new jdf tiles v le h
-result_since told old mid new jdf tiles (Err (Said v)) le h = reports_since told old mid new jdf tiles v le h
-result_since told old mid new jdf tiles (Err Memory) le h = tt
+pub result_since : (contents : Option Entries) (old mid new : List ℕ → ℕ) (jdf tiles : List ℕ) (r : Result Verdict Stop) → ((name : List ℕ) → old name ≤ mid name) → Says (Reports contents mid new jdf tiles) r → Says (Reports contents old new jdf tiles) r
+result_since contents old mid new jdf tiles (Ok v) le h = reports_since contents old mid new jdf tiles v le h
+result_since contents old mid new jdf tiles (Err (Said v)) le h = reports_since contents old mid new jdf tiles v le h
+result_since contents old mid new jdf tiles (Err Memory) le h = tt
 
 -- what holds for whatever is said holds of what is said
 pub says_at : (P : Verdict → Type 0) (r : Result Verdict Stop) (v : Verdict) → Says P r → IsSaid r v → P v
@@ -154,10 +154,10 @@ says_at P (Ok w) v h e = subst P e h
 says_at P (Err (Said w)) v h e = subst P e h
 says_at P (Err Memory) v h e = absurd e
 
-pub run_judged : (words : List (List ℕ)) (told : Option Entries) (old new : List ℕ → ℕ) (jdf tiles : List ℕ) (r : Result Verdict Stop) (s : Result Verdict OutOfMemory)
-    → Orders words (Run jdf tiles) → Says (Reports told old new jdf tiles) r → IfOk s (IsSaid r) → IfOk s (λ v. Judged words told old new v)
-run_judged words told old new jdf tiles r (Ok v) order h e = judged_by_order words told old new jdf tiles v order (says_at (Reports told old new jdf tiles) r v h e)
-run_judged words told old new jdf tiles r (Err x) order h e = tt
+pub run_judged : (words : List (List ℕ)) (contents : Option Entries) (old new : List ℕ → ℕ) (jdf tiles : List ℕ) (r : Result Verdict Stop) (s : Result Verdict OutOfMemory)
+    → Orders words (Run jdf tiles) → Says (Reports contents old new jdf tiles) r → IfOk s (IsSaid r) → IfOk s (λ v. Judged words contents old new v)
+run_judged words contents old new jdf tiles r (Ok v) order h e = judged_by_order words contents old new jdf tiles v order (says_at (Reports contents old new jdf tiles) r v h e)
+run_judged words contents old new jdf tiles r (Err x) order h e = tt
 
 -- the names of an order are text
 pub order_texts : (words : List (List ℕ)) (o : Order) → Orders words o → AreTexts o

@@ -29,7 +29,7 @@ use Rattle.ptg_top.specs.declared.verdict.Verdict.{Verdict}
 use Rattle.ptg_top.specs.declared.verdict.Verdict.TheVariants as say
 use Rattle.ptg_top.specs.Stages.{Entries, HasTree, HasData, HasPlan}
 use Rattle.jdf_print.specs.Spelling.{spelling}
-use Rattle.jdf_read.proofs.Once.{one_tree, one_fault, tree_or_fault}
+use Rattle.jdf_read.proofs.Once.{one_tree, one_fault, not_both}
 use Rattle.ptg_top.specs.Meaning.{MeansRun, Shows, MeansShow, Means, OneMeaning, IsNoOrder, IsNoFile, IsNoTree, IsNoData, IsLacking, IsNoPlan}
 use Rattle.ptg_top.specs.Headline.{text_of, status_of, OneOutput}
 
@@ -269,8 +269,8 @@ module _ (words : List (List ℕ)) (files : Entries) where
   -- the bytes of a file show one thing
   shows_once : (bytes : List ℕ) (v w : Verdict) → Shows bytes v → Shows bytes w → v ≡ w
   shows_once bytes (say.Jdf f) (say.Jdf g) h k = ap say.Jdf (one_fault bytes f g h k)
-  shows_once bytes (say.Jdf f) (say.Spelling t) h k = absurd (tree_or_fault bytes k.0 f k.1 h)
-  shows_once bytes (say.Spelling t) (say.Jdf f) h k = absurd (tree_or_fault bytes h.0 f h.1 k)
+  shows_once bytes (say.Jdf f) (say.Spelling t) h k = absurd (not_both bytes k.0 f k.1 h)
+  shows_once bytes (say.Spelling t) (say.Jdf f) h k = absurd (not_both bytes h.0 f h.1 k)
   shows_once bytes (say.Spelling t) (say.Spelling u) h k = ap say.Spelling (h.2 ∙ (ap spelling (one_tree bytes h.0 k.0 h.1 k.1) ∙ sym k.2))
   shows_once bytes say.Usage w h k = absurd h
   shows_once bytes (say.Unread name) w h k = absurd h

@@ -19,6 +19,10 @@ use Rattle.ptg_top.specs.Reports.{Judged}
 abbrev pub unread_line : List ℕ → List ℕ
 unread_line name = line (codes "unread" ∷ name ∷ [])
 
+-- the line for arguments that form no command
+abbrev pub usage_line : List ℕ
+usage_line = line (codes "usage" ∷ [])
+
 -- what is printed for a verdict
 abbrev pub text_of : Verdict → List ℕ
 text_of say.Usage = refusal_text line_of.Usage
@@ -71,7 +75,7 @@ OneOutput =
     → Prints words files before after status → Prints words files before other another → (after ≡ other) × (status ≡ another)
 
 -- a failed write cut off what was due: what the words and files mean, or the name of a file of which a read failed
-pub record IsCut (words : List (List ℕ)) (told : Option Entries) (old new : List ℕ → ℕ) (before after : Option (List ℕ)) : Type 0 where
+pub record IsCut (words : List (List ℕ)) (contents : Option Entries) (old new : List ℕ → ℕ) (before after : Option (List ℕ)) : Type 0 where
   pub verdict : Verdict
-  pub due : Judged words told old new verdict
+  pub due : Judged words contents old new verdict
   pub prefix : HasPrefix before after (text_of verdict)

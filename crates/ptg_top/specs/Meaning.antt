@@ -113,7 +113,7 @@ OneMeaning = (words : List (List ℕ)) (files : Entries) (v w : Verdict) → Mea
 
 -- whose name may be told as unread: the JDF file's, or the data file's once the JDF is the text of a tree, where the files are told
 abbrev pub MayBeUnread : List (List ℕ) → Option Entries → List ℕ → Type 0
-MayBeUnread words told name =
+MayBeUnread words contents name =
     ((tiles : List ℕ) × Orders words (Run name tiles))
     ⊎ (Orders words (Show name)
-    ⊎ ((jdf : List ℕ) × Orders words (Run jdf name) × ((files : Entries) → told ≡ Some files → (J : Jdf) × HasTree words files name J)))
+    ⊎ ((jdf : List ℕ) × Orders words (Run jdf name) × ((files : Entries) → contents ≡ Some files → (J : Jdf) × HasTree words files name J)))

@@ -27,36 +27,36 @@ Says P (Err Memory) = Unit {0}
 
 -- this is what words that order the job of these two files mean, where the files are told
 abbrev pub IsMeant : Option Entries → List ℕ → List ℕ → Verdict → Type 0
-IsMeant told jdf tiles v = (words : List (List ℕ)) (files : Entries) → Orders words (Run jdf tiles) → told ≡ Some files → Means words files v
+IsMeant contents jdf tiles v = (words : List (List ℕ)) (files : Entries) → Orders words (Run jdf tiles) → contents ≡ Some files → Means words files v
 
 -- one of the two files could not be read, and the data file only behind a JDF
 abbrev pub IsUnreadOf : Option Entries → List ℕ → List ℕ → List ℕ → Type 0
-IsUnreadOf told jdf tiles name =
-    (name ≡ jdf) ⊎ ((name ≡ tiles) × ((files : Entries) → told ≡ Some files → (J : Jdf) × TreeAt files jdf J))
+IsUnreadOf contents jdf tiles name =
+    (name ≡ jdf) ⊎ ((name ≡ tiles) × ((files : Entries) → contents ≡ Some files → (J : Jdf) × TreeAt files jdf J))
 
 -- What is said for the job of two files, where `old` and `new` count the failed reads of each name.
 abbrev pub Reports : Option Entries → (List ℕ → ℕ) → (List ℕ → ℕ) → List ℕ → List ℕ → Verdict → Type 0
-Reports told old new jdf tiles say.Usage = ⊥
-Reports told old new jdf tiles (say.Unread name) = Rose (old name) (new name) × IsUnreadOf told jdf tiles name
-Reports told old new jdf tiles (say.Jdf fault) = IsMeant told jdf tiles (say.Jdf fault)
-Reports told old new jdf tiles (say.Data fault) = IsMeant told jdf tiles (say.Data fault)
-Reports told old new jdf tiles (say.Match fault) = IsMeant told jdf tiles (say.Match fault)
-Reports told old new jdf tiles (say.Spelling text) = ⊥
-Reports told old new jdf tiles (say.Answer P outcome) = IsMeant told jdf tiles (say.Answer P outcome)
+Reports contents old new jdf tiles say.Usage = ⊥
+Reports contents old new jdf tiles (say.Unread name) = Rose (old name) (new name) × IsUnreadOf contents jdf tiles name
+Reports contents old new jdf tiles (say.Jdf fault) = IsMeant contents jdf tiles (say.Jdf fault)
+Reports contents old new jdf tiles (say.Data fault) = IsMeant contents jdf tiles (say.Data fault)
+Reports contents old new jdf tiles (say.Match fault) = IsMeant contents jdf tiles (say.Match fault)
+Reports contents old new jdf tiles (say.Spelling text) = ⊥
+Reports contents old new jdf tiles (say.Answer P outcome) = IsMeant contents jdf tiles (say.Answer P outcome)
 
 -- this is what the words mean, where the files are told, and they do order something
 abbrev pub IsTold : List (List ℕ) → Option Entries → Verdict → Type 0
-IsTold words told v = ((files : Entries) → told ≡ Some files → Means words files v) × (IsNoOrder words → ⊥)
+IsTold words contents v = ((files : Entries) → contents ≡ Some files → Means words files v) × (IsNoOrder words → ⊥)
 
 -- What is said for words: usage exactly where they order nothing; unread only where a read of that name failed; else what they mean.
 abbrev pub Judged : List (List ℕ) → Option Entries → (List ℕ → ℕ) → (List ℕ → ℕ) → Verdict → Type 0
-Judged words told old new say.Usage = IsNoOrder words
-Judged words told old new (say.Unread name) = Rose (old name) (new name) × MayBeUnread words told name × (IsNoOrder words → ⊥)
-Judged words told old new (say.Jdf fault) = IsTold words told (say.Jdf fault)
-Judged words told old new (say.Data fault) = IsTold words told (say.Data fault)
-Judged words told old new (say.Match fault) = IsTold words told (say.Match fault)
-Judged words told old new (say.Spelling text) = IsTold words told (say.Spelling text)
-Judged words told old new (say.Answer P outcome) = IsTold words told (say.Answer P outcome)
+Judged words contents old new say.Usage = IsNoOrder words
+Judged words contents old new (say.Unread name) = Rose (old name) (new name) × MayBeUnread words contents name × (IsNoOrder words → ⊥)
+Judged words contents old new (say.Jdf fault) = IsTold words contents (say.Jdf fault)
+Judged words contents old new (say.Data fault) = IsTold words contents (say.Data fault)
+Judged words contents old new (say.Match fault) = IsTold words contents (say.Match fault)
+Judged words contents old new (say.Spelling text) = IsTold words contents (say.Spelling text)
+Judged words contents old new (say.Answer P outcome) = IsTold words contents (say.Answer P outcome)
 
 -- the names of an order are text
 abbrev pub AreTexts : Order → Type 0

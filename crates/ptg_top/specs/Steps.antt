@@ -22,23 +22,23 @@ use Rattle.ptg_top.specs.Meaning.{Shows, IsShown}
 
 -- the file of this name, where the files are told, has none of what P says
 abbrev pub HasNone : {A : Type 0} → (List ℕ → A → Type 0) → Option Entries → List ℕ → Type 0
-HasNone {A} P told name = (files : Entries) → told ≡ Some files → (bytes : List ℕ) × (file_of files name ≡ Some bytes) × ((a : A) → P bytes a → ⊥)
+HasNone {A} P contents name = (files : Entries) → contents ≡ Some files → (bytes : List ℕ) × (file_of files name ≡ Some bytes) × ((a : A) → P bytes a → ⊥)
 
 -- a JDF file leads no further: a read of it failed, or it is not the text of a tree
 abbrev pub TreeSaid : Option Entries → ℕ → ℕ → List ℕ → Verdict → Type 0
-TreeSaid told old new name v = ((v ≡ say.Unread name) × Rose old new) ⊎ ((v ≡ say.Jdf jdf.not_built) × HasNone IsJdf told name)
+TreeSaid contents old new name v = ((v ≡ say.Unread name) × Rose old new) ⊎ ((v ≡ say.Jdf jdf.not_built) × HasNone IsJdf contents name)
 
 abbrev pub TreeStop : Option Entries → ℕ → ℕ → List ℕ → Stop → Type 0
-TreeStop told old new name (Said v) = TreeSaid told old new name v
-TreeStop told old new name Memory = Unit {0}
+TreeStop contents old new name (Said v) = TreeSaid contents old new name v
+TreeStop contents old new name Memory = Unit {0}
 
 -- a data file leads no further: a read of it failed, or it spells no data
 abbrev pub DataSaid : Option Entries → ℕ → ℕ → List ℕ → Verdict → Type 0
-DataSaid told old new name v = ((v ≡ say.Unread name) × Rose old new) ⊎ ((v ≡ say.Data coll.not_built) × HasNone IsData told name)
+DataSaid contents old new name v = ((v ≡ say.Unread name) × Rose old new) ⊎ ((v ≡ say.Data coll.not_built) × HasNone IsData contents name)
 
 abbrev pub DataStop : Option Entries → ℕ → ℕ → List ℕ → Stop → Type 0
-DataStop told old new name (Said v) = DataSaid told old new name v
-DataStop told old new name Memory = Unit {0}
+DataStop contents old new name (Said v) = DataSaid contents old new name v
+DataStop contents old new name Memory = Unit {0}
 
 -- a tree and data make no plan: the data lack a global, or the names do not fit
 abbrev pub PlanSaid : Jdf → Given → Verdict → Type 0
@@ -62,9 +62,9 @@ AnswerSaid P G (say.Spelling text) = ⊥
 
 -- what is said of a JDF file that is to be shown: that a read of it failed, or what its bytes are to show
 abbrev pub ShowSaid : Option Entries → ℕ → ℕ → List ℕ → Verdict → Type 0
-ShowSaid told old new name v =
+ShowSaid contents old new name v =
     ((v ≡ say.Unread name) × Rose old new)
-    ⊎ (IsShown v × ((files : Entries) → told ≡ Some files → (bytes : List ℕ) × (file_of files name ≡ Some bytes) × Shows bytes v))
+    ⊎ (IsShown v × ((files : Entries) → contents ≡ Some files → (bytes : List ℕ) × (file_of files name ≡ Some bytes) × Shows bytes v))
 
 -- what is said of a text that is to be shown
 abbrev pub ShownSaid : List ℕ → Stop → Type 0

@@ -18,9 +18,9 @@ use std::alloc::Global;
 
 /// What is to be said for words and files.
 pub fn judge<F: Files>(alloc: Global, list: &[Text], files: &mut F) -> Result<Verdict, OutOfMemory>
-    ensures stays { F.told files.new ≡ F.told files.old }
+    ensures stays { F.contents files.new ≡ F.contents files.old }
     ensures grows { (other : List ℕ) → F.faults files.old other ≤ F.faults files.new other }
-    ensures judged { IfOk result (λ v. Judged list.now (F.told files.old) (F.faults files.old) (F.faults files.new) v) }
+    ensures judged { IfOk result (λ v. Judged list.now (F.contents files.old) (F.faults files.old) (F.faults files.new) v) }
 {
     match words(alloc, list) {
         Ok(order) => carry_out(alloc, &order, files),
@@ -32,10 +32,10 @@ pub fn judge<F: Files>(alloc: Global, list: &[Text], files: &mut F) -> Result<Ve
 // What is to be said for an order.
 fn carry_out<F: Files>(alloc: Global, order: &Order, files: &mut F) -> Result<Verdict, OutOfMemory>
     requires { AreTexts order.now }
-    ensures stays { F.told files.new ≡ F.told files.old }
+    ensures stays { F.contents files.new ≡ F.contents files.old }
     ensures grows { (other : List ℕ) → F.faults files.old other ≤ F.faults files.new other }
     ensures judged { (words : List (List ℕ)) → Orders words order.now
-        → IfOk result (λ v. Judged words (F.told files.old) (F.faults files.old) (F.faults files.new) v) }
+        → IfOk result (λ v. Judged words (F.contents files.old) (F.faults files.old) (F.faults files.new) v) }
 {
     match order {
         Order::Run(jdf, tiles) => said(run(alloc, jdf, tiles, files)),
@@ -58,9 +58,9 @@ fn said(steps: Result<Verdict, Stop>) -> Result<Verdict, OutOfMemory>
 fn run<F: Files>(alloc: Global, jdf: &Text, tiles: &Text, files: &mut F) -> Result<Verdict, Stop>
     requires jdf_text { IsUtf8 jdf.now }
     requires tiles_text { IsUtf8 tiles.now }
-    ensures stays { F.told files.new ≡ F.told files.old }
+    ensures stays { F.contents files.new ≡ F.contents files.old }
     ensures grows { (other : List ℕ) → F.faults files.old other ≤ F.faults files.new other }
-    ensures said { Says (Reports (F.told files.old) (F.faults files.old) (F.faults files.new) jdf.now tiles.now) result }
+    ensures said { Says (Reports (F.contents files.old) (F.faults files.old) (F.faults files.new) jdf.now tiles.now) result }
 {
     let tree = tree_of(alloc, jdf, files)?;
     with_tree(alloc, &tree, tiles, files)
@@ -74,10 +74,10 @@ fn with_tree<F: Files>(
     files: &mut F,
 ) -> Result<Verdict, Stop>
     requires { IsUtf8 tiles.now }
-    ensures stays { F.told files.new ≡ F.told files.old }
+    ensures stays { F.contents files.new ≡ F.contents files.old }
     ensures grows { (other : List ℕ) → F.faults files.old other ≤ F.faults files.new other }
-    ensures said { (jdf : List ℕ) → ((entries : Entries) → F.told files.old ≡ Some entries → TreeAt entries jdf tree.now)
-        → Says (Reports (F.told files.old) (F.faults files.old) (F.faults files.new) jdf tiles.now) result }
+    ensures said { (jdf : List ℕ) → ((entries : Entries) → F.contents files.old ≡ Some entries → TreeAt entries jdf tree.now)
+        → Says (Reports (F.contents files.old) (F.faults files.old) (F.faults files.new) jdf tiles.now) result }
 {
     let given = data_of(alloc, tiles, files)?;
     let plan = plan_of(alloc, tree, &given)?;

@@ -5,7 +5,7 @@ ghost use Rattle.ptg_io.specs.Faults.{Rose};
 ghost use Rattle.ptg_io.specs.Sink.{appended};
 ghost use Rattle.ptg_top.specs.Stages.{Entries};
 ghost use Rattle.ptg_top.specs.Meaning.{IsNoOrder, MayBeUnread};
-ghost use Rattle.ptg_top.specs.Headline.{IsExact, Prints, IsCut, unread_line};
+ghost use Rattle.ptg_top.specs.Headline.{IsExact, Prints, IsCut, unread_line, usage_line};
 
 use crate::judge::judge;
 use crate::status::Status;
@@ -26,29 +26,30 @@ pub fn ptg_main<F: Files, O: Sink>(
     out: &mut O,
 ) -> Status
     // The files stay as they are, and no count of faults falls.
-    ensures stays { F.told files.new ≡ F.told files.old }
+    ensures stays { F.contents files.new ≡ F.contents files.old }
     ensures read_faults { (other : List ℕ) → F.faults files.old other ≤ F.faults files.new other }
     ensures write_faults { O.faults out.old ≤ O.faults out.new }
-    // Where the files are told: exactly the text and the status that words and files mean.
-    ensures exact { (entries : Entries) → F.told files.old ≡ Some entries → IsExact result →
+    // Where the contents of the files are known: exactly the text and the status that words and files mean.
+    ensures exact { (entries : Entries) → F.contents files.old ≡ Some entries → IsExact result →
         Prints words.now entries (O.bytes out.old) (O.bytes out.new) result }
-    // A read fault comes only where a read of the name that is printed failed, and that name may be the data file's only behind a JDF.
+    // `unread,NAME` is printed only if reading NAME failed; NAME is the data file's only once the JDF was read.
     ensures unread { result ≡ Status.ReadFault → (name : List ℕ)
         × Rose (F.faults files.old name) (F.faults files.new name)
-        × MayBeUnread words.now (F.told files.old) name
+        × MayBeUnread words.now (F.contents files.old) name
         × (O.bytes out.new ≡ appended (O.bytes out.old) (unread_line name)) }
-    // A write fault comes only where a write failed, and then a front of what was due was written.
+    // A write fault comes only where a write failed, and then a prefix of what was due was written.
     ensures cut { result ≡ Status.WriteFault → Rose (O.faults out.old) (O.faults out.new)
-        × IsCut words.now (F.told files.old) (F.faults files.old) (F.faults files.new) (O.bytes out.old) (O.bytes out.new) }
+        × IsCut words.now (F.contents files.old) (F.faults files.old) (F.faults files.new) (O.bytes out.old) (O.bytes out.new) }
     // Where memory is wanting nothing is written.
     ensures silent { result ≡ Status.OutOfMemory → O.bytes out.new ≡ O.bytes out.old }
     // Where no read and no write failed: what words and files mean, unless memory is wanting.
-    ensures complete { (entries : Entries) → F.told files.old ≡ Some entries
+    ensures complete { (entries : Entries) → F.contents files.old ≡ Some entries
         → ((name : List ℕ) → Rose (F.faults files.old name) (F.faults files.new name) → ⊥)
         → (Rose (O.faults out.old) (O.faults out.new) → ⊥)
         → Prints words.now entries (O.bytes out.old) (O.bytes out.new) result ⊎ (result ≡ Status.OutOfMemory) }
-    // Whatever the files: usage is answered only to words that order nothing, and to those nothing else, unless a write failed or memory is wanting.
+    // Whatever the files: usage, with its line, is answered only to words that form no command, and to those nothing else, unless a write failed or memory is wanting.
     ensures usage_only { result ≡ Status.Usage → IsNoOrder words.now }
+    ensures usage_line { result ≡ Status.Usage → O.bytes out.new ≡ appended (O.bytes out.old) usage_line }
     ensures usage { IsNoOrder words.now → (result ≡ Status.Usage) ⊎ ((result ≡ Status.WriteFault) ⊎ (result ≡ Status.OutOfMemory)) }
 {
     match judge(alloc, words, files) {

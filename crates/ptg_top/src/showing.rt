@@ -24,9 +24,9 @@ use std::alloc::Global;
 /// What is to be said of a JDF file that is to be shown.
 pub fn show<F: Files>(alloc: Global, name: &Text, files: &mut F) -> Result<Verdict, Stop>
     requires { IsUtf8 name.now }
-    ensures stays { F.told files.new ≡ F.told files.old }
+    ensures stays { F.contents files.new ≡ F.contents files.old }
     ensures grows { (other : List ℕ) → F.faults files.old other ≤ F.faults files.new other }
-    ensures said { Says (ShowSaid (F.told files.old) (F.faults files.old name.now) (F.faults files.new name.now) name.now) result }
+    ensures said { Says (ShowSaid (F.contents files.old) (F.faults files.old name.now) (F.faults files.new name.now) name.now) result }
 {
     match load(alloc, files, name_of(name)) {
         Ok(bytes) => shown(alloc, bytes.as_slice()),

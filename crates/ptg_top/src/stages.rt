@@ -29,7 +29,7 @@ use jdf_first::{Jdf, read_first};
 use jdf_lex::{JdfCode, JdfFault, JdfRefusal, Spot};
 use match_first::{MatchRefusal, match_edges};
 use plan_first::Plan;
-use ptg_base::{OutOfMemory, Row, Text};
+use ptg_base::{OutOfMemory, Seq, Text};
 use ptg_io::{Files, LoadFault, load};
 use std::alloc::Global;
 
@@ -75,11 +75,11 @@ pub fn name_of(word: &Text) -> &str
 /// The tree of the JDF file of this name.
 pub fn tree_of<F: Files>(alloc: Global, name: &Text, files: &mut F) -> Result<Jdf, Stop>
     requires { IsUtf8 name.now }
-    ensures stays { F.told files.new ≡ F.told files.old }
+    ensures stays { F.contents files.new ≡ F.contents files.old }
     ensures grows { (other : List ℕ) → F.faults files.old other ≤ F.faults files.new other }
-    ensures found { (entries : Entries) → F.told files.old ≡ Some entries →
+    ensures found { (entries : Entries) → F.contents files.old ≡ Some entries →
         IfOk result (λ J. (bytes : List ℕ) × (file_of entries name.now ≡ Some bytes) × IsJdf bytes J) }
-    ensures stopped { IfErr result (TreeStop (F.told files.old) (F.faults files.old name.now) (F.faults files.new name.now) name.now) }
+    ensures stopped { IfErr result (TreeStop (F.contents files.old) (F.faults files.old name.now) (F.faults files.new name.now) name.now) }
 {
     match load(alloc, files, name_of(name)) {
         Ok(bytes) => tree(alloc, bytes.as_slice()),
@@ -113,12 +113,12 @@ fn tree(alloc: Global, bytes: &[u8]) -> Result<Jdf, Stop>
 /// The data of the file of this name.
 pub fn data_of<F: Files>(alloc: Global, name: &Text, files: &mut F) -> Result<Given, Stop>
     requires { IsUtf8 name.now }
-    ensures stays { F.told files.new ≡ F.told files.old }
+    ensures stays { F.contents files.new ≡ F.contents files.old }
     ensures grows { (other : List ℕ) → F.faults files.old other ≤ F.faults files.new other }
     ensures whole { IfOk result HasWholeTiles }
-    ensures found { (entries : Entries) → F.told files.old ≡ Some entries →
+    ensures found { (entries : Entries) → F.contents files.old ≡ Some entries →
         IfOk result (λ G. (bytes : List ℕ) × (file_of entries name.now ≡ Some bytes) × IsData bytes G) }
-    ensures stopped { IfErr result (DataStop (F.told files.old) (F.faults files.old name.now) (F.faults files.new name.now) name.now) }
+    ensures stopped { IfErr result (DataStop (F.contents files.old) (F.faults files.old name.now) (F.faults files.new name.now) name.now) }
 {
     match load(alloc, files, name_of(name)) {
         Ok(bytes) => data(alloc, bytes.as_slice()),

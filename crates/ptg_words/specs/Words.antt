@@ -1,4 +1,4 @@
--- Which words give which order.
+-- Which arguments give which command. Source: this project's own choice.
 use Rattle.std.specs.Prelude.{◌≡◌, ◌≢◌, ℕ, List, [], ◌∷◌, codes}
 use Rattle.std.specs.Str.{IsUtf8}
 use Rattle.ptg_words.specs.declared.order.Order.{Order}
@@ -13,7 +13,7 @@ IsOperand (b ∷ bs) = b ≢ 45
 abbrev pub IsFileName : List ℕ → Type 0
 IsFileName word = IsOperand word × IsUtf8 word
 
--- `run JDF DATA` orders to run that job, and `show JDF` to print its canonical spelling; no other words order anything
+-- `run JDF DATA` runs that job and `show JDF` prints its canonical spelling; all other arguments form no valid command
 abbrev pub Orders : List (List ℕ) → Order → Type 0
 Orders words (Run jdf tiles) = (words ≡ codes "run" ∷ jdf ∷ tiles ∷ []) × IsFileName jdf × IsFileName tiles
 Orders words (Show jdf) = (words ≡ codes "show" ∷ jdf ∷ []) × IsFileName jdf

@@ -1,4 +1,4 @@
-//! What the words of the command line order.
+//! Parses the command line.
 #![tactic(auto)]
 
 mod order;

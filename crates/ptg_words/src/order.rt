@@ -1,9 +1,11 @@
+//! The commands of the program.
+
 ghost use Rattle.std.specs.Prelude.{◌≡◌};
 ghost use Rattle.ptg_words.specs.declared.order.WordsRefusal.TheVariants.{OutOfMemory};
 
 use ptg_base::Text;
 
-/// What the program is to do.
+/// A command of the program.
 #[derive(Debug, Drop)]
 pub enum Order {
     /// Run the job of this JDF file on this data file.
@@ -12,10 +14,10 @@ pub enum Order {
     Show(Text),
 }
 
-/// Why there is no order.
+/// Why the arguments give no command.
 #[derive(Clone, Copy, Debug, PartialEq, Eq)]
 pub enum WordsRefusal {
-    /// The words are no command of the program.
+    /// The arguments form no valid command.
     Usage,
     OutOfMemory,
 }

@@ -1,3 +1,5 @@
+//! Parsing the command line.
+
 ghost use Rattle.std.specs.Prelude.{◌≡◌, ◌↔◌, IfOk, IsTrue, Err, codes};
 ghost use Rattle.ptg_words.specs.declared.order.Order.{Order};
 ghost use Rattle.ptg_words.specs.Words.{IsFileName, IsOperand, Orders};
@@ -6,7 +8,7 @@ use crate::order::{Order, WordsRefusal};
 use ptg_base::Text;
 use std::alloc::Global;
 
-/// The order that these words give: `run JDF DATA` or `show JDF`, where JDF and DATA name files.
+/// Parses the command line: `run JDF DATA` or `show JDF`, where JDF and DATA name files.
 pub fn words(alloc: Global, list: &[Text]) -> Result<Order, WordsRefusal>
     ensures found { IfOk result (λ order. Orders list.now order) }
     ensures usage { result ≡ Err WordsRefusal.Usage → (order : Order) → Orders list.now order → ⊥ }
@@ -36,7 +38,7 @@ fn is_show(word: &Text) -> bool
     word.bytes() == b"show".as_slice()
 }
 
-// Is it text, not empty, and without a `-` at its front?
+// Is it UTF-8, not empty, and without a leading `-`?
 fn is_file_name(word: &Text) -> bool
     ensures { IsTrue result ↔ IsFileName word.now }
 {

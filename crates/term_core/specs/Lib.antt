@@ -4,9 +4,9 @@ pub mod NodeTerm
 pub mod Arith
 pub mod Value
 pub mod WellSpace
-pub mod Steps
-pub mod StepsCode
-pub mod BlockSteps
-pub mod BlockFalls
+pub mod StatementList
+pub mod StatementListCode
+pub mod BlockStatementList
+pub mod BlockSize
 pub mod WellBody
 pub mod Trap

@@ -1,4 +1,4 @@
--- The tree that nodes in memory make.
+-- The tree of an expression, without its boxes.
 use Rattle.term_core.specs.declared.expr.Node.{Node}
 use Rattle.term_core.specs.declared.expr.Node.TheVariants as node
 use Rattle.term_core.specs.Term.{Term, Num, Local, Elem, Unary, Binary, Choose}

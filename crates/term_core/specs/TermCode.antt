@@ -1,4 +1,4 @@
--- The code of a term, by which a proof tells terms apart.
+-- A code for expressions: equal codes belong to equal trees.
 use Rattle.std.specs.Prelude.{◌≡◌, ℕ, refl}
 use Rattle.std.proofs.Common.{ap, sym, ◌∙◌, zero, suc}
 use Rattle.std.specs.Coded.{Coded, coded_ℤ}

@@ -5,17 +5,17 @@ use Rattle.term_core.specs.declared.operator.BinOp.{BinOp}
 use Rattle.term_core.specs.Term.{Term, Num, Local, Elem, Unary, Binary, Choose}
 use Rattle.term_core.specs.Arith.{holds, arithmetic, unary_value, decided}
 
--- what follows a value; a fault stays as it is
-abbrev pub after : {A B F : Type 0} → Result A F → (A → Result B F) → Result B F
-after (Ok x) next = next x
-after (Err e) next = Err e
+-- what the continuation gives of a value; a fault stays as it is
+abbrev pub and_then : {A B F : Type 0} → Result A F → (A → Result B F) → Result B F
+and_then (Ok x) next = next x
+and_then (Err e) next = Err e
 
 -- a fault of arithmetic as a fault of another kind
-abbrev pub faulting : {F : Type 0} → (ExprFault → F) → Result ℤ ExprFault → Result ℤ F
-faulting fault (Ok x) = Ok x
-faulting fault (Err e) = Err (fault e)
+abbrev pub map_fault : {F : Type 0} → (ExprFault → F) → Result ℤ ExprFault → Result ℤ F
+map_fault fault (Ok x) = Ok x
+map_fault fault (Err e) = Err (fault e)
 
--- the number that decides, or else what is given
+-- the deciding number if there is one, else the other result
 abbrev pub decided_or : {F : Type 0} → Option ℤ → Result ℤ F → Result ℤ F
 decided_or (Some z) other = Ok z
 decided_or None other = other
@@ -23,19 +23,19 @@ decided_or None other = other
 -- an operation on two expressions: the right one counts only where the left one does not decide
 abbrev pub binary_with : {F : Type 0} → (ExprFault → F) → BinOp → Result ℤ F → Result ℤ F → Result ℤ F
 binary_with fault o left right =
-    after left (λ x. decided_or (decided o x) (after right (λ y. faulting fault (arithmetic o x y))))
+    and_then left (λ x. decided_or (decided o x) (and_then right (λ y. map_fault fault (arithmetic o x y))))
 
 -- the value of an expression, or the first fault in the order of evaluation: `fault` makes of a fault of arithmetic one of F,
 -- `element` gives the value of an element by its flow and index, and the list has the values of the locals
 abbrev pub value_with : {F : Type 0} → (ExprFault → F) → (ℕ → ℤ → Result ℤ F) → List ℤ → Term → Result ℤ F
 value_with fault element locals (Num z) = Ok z
 value_with fault element locals (Local n) = Ok (slice_index_or locals n (pos 0))
-value_with fault element locals (Elem flow at) = after (value_with fault element locals at) (λ i. element flow i)
-value_with fault element locals (Unary o a) = after (value_with fault element locals a) (λ x. faulting fault (unary_value o x))
+value_with fault element locals (Elem flow at) = and_then (value_with fault element locals at) (λ i. element flow i)
+value_with fault element locals (Unary o a) = and_then (value_with fault element locals a) (λ x. map_fault fault (unary_value o x))
 value_with fault element locals (Binary o a b) =
     binary_with fault o (value_with fault element locals a) (value_with fault element locals b)
 value_with fault element locals (Choose c a b) =
-    after (value_with fault element locals c) (λ x. if holds x then value_with fault element locals a else value_with fault element locals b)
+    and_then (value_with fault element locals c) (λ x. if holds x then value_with fault element locals a else value_with fault element locals b)
 
 -- the value of an expression that has no element; an element counts as 0
 abbrev pub value : Term → List ℤ → Result ℤ ExprFault

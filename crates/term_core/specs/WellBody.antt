@@ -1,6 +1,6 @@
 -- Well made bodies: they name only slots and flows that there are, and set no local of the task. Source: this project's own choice; so are the limits.
 use Rattle.std.specs.Prelude.{ℕ, Bool, true, ◌&&◌, ◌+◌, ◌≤◌, nat_lt, nat_le, IsTrue}
-use Rattle.term_core.specs.Steps.{Steps, Done, SetThen, PutThen, IfThen, ForThen, TrapThen}
+use Rattle.term_core.specs.StatementList.{StatementList, Done, SetThen, PutThen, IfThen, ForThen, TrapThen}
 use Rattle.term_core.specs.Value.{is_closed_with}
 use Rattle.term_core.specs.declared.body.Body.{Body}
 
@@ -9,7 +9,7 @@ abbrev pub is_variable : ℕ → ℕ → ℕ → Bool
 is_variable locals slots n = nat_le locals n && nat_lt n slots
 
 -- whether the statements name only so many slots and flows, and set no slot of so many locals
-abbrev pub are_well_made : ℕ → ℕ → ℕ → Steps → Bool
+abbrev pub are_well_made : ℕ → ℕ → ℕ → StatementList → Bool
 are_well_made locals slots flows Done = true
 are_well_made locals slots flows (SetThen n e rest) =
     is_variable locals slots n && is_closed_with slots flows e && are_well_made locals slots flows rest
@@ -23,8 +23,8 @@ are_well_made locals slots flows (TrapThen w rest) = are_well_made locals slots 
 
 -- a body for so many locals, of which there are at most 16, and so many flows, at most 8, with at most 256 variables of its own
 pub record IsWellBody (locals flows : ℕ) (b : Body) : Type 0 where
-  pub few_locals : locals ≤ 16
-  pub few_flows : flows ≤ 8
-  pub holds_locals : locals ≤ b.slots
-  pub few_variables : b.slots ≤ locals + 256
+  pub locals_at_most : locals ≤ 16
+  pub flows_at_most : flows ≤ 8
+  pub slots_hold_locals : locals ≤ b.slots
+  pub variables_at_most : b.slots ≤ locals + 256
   pub statements : IsTrue (are_well_made locals b.slots flows b.statements)

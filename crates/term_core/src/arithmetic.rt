@@ -1,3 +1,5 @@
+//! Checked arithmetic on numbers of 64 bits.
+
 ghost use Rattle.std.specs.Prelude.{◌≡◌, ◌+ℤ◌, ◌-ℤ◌, ◌*ℤ◌, int_div, int_rem};
 ghost use Rattle.term_core.specs.Arith.{fitted, divided, truth, holds, arithmetic, unary_value, decided};
 
@@ -61,7 +63,7 @@ fn number(condition: bool) -> i64
     if condition { 1 } else { 0 }
 }
 
-/// What the operator gives of the two numbers.
+/// The value of a binary operation on two numbers, or its fault.
 pub fn arith(op: BinOp, a: i64, b: i64) -> Result<i64, ExprFault>
     ensures { result ≡ arithmetic op a b }
 {
@@ -82,7 +84,7 @@ pub fn arith(op: BinOp, a: i64, b: i64) -> Result<i64, ExprFault>
     }
 }
 
-/// What the operator gives of the number after it.
+/// The value of a unary operation on a number, or its fault.
 pub fn unary(op: UnOp, a: i64) -> Result<i64, ExprFault>
     ensures { result ≡ unary_value op a }
 {
@@ -95,7 +97,7 @@ pub fn unary(op: UnOp, a: i64) -> Result<i64, ExprFault>
     }
 }
 
-/// The value of an operation that its left side alone decides.
+/// The value of a binary operation, where its left operand decides it: `&&` of 0, `||` of a number that holds.
 pub fn decide(op: BinOp, a: i64) -> Option<i64>
     ensures { result ≡ decided op a }
 {

@@ -1,8 +1,10 @@
+//! Statements, blocks and bodies.
+
 ghost use Rattle.std.specs.Prelude.{◌≡◌};
-ghost use Rattle.term_core.specs.BlockSteps.{steps_of};
+ghost use Rattle.term_core.specs.BlockStatementList.{statement_list};
 
 use crate::expr::Expr;
-use ptg_base::Row;
+use ptg_base::Seq;
 use std::marker::Model;
 
 /// A statement of a body.
@@ -21,9 +23,9 @@ pub enum Stmt {
     Trap(u32),
 }
 
-/// Statements in order, seen as the tree of what they do and not as where that lies in memory.
+/// Statements in order. Contracts see their tree, not its boxes.
 ///
-/// Dropping a block goes as deep as blocks nest, whatever the number of its statements.
+/// Dropping a block recurses as deep as blocks nest, however many statements it has.
 #[cycle(block)]
 #[derive(Debug, Drop)]
 pub struct Block {
@@ -31,28 +33,28 @@ pub struct Block {
 }
 
 impl Model for Block {
-    ghost use Rattle.term_core.specs.Steps.{Steps, count_of_steps};
-    ghost use Rattle.term_core.specs.StepsCode.{steps_code};
+    ghost use Rattle.term_core.specs.StatementList.{StatementList, statement_count};
+    ghost use Rattle.term_core.specs.StatementListCode.{statement_list_code};
 
-    ghost Value = { Steps };
+    ghost Value = { StatementList };
 
-    ghost coded = { steps_code };
+    ghost coded = { statement_list_code };
 
-    ghost use Rattle.term_core.specs.BlockSteps.{steps_of};
+    ghost use Rattle.term_core.specs.BlockStatementList.{statement_list};
 
-    ghost view = { λ b. steps_of b.statements.items };
+    ghost view = { λ b. statement_list b.statements.items };
 
-    ghost size = { count_of_steps };
+    ghost size = { statement_count };
 
-    ghost use Rattle.term_core.specs.BlockFalls.{most_le-count};
+    ghost use Rattle.term_core.specs.BlockSize.{most_le-count};
 
     ghost size_decreases = { λ b h. most_le-count b.statements.items };
 }
 
 impl Block {
     /// The block of these statements.
-    pub fn of(statements: Row<Stmt>) -> Block
-        ensures { result ≡ steps_of statements }
+    pub fn of(statements: Seq<Stmt>) -> Block
+        ensures { result ≡ statement_list statements }
     {
         Block {
             statements: statements.into_vec(),
@@ -60,14 +62,14 @@ impl Block {
     }
 
     pub fn as_slice(&self) -> &[Stmt]
-        ensures { steps_of result.now ≡ self.now }
+        ensures { statement_list result.now ≡ self.now }
     {
         self.statements.as_slice()
     }
 }
 
-/// What a task does to its tiles: the statements, over so many slots, of which the task's locals are the first and the
-/// others are the body's own variables.
+/// What a task does to its tiles: statements over numbered slots. The first slots hold the task's locals, the others the
+/// body's own variables.
 #[derive(Debug, Drop)]
 pub struct Body {
     pub statements: Block,
@@ -84,11 +86,11 @@ mod tests {
     #[test]
     fn blocks_keep_their_statements(rt: HostRuntime) -> Result<(), OutOfMemory> {
         let alloc = rt.alloc();
-        let mut inner = Row::new(alloc);
+        let mut inner = Seq::new(alloc);
         inner.push(Stmt::Trap(7))?;
-        let mut outer = Row::new(alloc);
+        let mut outer = Seq::new(alloc);
         outer.push(Stmt::Set(2, Expr::num(5)))?;
-        outer.push(Stmt::If(Expr::local(2), Block::of(inner), Block::of(Row::new(alloc))))?;
+        outer.push(Stmt::If(Expr::local(2), Block::of(inner), Block::of(Seq::new(alloc))))?;
         let body = Body {
             statements: Block::of(outer),
             slots: 3,

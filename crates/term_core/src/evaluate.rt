@@ -1,6 +1,9 @@
-ghost use Rattle.std.specs.Prelude.{◌≡◌, pos, slice_index_or};
+//! The value of an expression: one evaluator, over a way to read elements.
+
+ghost use Rattle.std.specs.Prelude.{◌≡◌, ℕ, ℤ, pos, slice_index_or, Result, Ok};
 ghost use Rattle.term_core.specs.NodeTerm.{term_of};
-ghost use Rattle.term_core.specs.Value.{value};
+ghost use Rattle.term_core.specs.Value.{map_fault, value, value_with};
+ghost use Rattle.term_core.specs.declared.fault.ExprFault.{ExprFault};
 
 use crate::arithmetic::{arith, decide, unary};
 use crate::expr::{Expr, Node};
@@ -14,48 +17,100 @@ pub fn local(env: &[i64], number: u16) -> i64
     if at < env.len() { env[at] } else { 0 }
 }
 
-/// The value of an expression that has no element, or its first fault.
-pub fn eval(e: &Expr, env: &[i64]) -> Result<i64, ExprFault>
-    ensures { result ≡ value e.now env.now }
-{
-    eval_node(&e.node, env)
+/// A way to read the elements of flows while an expression is evaluated.
+pub trait ReadElement {
+    /// Why an expression has no value: a fault of arithmetic, or one of reading.
+    type Fault: Drop;
+
+    // What a fault of arithmetic is among these.
+    ghost fault_of: { ExprFault → Self.Fault };
+
+    // The element of a flow at an index.
+    ghost element_of: { Self → ℕ → ℤ → Result ℤ Self.Fault };
+
+    /// A fault of arithmetic.
+    fn fault(fault: ExprFault) -> Self::Fault
+        ensures { result ≡ fault_of fault };
+
+    /// The element of the flow at the index.
+    fn element(&self, flow: u8, index: i64) -> Result<i64, Self::Fault>
+        ensures { result ≡ element_of self.now flow index };
 }
 
-fn eval_node(node: &Node, env: &[i64]) -> Result<i64, ExprFault>
-    ensures { result ≡ value (term_of node.now) env.now }
+/// The value of an expression whose elements are read so, or its first fault in the order of evaluation.
+pub fn eval_with<R: ReadElement>(e: &Expr, env: &[i64], elements: &R) -> Result<i64, R::Fault>
+    ensures { result ≡ value_with R.fault_of (R.element_of elements.now) env.now e.now }
+{
+    node_value(&e.node, env, elements)
+}
+
+fn node_value<R: ReadElement>(node: &Node, env: &[i64], elements: &R) -> Result<i64, R::Fault>
+    ensures { result ≡ value_with R.fault_of (R.element_of elements.now) env.now (term_of node.now) }
 {
     match node {
         Node::Num(z) => Ok(*z),
         Node::Local(number) => Ok(local(env, *number)),
-        Node::Elem(_, at) => match eval_node(at, env) {
-            Ok(_) => Ok(0),
-            Err(fault) => Err(fault),
-        },
-        Node::Unary(op, a) => match eval_node(a, env) {
-            Ok(x) => unary(*op, x),
-            Err(fault) => Err(fault),
-        },
-        Node::Binary(op, a, b) => match eval_node(a, env) {
-            Ok(x) => match decide(*op, x) {
-                Some(z) => Ok(z),
-                None => match eval_node(b, env) {
-                    Ok(y) => arith(*op, x, y),
-                    Err(fault) => Err(fault),
-                },
-            },
-            Err(fault) => Err(fault),
-        },
-        Node::Choose(c, a, b) => match eval_node(c, env) {
-            Ok(x) => {
-                if x == 0 {
-                    eval_node(b, env)
-                } else {
-                    eval_node(a, env)
-                }
+        Node::Elem(flow, at) => {
+            let index = node_value(at, env, elements)?;
+            elements.element(*flow, index)
+        }
+        Node::Unary(op, a) => {
+            let x = node_value(a, env, elements)?;
+            with_fault::<R>(unary(*op, x))
+        }
+        Node::Binary(op, a, b) => {
+            let x = node_value(a, env, elements)?;
+            if let Some(z) = decide(*op, x) {
+                return Ok(z);
             }
-            Err(fault) => Err(fault),
-        },
+            let y = node_value(b, env, elements)?;
+            with_fault::<R>(arith(*op, x, y))
+        }
+        Node::Choose(c, a, b) => {
+            let x = node_value(c, env, elements)?;
+            if x == 0 {
+                node_value(b, env, elements)
+            } else {
+                node_value(a, env, elements)
+            }
+        }
     }
+}
+
+// A result of arithmetic among the faults of reading.
+fn with_fault<R: ReadElement>(value: Result<i64, ExprFault>) -> Result<i64, R::Fault>
+    ensures { result ≡ map_fault R.fault_of value }
+{
+    match value {
+        Ok(z) => Ok(z),
+        Err(fault) => Err(R::fault(fault)),
+    }
+}
+
+// Each element counts as 0: for expressions that have none.
+struct NoElements;
+
+impl ReadElement for NoElements {
+    type Fault = ExprFault;
+
+    ghost fault_of = { λ fault. fault };
+
+    ghost element_of = { λ elements flow index. Ok (pos 0) };
+
+    fn fault(fault: ExprFault) -> ExprFault {
+        fault
+    }
+
+    fn element(&self, _flow: u8, _index: i64) -> Result<i64, ExprFault> {
+        Ok(0)
+    }
+}
+
+/// The value of an expression that has no element, or its first fault.
+pub fn eval(e: &Expr, env: &[i64]) -> Result<i64, ExprFault>
+    ensures { result ≡ value e.now env.now }
+{
+    eval_with(e, env, &NoElements)
 }
 
 #[cfg(test)]

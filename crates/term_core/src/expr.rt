@@ -1,3 +1,5 @@
+//! Expressions.
+
 ghost use Rattle.std.specs.Prelude.{◌≡◌, IfOk};
 ghost use Rattle.term_core.specs.Term.{Num, Local, Elem, Unary, Binary, Choose};
 ghost use Rattle.term_core.specs.NodeTerm.{term_of};
@@ -7,13 +9,13 @@ use ptg_base::OutOfMemory;
 use std::alloc::Global;
 use std::marker::Model;
 
-/// An expression over the locals of a task, seen as its tree and not as where that lies in memory.
+/// An expression over the locals of a task. Contracts see its tree, not its boxes.
 #[derive(Debug, Drop)]
 pub struct Expr {
     pub(crate) node: Node,
 }
 
-/// One operation of an expression, and its operands.
+/// A node of an expression: an operation and its operands.
 #[derive(Debug, Drop)]
 pub enum Node {
     /// A number.
@@ -93,7 +95,7 @@ impl Expr {
         })
     }
 
-    /// The operation at the root, for the crates that go down the tree.
+    /// The root of the tree.
     pub fn node(&self) -> &Node
         ensures { term_of result.now ≡ self.now }
     {

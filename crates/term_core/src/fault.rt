@@ -1,3 +1,5 @@
+//! Faults of arithmetic.
+
 /// Why an expression has no value.
 #[derive(Clone, Copy, Debug, PartialEq, Eq)]
 pub enum ExprFault {

@@ -1,3 +1,5 @@
+//! Kinds of flows.
+
 /// What a flow of a task does with its tile.
 #[derive(Clone, Copy, Debug, PartialEq, Eq)]
 pub enum FlowKind {

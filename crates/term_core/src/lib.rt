@@ -1,4 +1,4 @@
-//! Expressions and their values, ranges and spaces over them.
+//! Expressions and their values; the types of ranges, spaces, statements and bodies.
 #![tactic(auto)]
 
 mod arithmetic;
@@ -13,7 +13,7 @@ mod trap;
 
 pub use arithmetic::{arith, decide, unary};
 pub use body::{Block, Body, Stmt};
-pub use evaluate::{eval, local};
+pub use evaluate::{ReadElement, eval, eval_with, local};
 pub use expr::{Expr, Node};
 pub use fault::ExprFault;
 pub use flow::FlowKind;

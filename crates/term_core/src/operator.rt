@@ -1,3 +1,5 @@
+//! Operators.
+
 /// An operator before its operand.
 #[derive(Clone, Copy, Debug, PartialEq, Eq)]
 pub enum UnOp {

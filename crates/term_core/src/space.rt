@@ -1,7 +1,9 @@
+//! Ranges, definitions and the space of a class.
+
 ghost use Rattle.std.specs.Prelude.{◌≡◌, ◌≤◌, length};
 
 use crate::expr::Expr;
-use ptg_base::Row;
+use ptg_base::Seq;
 use std::marker::Model;
 
 /// The numbers from `lo` to `hi` by `step`, or by 1 where no step is written.
@@ -12,7 +14,7 @@ pub struct Range {
     pub step: Option<Expr>,
 }
 
-/// What gives a local of a class its values.
+/// The definition of a local of a class.
 #[derive(Debug, Drop)]
 pub enum Def {
     /// Each value of a range.
@@ -21,7 +23,7 @@ pub enum Def {
     Value(Expr),
 }
 
-/// At most eight numbers of definitions: that of each parameter, in the order of the parameters. It takes no memory.
+/// For each parameter, in order, the number of its definition; at most eight. It takes no memory.
 #[derive(Debug, Drop)]
 pub struct Params {
     numbers: [u8; 8],
@@ -39,7 +41,7 @@ impl Model for Params {
 }
 
 impl Params {
-    /// The parameters that these definitions give their values.
+    /// The parameters with these definitions.
     pub fn new(definitions: &[u8]) -> Params
         requires { length definitions.now ≤ 8 }
         ensures { result ≡ definitions.now }
@@ -61,7 +63,7 @@ impl Params {
 /// The definitions of a class in the order of their nesting, and which of them are its parameters.
 #[derive(Debug, Drop)]
 pub struct ClassSpace {
-    pub defs: Row<Def>,
+    pub defs: Seq<Def>,
     pub params: Params,
 }
 

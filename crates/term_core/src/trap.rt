@@ -1,9 +1,11 @@
+//! Why a body traps.
+
 ghost use Rattle.std.specs.Prelude.{◌≡◌};
 ghost use Rattle.term_core.specs.Trap.{trap_of};
 
 use crate::fault::ExprFault;
 
-/// Why a body did not end well.
+/// Why a body traps.
 #[derive(Clone, Copy, Debug, PartialEq, Eq)]
 pub enum Trap {
     /// A number that does not fit 64 bits.

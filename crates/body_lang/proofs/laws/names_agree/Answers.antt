@@ -1,5 +1,5 @@
 use Rattle.std.proofs.Common.{inl, inr, ◌∙◌}
-use Rattle.body_names.specs.Standing.{at_first}
+use Rattle.body_names.specs.TokenScan.{at_first}
 use Rattle.body_lang.proofs.Fronts.{none_or_whole, whatever_behind}
 use Rattle.body_lang.proofs.Nesting.{agrees}
 use Rattle.body_lang.proofs.laws.names_agree.Goals as goal

@@ -1,5 +1,5 @@
-use Rattle.body_read.proofs.Places.{BlocksSoFar}
+use Rattle.body_read.proofs.LimitSearch.{BlocksSoFar}
 use Rattle.body_read.proofs.limits.block_limit.Given as goal
 
-abbrev pub invariant-loop-place : goal.invariant-loop-place
-invariant-loop-place l = BlocksSoFar l.tokens l.place l.opened l.closed
+abbrev pub invariant-loop-index : goal.invariant-loop-index
+invariant-loop-index l = BlocksSoFar l.tokens l.index l.opened l.closed

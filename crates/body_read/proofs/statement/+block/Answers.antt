@@ -1,8 +1,8 @@
 use Rattle.std.proofs.Common.{◌<◌, ◌≤◌, length, sym, ◌∙◌, arith}
-use Rattle.grammar_core.specs.declared.sort.Sort.TheVariants as sort
-use Rattle.grammar_core.specs.Sorts.{is}
+use Rattle.grammar_core.specs.declared.terminal.Terminal.TheVariants as terminal
+use Rattle.grammar_core.specs.Terminals.{is}
 use Rattle.jdf_tree.specs.declared.part.Part.TheVariants.{Body}
-use Rattle.jdf_tree.specs.Pieces.{name}
+use Rattle.jdf_tree.specs.GrammarParts.{name}
 use Rattle.jdf_tree.specs.ExpressionGrammar.{outer}
 use Rattle.jdf_tree.specs.BodyGrammar.{statement}
 use Rattle.jdf_tree.proofs.Lists.{list_moves}
@@ -11,11 +11,11 @@ use Rattle.body_read.proofs.statement.+block.Goals as goal
 
 pub for_loop-block-requires : goal.for_loop-block-requires
 for_loop-block-requires t c =
-    let a = token_shrinks (is sort.For) c.args.tokens.now _ _ c.in_ok-rest.ensures in
+    let a = token_shrinks (is terminal.For) c.args.tokens.now _ _ c.in_ok-rest.ensures in
     let b = reading_shrinks (name Body) c.in_ok-rest.rest.now _ _ c.in_ok-name.ensures in
-    let d = token_shrinks (is sort.Assign) c.in_ok-name.rest.now _ _ c.in_ok-rest-2.ensures in
+    let d = token_shrinks (is terminal.Assign) c.in_ok-name.rest.now _ _ c.in_ok-rest-2.ensures in
     let e = reading_shrinks (outer Body) c.in_ok-rest-2.rest.now _ _ c.in_ok-low.ensures in
-    let f = token_shrinks (is sort.Dots) c.in_ok-low.rest.now _ _ c.in_ok-rest-3.ensures in
+    let f = token_shrinks (is terminal.Dots) c.in_ok-low.rest.now _ _ c.in_ok-rest-3.ensures in
     let g = reading_shrinks (outer Body) c.in_ok-rest-3.rest.now _ _ c.in_ok-high.ensures in
     (omega (arith, a, b, d, e, f, g), tt)
 

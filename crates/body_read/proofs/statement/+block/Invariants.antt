@@ -1,15 +1,15 @@
 use Rattle.std.proofs.Common.{◌≡◌, ℕ, ◌+◌, ◌*◌, ◌≤◌, length}
-use Rattle.grammar_core.specs.Form.{star}
+use Rattle.grammar_core.specs.Production.{star}
 use Rattle.grammar_core.specs.Reading.{reading}
 use Rattle.grammar_core.proofs.Loops.{so_far}
 use Rattle.jdf_tree.specs.BodyGrammar.{statement}
-use Rattle.jdf_tree.specs.Grammar.{inner}
-use Rattle.jdf_tree.specs.Pieces.{any}
+use Rattle.jdf_tree.specs.Grammar.{productions}
+use Rattle.jdf_tree.specs.GrammarParts.{any}
 use Rattle.jdf_tree.proofs.Lists.{rest_of}
 use Rattle.body_read.proofs.statement.+block.Given as goal
 
-abbrev pub decreases-block_behind : goal.decreases-block_behind
-decreases-block_behind l = 8 * length l.tokens.now + 5
+abbrev pub decreases-block_rest : goal.decreases-block_rest
+decreases-block_rest l = 8 * length l.tokens.now + 5
 
 abbrev pub decreases-statements : goal.decreases-statements
 decreases-statements l = 8 * length l.tokens.now + 4
@@ -31,7 +31,7 @@ decreases-block l = 8 * length l.tokens.now
 
 abbrev pub invariant-statements-more : goal.invariant-statements-more
 invariant-statements-more l = record {
-  reads : so_far l.list (rest_of statement l.rest) ≡ reading inner (star any statement) l.tokens;
+  reads : so_far l.list (rest_of statement l.rest) ≡ reading productions (star any statement) l.tokens;
   shorter : length l.rest ≤ length l.tokens;
 }
 

@@ -1,6 +1,6 @@
 use Rattle.std.proofs.Common.{◌≡◌, ℕ, ◌-◌, length, Ok, Err, inl, sym, ap, ◌∙◌}
 use Rattle.jdf_lex.specs.declared.fault.JdfFault.{JdfFault}
-use Rattle.jdf_lex.specs.declared.fault.JdfRefusal.TheVariants.{Fault}
+use Rattle.ptg_base.specs.declared.refusal.Refusal.TheVariants.{Fault}
 use Rattle.grammar_core.specs.declared.code.Code.{Code}
 use Rattle.jdf_tree.specs.Statements.{Statements}
 use Rattle.expr_read.specs.Front.{fault_at}
@@ -18,20 +18,20 @@ returns-in-Ok-clause-refused c p d h = absurd (no_fault c.args.tokens.now c.in-O
 
 pub returns-in-Err-Fault-clause-only : goal.returns-in-Err-Fault-clause-only
 returns-in-Err-Fault-clause-only c tree h =
-    absurd (no_tree c.args.tokens.now (c.in-Err-Fault.left, c.in-Err-Fault.code) tree (fault_is _ c.in-Err-Fault.field-0 _ _ c.in-Err-Fault.ensures c.in-Err-Fault.field-0-is) h)
+    absurd (no_tree c.args.tokens.now (c.in-Err-Fault.fault.left, c.in-Err-Fault.fault.code) tree (fault_is _ c.in-Err-Fault.field-0 _ _ c.in-Err-Fault.ensures c.in-Err-Fault.field-0-is) h)
 
 pub returns-in-Err-Fault-clause-fault : goal.returns-in-Err-Fault-clause-fault
 returns-in-Err-Fault-clause-fault c f is =
     let same : c.fault_at.result ≡ f = cc in (
-      length c.args.tokens.now - c.in-Err-Fault.left,
-      c.in-Err-Fault.code,
-      faulty c.args.tokens.now c.in-Err-Fault.left c.in-Err-Fault.code (fault_is _ c.in-Err-Fault.field-0 _ _ c.in-Err-Fault.ensures c.in-Err-Fault.field-0-is),
-      sym same ∙ (c.fault_at.ensures ∙ ap (λ (n : ℕ). fault_at c.args.tokens.now c.args.finish n c.in-Err-Fault.code) c.saturating_sub-place.ensures),
+      length c.args.tokens.now - c.in-Err-Fault.fault.left,
+      c.in-Err-Fault.fault.code,
+      faulty c.args.tokens.now c.in-Err-Fault.fault.left c.in-Err-Fault.fault.code (fault_is _ c.in-Err-Fault.field-0 _ _ c.in-Err-Fault.ensures c.in-Err-Fault.field-0-is),
+      sym same ∙ (c.fault_at.ensures ∙ ap (λ (n : ℕ). fault_at c.args.tokens.now c.args.finish n c.in-Err-Fault.fault.code) c.saturating_sub-index.ensures),
     )
 
 pub returns-in-Err-Fault-clause-refused : goal.returns-in-Err-Fault-clause-refused
 returns-in-Err-Fault-clause-refused c p d h =
-    let k = one_place c.args.tokens.now c.in-Err-Fault.left p c.in-Err-Fault.code d (fault_is _ c.in-Err-Fault.field-0 _ _ c.in-Err-Fault.ensures c.in-Err-Fault.field-0-is) h in
+    let k = one_place c.args.tokens.now c.in-Err-Fault.fault.left p c.in-Err-Fault.fault.code d (fault_is _ c.in-Err-Fault.field-0 _ _ c.in-Err-Fault.ensures c.in-Err-Fault.field-0-is) h in
     let same : c.fault_at.result ≡ fault_at c.args.tokens.now c.args.finish p d =
-    c.fault_at.ensures ∙ (ap (λ (n : ℕ). fault_at c.args.tokens.now c.args.finish n c.in-Err-Fault.code) (c.saturating_sub-place.ensures ∙ k.0) ∙ ap (λ (b : Code). fault_at c.args.tokens.now c.args.finish p b) k.1) in
+    c.fault_at.ensures ∙ (ap (λ (n : ℕ). fault_at c.args.tokens.now c.args.finish n c.in-Err-Fault.fault.code) (c.saturating_sub-index.ensures ∙ k.0) ∙ ap (λ (b : Code). fault_at c.args.tokens.now c.args.finish p b) k.1) in
     inl (ap (λ (f : JdfFault). Err (Fault f)) same)

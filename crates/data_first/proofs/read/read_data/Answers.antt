@@ -1,8 +1,8 @@
 use Rattle.std.proofs.Common.{◌≡◌, ℕ, ◌≤◌, ◌⊎◌, List, Result, Ok, Err, IfOk, refl, ap, inl, inr}
 use Rattle.std.proofs.lemmas.Result.{IfOk-weaker}
 use Rattle.data_first.specs.declared.fault.DataFault.{DataFault}
-use Rattle.data_first.specs.declared.fault.DataRefusal.{DataRefusal}
-use Rattle.data_first.specs.declared.fault.DataRefusal.TheVariants.{Fault, OutOfMemory}
+use Rattle.ptg_base.specs.declared.refusal.Refusal.{Refusal}
+use Rattle.ptg_base.specs.declared.refusal.Refusal.TheVariants.{Fault, OutOfMemory}
 use Rattle.data_first.specs.declared.given.Given.{Given}
 use Rattle.data_first.specs.Data.{IsData, not_built}
 use Rattle.data_first.specs.Reading.{HasNoData}
@@ -12,7 +12,7 @@ use Rattle.data_first.proofs.Wholes.{data_is_whole}
 use Rattle.data_first.proofs.read.read_data.Goals as goal
 
 -- What is found is the one data, and what is refused has none, so that data that there are are found.
-only_from : (text : List ℕ) (result : Result Given DataRefusal) → IfOk result (λ given. IsData text given)
+only_from : (text : List ℕ) (result : Result Given (Refusal DataFault)) → IfOk result (λ given. IsData text given)
     → ((fault : DataFault) → result ≡ Err (Fault fault) → (fault ≡ not_built) × HasNoData text)
     → (given : Given) → IsData text given → (result ≡ Ok given) ⊎ (result ≡ Err OutOfMemory)
 only_from text (Ok found) spelled refused given is = inl (ap (λ g. Ok g) (one_data text found given spelled is))

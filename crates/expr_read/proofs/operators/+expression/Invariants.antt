@@ -1,6 +1,6 @@
 use Rattle.std.proofs.Common.{◌≡◌, ℕ, ◌+◌, ◌*◌, ◌≤◌, length}
 use Rattle.grammar_core.specs.Reading.{reading}
-use Rattle.jdf_tree.specs.Grammar.{inner}
+use Rattle.jdf_tree.specs.Grammar.{productions}
 use Rattle.expr_read.specs.declared.rank.Rank.{Rank}
 use Rattle.expr_read.specs.declared.rank.Rank.TheVariants as rank
 use Rattle.expr_read.specs.Ranks.{of_rank}
@@ -47,7 +47,7 @@ decreases-index l = 16 * length l.tokens.now
 
 abbrev pub invariant-ranked-loop-operator : goal.invariant-ranked-loop-operator
 invariant-ranked-loop-operator l = record {
-  reads : joined l.spot l.left (tail l.part l.rank l.rest) ≡ reading inner (of_rank l.rank l.part) l.tokens;
+  reads : joined l.spot l.left (tail l.part l.rank l.rest) ≡ reading productions (of_rank l.rank l.part) l.tokens;
   shorter : length l.rest ≤ length l.tokens;
 }
 

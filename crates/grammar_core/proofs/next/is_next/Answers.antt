@@ -1,5 +1,5 @@
 use Rattle.std.proofs.Common.{ap, ◌∙◌}
-use Rattle.grammar_core.specs.Sorts.{is}
+use Rattle.grammar_core.specs.Terminals.{is}
 use Rattle.grammar_core.proofs.Same.{same_is}
 use Rattle.grammar_core.proofs.next.is_next.Goals as goal
 

@@ -1,5 +1,5 @@
 use Rattle.std.proofs.Common.{◌≡◌, length}
-use Rattle.grammar_core.specs.Form.{star}
+use Rattle.grammar_core.specs.Production.{star}
 use Rattle.grammar_core.specs.Reading.{reading}
 use Rattle.jdf_first.specs.Grammar.{inner, any, stmt}
 use Rattle.jdf_first.proofs.Loops.{many_of}

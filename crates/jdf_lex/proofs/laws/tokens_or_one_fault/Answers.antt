@@ -1,4 +1,4 @@
-use Rattle.jdf_lex.proofs.Either.{either, only_fault, not_both}
+use Rattle.jdf_lex.proofs.TokensOrFault.{either, only_fault, not_both}
 use Rattle.jdf_lex.proofs.laws.tokens_or_one_fault.Goals as goal
 
 pub returns : goal.returns

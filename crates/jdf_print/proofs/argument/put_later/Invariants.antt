@@ -1,6 +1,6 @@
 use Rattle.std.proofs.Common.{◌≡◌, ◌++◌, take}
 use Rattle.std.specs.List.{flat_map}
-use Rattle.jdf_print.specs.Pieces.{text, comma}
+use Rattle.jdf_print.specs.Fragments.{text, comma}
 use Rattle.jdf_print.specs.Spelling.{argument}
 use Rattle.jdf_print.proofs.argument.put_later.Given as goal
 

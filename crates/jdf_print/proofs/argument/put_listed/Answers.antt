@@ -1,5 +1,5 @@
 use Rattle.std.proofs.lemmas.Result.{IfOk-equal}
-use Rattle.jdf_print.specs.Pieces.{comma}
+use Rattle.jdf_print.specs.Fragments.{comma}
 use Rattle.jdf_print.specs.Spelling.{argument}
 use Rattle.jdf_print.proofs.Separated.{all_written}
 use Rattle.jdf_print.proofs.argument.put_listed.Goals as goal

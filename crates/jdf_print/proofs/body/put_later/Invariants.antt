@@ -1,6 +1,6 @@
 use Rattle.std.proofs.Common.{◌≡◌, ◌++◌, ◌∷◌, [], take}
 use Rattle.std.specs.List.{flat_map}
-use Rattle.jdf_print.specs.Pieces.{text, token, space}
+use Rattle.jdf_print.specs.Fragments.{text, token, space}
 use Rattle.jdf_print.proofs.body.put_later.Given as goal
 
 abbrev pub invariant-loop-t : goal.invariant-loop-t

@@ -4,7 +4,7 @@ use Rattle.std.proofs.lemmas.Result.{IfOk-equal}
 use Rattle.jdf_lex.specs.declared.token.Token.{Token}
 use Rattle.jdf_tree.specs.declared.tree.DefTree.{DefTree}
 use Rattle.jdf_tree.specs.declared.tree.FlowTree.{FlowTree}
-use Rattle.jdf_print.specs.Pieces.{text}
+use Rattle.jdf_print.specs.Fragments.{text}
 use Rattle.jdf_print.specs.Spelling.{head, definition, affinity, flow, priority, body}
 use Rattle.jdf_print.proofs.Lines.{class_written}
 use Rattle.jdf_print.proofs.class.put_class.Goals as goal

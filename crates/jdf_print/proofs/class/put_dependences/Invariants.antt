@@ -1,6 +1,6 @@
 use Rattle.std.proofs.Common.{◌≡◌, ◌++◌, take}
 use Rattle.std.specs.List.{flat_map}
-use Rattle.jdf_print.specs.Pieces.{text}
+use Rattle.jdf_print.specs.Fragments.{text}
 use Rattle.jdf_print.specs.Spelling.{dependence}
 use Rattle.jdf_print.proofs.class.put_dependences.Given as goal
 

@@ -1,6 +1,6 @@
 use Rattle.std.proofs.Common.{◌≡◌, ◌++◌, ◌∷◌, [], take}
 use Rattle.std.specs.List.{flat_map}
-use Rattle.jdf_print.specs.Pieces.{text, token, comma}
+use Rattle.jdf_print.specs.Fragments.{text, token, comma}
 use Rattle.jdf_print.proofs.class.put_later.Given as goal
 
 abbrev pub invariant-loop-name : goal.invariant-loop-name

@@ -2,7 +2,7 @@ use Rattle.std.proofs.Common.{ℕ, List, [], ◌∷◌, ◌++◌, ap, sym, ◌�
 use Rattle.std.proofs.lemmas.List.{append-nil}
 use Rattle.std.proofs.lemmas.Result.{IfOk-equal}
 use Rattle.jdf_tree.specs.declared.expression.Word.{Word}
-use Rattle.jdf_print.specs.Pieces.{token, comma}
+use Rattle.jdf_print.specs.Fragments.{token, comma}
 use Rattle.jdf_print.proofs.Separated.{all_written}
 use Rattle.jdf_print.proofs.class.put_parameters.Goals as goal
 

@@ -1,6 +1,6 @@
 use Rattle.std.proofs.Common.{◌≡◌, ◌++◌, take}
 use Rattle.std.specs.List.{flat_map}
-use Rattle.jdf_print.specs.Pieces.{text}
+use Rattle.jdf_print.specs.Fragments.{text}
 use Rattle.jdf_print.specs.Spelling.{class}
 use Rattle.jdf_print.proofs.printing.put_classes.Given as goal
 

@@ -2,13 +2,13 @@ use Rattle.std.proofs.Common.{◌≡◌, length}
 use Rattle.grammar_core.specs.Reading.{reading}
 use Rattle.grammar_core.proofs.Loops.{so_far}
 use Rattle.jdf_tree.specs.ClassGrammar.{arguments}
-use Rattle.jdf_tree.specs.Grammar.{inner}
+use Rattle.jdf_tree.specs.Grammar.{productions}
 use Rattle.jdf_read.specs.Next.{next_argument}
 use Rattle.jdf_tree.proofs.Lists.{rest_of}
 use Rattle.jdf_read.proofs.argument.arguments.Given as goal
 
 abbrev pub invariant-more : goal.invariant-more
-invariant-more l = so_far l.list (rest_of next_argument l.rest) ≡ reading inner arguments l.fn.tokens
+invariant-more l = so_far l.list (rest_of next_argument l.rest) ≡ reading productions arguments l.fn.tokens
 
 abbrev pub decreases-more : goal.decreases-more
 decreases-more l = length l.rest

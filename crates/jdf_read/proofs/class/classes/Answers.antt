@@ -2,7 +2,7 @@ use Rattle.std.proofs.Common.{◌≡◌, ◌<◌, ◌-◌, suc, length, true, sy
 use Rattle.grammar_core.specs.declared.code.Code.TheVariants.{TooManyClasses}
 use Rattle.grammar_core.specs.Reading.{starts}
 use Rattle.jdf_tree.specs.declared.part.Part.TheVariants.{Class}
-use Rattle.jdf_tree.specs.Pieces.{names}
+use Rattle.jdf_tree.specs.GrammarParts.{names}
 use Rattle.jdf_tree.specs.Grammar.{class_and_skips}
 use Rattle.jdf_tree.proofs.Lists.{list_moves, counted_goes_on, longer}
 use Rattle.jdf_read.proofs.Listed.{classes_listed}
@@ -21,6 +21,6 @@ more-preserved c =
     let one_more : length c.push-in-more.new.self - 1 ≡ suc (length c.more.list - 1) = omega (arith, up, some) in
     record {
       reads = counted_goes_on 63 TooManyClasses (length c.more.list - 1) (length c.push-in-more.new.self - 1) c.more.list c.more.rest.now c.in_ok-next.next c.in_ok-next.after.now _ c.push-in-more.new.self classes_listed added room one_more comes c.in_ok-next.ensures c.more.invariant.reads;
-      few = omega (arith, room, up);
+      at_most = omega (arith, room, up);
       some = omega (arith, up);
     }

@@ -2,14 +2,14 @@ use Rattle.std.proofs.Common.{◌≡◌, ◌-◌, ◌≤◌, length}
 use Rattle.grammar_core.specs.declared.code.Code.TheVariants.{TooManyClasses}
 use Rattle.grammar_core.specs.Reading.{reading}
 use Rattle.grammar_core.proofs.Loops.{so_far}
-use Rattle.jdf_tree.specs.Grammar.{inner, class_and_skips, classes}
+use Rattle.jdf_tree.specs.Grammar.{productions, class_and_skips, classes}
 use Rattle.jdf_tree.proofs.Lists.{counted}
 use Rattle.jdf_read.proofs.class.classes.Given as goal
 
 abbrev pub invariant-more : goal.invariant-more
 invariant-more l = record {
-  reads : so_far l.list (counted 63 TooManyClasses class_and_skips (length l.list - 1) l.rest) ≡ reading inner classes l.fn.tokens;
-  few : length l.list ≤ 64;
+  reads : so_far l.list (counted 63 TooManyClasses class_and_skips (length l.list - 1) l.rest) ≡ reading productions classes l.fn.tokens;
+  at_most : length l.list ≤ 64;
   some : 1 ≤ length l.list;
 }
 

@@ -1,6 +1,6 @@
 use Rattle.std.proofs.Common.{◌≡◌, length}
-use Rattle.grammar_core.specs.Form.{star}
-use Rattle.jdf_tree.specs.Pieces.{any}
+use Rattle.grammar_core.specs.Production.{star}
+use Rattle.jdf_tree.specs.GrammarParts.{any}
 use Rattle.jdf_tree.specs.Grammar.{skip}
 use Rattle.jdf_read.specs.Next.{past}
 use Rattle.jdf_read.proofs.Skips.{past_all}

@@ -18,5 +18,5 @@ more-preserved c =
     let up = longer c.more.list c.push.new.self c.in_ok-next.next added in
     record {
       reads = counted_goes_on 8 TooManyFlows (length c.more.list) (length c.push.new.self) c.more.list c.more.rest.now c.in_ok-next.next c.in_ok-next.after.now _ c.push.new.self flows_listed added room up comes c.in_ok-next.ensures c.more.invariant.reads;
-      few = omega (arith, room, up);
+      at_most = omega (arith, room, up);
     }

@@ -3,14 +3,14 @@ use Rattle.grammar_core.specs.declared.code.Code.TheVariants.{TooManyFlows}
 use Rattle.grammar_core.specs.Reading.{reading}
 use Rattle.grammar_core.proofs.Loops.{so_far}
 use Rattle.jdf_tree.specs.ClassGrammar.{flow, flows}
-use Rattle.jdf_tree.specs.Grammar.{inner}
+use Rattle.jdf_tree.specs.Grammar.{productions}
 use Rattle.jdf_tree.proofs.Lists.{counted}
 use Rattle.jdf_read.proofs.flow.flows.Given as goal
 
 abbrev pub invariant-more : goal.invariant-more
 invariant-more l = record {
-  reads : so_far l.list (counted 8 TooManyFlows flow (length l.list) l.rest) ≡ reading inner flows l.tokens;
-  few : length l.list ≤ 8;
+  reads : so_far l.list (counted 8 TooManyFlows flow (length l.list) l.rest) ≡ reading productions flows l.tokens;
+  at_most : length l.list ≤ 8;
 }
 
 abbrev pub decreases-more : goal.decreases-more

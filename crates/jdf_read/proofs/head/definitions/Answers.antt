@@ -2,7 +2,7 @@ use Rattle.std.proofs.Common.{◌≡◌, ◌<◌, length, true, sym, ◌∙◌, 
 use Rattle.grammar_core.specs.declared.code.Code.TheVariants.{TooManyLocals}
 use Rattle.grammar_core.specs.Reading.{starts}
 use Rattle.jdf_tree.specs.declared.part.Part.TheVariants.{Class}
-use Rattle.jdf_tree.specs.Pieces.{names}
+use Rattle.jdf_tree.specs.GrammarParts.{names}
 use Rattle.jdf_tree.specs.ClassGrammar.{definition}
 use Rattle.jdf_tree.proofs.Lists.{list_moves, counted_goes_on, longer}
 use Rattle.jdf_read.proofs.Listed.{definitions_listed}
@@ -19,5 +19,5 @@ more-preserved c =
     let up = longer c.more.list c.push.new.self c.in_ok-next.next added in
     record {
       reads = counted_goes_on 16 TooManyLocals (length c.more.list) (length c.push.new.self) c.more.list c.more.rest.now c.in_ok-next.next c.in_ok-next.after.now _ c.push.new.self definitions_listed added room up comes c.in_ok-next.ensures c.more.invariant.reads;
-      few = omega (arith, room, up);
+      at_most = omega (arith, room, up);
     }

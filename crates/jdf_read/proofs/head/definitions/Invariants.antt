@@ -3,14 +3,14 @@ use Rattle.grammar_core.specs.declared.code.Code.TheVariants.{TooManyLocals}
 use Rattle.grammar_core.specs.Reading.{reading}
 use Rattle.grammar_core.proofs.Loops.{so_far}
 use Rattle.jdf_tree.specs.ClassGrammar.{definition, definitions}
-use Rattle.jdf_tree.specs.Grammar.{inner}
+use Rattle.jdf_tree.specs.Grammar.{productions}
 use Rattle.jdf_tree.proofs.Lists.{counted}
 use Rattle.jdf_read.proofs.head.definitions.Given as goal
 
 abbrev pub invariant-more : goal.invariant-more
 invariant-more l = record {
-  reads : so_far l.list (counted 16 TooManyLocals definition (length l.list) l.rest) ≡ reading inner definitions l.tokens;
-  few : length l.list ≤ 16;
+  reads : so_far l.list (counted 16 TooManyLocals definition (length l.list) l.rest) ≡ reading productions definitions l.tokens;
+  at_most : length l.list ≤ 16;
 }
 
 abbrev pub decreases-more : goal.decreases-more

@@ -2,14 +2,14 @@ use Rattle.std.proofs.Common.{◌≡◌, length}
 use Rattle.grammar_core.specs.Reading.{reading}
 use Rattle.grammar_core.proofs.Loops.{so_far}
 use Rattle.jdf_tree.specs.declared.part.Part.TheVariants.{Class}
-use Rattle.jdf_tree.specs.Pieces.{name, listed}
-use Rattle.jdf_tree.specs.Grammar.{inner}
+use Rattle.jdf_tree.specs.GrammarParts.{name, listed}
+use Rattle.jdf_tree.specs.Grammar.{productions}
 use Rattle.jdf_read.specs.Next.{next_parameter}
 use Rattle.jdf_tree.proofs.Lists.{rest_of}
 use Rattle.jdf_read.proofs.head.names.Given as goal
 
 abbrev pub invariant-more : goal.invariant-more
-invariant-more l = so_far l.list (rest_of next_parameter l.rest) ≡ reading inner (listed (name Class)) l.fn.tokens
+invariant-more l = so_far l.list (rest_of next_parameter l.rest) ≡ reading productions (listed (name Class)) l.fn.tokens
 
 abbrev pub decreases-more : goal.decreases-more
 decreases-more l = length l.rest

@@ -1,5 +1,6 @@
-use Rattle.jdf_read.proofs.Once.{tree_or_fault}
+use Rattle.jdf_read.proofs.Either.{tree_or_fault}
+use Rattle.jdf_read.proofs.Once.{not_both}
 use Rattle.jdf_read.proofs.laws.tree_or_fault.Goals as goal
 
 pub returns : goal.returns
-returns c = tree_or_fault
+returns c = record { either = tree_or_fault; not_both = not_both }

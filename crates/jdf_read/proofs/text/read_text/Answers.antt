@@ -1,9 +1,10 @@
 use Rattle.std.proofs.Common.{subst}
 use Rattle.jdf_lex.specs.declared.fault.JdfFault.{JdfFault}
 use Rattle.grammar_core.specs.Reading.{whole}
-use Rattle.jdf_tree.specs.Grammar.{inner, file}
+use Rattle.jdf_tree.specs.Grammar.{productions, file}
 use Rattle.jdf_tree.specs.Fault.{IsJdfFault}
-use Rattle.jdf_read.proofs.File.{read_is, fails_is, fault_is_named, same_fault}
+use Rattle.grammar_core.proofs.Refusals.{fault_is}
+use Rattle.jdf_read.proofs.File.{read_is, fault_is_named, same_fault}
 use Rattle.jdf_read.proofs.text.read_text.Goals as goal
 
 pub returns-in-Ok-clause-found : goal.returns-in-Ok-clause-found
@@ -12,6 +13,6 @@ returns-in-Ok-clause-found c =
 
 pub returns-clause-fault : goal.returns-clause-fault
 returns-clause-fault c f e =
-    let stopped = fails_is c.in-Err-Fault.field-0 c.in-Err-Fault.left c.in-Err-Fault.code (whole inner file c.as_slice.result.now) c.in-Err-Fault.field-0-is c.in-Err-Fault.ensures in
-    let fault = fault_is_named c.args.text.now c.in_ok-lexed.lexed c.as_slice.result.now c.in-Err-Fault.left c.in-Err-Fault.code c.grammar_fault.result c.requires c.utf8.text c.in_ok-lexed.ensures.found c.as_slice.ensures stopped c.grammar_fault.ensures.at_token c.grammar_fault.ensures.at_end in
+    let stopped = fault_is (whole productions file c.as_slice.result.now) c.in-Err-Fault.field-0 c.in-Err-Fault.fault.left c.in-Err-Fault.fault.code c.in-Err-Fault.ensures c.in-Err-Fault.field-0-is in
+    let fault = fault_is_named c.args.text.now c.in_ok-lexed.lexed c.as_slice.result.now c.in-Err-Fault.fault.left c.in-Err-Fault.fault.code c.grammar_fault.result c.requires c.utf8.text c.in_ok-lexed.ensures.found c.as_slice.ensures stopped c.grammar_fault.ensures.at_token c.grammar_fault.ensures.at_end in
     subst (λ (g : JdfFault). IsJdfFault c.args.text.now g) (same_fault c.grammar_fault.result f e) fault

@@ -1,13 +1,13 @@
 use Rattle.std.proofs.Common.{◌≡◌, ◌-◌, ◌≤◌, List, ℕ, vec_len}
-use Rattle.ptg_io.specs.Load.{IsSoFar}
+use Rattle.ptg_io.specs.Load.{IsReadSoFar}
 use Rattle.ptg_io.proofs.loading.read_all.Given as goal
 
 abbrev pub invariant-pieces : goal.invariant-pieces
 invariant-pieces g l = record {
-  stays : g.F.Files.told l.files ≡ g.F.Files.told l.initial.files;
+  stays : g.F.Files.contents l.files ≡ g.F.Files.contents l.initial.files;
   grows : (other : List ℕ) → g.F.Files.faults l.initial.files other ≤ g.F.Files.faults l.files other;
   bounded : vec_len l.bytes ≤ 16777216;
-  so_far : IsSoFar (g.F.Files.told l.files) l.name l.bytes.items;
+  so_far : IsReadSoFar (g.F.Files.contents l.files) l.name l.bytes.items;
 }
 
 abbrev pub decreases-pieces : goal.decreases-pieces

@@ -4,16 +4,16 @@ use Rattle.ptg_io.proofs.Pieces.{whole_at_end, more_so_far}
 use Rattle.ptg_io.proofs.loading.read_on.Goals as goal
 
 pub returns-then-n-eq0-clause-end : goal.returns-then-n-eq0-clause-end
-returns-then-n-eq0-clause-end g c _ files told =
-    let p = c.in_ok-n.ensures.given files told in
-    let so_far = c.requires.so_far files p.0 told p.1 in
+returns-then-n-eq0-clause-end g c _ files contents =
+    let p = c.in_ok-n.ensures.given files contents in
+    let so_far = c.requires.so_far files p.0 contents p.1 in
     let end : length p.0 ≤ c.len.result = p.2.end c.if-n-eq0.true in
     let whole = whole_at_end _ p.0 so_far (omega (arith, end, c.args.bytes.now.ok.0)) in
     rw whole p.1
 
 pub returns-clause-still : goal.returns-clause-still
-returns-clause-still g c files file told is =
-    let told_before = sym c.in_ok-n.ensures.stays ∙ told in
+returns-clause-still g c files file contents is =
+    let told_before = sym c.in_ok-n.ensures.stays ∙ contents in
     let p = c.in_ok-n.ensures.given files told_before in
     let same : p.0 ≡ file = cc in
     let so_far = c.requires.so_far files file told_before is in

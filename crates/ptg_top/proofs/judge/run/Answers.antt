@@ -13,5 +13,5 @@ returns-clause-said g c =
     let mid = g.F.Files.faults c.tree_of.new.files in
     let new = g.F.Files.faults c.with_tree.new.files in
     let Said : Option Entries → Type 0 = λ t. Says (Reports t mid new c.args.jdf.now c.args.tiles.now) c.with_tree.result in
-    result_since (g.F.Files.told c.args.files.now) (g.F.Files.faults c.args.files.now) mid new c.args.jdf.now c.args.tiles.now c.with_tree.result
+    result_since (g.F.Files.contents c.args.files.now) (g.F.Files.faults c.args.files.now) mid new c.args.jdf.now c.args.tiles.now c.with_tree.result
     c.in_ok-tree.ensures.grows (subst Said same said)

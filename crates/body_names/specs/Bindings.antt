@@ -1,0 +1,63 @@
+-- What names are bound to between two tokens of a body: which variables are seen, and what has been numbered so far.
+use Rattle.std.specs.Prelude.{ℕ, ◌+◌, Bool, List, [], ◌∷◌, ◌++◌, length, take, drop, Option, Some, None, position, if◌then◌else◌, nat_lt, Ok}
+use Rattle.std.specs.Str.{bytes_eq}
+use Rattle.name_table.specs.Names.{index_named}
+use Rattle.std.specs.List.{list_any}
+use Rattle.jdf_lex.specs.declared.fault.JdfCode.TheVariants.{NameTwice, TooManyVars}
+use Rattle.jdf_tree.specs.declared.expression.Word.{Word}
+use Rattle.body_names.specs.declared.variable.BindingTable.{BindingTable}
+use Rattle.body_names.specs.declared.variable.Variable.{Variable}
+use Rattle.body_names.specs.declared.scope.Scope.{Scope}
+use Rattle.body_names.specs.Expressions.{Resolved, fault_at}
+
+pub record Bindings : Type 0 where
+  -- the variables that are seen, in the order of their declarations
+  pub seen : List Variable
+  -- how many of these are of blocks around the innermost one
+  pub outside : ℕ
+  -- how many variables the body has declared so far
+  pub declared : ℕ
+  -- the trap words so far, in the order of their first use
+  pub words : List (List ℕ)
+
+-- before a body
+abbrev pub no_bindings : Bindings
+no_bindings = record { seen = []; outside = 0; declared = 0; words = [] }
+
+-- the bindings of a table of the code
+abbrev pub bindings_of : BindingTable → Bindings
+bindings_of names = record { seen = names.seen.items; outside = names.outside; declared = names.declared; words = names.words }
+
+-- inside of a block that opens here
+abbrev pub block_opened : Bindings → Bindings
+block_opened k = record k { outside = length k.seen }
+
+-- after a block, by the bindings before it: its variables are no longer seen
+abbrev pub block_closed : Bindings → Bindings → Bindings
+block_closed before inside = record inside { seen = take (length before.seen) inside.seen; outside = before.outside }
+
+-- the slot of the next variable: the locals of the class have the first ones
+abbrev pub next_slot : Scope → Bindings → ℕ
+next_slot scope k = length scope.locals + k.declared
+
+-- after the declaration of a variable, which may be that of a loop
+abbrev pub with_variable : Scope → List ℕ → Bool → Bindings → Bindings
+with_variable scope name is_loop_variable k =
+    record k { seen = k.seen ++ record { name = name; slot = next_slot scope k; is_loop_variable = is_loop_variable } ∷ []; declared = k.declared + 1 }
+
+-- there is room for one more variable
+abbrev pub room_for : Word → Bindings → Resolved (Unit {0})
+room_for w k = if nat_lt k.declared 256 then Ok tt else fault_at w TooManyVars
+
+-- the innermost block has no variable of this name
+abbrev pub fresh_in : Word → Bindings → Resolved (Unit {0})
+fresh_in w k = if list_any (λ (v : Variable). bytes_eq v.name w.text) (drop k.outside k.seen) then fault_at w NameTwice else Ok tt
+
+-- the number of a trap word: its number among the words so far, or the next one
+abbrev pub numbered : List ℕ → Bindings → Option ℕ → ℕ × Bindings
+numbered name k (Some n) = (n, k)
+numbered name k None = (length k.words, record k { words = k.words ++ name ∷ [] })
+
+-- the number of a trap word
+abbrev pub word_number : List ℕ → Bindings → ℕ × Bindings
+word_number name k = numbered name k (index_named k.words name)

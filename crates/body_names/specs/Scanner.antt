@@ -1,0 +1,7 @@
+-- A scanner of the code as what is known at a token.
+use Rattle.body_names.specs.declared.variable.Scanner.{Scanner}
+use Rattle.body_names.specs.Bindings.{bindings_of}
+use Rattle.body_names.specs.TokenScan.{TokenScan}
+
+abbrev pub scan_of : Scanner → TokenScan
+scan_of scanner = record { bindings = bindings_of scanner.bindings; open_blocks = scanner.open_blocks.items; naming = scanner.naming; previous = scanner.previous }

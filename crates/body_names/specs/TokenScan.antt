@@ -1,0 +1,125 @@
+-- The names at the front of a body that is broken further on. Such a body has no tree, so each name is judged by the tokens beside it.
+use Rattle.std.specs.Prelude.{ℕ, suc, zero, ◌-◌, Bool, true, false, ◌||◌, List, [], ◌∷◌, ◌++◌, length, take, Option, Some, None, Ok, if◌then◌else◌, slice_get}
+use Rattle.jdf_lex.specs.declared.token.Token.{Token}
+use Rattle.grammar_core.specs.declared.terminal.Terminal.{Terminal}
+use Rattle.grammar_core.specs.declared.terminal.Terminal.TheVariants as terminal
+use Rattle.grammar_core.specs.Reading.{starts}
+use Rattle.grammar_core.specs.Terminals.{terminal_of, is}
+use Rattle.term_core.specs.Value.{and_then}
+use Rattle.jdf_tree.specs.declared.expression.Word.{Word}
+use Rattle.jdf_tree.specs.declared.part.Part.TheVariants.{Body}
+use Rattle.jdf_tree.specs.GrammarParts.{names, word_of}
+use Rattle.body_names.specs.declared.role.Role.{Role}
+use Rattle.body_names.specs.declared.role.Role.TheVariants as role
+use Rattle.body_names.specs.declared.scope.Scope.{Scope}
+use Rattle.body_names.specs.Meanings.{meaning_of}
+use Rattle.body_names.specs.Expressions.{Resolved, value_of, slot_of, read_flow, written_flow}
+use Rattle.body_names.specs.Bindings.{Bindings, no_bindings, block_opened, fresh_in}
+
+-- what is known at a token of a body
+pub record TokenScan : Type 0 where
+  pub bindings : Bindings
+  -- for each block that is open, the innermost last, how many variables were seen before it, and how many of these were of blocks around
+  pub open_blocks : List (ℕ × ℕ)
+  -- the variable whose declaration has begun
+  pub naming : Option (List ℕ)
+  -- the token before
+  pub previous : Option Terminal
+
+-- at the first token
+abbrev pub at_first : TokenScan
+at_first = record { bindings = no_bindings; open_blocks = []; naming = None; previous = None }
+
+-- ---- what is known after a token
+
+-- a variable is seen from here on; its slot does not matter
+abbrev pub with_seen : List ℕ → Bool → Bindings → Bindings
+with_seen name is_loop_variable k = record k { seen = k.seen ++ record { name = name; slot = 0; is_loop_variable = is_loop_variable } ∷ [] }
+
+-- the declaration that has begun takes effect
+abbrev pub declared_by : Option (List ℕ) → Bool → TokenScan → TokenScan
+declared_by None is_loop_variable st = st
+declared_by (Some name) is_loop_variable st = record st { bindings = with_seen name is_loop_variable st.bindings; naming = None }
+
+abbrev pub declared : Bool → TokenScan → TokenScan
+declared is_loop_variable st = declared_by st.naming is_loop_variable st
+
+-- a block opens
+abbrev pub block_entered : TokenScan → TokenScan
+block_entered st = record st { bindings = block_opened st.bindings; open_blocks = st.open_blocks ++ (length st.bindings.seen, st.bindings.outside) ∷ [] }
+
+-- the innermost block closes: as many variables are seen as before it
+abbrev pub block_left_by : Option (ℕ × ℕ) → TokenScan → TokenScan
+block_left_by None st = st
+block_left_by (Some n) st =
+    record st {
+      bindings = record st.bindings { seen = take n.0 st.bindings.seen; outside = n.1 };
+      open_blocks = take (length st.open_blocks - 1) st.open_blocks;
+    }
+
+abbrev pub block_left : TokenScan → TokenScan
+block_left st = block_left_by (slice_get st.open_blocks (length st.open_blocks - 1)) st
+
+-- is this the token before
+abbrev pub previous_is : Terminal → Option Terminal → Bool
+previous_is k None = false
+previous_is k (Some j) = is k j
+
+-- a name begins a declaration after `int` and after `for`
+abbrev pub named_by : List ℕ → TokenScan → TokenScan
+named_by name st = if previous_is terminal.Int st.previous || previous_is terminal.For st.previous then record st { naming = Some name } else st
+
+-- a variable is seen after the `;` of its declaration, and that of a loop in the loop's block
+abbrev pub after_terminal : Terminal → List ℕ → TokenScan → TokenScan
+after_terminal terminal.Semicolon text st = declared false st
+after_terminal terminal.LeftBrace text st = declared true (block_entered st)
+after_terminal terminal.RightBrace text st = block_left st
+after_terminal terminal.Name text st = named_by text st
+after_terminal terminal.TypeWord text st = named_by text st
+after_terminal _ text st = st
+
+abbrev pub after_token : Token → TokenScan → TokenScan
+after_token x st = record (after_terminal (terminal_of x) x.text st) { previous = Some (terminal_of x) }
+
+-- ---- the role of a name
+
+-- a statement begins at the first token, and after a semicolon and a brace
+abbrev pub begins_here : Option Terminal → Bool
+begins_here None = true
+begins_here (Some k) = is terminal.Semicolon k || is terminal.LeftBrace k || is terminal.RightBrace k
+
+-- by the token before, and the tokens after
+abbrev pub role_of : Option Terminal → List Token → Role
+role_of last s =
+    if previous_is terminal.Int last then role.Declared
+    else (if previous_is terminal.For last || previous_is terminal.Trap last then role.Free
+    else (if begins_here last
+    then (if starts (is terminal.LeftBracket) s then role.ElementAssigned else (if starts (is terminal.Assign) s then role.Assigned else role.Free))
+    else (if starts (is terminal.LeftBracket) s then role.Element else role.Value)))
+
+-- a fault, if there is one
+abbrev pub fault_of : {A : Type 0} → Resolved A → Resolved (Unit {0})
+fault_of r = and_then r (λ _. Ok tt)
+
+abbrev pub judged_as : Role → Scope → Bindings → Word → Resolved (Unit {0})
+judged_as role.Declared scope k w = fresh_in w k
+judged_as role.Free scope k w = Ok tt
+judged_as role.Assigned scope k w = fault_of (slot_of w (meaning_of scope k.seen w.text))
+judged_as role.ElementAssigned scope k w = fault_of (written_flow scope w)
+judged_as role.Element scope k w = fault_of (read_flow scope w)
+judged_as role.Value scope k w = fault_of (value_of w (meaning_of scope k.seen w.text))
+
+-- the first of the tokens, where it is a name
+abbrev pub judged : Scope → TokenScan → List Token → Resolved (Unit {0})
+judged scope st [] = Ok tt
+judged scope st (x ∷ s) = if names Body (terminal_of x) then judged_as (role_of st.previous s) scope st.bindings (word_of x) else Ok tt
+
+-- the first fault of the names among so many tokens from here on
+abbrev pub judged_among : Scope → TokenScan → ℕ → List Token → Resolved (Unit {0})
+judged_among scope st zero s = Ok tt
+judged_among scope st (suc n) [] = Ok tt
+judged_among scope st (suc n) (x ∷ s) = and_then (judged scope st (x ∷ s)) (λ _. judged_among scope (after_token x st) n s)
+
+-- the first fault of the names among the first n tokens of a body
+abbrev pub front_fault : Scope → List Token → ℕ → Resolved (Unit {0})
+front_fault scope tokens n = judged_among scope at_first n tokens

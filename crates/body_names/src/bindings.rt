@@ -1,0 +1,142 @@
+//! What the names of a body are bound to, between two of its tokens.
+
+ghost use Rattle.std.specs.Prelude.{◌≡◌, ◌<◌, length, take, OnOk, IfOk, drop};
+ghost use Rattle.std.specs.List.{list_any};
+ghost use Rattle.std.specs.Str.{bytes_eq};
+ghost use Rattle.body_names.specs.Returns.{Returns};
+ghost use Rattle.body_names.specs.Bindings.{bindings_of, no_bindings, next_slot, with_variable, room_for, fresh_in, word_number};
+
+use crate::flow::fault_at;
+use crate::scope::{Context, Scope};
+use crate::variable::{BindingTable, Variable};
+use jdf_lex::{JdfCode, JdfRefusal};
+use jdf_tree::Word;
+use name_table::NameSet;
+use ptg_base::{OutOfMemory, Text};
+use std::alloc::Global;
+
+// How many variables a body may declare.
+const MOST_VARIABLES: u16 = 256;
+
+impl BindingTable {
+    /// Before a body nothing is bound.
+    pub(crate) fn new(alloc: Global) -> BindingTable
+        ensures { bindings_of result ≡ no_bindings }
+    {
+        BindingTable {
+            seen: Vec::new(alloc),
+            outside: 0,
+            declared: 0,
+            words: NameSet::new(alloc),
+        }
+    }
+}
+
+/// Is there room for one more variable? If not, that is a fault of its name.
+pub(crate) fn room_for(word: &Word, bindings: &BindingTable) -> Result<(), JdfRefusal>
+    ensures room { OnOk result (bindings.now.declared < 256) }
+    ensures answer { Returns (λ _. tt) result (room_for word.now (bindings_of bindings.now)) }
+{
+    if bindings.declared < MOST_VARIABLES {
+        Ok(())
+    } else {
+        Err(fault_at(word, JdfCode::TooManyVars))
+    }
+}
+
+// The variables of the innermost block.
+#[tactic(auto, using(std::proofs::lemmas::List::drop_all))]
+fn innermost(bindings: &BindingTable) -> &[Variable]
+    ensures { result.now ≡ drop bindings.now.outside bindings.now.seen.items }
+{
+    let seen = bindings.seen.as_slice();
+    if bindings.outside <= seen.len() {
+        &seen[bindings.outside..]
+    } else {
+        &[]
+    }
+}
+
+// Has one of the variables this name?
+fn is_named(variables: &[Variable], name: &[u8]) -> bool
+    ensures { result ≡ list_any (λ v. bytes_eq v.name name.now) variables.now }
+{
+    variables
+        .iter()
+        .any(|variable| variable.name.bytes() == name)
+}
+
+/// Is the name new in the innermost block? If not, that is a fault of it.
+pub(crate) fn fresh_in(word: &Word, bindings: &BindingTable) -> Result<(), JdfRefusal>
+    ensures { Returns (λ _. tt) result (fresh_in word.now (bindings_of bindings.now)) }
+{
+    if is_named(innermost(bindings), word.text.bytes()) {
+        Err(fault_at(word, JdfCode::NameTwice))
+    } else {
+        Ok(())
+    }
+}
+
+/// The slot of the next variable.
+pub(crate) fn next_slot(scope: &Scope, bindings: &BindingTable) -> u16
+    requires { bindings.now.declared < 256 }
+    ensures { result ≡ next_slot scope.now (bindings_of bindings.now) }
+{
+    scope.locals.len() as u16 + bindings.declared
+}
+
+/// Declares a variable, for which there is room.
+pub(crate) fn add_variable(
+    context: &Context,
+    bindings: &mut BindingTable,
+    word: &Word,
+    is_loop_variable: bool,
+) -> Result<(), OutOfMemory>
+    requires { bindings.old.declared < 256 }
+    ensures { OnOk result (bindings_of bindings.new ≡ with_variable context.now.scope.now word.now.text is_loop_variable (bindings_of bindings.old)) }
+{
+    let slot = next_slot(context.scope, bindings);
+    let name = Text::of(context.alloc, word.text.bytes())?;
+    bindings.seen.push(Variable {
+        name,
+        slot,
+        is_loop_variable,
+    })?;
+    bindings.declared += 1;
+    Ok(())
+}
+
+/// Closes a block, before which so many variables were seen, so many of them of blocks around.
+pub(crate) fn close(bindings: &mut BindingTable, seen: usize, outside: usize)
+    ensures { bindings_of bindings.new ≡ record (bindings_of bindings.old) { seen = take seen bindings.old.seen.items; outside = outside } }
+{
+    bindings.seen.truncate(seen);
+    bindings.outside = outside;
+}
+
+// A number of 32 bits.
+fn as_u32(number: usize) -> Result<u32, OutOfMemory>
+    ensures { IfOk result (λ n. n ≡ number) }
+{
+    if number > u32::MAX as usize {
+        return Err(OutOfMemory);
+    }
+    Ok(number as u32)
+}
+
+/// The number of a trap word, which may be the next one.
+pub(crate) fn word_number(
+    alloc: Global,
+    bindings: &mut BindingTable,
+    word: &Word,
+) -> Result<u32, OutOfMemory>
+    ensures { IfOk result (λ n. word_number word.now.text (bindings_of bindings.old) ≡ (n, bindings_of bindings.new)) }
+{
+    if let Some(number) = bindings.words.index_of(&word.text) {
+        return as_u32(number);
+    }
+    let number = as_u32(bindings.words.len())?;
+    let text = Text::of(alloc, word.text.bytes())?;
+    bindings.words.add(text)?;
+    Ok(number)
+}

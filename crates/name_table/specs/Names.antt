@@ -1,0 +1,17 @@
+-- What a table and a set say of a name.
+use Rattle.std.specs.Prelude.{ℕ, Bool, List, Option, position}
+use Rattle.std.specs.Str.{bytes_eq}
+use Rattle.std.specs.List.{list_any}
+use Rattle.std.specs.Map.{lookup}
+
+-- the value of the name, where the table has it
+abbrev pub value_named : {V : Type 0} → List (List ℕ × V) → List ℕ → Option V
+value_named table name = lookup (bytes_eq name) table
+
+-- whether the name is one of these
+abbrev pub has_name : List (List ℕ) → List ℕ → Bool
+has_name names name = list_any (λ (n : List ℕ). bytes_eq n name) names
+
+-- the number of the name among these, counted from 0
+abbrev pub index_named : List (List ℕ) → List ℕ → Option ℕ
+index_named names name = position (λ (n : List ℕ). bytes_eq n name) names

@@ -1,0 +1,10 @@
+//! Names, looked up by key: a table of the values of names, and a set of names.
+#![tactic(auto)]
+
+mod set;
+mod table;
+#[cfg(test)]
+mod tests;
+
+pub use set::NameSet;
+pub use table::NameTable;

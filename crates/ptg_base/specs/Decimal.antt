@@ -1,0 +1,17 @@
+-- Numbers in decimal digits.
+use Rattle.std.specs.Prelude.{ℕ, ◌+◌, ◌-◌, ◌*◌, ◌^◌, nat_le, Bool, false, ◌&&◌, List, [], ◌∷◌, length}
+use Rattle.std.specs.List.{list_all}
+
+-- `0` to `9`
+abbrev pub is_digit : ℕ → Bool
+is_digit b = nat_le 48 b && nat_le b 57
+
+-- the number of these digits: each digit counts ten times what the next one does
+abbrev pub decimal : List ℕ → ℕ
+decimal [] = 0
+decimal (b ∷ bs) = (b - 48) * 10 ^ length bs + decimal bs
+
+-- one or more digits and nothing else, and a number that is at most the first one
+unfoldable pub is_decimal : ℕ → List ℕ → Bool
+is_decimal most [] = false
+is_decimal most (b ∷ bs) = list_all is_digit (b ∷ bs) && nat_le (decimal (b ∷ bs)) most

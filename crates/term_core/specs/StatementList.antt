@@ -1,0 +1,26 @@
+-- The statements of a block, as a tree: none, or a statement and those after it. Source: the language of bodies is this project's own choice.
+use Rattle.std.specs.Prelude.{ℕ, ◌+◌}
+use Rattle.term_core.specs.Term.{Term}
+
+pub data StatementList : Type 0 where
+  -- nothing
+  Done : StatementList
+  -- `x = e;` for the variable of this number, and the rest
+  SetThen : ℕ → Term → StatementList → StatementList
+  -- `A[e1] = e2;` for the flow of this number, and the rest
+  PutThen : ℕ → Term → Term → StatementList → StatementList
+  -- the second block where the condition is not 0, else the third, and the rest
+  IfThen : Term → StatementList → StatementList → StatementList → StatementList
+  -- the block for each value from the first to the second of the variable of this number, and the rest
+  ForThen : ℕ → Term → Term → StatementList → StatementList → StatementList
+  -- `trap w;` with the word of this number, and the rest
+  TrapThen : ℕ → StatementList → StatementList
+
+-- the number of statements in a block, those of nested blocks included
+abbrev pub statement_count : StatementList → ℕ
+statement_count Done = 0
+statement_count (SetThen n e rest) = statement_count rest + 1
+statement_count (PutThen flow at e rest) = statement_count rest + 1
+statement_count (IfThen c first second rest) = statement_count first + statement_count second + statement_count rest + 1
+statement_count (ForThen n lo hi turn rest) = statement_count turn + statement_count rest + 1
+statement_count (TrapThen w rest) = statement_count rest + 1
