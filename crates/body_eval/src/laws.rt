@@ -1,3 +1,5 @@
+//! A law of running a body.
+
 ghost use Rattle.std.specs.Prelude.{ℕ, ℤ, List, Option};
 ghost use Rattle.term_core.specs.declared.body.Body.{Body};
 ghost use Rattle.body_eval.specs.MoreUnits.{DoesTheSame};

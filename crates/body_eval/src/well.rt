@@ -1,3 +1,5 @@
+//! Whether a body may be run: the condition of `run_body`.
+
 ghost use Rattle.std.specs.Prelude.{◌≡◌, ◌↔◌, IsTrue};
 ghost use Rattle.term_core.specs.NodeTerm.{term_of};
 ghost use Rattle.term_core.specs.Value.{is_closed_with};

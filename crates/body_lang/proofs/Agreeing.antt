@@ -3,12 +3,12 @@ use Rattle.std.proofs.Common.{◌≡◌, ℕ, ◌+◌, ◌-◌, ◌<◌, ◌≤�
 use Rattle.std.specs.Prelude.{Option, Some, None, slice_get}
 use Rattle.std.proofs.lemmas.List.{length-append, take_at}
 use Rattle.std.proofs.lemmas.Bool.{lt-ltb}
-use Rattle.jdf_lex.specs.declared.token.Token.{Token}
-use Rattle.grammar_core.specs.declared.terminal.Terminal.{Terminal}
-use Rattle.grammar_core.specs.declared.terminal.Terminal.TheVariants as terminal
+use Rattle.grammar_core.specs.declared.token.Token.{Token}
+use Rattle.jdf_alphabet.specs.declared.terminal.Terminal.{Terminal}
+use Rattle.jdf_alphabet.specs.declared.terminal.Terminal.TheVariants as terminal
 use Rattle.grammar_core.specs.Production.{seq, opt, Fault, Language, Derives}
-use Rattle.grammar_core.specs.Reading.{starts}
-use Rattle.grammar_core.specs.Terminals.{terminal_of, is}
+use Rattle.jdf_alphabet.specs.Sets.{starts}
+use Rattle.jdf_alphabet.specs.Terminals.{terminal_of, is}
 use Rattle.term_core.specs.Value.{and_then}
 use Rattle.jdf_tree.specs.declared.body.StmtTree.{StmtTree}
 use Rattle.jdf_tree.specs.declared.body.StmtTree.TheVariants as stmt

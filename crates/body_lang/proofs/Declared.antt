@@ -5,14 +5,15 @@ use Rattle.std.proofs.lemmas.Bool.{ltb-false}
 use Rattle.std.proofs.lemmas.Bool.Decides.{nat_tests}
 use Rattle.std.proofs.lemmas.List.{append-nil}
 use Rattle.std.proofs.lemmas.List.Sums.{sum_by-cons, sum_by_push}
-use Rattle.jdf_lex.specs.declared.token.Token.{Token}
-use Rattle.grammar_core.specs.declared.terminal.Terminal.{Terminal}
-use Rattle.grammar_core.specs.declared.terminal.Terminal.TheVariants as terminal
+use Rattle.grammar_core.specs.declared.token.Token.{Token}
+use Rattle.jdf_alphabet.specs.declared.terminal.Terminal.{Terminal}
+use Rattle.jdf_alphabet.specs.declared.terminal.Terminal.TheVariants as terminal
 use Rattle.grammar_core.specs.declared.code.Code.{Code}
-use Rattle.grammar_core.specs.declared.code.Code.TheVariants.{TooManyVars}
-use Rattle.grammar_core.specs.Production.{one_of, valued, seq, map, alt, opt, star, pick, after_token, limited, Fault, Language, Many, Derives, DerivedWithin, Derived, IsText, cut_at, taken}
+use Rattle.jdf_alphabet.specs.Codes.{TooManyVars}
+use Rattle.grammar_core.specs.Production.{seq, map, alt, opt, star, limited, Fault, Language, Many, Derives, DerivedWithin, Derived, IsText, cut_at, taken, one_of, valued, pick, after_token}
 use Rattle.grammar_core.specs.LimitBy.{index_by}
-use Rattle.grammar_core.specs.Terminals.{terminal_of, is}
+use Rattle.jdf_alphabet.specs.Terminals.{terminal_of, is, set}
+use Rattle.jdf_alphabet.specs.Sets as sets
 use Rattle.jdf_tree.specs.declared.body.StmtTree.{StmtTree}
 use Rattle.jdf_tree.specs.declared.body.StmtTree.TheVariants as stmt
 use Rattle.jdf_tree.specs.declared.expression.ExprWithSpot.{ExprWithSpot}
@@ -78,7 +79,7 @@ of_name a_block t = declarations t
 abbrev Spends : {A : Type 0} → Language A → (A → ℕ) → Type 0
 Spends {A = A} G f = (s : List Token) (t : A) (o : Fault) (r : List Token) → G s t o r → f t + remaining r ≤ remaining s
 
-one_spends : (q : Terminal → Bool) (s : List Token) (x : Token) (r : List Token) → s ≡ x ∷ r → remaining r ≤ remaining s
+one_spends : (q : ℕ → Bool) (s : List Token) (x : Token) (r : List Token) → s ≡ x ∷ r → remaining r ≤ remaining s
 one_spends q s x r e = let k = remaining_cons x r in omega (arith, k, ap remaining e)
 
 module _ (R : (n : Nonterminal) → Language (TreeOf n)) (H : (n : Nonterminal) → Spends (R n) (of_name n)) where
@@ -148,10 +149,10 @@ module _ (R : (n : Nonterminal) → Language (TreeOf n)) (H : (n : Nonterminal) 
 
   block_spends : Spends (Derives R block) declarations
   unfolding block
-  block_spends = mapped (λ x. x.1) (after_token (is terminal.LeftBrace) a_block) (λ x. declarations x.1) declarations one (λ a. omega arith)
+  block_spends = mapped (λ x. x.1) (sets.after_token (is terminal.LeftBrace) a_block) (λ x. declarations x.1) declarations one (λ a. omega arith)
     where
-      one : Spends (Derives R (after_token (is terminal.LeftBrace) a_block)) (λ x. declarations x.1)
-      one s t o r h = let a = one_spends (is terminal.LeftBrace) s t.0 h.0 h.2.0 in let b = H a_block h.0 t.1 h.1 r h.3 in omega (arith, a, b)
+      one : Spends (Derives R (sets.after_token (is terminal.LeftBrace) a_block)) (λ x. declarations x.1)
+      one s t o r h = let a = one_spends (set (is terminal.LeftBrace)) s t.0 h.0 h.2.0 in let b = H a_block h.0 t.1 h.1 r h.3 in omega (arith, a, b)
 
   declaration_spends : Spends (Derives R declaration) declared
   unfolding declaration

@@ -1,6 +1,6 @@
 -- The names at the front of a text have the fault of the whole text or none, whatever follows the next token.
 use Rattle.std.proofs.Common.{◌≡◌, ℕ, zero, suc, ◌<◌, List, [], ◌∷◌, ◌++◌, length, Ok, Err, ◌⊎◌, inl, inr, refl, ap, arith}
-use Rattle.jdf_lex.specs.declared.token.Token.{Token}
+use Rattle.grammar_core.specs.declared.token.Token.{Token}
 use Rattle.term_core.specs.Value.{and_then}
 use Rattle.body_names.specs.declared.scope.Scope.{Scope}
 use Rattle.body_names.specs.Expressions.{Resolved}

@@ -1,14 +1,14 @@
 -- The names of an expression, judged by their tokens, have the fault of its tree.
 use Rattle.std.proofs.Common.{◌≡◌, ℕ, zero, suc, Bool, true, false, List, [], ◌∷◌, Ok, Err, refl, sym, ap, ◌∙◌, subst, inl, inr}
 use Rattle.std.specs.Prelude.{Option, Some, None}
-use Rattle.jdf_lex.specs.declared.token.Spot.{Spot}
-use Rattle.jdf_lex.specs.declared.token.Token.{Token}
-use Rattle.grammar_core.specs.declared.terminal.Terminal.{Terminal}
-use Rattle.grammar_core.specs.declared.terminal.Terminal.TheVariants as terminal
-use Rattle.grammar_core.specs.Production.{one_of, seq, map, opt, Fault, Language, Many, Derives, DerivedWithin, Derived}
-use Rattle.grammar_core.specs.Reading.{starts}
-use Rattle.grammar_core.specs.Terminals.{terminal_of, is, disjoint}
-use Rattle.grammar_core.proofs.Sets.{disjoint_at}
+use Rattle.grammar_core.specs.declared.token.Spot.{Spot}
+use Rattle.grammar_core.specs.declared.token.Token.{Token}
+use Rattle.jdf_alphabet.specs.declared.terminal.Terminal.{Terminal}
+use Rattle.jdf_alphabet.specs.declared.terminal.Terminal.TheVariants as terminal
+use Rattle.grammar_core.specs.Production.{seq, map, opt, Fault, Language, Many, Derives, DerivedWithin, Derived}
+use Rattle.jdf_alphabet.specs.Sets.{one_of, starts}
+use Rattle.jdf_alphabet.specs.Terminals.{terminal_of, is}
+use Rattle.jdf_alphabet.proofs.Disjoint.{disjoint, disjoint_at}
 use Rattle.term_core.specs.declared.operator.BinOp.{BinOp}
 use Rattle.term_core.specs.Term.{Term}
 use Rattle.term_core.specs.Term as term

@@ -2,11 +2,11 @@
 use Rattle.std.proofs.Common.{◌≡◌, ℕ, zero, suc, ◌+◌, ◌-◌, ◌≤◌, Bool, true, false, List, [], ◌∷◌, ◌++◌, length, take, Ok, Err, refl, sym, ap, ◌∙◌, subst, inl, inr, append_assoc, arith}
 use Rattle.std.specs.Prelude.{Option, Some, None, slice_get}
 use Rattle.std.proofs.lemmas.List.{append-nil, take_all}
-use Rattle.jdf_lex.specs.declared.token.Token.{Token}
-use Rattle.grammar_core.specs.declared.terminal.Terminal.{Terminal}
-use Rattle.grammar_core.specs.declared.terminal.Terminal.TheVariants as terminal
+use Rattle.grammar_core.specs.declared.token.Token.{Token}
+use Rattle.jdf_alphabet.specs.declared.terminal.Terminal.{Terminal}
+use Rattle.jdf_alphabet.specs.declared.terminal.Terminal.TheVariants as terminal
 use Rattle.grammar_core.specs.Production.{seq, opt, Fault, Language, Many, Derives, DerivedWithin, Derived, IsText}
-use Rattle.grammar_core.specs.Terminals.{terminal_of, is}
+use Rattle.jdf_alphabet.specs.Terminals.{terminal_of, is}
 use Rattle.term_core.specs.declared.body.Stmt.{Stmt}
 use Rattle.term_core.specs.declared.body.Stmt.TheVariants as out
 use Rattle.term_core.specs.BlockStatementList as block_steps

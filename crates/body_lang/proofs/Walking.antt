@@ -2,11 +2,11 @@
 use Rattle.std.proofs.Common.{◌≡◌, ℕ, Bool, true, false, List, ◌∷◌, ◌++◌, Ok, Err, refl, sym, ap, ◌∙◌, subst, arith}
 use Rattle.std.specs.Prelude.{Option, Some, None, ◌||◌, not}
 use Rattle.std.proofs.lemmas.Bool.Decides.{nat_tests}
-use Rattle.jdf_lex.specs.declared.token.Token.{Token}
-use Rattle.grammar_core.specs.declared.terminal.Terminal.{Terminal}
-use Rattle.grammar_core.specs.declared.terminal.Terminal.TheVariants as terminal
-use Rattle.grammar_core.specs.Reading.{starts}
-use Rattle.grammar_core.specs.Terminals.{terminal_of, is, code_of}
+use Rattle.grammar_core.specs.declared.token.Token.{Token}
+use Rattle.jdf_alphabet.specs.declared.terminal.Terminal.{Terminal}
+use Rattle.jdf_alphabet.specs.declared.terminal.Terminal.TheVariants as terminal
+use Rattle.jdf_alphabet.specs.Sets.{starts}
+use Rattle.jdf_alphabet.specs.Terminals.{terminal_of, is, number_of}
 use Rattle.term_core.specs.Value.{and_then}
 use Rattle.jdf_tree.specs.declared.part.Part.TheVariants.{Body}
 use Rattle.jdf_tree.specs.GrammarParts.{names, word_of}
@@ -51,10 +51,10 @@ is_silent k = not (is terminal.Semicolon k || (is terminal.LeftBrace k || (is te
 
 -- a terminal that is one of these is one itself
 pub silent_as : (j k : Terminal) → is_silent j ≡ true → is j k ≡ true → is_silent k ≡ true
-silent_as j k h e = let same : code_of j ≡ code_of k = grind (arith, nat_tests) in rw (← same) h
+silent_as j k h e = let same : number_of j ≡ number_of k = grind (arith, nat_tests) in rw (← same) h
 
 pub inside_as : (j k : Terminal) → is_inside (Some j) ≡ true → is j k ≡ true → is_inside (Some k) ≡ true
-inside_as j k h e = let same : code_of j ≡ code_of k = grind (arith, nat_tests) in rw (← same) h
+inside_as j k h e = let same : number_of j ≡ number_of k = grind (arith, nat_tests) in rw (← same) h
 
 silent_terminal : (k : Terminal) (text : List ℕ) (st : TokenScan) → is_silent k ≡ true → after_terminal k text st ≡ st
 silent_terminal terminal.Semicolon text st h = absurd cc

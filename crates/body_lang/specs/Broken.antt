@@ -1,7 +1,7 @@
 -- The first fault of a body whose text is broken at the token of an index.
 use Rattle.std.specs.Prelude.{ℕ, List, Err}
-use Rattle.jdf_lex.specs.declared.token.Spot.{Spot}
-use Rattle.jdf_lex.specs.declared.token.Token.{Token}
+use Rattle.grammar_core.specs.declared.token.Spot.{Spot}
+use Rattle.grammar_core.specs.declared.token.Token.{Token}
 use Rattle.grammar_core.specs.declared.code.Code.{Code}
 use Rattle.term_core.specs.Value.{and_then}
 use Rattle.expr_read.specs.Front.{fault_at}

@@ -2,8 +2,8 @@
 use Rattle.std.specs.Prelude.{◌≡◌, ◌≢◌, ℕ, ◌+◌, List, [], length, map, Some, None, slice_get, ◌<◌, ◌++◌, ◌⊎◌, Ok}
 use Rattle.jdf_lex.specs.declared.fault.JdfCode.TheVariants.{TooManyVars}
 use Rattle.jdf_lex.specs.declared.fault.JdfFault.{JdfFault}
-use Rattle.jdf_lex.specs.declared.token.Spot.{Spot}
-use Rattle.jdf_lex.specs.declared.token.Token.{Token}
+use Rattle.grammar_core.specs.declared.token.Spot.{Spot}
+use Rattle.grammar_core.specs.declared.token.Token.{Token}
 use Rattle.grammar_core.specs.Production.{IsText}
 use Rattle.term_core.specs.declared.body.Body.{Body}
 use Rattle.jdf_tree.specs.BodyGrammar.{body}

@@ -1,3 +1,5 @@
+//! Laws of reading a body.
+
 ghost use Rattle.body_lang.specs.Laws.{OneBody, OneFault, BodyOrFault, NoNameTooMany, SlotForEach, NamesAgree, FrontsAgree, OnlyTheNextCounts, OwnWords, WordsOnce};
 
 /// A law: tokens are one body at most, or have one first fault at most, and not both.

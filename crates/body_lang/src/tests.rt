@@ -3,6 +3,7 @@
 mod agreement;
 mod broken;
 mod faults;
+mod names;
 mod runs;
 
 use crate::read_body;

@@ -1,6 +1,6 @@
 //! A body, read.
 
-ghost use Rattle.std.specs.Prelude.{◌≡◌, ◌≤◌, ℕ, List, length, IfOk, Ok, Err, ◌⊎◌};
+ghost use Rattle.std.specs.Prelude.{◌≡◌, ◌≤◌, ◌-◌, ℕ, List, length, IfOk, Ok, Err, ◌⊎◌};
 ghost use Rattle.jdf_lex.specs.declared.fault.JdfFault.{JdfFault};
 ghost use Rattle.ptg_base.specs.declared.refusal.Refusal.TheVariants.{Fault, OutOfMemory};
 ghost use Rattle.term_core.specs.declared.body.Body.{Body};
@@ -15,26 +15,26 @@ ghost use Rattle.body_lang.specs.Broken.{broken_fault};
 use body_names::{Scope, front_fault, resolve};
 use body_read::tree;
 use expr_read::fault_at;
-use grammar_core::{Code, ReadRefusal};
+use grammar_core::{ReadFault, ReadRefusal};
 use jdf_lex::{JdfRefusal, Spot, Token};
 use ptg_base::{Seq, Text};
 use std::alloc::Global;
 use term_core::Body;
 
-// The first fault of a body whose text is broken at the token of this index.
+// The first fault of a body whose text is broken by this fault.
 fn broken(
     alloc: Global,
     tokens: &[Token],
     finish: Spot,
     scope: &Scope,
-    index: usize,
-    code: Code,
+    fault: ReadFault,
 ) -> JdfRefusal
-    requires { index ≤ length tokens.now }
-    ensures { ReturnsRefusal result (broken_fault scope.now tokens.now finish index code) }
+    requires { fault.left ≤ length tokens.now }
+    ensures { ReturnsRefusal result (broken_fault scope.now tokens.now finish (length tokens.now - fault.left) fault.code) }
 {
+    let index = tokens.len() - fault.left;
     match front_fault(alloc, scope, tokens, index) {
-        Ok(()) => JdfRefusal::Fault(fault_at(tokens, finish, index, code)),
+        Ok(()) => JdfRefusal::Fault(fault_at(tokens, finish, index, fault.code)),
         Err(refusal) => refusal,
     }
 }
@@ -62,9 +62,6 @@ pub fn read_body(
     match tree(alloc, tokens) {
         Ok(tree) => resolve(alloc, scope, &tree),
         Err(ReadRefusal::OutOfMemory) => Err(JdfRefusal::OutOfMemory),
-        Err(ReadRefusal::Fault(fault)) => {
-            let index = tokens.len() - fault.left;
-            Err(broken(alloc, tokens, finish, scope, index, fault.code))
-        }
+        Err(ReadRefusal::Fault(fault)) => Err(broken(alloc, tokens, finish, scope, fault)),
     }
 }

@@ -2,13 +2,14 @@
 use Rattle.std.proofs.Common.{◌≡◌, ℕ, zero, suc, ◌+◌, ◌-◌, ◌<◌, ◌≤◌, Bool, true, false, cond, List, [], ◌∷◌, length, drop, get_or, Result, Ok, Err, refl, sym, ap, ◌∙◌, arith, add-one}
 use Rattle.std.proofs.Math.Seq.{drop-cons}
 use Rattle.std.proofs.lemmas.List.{length-drop}
-use Rattle.jdf_lex.specs.declared.token.Token.{Token}
+use Rattle.grammar_core.specs.declared.token.Token.{Token}
 use Rattle.jdf_lex.specs.declared.fault.JdfFault.{JdfFault}
 use Rattle.ptg_base.specs.declared.refusal.Refusal.{Refusal}
 use Rattle.grammar_core.specs.declared.code.Code.TheVariants.{Syntax}
-use Rattle.grammar_core.specs.Reading.{FaultFromEnd, Read, ◌>>=◌, reading, starts}
+use Rattle.grammar_core.specs.Reading.{FaultFromEnd, Read, ◌>>=◌, reading}
+use Rattle.jdf_alphabet.specs.Sets.{starts}
 use Rattle.grammar_core.proofs.Loops.{applied}
-use Rattle.grammar_core.specs.Terminals.{terminal_of}
+use Rattle.jdf_alphabet.specs.Terminals.{terminal_of}
 use Rattle.term_core.specs.Value.{and_then}
 use Rattle.jdf_tree.specs.declared.expression.Word.{Word}
 use Rattle.jdf_tree.specs.declared.part.Part.TheVariants.{Body}

@@ -600,7 +600,8 @@ declared_same scope k new w e rest x none apart is =
     let q = goes scope w.text new k.seen u refl rest ar false [] refl refl k1 b.0 (ap (λ (y : Stmt × Bindings). resolved scope rest y.1) (sym d.1) ∙ b.1) in
     let seen : List Variable = k.seen ++ record u { name = new } ∷ q.more in
     let x_is : (then d.0 b.0.0, b.0.1) ≡ x = ap (λ (s : Stmt × Bindings). (then s.0 b.0.0, b.0.1)) (sym d.1) ∙ pair_is (then a.0.0 b.0.0, b.0.1) x b.2 in (
-      seen,
+      q.more,
+      ap (λ (s : StatementList × Bindings). s.1.seen) (sym x_is) ∙ q.seen,
       ap (λ (r : Resolved (Stmt × Bindings)). follow r (resolved scope (renamed w.text new rest))) d.2
           ∙ (ap (λ (r : Resolved (StatementList × Bindings)). and_then r (λ y. Ok (then d.0 y.0, y.1))) q.same
           ∙ ap (λ (p : StatementList × Bindings). Ok (p.0, record p.1 { seen = seen })) x_is),

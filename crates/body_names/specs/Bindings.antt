@@ -45,7 +45,7 @@ abbrev pub with_variable : Scope → List ℕ → Bool → Bindings → Bindings
 with_variable scope name is_loop_variable k =
     record k { seen = k.seen ++ record { name = name; slot = next_slot scope k; is_loop_variable = is_loop_variable } ∷ []; declared = k.declared + 1 }
 
--- there is room for one more variable
+-- There is room for one more variable. In a body that was read there always is: its text was refused at the `int` or `for` of the 257th.
 abbrev pub room_for : Word → Bindings → Resolved (Unit {0})
 room_for w k = if nat_lt k.declared 256 then Ok tt else fault_at w TooManyVars
 

@@ -1,5 +1,5 @@
 -- Another name for one variable of a body. That hiding goes by blocks is this project's own choice, as in most languages with blocks.
-use Rattle.std.specs.Prelude.{◌≡◌, ℕ, Bool, false, ◌||◌, List, if◌then◌else◌, Ok}
+use Rattle.std.specs.Prelude.{◌≡◌, ℕ, Bool, false, ◌||◌, List, ◌∷◌, ◌++◌, if◌then◌else◌, Ok}
 use Rattle.std.specs.Str.{bytes_eq}
 use Rattle.std.specs.List.{list_any}
 use Rattle.term_core.specs.declared.body.Stmt.{Stmt}
@@ -9,7 +9,7 @@ use Rattle.jdf_tree.specs.Expression.{Expression, Num, Name, Elem, Unary, Binary
 use Rattle.jdf_tree.specs.Statements.{Statements, Done, DeclareThen, SetThen, PutThen, IfThen, ForThen, TrapThen}
 use Rattle.body_names.specs.declared.scope.Scope.{Scope}
 use Rattle.body_names.specs.declared.variable.Variable.{Variable}
-use Rattle.body_names.specs.Bindings.{Bindings}
+use Rattle.body_names.specs.Bindings.{Bindings, next_slot}
 use Rattle.body_names.specs.Statements.{for_loop, resolved}
 
 -- a word with another name
@@ -64,15 +64,20 @@ occurs name (IfThen c first second rest) = reads name c || (occurs name first ||
 occurs name (ForThen w lo hi turn rest) = bytes_eq w.text name || (reads name lo || (reads name hi || (occurs name turn || occurs name rest)))
 occurs name (TrapThen w rest) = occurs name rest
 
+-- the variable of this name that a declaration adds
+abbrev pub declared_variable : Scope → List ℕ → Bindings → Variable
+declared_variable scope name k = record { name = name; slot = next_slot scope k; is_loop_variable = false }
+
 -- Giving the variable of a declaration another name, which occurs nowhere else, changes nothing in the statements from there to the
--- end of the block, and of what is known after them only names of variables.
+-- end of the block where these have no fault; and of what is known after them it changes only that variable's name.
 abbrev pub DeclaredSame : Type 0
 DeclaredSame = (scope : Scope) (k : Bindings) (new : List ℕ) (w : Word) (e : Expression) (rest : Statements) (x : StatementList × Bindings)
     → list_any (λ (v : Variable). bytes_eq v.name new) k.seen ≡ false → occurs new (DeclareThen w e rest) ≡ false
     → resolved scope (DeclareThen w e rest) k ≡ Ok x
-    → (seen : List Variable) × (resolved scope (DeclareThen (named new w) e (renamed w.text new rest)) k ≡ Ok (x.0, record x.1 { seen = seen }))
+    → (more : List Variable) × (x.1.seen ≡ k.seen ++ declared_variable scope w.text k ∷ more)
+    × (resolved scope (DeclareThen (named new w) e (renamed w.text new rest)) k ≡ Ok (x.0, record x.1 { seen = k.seen ++ declared_variable scope new k ∷ more }))
 
--- Giving the variable of a loop another name, which does not occur in its block, changes nothing.
+-- Giving the variable of a loop another name, which does not occur in its block, changes nothing where the loop has no fault.
 abbrev pub LoopedSame : Type 0
 LoopedSame = (scope : Scope) (k : Bindings) (new : List ℕ) (w : Word) (lo hi : Expression) (turn : Statements) (x : Stmt × Bindings)
     → occurs new turn ≡ false → for_loop scope w lo hi (resolved scope turn) k ≡ Ok x

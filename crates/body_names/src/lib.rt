@@ -12,8 +12,6 @@ mod role;
 mod scanner;
 mod scope;
 mod statement;
-#[cfg(test)]
-mod tests;
 mod variable;
 mod whole;
 

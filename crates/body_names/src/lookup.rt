@@ -1,4 +1,4 @@
-//! BindingTable, looked up.
+//! What a name means, looked up.
 
 ghost use Rattle.std.specs.Prelude.{◌≡◌, ◌<◌, length, MatchOption, IfSome, None, Some};
 ghost use Rattle.body_names.specs.Meanings.{last_named, local_named, meaning_of, flow_named};

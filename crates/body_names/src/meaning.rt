@@ -1,3 +1,5 @@
+//! What a name means.
+
 /// What a name in an expression of a body means.
 #[derive(Clone, Copy, Debug, PartialEq, Eq)]
 pub enum Meaning {

@@ -3,7 +3,7 @@
 ghost use Rattle.std.specs.Prelude.{◌≡◌};
 ghost use Rattle.body_names.specs.TokenScan.{previous_is, begins_here, role_of};
 
-use grammar_core::{Terminal, is_next};
+use jdf_alphabet::{Terminal, is_next};
 use jdf_lex::Token;
 
 /// The role of a name in a body.
@@ -22,7 +22,7 @@ pub enum Role {
 }
 
 /// Is this the terminal of the token before?
-#[tactic(auto, using(grammar_core::proofs::Same::same_is))]
+#[tactic(auto, using(jdf_alphabet::proofs::Same::same_is))]
 pub(crate) fn previous_is(terminal: Terminal, last: Option<Terminal>) -> bool
     ensures { result ≡ previous_is terminal last }
 {

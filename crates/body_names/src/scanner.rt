@@ -7,7 +7,7 @@ ghost use Rattle.body_names.specs.Scanner.{scan_of};
 use crate::bindings::close;
 use crate::role::previous_is;
 use crate::variable::{BindingTable, Scanner, Variable};
-use grammar_core::Terminal;
+use jdf_alphabet::Terminal;
 use jdf_lex::Token;
 use ptg_base::{OutOfMemory, Text};
 use std::alloc::Global;

@@ -1,6 +1,6 @@
 //! The variables of a body, and what is known of them at one of its tokens.
 
-use grammar_core::Terminal;
+use jdf_alphabet::Terminal;
 use name_table::NameSet;
 use ptg_base::Text;
 

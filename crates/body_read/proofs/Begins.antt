@@ -1,13 +1,16 @@
 -- What the next token tells of the statements of a body.
 use Rattle.std.proofs.Common.{◌≡◌, ◌<◌, ◌≤◌, Bool, true, false, cond, List, [], ◌∷◌, ◌++◌, length, Ok, Err, refl, sym, ap, ◌∙◌, subst}
-use Rattle.jdf_lex.specs.declared.token.Token.{Token}
-use Rattle.grammar_core.specs.declared.terminal.Terminal.{Terminal}
-use Rattle.grammar_core.specs.declared.terminal.Terminal.TheVariants as terminal
-use Rattle.grammar_core.specs.Production.{Production, one_of, star}
+use Rattle.grammar_core.specs.declared.token.Token.{Token}
+use Rattle.jdf_alphabet.specs.declared.terminal.Terminal.{Terminal}
+use Rattle.jdf_alphabet.specs.declared.terminal.Terminal.TheVariants as terminal
+use Rattle.grammar_core.specs.Production.{Production, star}
+use Rattle.jdf_alphabet.specs.Sets.{one_of, starts, token_at}
 use Rattle.grammar_core.specs.Returns.{ReadRefusal, Fails}
-use Rattle.grammar_core.specs.Reading.{Read, ◌>>=◌, first, starts, token_at, nonterminal_at, reading}
-use Rattle.grammar_core.specs.Terminals.{terminal_of, is}
+use Rattle.grammar_core.specs.Reading.{Read, ◌>>=◌, first, nonterminal_at, reading}
+use Rattle.grammar_core.specs.Reading as engine
+use Rattle.jdf_alphabet.specs.Terminals.{is, set, terminal_at}
 use Rattle.grammar_core.proofs.Fuel.{nonterminal_is, nonterminal_shrinks, run_shrinks}
+use Rattle.grammar_core.proofs.Sets.{alike_at}
 use Rattle.grammar_core.proofs.Loops as loops
 use Rattle.grammar_core.proofs.Loops.{applied, so_far, fails_before, IsListed}
 use Rattle.jdf_tree.specs.declared.body.StmtTree.{StmtTree}
@@ -31,11 +34,11 @@ pub block_is : (s : List Token) → nonterminal_at productions a_block s ≡ rea
 unfolding productions
 block_is s = nonterminal_is productions a_block s
 
-pub element_begins : (s : List Token) → starts (first element) s ≡ starts (is terminal.LeftBracket) s
+pub element_begins : (s : List Token) → engine.starts (first element) s ≡ starts (is terminal.LeftBracket) s
 unfolding element
 element_begins s = refl
 
-pub otherwise_begins : (s : List Token) → starts (first otherwise) s ≡ starts (is terminal.Else) s
+pub otherwise_begins : (s : List Token) → engine.starts (first otherwise) s ≡ starts (is terminal.Else) s
 unfolding otherwise
 otherwise_begins s = refl
 
@@ -50,17 +53,14 @@ text_reads s = refl
 
 -- ---- statements, one after the other
 
-pub statements_listed : IsListed productions statement begins_statement
-unfolding statement declaration choice for_loop trap_statement assignment
-statements_listed = record { full = refl; begins = same }
-  where
-    each : (k : Terminal) → first statement k ≡ begins_statement k
-    each terminal.Name = refl
-    each _ = refl
+statements_alike : (s : List Token) → engine.starts (first statement) s ≡ starts begins_statement s
+unfolding terminal_at statement declaration choice for_loop trap_statement assignment
+statements_alike [] = refl
+statements_alike (x ∷ s) = alike_at (first statement) (set begins_statement) refl refl x
 
-    same : (s : List Token) → starts (first statement) s ≡ starts begins_statement s
-    same [] = refl
-    same (x ∷ s) = each (terminal_of x)
+pub statements_listed : IsListed productions statement (set begins_statement)
+unfolding statement declaration choice for_loop trap_statement assignment
+statements_listed = record { full = refl; begins = statements_alike }
 
 pub statements_begin : (s : List Token) → so_far [] (rest_of statement s) ≡ reading productions (star any statement) s
 statements_begin s = rest_begins statement s

@@ -3,14 +3,15 @@ use Rattle.std.proofs.Common.{◌≡◌, ℕ, suc, ◌-◌, ◌+◌, ◌≤◌, 
 use Rattle.std.specs.Prelude.{◌==◌, nat_lt, nat_le, min, if◌then◌else◌}
 use Rattle.std.proofs.lemmas.Bool.{le-ltb, lt-ltb, cases_lt}
 use Rattle.std.proofs.lemmas.Bool.Decides.{nat_tests}
-use Rattle.jdf_lex.specs.declared.token.Token.{Token}
+use Rattle.grammar_core.specs.declared.token.Token.{Token}
 use Rattle.grammar_core.specs.declared.code.Code.{Code}
-use Rattle.grammar_core.specs.declared.code.Code.TheVariants.{TooDeep, TooManyVars}
+use Rattle.jdf_alphabet.specs.Codes.{TooDeep, TooManyVars}
 use Rattle.grammar_core.specs.Production.{Limit, Derives, Derived}
 use Rattle.grammar_core.specs.Predictive.{is_fine}
 use Rattle.grammar_core.specs.Reading.{FaultFromEnd, Read, judge, reading}
 use Rattle.grammar_core.proofs.Sound.{Sound}
 use Rattle.grammar_core.proofs.Whole.{sound}
+use Rattle.jdf_alphabet.specs.Terminals.{terminal_at}
 use Rattle.jdf_tree.specs.BodyLimits.{block_limit, variable_limit}
 use Rattle.jdf_tree.specs.ExpressionGrammar.{number, parens, index, reference, signed, unary, product, sum, relation, equality, conjunction, disjunction, branches, expr, outer}
 use Rattle.jdf_tree.specs.BodyGrammar.{block, value, declaration, element, assignment, condition, otherwise, choice, for_loop, trap_statement, statement, statements, block_rest, text, body}
@@ -20,7 +21,7 @@ use Rattle.jdf_tree.proofs.Fine.{productions_fine}
 use Rattle.body_read.proofs.Windows as windows
 
 pub text_fine : is_fine claims text ≡ true
-unfolding text block statements statement declaration choice for_loop trap_statement assignment element value condition otherwise outer expr branches disjunction conjunction equality relation sum product unary signed number reference index parens
+unfolding terminal_at text block statements statement declaration choice for_loop trap_statement assignment element value condition otherwise outer expr branches disjunction conjunction equality relation sum product unary signed number reference index parens
 text_fine = refl
 
 text_sound : (s : List Token) → Sound (Derives (Derived productions) text) (reading productions text) s

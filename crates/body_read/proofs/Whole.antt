@@ -1,7 +1,7 @@
 -- One token of lookahead reads a whole body.
 use Rattle.std.proofs.Common.{◌≡◌, ℕ, true, List, Result, Ok, Err, refl, sym, ap, ◌∙◌, ◌≤◌, inl, inr, arith}
 use Rattle.std.specs.Prelude.{length, ◌-◌, None, ◌⊎◌, IfOk}
-use Rattle.jdf_lex.specs.declared.token.Token.{Token}
+use Rattle.grammar_core.specs.declared.token.Token.{Token}
 use Rattle.grammar_core.specs.declared.code.Code.{Code}
 use Rattle.grammar_core.specs.declared.code.Code.TheVariants.{Syntax}
 use Rattle.grammar_core.specs.Production.{IsText, IsFirstFault}

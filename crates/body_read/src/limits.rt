@@ -1,12 +1,12 @@
 //! Where a body passes its limits.
 
 ghost use Rattle.std.specs.Prelude.{◌≡◌, ◌<◌, ◌-◌, ◌&&◌, nat_le, length, drop, if◌then◌else◌};
-ghost use Rattle.grammar_core.specs.declared.terminal.Terminal.TheVariants.{LeftBrace};
-ghost use Rattle.grammar_core.specs.Reading.{starts};
-ghost use Rattle.grammar_core.specs.Terminals.{is};
+ghost use Rattle.jdf_alphabet.specs.declared.terminal.Terminal.TheVariants.{LeftBrace};
+ghost use Rattle.jdf_alphabet.specs.Sets.{starts};
+ghost use Rattle.jdf_alphabet.specs.Terminals.{is};
 ghost use Rattle.jdf_tree.specs.BodyLimits.{block_limit, variable_limit, declares, most_blocks};
 
-use grammar_core::{Terminal, is_next};
+use jdf_alphabet::{Terminal, is_next};
 use jdf_lex::Token;
 
 // How many blocks may be open before one more is opened. The braces around a whole body do not count.

@@ -2,12 +2,14 @@
 
 ghost use Rattle.std.specs.Prelude.{◌≡◌};
 ghost use Rattle.grammar_core.specs.Returns.{Returns};
-ghost use Rattle.grammar_core.specs.Reading.{reading, starts};
+ghost use Rattle.grammar_core.specs.Reading.{reading};
+ghost use Rattle.jdf_alphabet.specs.Sets.{starts};
 ghost use Rattle.jdf_tree.specs.BodyGrammar.{value, declaration, element, assignment, condition, block, otherwise, choice, for_loop, trap_statement, statement, begins_statement, statements, block_rest};
 ghost use Rattle.jdf_tree.specs.Grammar.{productions};
 
 use expr_read::{is_name_next, name, outer};
-use grammar_core::{ReadRefusal, Terminal, expect, is_next};
+use grammar_core::ReadRefusal;
+use jdf_alphabet::{Terminal, expect, is_next};
 use jdf_lex::Token;
 use jdf_tree::{BlockTree, ExprWithSpot, Part, StmtTree};
 use ptg_base::Seq;

@@ -1,9 +1,9 @@
-//! Texts of bodies with their trees or their first faults. The expected results were worked out by hand from the rules of the text.
+//! Texts of bodies with their first faults, worked out by hand from the rules of the text. What their trees are is shown by the bodies that
+//! `body_lang`'s tests run.
 
 mod faults;
 mod limits;
 mod pairs;
-mod trees;
 
 use crate::read;
 use jdf_lex::{JdfCode, JdfRefusal, Lexed, tokens};

@@ -15,7 +15,8 @@ ghost use Rattle.expr_read.specs.Front.{fault_at};
 use crate::limits::{block_limit, variable_limit};
 use crate::statement::{block, statements};
 use expr_read::fault_at;
-use grammar_core::{Code, ReadFault, ReadRefusal, Terminal, is_next, refusal_at};
+use grammar_core::{Code, ReadFault, ReadRefusal, refusal_at};
+use jdf_alphabet::{GrammarCode, Terminal, is_next};
 use jdf_lex::{JdfRefusal, Spot, Token};
 use jdf_tree::BlockTree;
 use std::alloc::Global;
@@ -43,9 +44,9 @@ fn body(alloc: Global, tokens: &[Token]) -> Result<(BlockTree, &[Token]), ReadRe
         return text(alloc, tokens);
     }
     let code = if blocks <= variables {
-        Code::TooDeep
+        GrammarCode::TooDeep.code()
     } else {
-        Code::TooManyVars
+        GrammarCode::TooManyVars.code()
     };
     let (window, after) = tokens.split_at(limit + 1);
     match text(alloc, window) {

@@ -3,13 +3,13 @@ use Rattle.std.proofs.Common.{◌≡◌, ℕ, zero, suc, ◌-◌, ◌+◌, ◌�
 use Rattle.std.specs.Prelude.{◌==◌}
 use Rattle.std.proofs.lemmas.Bool.{le-ltb}
 use Rattle.std.proofs.lemmas.List.{length-append, drop_at, take-append-drop, length-take-le, take_rest}
-use Rattle.jdf_lex.specs.declared.token.Token.{Token}
-use Rattle.grammar_core.specs.declared.code.Code.TheVariants.{ExprTooLong}
-use Rattle.grammar_core.specs.declared.terminal.Terminal.{Terminal}
-use Rattle.grammar_core.specs.Counted.{expression_limit, is_counted}
+use Rattle.grammar_core.specs.declared.token.Token.{Token}
+use Rattle.jdf_alphabet.specs.Codes.{ExprTooLong}
+use Rattle.jdf_alphabet.specs.Counted.{expression_limit, is_counted}
 use Rattle.grammar_core.specs.TooMany.{token_indices, limit_at}
 use Rattle.grammar_core.specs.CountedLimit.{indices_none, indices_kept, indices_passed, not_before}
-use Rattle.grammar_core.specs.Terminals.{terminal_of}
+use Rattle.grammar_core.specs.Terminals.{Terminal, terminal_of}
+use Rattle.jdf_alphabet.specs.Terminals.{set}
 use Rattle.grammar_core.specs.Reading.{Read, judge, reading}
 use Rattle.grammar_core.proofs.Sound.{SameHead}
 use Rattle.jdf_tree.specs.declared.expression.ExprWithSpot.{ExprWithSpot}
@@ -34,7 +34,7 @@ unfolding limit_at
 at_least q k cap n s a b = omega (arith, at_least_from q k 0 cap n s (omega arith) b)
 
 limit_is_late : (s : List Token) → 128 ≤ expression_limit.at s
-limit_is_late s = at_least is_counted 128 512 128 s (omega arith) (omega arith)
+limit_is_late s = at_least (set is_counted) 128 512 128 s (omega arith) (omega arith)
 
 same_head : (rest v : List Token) → 0 < length rest → SameHead rest (rest ++ v)
 same_head [] v some = absurd (omega arith)

@@ -3,7 +3,7 @@ use Rattle.std.proofs.Common.{◌≡◌, ℕ, ◌+◌, ◌-◌, ◌<◌, ◌≤�
 use Rattle.std.specs.Prelude.{Some, None, ◌==◌}
 use Rattle.std.proofs.lemmas.Bool.{cases_Bool, cases_lt, cases_order, eqb-true}
 use Rattle.std.proofs.lemmas.List.{take_at, length-append, append-nil, take-append-drop, take-take, length-take-le, length-drop}
-use Rattle.jdf_lex.specs.declared.token.Token.{Token}
+use Rattle.grammar_core.specs.declared.token.Token.{Token}
 use Rattle.grammar_core.specs.declared.code.Code.{Code}
 use Rattle.grammar_core.specs.declared.code.Code.TheVariants.{Syntax}
 use Rattle.grammar_core.specs.Production.{Fault, IsText, Begins, IsSyntaxFault, IsLimitFault, IsFirstFault}

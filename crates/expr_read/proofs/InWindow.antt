@@ -3,10 +3,10 @@ use Rattle.std.proofs.Common.{◌≡◌, ℕ, suc, ◌-◌, ◌+◌, ◌≤◌, 
 use Rattle.std.specs.Prelude.{◌==◌}
 use Rattle.std.proofs.lemmas.Bool.{le-ltb}
 use Rattle.std.proofs.lemmas.List.{length-append, drop_at, take-append-drop, length-take-le, take_rest}
-use Rattle.jdf_lex.specs.declared.token.Token.{Token}
+use Rattle.grammar_core.specs.declared.token.Token.{Token}
 use Rattle.grammar_core.specs.declared.code.Code.{Code}
-use Rattle.grammar_core.specs.declared.code.Code.TheVariants.{ExprTooLong}
-use Rattle.grammar_core.specs.Counted.{expression_limit}
+use Rattle.jdf_alphabet.specs.Codes.{ExprTooLong}
+use Rattle.jdf_alphabet.specs.Counted.{expression_limit}
 use Rattle.grammar_core.specs.Production.{Derives, Derived}
 use Rattle.grammar_core.specs.Predictive.{is_fine}
 use Rattle.grammar_core.specs.Reading.{FaultFromEnd, Read, judge, reading}
@@ -17,13 +17,14 @@ use Rattle.jdf_tree.specs.declared.expression.ExprWithSpot.{ExprWithSpot}
 use Rattle.jdf_tree.specs.declared.part.Part.TheVariants.{Class, Body}
 use Rattle.jdf_tree.specs.ExpressionGrammar.{number, parens, index, reference, signed, unary, product, sum, relation, equality, conjunction, disjunction, branches, expr, outer, guard}
 use Rattle.jdf_tree.specs.Grammar.{productions, claims}
+use Rattle.jdf_alphabet.specs.Terminals.{terminal_at}
 use Rattle.jdf_tree.proofs.Fine.{productions_fine}
 use Rattle.expr_read.specs.declared.rank.Outermost.{Outermost}
 use Rattle.expr_read.specs.declared.rank.Outermost.TheVariants as outermost
 use Rattle.expr_read.specs.Ranks.{form_of, limited_form}
 
 pub form_fine : (o : Outermost) → is_fine claims (form_of o) ≡ true
-unfolding expr branches disjunction conjunction equality relation sum product unary signed number reference index parens
+unfolding terminal_at expr branches disjunction conjunction equality relation sum product unary signed number reference index parens
 form_fine (outermost.Expression Class) = refl
 form_fine (outermost.Expression Body) = refl
 form_fine outermost.Guard = refl

@@ -1,13 +1,14 @@
 -- Reading operands and operators as the loop of the code does, and which production the next token decides for.
 use Rattle.std.proofs.Common.{◌≡◌, ℕ, zero, suc, ◌<◌, ◌≤◌, Bool, true, false, cond, List, [], ◌∷◌, length, Ok, Err, refl, sym, ap, ◌∙◌, subst}
-use Rattle.jdf_lex.specs.declared.token.Spot.{Spot}
-use Rattle.jdf_lex.specs.declared.token.Token.{Token}
+use Rattle.grammar_core.specs.declared.token.Spot.{Spot}
+use Rattle.grammar_core.specs.declared.token.Token.{Token}
 use Rattle.term_core.specs.declared.operator.BinOp.{BinOp}
-use Rattle.grammar_core.specs.declared.terminal.Terminal.{Terminal}
-use Rattle.grammar_core.specs.declared.terminal.Terminal.TheVariants as terminal
-use Rattle.grammar_core.specs.Terminals.{is}
-use Rattle.grammar_core.specs.Production.{Production, one_of, seq, map, star}
-use Rattle.grammar_core.specs.Reading.{◌>>=◌, Read, starts, token_at, many_at, nonterminal_at, reading}
+use Rattle.jdf_alphabet.specs.declared.terminal.Terminal.{Terminal}
+use Rattle.jdf_alphabet.specs.declared.terminal.Terminal.TheVariants as terminal
+use Rattle.jdf_alphabet.specs.Terminals.{is, set}
+use Rattle.grammar_core.specs.Production.{Production, seq, map, star}
+use Rattle.jdf_alphabet.specs.Sets.{one_of, starts, token_at}
+use Rattle.grammar_core.specs.Reading.{◌>>=◌, Read, many_at, nonterminal_at, reading}
 use Rattle.grammar_core.specs.Returns.{ReadRefusal, Fails}
 use Rattle.grammar_core.proofs.Fuel.{nonterminal_shrinks, run_shrinks, many_is}
 use Rattle.grammar_core.proofs.Loops as loops
@@ -56,22 +57,22 @@ ranked_is part rank.Conjunction s = regroup (reading productions (equality part)
 ranked_is part rank.Disjunction s = regroup (reading productions (conjunction part) s) (tail part rank.Disjunction) (λ x. with_spot x.0.spot (grouped x.0.tree x.1))
 
 -- where no element is too many, the index of the first one does not matter
-any_index : {A : Type 0} (q : Terminal → Bool) (p : List Token → Read A) (n i j : ℕ) (s : List Token) → many_at any q p i n s ≡ many_at any q p j n s
+any_index : {A : Type 0} (q : Terminal → Bool) (p : List Token → Read A) (n i j : ℕ) (s : List Token) → many_at any (set q) p i n s ≡ many_at any (set q) p j n s
 unfolding many_at
 any_index q p zero i j s = refl
 any_index {A} q p (suc n) i j s = ap (λ (r : Read (List A)). cond (starts q s) r (Ok ([], s))) (go (λ t. any_index q p n (suc i) (suc j) t) (p s))
   where
-    go : ((t : List Token) → many_at any q p (suc i) n t ≡ many_at any q p (suc j) n t) → (r : Read A) → (r >>= λ a. many_at any q p (suc i) n a.1 >>= applied (λ (l : List A). a.0 ∷ l)) ≡ (r >>= λ a. many_at any q p (suc j) n a.1 >>= applied (λ (l : List A). a.0 ∷ l))
+    go : ((t : List Token) → many_at any (set q) p (suc i) n t ≡ many_at any (set q) p (suc j) n t) → (r : Read A) → (r >>= λ a. many_at any (set q) p (suc i) n a.1 >>= applied (λ (l : List A). a.0 ∷ l)) ≡ (r >>= λ a. many_at any (set q) p (suc j) n a.1 >>= applied (λ (l : List A). a.0 ∷ l))
     go same (Ok a) = ap (λ (m : Read (List A)). m >>= applied (λ (l : List A). a.0 ∷ l)) (same a.1)
     go same (Err e) = refl
 
 tail_is : (part : Part) (rank : Rank) (s : List Token) → tail part rank s ≡ cond (starts (operators_of rank) s) (reading productions (operation rank part) s >>= λ a. tail part rank a.1 >>= applied (λ (more : List (BinOp × ExprWithSpot)). a.0 ∷ more)) (Ok ([], s))
 unfolding tail
 tail_is part rank s =
-    many_is any (operators_of rank) (reading productions (operation rank part)) (λ s' x e. (run_shrinks (nonterminal_at productions) (nonterminal_shrinks productions) (operation rank part) s' x e).1 refl) 0 s
+    many_is any (set (operators_of rank)) (reading productions (operation rank part)) (λ s' x e. (run_shrinks (nonterminal_at productions) (nonterminal_shrinks productions) (operation rank part) s' x e).1 refl) 0 s
     ∙ ap (λ (r : Read (List (BinOp × ExprWithSpot))). cond (starts (operators_of rank) s) r (Ok ([], s))) (go (reading productions (operation rank part) s))
   where
-    go : (r : Read (BinOp × ExprWithSpot)) → (r >>= λ a. many_at any (operators_of rank) (reading productions (operation rank part)) 1 (length a.1) a.1 >>= applied (λ (l : List (BinOp × ExprWithSpot)). a.0 ∷ l)) ≡ (r >>= λ a. many_at any (operators_of rank) (reading productions (operation rank part)) 0 (length a.1) a.1 >>= applied (λ (l : List (BinOp × ExprWithSpot)). a.0 ∷ l))
+    go : (r : Read (BinOp × ExprWithSpot)) → (r >>= λ a. many_at any (set (operators_of rank)) (reading productions (operation rank part)) 1 (length a.1) a.1 >>= applied (λ (l : List (BinOp × ExprWithSpot)). a.0 ∷ l)) ≡ (r >>= λ a. many_at any (set (operators_of rank)) (reading productions (operation rank part)) 0 (length a.1) a.1 >>= applied (λ (l : List (BinOp × ExprWithSpot)). a.0 ∷ l))
     go (Ok a) = ap (λ (m : Read (List (BinOp × ExprWithSpot))). m >>= applied (λ (l : List (BinOp × ExprWithSpot)). a.0 ∷ l)) (any_index (operators_of rank) (reading productions (operation rank part)) (length a.1) 1 0 a.1)
     go (Err e) = refl
 

@@ -2,11 +2,13 @@
 
 ghost use Rattle.std.specs.Prelude.{◌≡◌, IfOk, OnErr};
 ghost use Rattle.grammar_core.specs.Returns.{Returns};
-ghost use Rattle.grammar_core.specs.Reading.{reading, starts};
+ghost use Rattle.grammar_core.specs.Reading.{reading};
+ghost use Rattle.jdf_alphabet.specs.Sets.{starts};
 ghost use Rattle.jdf_tree.specs.GrammarParts.{name, names, word_of};
 ghost use Rattle.jdf_tree.specs.Grammar.{productions};
 
-use grammar_core::{Code, ReadRefusal, Terminal, refusal_at};
+use grammar_core::{Code, ReadRefusal, refusal_at};
+use jdf_alphabet::Terminal;
 use jdf_lex::Token;
 use jdf_tree::{Part, Word};
 use ptg_base::{OutOfMemory, Text};

@@ -7,7 +7,8 @@ ghost use Rattle.jdf_tree.specs.ExpressionGrammar.{number};
 ghost use Rattle.jdf_tree.specs.Grammar.{productions};
 ghost use Rattle.jdf_tree.specs.Numbers.{decimal, is_number, has_leading_zero};
 
-use grammar_core::{Code, ReadRefusal, Terminal, expect, refusal_at};
+use grammar_core::{ReadRefusal, refusal_at};
+use jdf_alphabet::{GrammarCode, Terminal, expect};
 use jdf_lex::Token;
 use jdf_tree::{ExprTree, ExprWithSpot};
 use ptg_base::decimal;
@@ -48,6 +49,6 @@ pub(crate) fn number(tokens: &[Token]) -> Result<(ExprWithSpot, &[Token]), ReadR
             },
             rest,
         )),
-        None => Err(refusal_at(tokens, Code::BadNumber)),
+        None => Err(refusal_at(tokens, GrammarCode::BadNumber.code())),
     }
 }

@@ -1,10 +1,11 @@
 //! Reads expressions, without the limit of an outermost one.
 
 ghost use Rattle.std.specs.Prelude.{◌≡◌, MatchOption, IfOk, Ok, true, false};
-ghost use Rattle.grammar_core.specs.Production.{map, one_of};
+ghost use Rattle.grammar_core.specs.Production.{map};
+ghost use Rattle.jdf_alphabet.specs.Sets.{one_of, starts, token_at};
 ghost use Rattle.grammar_core.specs.Returns.{Returns};
-ghost use Rattle.grammar_core.specs.Reading.{reading, starts, token_at};
-ghost use Rattle.grammar_core.specs.Terminals.{terminal_of};
+ghost use Rattle.grammar_core.specs.Reading.{reading};
+ghost use Rattle.jdf_alphabet.specs.Terminals.{terminal_of};
 ghost use Rattle.jdf_tree.specs.ExpressionGrammar.{index, parens, reference, signed, unary, branches, expr, is_sign, sign_by, operator_by, operator_of};
 ghost use Rattle.jdf_tree.specs.Grammar.{productions};
 ghost use Rattle.jdf_tree.specs.declared.part.Part.TheVariants.{Body};
@@ -13,7 +14,8 @@ ghost use Rattle.expr_read.specs.Ranks.{operators_of, operand_of, of_rank};
 use crate::names::{is_name_next, name};
 use crate::number::number;
 use crate::rank::Rank;
-use grammar_core::{Code, ReadRefusal, Terminal, expect, is_next, refusal_at};
+use grammar_core::{Code, ReadRefusal, refusal_at};
+use jdf_alphabet::{Terminal, expect, is_next};
 use jdf_lex::Token;
 use jdf_tree::{ExprTree, ExprWithSpot, Part};
 use std::alloc::Global;

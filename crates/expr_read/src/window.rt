@@ -9,7 +9,8 @@ ghost use Rattle.expr_read.specs.Ranks.{form_of, limited_form};
 
 use crate::operators::{expression, ranked};
 use crate::rank::{Outermost, Rank};
-use grammar_core::{Code, ReadFault, ReadRefusal, expression_limit, refusal_at};
+use grammar_core::{ReadFault, ReadRefusal, refusal_at};
+use jdf_alphabet::{GrammarCode, expression_limit};
 use jdf_lex::Token;
 use jdf_tree::{ExprWithSpot, Part};
 use std::alloc::Global;
@@ -65,11 +66,11 @@ fn within_limit(
     let (window, behind) = tokens.split_at(limit + 1);
     match form(alloc, outermost, window) {
         Ok((tree, rest)) if !rest.is_empty() => Ok((tree, &tokens[window.len() - rest.len()..])),
-        Ok(_) => Err(refusal_at(&tokens[limit..], Code::ExprTooLong)),
+        Ok(_) => Err(refusal_at(&tokens[limit..], GrammarCode::ExprTooLong.code())),
         Err(ReadRefusal::OutOfMemory) => Err(ReadRefusal::OutOfMemory),
         Err(ReadRefusal::Fault(ReadFault { left: 0, .. })) => Err(refusal_at(
             &tokens[limit..],
-            Code::ExprTooLong,
+            GrammarCode::ExprTooLong.code(),
         )),
         Err(ReadRefusal::Fault(ReadFault { left, code })) => Err(ReadRefusal::Fault(ReadFault {
             left: left + behind.len(),

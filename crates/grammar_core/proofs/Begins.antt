@@ -2,10 +2,10 @@
 use Rattle.std.proofs.Common.{◌≡◌, ℕ, suc, Bool, true, false, List, [], ◌∷◌, refl, ◌⊎◌, inl, inr, sym, ◌∙◌}
 use Rattle.std.specs.Prelude.{Option, Some, None, ◌&&◌, ◌||◌, not}
 use Rattle.std.proofs.lemmas.Bool.{and_parts, and_from, or_cases, or_parts, or_left, or_right, not-true, both_ways}
-use Rattle.grammar_core.specs.declared.terminal.Terminal.{Terminal}
-use Rattle.jdf_lex.specs.declared.token.Token.{Token}
+use Rattle.grammar_core.specs.Terminals.{Terminal}
+use Rattle.grammar_core.specs.declared.token.Token.{Token}
 use Rattle.grammar_core.specs.declared.code.Code.{Code}
-use Rattle.grammar_core.specs.Terminals.{terminal_of, all_terminals, some_is}
+use Rattle.grammar_core.specs.Terminals.{terminal_of, terminal_count, some_is}
 use Rattle.grammar_core.specs.Production.{Production, one_of, valued, seq, map, alt, opt, star, pick, after_token, limited, Language, Fault, IsOne, Many, Derives}
 use Rattle.grammar_core.specs.Reading.{union, and_if, may_be_empty, first, starts}
 use Rattle.grammar_core.specs.Predictive.{Claims, alone, second, is_fine}
@@ -112,10 +112,10 @@ pub seconds : {N : Type 0} {Tree : N → Type 0} (c : Claims N) (R : (n : N) →
     → (a : Terminal → Bool) (x : Token) (s : List Token) → a (terminal_of x) ≡ true → {A : Type 0} (g : Production N Tree A) → is_fine c g ≡ true → (s0 : List Token) (t : A) (o : Fault) (r : List Token) → s0 ≡ x ∷ s → Derives R g s0 t o r → Seconds c a g s0 s r
 seconds c R hR a x s ax (one_of q) fine s0 t o r e h =
     let same = tail_same x t s r (sym e ∙ h.0.0) in
-    inr (inl (same.1, some_from (λ k. a k && q k) (terminal_of x) (and_from (a (terminal_of x)) (q (terminal_of x)) ax (rw same.0 h.0.1))))
+    inr (inl (same.1, some_from (λ k. a k && q k) x (and_from (a (terminal_of x)) (q (terminal_of x)) ax (rw same.0 h.0.1))))
 seconds c R hR a x s ax (valued q good d) fine s0 t o r e h =
     let same = tail_same x t s r (sym e ∙ h.0.0) in
-    inr (inl (same.1, some_from (λ k. a k && q k) (terminal_of x) (and_from (a (terminal_of x)) (q (terminal_of x)) ax (rw same.0 h.0.1))))
+    inr (inl (same.1, some_from (λ k. a k && q k) x (and_from (a (terminal_of x)) (q (terminal_of x)) ax (rw same.0 h.0.1))))
 seconds c R hR a x s ax (limited l d g) fine s0 t o r e h = seconds c R hR a x s ax g fine s0 t h.0 r e h.1
 seconds c R hR a x s ax (seq g k) fine s0 t o r e h =
     let f = and_parts (is_fine c g) _ fine in
@@ -182,4 +182,4 @@ seconds c R hR a x s ax (star full g) fine s0 (t ∷ ts) o r e h =
     ]
 seconds c R hR a x s ax (after_token q n) fine s0 t o r e h =
     let same = tail_same x t.0 s h.0 (sym e ∙ h.2.0) in
-    inl (start_and (some_is (λ y. a y && q y) all_terminals) (c.firsts n) s (some_from (λ y. a y && q y) (terminal_of x) (and_from (a (terminal_of x)) (q (terminal_of x)) ax (rw same.0 h.2.1))) (rw same.1 (hR n h.0 t.1 h.1 r h.3)))
+    inl (start_and (some_is (λ y. a y && q y) terminal_count) (c.firsts n) s (some_from (λ y. a y && q y) x (and_from (a (terminal_of x)) (q (terminal_of x)) ax (rw same.0 h.2.1))) (rw same.1 (hR n h.0 t.1 h.1 r h.3)))

@@ -1,6 +1,3 @@
-pub mod Counting
-pub mod Same
-pub mod Spelled
 pub mod Tokens
 pub mod Sets
 pub mod Begins

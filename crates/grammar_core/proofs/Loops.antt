@@ -1,13 +1,13 @@
 -- Steps of reading as a loop of the code takes them, for every grammar.
-use Rattle.std.proofs.Common.{◌≡◌, ℕ, suc, ◌<◌, ◌≤◌, Bool, true, false, cond, List, [], ◌∷◌, ◌++◌, length, Result, Ok, Err, refl, sym, ap, ◌∙◌, append_assoc, arith}
+use Rattle.std.proofs.Common.{◌≡◌, ℕ, suc, ◌<◌, ◌≤◌, Bool, true, false, cond, List, [], ◌∷◌, ◌++◌, length, Result, Ok, Err, refl, sym, ap, ◌∙◌, append_assoc}
 use Rattle.std.specs.Prelude.{Option, Some, None}
-use Rattle.std.proofs.lemmas.List.{append-nil, length-append}
-use Rattle.jdf_lex.specs.declared.token.Token.{Token}
-use Rattle.grammar_core.specs.declared.terminal.Terminal.{Terminal}
+use Rattle.std.proofs.lemmas.List.{append-nil}
+use Rattle.grammar_core.specs.declared.token.Token.{Token}
+use Rattle.grammar_core.specs.Terminals.{Terminal}
 use Rattle.grammar_core.specs.declared.code.Code.{Code}
 use Rattle.ptg_base.specs.declared.refusal.Refusal.TheVariants as errors
-use Rattle.grammar_core.specs.Production.{Production, one_of, seq, map, opt, star}
-use Rattle.grammar_core.specs.Reading.{FaultFromEnd, ◌>>=◌, Read, may_be_empty, first, starts, refuse, token_at, many_at, nonterminal_at, reading}
+use Rattle.grammar_core.specs.Production.{Production, seq, map, opt, star}
+use Rattle.grammar_core.specs.Reading.{FaultFromEnd, ◌>>=◌, Read, may_be_empty, first, starts, refuse, many_at, nonterminal_at, reading}
 use Rattle.grammar_core.specs.Returns.{ReadRefusal, Fails}
 use Rattle.grammar_core.proofs.Fuel.{nonterminal_shrinks, run_shrinks, many_is}
 

@@ -2,11 +2,11 @@
 use Rattle.std.proofs.Common.{◌≡◌, ℕ, zero, suc, ◌<◌, ◌≤◌, Bool, true, false, List, [], ◌∷◌, length, Ok, Err, refl, inl, inr, sym, ap, ◌∙◌, arith}
 use Rattle.std.specs.Prelude.{Option, Some, None, ◌-◌, nat_lt, ◌&&◌, ◌||◌, not}
 use Rattle.std.proofs.lemmas.Bool.{and_parts, and_from, or_cases, not-true, both_ways, cases_Bool, le-ltb}
-use Rattle.grammar_core.specs.declared.terminal.Terminal.{Terminal}
-use Rattle.jdf_lex.specs.declared.token.Token.{Token}
+use Rattle.grammar_core.specs.Terminals.{Terminal}
+use Rattle.grammar_core.specs.declared.token.Token.{Token}
 use Rattle.grammar_core.specs.declared.code.Code.{Code}
 use Rattle.grammar_core.specs.declared.code.Code.TheVariants.{Syntax}
-use Rattle.grammar_core.specs.Terminals.{terminal_of, all_terminals, some_is, disjoint}
+use Rattle.grammar_core.specs.Terminals.{terminal_of, terminal_count, some_is, disjoint}
 use Rattle.grammar_core.specs.Production.{Production, one_of, valued, seq, map, alt, opt, star, pick, after_token, limited}
 use Rattle.grammar_core.specs.Reading.{◌>>=◌, Read, FaultFromEnd, refuse, check, may_be_empty, first, starts, picks, token_at, many_at, run}
 use Rattle.grammar_core.specs.Predictive.{Claims, continuing, is_fine, is_none, is_limit, are_limits, is_safe}
@@ -161,7 +161,7 @@ module _ {N : Type 0} {Tree : N → Type 0} (c : Claims N) (p : (n : N) → List
   )
     where
       bad : (w : Bool) → (w || disjoint b0 q) ≡ true → (w ≡ false → starts b0 s ≡ true) → {n : FaultFromEnd} → (w ≡ true → n.1 ≡ Syntax) → n ≡ (length s, d) → ⊥
-      bad true safe at y e = not_limit d (ap (λ (x : FaultFromEnd). x.1) (sym e) ∙ y refl) (and_parts (some_is q all_terminals) (is_limit d) fine).1
+      bad true safe at y e = not_limit d (ap (λ (x : FaultFromEnd). x.1) (sym e) ∙ y refl) (and_parts (some_is q terminal_count) (is_limit d) fine).1
       bad false safe at y e = both_ways (starts b0 s) (starts_disjoint b0 q s safe b) (at refl)
   passes w b0 (limited d d0 g) fine safe s at b =
       let one = passes w b0 g fine safe s at b in

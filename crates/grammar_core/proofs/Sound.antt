@@ -1,14 +1,13 @@
 -- What it is to read a language soundly: what is read is derived so, a fault has a completion up to it, and neither depends on more than the next token.
 use Rattle.std.proofs.Common.{◌≡◌, ◌≢◌, ℕ, ◌+◌, ◌≤◌, Bool, List, [], ◌∷◌, ◌++◌, length, Ok, Err, refl, ap, ◌∙◌, length-append, arith}
 use Rattle.std.specs.Prelude.{Some, None}
-use Rattle.grammar_core.specs.declared.terminal.Terminal.{Terminal}
-use Rattle.jdf_lex.specs.declared.token.Token.{Token}
+use Rattle.grammar_core.specs.Terminals.{Terminal}
+use Rattle.grammar_core.specs.declared.token.Token.{Token}
 use Rattle.grammar_core.specs.declared.code.Code.{Code}
 use Rattle.grammar_core.specs.declared.code.Code.TheVariants.{Syntax}
 use Rattle.grammar_core.specs.Terminals.{terminal_of}
 use Rattle.grammar_core.specs.Production.{Language, Fault, then_fault, taken, IsFrom}
-use Rattle.grammar_core.specs.Reading.{Read, FaultFromEnd, first, starts}
-use Rattle.grammar_core.specs.Predictive.{second}
+use Rattle.grammar_core.specs.Reading.{Read, FaultFromEnd, starts}
 
 -- both lists begin with the same token, or both are empty
 abbrev pub SameHead : List Token → List Token → Type 0

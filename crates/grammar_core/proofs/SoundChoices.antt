@@ -1,16 +1,15 @@
 -- A choice by the next token, or by the one after it, an optional text and a mapped tree are read soundly.
-use Rattle.std.proofs.Common.{◌≡◌, ◌+◌, Bool, true, false, cond, List, [], ◌∷◌, ◌++◌, length, Ok, Err, refl, ◌⊎◌, inl, inr, sym, ap, ◌∙◌, arith, subst}
-use Rattle.std.specs.Prelude.{Option, Some, None, ◌&&◌, not}
+use Rattle.std.proofs.Common.{◌≡◌, Bool, true, false, cond, List, [], ◌∷◌, ◌++◌, length, Ok, Err, refl, ◌⊎◌, inl, inr, sym, ap, ◌∙◌, arith, subst}
+use Rattle.std.specs.Prelude.{Option, Some, None, ◌&&◌}
 use Rattle.std.proofs.lemmas.Bool.{cases_Bool}
-use Rattle.grammar_core.specs.declared.terminal.Terminal.{Terminal}
-use Rattle.jdf_lex.specs.declared.token.Token.{Token}
+use Rattle.grammar_core.specs.Terminals.{Terminal}
+use Rattle.grammar_core.specs.declared.token.Token.{Token}
 use Rattle.grammar_core.specs.Terminals.{terminal_of}
 use Rattle.grammar_core.specs.Production.{Language, Maybe}
 use Rattle.grammar_core.specs.Reading.{◌>>=◌, Read, FaultFromEnd, starts, picks}
-use Rattle.grammar_core.specs.Predictive.{alone}
 use Rattle.grammar_core.proofs.ReadCases.{bind_ok, bind_err, chosen, ok_is, no_ok}
 use Rattle.grammar_core.proofs.Passes.{Passes}
-use Rattle.grammar_core.proofs.Sound.{Accepted, Faulted, SameHead, Sound, first_is, same_head_after, second_is, starts_same}
+use Rattle.grammar_core.proofs.Sound.{Accepted, Faulted, SameHead, Sound, same_head_after, starts_same}
 
 -- ---- a choice by the next token
 

@@ -1,8 +1,8 @@
 -- A list is read soundly.
-use Rattle.std.proofs.Common.{◌≡◌, ℕ, zero, suc, ◌+◌, ◌<◌, ◌≤◌, Bool, true, false, List, [], ◌∷◌, ◌++◌, length, Ok, Err, refl, inl, inr, sym, ap, ◌∙◌, append_assoc, length-append, arith, subst}
-use Rattle.std.specs.Prelude.{Option, Some, None, not}
-use Rattle.grammar_core.specs.declared.terminal.Terminal.{Terminal}
-use Rattle.jdf_lex.specs.declared.token.Token.{Token}
+use Rattle.std.proofs.Common.{◌≡◌, ℕ, zero, suc, ◌<◌, ◌≤◌, Bool, true, false, List, [], ◌∷◌, ◌++◌, length, Ok, Err, refl, inl, inr, sym, ap, ◌∙◌, append_assoc, length-append, arith, subst}
+use Rattle.std.specs.Prelude.{Option, Some, None}
+use Rattle.grammar_core.specs.Terminals.{Terminal}
+use Rattle.grammar_core.specs.declared.token.Token.{Token}
 use Rattle.grammar_core.specs.declared.code.Code.{Code}
 use Rattle.grammar_core.specs.declared.code.Code.TheVariants.{Syntax}
 use Rattle.grammar_core.specs.Production.{Language, Fault, then_fault, or_fault, at_start, taken, Many}

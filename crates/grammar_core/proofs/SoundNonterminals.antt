@@ -1,10 +1,10 @@
 -- A token and the nonterminal after it are read soundly.
-use Rattle.std.proofs.Common.{◌≡◌, suc, ◌+◌, Bool, true, List, [], ◌∷◌, ◌++◌, length, Ok, Err, refl, inl, inr, sym, ap, ◌∙◌, arith}
+use Rattle.std.proofs.Common.{◌≡◌, suc, Bool, true, List, [], ◌∷◌, ◌++◌, length, Ok, Err, refl, inl, inr, sym, ap, ◌∙◌, arith}
 use Rattle.std.specs.Prelude.{None}
-use Rattle.grammar_core.specs.declared.terminal.Terminal.{Terminal}
-use Rattle.jdf_lex.specs.declared.token.Token.{Token}
+use Rattle.grammar_core.specs.Terminals.{Terminal}
+use Rattle.grammar_core.specs.declared.token.Token.{Token}
 use Rattle.grammar_core.specs.declared.code.Code.{Code}
-use Rattle.grammar_core.specs.Terminals.{all_terminals, some_is}
+use Rattle.grammar_core.specs.Terminals.{terminal_count, some_is}
 use Rattle.grammar_core.specs.Production.{Language, Fault, then_fault, IsOne}
 use Rattle.grammar_core.specs.Reading.{◌>>=◌, Read, token_at}
 use Rattle.grammar_core.proofs.ReadCases.{bind_ok, bind_err, ok_is, no_ok, token_ok, token_err}
@@ -14,7 +14,7 @@ use Rattle.grammar_core.proofs.SoundTokens.{one_text, token_refuses}
 abbrev pub AfterToken : {A : Type 0} → (Terminal → Bool) → Language A → Language (Token × A)
 AfterToken q G s t o r = (m : List Token) × (y : Fault) × IsOne q s t.0 m × G m t.1 y r × (o ≡ then_fault None 1 y)
 
-pub after_token_sound : {A : Type 0} (q : Terminal → Bool) (G : Language A) (p : List Token → Read A) → some_is q all_terminals ≡ true → ((s : List Token) → Sound G p s) → Text G → (s : List Token) → Sound (AfterToken q G) (λ l. token_at q l >>= λ x. p x.1 >>= λ b. Ok ((x.0, b.0), b.1)) s
+pub after_token_sound : {A : Type 0} (q : Terminal → Bool) (G : Language A) (p : List Token → Read A) → some_is q terminal_count ≡ true → ((s : List Token) → Sound G p s) → Text G → (s : List Token) → Sound (AfterToken q G) (λ l. token_at q l >>= λ x. p x.1 >>= λ b. Ok ((x.0, b.0), b.1)) s
 after_token_sound q G p some g text s =
     record {
       accepted = λ x e.

@@ -1,10 +1,10 @@
 -- Each production that passes the test is read soundly.
-use Rattle.std.proofs.Common.{◌≡◌, ◌+◌, Bool, true, false, List, [], ◌∷◌, ◌++◌, length, refl, inl, inr, arith}
+use Rattle.std.proofs.Common.{◌≡◌, Bool, true, false, List, [], ◌∷◌, ◌++◌, length, refl, inl, inr, arith}
 use Rattle.std.specs.Prelude.{None, not}
 use Rattle.std.proofs.lemmas.Bool.{and_parts, and_from, or_cases, not-true}
-use Rattle.grammar_core.specs.declared.terminal.Terminal.{Terminal}
-use Rattle.jdf_lex.specs.declared.token.Token.{Token}
-use Rattle.grammar_core.specs.Terminals.{terminal_of, all_terminals, some_is, disjoint, within}
+use Rattle.grammar_core.specs.Terminals.{Terminal}
+use Rattle.grammar_core.specs.declared.token.Token.{Token}
+use Rattle.grammar_core.specs.Terminals.{terminal_of, terminal_count, some_is, disjoint, within}
 use Rattle.grammar_core.specs.Production.{Production, one_of, valued, seq, map, alt, opt, star, pick, after_token, limited, Language, then_fault, bad_unless, cut_at, taken, Derives}
 use Rattle.grammar_core.specs.Reading.{Read, may_be_empty, first, starts, run}
 use Rattle.grammar_core.specs.Predictive.{Claims, alone, second, both_first, is_fine, is_safe, has_plain}
@@ -21,7 +21,7 @@ use Rattle.grammar_core.proofs.SoundLimits.{limited_sound}
 -- each production has a text
 pub texts : {N : Type 0} {Tree : N → Type 0} (c : Claims N) (R : (n : N) → Language (Tree n)) → ((n : N) → Text (R n)) → {A : Type 0} (g : Production N Tree A) → is_fine c g ≡ true → Text (Derives R g)
 texts c R names (one_of q) fine = let one = one_text q fine in record { word = one.0 ∷ []; tree = one.0; fault = λ z. None; derives = λ z. (one.1 z, refl) }
-texts c R names (valued q good d) fine = let one = one_text q (and_parts (some_is q all_terminals) _ fine).0 in record { word = one.0 ∷ []; tree = one.0; fault = λ z. bad_unless (good one.0) d; derives = λ z. (one.1 z, refl) }
+texts c R names (valued q good d) fine = let one = one_text q (and_parts (some_is q terminal_count) _ fine).0 in record { word = one.0 ∷ []; tree = one.0; fault = λ z. bad_unless (good one.0) d; derives = λ z. (one.1 z, refl) }
 texts c R names (limited l d g) fine = let t = texts c R names g fine in record { word = t.word; tree = t.tree; fault = λ z. cut_at (l.at (t.word ++ z)) d (taken (t.word ++ z) z) (t.fault z); derives = λ z. (t.fault z, t.derives z, refl) }
 texts c R names (seq g h) fine =
     let f = and_parts (is_fine c g) _ fine in
@@ -79,7 +79,7 @@ pub run_sound : {N : Type 0} {Tree : N → Type 0} (c : Claims N) (R : (n : N) �
     → ((n : N) → Shrinks (p n)) → ((n : N) → FaultsWithin (p n)) → ((n : N) → Text (R n)) → ((n : N) (s : List Token) → Sound (R n) (p n) s)
     → {A : Type 0} (g : Production N Tree A) → is_fine c g ≡ true → (s : List Token) → Sound (Derives R g) (run p g) s
 run_sound c R p shrink faults names known (one_of q) fine s = token_sound q s fine
-run_sound c R p shrink faults names known (valued q good d) fine s = valued_sound q good d s (and_parts (some_is q all_terminals) _ fine).0
+run_sound c R p shrink faults names known (valued q good d) fine s = valued_sound q good d s (and_parts (some_is q terminal_count) _ fine).0
 run_sound c R p shrink faults names known (limited l d g) fine s = limited_sound l d (Derives R g) (run p g) (run_sound c R p shrink faults names known g fine) s
 run_sound c R p shrink faults names known (seq g h) fine s =
     let f = and_parts (is_fine c g) _ fine in

@@ -1,9 +1,9 @@
 -- One text after another is read soundly.
-use Rattle.std.proofs.Common.{◌≡◌, ℕ, ◌+◌, List, ◌++◌, length, Ok, refl, inl, inr, sym, ap, ◌∙◌, append_assoc, length-append, arith, subst}
+use Rattle.std.proofs.Common.{◌≡◌, ℕ, List, ◌++◌, length, Ok, refl, inl, inr, sym, ap, ◌∙◌, append_assoc, length-append, arith, subst}
 use Rattle.std.specs.Prelude.{None}
-use Rattle.jdf_lex.specs.declared.token.Token.{Token}
+use Rattle.grammar_core.specs.declared.token.Token.{Token}
 use Rattle.grammar_core.specs.Production.{Language, Fault, then_fault, taken}
-use Rattle.grammar_core.specs.Reading.{◌>>=◌, Read, FaultFromEnd, first}
+use Rattle.grammar_core.specs.Reading.{◌>>=◌, Read, FaultFromEnd}
 use Rattle.grammar_core.proofs.ReadCases.{bind_ok, bind_err, ok_is, no_ok}
 use Rattle.grammar_core.proofs.Sound.{Accepted, Faulted, SameHead, Sound, Text, extends_more, late_after, late_then, same_head_after, taken_is}
 

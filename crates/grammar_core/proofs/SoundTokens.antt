@@ -1,12 +1,12 @@
 -- A single token is read soundly.
 use Rattle.std.proofs.Common.{◌≡◌, Bool, true, false, List, [], ◌∷◌, length, Ok, Err, refl, inl, inr, sym, ap, ◌∙◌, subst}
 use Rattle.std.specs.Prelude.{Some, None}
-use Rattle.grammar_core.specs.declared.terminal.Terminal.{Terminal}
-use Rattle.jdf_lex.specs.declared.token.Token.{Token}
+use Rattle.grammar_core.specs.Terminals.{Terminal}
+use Rattle.grammar_core.specs.declared.token.Token.{Token}
 use Rattle.grammar_core.specs.declared.code.Code.{Code}
 use Rattle.grammar_core.specs.declared.code.Code.TheVariants.{Syntax}
 use Rattle.grammar_core.proofs.Tokens.{token_of, terminal_of_token}
-use Rattle.grammar_core.specs.Terminals.{terminal_of, all_terminals, some_is}
+use Rattle.grammar_core.specs.Terminals.{terminal_of, terminal_count, some_is}
 use Rattle.grammar_core.specs.Production.{Language, bad_unless, IsOne}
 use Rattle.grammar_core.specs.Reading.{◌>>=◌, check, starts, token_at}
 use Rattle.grammar_core.proofs.Sets.{some_at}
@@ -25,12 +25,12 @@ pub token_refuses : (q : Terminal → Bool) (s : List Token) → starts q s ≡ 
 token_refuses q [] h = refl
 token_refuses q (x ∷ s) h = rw h refl
 
-pub one_text : (q : Terminal → Bool) → some_is q all_terminals ≡ true → (x : Token) × ((z : List Token) → IsOne q (x ∷ z) x z)
+pub one_text : (q : Terminal → Bool) → some_is q terminal_count ≡ true → (x : Token) × ((z : List Token) → IsOne q (x ∷ z) x z)
 one_text q h =
-    let k = some_at q all_terminals h in
-    (token_of k.0, λ z. (refl, rw terminal_of_token k.1))
+    let k = some_at q terminal_count h in
+    (token_of k.0, λ z. (refl, rw (terminal_of_token k.0 k.1) k.2))
 
-pub token_sound : (q : Terminal → Bool) (s : List Token) → some_is q all_terminals ≡ true → Sound (One q) (token_at q) s
+pub token_sound : (q : Terminal → Bool) (s : List Token) → some_is q terminal_count ≡ true → Sound (One q) (token_at q) s
 token_sound q s h =
     record {
       accepted = λ x e. token_accepted q s x e;
@@ -56,7 +56,7 @@ token_sound q s h =
 abbrev pub Valued : (Terminal → Bool) → (Token → Bool) → Code → Language Token
 Valued q good c s t o r = IsOne q s t r × (o ≡ bad_unless (good t) c)
 
-pub valued_sound : (q : Terminal → Bool) (good : Token → Bool) (c : Code) (s : List Token) → some_is q all_terminals ≡ true → Sound (Valued q good c) (λ l. token_at q l >>= check good c l) s
+pub valued_sound : (q : Terminal → Bool) (good : Token → Bool) (c : Code) (s : List Token) → some_is q terminal_count ≡ true → Sound (Valued q good c) (λ l. token_at q l >>= check good c l) s
 valued_sound q good c s h =
     record {
       accepted = λ x e.

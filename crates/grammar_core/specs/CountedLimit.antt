@@ -1,7 +1,7 @@
 -- Why the index of the token that is too many makes a limit. These proofs stand in specs/ since the limit `expression_limit` holds them.
 use Rattle.std.proofs.Common.{◌≡◌, ℕ, zero, suc, ◌+◌, ◌≤◌, min, Bool, true, false, List, [], ◌∷◌, ◌++◌, length, get_or, refl, arith}
-use Rattle.jdf_lex.specs.declared.token.Token.{Token}
-use Rattle.grammar_core.specs.declared.terminal.Terminal.{Terminal}
+use Rattle.grammar_core.specs.declared.token.Token.{Token}
+use Rattle.grammar_core.specs.Terminals.{Terminal}
 use Rattle.grammar_core.specs.Terminals.{terminal_of}
 use Rattle.grammar_core.specs.TooMany.{token_indices, limit_at}
 

@@ -1,9 +1,9 @@
 -- The theorem on predictive grammars: what one token of lookahead reads is what the grammar derives, with the same tree and the same first fault.
 use Rattle.std.specs.Prelude.{◌≡◌, ℕ, ◌-◌, true, List, length, None, Ok, Err, ◌⊎◌}
-use Rattle.jdf_lex.specs.declared.token.Token.{Token}
+use Rattle.grammar_core.specs.declared.token.Token.{Token}
 use Rattle.grammar_core.specs.declared.code.Code.{Code}
 use Rattle.grammar_core.specs.Production.{Production, IsText, IsFirstFault}
-use Rattle.grammar_core.specs.Reading.{FaultFromEnd, whole}
+use Rattle.grammar_core.specs.Reading.{whole}
 use Rattle.grammar_core.specs.Predictive.{Claims, is_fine, are_names, LimitsOnly}
 
 -- One token of lookahead suffices for the grammar from this production on: the test finds each production fine, the claims of each nonterminal hold, and no limit has the code Syntax.

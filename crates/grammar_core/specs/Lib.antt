@@ -4,7 +4,6 @@ pub mod Reading
 pub mod Predictive
 pub mod TooMany
 pub mod CountedLimit
-pub mod Counted
 pub mod LimitBy
 pub mod ExactReading
 pub mod Returns

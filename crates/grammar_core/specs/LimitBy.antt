@@ -1,7 +1,7 @@
 -- Limits by a test of a token and the tokens before it.
 use Rattle.std.proofs.Common.{◌≡◌, ℕ, suc, ◌≤◌, Bool, true, false, cond, List, [], ◌∷◌, ◌++◌, length, refl, arith}
 use Rattle.std.specs.Prelude.{if◌then◌else◌}
-use Rattle.jdf_lex.specs.declared.token.Token.{Token}
+use Rattle.grammar_core.specs.declared.token.Token.{Token}
 use Rattle.grammar_core.specs.Production.{Limit}
 
 -- The index of the first token that is too many by the test p, or one after the last token. The list `front` has the tokens before them.

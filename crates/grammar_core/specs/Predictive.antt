@@ -1,9 +1,9 @@
 -- The test for predictive grammars: those that one token of lookahead reads.
 use Rattle.std.specs.Prelude.{◌≡◌, ℕ, Option, Some, None, Bool, true, false, ◌&&◌, ◌||◌, not}
-use Rattle.grammar_core.specs.declared.terminal.Terminal.{Terminal}
+use Rattle.grammar_core.specs.Terminals.{Terminal}
 use Rattle.grammar_core.specs.declared.code.Code.{Code}
 use Rattle.grammar_core.specs.declared.code.Code.TheVariants.{Syntax}
-use Rattle.grammar_core.specs.Terminals.{all_terminals, some_is, disjoint, within}
+use Rattle.grammar_core.specs.Terminals.{terminal_count, some_is, disjoint, within}
 use Rattle.grammar_core.specs.Production.{Production, one_of, valued, seq, map, alt, opt, star, pick, after_token, limited}
 use Rattle.grammar_core.specs.Reading.{may_be_empty, first}
 
@@ -27,8 +27,8 @@ continuing c (limited l d g) k = continuing c g k
 
 -- May one token of this set alone be a text of the production?
 abbrev pub alone : {N : Type 0} {Tree : N → Type 0} → (Terminal → Bool) → {A : Type 0} → Production N Tree A → Bool
-alone a (one_of q) = some_is (λ k. a k && q k) all_terminals
-alone a (valued q good d) = some_is (λ k. a k && q k) all_terminals
+alone a (one_of q) = some_is (λ k. a k && q k) terminal_count
+alone a (valued q good d) = some_is (λ k. a k && q k) terminal_count
 alone a (seq g h) = (alone a g && may_be_empty h) || (may_be_empty g && alone a h)
 alone a (map f g) = alone a g
 alone a (alt g h) = alone a g || alone a h
@@ -48,7 +48,7 @@ second c a (alt g h) k = second c a g k || second c a h k
 second c a (pick q g h) k = second c a g k || second c a h k
 second c a (opt g) k = second c a g k
 second c a (star full g) k = second c a g k || (alone a g && first g k)
-second c a (after_token q n) k = some_is (λ x. a x && q x) all_terminals && c.firsts n k
+second c a (after_token q n) k = some_is (λ x. a x && q x) terminal_count && c.firsts n k
 second c a (limited l d g) k = second c a g k
 
 -- the terminals in both first sets
@@ -85,8 +85,8 @@ is_safe w a (limited l d g) = is_safe w a g
 
 -- The next token decides at each point of the production what to read, and each part of it has a text.
 abbrev pub is_fine : {N : Type 0} {Tree : N → Type 0} → Claims N → {A : Type 0} → Production N Tree A → Bool
-is_fine c (one_of q) = some_is q all_terminals
-is_fine c (valued q good d) = some_is q all_terminals && is_limit d
+is_fine c (one_of q) = some_is q terminal_count
+is_fine c (valued q good d) = some_is q terminal_count && is_limit d
 is_fine c (seq g h) = is_fine c g && (is_fine c h && disjoint (continuing c g) (first h))
 is_fine c (map f g) = is_fine c g
 is_fine c (alt g h) = is_fine c g && (is_fine c h && (not (may_be_empty g) && disjoint (first g) (first h)))
@@ -97,13 +97,13 @@ is_fine c (pick q g h) =
     && (is_safe false (both_first g h) g && is_safe false (both_first g h) h))))))))
 is_fine c (opt g) = is_fine c g && not (may_be_empty g)
 is_fine c (star full g) = is_fine c g && (not (may_be_empty g) && (disjoint (continuing c g) (first g) && are_limits (full 0)))
-is_fine c (after_token q n) = some_is q all_terminals
+is_fine c (after_token q n) = some_is q terminal_count
 is_fine c (limited l d g) = is_fine c g
 
 -- Has the production a text without nonterminals?
 abbrev pub has_plain : {N : Type 0} {Tree : N → Type 0} {A : Type 0} → Production N Tree A → Bool
-has_plain (one_of q) = some_is q all_terminals
-has_plain (valued q good d) = some_is q all_terminals
+has_plain (one_of q) = some_is q terminal_count
+has_plain (valued q good d) = some_is q terminal_count
 has_plain (seq g h) = has_plain g && has_plain h
 has_plain (map f g) = has_plain g
 has_plain (alt g h) = has_plain g || has_plain h

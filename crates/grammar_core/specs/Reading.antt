@@ -1,7 +1,7 @@
 -- Reading tokens from left to right with one token of lookahead: recursive descent, computed from the grammar.
 use Rattle.std.specs.Prelude.{ℕ, zero, suc, Bool, true, false, List, [], ◌∷◌, Option, Some, None, ◌-◌, length, nat_lt, Result, Ok, Err, if◌then◌else◌, ◌&&◌, ◌||◌, ◌==◌}
-use Rattle.jdf_lex.specs.declared.token.Token.{Token}
-use Rattle.grammar_core.specs.declared.terminal.Terminal.{Terminal}
+use Rattle.grammar_core.specs.declared.token.Token.{Token}
+use Rattle.grammar_core.specs.Terminals.{Terminal}
 use Rattle.grammar_core.specs.Terminals.{terminal_of}
 use Rattle.grammar_core.specs.declared.code.Code.{Code}
 use Rattle.grammar_core.specs.declared.code.Code.TheVariants.{Syntax}

@@ -1,8 +1,8 @@
 -- The index of the first token that is too many.
 use Rattle.std.specs.Prelude.{ℕ, Bool, List, min, map, filter, slice_index_or}
 use Rattle.std.specs.List.{enumerate_from}
-use Rattle.jdf_lex.specs.declared.token.Token.{Token}
-use Rattle.grammar_core.specs.declared.terminal.Terminal.{Terminal}
+use Rattle.grammar_core.specs.declared.token.Token.{Token}
+use Rattle.grammar_core.specs.Terminals.{Terminal}
 use Rattle.grammar_core.specs.Terminals.{terminal_of}
 
 -- the indices of the tokens of this set, where the first token has index i

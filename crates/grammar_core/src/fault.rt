@@ -4,7 +4,7 @@ ghost use Rattle.std.specs.Prelude.{◌≡◌, length};
 ghost use Rattle.grammar_core.specs.Returns.{fault_with};
 
 use crate::code::Code;
-use jdf_lex::Token;
+use crate::token::Token;
 use ptg_base::Refusal;
 
 /// The first fault of a list of tokens, by its distance from the end of the list.

@@ -4,15 +4,11 @@
 mod code;
 mod fault;
 mod laws;
-mod limit;
-mod next;
-mod terminal;
 #[cfg(test)]
 mod tests;
+mod token;
 
 pub use code::Code;
 pub use fault::{ReadFault, ReadRefusal, refusal_at};
 pub use laws::{PredictiveGrammar, is_read_exactly};
-pub use limit::expression_limit;
-pub use next::{expect, is_next};
-pub use terminal::Terminal;
+pub use token::{Spot, Token};

@@ -1,44 +1,26 @@
 //! Each public call once.
 
-use crate::{Terminal, expect, expression_limit, is_next};
-use jdf_lex::{Spot, Token, TokenKind};
+use crate::{Code, ReadFault, ReadRefusal, Spot, Token, refusal_at};
 use ptg_base::Text;
-use std::alloc::Global;
 use std::test::Fail;
 
-fn token(alloc: Global, kind: TokenKind, text: &[u8]) -> Result<Token, Fail> {
-    Ok(Token {
-        kind,
-        text: Text::of(alloc, text)?,
-        start: 0,
-        end: 0,
-        spot: Spot { line: 1, column: 1 },
-    })
-}
-
 #[test]
-fn terminals(rt: HostRuntime) -> Result<(), Fail> {
-    let body = token(rt.alloc(), TokenKind::Name, b"BODY")?;
-    assert_eq!(rt; Terminal::of(&body), Terminal::Body);
-    let name = token(rt.alloc(), TokenKind::Name, b"body")?;
-    assert_eq!(rt; Terminal::of(&name), Terminal::Name);
-    let arrow = token(rt.alloc(), TokenKind::Mark, b"->")?;
-    assert_eq!(rt; Terminal::of(&arrow), Terminal::Outward);
-    let number = token(rt.alloc(), TokenKind::Number, b"17")?;
-    assert_eq!(rt; Terminal::of(&number), Terminal::Number);
-    Ok(())
-}
-
-#[test]
-fn next_token(rt: HostRuntime) -> Result<(), Fail> {
+fn refusals(rt: HostRuntime) -> Result<(), Fail> {
     let mut tokens = Vec::new(rt.alloc());
-    tokens.push(token(rt.alloc(), TokenKind::Mark, b"(")?)?;
-    tokens.push(token(rt.alloc(), TokenKind::Mark, b")")?)?;
-    assert!(rt; is_next(&tokens, Terminal::LeftParen));
-    assert!(rt; !is_next(&tokens, Terminal::RightParen));
-    assert_eq!(rt; expression_limit(&tokens), 512);
-    let (first, rest) = expect(&tokens, Terminal::LeftParen)?;
-    assert_eq!(rt; first.text.bytes(), b"(".as_slice());
-    assert_eq!(rt; rest.len(), 1);
+    tokens.push(Token {
+        terminal: 3,
+        text: Text::of(rt.alloc(), b"(")?,
+        start: 0,
+        end: 1,
+        spot: Spot { line: 1, column: 1 },
+    })?;
+    let fault = ReadFault {
+        left: 1,
+        code: Code::Stated(2),
+    };
+    assert_eq!(rt;
+        refusal_at(&tokens, Code::Stated(2)),
+        ReadRefusal::Fault(fault)
+    );
     Ok(())
 }

@@ -2,8 +2,8 @@
 use Rattle.std.proofs.Common.{◌≡◌, ℕ, ◌≤◌, Bool, true, false, cond, List, Ok, Err, Result, subst, refl, sym, ap, ◌∙◌}
 use Rattle.std.specs.Prelude.{Some, None, nat_le, ◌⊎◌, length}
 use Rattle.std.proofs.Common.{inl, inr}
-use Rattle.jdf_lex.specs.declared.token.Spot.{Spot}
-use Rattle.jdf_lex.specs.declared.token.Token.{Token}
+use Rattle.grammar_core.specs.declared.token.Spot.{Spot}
+use Rattle.grammar_core.specs.declared.token.Token.{Token}
 use Rattle.jdf_lex.specs.declared.fault.JdfFault.{JdfFault}
 use Rattle.ptg_base.specs.declared.refusal.Refusal.{Refusal}
 use Rattle.ptg_base.specs.declared.refusal.Refusal.TheVariants.{Fault, OutOfMemory}
@@ -13,7 +13,7 @@ use Rattle.jdf_lex.proofs.Uniqueness.{one_list}
 use Rattle.jdf_first.specs.Plain.{is_plain}
 use Rattle.std.specs.Str.{IsUtf8}
 use Rattle.grammar_core.specs.declared.code.Code.{Code}
-use Rattle.grammar_core.specs.declared.code.Code.TheVariants.{TooManyDeps}
+use Rattle.jdf_alphabet.specs.Codes.{TooManyDeps}
 use Rattle.ptg_base.specs.declared.refusal.Refusal.TheVariants as errors
 use Rattle.grammar_core.specs.declared.fault.ReadFault.{ReadFault}
 use Rattle.grammar_core.specs.Returns.{ReadRefusal, Fails}

@@ -1,9 +1,10 @@
 -- The names before the class, as a loop reads them.
 use Rattle.std.proofs.Common.{◌≡◌, ◌<◌, true, false, cond, List, [], ◌∷◌, ◌++◌, length, Ok, Err, refl, sym, ap, ◌∙◌, subst}
-use Rattle.jdf_lex.specs.declared.token.Token.{Token}
+use Rattle.grammar_core.specs.declared.token.Token.{Token}
 use Rattle.ptg_base.specs.declared.refusal.Refusal.TheVariants as errors
 use Rattle.grammar_core.specs.Production.{star}
-use Rattle.grammar_core.specs.Reading.{◌>>=◌, Read, starts, nonterminal_at, reading}
+use Rattle.grammar_core.specs.Reading.{◌>>=◌, Read, nonterminal_at, reading}
+use Rattle.jdf_alphabet.specs.Sets.{starts}
 use Rattle.grammar_core.specs.Returns.{ReadRefusal, Fails}
 use Rattle.grammar_core.proofs.Fuel.{nonterminal_shrinks, run_shrinks}
 use Rattle.jdf_first.specs.declared.part.Part.TheVariants.{Class}

@@ -3,12 +3,15 @@ use Rattle.std.proofs.Common.{◌≡◌, ℕ, suc, ◌<◌, Bool, true, false, c
 use Rattle.std.specs.Prelude.{Some, None, nat_le}
 use Rattle.std.proofs.lemmas.List.{append-nil, length-append}
 use Rattle.std.proofs.lemmas.Bool.Decides.{nat_tests}
-use Rattle.jdf_lex.specs.declared.token.Token.{Token}
-use Rattle.grammar_core.specs.declared.code.Code.TheVariants.{TooManyDeps}
-use Rattle.grammar_core.specs.declared.terminal.Terminal.{Terminal}
+use Rattle.grammar_core.specs.declared.token.Token.{Token}
+use Rattle.jdf_alphabet.specs.Codes.{TooManyDeps}
+use Rattle.jdf_alphabet.specs.declared.terminal.Terminal.{Terminal}
 use Rattle.ptg_base.specs.declared.refusal.Refusal.TheVariants as errors
-use Rattle.grammar_core.specs.Production.{Production, star, pick}
-use Rattle.grammar_core.specs.Reading.{◌>>=◌, Read, may_be_empty, first, starts, picks, refuse, many_at, nonterminal_at, reading}
+use Rattle.grammar_core.specs.Production.{Production, star}
+use Rattle.jdf_alphabet.specs.Terminals.{set}
+use Rattle.jdf_alphabet.specs.Sets.{pick, starts}
+use Rattle.grammar_core.specs.Reading.{◌>>=◌, Read, may_be_empty, first, picks, refuse, many_at, nonterminal_at, reading}
+use Rattle.grammar_core.specs.Reading as engine
 use Rattle.grammar_core.specs.Returns.{ReadRefusal, Fails}
 use Rattle.grammar_core.proofs.Fuel.{nonterminal_shrinks, run_shrinks, many_is}
 use Rattle.jdf_first.specs.declared.part.Part.{Part}
@@ -26,7 +29,7 @@ so_far front read = read >>= applied (λ xs. front ++ xs)
 -- what a list is made of: each begins with one of these terminals
 pub record IsListed {A : Type 0} (g : Production Part TreeOf A) (f : Terminal → Bool) : Type 0 where
   pub full : may_be_empty g ≡ false
-  pub begins : (s : List Token) → starts (first g) s ≡ starts f s
+  pub begins : (s : List Token) → engine.starts (first g) s ≡ starts f s
 
 so_far_nothing : {A : Type 0} (r : Read (List A)) → so_far [] r ≡ r
 unfolding so_far
@@ -82,7 +85,7 @@ dep_moves s x e = (run_shrinks (nonterminal_at inner) (nonterminal_shrinks inner
 pub dep_shrinks : (s : List Token) (x : DepTree) (next : List Token) → reading inner dep s ≡ Ok (x, next) → length next < length s
 dep_shrinks s x next e = dep_moves s (x, next) e
 
-dep_begins : (s : List Token) → starts (first dep) s ≡ starts is_arrow s
+dep_begins : (s : List Token) → engine.starts (first dep) s ≡ starts is_arrow s
 unfolding dep arrow
 dep_begins s = refl
 
@@ -125,7 +128,7 @@ pub dep_reads : (s : List Token) → reading inner dep s ≡ (reading inner arro
 unfolding dep
 dep_reads s = regroup (reading inner arrow s) (reading inner (pick goes_on_target unguarded guarded)) dep_of ∙ go (reading inner arrow s)
   where
-    go : (r : Read Bool) → (r >>= λ a. cond (picks (first unguarded) (first guarded) goes_on_target a.1) (reading inner unguarded a.1) (reading inner guarded a.1) >>= applied (λ (x : Choice). dep_of (a.0, x)))
+    go : (r : Read Bool) → (r >>= λ a. cond (picks (first unguarded) (first guarded) (set goes_on_target) a.1) (reading inner unguarded a.1) (reading inner guarded a.1) >>= applied (λ (x : Choice). dep_of (a.0, x)))
         ≡ (r >>= λ a. cond (is_target a.1) (reading inner unguarded a.1) (reading inner guarded a.1) >>= applied (λ (x : Choice). dep_of (a.0, x)))
     go (Ok a) = rw (begins_target a.1) refl
     go (Err e) = refl

@@ -1,14 +1,16 @@
 -- Reading one after the other, as a loop does.
 use Rattle.std.proofs.Common.{◌≡◌, ℕ, zero, suc, ◌<◌, ◌≤◌, Bool, true, false, cond, List, [], ◌∷◌, length, Result, Ok, Err, refl, sym, ap, ◌∙◌, subst}
 use Rattle.std.specs.Prelude.{Option, Some, None}
-use Rattle.jdf_lex.specs.declared.token.Token.{Token}
+use Rattle.grammar_core.specs.declared.token.Token.{Token}
 use Rattle.term_core.specs.declared.operator.BinOp.{BinOp}
-use Rattle.grammar_core.specs.declared.terminal.Terminal.{Terminal}
-use Rattle.grammar_core.specs.declared.terminal.Terminal.TheVariants as terminal
-use Rattle.grammar_core.specs.Terminals.{is}
+use Rattle.jdf_alphabet.specs.declared.terminal.Terminal.{Terminal}
+use Rattle.jdf_alphabet.specs.declared.terminal.Terminal.TheVariants as terminal
+use Rattle.jdf_alphabet.specs.Terminals.{is}
 use Rattle.ptg_base.specs.declared.refusal.Refusal.TheVariants as errors
-use Rattle.grammar_core.specs.Production.{Production, one_of, seq, map, opt, star}
-use Rattle.grammar_core.specs.Reading.{FaultFromEnd, ◌>>=◌, Read, may_be_empty, first, starts, token_at, many_at, nonterminal_at, reading}
+use Rattle.grammar_core.specs.Production.{Production, seq, map, opt, star}
+use Rattle.jdf_alphabet.specs.Sets.{one_of, starts, token_at}
+use Rattle.grammar_core.specs.Reading.{FaultFromEnd, ◌>>=◌, Read, may_be_empty, first, many_at, nonterminal_at, reading}
+use Rattle.grammar_core.specs.Reading as engine
 use Rattle.grammar_core.specs.Returns.{ReadRefusal, Fails}
 use Rattle.grammar_core.proofs.Fuel.{nonterminal_shrinks, run_shrinks, many_is}
 use Rattle.jdf_first.specs.declared.part.Part.{Part}
@@ -50,10 +52,10 @@ fails_before (errors.Fault x) r f h = rw h refl
 -- ---- any number of them
 
 -- where none is too many, the number of the first does not matter
-any_index : {A : Type 0} (q : Terminal → Bool) (p : List Token → Read A) (n i j : ℕ) (s : List Token) → many_at any q p i n s ≡ many_at any q p j n s
+any_index : {A : Type 0} (q : ℕ → Bool) (p : List Token → Read A) (n i j : ℕ) (s : List Token) → many_at any q p i n s ≡ many_at any q p j n s
 unfolding many_at
 any_index q p zero i j s = refl
-any_index {A} q p (suc n) i j s = ap (λ (r : Read (List A)). cond (starts q s) r (Ok ([], s))) (go (λ t. any_index q p n (suc i) (suc j) t) (p s))
+any_index {A} q p (suc n) i j s = ap (λ (r : Read (List A)). cond (engine.starts q s) r (Ok ([], s))) (go (λ t. any_index q p n (suc i) (suc j) t) (p s))
   where
     go : ((t : List Token) → many_at any q p (suc i) n t ≡ many_at any q p (suc j) n t) → (r : Read A) → (r >>= λ a. many_at any q p (suc i) n a.1 >>= applied (λ (l : List A). a.0 ∷ l)) ≡ (r >>= λ a. many_at any q p (suc j) n a.1 >>= applied (λ (l : List A). a.0 ∷ l))
     go same (Ok a) = ap (λ (m : Read (List A)). m >>= applied (λ (l : List A). a.0 ∷ l)) (same a.1)
@@ -62,11 +64,11 @@ any_index {A} q p (suc n) i j s = ap (λ (r : Read (List A)). cond (starts q s) 
 unfoldable pub many_of : {A : Type 0} → Production Part TreeOf A → List Token → Read (List A)
 many_of g s = reading inner (star any g) s
 
-pub many_of_is : {A : Type 0} (g : Production Part TreeOf A) → may_be_empty g ≡ false → (s : List Token) → many_of g s ≡ cond (starts (first g) s) (reading inner g s >>= λ a. many_of g a.1 >>= λ more. Ok (a.0 ∷ more.0, more.1)) (Ok ([], s))
+pub many_of_is : {A : Type 0} (g : Production Part TreeOf A) → may_be_empty g ≡ false → (s : List Token) → many_of g s ≡ cond (engine.starts (first g) s) (reading inner g s >>= λ a. many_of g a.1 >>= λ more. Ok (a.0 ∷ more.0, more.1)) (Ok ([], s))
 unfolding many_of
 many_of_is {A} g full s =
     many_is any (first g) (reading inner g) (λ s' x e. (run_shrinks (nonterminal_at inner) (nonterminal_shrinks inner) g s' x e).1 full) 0 s
-    ∙ ap (λ (r : Read (List A)). cond (starts (first g) s) r (Ok ([], s))) (go (reading inner g s))
+    ∙ ap (λ (r : Read (List A)). cond (engine.starts (first g) s) r (Ok ([], s))) (go (reading inner g s))
   where
     go : (r : Read A) → (r >>= λ a. many_at any (first g) (reading inner g) 1 (length a.1) a.1 >>= applied (λ (l : List A). a.0 ∷ l)) ≡ (r >>= λ a. many_at any (first g) (reading inner g) 0 (length a.1) a.1 >>= applied (λ (l : List A). a.0 ∷ l))
     go (Ok a) = ap (λ (m : Read (List A)). m >>= applied (λ (l : List A). a.0 ∷ l)) (any_index (first g) (reading inner g) (length a.1) 1 0 a.1)
@@ -135,12 +137,12 @@ with_option false r t w f = refl
 
 -- a form that another may follow
 pub followed_reads : {A B C : Type 0} (g : Production Part TreeOf B) (h : Production Part TreeOf A) (f : B × Option A → C) (s : List Token)
-    → reading inner (map f (seq g (opt h))) s ≡ (reading inner g s >>= λ a. cond (starts (first h) a.1) (reading inner h a.1 >>= applied (λ x. f (a.0, Some x))) (Ok (f (a.0, None), a.1)))
+    → reading inner (map f (seq g (opt h))) s ≡ (reading inner g s >>= λ a. cond (engine.starts (first h) a.1) (reading inner h a.1 >>= applied (λ x. f (a.0, Some x))) (Ok (f (a.0, None), a.1)))
 followed_reads {A} {B} {C} g h f s = regroup (reading inner g s) (reading inner (opt h)) f ∙ go (reading inner g s)
   where
-    go : (r : Read B) → (r >>= λ a. cond (starts (first h) a.1) (reading inner h a.1 >>= applied Some) (Ok (None, a.1)) >>= applied (λ x. f (a.0, x)))
-        ≡ (r >>= λ a. cond (starts (first h) a.1) (reading inner h a.1 >>= applied (λ x. f (a.0, Some x))) (Ok (f (a.0, None), a.1)))
-    go (Ok a) = with_option (starts (first h) a.1) (reading inner h a.1) a.1 a.0 f
+    go : (r : Read B) → (r >>= λ a. cond (engine.starts (first h) a.1) (reading inner h a.1 >>= applied Some) (Ok (None, a.1)) >>= applied (λ x. f (a.0, x)))
+        ≡ (r >>= λ a. cond (engine.starts (first h) a.1) (reading inner h a.1 >>= applied (λ x. f (a.0, Some x))) (Ok (f (a.0, None), a.1)))
+    go (Ok a) = with_option (engine.starts (first h) a.1) (reading inner h a.1) a.1 a.0 f
     go (Err e) = refl
 
 pub element_reads : (s : List Token) → reading inner (reference Body) s ≡ (reading inner (name Body) s >>= λ a. cond (starts (is terminal.LeftBracket) a.1) (reading inner index a.1 >>= applied (λ i. Elem a.0 i)) (Ok (Name a.0, a.1)))

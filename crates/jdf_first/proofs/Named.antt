@@ -1,6 +1,6 @@
 -- What the names of the grammar read.
 use Rattle.std.proofs.Common.{◌≡◌, List}
-use Rattle.jdf_lex.specs.declared.token.Token.{Token}
+use Rattle.grammar_core.specs.declared.token.Token.{Token}
 use Rattle.grammar_core.specs.Reading.{nonterminal_at, reading}
 use Rattle.grammar_core.proofs.Fuel.{nonterminal_is}
 use Rattle.jdf_first.specs.declared.part.Part.{Part}

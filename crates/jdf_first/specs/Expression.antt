@@ -1,6 +1,6 @@
 -- Expressions of the text as trees.
 use Rattle.std.specs.Prelude.{ℤ}
-use Rattle.jdf_lex.specs.declared.token.Spot.{Spot}
+use Rattle.grammar_core.specs.declared.token.Spot.{Spot}
 use Rattle.term_core.specs.declared.operator.BinOp.{BinOp}
 use Rattle.jdf_first.specs.declared.expression.Word.{Word}
 

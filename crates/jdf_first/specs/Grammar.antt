@@ -1,16 +1,17 @@
 -- The grammar of the texts that are built so far.
 use Rattle.std.specs.Prelude.{ℕ, pos, Bool, nat_le, List, [], ◌∷◌, ◌++◌, Option, Some, None, ◌||◌, if◌then◌else◌}
-use Rattle.jdf_lex.specs.declared.token.Spot.{Spot}
-use Rattle.jdf_lex.specs.declared.token.Token.{Token}
+use Rattle.grammar_core.specs.declared.token.Spot.{Spot}
+use Rattle.grammar_core.specs.declared.token.Token.{Token}
 use Rattle.term_core.specs.declared.operator.BinOp.{BinOp}
 use Rattle.term_core.specs.declared.operator.BinOp.TheVariants.{Add, Sub, Eq}
-use Rattle.grammar_core.specs.declared.terminal.Terminal.{Terminal}
-use Rattle.grammar_core.specs.declared.terminal.Terminal.TheVariants as terminal
+use Rattle.jdf_alphabet.specs.declared.terminal.Terminal.{Terminal}
+use Rattle.jdf_alphabet.specs.declared.terminal.Terminal.TheVariants as terminal
 use Rattle.grammar_core.specs.declared.code.Code.{Code}
-use Rattle.grammar_core.specs.declared.code.Code.TheVariants.{BadNumber, ExprTooLong, TooManyDeps}
-use Rattle.grammar_core.specs.Terminals.{terminal_of, is}
-use Rattle.grammar_core.specs.Production.{Production, one_of, valued, seq, map, alt, opt, star, pick, after_token, limited}
-use Rattle.grammar_core.specs.Counted.{is_name, expression_limit}
+use Rattle.jdf_alphabet.specs.Codes.{BadNumber, ExprTooLong, TooManyDeps}
+use Rattle.jdf_alphabet.specs.Terminals.{terminal_of, is, set}
+use Rattle.grammar_core.specs.Production.{Production, seq, map, alt, opt, star, limited}
+use Rattle.jdf_alphabet.specs.Sets.{one_of, valued, pick, after_token}
+use Rattle.jdf_alphabet.specs.Counted.{is_name, expression_limit}
 use Rattle.grammar_core.specs.Predictive.{Claims}
 use Rattle.jdf_first.specs.declared.expression.Word.{Word}
 use Rattle.jdf_first.specs.declared.part.Part.{Part}
@@ -270,4 +271,4 @@ goes_on_expr Body k = is_sum k || is terminal.Equal k || is terminal.LeftBracket
 
 -- both, for what recurs
 abbrev pub claims : Claims Part
-claims = record { firsts = begins_atom; continues = goes_on_expr }
+claims = record { firsts = λ part. set (begins_atom part); continues = λ part. set (goes_on_expr part) }

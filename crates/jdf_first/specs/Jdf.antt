@@ -1,8 +1,8 @@
 -- The text of a JDF.
 use Rattle.std.specs.Prelude.{◌≡◌, ℕ, ◌≤◌, List, length, None, IsTrue}
 use Rattle.std.specs.Str.{IsUtf8}
-use Rattle.jdf_lex.specs.declared.token.Spot.{Spot}
-use Rattle.jdf_lex.specs.declared.token.Token.{Token}
+use Rattle.grammar_core.specs.declared.token.Spot.{Spot}
+use Rattle.grammar_core.specs.declared.token.Token.{Token}
 use Rattle.jdf_lex.specs.Tokens.{IsLexed}
 use Rattle.grammar_core.specs.Production.{IsText}
 use Rattle.jdf_first.specs.declared.tree.Jdf.{Jdf}

@@ -1,11 +1,11 @@
 -- What the readers of the code test and read.
 use Rattle.std.specs.Prelude.{Bool, false, ◌&&◌, ◌||◌, List, [], ◌∷◌}
-use Rattle.jdf_lex.specs.declared.token.Token.{Token}
-use Rattle.grammar_core.specs.declared.terminal.Terminal.{Terminal}
-use Rattle.grammar_core.specs.declared.terminal.Terminal.TheVariants as terminal
-use Rattle.grammar_core.specs.Terminals.{is, terminal_of}
-use Rattle.grammar_core.specs.Counted.{is_name}
-use Rattle.grammar_core.specs.Reading.{starts}
+use Rattle.grammar_core.specs.declared.token.Token.{Token}
+use Rattle.jdf_alphabet.specs.declared.terminal.Terminal.{Terminal}
+use Rattle.jdf_alphabet.specs.declared.terminal.Terminal.TheVariants as terminal
+use Rattle.jdf_alphabet.specs.Terminals.{is, terminal_of}
+use Rattle.jdf_alphabet.specs.Counted.{is_name}
+use Rattle.jdf_alphabet.specs.Sets.{starts}
 use Rattle.jdf_first.specs.declared.part.Part.{Part}
 use Rattle.jdf_first.specs.declared.part.Rank.{Rank}
 use Rattle.jdf_first.specs.declared.part.Rank.TheVariants.{Equal, Sum}

@@ -2,7 +2,8 @@
 
 ghost use Rattle.std.specs.Prelude.{◌≡◌};
 ghost use Rattle.grammar_core.specs.Returns.{Returns};
-ghost use Rattle.grammar_core.specs.Reading.{reading, starts};
+ghost use Rattle.grammar_core.specs.Reading.{reading};
+ghost use Rattle.jdf_alphabet.specs.Sets.{starts};
 ghost use Rattle.jdf_first.specs.Grammar.{inner, call, target, unguarded, guarded, arrow, is_arrow, dep, deps};
 ghost use Rattle.jdf_first.specs.Ranks.{is_target};
 
@@ -11,7 +12,8 @@ use crate::name::{is_name_next, name};
 use crate::operators::outer;
 use crate::part::Part;
 use crate::tree::{DepTree, TargetTree};
-use grammar_core::{Code, ReadRefusal, Terminal, expect, is_next, refusal_at};
+use grammar_core::{Code, ReadRefusal, refusal_at};
+use jdf_alphabet::{GrammarCode, Terminal, expect, is_next};
 use jdf_lex::Token;
 use ptg_base::Seq;
 use std::alloc::Global;
@@ -134,7 +136,7 @@ pub(crate) fn deps(alloc: Global, tokens: &[Token]) -> Result<(Seq<DepTree>, &[T
     let mut rest = tokens;
     'more: while is_arrow_next(rest) {
         if list.len() == MOST_DEPS {
-            return Err(refusal_at(rest, Code::TooManyDeps));
+            return Err(refusal_at(rest, GrammarCode::TooManyDeps.code()));
         }
         let (next, after) = dep(alloc, rest)?;
         list.push(next)?;

@@ -12,8 +12,6 @@ mod part;
 mod plain;
 mod read;
 mod statement;
-#[cfg(test)]
-mod tests;
 mod tree;
 
 pub use expression::{ExprNode, ExprTree, Word};

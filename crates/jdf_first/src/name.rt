@@ -2,12 +2,14 @@
 
 ghost use Rattle.std.specs.Prelude.{◌≡◌, IfOk, OnErr};
 ghost use Rattle.grammar_core.specs.Returns.{Returns};
-ghost use Rattle.grammar_core.specs.Reading.{reading, starts};
+ghost use Rattle.grammar_core.specs.Reading.{reading};
+ghost use Rattle.jdf_alphabet.specs.Sets.{starts};
 ghost use Rattle.jdf_first.specs.Grammar.{inner, name, names, word_of};
 
 use crate::expression::Word;
 use crate::part::Part;
-use grammar_core::{Code, ReadRefusal, Terminal, refusal_at};
+use grammar_core::{Code, ReadRefusal, refusal_at};
+use jdf_alphabet::Terminal;
 use jdf_lex::Token;
 use ptg_base::{OutOfMemory, Text};
 use std::alloc::Global;

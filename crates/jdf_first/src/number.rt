@@ -7,7 +7,8 @@ ghost use Rattle.jdf_first.specs.Grammar.{inner, number};
 ghost use Rattle.jdf_first.specs.Numbers.{decimal, fits, is_number, has_zero_before};
 
 use crate::expression::ExprTree;
-use grammar_core::{Code, ReadRefusal, Terminal, expect, refusal_at};
+use grammar_core::{ReadRefusal, refusal_at};
+use jdf_alphabet::{GrammarCode, Terminal, expect};
 use jdf_lex::Token;
 
 /// The largest number.
@@ -57,6 +58,6 @@ pub(crate) fn number(tokens: &[Token]) -> Result<(ExprTree, &[Token]), ReadRefus
     let (token, rest) = expect(tokens, Terminal::Number)?;
     match value(token.text.bytes()) {
         Some(z) => Ok((ExprTree::num(z, token.spot), rest)),
-        None => Err(refusal_at(tokens, Code::BadNumber)),
+        None => Err(refusal_at(tokens, GrammarCode::BadNumber.code())),
     }
 }

@@ -1,9 +1,10 @@
 //! Expressions.
 
 ghost use Rattle.std.specs.Prelude.{◌≡◌, MatchOption, Ok, true, false};
-ghost use Rattle.grammar_core.specs.Production.{map, one_of};
+ghost use Rattle.grammar_core.specs.Production.{map};
+ghost use Rattle.jdf_alphabet.specs.Sets.{one_of, starts};
 ghost use Rattle.grammar_core.specs.Returns.{Returns};
-ghost use Rattle.grammar_core.specs.Reading.{reading, starts};
+ghost use Rattle.grammar_core.specs.Reading.{reading};
 ghost use Rattle.jdf_first.specs.Grammar.{inner, index, parens, reference, atom, expr, outer, operator_by, operator_of};
 ghost use Rattle.jdf_first.specs.Ranks.{operators_of, operand_of, of_rank};
 ghost use Rattle.jdf_first.specs.declared.part.Part.TheVariants.{Body};
@@ -12,9 +13,8 @@ use crate::expression::ExprTree;
 use crate::name::{is_name_next, name};
 use crate::number::number;
 use crate::part::{Part, Rank};
-use grammar_core::{
-    Code, ReadFault, ReadRefusal, Terminal, expect, expression_limit, is_next, refusal_at,
-};
+use grammar_core::{ReadFault, ReadRefusal, refusal_at};
+use jdf_alphabet::{GrammarCode, Terminal, expect, expression_limit, is_next};
 use jdf_lex::Token;
 use std::alloc::Global;
 use term_core::BinOp;
@@ -169,11 +169,11 @@ pub(crate) fn outer(
     let (window, behind) = tokens.split_at(limit + 1);
     match expression(alloc, part, window) {
         Ok((tree, rest)) if !rest.is_empty() => Ok((tree, &tokens[window.len() - rest.len()..])),
-        Ok(_) => Err(refusal_at(&tokens[limit..], Code::ExprTooLong)),
+        Ok(_) => Err(refusal_at(&tokens[limit..], GrammarCode::ExprTooLong.code())),
         Err(ReadRefusal::OutOfMemory) => Err(ReadRefusal::OutOfMemory),
         Err(ReadRefusal::Fault(ReadFault { left: 0, .. })) => Err(refusal_at(
             &tokens[limit..],
-            Code::ExprTooLong,
+            GrammarCode::ExprTooLong.code(),
         )),
         Err(ReadRefusal::Fault(ReadFault { left, code })) => Err(ReadRefusal::Fault(ReadFault {
             left: left + behind.len(),

@@ -5,12 +5,16 @@ ghost use Rattle.std.specs.List.{list_all};
 ghost use Rattle.jdf_lex.specs.Spelling.{is_blank};
 ghost use Rattle.jdf_first.specs.Plain.{is_built, is_plain};
 
-use jdf_lex::{Token, TokenKind};
+use jdf_alphabet::Terminal;
+use jdf_lex::Token;
 
-fn is_built(kind: TokenKind) -> bool
-    ensures { result ≡ is_built kind }
+fn is_built(terminal: Terminal) -> bool
+    ensures { result ≡ is_built terminal }
 {
-    matches!(kind, TokenKind::Name | TokenKind::Number | TokenKind::Mark)
+    !matches!(
+        terminal,
+        Terminal::Quoted | Terminal::Raw | Terminal::OptionLine | Terminal::Other
+    )
 }
 
 fn is_blank(b: u8) -> bool
@@ -44,7 +48,7 @@ pub fn is_plain(text: &[u8], tokens: &[Token]) -> bool
 {
     let mut at = 0;
     for token in tokens {
-        if !is_built(token.kind) || !are_blank_between(text, at, token.start as usize) {
+        if !is_built(Terminal::of(token)) || !are_blank_between(text, at, token.start as usize) {
             return false;
         }
         at = token.end as usize;

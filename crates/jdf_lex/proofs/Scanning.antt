@@ -1,18 +1,18 @@
 -- Steps of the scanner from unit to unit, and its results.
 use Rattle.std.proofs.Common.{◌≡◌, ℕ, ◌+◌, ◌-◌, ◌<◌, ◌≤◌, Bool, true, false, List, [], ◌∷◌, ◌++◌, length, take, drop, get_or, refl, sym, ◌∙◌, ap, subst, inl, inr, arith, length-drop}
-use Rattle.std.specs.List.{slice_range}
 use Rattle.std.proofs.Math.Seq.{take-add}
 use Rattle.std.proofs.lemmas.List.{append-nil, take-append-drop, drop-drop, drop_more, drop_all, length-take-le, length_push, take_rest}
 use Rattle.jdf_lex.specs.declared.cursor.Cursor.{Cursor}
 use Rattle.jdf_lex.specs.declared.fault.JdfCode.TheVariants.{Unclosed, TooManyTokens}
 use Rattle.jdf_lex.specs.declared.lexical_unit.LexicalUnit.{LexicalUnit}
 use Rattle.jdf_lex.specs.declared.lexical_unit.LexicalUnit.TheVariants.{Blank, LineComment, BlockComment, TokenOf}
-use Rattle.jdf_lex.specs.declared.token.Token.{Token}
-use Rattle.jdf_lex.specs.declared.token.TokenKind.{TokenKind}
+use Rattle.grammar_core.specs.declared.token.Token.{Token}
+use Rattle.jdf_alphabet.specs.declared.kind.TokenKind.{TokenKind}
 use Rattle.jdf_lex.specs.Spelling.{unit_at, first_unit, is_spelling}
 use Rattle.jdf_lex.specs.Tokens.{spot_after, IsUnit, IsToken, is_dropped, IsLexedTo, IsLexed, IsUnclosed, IsTokenFault}
 use Rattle.jdf_lex.specs.Tokens.IsLexedTo.{nothing_more, dropped_then, token_then}
-use Rattle.jdf_lex.specs.Reading.{front_unit, IsCursorIn, IsScanned}
+use Rattle.jdf_alphabet.specs.Terminals.{number_of, terminal_by}
+use Rattle.jdf_lex.specs.Reading.{token_here, front_unit, IsCursorIn, IsScanned}
 use Rattle.jdf_lex.proofs.Fronts.{front_found, front_none, Found, found_unit, nothing}
 
 -- Two scans, the second from the end of the first, are one scan.
@@ -79,7 +79,7 @@ step_token text i n t token =
     (subst (λ z. IsLexedTo (take (i + n) text) left z left []) (sym (front_of text i n)) nothing_more)
 
 token_made : (text : List ℕ) (here : Cursor) (kind : TokenKind) (n : ℕ) → IsCursorIn text here → IsHere text here.index (TokenOf kind) n
-    → IsToken (take here.index text) (take n (drop here.index text)) (drop (here.index + n) text) (record { kind = kind; text = slice_range text here.index (here.index + n); start = here.index; end = here.index + n; spot = here.spot })
+    → IsToken (take here.index text) (take n (drop here.index text)) (drop (here.index + n) text) (token_here text here kind n)
 token_made text here kind n cursor found =
     let back : here.index + n - here.index ≡ n = omega arith in
     let before : length (take here.index text) ≡ here.index = length-take-le here.index text cursor.within in
@@ -90,7 +90,9 @@ token_made text here kind n cursor found =
       start = sym before;
       end = omega arith;
       spot = cursor.spot;
+      kind = kind;
       unit = found.unit;
+      terminal = ap (λ m. number_of (terminal_by kind (take m (drop here.index text)))) back;
     }
 
 -- ---- the state before the next unit
@@ -117,10 +119,10 @@ scanned_dropped text tokens here next p n state found dropped cursor index =
     }
 
 pub scanned_token : (text : List ℕ) (tokens more : List Token) (here next : Cursor) (kind : TokenKind) (n : ℕ) → IsScanned text tokens here → front_unit (drop here.index text) ≡ found_unit (TokenOf kind) n
-    → length tokens < 1000000 → more ≡ tokens ++ record { kind = kind; text = slice_range text here.index (here.index + n); start = here.index; end = here.index + n; spot = here.spot } ∷ []
+    → length tokens < 1000000 → more ≡ tokens ++ token_here text here kind n ∷ []
     → IsCursorIn text next → next.index ≡ here.index + n → IsScanned text more next
 scanned_token text tokens more here next kind n state found at_most pushed cursor index =
-    let token : Token = record { kind = kind; text = slice_range text here.index (here.index + n); start = here.index; end = here.index + n; spot = here.spot } in
+    let token : Token = token_here text here kind n in
     let is = unit_here text here.index (TokenOf kind) n state.cursor.within found in
     let made = token_made text here kind n state.cursor is in
     let on = joined (take here.index text) (drop here.index text) (take (here.index + n) text) (drop (here.index + n) text) [] text tokens (token ∷ []) state.lexed (step_token text here.index n token made) in

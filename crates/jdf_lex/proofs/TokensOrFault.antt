@@ -1,15 +1,14 @@
 -- Each text has tokens or a first token fault: each position has a next unit, or is the end or a fault.
 use Rattle.std.proofs.Common.{◌≡◌, ℕ, zero, suc, ◌+◌, ◌<◌, ◌≤◌, ◌⊎◌, true, List, [], ◌++◌, ◌∷◌, length, take, drop, Some, None, refl, inl, inr, arith}
-use Rattle.std.specs.List.{slice_range}
 use Rattle.std.proofs.lemmas.Bool.{cases_lt}
 use Rattle.jdf_lex.specs.declared.cursor.Cursor.{Cursor}
 use Rattle.jdf_lex.specs.declared.fault.JdfCode.TheVariants.{Unclosed, TooManyTokens}
 use Rattle.jdf_lex.specs.declared.lexical_unit.LexicalUnit.{LexicalUnit}
 use Rattle.jdf_lex.specs.declared.lexical_unit.LexicalUnit.TheVariants.{Blank, LineComment, BlockComment, TokenOf}
-use Rattle.jdf_lex.specs.declared.token.Token.{Token}
-use Rattle.jdf_lex.specs.declared.token.TokenKind.{TokenKind}
+use Rattle.grammar_core.specs.declared.token.Token.{Token}
+use Rattle.jdf_alphabet.specs.declared.kind.TokenKind.{TokenKind}
 use Rattle.jdf_lex.specs.Tokens.{spot_after, is_dropped, HasTokens, HasFault, TokensOrFault, OneTokenFault, NotBoth}
-use Rattle.jdf_lex.specs.Reading.{front_unit, IsCursorIn, IsScanned}
+use Rattle.jdf_lex.specs.Reading.{front_unit, token_here, IsCursorIn, IsScanned}
 use Rattle.jdf_lex.proofs.Fronts.{Found, found_unit}
 use Rattle.jdf_lex.proofs.Scanning.{unit_here, scanned_at_start, scanned_dropped, scanned_token, lexed_at_end, fault_unclosed, fault_many}
 use Rattle.jdf_lex.proofs.Uniqueness.{one_fault, no_fault}
@@ -35,7 +34,7 @@ token_next text tokens here kind n state later found =
       | inl at_most ↦
           let is = unit_here text here.index (TokenOf kind) n state.cursor.within found in
           let next : Cursor = record { index = here.index + n; spot = spot_after (take (here.index + n) text) } in
-          let more : List Token = tokens ++ record { kind = kind; text = slice_range text here.index (here.index + n); start = here.index; end = here.index + n; spot = here.spot } ∷ [] in
+          let more : List Token = tokens ++ token_here text here kind n ∷ [] in
           later more next (scanned_token text tokens more here next kind n state found at_most refl (cursor_at text (here.index + n) is.within) refl) (omega (arith, is.nonempty))
       | inr many ↦ inr (record { spot = here.spot; code = TooManyTokens }, fault_many text tokens here kind n state found many)
     ]

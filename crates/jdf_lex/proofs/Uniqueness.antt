@@ -6,9 +6,10 @@ use Rattle.std.proofs.lemmas.List.{append_cancel_left, append-nil}
 use Rattle.jdf_lex.specs.declared.fault.JdfFault.{JdfFault}
 use Rattle.jdf_lex.specs.declared.lexical_unit.LexicalUnit.{LexicalUnit}
 use Rattle.jdf_lex.specs.declared.lexical_unit.LexicalUnit.TheVariants.{TokenOf}
-use Rattle.jdf_lex.specs.declared.token.Spot.{Spot}
-use Rattle.jdf_lex.specs.declared.token.Token.{Token}
-use Rattle.jdf_lex.specs.declared.token.TokenKind.{TokenKind}
+use Rattle.grammar_core.specs.declared.token.Spot.{Spot}
+use Rattle.grammar_core.specs.declared.token.Token.{Token}
+use Rattle.jdf_alphabet.specs.declared.kind.TokenKind.{TokenKind}
+use Rattle.jdf_alphabet.specs.Terminals.{number_of, terminal_by}
 use Rattle.jdf_lex.specs.Spelling.{unit_at, is_spelling}
 use Rattle.jdf_lex.specs.Tokens.{spot_after, IsUnit, IsToken, is_dropped, IsLexedTo, IsLexed, OneListOfTokens, IsUnclosed, HasToken, IsTokenFault}
 use Rattle.jdf_lex.specs.Tokens.IsLexedTo.{nothing_more, dropped_then, token_then}
@@ -98,29 +99,30 @@ after_dropped far last before rest us p w x past dropped is unit (dropped_then _
     let same = same_unit q v y p w x other unit (sym whole ∙ is) in
     subst (λ z. IsLexedTo far last (before ++ w) z us) same.lefts (subst (λ z. IsLexedTo far last (before ++ z) y us) same.words on)
 after_dropped far last before rest us p w x past dropped is unit (token_then _ _ _ u v y whole token on) =
-    let same = same_unit (TokenOf u.kind) v y p w x token.unit unit (sym whole ∙ is) in
-    absurd (no_word u.kind p (sym same.units) dropped)
+    let same = same_unit (TokenOf token.kind) v y p w x token.unit unit (sym whole ∙ is) in
+    absurd (no_word token.kind p (sym same.units) dropped)
 
 same_token : (before w x : List ℕ) (t u : Token) → IsToken before w x t → IsToken before w x u → t ≡ u
 same_token before w x t u one other =
-    let words : TokenOf t.kind ≡ TokenOf u.kind = one_begins (TokenOf t.kind) (TokenOf u.kind) (w ++ x) one.unit.begins other.unit.begins in
-    let kind : t.kind ≡ u.kind = cc in
+    let words : TokenOf one.kind ≡ TokenOf other.kind = one_begins (TokenOf one.kind) (TokenOf other.kind) (w ++ x) one.unit.begins other.unit.begins in
+    let kind : one.kind ≡ other.kind = cc in
+    let terminal : t.terminal ≡ u.terminal = one.terminal ∙ ap (λ k. number_of (terminal_by k w)) kind ∙ sym other.terminal in
     let text : t.text ≡ u.text = one.text ∙ sym other.text in
     let start : t.start ≡ u.start = one.start ∙ sym other.start in
     let end : t.end ≡ u.end = one.end ∙ sym other.end in
     let spot : t.spot ≡ u.spot = one.spot ∙ sym other.spot in
-    λ i. record { kind = kind i; text = text i; start = start i; end = end i; spot = spot i }
+    λ i. record { terminal = terminal i; text = text i; start = start i; end = end i; spot = spot i }
 
 -- The rest of a scan after its first token.
 after_token : (far last before rest : List ℕ) (us : List Token) (t : Token) (w x : List ℕ) → HasNoDropped last → HasNoUnit last ⊎ (0 < length us) → rest ≡ w ++ x → IsToken before w x t
     → IsLexedTo far last before rest us → (vs : List Token) × (us ≡ t ∷ vs) × IsLexedTo far last (before ++ w) x vs
-after_token far last before rest us t w x past (inl final) is token (nothing_more) = absurd (final (TokenOf t.kind) w x is token.unit)
+after_token far last before rest us t w x past (inl final) is token (nothing_more) = absurd (final (TokenOf token.kind) w x is token.unit)
 after_token far last before rest us t w x past (inr some) is token (nothing_more) = absurd (omega arith)
 after_token far last before rest us t w x past stops is token (dropped_then _ _ _ q v y dropped whole other on) =
-    let same = same_unit q v y (TokenOf t.kind) w x other token.unit (sym whole ∙ is) in
-    absurd (no_word t.kind q same.units dropped)
+    let same = same_unit q v y (TokenOf token.kind) w x other token.unit (sym whole ∙ is) in
+    absurd (no_word token.kind q same.units dropped)
 after_token far last before rest us t w x past stops is token (token_then _ _ vs u v y whole other on) =
-    let same = same_unit (TokenOf u.kind) v y (TokenOf t.kind) w x other.unit token.unit (sym whole ∙ is) in
+    let same = same_unit (TokenOf other.kind) v y (TokenOf token.kind) w x other.unit token.unit (sym whole ∙ is) in
     let moved : IsToken before w x u = subst (λ z. IsToken before w z u) same.lefts (subst (λ z. IsToken before z y u) same.words other) in
     let tokens : u ≡ t = same_token before w x u t moved token in (
       vs,
@@ -151,7 +153,7 @@ pub record IsEmptyScan (far last front left : List ℕ) (vs : List Token) : Type
 no_more_units : (far last front left : List ℕ) (vs : List Token) → HasNoUnit left → IsLexedTo far last front left vs → IsEmptyScan far last front left vs
 no_more_units far last front left vs final (nothing_more) = record { none = refl; fronts = refl; lefts = refl }
 no_more_units far last front left vs final (dropped_then _ _ _ p w x dropped is unit on) = absurd (final p w x is unit)
-no_more_units far last front left vs final (token_then _ _ _ t w x is token on) = absurd (final (TokenOf t.kind) w x is token.unit)
+no_more_units far last front left vs final (token_then _ _ _ t w x is token on) = absurd (final (TokenOf token.kind) w x is token.unit)
 
 next_token : (far last front left : List ℕ) (vs : List Token) → HasToken left → IsLexedTo far last front left vs → IsEmptyScan far last front left vs ⊎ (0 < length vs)
 next_token far last front left vs token (nothing_more) = inl (record { none = refl; fronts = refl; lefts = refl })

@@ -1,11 +1,13 @@
 -- How the lexer finds lexical units, as functions of the rest of the text: the results of this crate's private calls.
 -- Lemmas in proofs/ tie them to the lexical units of a text.
 use Rattle.std.specs.Prelude.{◌≡◌, ℕ, ◌+◌, ◌≤◌, Bool, false, List, [], ◌∷◌, length, take, drop, if◌then◌else◌, Option, Some, None}
-use Rattle.std.specs.List.{prefix_len}
+use Rattle.std.specs.List.{prefix_len, slice_range}
 use Rattle.jdf_lex.specs.declared.lexical_unit.LexicalUnit.{LexicalUnit}
 use Rattle.jdf_lex.specs.declared.lexical_unit.LexicalUnit.TheVariants.{Blank, LineComment, BlockComment, TokenOf}
-use Rattle.jdf_lex.specs.declared.token.TokenKind.TheVariants.{Quoted, Raw, Mark}
-use Rattle.jdf_lex.specs.declared.token.Token.{Token}
+use Rattle.jdf_alphabet.specs.declared.kind.TokenKind.{TokenKind}
+use Rattle.jdf_alphabet.specs.declared.kind.TokenKind.TheVariants.{Quoted, Raw, Mark}
+use Rattle.jdf_alphabet.specs.Terminals.{number_of, terminal_by}
+use Rattle.grammar_core.specs.declared.token.Token.{Token}
 use Rattle.jdf_lex.specs.declared.cursor.Cursor.{Cursor}
 use Rattle.jdf_lex.specs.Spelling.{is_mark, continues, ends_unit, affects_next, unit_at}
 use Rattle.jdf_lex.specs.Tokens.{spot_after, IsLexedTo}
@@ -51,12 +53,23 @@ measured (Some unit) rest = with_length unit (unit_len unit rest)
 abbrev pub front_unit : List ℕ → Option (LexicalUnit × ℕ)
 front_unit rest = measured (unit_at rest) rest
 
+-- The token of this kind and length at the cursor.
+abbrev pub token_here : List ℕ → Cursor → TokenKind → ℕ → Token
+token_here text here kind len =
+    record {
+      terminal = number_of (terminal_by kind (slice_range text here.index (here.index + len)));
+      text = slice_range text here.index (here.index + len);
+      start = here.index;
+      end = here.index + len;
+      spot = here.spot;
+    }
+
 -- The cursor is within the text, and its spot is right.
 pub record IsCursorIn (text : List ℕ) (here : Cursor) : Type 0 where
   pub within : here.index ≤ length text
   pub spot : here.spot ≡ spot_after (take here.index text)
 
--- The text up to the cursor is scanned: it has these tokens, and no add_length than allowed.
+-- The text up to the cursor is scanned: it has these tokens, and no more than allowed.
 pub record IsScanned (text : List ℕ) (tokens : List Token) (here : Cursor) : Type 0 where
   pub cursor : IsCursorIn text here
   pub at_most : length tokens ≤ 1000000

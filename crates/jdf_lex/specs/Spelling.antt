@@ -5,7 +5,7 @@ use Rattle.std.specs.Prelude.{ℕ, Bool, true, false, not, ◌&&◌, ◌||◌, �
 use Rattle.std.specs.List.{list_any, list_all, starts_with}
 use Rattle.jdf_lex.specs.declared.lexical_unit.LexicalUnit.{LexicalUnit}
 use Rattle.jdf_lex.specs.declared.lexical_unit.LexicalUnit.TheVariants.{Blank, LineComment, BlockComment, TokenOf}
-use Rattle.jdf_lex.specs.declared.token.TokenKind.TheVariants.{Name, Number, Quoted, Raw, OptionLine, Mark, Other}
+use Rattle.jdf_alphabet.specs.declared.kind.TokenKind.TheVariants.{Name, Number, Quoted, Raw, OptionLine, Mark, Other}
 
 -- `A` to `Z`, `a` to `z` or `_`
 abbrev pub is_letter : ℕ → Bool

@@ -6,10 +6,11 @@ use Rattle.jdf_lex.specs.declared.fault.JdfCode.TheVariants.{Unclosed, TooManyTo
 use Rattle.jdf_lex.specs.declared.fault.JdfFault.{JdfFault}
 use Rattle.jdf_lex.specs.declared.lexical_unit.LexicalUnit.{LexicalUnit}
 use Rattle.jdf_lex.specs.declared.lexical_unit.LexicalUnit.TheVariants.{Blank, LineComment, BlockComment, TokenOf}
-use Rattle.jdf_lex.specs.declared.token.Spot.{Spot}
-use Rattle.jdf_lex.specs.declared.token.Token.{Token}
-use Rattle.jdf_lex.specs.declared.token.TokenKind.{TokenKind}
-use Rattle.jdf_lex.specs.declared.token.TokenKind.TheVariants.{OptionLine}
+use Rattle.grammar_core.specs.declared.token.Spot.{Spot}
+use Rattle.grammar_core.specs.declared.token.Token.{Token}
+use Rattle.jdf_alphabet.specs.declared.kind.TokenKind.{TokenKind}
+use Rattle.jdf_alphabet.specs.declared.kind.TokenKind.TheVariants.{OptionLine}
+use Rattle.jdf_alphabet.specs.Terminals.{number_of, terminal_by}
 use Rattle.jdf_lex.specs.Spelling.{begins_part, unit_at, is_spelling}
 pub use Rattle.jdf_lex.specs.Spelling.{is_letter, is_digit, is_part, is_blank}
 
@@ -31,7 +32,9 @@ pub record IsToken (before word left : List ℕ) (token : Token) : Type 0 where
   pub start : token.start ≡ length before
   pub end : token.end ≡ length before + length word
   pub spot : token.spot ≡ spot_after before
-  pub unit : IsUnit (TokenOf token.kind) word left
+  pub kind : TokenKind
+  pub unit : IsUnit (TokenOf kind) word left
+  pub terminal : token.terminal ≡ number_of (terminal_by kind word)
 
 -- Blanks and comments are dropped.
 abbrev pub is_dropped : LexicalUnit → Bool

@@ -3,7 +3,7 @@
 ghost use Rattle.std.specs.Prelude.{◌≡◌, ◌+◌, ◌<◌, ◌≤◌, length};
 ghost use Rattle.jdf_lex.specs.Reading.{IsCursorIn};
 
-use crate::token::Spot;
+use grammar_core::Spot;
 
 /// A position in a text: the index of its byte, and its spot.
 #[derive(Clone, Copy, Debug)]

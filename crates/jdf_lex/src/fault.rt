@@ -1,6 +1,6 @@
 //! Why a text is refused.
 
-use crate::token::Spot;
+use grammar_core::Spot;
 use ptg_base::Refusal;
 
 /// Why a JDF text is refused, as the program prints it.
@@ -64,6 +64,10 @@ pub enum JdfCode {
     RangeInPlace,
     /// A dependence has a datatype that it may not have.
     Datatype,
+    /// A dependence has another datatype than the first one of its flow.
+    MixedTypes,
+    /// The flow or the collection of a target has another datatype than the flow.
+    TypeDiffers,
     /// A body assigns to an element of a flow that is only read.
     ReadAssigned,
     /// A body assigns to a global, a local or a loop variable.

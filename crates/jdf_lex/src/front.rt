@@ -8,7 +8,7 @@ ghost use Rattle.jdf_lex.specs.Reading.{closed_len, add_length, unit_len, front_
 use crate::bytes::{continues_character, is_not_lf, is_part, mark_len};
 use crate::lexical_unit::LexicalUnit;
 use crate::opening::unit_at;
-use crate::token::TokenKind;
+use jdf_alphabet::TokenKind;
 
 // Whether the byte continues a unit that has no closing mark.
 fn continues(unit: LexicalUnit, b: u8) -> bool

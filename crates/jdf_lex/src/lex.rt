@@ -5,16 +5,18 @@ ghost use Rattle.jdf_lex.specs.declared.fault.JdfCode.TheVariants.{Unclosed, Too
 ghost use Rattle.jdf_lex.specs.declared.fault.JdfFault.{JdfFault};
 ghost use Rattle.ptg_base.specs.declared.refusal.Refusal.TheVariants.{Fault, OutOfMemory};
 ghost use Rattle.jdf_lex.specs.declared.lexical_unit.LexicalUnit.TheVariants.{TokenOf};
-ghost use Rattle.jdf_lex.specs.declared.token.Spot.{Spot};
-ghost use Rattle.jdf_lex.specs.declared.token.Token.{Token};
+ghost use Rattle.grammar_core.specs.declared.token.Spot.{Spot};
+ghost use Rattle.grammar_core.specs.declared.token.Token.{Token};
 ghost use Rattle.jdf_lex.specs.Tokens.{IsLexed, IsTokenFault};
-ghost use Rattle.jdf_lex.specs.Reading.{front_unit, IsCursorIn, IsScanned};
+ghost use Rattle.jdf_lex.specs.Reading.{front_unit, token_here, IsCursorIn, IsScanned};
 
 use crate::cursor::{Cursor, advance};
 use crate::fault::{JdfCode, JdfFault, JdfRefusal};
 use crate::front::front_unit;
 use crate::lexical_unit::LexicalUnit;
-use crate::token::{Lexed, Spot, Token, TokenKind};
+use crate::token::Lexed;
+use grammar_core::{Spot, Token};
+use jdf_alphabet::{Terminal, TokenKind};
 use ptg_base::{Seq, Text};
 use std::alloc::Global;
 
@@ -28,28 +30,34 @@ fn fault(spot: Spot, code: JdfCode) -> JdfRefusal
     JdfRefusal::Fault(JdfFault { spot, code })
 }
 
+// The kind and the length of the token at a position.
+#[derive(Clone, Copy)]
+struct FrontToken {
+    kind: TokenKind,
+    len: usize,
+}
+
 // Adds the token of this kind and length at the cursor, unless there are already 1,000,000.
 fn add_token(
     alloc: Global,
     text: &[u8],
     here: Cursor,
-    kind: TokenKind,
-    len: usize,
+    front: FrontToken,
     tokens: &mut Seq<Token>,
 ) -> Result<(), JdfRefusal>
     requires small { length text.now ≤ 16777216 }
-    requires inside { here.index + len ≤ length text.now }
+    requires inside { here.index + front.len ≤ length text.now }
     ensures at_most { IfOk result (λ _. length tokens.old < 1000000) }
-    ensures added { IfOk result (λ _. tokens.new ≡ tokens.old ++ record { kind = kind; text = slice_range text.now here.index (here.index + len); start = here.index; end = here.index + len; spot = here.spot } ∷ []) }
+    ensures added { IfOk result (λ _. tokens.new ≡ tokens.old ++ token_here text.now here front.kind front.len ∷ []) }
     ensures refused { (f : JdfFault) → result ≡ Err (Fault f) → (f ≡ record { spot = here.spot; code = TooManyTokens }) × (1000000 ≤ length tokens.old) }
 {
     if tokens.len() >= MOST_TOKENS {
         return Err(fault(here.spot, JdfCode::TooManyTokens));
     }
-    let end = here.index + len;
+    let end = here.index + front.len;
     let word = Text::of(alloc, &text[here.index..end])?;
     tokens.push(Token {
-        kind,
+        terminal: Terminal::spelled(front.kind, &text[here.index..end]).number(),
         text: word,
         start: here.index as u32,
         end: end as u32,
@@ -77,7 +85,7 @@ fn read_unit(
     };
     let next = advance(text, here, len);
     if let LexicalUnit::TokenOf(kind) = unit {
-        add_token(alloc, text, here, kind, len, tokens)?;
+        add_token(alloc, text, here, FrontToken { kind, len }, tokens)?;
         return Ok(next);
     }
     Ok(next)

@@ -1,6 +1,6 @@
 //! Kinds of lexical units.
 
-use crate::token::TokenKind;
+use jdf_alphabet::TokenKind;
 
 /// The kind of a lexical unit: a token, or a blank or comment between tokens.
 #[derive(Clone, Copy, Debug, PartialEq, Eq)]

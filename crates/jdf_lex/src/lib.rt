@@ -14,6 +14,8 @@ mod tests;
 mod token;
 
 pub use fault::{JdfCode, JdfFault, JdfRefusal};
+pub use grammar_core::{Spot, Token};
+pub use jdf_alphabet::TokenKind;
 pub use laws::{longest_is_taken, one_list_of_tokens, tokens_or_one_fault, units_as_written};
 pub use lex::tokens;
-pub use token::{Lexed, Spot, Token, TokenKind};
+pub use token::Lexed;

@@ -5,7 +5,7 @@ ghost use Rattle.jdf_lex.specs.Spelling.{begins_part, begins_option, begins_mark
 
 use crate::bytes::{is_blank, is_digit, is_letter, is_part, mark_len};
 use crate::lexical_unit::LexicalUnit;
-use crate::token::TokenKind;
+use jdf_alphabet::TokenKind;
 
 // Whether the first byte may continue a name.
 fn begins_part(rest: &[u8]) -> bool

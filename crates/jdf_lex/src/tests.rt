@@ -1,7 +1,8 @@
 //! Tokens with their kinds and places, which no verb prints. Where a text is refused is told by the rows of `ptg_rows`.
 
-use crate::token::TokenKind::{Mark, Name, Number, OptionLine, Other, Quoted, Raw};
+use crate::TokenKind::{Mark, Name, Number, OptionLine, Other, Quoted, Raw};
 use crate::*;
+use jdf_alphabet::Terminal;
 use std::alloc::Global;
 use std::process::Abort;
 
@@ -18,7 +19,11 @@ fn expect_tokens(rt: &impl Abort, alloc: Global, text: &str, want: &[Want], end:
     assert_eq!(rt; found.len(), want.len(), "{text}");
     for (token, (kind, word, line, column)) in found.iter().zip(want) {
         let range = token.start as usize..token.end as usize;
-        assert!(rt; token.kind == *kind, "{text}: {word}");
+        assert_eq!(rt;
+            Terminal::of(token),
+            Terminal::spelled(*kind, word.as_bytes()),
+            "{text}: {word}"
+        );
         assert!(rt; token.text.bytes() == word.as_bytes(), "{text}: {word}");
         assert!(rt;
             text.as_bytes().get(range) == Some(word.as_bytes()),

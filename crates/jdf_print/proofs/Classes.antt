@@ -2,18 +2,19 @@
 use Rattle.std.proofs.Common.{◌≡◌, ℕ, ◌+◌, ◌*◌, ◌≤◌, Bool, true, List, [], ◌∷◌, ◌++◌, length, map, refl, sym, ap, subst, ◌∙◌, inl, inr, arith, append_assoc, length-append}
 use Rattle.std.specs.Prelude.{Option, Some, None, option_map, codes}
 use Rattle.std.specs.List.{flat_map}
-use Rattle.jdf_lex.specs.declared.token.Spot.{Spot}
-use Rattle.jdf_lex.specs.declared.token.Token.{Token}
-use Rattle.jdf_lex.specs.declared.token.TokenKind.{TokenKind}
+use Rattle.grammar_core.specs.declared.token.Spot.{Spot}
+use Rattle.grammar_core.specs.declared.token.Token.{Token}
+use Rattle.jdf_alphabet.specs.declared.kind.TokenKind.{TokenKind}
 use Rattle.term_core.specs.declared.flow.FlowKind.{FlowKind}
 use Rattle.term_core.specs.declared.flow.FlowKind.TheVariants as kind
-use Rattle.grammar_core.specs.declared.terminal.Terminal.{Terminal}
-use Rattle.grammar_core.specs.declared.terminal.Terminal.TheVariants as terminal
-use Rattle.grammar_core.specs.declared.code.Code.TheVariants.{TooManyParams, TooManyLocals, TooManyFlows, TooManyDeps, TooManyClasses}
-use Rattle.grammar_core.specs.Terminals.{words, marks, terminal_of, is}
-use Rattle.grammar_core.specs.Counted.{is_name}
+use Rattle.jdf_alphabet.specs.declared.terminal.Terminal.{Terminal}
+use Rattle.jdf_alphabet.specs.declared.terminal.Terminal.TheVariants as terminal
+use Rattle.jdf_alphabet.specs.Codes.{TooManyParams, TooManyLocals, TooManyFlows, TooManyDeps, TooManyClasses}
+use Rattle.jdf_alphabet.specs.Terminals.{words, marks, number_of, terminal_of, is}
+use Rattle.jdf_alphabet.specs.Counted.{is_name}
 use Rattle.grammar_core.specs.Production as form
-use Rattle.grammar_core.specs.Production.{seq, opt, star, one_of, limited, taken, Derives, Derived}
+use Rattle.grammar_core.specs.Production.{seq, opt, star, limited, taken, Derives, Derived}
+use Rattle.jdf_alphabet.specs.Sets.{one_of}
 use Rattle.jdf_tree.specs.declared.expression.Word.{Word}
 use Rattle.jdf_tree.specs.declared.part.Part.TheVariants.{Class}
 use Rattle.jdf_tree.specs.declared.tree.ArgTree.{ArgTree}
@@ -57,8 +58,8 @@ pair w a = (w, a)
 abbrev head_pair : Word → List Word → Word × List Word
 head_pair w ws = (w, ws)
 
-abbrev plain_token : TokenKind → List ℕ → Token
-plain_token k t = record { kind = k; text = t; start = 0; end = 0; spot = nowhere }
+abbrev plain_token : ℕ → List ℕ → Token
+plain_token k t = record { terminal = k; text = t; start = 0; end = 0; spot = nowhere }
 
 abbrev class_from : Word × List Word → List DefTree → Word × List ArgTree → List FlowTree → Option Expression → List Token → ClassTree
 class_from h defs a flows priority body = record { name = h.0; params = h.1; defs = defs; affinity = a.0; affinity_args = a.1; flows = flows; priority = priority; body = body; finish = nowhere }
@@ -223,7 +224,7 @@ priority_reads_back (Some e) formed s r h =
 
 -- A token of a body, printed as it is.
 pub record IsInBody (x : Token) : Type 0 where
-  pub kind : x.kind ≡ kind_of x.text
+  pub terminal : x.terminal ≡ number_of (terminal_at x.text)
   pub written : IsWritten x.text
   pub allowed : grammar.is_in_body (terminal_of x) ≡ true
 
@@ -233,15 +234,15 @@ IsBody [] = Unit {0}
 IsBody (x ∷ xs) = IsInBody x × (grammar.begins_body (terminal_of x) ≡ true) × Every IsInBody xs
 
 -- The terminal of the token that it is like.
-same_terminal : (x y : Token) → y.kind ≡ kind_of y.text → IsLike x y.text → terminal_of x ≡ terminal_of y
-same_terminal x y kind like = like_terminal x y.text like ∙ sym (like_terminal y y.text (kind, refl))
+same_terminal : (x y : Token) → y.terminal ≡ number_of (terminal_at y.text) → IsLike x y.text → terminal_of x ≡ terminal_of y
+same_terminal x y terminal like = like_terminal x y.text like ∙ sym (like_terminal y y.text (terminal, refl))
 
-same_token : (x y : Token) → y.kind ≡ kind_of y.text → IsLike x y.text → same.token x ≡ same.token y
-same_token x y kind like = ap (λ (k : TokenKind). plain_token k x.text) (like.0 ∙ sym kind) ∙ ap (λ (t : List ℕ). plain_token y.kind t) like.1
+same_token : (x y : Token) → y.terminal ≡ number_of (terminal_at y.text) → IsLike x y.text → same.token x ≡ same.token y
+same_token x y terminal like = ap (λ (k : ℕ). plain_token k x.text) (like.0 ∙ sym terminal) ∙ ap (λ (t : List ℕ). plain_token y.terminal t) like.1
 
 body_token : (q : Terminal → Bool) (y : Token) → IsInBody y → q (terminal_of y) ≡ true → (s r : List Token) → Reads (token y.text ∷ []) s r → ReadsBackAs (one_of q) same.token (same.token y) s r
 body_token q y formed t s r h =
-    record { tree = h.0; derives = ((h.2 ∙ ap (λ (l : List Token). h.0 ∷ l) h.4, ap q (same_terminal h.0 y formed.kind h.3) ∙ t), refl); like = same_token h.0 y formed.kind h.3 }
+    record { tree = h.0; derives = ((h.2 ∙ ap (λ (l : List Token). h.0 ∷ l) h.4, ap q (same_terminal h.0 y formed.terminal h.3) ∙ t), refl); like = same_token h.0 y formed.terminal h.3 }
 
 tokens_tell : (x : Token) (xs : List Token) → IsBody (x ∷ xs) → (s r : List Token) → Reads (separated (space ∷ []) (map (λ t. token t.text ∷ []) (x ∷ xs))) s r
     → ReadsBackAs grammar.body_tokens (map same.token) (map same.token (x ∷ xs)) s r

@@ -1,9 +1,9 @@
 -- Derivations whose names have any depth have one common depth.
 use Rattle.std.proofs.Common.{ℕ, zero, suc, ◌+◌, ◌≤◌, List, [], ◌∷◌, inl, inr, arith}
 use Rattle.std.specs.Prelude.{Option, Some, None}
-use Rattle.jdf_lex.specs.declared.token.Token.{Token}
+use Rattle.grammar_core.specs.declared.token.Token.{Token}
 use Rattle.grammar_core.specs.declared.code.Code.{Code}
-use Rattle.grammar_core.specs.Production.{Production, one_of, valued, seq, map, alt, opt, star, pick, after_token, limited, Fault, Language, Many, Derives, DerivedWithin, Derived}
+use Rattle.grammar_core.specs.Production.{Production, seq, map, alt, opt, star, limited, Fault, Language, Many, Derives, DerivedWithin, Derived, one_of, valued, pick, after_token}
 
 abbrev Into : {A : Type 0} → Language A → Language A → Type 0
 Into {A = A} G H = (s : List Token) (t : A) (o : Fault) (r : List Token) → G s t o r → H s t o r

@@ -3,14 +3,15 @@ use Rattle.std.proofs.Common.{◌≡◌, ℕ, suc, ◌+◌, ◌≤◌, ◌<◌, 
 use Rattle.std.specs.Prelude.{Option, Some, None, nat_le, codes}
 use Rattle.std.specs.List.{flat_map}
 use Rattle.std.proofs.lemmas.Bool.{leb-true}
-use Rattle.jdf_lex.specs.declared.token.Token.{Token}
-use Rattle.grammar_core.specs.declared.terminal.Terminal.{Terminal}
-use Rattle.grammar_core.specs.declared.terminal.Terminal.TheVariants as terminal
+use Rattle.grammar_core.specs.declared.token.Token.{Token}
+use Rattle.jdf_alphabet.specs.declared.terminal.Terminal.{Terminal}
+use Rattle.jdf_alphabet.specs.declared.terminal.Terminal.TheVariants as terminal
 use Rattle.grammar_core.specs.declared.code.Code.{Code}
-use Rattle.grammar_core.specs.Terminals.{words, marks, is}
-use Rattle.grammar_core.specs.Counted.{limit_at, is_counted}
+use Rattle.jdf_alphabet.specs.Terminals.{words, marks, is}
+use Rattle.jdf_alphabet.specs.Counted.{is_counted}
+use Rattle.jdf_alphabet.specs.Sets.{limit_at}
 use Rattle.grammar_core.specs.Production.{Fault, then_fault, or_fault, at_start, star, Derives, Many, Derived, taken}
-use Rattle.grammar_core.specs.declared.code.Code.TheVariants.{ExprTooLong}
+use Rattle.jdf_alphabet.specs.Codes.{ExprTooLong}
 use Rattle.jdf_tree.specs.declared.expression.Word.{Word}
 use Rattle.jdf_tree.specs.declared.part.Part.TheVariants.{Class}
 use Rattle.jdf_tree.specs.Expression.{Expression}

@@ -3,13 +3,14 @@ use Rattle.std.proofs.Common.{◌≡◌, ℕ, Bool, true, false, cond, List, [],
 use Rattle.std.specs.Prelude.{not, ◌&&◌}
 use Rattle.std.specs.Str.{bytes_eq}
 use Rattle.std.proofs.lemmas.Bool.{and_parts}
-use Rattle.jdf_lex.specs.declared.token.Token.{Token}
-use Rattle.jdf_lex.specs.declared.token.TokenKind.{TokenKind}
-use Rattle.jdf_lex.specs.declared.token.TokenKind.TheVariants as kinds
-use Rattle.grammar_core.specs.declared.terminal.Terminal.{Terminal}
-use Rattle.grammar_core.specs.declared.terminal.Terminal.TheVariants as terminal
-use Rattle.grammar_core.specs.Terminals.{spelled, words, marks, terminal_by, terminal_of, is}
-use Rattle.grammar_core.specs.Counted.{is_name}
+use Rattle.grammar_core.specs.declared.token.Token.{Token}
+use Rattle.jdf_alphabet.specs.declared.kind.TokenKind.{TokenKind}
+use Rattle.jdf_alphabet.specs.declared.kind.TokenKind.TheVariants as kinds
+use Rattle.jdf_alphabet.specs.declared.terminal.Terminal.{Terminal}
+use Rattle.jdf_alphabet.specs.declared.terminal.Terminal.TheVariants as terminal
+use Rattle.jdf_alphabet.specs.Terminals.{number_of, spelled, words, marks, terminal_by, terminal_of, is}
+use Rattle.jdf_alphabet.proofs.Numbers.{token_terminal}
+use Rattle.jdf_alphabet.specs.Counted.{is_name}
 use Rattle.jdf_tree.specs.ClassGrammar.{is_in_body}
 use Rattle.jdf_print.proofs.Readable.{IsWritten, kind_of, like_terminal}
 use Rattle.jdf_print.proofs.Expressions.{IsName}
@@ -21,8 +22,11 @@ IsKnownAs kinds.Number w = (kind_of w ≡ kinds.Number) × IsWritten w
 IsKnownAs kinds.Mark w = (kind_of w ≡ kinds.Mark) × IsWritten w
 IsKnownAs _ w = Unit {0}
 
-abbrev pub IsKnown : Token → Type 0
-IsKnown x = IsKnownAs x.kind x.text
+-- The token has the terminal of its kind and spelling, and is spelled as its kind is.
+pub record IsKnown (x : Token) : Type 0 where
+  pub kind : TokenKind
+  pub terminal : x.terminal ≡ number_of (terminal_by kind x.text)
+  pub known : IsKnownAs kind x.text
 
 -- No terminal of the table is in the set.
 abbrev has_none : (Terminal → Bool) → List (List ℕ × Terminal) → Bool
@@ -68,12 +72,15 @@ name_kind kinds.OptionLine w h known = absurd (cc)
 name_kind kinds.Mark w h known = absurd (apart _ h (no_mark_is_name w))
 name_kind kinds.Other w h known = absurd (cc)
 
+-- The number of the terminal of a token whose kind is that of its spelling.
+spelled_terminal : (x : Token) (k : IsKnown x) → k.kind ≡ kind_of x.text → x.terminal ≡ number_of (terminal_by (kind_of x.text) x.text)
+spelled_terminal x k e = k.terminal ∙ ap (λ (c : TokenKind). number_of (terminal_by c x.text)) e
+
 -- A token that is a name.
 pub name_known : (x : Token) → is_name (terminal_of x) ≡ true → IsKnown x → IsName x.text
-unfolding terminal_of
-name_known x h known =
-    let k = name_kind x.kind x.text h known in
-    (k.1, ap is_name (sym (like_terminal x x.text (k.0, refl))) ∙ h)
+name_known x h k =
+    let known = name_kind k.kind x.text (ap is_name (sym (token_terminal x (terminal_by k.kind x.text) k.terminal)) ∙ h) k.known in
+    (known.1, ap is_name (sym (like_terminal x x.text (spelled_terminal x k known.0, refl))) ∙ h)
 
 body_kind : (k : TokenKind) (w : List ℕ) → is_in_body (terminal_by k w) ≡ true → IsKnownAs k w → (k ≡ kind_of w) × IsWritten w
 body_kind kinds.Name w h known = (sym known.0, known.1)
@@ -85,6 +92,7 @@ body_kind kinds.Mark w h known = (sym known.0, known.1)
 body_kind kinds.Other w h known = absurd (cc)
 
 -- A token of a body.
-pub body_known : (x : Token) → is_in_body (terminal_of x) ≡ true → IsKnown x → (x.kind ≡ kind_of x.text) × IsWritten x.text
-unfolding terminal_of
-body_known x h known = body_kind x.kind x.text h known
+pub body_known : (x : Token) → is_in_body (terminal_of x) ≡ true → IsKnown x → (x.terminal ≡ number_of (terminal_by (kind_of x.text) x.text)) × IsWritten x.text
+body_known x h k =
+    let known = body_kind k.kind x.text (ap is_in_body (sym (token_terminal x (terminal_by k.kind x.text) k.terminal)) ∙ h) k.known in
+    (spelled_terminal x k known.0, known.1)

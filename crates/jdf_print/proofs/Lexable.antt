@@ -5,8 +5,8 @@ use Rattle.std.specs.List.{flat_map, list_all}
 use Rattle.std.specs.Fmt.{signed_decimal}
 use Rattle.std.proofs.lemmas.Bool.{and_parts}
 use Rattle.jdf_lex.specs.declared.lexical_unit.LexicalUnit.TheVariants as lex
-use Rattle.jdf_lex.specs.declared.token.TokenKind.TheVariants as kinds
-use Rattle.jdf_lex.specs.declared.token.Token.{Token}
+use Rattle.jdf_alphabet.specs.declared.kind.TokenKind.TheVariants as kinds
+use Rattle.grammar_core.specs.declared.token.Token.{Token}
 use Rattle.jdf_lex.specs.Spelling.{is_letter, is_digit, is_part, is_mark, begins_part, short_marks, long_marks}
 use Rattle.jdf_lex.specs.Tokens.{IsUnit}
 use Rattle.term_core.specs.declared.operator.UnOp.{UnOp}
@@ -15,8 +15,8 @@ use Rattle.term_core.specs.declared.operator.BinOp.{BinOp}
 use Rattle.term_core.specs.declared.operator.BinOp.TheVariants as bin
 use Rattle.term_core.specs.declared.flow.FlowKind.{FlowKind}
 use Rattle.term_core.specs.declared.flow.FlowKind.TheVariants as kind
-use Rattle.grammar_core.specs.Terminals.{terminal_by}
-use Rattle.grammar_core.specs.Counted.{is_name}
+use Rattle.jdf_alphabet.specs.Terminals.{terminal_by}
+use Rattle.jdf_alphabet.specs.Counted.{is_name}
 use Rattle.jdf_tree.specs.declared.expression.Word.{Word}
 use Rattle.jdf_tree.specs.declared.tree.ArgTree.{ArgTree}
 use Rattle.jdf_tree.specs.declared.tree.ArgTree.TheVariants.{One, Span}

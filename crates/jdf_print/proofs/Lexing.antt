@@ -6,17 +6,18 @@ use Rattle.std.proofs.lemmas.List.{append-nil}
 use Rattle.std.proofs.lemmas.List.Folds.{list_all-append}
 use Rattle.std.proofs.lemmas.Grind.{flat_map-append}
 use Rattle.jdf_lex.specs.declared.lexical_unit.LexicalUnit.TheVariants as lex
-use Rattle.jdf_lex.specs.declared.token.Token.{Token}
+use Rattle.grammar_core.specs.declared.token.Token.{Token}
 use Rattle.jdf_lex.specs.Tokens.{spot_after, IsUnit, IsLexedTo, IsLexed}
 use Rattle.jdf_lex.specs.Tokens.IsLexedTo.{nothing_more, dropped_then, token_then}
+use Rattle.jdf_alphabet.specs.Terminals.{number_of}
 use Rattle.jdf_print.specs.Fragments.{Fragment, token, blank, bytes_of, text, token_count}
-use Rattle.jdf_print.proofs.Readable.{kind_of, Reads}
+use Rattle.jdf_print.proofs.Readable.{kind_of, terminal_at, Reads}
 use Rattle.jdf_print.proofs.Forms.{Every}
 use Rattle.jdf_print.proofs.Marks.{IsGap, gap_unit}
 
 -- The token of a word after these bytes.
 abbrev pub token_at : List ℕ → List ℕ → Token
-token_at before word = record { kind = kind_of word; text = word; start = length before; end = length before + length word; spot = spot_after before }
+token_at before word = record { terminal = number_of (terminal_at word); text = word; start = length before; end = length before + length word; spot = spot_after before }
 
 -- The tokens of fragments after these bytes.
 abbrev pub tokens_at : List ℕ → List Fragment → List Token
@@ -69,7 +70,7 @@ lexed_from (token word ∷ ps) before h =
     let more = subst L (append_assoc before word (text ps)) (lexed_from ps (before ++ word) h.2) in
     let P : List ℕ → Type 0 = λ left. IsUnit (lex.TokenOf (kind_of word)) word left in
     token_then before (word ++ text ps) (tokens_at (before ++ word) ps) (token_at before word) word (text ps) refl
-    (record { text = refl; start = refl; end = refl; spot = refl; unit = subst P (append-nil (text ps)) h.0 }) more
+    (record { text = refl; start = refl; end = refl; spot = refl; kind = kind_of word; unit = subst P (append-nil (text ps)) h.0; terminal = refl }) more
 lexed_from (blank bytes ∷ ps) before h =
     let L : List ℕ → Type 0 = λ b. IsLexedTo b [] (before ++ bytes) (text ps) (tokens_at (before ++ bytes) ps) in
     let more = subst L (append_assoc before bytes (text ps)) (lexed_from ps (before ++ bytes) h.1) in

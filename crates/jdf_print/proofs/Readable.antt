@@ -2,13 +2,14 @@
 use Rattle.std.proofs.Common.{◌≡◌, ℕ, Bool, true, false, List, [], ◌∷◌, ◌++◌, refl, ap, ◌∙◌}
 use Rattle.std.specs.Prelude.{if◌then◌else◌, ◌||◌}
 use Rattle.std.specs.List.{list_all}
-use Rattle.jdf_lex.specs.declared.token.Token.{Token}
-use Rattle.jdf_lex.specs.declared.token.TokenKind.{TokenKind}
-use Rattle.jdf_lex.specs.declared.token.TokenKind.TheVariants as kinds
+use Rattle.grammar_core.specs.declared.token.Token.{Token}
+use Rattle.jdf_alphabet.specs.declared.kind.TokenKind.{TokenKind}
+use Rattle.jdf_alphabet.specs.declared.kind.TokenKind.TheVariants as kinds
 use Rattle.jdf_lex.specs.Spelling.{is_letter, is_digit, is_part, is_mark}
-use Rattle.grammar_core.specs.declared.terminal.Terminal.{Terminal}
-use Rattle.grammar_core.specs.Terminals.{terminal_by, terminal_of}
-use Rattle.grammar_core.specs.Production.{IsOne}
+use Rattle.jdf_alphabet.specs.declared.terminal.Terminal.{Terminal}
+use Rattle.jdf_alphabet.specs.Terminals.{number_of, terminal_by, terminal_of}
+use Rattle.jdf_alphabet.specs.Sets.{IsOne}
+use Rattle.jdf_alphabet.proofs.Numbers.{token_terminal}
 use Rattle.jdf_print.specs.Fragments.{Fragment, token, blank}
 
 -- The kind of a word of the spelling: a name, a number or a mark.
@@ -30,7 +31,7 @@ terminal_at w = terminal_by (kind_of w) w
 
 -- The token is this word.
 abbrev pub IsLike : Token → List ℕ → Type 0
-IsLike x w = (x.kind ≡ kind_of w) × (x.text ≡ w)
+IsLike x w = (x.terminal ≡ number_of (terminal_at w)) × (x.text ≡ w)
 
 -- The tokens s up to the rest r are those of the fragments.
 abbrev pub Reads : List Fragment → List Token → List Token → Type 0
@@ -46,8 +47,7 @@ reads_both (blank b ∷ ps) qs s r h = reads_both ps qs s r h
 
 -- A word has the terminal of its spelling.
 pub like_terminal : (x : Token) (w : List ℕ) → IsLike x w → terminal_of x ≡ terminal_at w
-unfolding terminal_of
-like_terminal x w h = ap (λ (k : TokenKind). terminal_by k x.text) h.0 ∙ ap (λ (t : List ℕ). terminal_by (kind_of w) t) h.1
+like_terminal x w h = token_terminal x (terminal_at w) h.0
 
 -- A word of one of these terminals.
 pub is_one : (q : Terminal → Bool) (w : List ℕ) → q (terminal_at w) ≡ true → (x : Token) (s m : List Token) → s ≡ x ∷ m → IsLike x w → IsOne q s x m

@@ -1,9 +1,9 @@
 -- The tokens of arguments and dependences derive them.
 use Rattle.std.proofs.Common.{◌≡◌, Bool, true, false, List, [], ◌∷◌, ◌++◌, map, refl, ap, subst, ◌∙◌, inl, inr, append_assoc}
 use Rattle.std.specs.Prelude.{Option, Some, None, option_map, codes}
-use Rattle.jdf_lex.specs.declared.token.Token.{Token}
-use Rattle.grammar_core.specs.declared.terminal.Terminal.TheVariants as terminal
-use Rattle.grammar_core.specs.Terminals.{words, marks, is}
+use Rattle.grammar_core.specs.declared.token.Token.{Token}
+use Rattle.jdf_alphabet.specs.declared.terminal.Terminal.TheVariants as terminal
+use Rattle.jdf_alphabet.specs.Terminals.{words, marks, is}
 use Rattle.jdf_tree.specs.declared.expression.Word.{Word}
 use Rattle.jdf_tree.specs.declared.part.Part.TheVariants.{Class}
 use Rattle.jdf_tree.specs.declared.tree.ArgTree.{ArgTree}
@@ -12,7 +12,8 @@ use Rattle.jdf_tree.specs.declared.tree.TargetTree.{TargetTree}
 use Rattle.jdf_tree.specs.declared.tree.TargetTree.TheVariants.{Task, Element, New, Null}
 use Rattle.jdf_tree.specs.declared.tree.DepTree.{DepTree}
 use Rattle.jdf_tree.specs.Expression.{Expression}
-use Rattle.grammar_core.specs.Production.{seq, opt, pick}
+use Rattle.grammar_core.specs.Production.{seq, opt}
+use Rattle.jdf_alphabet.specs.Sets.{pick}
 use Rattle.jdf_tree.specs.Nonterminal.{Grammar}
 use Rattle.jdf_tree.specs.GrammarParts.{prefixed_by, suffixed_by, maybe, name, word_of}
 use Rattle.jdf_tree.specs.ExpressionGrammar.{outer}

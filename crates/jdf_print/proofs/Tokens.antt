@@ -1,12 +1,13 @@
 -- Each token that is a name, a number or a mark is spelled as one.
-use Rattle.std.proofs.Common.{◌≡◌, ℕ, Bool, true, false, cond, List, [], ◌∷◌, ◌++◌, refl, sym, subst}
+use Rattle.std.proofs.Common.{◌≡◌, ℕ, Bool, true, false, cond, List, [], ◌∷◌, ◌++◌, refl, sym, ap, ◌∙◌, subst}
 use Rattle.std.specs.Prelude.{Some, nat_eq, ◌==◌, codes}
 use Rattle.std.specs.List.{starts_with}
 use Rattle.jdf_lex.specs.declared.lexical_unit.LexicalUnit.{LexicalUnit}
 use Rattle.jdf_lex.specs.declared.lexical_unit.LexicalUnit.TheVariants.{Blank, LineComment, BlockComment, TokenOf}
-use Rattle.jdf_lex.specs.declared.token.Token.{Token}
-use Rattle.jdf_lex.specs.declared.token.TokenKind.{TokenKind}
-use Rattle.jdf_lex.specs.declared.token.TokenKind.TheVariants.{Name, Number, Quoted, Raw, OptionLine, Mark, Other}
+use Rattle.grammar_core.specs.declared.token.Token.{Token}
+use Rattle.jdf_alphabet.specs.declared.kind.TokenKind.{TokenKind}
+use Rattle.jdf_alphabet.specs.declared.kind.TokenKind.TheVariants.{Name, Number, Quoted, Raw, OptionLine, Mark, Other}
+use Rattle.jdf_alphabet.specs.Terminals.{number_of, terminal_by}
 use Rattle.jdf_lex.specs.Spelling.{is_letter, is_digit, is_blank, begins_mark, begins_option, plain_unit, first_unit}
 use Rattle.jdf_lex.specs.Tokens.{IsUnit, IsToken, IsLexedTo}
 use Rattle.jdf_lex.specs.Tokens.IsLexedTo.{nothing_more, dropped_then, token_then}
@@ -78,7 +79,13 @@ unit_known OptionLine w left h = tt
 unit_known Other w left h = tt
 
 token_known : (before word left : List ℕ) (x : Token) → IsToken before word left x → IsKnown x
-token_known before word left x h = let K : List ℕ → Type 0 = λ w. IsKnownAs x.kind w in subst K (sym h.text) (unit_known x.kind word left h.unit)
+token_known before word left x h =
+    let K : List ℕ → Type 0 = λ w. IsKnownAs h.kind w in
+    record {
+      kind = h.kind;
+      terminal = h.terminal ∙ ap (λ (w : List ℕ). number_of (terminal_by h.kind w)) (sym h.text);
+      known = subst K (sym h.text) (unit_known h.kind word left h.unit);
+    }
 
 pub tokens_known : (front left before rest : List ℕ) (ts : List Token) → IsLexedTo front left before rest ts → Every IsKnown ts
 tokens_known front left before rest ts nothing_more = tt

@@ -2,13 +2,14 @@
 use Rattle.std.proofs.Common.{◌≡◌, ℕ, zero, suc, ◌+◌, ◌*◌, ◌≤◌, Bool, true, List, [], ◌∷◌, length, refl, sym, ap, subst, ◌∙◌, arith}
 use Rattle.std.specs.Prelude.{Option, Some, None, not}
 use Rattle.std.proofs.lemmas.Bool.{and_parts}
-use Rattle.jdf_lex.specs.declared.token.Token.{Token}
-use Rattle.grammar_core.specs.declared.terminal.Terminal.{Terminal}
-use Rattle.grammar_core.specs.declared.terminal.Terminal.TheVariants as terminal
-use Rattle.grammar_core.specs.declared.code.Code.TheVariants.{TooManyParams, TooManyLocals, TooManyFlows, TooManyDeps, TooManyClasses}
-use Rattle.grammar_core.specs.Terminals.{is, terminal_of}
-use Rattle.grammar_core.specs.Counted.{is_name}
-use Rattle.grammar_core.specs.Production.{map, seq, alt, opt, star, pick, one_of, after_token, Fault, Language, Many, Derives, DerivedWithin, IsText, taken}
+use Rattle.grammar_core.specs.declared.token.Token.{Token}
+use Rattle.jdf_alphabet.specs.declared.terminal.Terminal.{Terminal}
+use Rattle.jdf_alphabet.specs.declared.terminal.Terminal.TheVariants as terminal
+use Rattle.jdf_alphabet.specs.Codes.{TooManyParams, TooManyLocals, TooManyFlows, TooManyDeps, TooManyClasses}
+use Rattle.jdf_alphabet.specs.Terminals.{is, terminal_of}
+use Rattle.jdf_alphabet.specs.Counted.{is_name}
+use Rattle.grammar_core.specs.Production.{map, seq, alt, opt, star, Fault, Language, Many, Derives, DerivedWithin, IsText, taken}
+use Rattle.jdf_alphabet.specs.Sets.{pick, one_of, after_token}
 use Rattle.jdf_tree.specs.declared.expression.Word.{Word}
 use Rattle.jdf_tree.specs.declared.expression.ExprWithSpot.{ExprWithSpot}
 use Rattle.jdf_tree.specs.declared.part.Part.TheVariants.{Class}
@@ -223,14 +224,14 @@ module _ (R : (n : Nonterminal) → Language (TreeOf n)) (B : (n : Nonterminal) 
       let all_known = subst K h.0.0 known in
       let inside = (and_parts (grammar.is_in_body (terminal_of x)) (not (is terminal.LeftBracket (terminal_of x))) h.0.1).0 in
       let facts = body_known x inside all_known.0 in
-      (record { kind = facts.0; written = facts.1; allowed = inside }, h.0.1)
+      (record { terminal = facts.0; written = facts.1; allowed = inside }, h.0.1)
 
   token_well_formed : Holds (one_of grammar.is_in_body) IsInBody
   token_well_formed s x o r h e known =
       let K : List Token → Type 0 = λ l. Every IsKnown l in
       let all_known = subst K h.0.0 known in
       let facts = body_known x h.0.1 all_known.0 in
-      record { kind = facts.0; written = facts.1; allowed = h.0.1 }
+      record { terminal = facts.0; written = facts.1; allowed = h.0.1 }
 
   tokens_well_formed : Holds grammar.body_tokens IsBody
   unfolding grammar.body_tokens

@@ -3,16 +3,18 @@ use Rattle.std.proofs.Common.{◌≡◌, ℕ, pos, suc, ◌+◌, ◌≤◌, Bool
 use Rattle.std.specs.Prelude.{Option, Some, None, not, nat_le, ◌&&◌}
 use Rattle.std.specs.List.{list_all}
 use Rattle.std.proofs.lemmas.Bool.{and_parts, leb-true}
-use Rattle.jdf_lex.specs.declared.token.Token.{Token}
+use Rattle.grammar_core.specs.declared.token.Token.{Token}
 use Rattle.jdf_lex.specs.Spelling.{is_digit}
 use Rattle.term_core.specs.declared.operator.BinOp.{BinOp}
-use Rattle.grammar_core.specs.declared.terminal.Terminal.{Terminal}
-use Rattle.grammar_core.specs.declared.terminal.Terminal.TheVariants as terminal
-use Rattle.grammar_core.specs.declared.code.Code.TheVariants.{BadNumber, ExprTooLong}
-use Rattle.grammar_core.specs.Terminals.{terminal_of, is, within}
-use Rattle.grammar_core.specs.Counted.{is_name, is_counted, limit_at}
-use Rattle.grammar_core.specs.Production.{map, seq, one_of, opt, Fault, Language, IsOne, Many, Derives, taken, bad_unless}
-use Rattle.grammar_core.proofs.Sets.{within_at}
+use Rattle.jdf_alphabet.specs.declared.terminal.Terminal.{Terminal}
+use Rattle.jdf_alphabet.specs.declared.terminal.Terminal.TheVariants as terminal
+use Rattle.jdf_alphabet.specs.Codes.{BadNumber, ExprTooLong}
+use Rattle.jdf_alphabet.specs.Terminals.{terminal_of, is}
+use Rattle.jdf_alphabet.specs.Counted.{is_name, is_counted}
+use Rattle.jdf_alphabet.specs.Sets.{limit_at, IsOne}
+use Rattle.grammar_core.specs.Production.{map, seq, opt, Fault, Language, Many, Derives, taken, bad_unless}
+use Rattle.jdf_alphabet.specs.Sets.{one_of}
+use Rattle.jdf_alphabet.proofs.Disjoint.{within, within_at}
 use Rattle.jdf_tree.specs.declared.expression.Word.{Word}
 use Rattle.jdf_tree.specs.declared.expression.ExprWithSpot.{ExprWithSpot}
 use Rattle.jdf_tree.specs.declared.part.Part.TheVariants.{Class}

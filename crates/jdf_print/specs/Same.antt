@@ -1,7 +1,7 @@
 -- Trees that are the same but for positions: every spot, and the start and end of every token, is set to one value.
 use Rattle.std.specs.Prelude.{◌≡◌, map, option_map}
-use Rattle.jdf_lex.specs.declared.token.Spot.{Spot}
-use Rattle.jdf_lex.specs.declared.token.Token.{Token}
+use Rattle.grammar_core.specs.declared.token.Spot.{Spot}
+use Rattle.grammar_core.specs.declared.token.Token.{Token}
 use Rattle.jdf_tree.specs.declared.expression.Word.{Word}
 use Rattle.jdf_tree.specs.declared.tree.ArgTree.{ArgTree}
 use Rattle.jdf_tree.specs.declared.tree.ArgTree.TheVariants.{One, Span}
@@ -22,7 +22,7 @@ abbrev pub word : Word → Word
 word w = record { text = w.text; spot = nowhere }
 
 abbrev pub token : Token → Token
-token x = record { kind = x.kind; text = x.text; start = 0; end = 0; spot = nowhere }
+token x = record { terminal = x.terminal; text = x.text; start = 0; end = 0; spot = nowhere }
 
 abbrev pub expression : Expression → Expression
 expression (Num z spot) = Num z nowhere

@@ -2,7 +2,7 @@
 -- every operator in parentheses.
 use Rattle.std.specs.Prelude.{ℕ, List, [], ◌∷◌, ◌++◌, map, flat_map, Option, Some, None, Bool, true, false, codes}
 use Rattle.std.specs.Fmt.{signed_decimal}
-use Rattle.jdf_lex.specs.declared.token.Token.{Token}
+use Rattle.grammar_core.specs.declared.token.Token.{Token}
 use Rattle.term_core.specs.declared.operator.UnOp.{UnOp}
 use Rattle.term_core.specs.declared.operator.UnOp.TheVariants as un
 use Rattle.term_core.specs.declared.operator.BinOp.{BinOp}

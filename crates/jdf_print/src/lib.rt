@@ -13,6 +13,3 @@ mod writer;
 
 pub use laws::reads_back;
 pub use printing::print;
-
-#[cfg(test)]
-mod tests;

@@ -1,13 +1,17 @@
 -- The tests of the code are tests of first sets.
-use Rattle.std.proofs.Common.{◌≡◌, Bool, cond, List, [], ◌∷◌, Ok, Err, refl}
+use Rattle.std.proofs.Common.{◌≡◌, ℕ, Bool, true, false, cond, List, [], ◌∷◌, Ok, Err, refl}
 use Rattle.std.specs.Prelude.{◌&&◌, ◌||◌, Option}
-use Rattle.jdf_lex.specs.declared.token.Token.{Token}
-use Rattle.grammar_core.specs.declared.terminal.Terminal.{Terminal}
-use Rattle.grammar_core.specs.declared.terminal.Terminal.TheVariants as terminal
-use Rattle.grammar_core.specs.Terminals.{is, terminal_of}
-use Rattle.grammar_core.specs.Counted.{is_name}
-use Rattle.grammar_core.specs.Production.{pick, opt}
-use Rattle.grammar_core.specs.Reading.{Read, ◌>>=◌, first, starts, picks, reading}
+use Rattle.grammar_core.specs.declared.token.Token.{Token}
+use Rattle.jdf_alphabet.specs.declared.terminal.Terminal.{Terminal}
+use Rattle.jdf_alphabet.specs.declared.terminal.Terminal.TheVariants as terminal
+use Rattle.jdf_alphabet.specs.Terminals.{is, set, terminal_at}
+use Rattle.jdf_alphabet.specs.Counted.{is_name}
+use Rattle.grammar_core.specs.Production.{opt}
+use Rattle.jdf_alphabet.specs.Sets.{pick, starts}
+use Rattle.grammar_core.specs.Reading.{Read, ◌>>=◌, first, picks, reading}
+use Rattle.grammar_core.specs.Reading as engine
+use Rattle.grammar_core.specs.Terminals as terminals
+use Rattle.grammar_core.proofs.Sets.{alike_at}
 use Rattle.grammar_core.proofs.Loops.{pair_with, applied}
 use Rattle.jdf_tree.specs.declared.expression.Word.{Word}
 use Rattle.jdf_tree.specs.declared.tree.DepTree.{DepTree}
@@ -19,35 +23,38 @@ use Rattle.jdf_tree.specs.Grammar.{productions, begins_operand}
 use Rattle.jdf_read.specs.Next.{is_target}
 
 -- arguments begin with an operand
-pub arguments_begin : (s : List Token) → starts (first arguments) s ≡ starts (begins_operand Class) s
-unfolding arguments argument outer expr disjunction conjunction equality relation sum product unary signed number reference parens
+pub arguments_begin : (s : List Token) → engine.starts (first arguments) s ≡ starts (begins_operand Class) s
+unfolding terminal_at arguments argument outer expr disjunction conjunction equality relation sum product unary signed number reference parens
 arguments_begin [] = refl
-arguments_begin (x ∷ s) = go (terminal_of x)
-  where
-    go : (k : Terminal) → first arguments k ≡ begins_operand Class k
-    go terminal.Name = refl
-    go _ = refl
+arguments_begin (x ∷ s) = alike_at (first arguments) (set (begins_operand Class)) refl refl x
 
 target_goes_on : (s : List Token) → starts may_follow_target_name s ≡ (starts is_name s || starts (is terminal.LeftParen) s)
 target_goes_on [] = refl
 target_goes_on (x ∷ s) = refl
 
+-- the terminals after which an unguarded target is read, where b says what follows
+abbrev begins_target : Bool → ℕ → Bool
+begins_target b k = cond (first guarded k) (first unguarded k && b) (first unguarded k)
+
+abbrev is_target_by : Bool → Terminal → Bool
+is_target_by b k = is terminal.New k || is terminal.Null k || (is_name k && b)
+
+target_begins_by : (b : Bool) (x : Token) → begins_target b (terminals.terminal_of x) ≡ set (is_target_by b) (terminals.terminal_of x)
+unfolding terminal_at unguarded target called guarded guard disjunction conjunction equality relation sum product unary signed number reference parens
+target_begins_by true x = alike_at (begins_target true) (set (is_target_by true)) refl refl x
+target_begins_by false x = alike_at (begins_target false) (set (is_target_by false)) refl refl x
+
 -- Which production is next after an arrow.
-pub target_begins : (s : List Token) → picks (first unguarded) (first guarded) may_follow_target_name s ≡ is_target s
-unfolding unguarded target called guarded guard disjunction conjunction equality relation sum product unary signed number reference parens
+pub target_begins : (s : List Token) → picks (first unguarded) (first guarded) (set may_follow_target_name) s ≡ is_target s
 target_begins [] = refl
-target_begins (x ∷ s) = rw (target_goes_on s) (go (terminal_of x) (starts is_name s || starts (is terminal.LeftParen) s))
-  where
-    go : (k : Terminal) (b : Bool) → cond (first guarded k) (first unguarded k && b) (first unguarded k) ≡ (is terminal.New k || is terminal.Null k || (is_name k && b))
-    go terminal.Name b = refl
-    go _ b = refl
+target_begins (x ∷ s) = rw (target_goes_on s) (target_begins_by (starts is_name s || starts (is terminal.LeftParen) s) x)
 
 pub choice_reads : (s : List Token) → reading productions (pick may_follow_target_name unguarded guarded) s ≡ cond (is_target s) (reading productions unguarded s) (reading productions guarded s)
 choice_reads s = rw (target_begins s) refl
 
 -- ---- dependences
 
-pub datatype_begins : (s : List Token) → starts (first datatype) s ≡ starts (is terminal.LeftBracket) s
+pub datatype_begins : (s : List Token) → engine.starts (first datatype) s ≡ starts (is terminal.LeftBracket) s
 unfolding datatype
 datatype_begins s = refl
 
@@ -74,10 +81,10 @@ dependence_reads s = thrice (reading productions arrow s) (reading productions (
 
 -- ---- classes
 
-pub parameters_begin : (s : List Token) → starts (first parameters) s ≡ starts (names Class) s
+pub parameters_begin : (s : List Token) → engine.starts (first parameters) s ≡ starts (names Class) s
 unfolding parameters
 parameters_begin s = refl
 
-pub properties_begin : (s : List Token) → starts (first properties) s ≡ starts (is terminal.LeftBracket) s
+pub properties_begin : (s : List Token) → engine.starts (first properties) s ≡ starts (is terminal.LeftBracket) s
 unfolding properties
 properties_begin s = refl

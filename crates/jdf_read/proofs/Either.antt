@@ -7,8 +7,8 @@ use Rattle.std.proofs.lemmas.List.{take_all}
 use Rattle.std.proofs.lemmas.Str.{IsUtf8-nil, IsUtf8-from_is_utf8, is_utf8-from_IsUtf8}
 use Rattle.jdf_lex.specs.declared.fault.JdfCode.TheVariants as jdf
 use Rattle.jdf_lex.specs.declared.fault.JdfFault.{JdfFault}
-use Rattle.jdf_lex.specs.declared.token.Spot.{Spot}
-use Rattle.jdf_lex.specs.declared.token.Token.{Token}
+use Rattle.grammar_core.specs.declared.token.Spot.{Spot}
+use Rattle.grammar_core.specs.declared.token.Token.{Token}
 use Rattle.jdf_lex.specs.Tokens.{IsLexed, spot_after}
 use Rattle.jdf_lex.proofs.TokensOrFault as lex
 use Rattle.grammar_core.specs.declared.code.Code.{Code}

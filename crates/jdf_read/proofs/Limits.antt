@@ -1,7 +1,7 @@
 -- Whole texts of the grammar are read exactly.
 use Rattle.std.proofs.Common.{◌≡◌, ℕ, Bool, true, false, List, Ok, Err, refl, ◌≤◌, arith}
 use Rattle.std.specs.Prelude.{◌&&◌, length, ◌-◌, None}
-use Rattle.jdf_lex.specs.declared.token.Token.{Token}
+use Rattle.grammar_core.specs.declared.token.Token.{Token}
 use Rattle.grammar_core.specs.declared.code.Code.{Code}
 use Rattle.grammar_core.specs.declared.code.Code.TheVariants.{Syntax}
 use Rattle.grammar_core.specs.Production.{IsText, IsFirstFault}

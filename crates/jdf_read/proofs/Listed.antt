@@ -1,9 +1,9 @@
 -- The lists of the grammar: their elements are never empty, with these first sets.
 use Rattle.std.proofs.Common.{◌≡◌, List, [], ◌∷◌, ◌++◌, Ok, refl}
-use Rattle.jdf_lex.specs.declared.token.Token.{Token}
-use Rattle.grammar_core.specs.declared.terminal.Terminal.TheVariants as terminal
-use Rattle.grammar_core.specs.Terminals.{is}
-use Rattle.grammar_core.specs.declared.code.Code.TheVariants.{TooManyClasses, TooManyLocals, TooManyFlows, TooManyDeps}
+use Rattle.grammar_core.specs.declared.token.Token.{Token}
+use Rattle.jdf_alphabet.specs.declared.terminal.Terminal.TheVariants as terminal
+use Rattle.jdf_alphabet.specs.Terminals.{is, set}
+use Rattle.jdf_alphabet.specs.Codes.{TooManyClasses, TooManyLocals, TooManyFlows, TooManyDeps}
 use Rattle.grammar_core.specs.Reading.{reading}
 use Rattle.grammar_core.specs.Returns.{ReadRefusal, Fails}
 use Rattle.grammar_core.proofs.Loops.{so_far, IsListed}
@@ -17,31 +17,31 @@ use Rattle.jdf_read.specs.Next.{next_argument, next_parameter, is_skip}
 use Rattle.jdf_tree.proofs.Lists.{rest_of, some_begin, some_fail, counted, counted_begins, counted_after_first}
 use Rattle.jdf_tree.specs.GrammarParts.{any, name, names, listed}
 
-pub arguments_listed : IsListed productions next_argument (is terminal.Comma)
+pub arguments_listed : IsListed productions next_argument (set (is terminal.Comma))
 unfolding next_argument
 arguments_listed = record { full = refl; begins = λ s. refl }
 
-pub parameters_listed : IsListed productions next_parameter (is terminal.Comma)
+pub parameters_listed : IsListed productions next_parameter (set (is terminal.Comma))
 unfolding next_parameter
 parameters_listed = record { full = refl; begins = λ s. refl }
 
-pub dependences_listed : IsListed productions dependence is_arrow
+pub dependences_listed : IsListed productions dependence (set is_arrow)
 unfolding dependence arrow
 dependences_listed = record { full = refl; begins = λ s. refl }
 
-pub flows_listed : IsListed productions flow is_kind
+pub flows_listed : IsListed productions flow (set is_kind)
 unfolding flow kind_of_flow
 flows_listed = record { full = refl; begins = λ s. refl }
 
-pub definitions_listed : IsListed productions definition (names Class)
+pub definitions_listed : IsListed productions definition (set (names Class))
 unfolding definition
 definitions_listed = record { full = refl; begins = λ s. refl }
 
-pub skips_listed : IsListed productions skip is_skip
+pub skips_listed : IsListed productions skip (set is_skip)
 unfolding skip
 skips_listed = record { full = refl; begins = λ s. refl }
 
-pub classes_listed : IsListed productions class_and_skips (names Class)
+pub classes_listed : IsListed productions class_and_skips (set (names Class))
 unfolding class_and_skips class head
 classes_listed = record { full = refl; begins = λ s. refl }
 

@@ -2,14 +2,15 @@
 use Rattle.std.proofs.Common.{◌≡◌, ◌<◌, Bool, true, false, cond, List, [], ◌∷◌, ◌++◌, length, Ok, Err, refl, sym, ap, ◌∙◌, append_assoc}
 use Rattle.std.specs.Prelude.{Option, Some, None, ◌&&◌, ◌||◌}
 use Rattle.std.proofs.lemmas.List.{append-nil}
-use Rattle.jdf_lex.specs.declared.token.Token.{Token}
-use Rattle.grammar_core.specs.declared.terminal.Terminal.{Terminal}
-use Rattle.grammar_core.specs.declared.terminal.Terminal.TheVariants as terminal
+use Rattle.grammar_core.specs.declared.token.Token.{Token}
+use Rattle.jdf_alphabet.specs.declared.terminal.Terminal.{Terminal}
+use Rattle.jdf_alphabet.specs.declared.terminal.Terminal.TheVariants as terminal
 use Rattle.ptg_base.specs.declared.refusal.Refusal.TheVariants as errors
-use Rattle.grammar_core.specs.Terminals.{is, terminal_of}
-use Rattle.grammar_core.specs.Counted.{is_name}
-use Rattle.grammar_core.specs.Production.{one_of, star, opt}
-use Rattle.grammar_core.specs.Reading.{◌>>=◌, Read, starts, token_at, nonterminal_at, reading}
+use Rattle.jdf_alphabet.specs.Terminals.{is, terminal_of}
+use Rattle.jdf_alphabet.specs.Counted.{is_name}
+use Rattle.grammar_core.specs.Production.{star, opt}
+use Rattle.jdf_alphabet.specs.Sets.{one_of, starts, token_at}
+use Rattle.grammar_core.specs.Reading.{◌>>=◌, Read, nonterminal_at, reading}
 use Rattle.grammar_core.specs.Returns.{ReadRefusal, Fails}
 use Rattle.grammar_core.proofs.Fuel.{nonterminal_is}
 use Rattle.grammar_core.proofs.Loops.{pair_with, applied, reading_consumes}

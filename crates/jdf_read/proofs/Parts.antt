@@ -1,12 +1,13 @@
 -- The parts of a class one after another, of which some are skipped.
 use Rattle.std.proofs.Common.{◌≡◌, List, Ok, Err, refl, ◌∙◌}
 use Rattle.std.specs.Prelude.{Option}
-use Rattle.jdf_lex.specs.declared.token.Token.{Token}
-use Rattle.jdf_lex.specs.declared.token.Spot.{Spot}
-use Rattle.grammar_core.specs.declared.terminal.Terminal.TheVariants as terminal
-use Rattle.grammar_core.specs.Terminals.{is}
+use Rattle.grammar_core.specs.declared.token.Token.{Token}
+use Rattle.grammar_core.specs.declared.token.Spot.{Spot}
+use Rattle.jdf_alphabet.specs.declared.terminal.Terminal.TheVariants as terminal
+use Rattle.jdf_alphabet.specs.Terminals.{is}
 use Rattle.grammar_core.specs.Production.{seq, map, opt}
-use Rattle.grammar_core.specs.Reading.{Read, ◌>>=◌, token_at, reading}
+use Rattle.grammar_core.specs.Reading.{Read, ◌>>=◌, reading}
+use Rattle.jdf_alphabet.specs.Sets.{token_at}
 use Rattle.grammar_core.proofs.Loops.{applied, regroup}
 use Rattle.jdf_tree.specs.declared.expression.Word.{Word}
 use Rattle.jdf_tree.specs.declared.part.Part.TheVariants.{Class}

@@ -2,14 +2,15 @@
 use Rattle.std.proofs.Common.{◌≡◌, ℕ, suc, ◌+◌, length, Bool, true, false, cond, List, [], ◌∷◌, Ok, Err, take, drop, refl, sym, ap, ◌∙◌, arith}
 use Rattle.std.specs.Prelude.{Some, None, not, ◌&&◌}
 use Rattle.std.specs.List.{prefix_len}
-use Rattle.grammar_core.specs.declared.terminal.Terminal.TheVariants as terminal
+use Rattle.jdf_alphabet.specs.declared.terminal.Terminal.TheVariants as terminal
 use Rattle.jdf_tree.specs.ClassGrammar.{is_in_body, begins_body, body_tokens}
-use Rattle.jdf_lex.specs.declared.token.Token.{Token}
-use Rattle.grammar_core.specs.declared.terminal.Terminal.{Terminal}
-use Rattle.grammar_core.specs.Terminals.{is, terminal_of}
+use Rattle.grammar_core.specs.declared.token.Token.{Token}
+use Rattle.jdf_alphabet.specs.declared.terminal.Terminal.{Terminal}
+use Rattle.jdf_alphabet.specs.Terminals.{is, set, terminal_of}
 use Rattle.grammar_core.specs.declared.code.Code.TheVariants.{Syntax}
-use Rattle.grammar_core.specs.Production.{one_of, star}
-use Rattle.grammar_core.specs.Reading.{◌>>=◌, Read, starts, reading}
+use Rattle.grammar_core.specs.Production.{star}
+use Rattle.jdf_alphabet.specs.Sets.{one_of, starts}
+use Rattle.grammar_core.specs.Reading.{◌>>=◌, Read, reading}
 use Rattle.grammar_core.proofs.Loops.{pair_with, applied, IsListed, many_from, many_step}
 use Rattle.jdf_tree.specs.Nonterminal.{Grammar}
 use Rattle.jdf_tree.specs.GrammarParts.{any, maybe, or_none}
@@ -23,7 +24,7 @@ one q = one_of q
 abbrev pub run_len : (Terminal → Bool) → List Token → ℕ
 run_len q s = prefix_len (λ x. q (terminal_of x)) s
 
-listed : (q : Terminal → Bool) → IsListed productions (one q) q
+listed : (q : Terminal → Bool) → IsListed productions (one q) (set q)
 listed q = record { full = refl; begins = λ s. refl }
 
 -- the first token, if it is in the set
@@ -31,8 +32,8 @@ abbrev token_if : Bool → Token → List Token → Read Token
 token_if b x s = cond b (Ok (x, s)) (Err (length (x ∷ s), Syntax))
 
 run_from : (q : Terminal → Bool) (i : ℕ) (s : List Token) → many_from productions any (one q) i s ≡ Ok (take (run_len q s) s, drop (run_len q s) s)
-run_from q i [] = many_step productions any (one q) q (listed q) i []
-run_from q i (x ∷ s) = many_step productions any (one q) q (listed q) i (x ∷ s) ∙ go (q (terminal_of x)) (run_from q (suc i) s)
+run_from q i [] = many_step productions any (one q) (set q) (listed q) i []
+run_from q i (x ∷ s) = many_step productions any (one q) (set q) (listed q) i (x ∷ s) ∙ go (q (terminal_of x)) (run_from q (suc i) s)
   where
     go : (b : Bool) → many_from productions any (one q) (suc i) s ≡ Ok (take (run_len q s) s, drop (run_len q s) s)
         → cond b (token_if b x s >>= λ a. many_from productions any (one q) (suc i) a.1 >>= applied (λ (more : List Token). a.0 ∷ more)) (Ok ([], x ∷ s))

@@ -1,9 +1,10 @@
 -- Skipped parts, as a loop skips them.
 use Rattle.std.proofs.Common.{◌≡◌, ◌<◌, Bool, true, false, cond, List, [], ◌∷◌, length, Result, Ok, Err, refl, sym, ap, ◌∙◌}
-use Rattle.jdf_lex.specs.declared.token.Token.{Token}
+use Rattle.grammar_core.specs.declared.token.Token.{Token}
 use Rattle.ptg_base.specs.declared.refusal.Refusal.TheVariants as errors
 use Rattle.grammar_core.specs.Production.{star}
-use Rattle.grammar_core.specs.Reading.{FaultFromEnd, ◌>>=◌, Read, starts, reading}
+use Rattle.grammar_core.specs.Reading.{FaultFromEnd, ◌>>=◌, Read, reading}
+use Rattle.jdf_alphabet.specs.Sets.{starts}
 use Rattle.grammar_core.specs.Returns.{ReadRefusal, Fails}
 use Rattle.grammar_core.proofs.Loops.{applied, regroup, many_from, reading_consumes}
 use Rattle.jdf_tree.specs.declared.tree.ClassTree.{ClassTree}

@@ -1,12 +1,13 @@
 -- The tests of the next tokens that the readers of the code make, and the parts that they skip.
 use Rattle.std.specs.Prelude.{Bool, false, ◌&&◌, ◌||◌, List, [], ◌∷◌, Option, Some, None, Result, Ok}
-use Rattle.jdf_lex.specs.declared.token.Token.{Token}
-use Rattle.grammar_core.specs.declared.terminal.Terminal.{Terminal}
-use Rattle.grammar_core.specs.declared.terminal.Terminal.TheVariants as terminal
-use Rattle.grammar_core.specs.Terminals.{is, terminal_of}
-use Rattle.grammar_core.specs.Counted.{is_name}
+use Rattle.grammar_core.specs.declared.token.Token.{Token}
+use Rattle.jdf_alphabet.specs.declared.terminal.Terminal.{Terminal}
+use Rattle.jdf_alphabet.specs.declared.terminal.Terminal.TheVariants as terminal
+use Rattle.jdf_alphabet.specs.Terminals.{is, terminal_of}
+use Rattle.jdf_alphabet.specs.Counted.{is_name}
 use Rattle.grammar_core.specs.Production.{seq, map, alt, opt}
-use Rattle.grammar_core.specs.Reading.{FaultFromEnd, ◌>>=◌, starts, reading}
+use Rattle.grammar_core.specs.Reading.{FaultFromEnd, ◌>>=◌, reading}
+use Rattle.jdf_alphabet.specs.Sets.{starts}
 use Rattle.jdf_tree.specs.declared.expression.Word.{Word}
 use Rattle.jdf_tree.specs.declared.part.Part.TheVariants.{Class}
 use Rattle.jdf_tree.specs.Nonterminal.{Grammar}

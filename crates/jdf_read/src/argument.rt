@@ -2,7 +2,8 @@
 
 ghost use Rattle.std.specs.Prelude.{◌≡◌};
 ghost use Rattle.grammar_core.specs.Returns.{Returns};
-ghost use Rattle.grammar_core.specs.Reading.{reading, starts};
+ghost use Rattle.grammar_core.specs.Reading.{reading};
+ghost use Rattle.jdf_alphabet.specs.Sets.{starts};
 ghost use Rattle.jdf_tree.specs.ClassGrammar.{argument, arguments, call};
 ghost use Rattle.jdf_tree.specs.Grammar.{productions, begins_operand};
 ghost use Rattle.jdf_tree.specs.declared.part.Part.TheVariants.{Class};
@@ -10,7 +11,8 @@ ghost use Rattle.jdf_tree.specs.GrammarParts.{maybe};
 ghost use Rattle.jdf_read.specs.Next.{next_argument};
 
 use expr_read::{is_name_next, outer};
-use grammar_core::{ReadRefusal, Terminal, expect, is_next};
+use grammar_core::ReadRefusal;
+use jdf_alphabet::{Terminal, expect, is_next};
 use jdf_lex::Token;
 use jdf_tree::{ArgTree, Part};
 use ptg_base::Seq;

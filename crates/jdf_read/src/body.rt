@@ -3,14 +3,16 @@
 ghost use Rattle.std.specs.Prelude.{◌≡◌, ◌≤◌, length, IfOk};
 ghost use Rattle.std.specs.List.{prefix_len};
 ghost use Rattle.grammar_core.specs.Returns.{Returns};
-ghost use Rattle.grammar_core.specs.Reading.{reading, starts};
-ghost use Rattle.grammar_core.specs.Terminals.{terminal_of};
+ghost use Rattle.grammar_core.specs.Reading.{reading};
+ghost use Rattle.jdf_alphabet.specs.Sets.{starts};
+ghost use Rattle.jdf_alphabet.specs.Terminals.{terminal_of};
 ghost use Rattle.jdf_tree.specs.ClassGrammar.{is_in_body, begins_body, body_tokens, body};
 ghost use Rattle.jdf_tree.specs.Grammar.{productions};
 ghost use Rattle.jdf_tree.specs.GrammarParts.{maybe};
 
 use crate::head::past_properties;
-use grammar_core::{ReadRefusal, Terminal, expect, is_next};
+use grammar_core::ReadRefusal;
+use jdf_alphabet::{Terminal, expect, is_next};
 use jdf_lex::{Spot, Token};
 use ptg_base::{OutOfMemory, Seq, Text};
 use std::alloc::Global;
@@ -51,7 +53,7 @@ fn copy_of(alloc: Global, token: &Token) -> Result<Token, OutOfMemory>
     ensures { IfOk result (λ copy. copy ≡ token.now) }
 {
     Ok(Token {
-        kind: token.kind,
+        terminal: token.terminal,
         text: Text::of(alloc, token.text.bytes())?,
         start: token.start,
         end: token.end,

@@ -3,7 +3,8 @@
 ghost use Rattle.std.specs.Prelude.{◌≡◌};
 ghost use Rattle.grammar_core.specs.Production.{opt, star};
 ghost use Rattle.grammar_core.specs.Returns.{Returns};
-ghost use Rattle.grammar_core.specs.Reading.{reading, starts};
+ghost use Rattle.grammar_core.specs.Reading.{reading};
+ghost use Rattle.jdf_alphabet.specs.Sets.{starts};
 ghost use Rattle.jdf_tree.specs.ClassGrammar.{priority, class};
 ghost use Rattle.jdf_tree.specs.Grammar.{productions, skip, class_and_skips, classes};
 ghost use Rattle.jdf_tree.specs.GrammarParts.{any};
@@ -13,7 +14,8 @@ use crate::body::body;
 use crate::flow::flows;
 use crate::head::{affinity, definitions, signature};
 use expr_read::{is_name_next, outer};
-use grammar_core::{Code, ReadRefusal, Terminal, expect, is_next, refusal_at};
+use grammar_core::{ReadRefusal, refusal_at};
+use jdf_alphabet::{GrammarCode, Terminal, expect, is_next};
 use jdf_lex::Token;
 use jdf_tree::{ClassTree, ExprTree, Part, Word};
 use ptg_base::Seq;
@@ -132,7 +134,7 @@ pub(crate) fn classes(
     list.push(first)?;
     'more: while is_name_next(Part::Class, rest) {
         if list.len() == MOST_CLASSES {
-            return Err(refusal_at(rest, Code::TooManyClasses));
+            return Err(refusal_at(rest, GrammarCode::TooManyClasses.code()));
         }
         let (next, after) = class_and_skips(alloc, rest)?;
         list.push(next)?;

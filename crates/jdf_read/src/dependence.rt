@@ -1,16 +1,18 @@
 //! Reads dependences.
 
 ghost use Rattle.std.specs.Prelude.{◌≡◌};
-ghost use Rattle.grammar_core.specs.Production.{opt, pick};
+ghost use Rattle.grammar_core.specs.Production.{opt};
+ghost use Rattle.jdf_alphabet.specs.Sets.{pick, starts};
 ghost use Rattle.grammar_core.specs.Returns.{Returns};
-ghost use Rattle.grammar_core.specs.Reading.{reading, starts};
+ghost use Rattle.grammar_core.specs.Reading.{reading};
 ghost use Rattle.jdf_tree.specs.ClassGrammar.{unguarded, guarded, arrow, is_arrow, may_follow_target_name, datatype, dependence, dependences};
 ghost use Rattle.jdf_tree.specs.Grammar.{productions};
 ghost use Rattle.jdf_read.specs.Next.{is_target};
 
 use crate::target::target;
 use expr_read::{guard, is_name_next, name};
-use grammar_core::{Code, ReadRefusal, Terminal, expect, is_next, refusal_at};
+use grammar_core::{Code, ReadRefusal, refusal_at};
+use jdf_alphabet::{GrammarCode, Terminal, expect, is_next};
 use jdf_lex::Token;
 use jdf_tree::{DepTree, ExprTree, Part, TargetTree, Word};
 use ptg_base::Seq;
@@ -151,7 +153,7 @@ pub(crate) fn dependences(
     let mut rest = tokens;
     'more: while is_arrow_next(rest) {
         if list.len() == MOST_DEPENDENCES {
-            return Err(refusal_at(rest, Code::TooManyDeps));
+            return Err(refusal_at(rest, GrammarCode::TooManyDeps.code()));
         }
         let (next, after) = dependence(alloc, rest)?;
         list.push(next)?;

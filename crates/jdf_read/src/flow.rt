@@ -2,13 +2,15 @@
 
 ghost use Rattle.std.specs.Prelude.{◌≡◌, MatchOption, true, false};
 ghost use Rattle.grammar_core.specs.Returns.{Returns};
-ghost use Rattle.grammar_core.specs.Reading.{reading, starts};
+ghost use Rattle.grammar_core.specs.Reading.{reading};
+ghost use Rattle.jdf_alphabet.specs.Sets.{starts};
 ghost use Rattle.jdf_tree.specs.ClassGrammar.{is_kind, kind_by, kind_of_flow, flow, flows};
 ghost use Rattle.jdf_tree.specs.Grammar.{productions};
 
 use crate::dependence::dependences;
 use expr_read::name;
-use grammar_core::{Code, ReadRefusal, Terminal, refusal_at};
+use grammar_core::{Code, ReadRefusal, refusal_at};
+use jdf_alphabet::{GrammarCode, Terminal};
 use jdf_lex::Token;
 use jdf_tree::{FlowTree, Part};
 use ptg_base::Seq;
@@ -77,7 +79,7 @@ pub(crate) fn flows(
     let mut rest = tokens;
     'more: while is_kind_next(rest) {
         if list.len() == MOST_FLOWS {
-            return Err(refusal_at(rest, Code::TooManyFlows));
+            return Err(refusal_at(rest, GrammarCode::TooManyFlows.code()));
         }
         let (next, after) = flow(alloc, rest)?;
         list.push(next)?;

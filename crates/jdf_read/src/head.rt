@@ -5,7 +5,7 @@ ghost use Rattle.std.specs.List.{prefix_len};
 ghost use Rattle.grammar_core.specs.Production.{opt};
 ghost use Rattle.grammar_core.specs.Returns.{Returns};
 ghost use Rattle.grammar_core.specs.Reading.{reading};
-ghost use Rattle.grammar_core.specs.Terminals.{terminal_of};
+ghost use Rattle.jdf_alphabet.specs.Terminals.{terminal_of};
 ghost use Rattle.jdf_tree.specs.declared.part.Part.TheVariants.{Class};
 ghost use Rattle.jdf_tree.specs.ClassGrammar.{parameters, parameter_list, definition, definitions, affinity, is_no_right_bracket, properties};
 ghost use Rattle.jdf_tree.specs.Grammar.{productions};
@@ -14,7 +14,8 @@ ghost use Rattle.jdf_read.specs.Next.{next_parameter, past, signature};
 
 use crate::argument::{argument, call};
 use expr_read::{is_name_next, name};
-use grammar_core::{Code, ReadFault, ReadRefusal, Terminal, expect, is_next, refusal_at};
+use grammar_core::{ReadFault, ReadRefusal, refusal_at};
+use jdf_alphabet::{GrammarCode, Terminal, expect, is_next};
 use jdf_lex::Token;
 use jdf_tree::{ArgTree, DefTree, Part, Word};
 use ptg_base::Seq;
@@ -66,7 +67,7 @@ fn parameters(alloc: Global, tokens: &[Token]) -> Result<(Seq<Word>, &[Token]), 
 {
     let over = ReadRefusal::Fault(ReadFault {
         left: tokens.len().saturating_sub(MOST_PARAMETER_TOKENS),
-        code: Code::TooManyParams,
+        code: GrammarCode::TooManyParams.code(),
     });
     match names(alloc, tokens) {
         Ok((_, rest)) if is_over(tokens, rest.len()) => Err(over),
@@ -169,7 +170,7 @@ pub(crate) fn definitions(
     let mut rest = tokens;
     'more: while is_name_next(Part::Class, rest) {
         if list.len() == MOST_DEFINITIONS {
-            return Err(refusal_at(rest, Code::TooManyLocals));
+            return Err(refusal_at(rest, GrammarCode::TooManyLocals.code()));
         }
         let (next, after) = definition(alloc, rest)?;
         list.push(next)?;

@@ -10,8 +10,6 @@ mod head;
 mod laws;
 mod opening;
 mod target;
-#[cfg(test)]
-mod tests;
 mod text;
 
 pub use laws::{JdfGrammar, one_fault, one_tree, tree_or_fault};

@@ -8,7 +8,8 @@ ghost use Rattle.jdf_tree.specs.Grammar.{productions};
 
 use crate::argument::call;
 use expr_read::{is_name_next, name};
-use grammar_core::{ReadRefusal, Terminal, expect, is_next};
+use grammar_core::ReadRefusal;
+use jdf_alphabet::{Terminal, expect, is_next};
 use jdf_lex::Token;
 use jdf_tree::{Part, TargetTree};
 use std::alloc::Global;

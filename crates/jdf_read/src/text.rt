@@ -5,7 +5,7 @@ ghost use Rattle.std.specs.List.{suffix_len};
 ghost use Rattle.jdf_lex.specs.declared.fault.JdfCode.TheVariants.{Truncated};
 ghost use Rattle.jdf_lex.specs.declared.fault.JdfFault.{JdfFault};
 ghost use Rattle.ptg_base.specs.declared.refusal.Refusal.TheVariants.{Fault, OutOfMemory};
-ghost use Rattle.jdf_lex.specs.declared.token.Token.{Token};
+ghost use Rattle.grammar_core.specs.declared.token.Token.{Token};
 ghost use Rattle.jdf_lex.specs.Tokens.{spot_after};
 ghost use Rattle.grammar_core.specs.Returns.{Returns};
 ghost use Rattle.grammar_core.specs.Reading.{whole};

@@ -1,10 +1,11 @@
 -- The grammar of the body of a class. The language of bodies is this project's own choice.
 use Rattle.std.specs.Prelude.{Bool, Option, Some, None, ◌||◌}
-use Rattle.grammar_core.specs.declared.terminal.Terminal.{Terminal}
-use Rattle.grammar_core.specs.declared.terminal.Terminal.TheVariants as terminal
-use Rattle.grammar_core.specs.declared.code.Code.TheVariants.{TooDeep, TooManyVars}
-use Rattle.grammar_core.specs.Terminals.{is}
-use Rattle.grammar_core.specs.Production.{seq, map, alt, opt, star, after_token, limited}
+use Rattle.jdf_alphabet.specs.declared.terminal.Terminal.{Terminal}
+use Rattle.jdf_alphabet.specs.declared.terminal.Terminal.TheVariants as terminal
+use Rattle.jdf_alphabet.specs.Codes.{TooDeep, TooManyVars}
+use Rattle.jdf_alphabet.specs.Terminals.{is}
+use Rattle.grammar_core.specs.Production.{seq, map, alt, opt, star, limited}
+use Rattle.jdf_alphabet.specs.Sets.{after_token}
 use Rattle.jdf_tree.specs.declared.expression.Word.{Word}
 use Rattle.jdf_tree.specs.declared.expression.ExprWithSpot.{ExprWithSpot}
 use Rattle.jdf_tree.specs.declared.body.StmtTree.{StmtTree}

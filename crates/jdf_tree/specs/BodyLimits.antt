@@ -1,12 +1,12 @@
 -- How deep the blocks of a body may nest, and how many variables it may declare. Source: this project's own choice.
 use Rattle.std.specs.Prelude.{◌≡◌, ℕ, ◌-◌, Bool, true, false, nat_le, ◌&&◌, ◌||◌, List, [], if◌then◌else◌, count_by, refl}
-use Rattle.jdf_lex.specs.declared.token.Token.{Token}
-use Rattle.grammar_core.specs.declared.terminal.Terminal.{Terminal}
-use Rattle.grammar_core.specs.declared.terminal.Terminal.TheVariants as terminal
-use Rattle.grammar_core.specs.Terminals.{terminal_of, is}
+use Rattle.grammar_core.specs.declared.token.Token.{Token}
+use Rattle.jdf_alphabet.specs.declared.terminal.Terminal.{Terminal}
+use Rattle.jdf_alphabet.specs.declared.terminal.Terminal.TheVariants as terminal
+use Rattle.jdf_alphabet.specs.Terminals.{terminal_of, is}
 use Rattle.grammar_core.specs.Production.{Limit}
 use Rattle.grammar_core.specs.LimitBy.{limit_by}
-use Rattle.grammar_core.specs.Reading.{starts}
+use Rattle.jdf_alphabet.specs.Sets.{starts}
 
 -- how many of the tokens are in this set
 abbrev pub how_many : (Terminal → Bool) → List Token → ℕ

@@ -1,17 +1,18 @@
 -- The grammar of a class of tasks. Source: the JDF documentation; the limits, and `-> NULL`, are this project's own choice.
 use Rattle.std.proofs.Common.{arith}
 use Rattle.std.specs.Prelude.{ℕ, ◌≤◌, Bool, nat_le, not, List, ◌∷◌, Option, Some, None, option_map, ◌||◌, ◌&&◌, if◌then◌else◌}
-use Rattle.jdf_lex.specs.declared.token.Spot.{Spot}
-use Rattle.jdf_lex.specs.declared.token.Token.{Token}
+use Rattle.grammar_core.specs.declared.token.Spot.{Spot}
+use Rattle.grammar_core.specs.declared.token.Token.{Token}
 use Rattle.term_core.specs.declared.flow.FlowKind.{FlowKind}
 use Rattle.term_core.specs.declared.flow.FlowKind.TheVariants as kind
-use Rattle.grammar_core.specs.declared.terminal.Terminal.{Terminal}
-use Rattle.grammar_core.specs.declared.terminal.Terminal.TheVariants as terminal
+use Rattle.jdf_alphabet.specs.declared.terminal.Terminal.{Terminal}
+use Rattle.jdf_alphabet.specs.declared.terminal.Terminal.TheVariants as terminal
 use Rattle.grammar_core.specs.declared.code.Code.{Code}
-use Rattle.grammar_core.specs.declared.code.Code.TheVariants.{TooManyParams, TooManyLocals, TooManyFlows, TooManyDeps}
-use Rattle.grammar_core.specs.Terminals.{terminal_of, is}
-use Rattle.grammar_core.specs.Counted.{is_name}
-use Rattle.grammar_core.specs.Production.{Limit, one_of, seq, map, alt, opt, star, pick, limited}
+use Rattle.jdf_alphabet.specs.Codes.{TooManyParams, TooManyLocals, TooManyFlows, TooManyDeps}
+use Rattle.jdf_alphabet.specs.Terminals.{terminal_of, is}
+use Rattle.jdf_alphabet.specs.Counted.{is_name}
+use Rattle.grammar_core.specs.Production.{Limit, seq, map, alt, opt, star, limited}
+use Rattle.jdf_alphabet.specs.Sets.{one_of, pick}
 use Rattle.jdf_tree.specs.declared.expression.Word.{Word}
 use Rattle.jdf_tree.specs.declared.expression.ExprWithSpot.{ExprWithSpot}
 use Rattle.jdf_tree.specs.declared.part.Part.TheVariants.{Class}

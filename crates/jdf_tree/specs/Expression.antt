@@ -1,6 +1,6 @@
 -- Expressions in the text as trees. Parentheses are not kept.
 use Rattle.std.specs.Prelude.{ℤ}
-use Rattle.jdf_lex.specs.declared.token.Spot.{Spot}
+use Rattle.grammar_core.specs.declared.token.Spot.{Spot}
 use Rattle.term_core.specs.declared.operator.UnOp.{UnOp}
 use Rattle.term_core.specs.declared.operator.BinOp.{BinOp}
 use Rattle.jdf_tree.specs.declared.expression.Word.{Word}

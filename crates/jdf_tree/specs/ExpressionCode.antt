@@ -3,7 +3,7 @@ use Rattle.std.specs.Prelude.{◌≡◌, ℕ, List, [], ◌∷◌, refl}
 use Rattle.std.proofs.Common.{ap, sym, ◌∙◌, get_or}
 use Rattle.std.specs.Coded.{Coded, code_by, coded×, coded_list, coded_ℕ, coded_ℤ}
 use base.Stored.{Gv, gnum, gcons}
-use Rattle.jdf_lex.specs.declared.token.Spot.{Spot}
+use Rattle.grammar_core.specs.declared.token.Spot.{Spot}
 use Rattle.jdf_tree.specs.declared.expression.Word.{Word}
 use Rattle.jdf_tree.specs.Expression.{Expression, Num, Name, Elem, Unary, Binary, Choose}
 use Rattle.term_core.specs.declared.operator.UnOp.{UnOp}

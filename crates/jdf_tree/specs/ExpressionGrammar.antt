@@ -1,17 +1,18 @@
 -- The grammar of expressions. Source: the JDF documentation; ranks and grouping are those of C. The single `&` and `|` are this project's own choice.
 use Rattle.std.specs.Prelude.{ℕ, pos, Bool, List, [], ◌∷◌, Option, Some, None, ◌||◌}
-use Rattle.jdf_lex.specs.declared.token.Spot.{Spot}
-use Rattle.jdf_lex.specs.declared.token.Token.{Token}
+use Rattle.grammar_core.specs.declared.token.Spot.{Spot}
+use Rattle.grammar_core.specs.declared.token.Token.{Token}
 use Rattle.term_core.specs.declared.operator.UnOp.{UnOp}
 use Rattle.term_core.specs.declared.operator.UnOp.TheVariants as un
 use Rattle.term_core.specs.declared.operator.BinOp.{BinOp}
 use Rattle.term_core.specs.declared.operator.BinOp.TheVariants as bin
-use Rattle.grammar_core.specs.declared.terminal.Terminal.{Terminal}
-use Rattle.grammar_core.specs.declared.terminal.Terminal.TheVariants as terminal
-use Rattle.grammar_core.specs.declared.code.Code.TheVariants.{BadNumber, ExprTooLong}
-use Rattle.grammar_core.specs.Terminals.{terminal_of, is}
-use Rattle.grammar_core.specs.Counted.{expression_limit}
-use Rattle.grammar_core.specs.Production.{one_of, valued, seq, map, alt, opt, star, after_token, limited}
+use Rattle.jdf_alphabet.specs.declared.terminal.Terminal.{Terminal}
+use Rattle.jdf_alphabet.specs.declared.terminal.Terminal.TheVariants as terminal
+use Rattle.jdf_alphabet.specs.Codes.{BadNumber, ExprTooLong}
+use Rattle.jdf_alphabet.specs.Terminals.{terminal_of, is}
+use Rattle.jdf_alphabet.specs.Counted.{expression_limit}
+use Rattle.grammar_core.specs.Production.{seq, map, alt, opt, star, limited}
+use Rattle.jdf_alphabet.specs.Sets.{one_of, valued, after_token}
 use Rattle.jdf_tree.specs.declared.expression.Word.{Word}
 use Rattle.jdf_tree.specs.declared.expression.ExprWithSpot.{ExprWithSpot}
 use Rattle.jdf_tree.specs.declared.part.Part.{Part}

@@ -4,11 +4,14 @@ use Rattle.std.specs.Str.{IsUtf8}
 use Rattle.jdf_lex.specs.declared.fault.JdfCode.{JdfCode}
 use Rattle.jdf_lex.specs.declared.fault.JdfCode.TheVariants as jdf
 use Rattle.jdf_lex.specs.declared.fault.JdfFault.{JdfFault}
-use Rattle.jdf_lex.specs.declared.token.Spot.{Spot}
-use Rattle.jdf_lex.specs.declared.token.Token.{Token}
+use Rattle.grammar_core.specs.declared.token.Spot.{Spot}
+use Rattle.grammar_core.specs.declared.token.Token.{Token}
 use Rattle.jdf_lex.specs.Tokens.{IsLexed, IsTokenFault, spot_after}
 use Rattle.grammar_core.specs.declared.code.Code.{Code}
 use Rattle.grammar_core.specs.declared.code.Code.TheVariants as code
+use Rattle.jdf_alphabet.specs.declared.code.GrammarCode.{GrammarCode}
+use Rattle.jdf_alphabet.specs.declared.code.GrammarCode.TheVariants as grammar
+use Rattle.jdf_alphabet.specs.Codes.{code_at}
 use Rattle.grammar_core.specs.Production.{IsFirstFault}
 use Rattle.jdf_tree.specs.Grammar.{productions, file}
 
@@ -22,18 +25,22 @@ pub record StopsBeingUtf8 (bytes : List ℕ) (at : ℕ) : Type 0 where
   pub before : IsUtf8 (take at bytes)
   pub longest : (n : ℕ) → n ≤ length bytes → IsUtf8 (take n bytes) → n ≤ at
 
+-- the JDF code for a code that the grammar states
+abbrev pub stated_code : GrammarCode → JdfCode
+stated_code grammar.BadNumber = jdf.BadNumber
+stated_code grammar.ExprTooLong = jdf.ExprTooLong
+stated_code grammar.TooManyClasses = jdf.TooManyClasses
+stated_code grammar.TooManyParams = jdf.TooManyParams
+stated_code grammar.TooManyLocals = jdf.TooManyLocals
+stated_code grammar.TooManyFlows = jdf.TooManyFlows
+stated_code grammar.TooManyDeps = jdf.TooManyDeps
+stated_code grammar.TooDeep = jdf.TooDeep
+stated_code grammar.TooManyVars = jdf.TooManyVars
+
 -- the JDF code for a code of the grammar
 abbrev pub code_at_token : Code → JdfCode
 code_at_token code.Syntax = jdf.Syntax
-code_at_token code.BadNumber = jdf.BadNumber
-code_at_token code.ExprTooLong = jdf.ExprTooLong
-code_at_token code.TooManyClasses = jdf.TooManyClasses
-code_at_token code.TooManyParams = jdf.TooManyParams
-code_at_token code.TooManyLocals = jdf.TooManyLocals
-code_at_token code.TooManyFlows = jdf.TooManyFlows
-code_at_token code.TooManyDeps = jdf.TooManyDeps
-code_at_token code.TooDeep = jdf.TooDeep
-code_at_token code.TooManyVars = jdf.TooManyVars
+code_at_token (code.Stated number) = stated_code (code_at number)
 
 -- The first fault of the tokens by the grammar: at a token, or Truncated at the end of the text.
 pub record IsGrammarFault (tokens : List Token) (end : Spot) (fault : JdfFault) : Type 0 where

@@ -1,12 +1,13 @@
 -- The grammar of a JDF text. Source: the JDF documentation. Extern blocks, options and properties are skipped unread.
 use Rattle.std.specs.Prelude.{ℕ, Bool, false, List, [], ◌∷◌, ◌||◌}
-use Rattle.jdf_lex.specs.declared.token.Token.{Token}
-use Rattle.grammar_core.specs.declared.terminal.Terminal.{Terminal}
-use Rattle.grammar_core.specs.declared.terminal.Terminal.TheVariants as terminal
-use Rattle.grammar_core.specs.declared.code.Code.TheVariants.{TooManyClasses}
-use Rattle.grammar_core.specs.Terminals.{is}
-use Rattle.grammar_core.specs.Counted.{is_name}
-use Rattle.grammar_core.specs.Production.{one_of, seq, map, alt, star, pick, after_token}
+use Rattle.grammar_core.specs.declared.token.Token.{Token}
+use Rattle.jdf_alphabet.specs.declared.terminal.Terminal.{Terminal}
+use Rattle.jdf_alphabet.specs.declared.terminal.Terminal.TheVariants as terminal
+use Rattle.jdf_alphabet.specs.Codes.{TooManyClasses}
+use Rattle.jdf_alphabet.specs.Terminals.{is, set}
+use Rattle.jdf_alphabet.specs.Counted.{is_name}
+use Rattle.grammar_core.specs.Production.{seq, map, alt, star}
+use Rattle.jdf_alphabet.specs.Sets.{one_of, pick, after_token}
 use Rattle.grammar_core.specs.Predictive.{Claims}
 use Rattle.jdf_tree.specs.declared.expression.Word.{Word}
 use Rattle.jdf_tree.specs.declared.part.Part.{Part}
@@ -106,4 +107,4 @@ continues an_opening k = begins_opening k
 continues a_block k = false
 
 abbrev pub claims : Claims Nonterminal
-claims = record { firsts = begins; continues = continues }
+claims = record { firsts = λ n. set (begins n); continues = λ n. set (continues n) }

@@ -1,12 +1,13 @@
 -- Small productions that the grammar is built from.
 use Rattle.std.specs.Prelude.{ℕ, Bool, List, [], ◌∷◌, Option, Some, None, ◌||◌}
-use Rattle.jdf_lex.specs.declared.token.Token.{Token}
-use Rattle.grammar_core.specs.declared.terminal.Terminal.{Terminal}
-use Rattle.grammar_core.specs.declared.terminal.Terminal.TheVariants as terminal
+use Rattle.grammar_core.specs.declared.token.Token.{Token}
+use Rattle.jdf_alphabet.specs.declared.terminal.Terminal.{Terminal}
+use Rattle.jdf_alphabet.specs.declared.terminal.Terminal.TheVariants as terminal
 use Rattle.grammar_core.specs.declared.code.Code.{Code}
-use Rattle.grammar_core.specs.Terminals.{is}
-use Rattle.grammar_core.specs.Counted.{is_name}
-use Rattle.grammar_core.specs.Production.{one_of, seq, map, opt, star}
+use Rattle.jdf_alphabet.specs.Terminals.{is}
+use Rattle.jdf_alphabet.specs.Counted.{is_name}
+use Rattle.grammar_core.specs.Production.{seq, map, opt, star}
+use Rattle.jdf_alphabet.specs.Sets.{one_of}
 use Rattle.jdf_tree.specs.declared.expression.Word.{Word}
 use Rattle.jdf_tree.specs.declared.part.Part.{Part}
 use Rattle.jdf_tree.specs.declared.part.Part.TheVariants.{Class, Body}

@@ -1,4 +1,7 @@
+//! Names judged by their tokens and by the tree.
+
 use super::faults::{Fault, OF_NAMES};
+use super::names::OF_EACH_NAME;
 use super::runs::{BUDGETS, Run, SHADOWS, STATEMENTS, TRAPS};
 use super::{Found, fault_of, found, lexed, scope};
 use body_names::front_fault;
@@ -36,6 +39,11 @@ fn both_ways_give_one_fault(rt: HostRuntime) -> Result<(), Fail> {
     let refused: &[Fault] = &OF_NAMES;
     for (text, _, _, _) in refused {
         agree(&rt, rt.alloc(), text)?;
+    }
+    for table in OF_EACH_NAME {
+        for (text, _, _, _) in table {
+            agree(&rt, rt.alloc(), text)?;
+        }
     }
     Ok(())
 }

@@ -1,3 +1,5 @@
+//! Bodies whose text has a fault, with names before and after it.
+
 use super::fault_of;
 use jdf_lex::JdfCode;
 use jdf_lex::JdfCode::{

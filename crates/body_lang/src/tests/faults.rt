@@ -1,3 +1,5 @@
+//! The first faults of bodies.
+
 use super::fault_of;
 use jdf_lex::JdfCode;
 use jdf_lex::JdfCode::{

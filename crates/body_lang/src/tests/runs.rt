@@ -1,3 +1,5 @@
+//! Bodies that are read and run.
+
 use super::{lexed, scope};
 use crate::read_body;
 use body_eval::{Scratch, run_body};
@@ -75,7 +77,7 @@ fn expect(rt: &impl Abort, alloc: Global, runs: &[Run]) -> Result<(), Fail> {
     Ok(())
 }
 
-pub const STATEMENTS: [Run; 19] = [
+pub const STATEMENTS: [Run; 27] = [
     ("", 1, "0"),
     ("{ A[0] = 3; }", 1, "3"),
     (
@@ -109,10 +111,41 @@ pub const STATEMENTS: [Run; 19] = [
     ("A[0] = 1; A[A[0]] = 9;", 2, "1 9"),
     ("A[1] = 1; A[0] = A[A[A[1]]] + 4;", 2, "5 1"),
     ("A[k] = m; A[k - 1] = k; A[0] = A[A[1]];", 3, "5 2 5"),
+    // The right side counts only where the left one does not decide.
+    ("A[0] = 0 && 1 / 0;", 1, "0"),
+    ("A[0] = 3 || 1 / 0;", 1, "1"),
+    // The bounds of a loop are evaluated once, as it starts.
+    (
+        "int x = 2; for i = x .. x + 2 { x = x + 10; } A[0] = x;",
+        1,
+        "32",
+    ),
+    (
+        "for i = 1 .. 3 { for j = i .. 3 { A[0] = A[0] + 1; } }",
+        1,
+        "6",
+    ),
+    // Loops at the ends of the numbers.
+    (
+        "for i = 9223372036854775806 .. 9223372036854775807 { A[0] = A[0] + 1; }",
+        1,
+        "2",
+    ),
+    (
+        "for i = -9223372036854775807 - 1 .. -9223372036854775806 { A[0] = A[0] + 1; }",
+        1,
+        "3",
+    ),
+    (
+        "for i = 9223372036854775807 .. -9223372036854775807 - 1 { trap no; }",
+        1,
+        "0",
+    ),
+    ("for i = -2 .. 1 { A[0] = A[0] + i; }", 1, "-2"),
 ];
 
 // A name means what was declared last of what is seen.
-pub const SHADOWS: [Run; 14] = [
+pub const SHADOWS: [Run; 17] = [
     ("int k = k + 1; A[0] = k;", 1, "3"),
     ("if (1) { int k = 40; A[0] = k; } A[0] = A[0] + k;", 1, "42"),
     (
@@ -167,14 +200,31 @@ pub const SHADOWS: [Run; 14] = [
         1,
         "234142",
     ),
+    (
+        "int x = 1; if (1) { x = 2; if (1) { int x = 3; x = 4; } x = 5; int x = x; x = 6; } A[0] = x;",
+        1,
+        "5",
+    ),
+    (
+        "int x = 1; if (0) { int x = 2; } else { int x = x; A[0] = x; } A[0] = 10 * A[0] + x;",
+        1,
+        "11",
+    ),
+    (
+        "for k = 0 .. k { for k = k .. 3 { A[0] = 10 * A[0] + k; } A[0] = 10 * A[0] + k; } A[0] = 10 * A[0] + k;",
+        1,
+        "123012312322",
+    ),
 ];
 
-pub const TRAPS: [Run; 24] = [
+pub const TRAPS: [Run; 26] = [
     ("A[0] = 9223372036854775807 + 1;", 1, "Overflow"),
     ("int x = -9223372036854775807 - 1; x = -x;", 1, "Overflow"),
     ("A[0] = NB / 0;", 1, "Divide"),
     ("A[0] = k % (m - 5);", 1, "Divide"),
     ("if (1 / 0) { }", 1, "Divide"),
+    ("A[0] = -2 && 1 / 0;", 1, "Divide"),
+    ("A[0] = 0 || 1 / 0;", 1, "Divide"),
     ("A[1] = 1;", 1, "Index"),
     ("A[-1] = 1;", 1, "Index"),
     ("A[0] = R[1];", 1, "Index"),
@@ -219,7 +269,7 @@ pub const TRAPS: [Run; 24] = [
 ];
 
 // A statement and a turn have a unit each, and there are 16777216. The first body alone takes 11.
-pub const BUDGETS: [Run; 8] = [
+pub const BUDGETS: [Run; 10] = [
     ("for i = 0 .. 16777214 { }", 1, "0"),
     ("for i = 0 .. 16777215 { }", 1, "Budget"),
     (
@@ -244,6 +294,17 @@ pub const BUDGETS: [Run; 8] = [
     ),
     ("for i = 0 .. 16777213 { } trap no;", 1, "the word no"),
     ("for i = 0 .. 16777214 { } trap no;", 1, "Budget"),
+    // The block that is not chosen costs nothing: a turn here costs three units, and the loop one.
+    (
+        "for i = 1 .. 5592405 { if (i) { A[0] = A[0] + 1; } else { A[0] = 1; A[0] = 1; A[0] = 1; } }",
+        1,
+        "5592405",
+    ),
+    (
+        "for i = 1 .. 5592406 { if (i) { A[0] = A[0] + 1; } else { A[0] = 1; A[0] = 1; A[0] = 1; } }",
+        1,
+        "Budget",
+    ),
 ];
 
 #[test]

@@ -1,3 +1,5 @@
+//! The first fault of a text.
+
 use super::fault_of;
 use jdf_lex::JdfCode;
 use jdf_lex::JdfCode::{BadNumber, Syntax};
@@ -173,6 +175,27 @@ fn reserves_words(rt: HostRuntime) -> Result<(), Fail> {
             let found = fault_of(rt.alloc(), text.as_str())?;
             assert!(rt; found == Some((1, *column, Syntax)), "{text}");
         }
+    }
+    Ok(())
+}
+
+// Near to what is refused. What names mean is not looked at.
+const READ: [&str; 9] = [
+    "{ if (1) { } }",
+    "x = 9223372036854775807 - 0;",
+    "if (a) { } else { } if (b) { }",
+    "for i = 0..1{}for i=(0) .. -n{i=i;}",
+    "type = 1; int type = type; trap type;",
+    "int int1 = iff ? elses : f0r; End = trap_;",
+    "x = a < -1 ? A[b ? 0 : 1] : !A[A[A[0]]] && 1 | 0;",
+    "int x = x; int x = y[x]; for x = x .. x { x = x[x]; }",
+    "x = 1; // }\n/* else */ y = 2;",
+];
+
+#[test]
+fn refuses_no_body(rt: HostRuntime) -> Result<(), Fail> {
+    for text in READ {
+        assert!(rt; fault_of(rt.alloc(), text)?.is_none(), "{text}");
     }
     Ok(())
 }

@@ -1,3 +1,5 @@
+//! Bodies at each limit and just past it.
+
 use super::{Fault, Piece, expect_faults, expect_read};
 use jdf_lex::JdfCode::{BadNumber, ExprTooLong, Syntax, TooDeep, TooManyVars};
 use std::test::Fail;

@@ -1,3 +1,5 @@
+//! The first of two faults.
+
 use super::{Fault, expect_faults};
 use jdf_lex::JdfCode::{BadNumber, ExprTooLong, Syntax, TooDeep, TooManyVars};
 use std::test::Fail;

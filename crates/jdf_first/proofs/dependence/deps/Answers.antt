@@ -1,6 +1,6 @@
 use Rattle.std.proofs.Common.{◌≡◌, ◌<◌, ◌∷◌, [], length, ap, sym, ◌∙◌, true, arith}
 use Rattle.std.proofs.lemmas.List.{length-append}
-use Rattle.grammar_core.specs.Reading.{starts}
+use Rattle.jdf_alphabet.specs.Sets.{starts}
 use Rattle.jdf_first.specs.Grammar.{is_arrow}
 use Rattle.jdf_first.proofs.Lists.{dep_shrinks, deps_go_on}
 use Rattle.jdf_first.proofs.dependence.deps.Goals as goal

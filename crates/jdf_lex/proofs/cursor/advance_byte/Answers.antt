@@ -1,5 +1,5 @@
 use Rattle.std.proofs.Common.{arith, ap}
-use Rattle.jdf_lex.specs.declared.token.Spot.{Spot}
+use Rattle.grammar_core.specs.declared.token.Spot.{Spot}
 use Rattle.jdf_lex.proofs.Spots.{column_bound}
 use Rattle.jdf_lex.proofs.cursor.advance_byte.Goals as goal
 

@@ -3,8 +3,8 @@ use Rattle.jdf_lex.specs.declared.fault.JdfFault.{JdfFault}
 use Rattle.ptg_base.specs.declared.refusal.Refusal.{Refusal}
 use Rattle.ptg_base.specs.declared.refusal.Refusal.TheVariants.{Fault, OutOfMemory}
 use Rattle.jdf_lex.specs.declared.token.Lexed.{Lexed}
-use Rattle.jdf_lex.specs.declared.token.Spot.{Spot}
-use Rattle.jdf_lex.specs.declared.token.Token.{Token}
+use Rattle.grammar_core.specs.declared.token.Spot.{Spot}
+use Rattle.grammar_core.specs.declared.token.Token.{Token}
 use Rattle.jdf_lex.specs.Tokens.{IsLexed, IsTokenFault}
 use Rattle.jdf_lex.proofs.Uniqueness.{one_list, one_fault, no_fault}
 use Rattle.jdf_lex.proofs.lex.tokens.Goals as goal

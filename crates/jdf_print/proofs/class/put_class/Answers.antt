@@ -1,7 +1,7 @@
 use Rattle.std.proofs.Common.{List, ◌++◌, ap, ◌∙◌}
 use Rattle.std.specs.List.{flat_map}
 use Rattle.std.proofs.lemmas.Result.{IfOk-equal}
-use Rattle.jdf_lex.specs.declared.token.Token.{Token}
+use Rattle.grammar_core.specs.declared.token.Token.{Token}
 use Rattle.jdf_tree.specs.declared.tree.DefTree.{DefTree}
 use Rattle.jdf_tree.specs.declared.tree.FlowTree.{FlowTree}
 use Rattle.jdf_print.specs.Fragments.{text}

@@ -1,10 +1,13 @@
-use Rattle.std.proofs.Common.{◌≡◌, ◌<◌, ◌-◌, suc, length, true, sym, ◌∙◌, arith}
-use Rattle.grammar_core.specs.declared.code.Code.TheVariants.{TooManyClasses}
-use Rattle.grammar_core.specs.Reading.{starts}
+use Rattle.std.proofs.Common.{◌≡◌, ◌<◌, ◌-◌, suc, length, true, sym, ap, ◌∙◌, subst, arith}
+use Rattle.jdf_alphabet.specs.Codes.{TooManyClasses}
+use Rattle.jdf_alphabet.specs.Sets.{starts}
 use Rattle.jdf_tree.specs.declared.part.Part.TheVariants.{Class}
 use Rattle.jdf_tree.specs.GrammarParts.{names}
-use Rattle.jdf_tree.specs.Grammar.{class_and_skips}
-use Rattle.jdf_tree.proofs.Lists.{list_moves, counted_goes_on, longer}
+use Rattle.grammar_core.specs.declared.code.Code.{Code}
+use Rattle.grammar_core.specs.Reading.{reading}
+use Rattle.grammar_core.specs.Returns.{ReadRefusal, Fails, fault_with}
+use Rattle.jdf_tree.specs.Grammar.{productions, class_and_skips, classes}
+use Rattle.jdf_tree.proofs.Lists.{list_moves, counted_goes_on, counted_is_full, longer}
 use Rattle.jdf_read.proofs.Listed.{classes_listed}
 use Rattle.jdf_read.proofs.class.classes.Goals as goal
 
@@ -24,3 +27,12 @@ more-preserved c =
       at_most = omega (arith, room, up);
       some = omega (arith, up);
     }
+
+pub returns-then-len-eq-MOST_CLASSES : goal.returns-then-len-eq-MOST_CLASSES
+returns-then-len-eq-MOST_CLASSES c =
+    let some = c.more.invariant.some in
+    let full : length c.more.list - 1 ≡ 63 = omega (arith, c.len.ensures, some) in
+    let comes : starts (names Class) c.more.rest.now ≡ true = sym c.is_name_next.ensures ∙ c.more-test.true in
+    subst (λ (e : ReadRefusal). Fails e (reading productions classes c.args.tokens.now))
+    (sym (c.refusal_at.ensures ∙ ap (λ (d : Code). fault_with (length c.more.rest.now) d) c.code.ensures))
+    (counted_is_full 63 TooManyClasses (length c.more.list - 1) c.more.list c.more.rest.now _ classes_listed full comes c.more.invariant.reads)

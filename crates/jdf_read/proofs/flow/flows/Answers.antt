@@ -1,6 +1,6 @@
 use Rattle.std.proofs.Common.{◌≡◌, ◌<◌, length, true, sym, ◌∙◌, arith}
-use Rattle.grammar_core.specs.declared.code.Code.TheVariants.{TooManyFlows}
-use Rattle.grammar_core.specs.Reading.{starts}
+use Rattle.jdf_alphabet.specs.Codes.{TooManyFlows}
+use Rattle.jdf_alphabet.specs.Sets.{starts}
 use Rattle.jdf_tree.specs.ClassGrammar.{is_kind}
 use Rattle.jdf_tree.specs.ClassGrammar.{flow}
 use Rattle.jdf_tree.proofs.Lists.{list_moves, counted_goes_on, longer}

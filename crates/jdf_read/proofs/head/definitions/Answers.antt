@@ -1,6 +1,6 @@
 use Rattle.std.proofs.Common.{◌≡◌, ◌<◌, length, true, sym, ◌∙◌, arith}
-use Rattle.grammar_core.specs.declared.code.Code.TheVariants.{TooManyLocals}
-use Rattle.grammar_core.specs.Reading.{starts}
+use Rattle.jdf_alphabet.specs.Codes.{TooManyLocals}
+use Rattle.jdf_alphabet.specs.Sets.{starts}
 use Rattle.jdf_tree.specs.declared.part.Part.TheVariants.{Class}
 use Rattle.jdf_tree.specs.GrammarParts.{names}
 use Rattle.jdf_tree.specs.ClassGrammar.{definition}

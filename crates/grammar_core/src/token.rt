@@ -1,0 +1,22 @@
+//! Tokens as a grammar sees them.
+
+use ptg_base::Text;
+
+/// A position in a text: its line and its column in bytes, both from 1.
+#[derive(Clone, Copy, Debug, PartialEq, Eq)]
+pub struct Spot {
+    pub line: u32,
+    pub column: u32,
+}
+
+/// A token: the number of its terminal in the alphabet of the text, its spot, and its bytes, which are those of the text
+/// from index `start` up to but not including `end`.
+#[derive(Debug, Drop)]
+pub struct Token {
+    /// From 0 to 63; a larger number counts as its remainder by 64.
+    pub terminal: u8,
+    pub text: Text,
+    pub start: u32,
+    pub end: u32,
+    pub spot: Spot,
+}

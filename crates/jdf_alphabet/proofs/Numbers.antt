@@ -1,0 +1,137 @@
+-- The numbers of terminals and codes tell them apart.
+use Rattle.std.proofs.Common.{◌≡◌, ℕ, ◌<◌, refl, ◌∙◌, ap, arith}
+use Rattle.std.specs.Prelude.{◌%◌}
+use Rattle.std.proofs.Math.Nat.{mod-eq_of_lt}
+use Rattle.grammar_core.specs.declared.token.Token.{Token}
+use Rattle.grammar_core.specs.Terminals as engine
+use Rattle.jdf_alphabet.specs.declared.code.GrammarCode.{GrammarCode}
+use Rattle.jdf_alphabet.specs.declared.code.GrammarCode.TheVariants as grammar
+use Rattle.jdf_alphabet.specs.declared.terminal.Terminal.{Terminal}
+use Rattle.jdf_alphabet.specs.declared.terminal.Terminal.TheVariants.{Name, TypeWord, Int, If, Else, For, Trap, Number, Quoted, Raw, OptionLine, Other, Extern, Body, End, Read, Write, Rw, Ctl, New, Null, LeftParen, RightParen, LeftBracket, RightBracket, LeftBrace, RightBrace, Comma, Semicolon, Colon, Question, Assign, Dots, Inward, Outward, Plus, Minus, Star, Slash, Percent, Equal, NotEqual, Less, AtMost, Greater, AtLeast, And, AndAnd, Or, OrOr, Not}
+use Rattle.jdf_alphabet.specs.Codes.{code_at, code_number}
+use Rattle.jdf_alphabet.specs.Terminals.{number_of, terminal_at, terminal_of}
+
+pub terminal_of_number : (k : Terminal) → terminal_at (number_of k) ≡ k
+unfolding terminal_at
+terminal_of_number Name = refl
+terminal_of_number TypeWord = refl
+terminal_of_number Int = refl
+terminal_of_number If = refl
+terminal_of_number Else = refl
+terminal_of_number For = refl
+terminal_of_number Trap = refl
+terminal_of_number Number = refl
+terminal_of_number Quoted = refl
+terminal_of_number Raw = refl
+terminal_of_number OptionLine = refl
+terminal_of_number Other = refl
+terminal_of_number Extern = refl
+terminal_of_number Body = refl
+terminal_of_number End = refl
+terminal_of_number Read = refl
+terminal_of_number Write = refl
+terminal_of_number Rw = refl
+terminal_of_number Ctl = refl
+terminal_of_number New = refl
+terminal_of_number Null = refl
+terminal_of_number LeftParen = refl
+terminal_of_number RightParen = refl
+terminal_of_number LeftBracket = refl
+terminal_of_number RightBracket = refl
+terminal_of_number LeftBrace = refl
+terminal_of_number RightBrace = refl
+terminal_of_number Comma = refl
+terminal_of_number Semicolon = refl
+terminal_of_number Colon = refl
+terminal_of_number Question = refl
+terminal_of_number Assign = refl
+terminal_of_number Dots = refl
+terminal_of_number Inward = refl
+terminal_of_number Outward = refl
+terminal_of_number Plus = refl
+terminal_of_number Minus = refl
+terminal_of_number Star = refl
+terminal_of_number Slash = refl
+terminal_of_number Percent = refl
+terminal_of_number Equal = refl
+terminal_of_number NotEqual = refl
+terminal_of_number Less = refl
+terminal_of_number AtMost = refl
+terminal_of_number Greater = refl
+terminal_of_number AtLeast = refl
+terminal_of_number And = refl
+terminal_of_number AndAnd = refl
+terminal_of_number Or = refl
+terminal_of_number OrOr = refl
+terminal_of_number Not = refl
+
+-- a number is below 64
+below : (k : Terminal) → number_of k < 64
+below Name = omega arith
+below TypeWord = omega arith
+below Int = omega arith
+below If = omega arith
+below Else = omega arith
+below For = omega arith
+below Trap = omega arith
+below Number = omega arith
+below Quoted = omega arith
+below Raw = omega arith
+below OptionLine = omega arith
+below Other = omega arith
+below Extern = omega arith
+below Body = omega arith
+below End = omega arith
+below Read = omega arith
+below Write = omega arith
+below Rw = omega arith
+below Ctl = omega arith
+below New = omega arith
+below Null = omega arith
+below LeftParen = omega arith
+below RightParen = omega arith
+below LeftBracket = omega arith
+below RightBracket = omega arith
+below LeftBrace = omega arith
+below RightBrace = omega arith
+below Comma = omega arith
+below Semicolon = omega arith
+below Colon = omega arith
+below Question = omega arith
+below Assign = omega arith
+below Dots = omega arith
+below Inward = omega arith
+below Outward = omega arith
+below Plus = omega arith
+below Minus = omega arith
+below Star = omega arith
+below Slash = omega arith
+below Percent = omega arith
+below Equal = omega arith
+below NotEqual = omega arith
+below Less = omega arith
+below AtMost = omega arith
+below Greater = omega arith
+below AtLeast = omega arith
+below And = omega arith
+below AndAnd = omega arith
+below Or = omega arith
+below OrOr = omega arith
+below Not = omega arith
+
+-- A token with the number of a terminal has this terminal.
+pub token_terminal : (x : Token) (k : Terminal) → x.terminal ≡ number_of k → terminal_of x ≡ k
+unfolding engine.terminal_of
+token_terminal x k e = ap terminal_at (ap (λ (n : ℕ). n % 64) e ∙ mod-eq_of_lt (below k)) ∙ terminal_of_number k
+
+pub code_of_number : (c : GrammarCode) → code_at (code_number c) ≡ c
+unfolding code_at
+code_of_number grammar.BadNumber = refl
+code_of_number grammar.ExprTooLong = refl
+code_of_number grammar.TooManyClasses = refl
+code_of_number grammar.TooManyParams = refl
+code_of_number grammar.TooManyLocals = refl
+code_of_number grammar.TooManyFlows = refl
+code_of_number grammar.TooManyDeps = refl
+code_of_number grammar.TooDeep = refl
+code_of_number grammar.TooManyVars = refl

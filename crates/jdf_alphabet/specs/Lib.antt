@@ -1,0 +1,4 @@
+pub mod Terminals
+pub mod Codes
+pub mod Sets
+pub mod Counted

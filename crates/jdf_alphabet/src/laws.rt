@@ -1,0 +1,13 @@
+//! Laws of the numbers of terminals and codes.
+
+ghost use Rattle.std.specs.Prelude.{◌≡◌};
+ghost use Rattle.jdf_alphabet.specs.declared.code.GrammarCode.{GrammarCode};
+ghost use Rattle.jdf_alphabet.specs.declared.terminal.Terminal.{Terminal};
+ghost use Rattle.jdf_alphabet.specs.Codes.{code_at, code_number};
+ghost use Rattle.jdf_alphabet.specs.Terminals.{number_of, terminal_at};
+
+/// A law: a terminal and a code of the grammar is what its number stands for.
+pub fn numbers_are_exact()
+    ensures terminals { (k : Terminal) → terminal_at (number_of k) ≡ k }
+    ensures codes { (c : GrammarCode) → code_at (code_number c) ≡ c }
+{}

@@ -1,0 +1,19 @@
+//! The alphabet of JDF: the terminals and the codes of its grammar, how long an expression may be, and looking at the
+//! next token.
+#![tactic(auto)]
+
+mod code;
+mod kind;
+mod laws;
+mod limit;
+mod next;
+mod terminal;
+#[cfg(test)]
+mod tests;
+
+pub use code::GrammarCode;
+pub use kind::TokenKind;
+pub use laws::numbers_are_exact;
+pub use limit::expression_limit;
+pub use next::{expect, is_next};
+pub use terminal::Terminal;
