@@ -57,7 +57,7 @@ is_out_target classes Write t = may_send classes t
 is_out_target classes Rw t = may_send classes t
 is_out_target classes Ctl t = may_order classes t
 
--- whether a second target, if there is one, stands behind a guard and passes
+-- whether a second target, if there is one, comes with a guard and passes
 abbrev pub is_second : (Target → Bool) → Option Term → Option Target → Bool
 is_second passes guard None = true
 is_second passes guard (Some t) = is_some guard && passes t

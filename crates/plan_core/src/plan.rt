@@ -21,7 +21,7 @@ pub struct Plan {
     pub colls: Seq<Shape>,
     /// How many numbers a tile has, by the number of its type; type 0 is DEFAULT.
     pub elems: Seq<u32>,
-    /// Every number is that of something, numbers of arguments agree, and flows, targets, datatypes and bodies fit one another.
+    /// Every number names something that exists, each target has as many arguments as it needs, and flows, targets, datatypes and bodies fit one another.
     pub ghost well_made: { IsWellMade classes spaces colls elems },
 }
 

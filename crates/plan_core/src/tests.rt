@@ -1,3 +1,5 @@
+//! A small plan, and the places of its collections.
+
 ghost use Rattle.std.specs.Prelude.{◌≡◌, pos, [], ◌∷◌, IfOk, None, Some, length};
 ghost use Rattle.term_core.specs.Term.{Num};
 ghost use Rattle.term_core.specs.StatementList.{Done};

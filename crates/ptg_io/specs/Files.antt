@@ -6,7 +6,7 @@ abbrev pub file_of : List (List ℕ × List ℕ) → List ℕ → Option (List �
 file_of [] name = None
 file_of (file ∷ files) name = if bytes_eq file.0 name then Some file.1 else file_of files name
 
--- A read of a file from a index gave n bytes: the buffer begins with that many of the bytes from there on.
+-- A read of a file from an offset gave n bytes: the buffer begins with that many of the bytes from there on.
 -- It gave none only at or past the end.
 pub record IsPiece (bytes : List ℕ) (from n : ℕ) (buffer : List ℕ) : Type 0 where
   pub piece : take n buffer ≡ take n (drop from bytes)

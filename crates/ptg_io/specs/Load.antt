@@ -1,4 +1,4 @@
-use Rattle.std.specs.Prelude.{◌≡◌, ℕ, List, length, take, Option, Some}
+use Rattle.std.specs.Prelude.{◌≡◌, ◌<◌, ◌≤◌, ◌+◌, ℕ, List, [], ◌∷◌, length, take, Option, Some, sum}
 use Rattle.ptg_io.specs.Files.{file_of}
 
 -- The bytes read so far are the first ones of the file with this name, where the contents of the files are known and it is among them.
@@ -6,3 +6,23 @@ abbrev pub IsReadSoFar : Option (List (List ℕ × List ℕ)) → List ℕ → L
 IsReadSoFar contents name bytes =
     (files : List (List ℕ × List ℕ)) (file : List ℕ) →
     contents ≡ Some files → file_of files name ≡ Some file → bytes ≡ take (length bytes) file
+
+-- Reads of one file, each from where the one before it ended, lead from one state of the files to another. They gave so many bytes each, the last one first.
+abbrev pub ReadsInTurn : {Files : Type 0} → (Files → List ℕ → ℕ → ℕ → Files → Type 0) → List ℕ → Files → List ℕ → Files → Type 0
+ReadsInTurn gives name start [] end = start ≡ end
+ReadsInTurn {Files} gives name start (n ∷ counts) end =
+    (before : Files) × ReadsInTurn gives name start counts before × gives before name (sum counts) n end
+
+-- Reads of one file in turn, which gave so many bytes together.
+pub record HasRead {Files : Type 0} (gives : Files → List ℕ → ℕ → ℕ → Files → Type 0) (name : List ℕ) (start : Files) (size : ℕ) (end : Files) : Type 0 where
+  pub counts : List ℕ
+  pub reads : ReadsInTurn gives name start counts end
+  pub together : sum counts ≡ size
+
+-- Reads of one file in turn, the last of which is the first to go past so many bytes: none is made after it.
+pub record StopsPast {Files : Type 0} (gives : Files → List ℕ → ℕ → ℕ → Files → Type 0) (name : List ℕ) (limit : ℕ) (start end : Files) : Type 0 where
+  pub last : ℕ
+  pub earlier : List ℕ
+  pub reads : ReadsInTurn gives name start (last ∷ earlier) end
+  pub within : sum earlier ≤ limit
+  pub past : limit < sum earlier + last

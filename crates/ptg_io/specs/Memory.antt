@@ -1,4 +1,4 @@
-use Rattle.std.specs.Prelude.{◌≡◌, ◌≢◌, ℕ, List, Option, None, Some, slice_index, position}
+use Rattle.std.specs.Prelude.{◌≡◌, ◌≢◌, ℕ, List, Option, None, Some, slice_index, position, Contains}
 use Rattle.std.specs.Str.{bytes_eq}
 use Rattle.ptg_io.specs.Faults.{one_more}
 
@@ -29,6 +29,11 @@ failed_reads files name = fault_count files.failed files.missing (index_of files
 pub record CountsFault (old new : MemoryFiles) (name : List ℕ) : Type 0 where
   pub own : (other : List ℕ) → index_of old.files other ≡ index_of old.files name → failed_reads new other ≡ one_more (failed_reads old other)
   pub others : (other : List ℕ) → index_of old.files other ≢ index_of old.files name → failed_reads new other ≡ failed_reads old other
+
+-- A read that gives bytes has the next number, which is none of those that fail, and changes nothing else.
+pub record CountsRead (old new : MemoryFiles) : Type 0 where
+  pub allowed : ¬ Contains old.fails new.reads
+  pub next : new ≡ record { files = old.files; failed = old.failed; missing = old.missing; reads = one_more old.reads; fails = old.fails }
 
 -- What a sink in memory is: the bytes written; how many writes failed; the number of the writes so far; and the
 -- numbers of the writes that fail, from 1.

@@ -21,6 +21,7 @@ impl Model for File {
 }
 
 impl File {
+    /// The file with this name and these bytes.
     pub fn new(name: Text, bytes: Seq<u8>) -> File
         ensures { result ≡ (name, bytes) }
     {
@@ -30,12 +31,14 @@ impl File {
         }
     }
 
+    /// The bytes of its name.
     pub fn name(&self) -> &[u8]
         ensures { result.now ≡ self.now.0 }
     {
         self.label.bytes()
     }
 
+    /// Its content.
     pub fn bytes(&self) -> &[u8]
         ensures { result.now ≡ self.now.1 }
     {

@@ -1,9 +1,9 @@
 //! Reading a whole file.
 
-ghost use Rattle.std.specs.Prelude.{◌≡◌, ◌<◌, ◌≤◌, List, ℕ, length, vec_len, IfOk, OnOk, IsErrOf, IsTrue, IsFalse};
+ghost use Rattle.std.specs.Prelude.{◌≡◌, ◌<◌, ◌≤◌, ◌+◌, List, ℕ, length, vec_len, IfOk, OnOk, IsErrOf, IsTrue, IsFalse};
 ghost use Rattle.ptg_io.specs.Faults.{Rose};
 ghost use Rattle.ptg_io.specs.Files.{file_of, IsLonger};
-ghost use Rattle.ptg_io.specs.Load.{IsReadSoFar};
+ghost use Rattle.ptg_io.specs.Load.{IsReadSoFar, StopsPast};
 ghost use Rattle.ptg_io.specs.declared.loading.LoadFault.TheVariants.{Failed, OutOfMemory};
 
 use crate::files::{self, Files};
@@ -62,6 +62,8 @@ pub fn load<F: Files>(alloc: Global, files: &mut F, name: &str) -> Result<Seq<u8
     ensures too_long { IsErrOf result LoadFault.TooLong →
         (entries : List (List ℕ × List ℕ)) → F.contents files.old ≡ Some entries →
         IsLonger entries name.now 16777216 }
+    ensures stops { IsErrOf result LoadFault.TooLong →
+        StopsPast F.read_gives name.now 16777216 files.old files.new }
 {
     let mut piece = zeros(alloc, PIECE)?;
     let bytes = read_all(alloc, files, name, piece.as_mut_slice())?;
@@ -76,6 +78,7 @@ fn zeros(alloc: Global, count: usize) -> Result<Vec<u8>, AllocError>
 }
 
 /// The bytes of a file, read through this buffer.
+#[tactic(auto, using(crate::proofs::Turns::none_read, crate::proofs::Turns::stops))]
 fn read_all<F: Files>(
     alloc: Global,
     files: &mut F,
@@ -93,6 +96,8 @@ fn read_all<F: Files>(
     ensures too_long { IsErrOf result LoadFault.TooLong →
         (entries : List (List ℕ × List ℕ)) → F.contents files.old ≡ Some entries →
         IsLonger entries name.now 16777216 }
+    ensures stops { IsErrOf result LoadFault.TooLong →
+        StopsPast F.read_gives name.now 16777216 files.old files.new }
 {
     let mut bytes = Vec::new(alloc);
     'pieces: loop {
@@ -117,6 +122,8 @@ fn read_on<F: Files>(
     ensures still_bounded { OnOk result (vec_len bytes.new ≤ 16777216) }
     ensures still { OnOk result (IsReadSoFar (F.contents files.new) name.now bytes.new.items) }
     ensures more { IfOk result (λ more. IsTrue more → vec_len bytes.old < vec_len bytes.new) }
+    ensures read { OnOk result ((n : ℕ) × F.read_gives files.old name.now (vec_len bytes.old) n files.new ×
+        (vec_len bytes.new ≡ vec_len bytes.old + n)) }
     ensures end { IfOk result (λ more. IsFalse more →
         (entries : List (List ℕ × List ℕ)) → F.contents files.old ≡ Some entries →
         file_of entries name.now ≡ Some bytes.new.items) }
@@ -125,6 +132,9 @@ fn read_on<F: Files>(
     ensures too_long { IsErrOf result LoadFault.TooLong →
         (entries : List (List ℕ × List ℕ)) → F.contents files.old ≡ Some entries →
         IsLonger entries name.now 16777216 }
+    ensures past { IsErrOf result LoadFault.TooLong →
+        (n : ℕ) × F.read_gives files.old name.now (vec_len bytes.old) n files.new ×
+        (16777216 < vec_len bytes.old + n) }
 {
     let n = files.read(name, bytes.len() as u64, piece)?;
     if n == 0 {

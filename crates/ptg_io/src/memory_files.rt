@@ -3,7 +3,7 @@
 ghost use Rattle.std.specs.Prelude.{◌≡◌, ◌≢◌, ◌<◌, ◌≤◌, ◌+◌, ◌-◌, ◌⊎◌, ◌↔◌, min, List, ℕ, Option, Some, None, length, Contains, IfOk, IfSome, OnOk, OnErr, IsErr};
 ghost use Rattle.ptg_io.specs.Faults.{Rose, one_more};
 ghost use Rattle.ptg_io.specs.Files.{file_of, IsPiece, ReadsPiece};
-ghost use Rattle.ptg_io.specs.Memory.{index_of, fault_count, failed_reads, CountsFault};
+ghost use Rattle.ptg_io.specs.Memory.{index_of, fault_count, failed_reads, CountsFault, CountsRead};
 
 use crate::file::File;
 use crate::files::{Failed, Files};
@@ -56,12 +56,15 @@ impl Files for MemFiles {
 
     ghost faults = { failed_reads };
 
+    ghost read_gives = { λ old name from n new. CountsRead old new };
+
     fn read(&mut self, name: &str, from: u64, into: &mut [u8]) -> Result<usize, Failed>
         requires { 0 < length into.old }
         ensures stays { Some self.new.files ≡ Some self.old.files }
         ensures within { IfOk result (λ n. n ≤ length into.new) }
         ensures given { (files : List (List ℕ × List ℕ)) → Some self.old.files ≡ Some files →
             IfOk result (λ n. ReadsPiece files name.now from n into.new) }
+        ensures gives { IfOk result (λ n. CountsRead self.old self.new) }
         ensures grows { (other : List ℕ) → failed_reads self.old other ≤ failed_reads self.new other }
         ensures failed { OnErr result (Rose (failed_reads self.old name.now) (failed_reads self.new name.now)) }
 

@@ -115,7 +115,7 @@ task_count-walk_all class (s ∷ ss) =
     let h = task_count-walk_all (suc class) ss in
     omega arith
 
--- the part of a walk that is behind, where these values are still to come
+-- the part of a walk before the values that are still to come
 pub record IsSoFar (t p t' p' class : ℕ) (ds : List Def) (outer all left : List ℤ) : Type 0 where
   pub done : List Visit
   pub split : walk_among class ds outer all ≡ done ++ walk_among class ds outer left

@@ -1,5 +1,6 @@
 pub mod Stepping
 pub mod Members
+pub mod Progression
 pub mod Nesting
 pub mod MemberLists
 pub mod Counting

@@ -102,7 +102,7 @@ IsSome-param_value (p ∷ ps) (v ∷ vs) n e h =
     (λ k. rw k (search rules))
     (λ k. rw k (IsSome-param_value ps vs n (omega arith) (ap (λ b. b || is_among n ps) (sym k) ∙ h)))
 
--- what is given of all, place by place
+-- agreement of all locals, index by index
 pub agrees_at : (ps : List ℕ) (vs : List ℤ) (k : ℕ) (l : List ℤ) → AllAgree ps vs k l → (i : ℕ) → i < length l → AgreesWith (param_value ps vs (k + i)) (slice_index_or l i (pos 0))
 agrees_at ps vs k [] w i h = absurd (omega arith)
 agrees_at ps vs k (v ∷ l) w zero h = rw add-zero w.0
@@ -115,7 +115,7 @@ all_agree ps vs k (v ∷ l) f = (
   all_agree ps vs (suc k) l (λ i h. subst (λ n. AgreesWith (param_value ps vs n) (slice_index_or l i (pos 0))) (omega arith) (f (suc i) (omega arith))),
 )
 
--- locals that suit have the parameters that are given for
+-- locals that agree with the given values have them as parameters
 pub params_from_agreement : (ps : List ℕ) (vs l : List ℤ) → length ps ≡ length vs → are_different ps ≡ true → list_all (λ p. nat_lt p (length l)) ps ≡ true → ((i : ℕ) → i < length l → AgreesWith (param_value ps vs i) (slice_index_or l i (pos 0))) → params_of ps l ≡ vs
 params_from_agreement [] [] l e d w f = refl
 params_from_agreement [] (v ∷ vs) l e d w f = absurd (omega arith)
@@ -131,7 +131,7 @@ params_from_agreement (p ∷ ps) (v ∷ vs) l e d w f =
     (λ k. rw k at (f i h))) in
     ap (λ z. z ∷ params_of ps l) first ∙ ap (λ zs. v ∷ zs) others
 
--- and locals that have them suit
+-- locals that have the given parameters agree with them
 pub agreement_from_params : (ps : List ℕ) (vs l : List ℤ) → params_of ps l ≡ vs → (i : ℕ) → AgreesWith (param_value ps vs i) (slice_index_or l i (pos 0))
 agreement_from_params [] vs l e i = tt
 agreement_from_params (p ∷ ps) [] l e i = tt

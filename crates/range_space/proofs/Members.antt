@@ -36,7 +36,7 @@ past_self hi (negsuc n) v h = grind (arith, ints)
 gap-self : (v : ℤ) → gap v v ≡ 0
 gap-self v = grind (arith, ints)
 
-past_step : (x step v : ℤ) → is_within x step (v +ℤ step) ≡ true → is_within x step v ≡ true
+pub past_step : (x step v : ℤ) → is_within x step (v +ℤ step) ≡ true → is_within x step v ≡ true
 past_step x (pos zero) v h = absurd cc
 past_step x (pos (suc n)) v h = grind (arith, ints)
 past_step x (negsuc n) v h = grind (arith, ints)
@@ -55,7 +55,7 @@ past_next x (pos zero) v h k = absurd cc
 past_next x (pos (suc n)) v h k = grind (arith, ints)
 past_next x (negsuc n) v h k = grind (arith, ints)
 
--- x is on the way from v to hi, a whole number of steps from v
+-- x lies between v and hi in the direction of the step, a whole number of steps from v
 pub record IsOnWay (hi step v x : ℤ) : Type 0 where
   pub before_end : is_within hi step x ≡ true
   pub after_start : is_within x step v ≡ true
@@ -78,7 +78,7 @@ at_start hi step v h = record {
   whole_steps = ap (λ d. d % unsigned_abs step) (gap-self v) ∙ zero-mod (unsigned_abs step);
 }
 
--- every value of a range is on its way
+-- every value of a range is a whole number of steps from its start
 pub on_way : (hi step : ℤ) (n : ℕ) (v x : ℤ) → IsIn x (while_within hi step n v) → IsOnWay hi step v x
 unfolding while_within
 on_way hi step zero v x w = absurd w
@@ -111,7 +111,7 @@ from_way hi step (suc n) v x p w =
           }))
     ])
 
--- the values of a range are the numbers on its way
+-- the values of a range are the numbers that lie a whole number of steps from its start and within its end
 pub values_way : (lo hi step x : ℤ) → IsIn x (values lo hi step) → IsOnWay hi step lo x
 unfolding values
 values_way lo hi step x w = on_way hi step (suc (gap hi lo)) lo x w

@@ -1,4 +1,4 @@
--- Full lists of locals in which the parameters have given values.
+-- Full lists of locals in which the parameters have given values. Source: the JDF documentation.
 use Rattle.std.specs.Prelude.{◌≡◌, ℕ, suc, ℤ, List, [], ◌∷◌, ◌++◌, ◌==◌, Option, Some, None, IsSome, if◌then◌else◌}
 use Rattle.ptg_base.specs.Lists.{IsIn}
 use Rattle.term_core.specs.declared.space.Def.{Def}

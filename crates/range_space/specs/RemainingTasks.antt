@@ -1,4 +1,4 @@
--- The tasks that a walk has not given yet.
+-- The tasks that a walk has not given yet. Source: this project's own choice.
 use Rattle.std.specs.Prelude.{ℤ, Bool, true, false, List, [], ◌∷◌, map}
 use Rattle.term_core.specs.declared.space.ClassSpace.{ClassSpace}
 use Rattle.range_space.specs.Tasks.{params_of}

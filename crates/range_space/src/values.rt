@@ -4,7 +4,7 @@ ghost use Rattle.std.specs.Prelude.{◌≡◌};
 ghost use Rattle.std.specs.Iterator.{YieldsFirst, item_count};
 ghost use Rattle.range_space.specs.Values.{values};
 
-use crate::steps::within;
+use crate::steps::is_within;
 use std::marker::Model;
 
 /// An iterator over the values of a range. Contracts see it as the list of those not yet given.
@@ -45,7 +45,7 @@ impl Iterator for Values {
 
     fn next(&mut self) -> Option<i64> {
         let v = self.at?;
-        if within(self.hi, self.step, v) {
+        if is_within(self.hi, self.step, v) {
             self.at = v.checked_add(self.step);
             Some(v)
         } else {

@@ -1,4 +1,4 @@
--- Arithmetic on numbers of 64 bits, with a fault where there is no such number.
+-- Arithmetic on numbers of 64 bits, with a fault where there is no such number. Source: this project's own choice, with the operators of C.
 use Rattle.std.specs.Prelude.{ℤ, pos, negsuc, ◌+ℤ◌, ◌-ℤ◌, ◌*ℤ◌, neg_ℤ, int_div, int_rem, int_lt, int_le, nat_lt, Bool, true, false, not, ◌&&◌, ◌||◌, Result, Ok, Err, if◌then◌else◌, Option, Some, None}
 use Rattle.std.specs.Ordering.{int_eq}
 use Rattle.term_core.specs.declared.fault.ExprFault.{ExprFault}
@@ -51,7 +51,7 @@ abbrev pub unary_value : UnOp → ℤ → Result ℤ ExprFault
 unary_value Neg a = fitted (neg_ℤ a)
 unary_value Not a = Ok (truth (not (holds a)))
 
--- the value of an operation that its left side alone decides: of `&&` where it does not hold, of `||` where it does
+-- the value of an operation whose left operand decides it: of `&&` where it does not hold, of `||` where it does
 abbrev pub decided : BinOp → ℤ → Option ℤ
 decided Add a = None
 decided Sub a = None

@@ -1,4 +1,4 @@
--- The value of an expression, by cases on its tree in the order of evaluation.
+-- The value of an expression, by cases on its tree in the order of evaluation. Source: the JDF documentation, for expressions as in C.
 use Rattle.std.specs.Prelude.{ℕ, ℤ, pos, List, Bool, true, ◌&&◌, nat_lt, Result, Ok, Err, Option, Some, None, if◌then◌else◌, slice_index_or}
 use Rattle.term_core.specs.declared.fault.ExprFault.{ExprFault}
 use Rattle.term_core.specs.declared.operator.BinOp.{BinOp}

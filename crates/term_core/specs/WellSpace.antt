@@ -17,7 +17,7 @@ abbrev pub is_closed_def : ℕ → Def → Bool
 is_closed_def before (Span r) = is_closed before r.lo && is_closed before r.hi && is_closed_step before r.step
 is_closed_def before (Value e) = is_closed before e
 
--- whether each definition names only those before it, where so many stand before the first
+-- whether each definition names only those before it, where so many come before the first
 abbrev pub are_closed : ℕ → List Def → Bool
 are_closed before [] = true
 are_closed before (d ∷ ds) = is_closed_def before d && are_closed (suc before) ds
@@ -26,20 +26,20 @@ are_closed before (d ∷ ds) = is_closed_def before d && are_closed (suc before)
 abbrev pub is_among : ℕ → List ℕ → Bool
 is_among n ps = list_any (λ p. p == n) ps
 
--- whether each range is the definition of a parameter, where so many definitions stand before the first
+-- whether each range is the definition of a parameter, where so many definitions come before the first
 abbrev pub spans_are_params : ℕ → List Def → List ℕ → Bool
 spans_are_params before [] params = true
 spans_are_params before (Span r ∷ ds) params = is_among before params && spans_are_params (suc before) ds params
 spans_are_params before (Value e ∷ ds) params = spans_are_params (suc before) ds params
 
--- whether no number stands twice
+-- whether no number occurs twice
 abbrev pub are_different : List ℕ → Bool
 are_different [] = true
 are_different (p ∷ ps) = not (is_among p ps) && are_different ps
 
 -- at most 16 definitions that name only those before them; the parameters are different definitions, each range among them
 pub record IsWellSpace (s : ClassSpace) : Type 0 where
-  pub few : length s.defs ≤ 16
+  pub definitions_at_most : length s.defs ≤ 16
   pub closed : IsTrue (are_closed 0 s.defs)
   pub within : IsTrue (list_all (λ p. nat_lt p (length s.defs)) s.params)
   pub different : IsTrue (are_different s.params)

@@ -61,6 +61,7 @@ impl Block {
         }
     }
 
+    /// The statements in their order.
     pub fn as_slice(&self) -> &[Stmt]
         ensures { statement_list result.now ≡ self.now }
     {

@@ -44,12 +44,14 @@ impl Model for Expr {
 }
 
 impl Expr {
+    /// A number.
     pub fn num(z: i64) -> Expr
         ensures { result ≡ Num z }
     {
         Expr { node: Node::Num(z) }
     }
 
+    /// The local of this number.
     pub fn local(number: u16) -> Expr
         ensures { result ≡ Local number }
     {
@@ -58,6 +60,7 @@ impl Expr {
         }
     }
 
+    /// The element at this index of the tile of a flow.
     pub fn elem(alloc: Global, flow: u8, at: Expr) -> Result<Expr, OutOfMemory>
         ensures { IfOk result (λ e. e ≡ Elem flow at) }
     {
@@ -66,6 +69,7 @@ impl Expr {
         })
     }
 
+    /// An operator before its operand.
     pub fn unary(alloc: Global, op: UnOp, a: Expr) -> Result<Expr, OutOfMemory>
         ensures { IfOk result (λ e. e ≡ Unary op a) }
     {
@@ -74,6 +78,7 @@ impl Expr {
         })
     }
 
+    /// An operator between two operands.
     pub fn binary(alloc: Global, op: BinOp, a: Expr, b: Expr) -> Result<Expr, OutOfMemory>
         ensures { IfOk result (λ e. e ≡ Binary op a b) }
     {

@@ -3,6 +3,7 @@
 ghost use Rattle.std.specs.Prelude.{◌≡◌, ◌≤◌, length};
 
 use crate::expr::Expr;
+use arrayvec::ArrayVec;
 use ptg_base::Seq;
 use std::marker::Model;
 
@@ -26,18 +27,15 @@ pub enum Def {
 /// For each parameter, in order, the number of its definition; at most eight. It takes no memory.
 #[derive(Debug, Drop)]
 pub struct Params {
-    numbers: [u8; 8],
-    count: usize,
+    numbers: ArrayVec<u8, 8>,
 }
 
 impl Model for Params {
-    ghost use Rattle.std.specs.Prelude.{List, ℕ, ◌≤◌, take};
+    ghost use Rattle.std.specs.Prelude.{List, ℕ};
 
     ghost Value = { List ℕ };
 
-    ghost view = { λ p. take p.count p.numbers };
-
-    ghost invariant = { λ p. p.count ≤ 8 };
+    ghost view = { λ p. p.numbers.items };
 }
 
 impl Params {
@@ -46,17 +44,17 @@ impl Params {
         requires { length definitions.now ≤ 8 }
         ensures { result ≡ definitions.now }
     {
-        let mut numbers = [0u8; 8];
-        let count = definitions.len();
-        numbers[..count].copy_from_slice(definitions);
-        Params { numbers, count }
+        let mut numbers = ArrayVec::new();
+        let _fits = numbers.try_extend_from_slice(definitions);
+        Params { numbers }
     }
 
+    /// The numbers of the definitions.
     pub fn as_slice(&self) -> &[u8]
         ensures within { length result.now ≤ 8 }
         ensures same { result.now ≡ self.now }
     {
-        &self.numbers[..self.count]
+        self.numbers.as_slice()
     }
 }
 

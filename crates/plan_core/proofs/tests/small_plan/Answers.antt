@@ -42,7 +42,7 @@ abbrev colls : (d m : List ℕ) → List Shape
 colls d m = record { name = d; rows = 3; cols = None; datatype = 0 } ∷ record { name = m; rows = 2; cols = Some 4; datatype = 1 } ∷ []
 
 well_space : IsWellSpace one_task
-well_space = record { few = lit≤ tt; closed = refl; within = refl; different = refl; spans = refl }
+well_space = record { definitions_at_most = lit≤ tt; closed = refl; within = refl; different = refl; spans = refl }
 
 abbrev empty_body : Body
 empty_body = record { statements = Done; slots = 1 }

@@ -1,5 +1,5 @@
 use Rattle.std.proofs.Common.{◌≡◌, ◌-◌, ◌≤◌, List, ℕ, vec_len}
-use Rattle.ptg_io.specs.Load.{IsReadSoFar}
+use Rattle.ptg_io.specs.Load.{IsReadSoFar, HasRead}
 use Rattle.ptg_io.proofs.loading.read_all.Given as goal
 
 abbrev pub invariant-pieces : goal.invariant-pieces
@@ -7,6 +7,7 @@ invariant-pieces g l = record {
   stays : g.F.Files.contents l.files ≡ g.F.Files.contents l.initial.files;
   grows : (other : List ℕ) → g.F.Files.faults l.initial.files other ≤ g.F.Files.faults l.files other;
   bounded : vec_len l.bytes ≤ 16777216;
+  reads : HasRead g.F.Files.read_gives l.name l.initial.files (vec_len l.bytes) l.files;
   so_far : IsReadSoFar (g.F.Files.contents l.files) l.name l.bytes.items;
 }
 

@@ -1,0 +1,26 @@
+-- Reads of one file in turn.
+use Rattle.std.proofs.Common.{◌≡◌, ◌<◌, ◌≤◌, ◌+◌, ℕ, List, [], ◌∷◌, sym, subst, ◌∙◌, refl, arith}
+use Rattle.ptg_io.specs.Load.{HasRead, StopsPast}
+use Rattle.std.proofs.lemmas.List.Sums.{sum_by_from}
+
+-- no read gave no bytes
+pub none_read : {Files : Type 0} (gives : Files → List ℕ → ℕ → ℕ → Files → Type 0) (name : List ℕ) (start : Files) (size : ℕ) → size ≡ 0 → HasRead gives name start size start
+none_read gives name start size none = record { counts = []; reads = refl; together = sym none }
+
+-- a read from where the others ended
+pub one_more_read : {Files : Type 0} (gives : Files → List ℕ → ℕ → ℕ → Files → Type 0) (name : List ℕ) (start middle end : Files) (size n all : ℕ) → HasRead gives name start size middle → gives middle name size n end → all ≡ size + n → HasRead gives name start all end
+one_more_read gives name start middle end size n all before read is = record {
+  counts = n ∷ before.counts;
+  reads = (middle, before.reads, subst (λ (k : ℕ). gives middle name k n end) (sym before.together) read);
+  together = sum_by_from (λ k. k) (0 + n) before.counts ∙ omega (arith, before.together, is);
+}
+
+-- the read that goes past the limit
+pub stops : {Files : Type 0} (gives : Files → List ℕ → ℕ → ℕ → Files → Type 0) (name : List ℕ) (start middle end : Files) (size n limit : ℕ) → HasRead gives name start size middle → gives middle name size n end → size ≤ limit → limit < size + n → StopsPast gives name limit start end
+stops gives name start middle end size n limit before read within past = record {
+  last = n;
+  earlier = before.counts;
+  reads = (middle, before.reads, subst (λ (k : ℕ). gives middle name k n end) (sym before.together) read);
+  within = omega (arith, before.together, within);
+  past = omega (arith, before.together, past);
+}

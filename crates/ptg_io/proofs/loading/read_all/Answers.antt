@@ -1,0 +1,14 @@
+use Rattle.std.proofs.Common.{◌∙◌, arith}
+use Rattle.ptg_io.proofs.Turns.{one_more_read}
+use Rattle.ptg_io.proofs.loading.read_all.Goals as goal
+
+pub pieces-preserved : goal.pieces-preserved
+pieces-preserved g c =
+    let read = c.in_ok-read_on.ensures.read in
+    record {
+      stays = c.read_on.ensures.stays ∙ c.pieces.invariant.stays;
+      grows = λ other. omega (arith, c.pieces.invariant.grows other, c.read_on.ensures.grows other);
+      bounded = c.in_ok-read_on.ensures.still_bounded;
+      reads = one_more_read _ _ _ _ _ _ read.0 _ c.pieces.invariant.reads read.1 read.2;
+      so_far = c.in_ok-read_on.ensures.still;
+    }
