@@ -14,8 +14,8 @@ fn below(limit: u32, n: i64) -> Option<usize>
     }
 }
 
-// How many tiles a collection has, by its rows and columns.
-pub(crate) fn tile_count(rows: u32, cols: Option<u32>) -> u32
+/// The number of tiles of a collection, by its rows and columns; there are no columns in one dimension.
+pub fn tile_count(rows: u32, cols: Option<u32>) -> u32
     requires { tile_count rows cols ≤ 65536 }
     ensures { result ≡ tile_count rows cols }
 {
@@ -25,9 +25,8 @@ pub(crate) fn tile_count(rows: u32, cols: Option<u32>) -> u32
     }
 }
 
-// The index of the tile in this row and column, if there is one.
-pub(crate) fn tile_index(rows: u32, cols: Option<u32>, i: i64, j: i64) -> Option<usize>
-    requires { tile_count rows cols ≤ 65536 }
+/// The index of the tile in this row and column, if there is one; tiles are listed row by row.
+pub fn tile_index(rows: u32, cols: Option<u32>, i: i64, j: i64) -> Option<usize>
     ensures { result ≡ tile_index rows cols i j }
 {
     match cols {

@@ -9,6 +9,7 @@ mod index;
 pub use coll::Coll;
 pub use fault::{DataCode, DataFault, DataRefusal};
 pub use given::Given;
+pub use index::{tile_count, tile_index};
 
 #[cfg(test)]
 mod tests;

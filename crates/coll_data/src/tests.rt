@@ -1,3 +1,5 @@
+//! Data of two types, with their tiles.
+
 ghost use Rattle.std.specs.Prelude.{◌≡◌, [], ◌∷◌, IfOk, length};
 
 use crate::{Coll, Given};

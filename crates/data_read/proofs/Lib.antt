@@ -1,0 +1,14 @@
+pub mod Blanks
+pub mod Choices
+pub mod Meanings
+pub mod RowsLeft
+pub mod Values
+pub mod Soundness
+pub mod SoundRecords
+pub mod SoundTiles
+pub mod Digits
+pub mod FieldsAt
+pub mod SoFar
+pub mod TileSteps
+pub mod Grown
+pub mod Faults

@@ -1,0 +1,53 @@
+-- The fields of a record of a data file: blanks around them, names, and whole numbers. Names are spelled as in the JDF
+-- documentation; the rest is this project's own choice.
+use Rattle.std.specs.Prelude.{ℕ, ◌+◌, Bool, false, ◌&&◌, ◌||◌, ◌==◌, nat_le, ℤ, pos, neg_ℤ, List, [], ◌∷◌, take, get_or, Option, Some, None, if◌then◌else◌}
+use Rattle.std.specs.List.{list_all}
+use Rattle.ptg_base.specs.Decimal.{is_decimal, is_digit, decimal}
+
+-- space and tab
+abbrev pub is_blank : ℕ → Bool
+is_blank b = (b == 32) || (b == 9)
+
+-- the bytes from the first one that is no blank
+unfoldable pub after_blanks : List ℕ → List ℕ
+after_blanks [] = []
+after_blanks (b ∷ bs) = if is_blank b then after_blanks bs else b ∷ bs
+
+-- how many bytes there are up to the last one that is no blank
+unfoldable pub content_length : List ℕ → ℕ
+content_length [] = 0
+content_length (b ∷ bs) = if (content_length bs == 0) && is_blank b then 0 else content_length bs + 1
+
+-- the bytes without the blanks at both ends
+abbrev pub without_blanks : List ℕ → List ℕ
+without_blanks bytes = take (content_length (after_blanks bytes)) (after_blanks bytes)
+
+-- the field of this number, counted from 0, without the blanks around it; no bytes where the record has no such field
+abbrev pub field : List (List ℕ) → ℕ → List ℕ
+field fields at = without_blanks (get_or fields at [])
+
+-- `A` to `Z`, `a` to `z` or `_`
+abbrev pub is_letter : ℕ → Bool
+is_letter b = (nat_le 65 b && nat_le b 90) || ((nat_le 97 b && nat_le b 122) || (b == 95))
+
+-- a byte of a name after its first one
+abbrev pub is_part : ℕ → Bool
+is_part b = is_letter b || is_digit b
+
+-- a name is a letter and then letters and digits
+abbrev pub is_name : List ℕ → Bool
+is_name [] = false
+is_name (b ∷ bs) = is_letter b && list_all is_part bs
+
+-- the number that digits without a sign or after `+` spell, if it fits 64 bits
+abbrev pub positive : List ℕ → Option ℤ
+positive digits = if is_decimal 9223372036854775807 digits then Some (pos (decimal digits)) else None
+
+-- the number that digits after `-` spell, if it fits 64 bits
+abbrev pub negative : List ℕ → Option ℤ
+negative digits = if is_decimal 9223372036854775808 digits then Some (neg_ℤ (pos (decimal digits))) else None
+
+-- a whole number is a `-`, a `+` or no sign, and digits
+abbrev pub whole : List ℕ → Option ℤ
+whole [] = None
+whole (b ∷ bs) = if b == 45 then negative bs else if b == 43 then positive bs else positive (b ∷ bs)

@@ -1,0 +1,7 @@
+pub mod Fields
+pub mod Draft
+pub mod Records
+pub mod Reading
+pub mod Growing
+pub mod Rows
+pub mod WholeTexts

@@ -1,0 +1,27 @@
+-- The records that a reader has left.
+use Rattle.std.specs.Prelude.{◌≡◌, ℕ, ◌+◌, Bool, false, List, [], ◌∷◌, length, Option, Some}
+use Rattle.std.specs.Bool.{MatchBool}
+use denote.Ref.{Bor}
+use Rattle.csv.specs.Machine.{ends_at_end}
+use Rattle.csv.specs.Reading.{Ready, default_config, reader_config, reader_state, reader_trim, records_from, source_of}
+use Rattle.csv.specs.declared.reader.Reader.{Reader}
+use Rattle.csv.specs.declared.reader.Trim.TheVariants as trim
+
+-- the bytes that a slice has left to read
+abbrev pub bytes_of : Bor (List ℕ) → Option (List ℕ)
+bytes_of slice = Some slice.now
+
+-- the reader stands between two records of a text, and these are the records of what is left of it
+pub record HasRows (reader : Reader (Bor (List ℕ))) (rows : List (List (List ℕ))) : Type 0 where
+  pub untrimmed : reader_trim reader ≡ trim.None
+  pub ready : Ready reader
+  pub config : reader_config reader ≡ default_config
+  pub rest : List ℕ
+  pub source : source_of bytes_of reader ≡ Some rest
+  pub between : ends_at_end (reader_state reader) ≡ false
+  pub rows_are : rows ≡ records_from default_config (length rest + 1) (reader_state reader) rest
+
+-- there was no row, or these fields were the next one and the reader has those after it
+abbrev pub NextRow : List (List (List ℕ)) → Bool → List (List ℕ) → Reader (Bor (List ℕ)) → Type 0
+NextRow rows found fields reader =
+    MatchBool found ((rest : List (List (List ℕ))) × (rows ≡ fields ∷ rest) × HasRows reader rest) (rows ≡ [])

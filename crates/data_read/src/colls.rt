@@ -1,0 +1,182 @@
+//! Records of collections.
+
+ghost use Rattle.std.specs.Prelude.{◌≡◌, ◌≤◌, ◌+◌, ◌*◌, codes, replicate, None, Some, IfOk, IfSome, OnOk, IsTrue, IfNone, length};
+ghost use Rattle.csv.specs.Records.{fields_of};
+ghost use Rattle.coll_data.specs.Tiles.{tile_count};
+ghost use Rattle.data_read.specs.Draft.{is_new, with_coll};
+ghost use Rattle.data_read.specs.Growing.{draft_of, IsKeyed, ReturnsDraft, Returns};
+ghost use Rattle.data_read.specs.Records.{columns, side, shape_of, sized, coll_of, coll_record, collof_record};
+
+use crate::field::{field, is_name, whole};
+use crate::growing::{Growing, GrowingColl, Known, Sized};
+use crate::names::is_new;
+use crate::types::type_named;
+use coll_data::{DataCode, tile_count};
+use csv::ByteRecord;
+use ptg_base::{OutOfMemory, Refusal, Seq, Text, Tile};
+use std::alloc::Global;
+
+// The number of columns in the field of this number; none where the record ends before it.
+fn columns(row: &ByteRecord, at: usize) -> Option<Option<i64>>
+    ensures { result ≡ columns (fields_of row.now) at }
+{
+    if at < row.len() {
+        let cols = whole(field(row, at))?;
+        Some(Some(cols))
+    } else {
+        Some(None)
+    }
+}
+
+// A number from 1 to 65,536.
+fn side(n: i64) -> Option<u32>
+    ensures side { result ≡ side n }
+    ensures few { IfSome result (λ n. n ≤ 65536) }
+{
+    if 1 <= n && n <= 65536 {
+        Some(n as u32)
+    } else {
+        None
+    }
+}
+
+// The shape of so many rows and columns, if it has from 1 to 65,536 tiles.
+fn shape_of(rows: i64, cols: Option<i64>) -> Option<(u32, Option<u32>)>
+    ensures shape { result ≡ shape_of rows cols }
+    ensures few { IfSome result (λ shape. tile_count shape.0 shape.1 ≤ 65536) }
+{
+    let rows = side(rows)?;
+    let Some(cols) = cols else {
+        return Some((rows, None));
+    };
+    let cols = side(cols)?;
+    if u64::from(rows) * u64::from(cols) > 65536 {
+        return None;
+    }
+    Some((rows, Some(cols)))
+}
+
+// What the collection of a record is asked to be.
+fn sized(all: &Growing, datatype: &[u8], row: &ByteRecord, at: usize) -> Result<Sized, DataCode>
+    requires { at ≤ 3 }
+    ensures sized { result ≡ sized (draft_of all.now) datatype.now (fields_of row.now) at }
+    ensures few { IfOk result (λ size. tile_count size.shape.0 size.shape.1 ≤ 65536) }
+    ensures room { IfOk result (λ size. all.now.elements + tile_count size.shape.0 size.shape.1 * size.elements ≤ 16777216) }
+{
+    let Some((datatype, elements)) = type_named(all, datatype) else {
+        return Err(DataCode::UnknownType);
+    };
+    let Some(rows) = whole(field(row, at)) else {
+        return Err(DataCode::BadNumber);
+    };
+    let Some(cols) = columns(row, at + 1) else {
+        return Err(DataCode::BadNumber);
+    };
+    let Some(shape) = shape_of(rows, cols) else {
+        return Err(DataCode::TooManyTiles);
+    };
+    let count = u64::from(tile_count(shape.0, shape.1));
+    if all.elements + count * u64::from(elements) > 16_777_216 {
+        return Err(DataCode::TooManyElements);
+    }
+    Ok(Sized {
+        shape,
+        datatype,
+        elements,
+    })
+}
+
+// So many places without a tile.
+fn no_tiles(alloc: Global, count: u32) -> Result<Seq<Option<Tile>>, OutOfMemory>
+    ensures { IfOk result (λ tiles. tiles ≡ replicate count None) }
+{
+    let mut tiles = Seq::new(alloc);
+    for turn in 0..count {
+        tiles.push(None)?;
+    }
+    Ok(tiles)
+}
+
+// Adds a collection of this name, which is new.
+fn push_coll(alloc: Global, all: &mut Growing, name: Text, size: Sized) -> Result<(), OutOfMemory>
+    requires keyed { IsKeyed all.old }
+    requires fresh { IsTrue (is_new (draft_of all.old) name) }
+    requires few { tile_count size.shape.0 size.shape.1 ≤ 65536 }
+    requires room { all.old.elements + tile_count size.shape.0 size.shape.1 * size.elements ≤ 16777216 }
+    ensures step { OnOk result (draft_of all.new ≡ with_coll (draft_of all.old) name size.shape size.datatype size.elements) }
+    ensures keyed { OnOk result (IsKeyed all.new) }
+{
+    let (rows, cols) = size.shape;
+    let count = tile_count(rows, cols);
+    let tiles = no_tiles(alloc, count)?;
+    let key = Text::of(alloc, name.bytes())?;
+    all.names.add(key, Known::Collection(all.colls.len()))?;
+    all.colls.push(GrowingColl {
+        name,
+        shape: size.shape,
+        datatype: size.datatype,
+        elements: size.elements,
+        tiles,
+    })?;
+    all.elements += u64::from(count) * u64::from(size.elements);
+    Ok(())
+}
+
+// Adds the collection of a record, of the type of this name; the name of the collection is the field of the number given.
+fn add_coll_of(
+    alloc: Global,
+    all: &mut Growing,
+    datatype: &[u8],
+    row: &ByteRecord,
+    at: usize,
+) -> Result<(), Refusal<DataCode>>
+    requires keyed { IsKeyed all.old }
+    requires near { at ≤ 2 }
+    ensures step { ReturnsDraft result (coll_of (draft_of all.old) datatype.now (fields_of row.now) at) (draft_of all.new) }
+    ensures keyed { OnOk result (IsKeyed all.new) }
+{
+    let bytes = field(row, at);
+    if !is_name(datatype) || !is_name(bytes) {
+        return Err(Refusal::Fault(DataCode::BadName));
+    }
+    let name = Text::of(alloc, bytes)?;
+    if !is_new(all, &name) {
+        return Err(Refusal::Fault(DataCode::NameTwice));
+    }
+    match sized(all, datatype, row, at + 1) {
+        Ok(size) => Ok(push_coll(alloc, all, name, size)?),
+        Err(code) => Err(Refusal::Fault(code)),
+    }
+}
+
+// Adds the collection of a `coll` record.
+pub(crate) fn add_coll(
+    alloc: Global,
+    all: &mut Growing,
+    row: &ByteRecord,
+) -> Result<(), Refusal<DataCode>>
+    requires { IsKeyed all.old }
+    ensures step { ReturnsDraft result (coll_record (draft_of all.old) (fields_of row.now)) (draft_of all.new) }
+    ensures keyed { OnOk result (IsKeyed all.new) }
+{
+    if row.len() != 3 && row.len() != 4 {
+        return Err(Refusal::Fault(DataCode::FieldCount));
+    }
+    add_coll_of(alloc, all, b"DEFAULT".as_slice(), row, 1)
+}
+
+// Adds the collection of a `collof` record.
+pub(crate) fn add_collof(
+    alloc: Global,
+    all: &mut Growing,
+    row: &ByteRecord,
+) -> Result<(), Refusal<DataCode>>
+    requires { IsKeyed all.old }
+    ensures step { ReturnsDraft result (collof_record (draft_of all.old) (fields_of row.now)) (draft_of all.new) }
+    ensures keyed { OnOk result (IsKeyed all.new) }
+{
+    if row.len() != 4 && row.len() != 5 {
+        return Err(Refusal::Fault(DataCode::FieldCount));
+    }
+    add_coll_of(alloc, all, field(row, 1), row, 2)
+}

@@ -1,0 +1,133 @@
+//! The fields of a record.
+
+ghost use Rattle.std.specs.Prelude.{◌≡◌, ◌≤◌, length, drop, IfSome, Some, None, if◌then◌else◌};
+ghost use Rattle.ptg_base.specs.Decimal.{decimal, is_decimal};
+ghost use Rattle.csv.specs.Records.{fields_of};
+ghost use Rattle.data_read.specs.Fields.{is_blank, after_blanks, content_length, without_blanks, field, is_letter, is_part, is_name, positive, negative, whole};
+ghost use Rattle.data_read.specs.Records.{element_count};
+
+use csv::ByteRecord;
+use ptg_base::decimal;
+
+fn is_blank(b: u8) -> bool
+    ensures { result ≡ is_blank b }
+{
+    b == b' ' || b == b'\t'
+}
+
+// How many blanks come first.
+fn first_blanks(bytes: &[u8]) -> usize
+    ensures value { drop result bytes.now ≡ after_blanks bytes.now }
+    ensures within { result ≤ length bytes.now }
+{
+    'bytes: for i in 0..bytes.len() {
+        if !is_blank(bytes[i]) {
+            return i;
+        }
+    }
+    bytes.len()
+}
+
+// How many bytes come before the blanks at the end.
+fn content_length(bytes: &[u8]) -> usize
+    ensures value { result ≡ content_length bytes.now }
+    ensures within { result ≤ length bytes.now }
+{
+    let len = bytes.len();
+    'bytes: for k in 0..len {
+        if !is_blank(bytes[len - k - 1]) {
+            return len - k;
+        }
+    }
+    0
+}
+
+// The bytes without the blanks at both ends.
+fn without_blanks(bytes: &[u8]) -> &[u8]
+    ensures { result.now ≡ without_blanks bytes.now }
+{
+    let rest = &bytes[first_blanks(bytes)..];
+    &rest[..content_length(rest)]
+}
+
+// The field of this number, counted from 0, without the blanks around it.
+pub(crate) fn field(row: &ByteRecord, at: usize) -> &[u8]
+    ensures { result.now ≡ field (fields_of row.now) at }
+{
+    match row.get(at) {
+        Some(bytes) => without_blanks(bytes),
+        None => b"".as_slice(),
+    }
+}
+
+fn is_letter(b: u8) -> bool
+    ensures { result ≡ is_letter b }
+{
+    b.is_ascii_alphabetic() || b == b'_'
+}
+
+fn is_part(b: u8) -> bool
+    ensures { result ≡ is_part b }
+{
+    is_letter(b) || b.is_ascii_digit()
+}
+
+pub(crate) fn is_name(bytes: &[u8]) -> bool
+    ensures { result ≡ is_name bytes.now }
+{
+    match bytes.split_first() {
+        Some((b, bs)) => is_letter(*b) && bs.iter().all(|c| is_part(*c)),
+        None => false,
+    }
+}
+
+// The number of these decimal digits, if it is at most `most`.
+fn digits_at_most(digits: &[u8], most: u64) -> Option<u64>
+    ensures number { result ≡ (if is_decimal most digits.now then Some (decimal digits.now) else None) }
+    ensures within { IfSome result (λ n. n ≤ most) }
+{
+    decimal(digits, most)
+}
+
+fn positive(digits: &[u8]) -> Option<i64>
+    ensures { result ≡ positive digits.now }
+{
+    match digits_at_most(digits, 9_223_372_036_854_775_807) {
+        Some(value) => Some(value as i64),
+        None => None,
+    }
+}
+
+fn negative(digits: &[u8]) -> Option<i64>
+    ensures { result ≡ negative digits.now }
+{
+    match digits_at_most(digits, 9_223_372_036_854_775_808) {
+        Some(9_223_372_036_854_775_808) => Some(i64::MIN),
+        Some(value) => Some(-(value as i64)),
+        None => None,
+    }
+}
+
+// The whole number that the bytes spell.
+pub(crate) fn whole(bytes: &[u8]) -> Option<i64>
+    ensures { result ≡ whole bytes.now }
+{
+    let (first, digits) = bytes.split_first()?;
+    match *first {
+        b'-' => negative(digits),
+        b'+' => positive(digits),
+        _ => positive(bytes),
+    }
+}
+
+// The number of elements that the bytes spell, from 1 to 4,096.
+pub(crate) fn element_count(bytes: &[u8]) -> Option<u32>
+    ensures { result ≡ element_count bytes.now }
+{
+    let value = whole(bytes)?;
+    if 1 <= value && value <= 4096 {
+        Some(value as u32)
+    } else {
+        None
+    }
+}

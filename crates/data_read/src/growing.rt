@@ -1,0 +1,49 @@
+//! The data of the records so far.
+
+ghost use Rattle.std.specs.Prelude.{◌≤◌, length};
+
+use name_table::NameTable;
+use ptg_base::{Seq, Text, Tile};
+
+/// A collection, with the tiles that records gave.
+#[derive(Drop)]
+pub(crate) struct GrowingColl {
+    pub(crate) name: Text,
+    pub(crate) shape: (u32, Option<u32>),
+    pub(crate) datatype: u32,
+    /// How many elements each tile has.
+    pub(crate) elements: u32,
+    /// For each place the tile that a record gave, row by row.
+    pub(crate) tiles: Seq<Option<Tile>>,
+}
+
+/// What a collection is asked to be.
+#[derive(Clone, Copy, Debug)]
+pub(crate) struct Sized {
+    pub(crate) shape: (u32, Option<u32>),
+    pub(crate) datatype: u32,
+    pub(crate) elements: u32,
+}
+
+/// What a name stands for.
+#[derive(Clone, Copy, Debug, Drop)]
+pub(crate) enum Known {
+    Integer,
+    /// The collection of this number.
+    Collection(usize),
+}
+
+/// The data of the records so far.
+#[derive(Drop)]
+pub(crate) struct Growing {
+    pub(crate) types: Seq<(Text, u32)>,
+    pub(crate) elems: u32,
+    pub(crate) ints: Seq<(Text, i64)>,
+    pub(crate) colls: Vec<GrowingColl>,
+    /// How many elements the tiles of all collections have.
+    pub(crate) elements: u64,
+    /// What each name of an integer or a collection stands for.
+    pub(crate) names: NameTable<Known>,
+    ghost elements_at_most: { elements ≤ 16777216 },
+    ghost types_at_most: { length types ≤ 15 },
+}

@@ -1,0 +1,73 @@
+//! The data that a text spells.
+
+ghost use Rattle.std.specs.Prelude.{◌≡◌, ◌≤◌, ◌⊎◌, Ok, Err, IfOk, length};
+ghost use Rattle.coll_data.specs.Data.{Data};
+ghost use Rattle.coll_data.specs.declared.fault.DataFault.{DataFault};
+ghost use Rattle.ptg_base.specs.declared.refusal.Refusal.TheVariants.{Fault, OutOfMemory};
+ghost use Rattle.data_read.specs.Growing.{Returns, refusal_at};
+ghost use Rattle.data_read.specs.Reading.{data_of};
+
+use crate::finish::finish;
+use crate::record::{add_record, start};
+use crate::rows::{next_row, reader_of};
+use coll_data::{DataCode, DataFault, DataRefusal, Given};
+use csv::ByteRecord;
+use ptg_base::Refusal;
+use std::alloc::Global;
+
+fn read(alloc: Global, bytes: &[u8]) -> Result<Given, DataRefusal>
+    ensures { Returns result (data_of bytes.now) }
+{
+    let mut reader = reader_of(alloc, bytes);
+    let mut row = ByteRecord::new(alloc);
+    if !next_row(&mut reader, &mut row)? {
+        return Err(refused(1, DataCode::NoElems));
+    }
+    let mut all = match start(alloc, &row) {
+        Ok(all) => all,
+        Err(code) => return Err(refused(1, code)),
+    };
+    for number in 2..u64::MAX {
+        if !next_row(&mut reader, &mut row)? {
+            return Ok(finish(alloc, all, number - 1)?);
+        }
+        match add_record(alloc, &mut all, &row) {
+            Ok(_) => {}
+            Err(refusal) => return Err(refused_at(number, refusal)),
+        }
+    }
+    // No text has so many records.
+    Err(Refusal::OutOfMemory)
+}
+
+// The refusal of the record of this row.
+fn refused_at(row: u64, refusal: Refusal<DataCode>) -> DataRefusal
+    ensures { result ≡ refusal_at row refusal }
+{
+    match refusal {
+        Refusal::Fault(code) => refused(row, code),
+        Refusal::OutOfMemory => Refusal::OutOfMemory,
+    }
+}
+
+fn refused(row: u64, code: DataCode) -> DataRefusal
+    ensures { result ≡ Fault (record { row = row; code = code }) }
+{
+    Refusal::Fault(DataFault { row, code })
+}
+
+/// The data that a text of at most 16 MiB spells. A text that spells none is refused with its first fault: that of the first
+/// record that has one, with the first code that fits it.
+pub fn read_data(alloc: Global, bytes: &[u8]) -> Result<Given, DataRefusal>
+    requires { length bytes.now ≤ 16777216 }
+    // What is found the text spells.
+    ensures found { IfOk result (λ given. data_of bytes.now ≡ Ok given) }
+    // What the text spells is found, unless memory runs out.
+    ensures only { (given : Data) → data_of bytes.now ≡ Ok given → (result ≡ Ok given) ⊎ (result ≡ Err OutOfMemory) }
+    // The fault that is named is the first one of the text.
+    ensures fault { (fault : DataFault) → result ≡ Err (Fault fault) → data_of bytes.now ≡ Err fault }
+    // A text with a fault is refused with its first one, unless memory runs out.
+    ensures refused { (fault : DataFault) → data_of bytes.now ≡ Err fault → (result ≡ Err (Fault fault)) ⊎ (result ≡ Err OutOfMemory) }
+{
+    read(alloc, bytes)
+}

@@ -1,0 +1,86 @@
+//! The types of tiles.
+
+ghost use Rattle.std.specs.Prelude.{◌≡◌, ◌≤◌, Ok, Err, OnOk, length};
+ghost use Rattle.std.specs.Result.{MatchResult};
+ghost use Rattle.csv.specs.Records.{fields_of};
+ghost use Rattle.data_read.specs.Draft.{type_among, type_named, with_type};
+ghost use Rattle.data_read.specs.Growing.{draft_of, IsKeyed, ReturnsDraft};
+ghost use Rattle.data_read.specs.Records.{type_record};
+
+use crate::field::{element_count, field, is_name};
+use crate::growing::Growing;
+use coll_data::DataCode;
+use csv::ByteRecord;
+use ptg_base::{Refusal, Text};
+use std::alloc::Global;
+
+// The number and the elements of the type of this name among those past DEFAULT.
+fn later_type(types: &[(Text, u32)], name: &[u8]) -> Option<(u32, u32)>
+    requires { length types.now ≤ 15 }
+    ensures { result ≡ type_among name.now 1 types.now }
+{
+    let mut number: u32 = 1;
+    for known in types {
+        if name == known.0.bytes() {
+            return Some((number, known.1));
+        }
+        number += 1;
+    }
+    None
+}
+
+// The number and the elements of the type of this name.
+pub(crate) fn type_named(all: &Growing, name: &[u8]) -> Option<(u32, u32)>
+    ensures { result ≡ type_named (draft_of all.now) name.now }
+{
+    if name == b"DEFAULT".as_slice() {
+        return Some((0, all.elems));
+    }
+    later_type(all.types.as_slice(), name)
+}
+
+// The name and the elements of the type that the record adds.
+fn new_type<'a>(all: &Growing, row: &'a ByteRecord) -> Result<(&'a [u8], u32), DataCode>
+    ensures step { MatchResult result (λ type. type_record (draft_of all.now) (fields_of row.now) ≡ Ok (with_type (draft_of all.now) type.0.now type.1)) (λ code. type_record (draft_of all.now) (fields_of row.now) ≡ Err code) }
+    ensures few { MatchResult result (λ type. length all.now.types ≤ 14) (λ code. Unit {0}) }
+{
+    if row.len() == 2 {
+        return Err(DataCode::ElemsTwice);
+    }
+    if row.len() != 3 {
+        return Err(DataCode::FieldCount);
+    }
+    let Some(elements) = element_count(field(row, 2)) else {
+        return Err(DataCode::BadElems);
+    };
+    let name = field(row, 1);
+    if !is_name(name) {
+        return Err(DataCode::BadName);
+    }
+    if type_named(all, name).is_some() {
+        return Err(DataCode::TypeTwice);
+    }
+    if all.types.len() >= 15 {
+        return Err(DataCode::TooManyTypes);
+    }
+    Ok((name, elements))
+}
+
+// Adds the type of an `elems` record after the first.
+pub(crate) fn add_type(
+    alloc: Global,
+    all: &mut Growing,
+    row: &ByteRecord,
+) -> Result<(), Refusal<DataCode>>
+    requires { IsKeyed all.old }
+    ensures step { ReturnsDraft result (type_record (draft_of all.old) (fields_of row.now)) (draft_of all.new) }
+    ensures keyed { OnOk result (IsKeyed all.new) }
+{
+    let (name, elements) = match new_type(all, row) {
+        Ok(found) => found,
+        Err(code) => return Err(Refusal::Fault(code)),
+    };
+    let name = Text::of(alloc, name)?;
+    all.types.push((name, elements))?;
+    Ok(())
+}
