@@ -1,0 +1,223 @@
+-- Which links are among those of targets and of tasks.
+use Rattle.std.proofs.Common.{◌≡◌, ◌↔◌, ℕ, zero, suc, ◌+◌, ◌<◌, ℤ, Bool, true, false, List, [], ◌∷◌, ◌++◌, length, take, map, refl, ap, sym, ◌∙◌, subst, append_assoc, add-zero, Option, Some, None, slice_get, IsSomeAnd, IsTrue, ◌⊎◌, inl, inr, arith}
+use Rattle.std.proofs.lemmas.Bool.{false≢true}
+use Rattle.std.specs.List.{flat_map}
+use Rattle.ptg_base.specs.Lists.{IsIn}
+use Rattle.ptg_base.specs.Task.{Task}
+use Rattle.ptg_base.specs.declared.edge.Edge.{Edge}
+use Rattle.plan_core.specs.declared.flow.FlowPlan.{FlowPlan}
+use Rattle.plan_core.specs.declared.plan.Plan.{Plan}
+use Rattle.plan_core.specs.declared.target.Target.{Target}
+use Rattle.plan_core.specs.declared.target.Target.TheVariants as target
+use Rattle.range_space.proofs.MemberLists.{IsIn-append_left, IsIn-append_right, IsIn-flat_map, IsIn-map, from_append, from_flat_map, from_map}
+use Rattle.dep_iter.specs.declared.link.Link.{Link}
+use Rattle.dep_iter.specs.Tasks.{flows_of, locals_of, task}
+use Rattle.plan_core.specs.declared.flow.DepPlan.{DepPlan}
+use Rattle.dep_iter.specs.Active.{by_flow, held_target, held_targets, held_then, takes_first}
+use Rattle.dep_iter.specs.Arguments.{combinations, product}
+use Rattle.dep_iter.specs.Edges.{in_edges, in_edges_before}
+use Rattle.dep_iter.specs.Items.{out_edges, out_edges_before}
+use Rattle.dep_iter.specs.Links.{all_links, edge_in, edge_out, flow_targets, link, links_to, task_links}
+use Rattle.dep_iter.proofs.Joining.{edges_into-among, in_edges-links, items_to-among, out_edges-links}
+
+-- a combination has a value of the first list, and the others are a combination of the other lists
+pub to_product : (v : ℤ) (vs ws : List ℤ) (wss : List (List ℤ)) → IsIn v ws → IsIn vs (product wss) → IsIn (v ∷ vs) (product (ws ∷ wss))
+to_product v vs ws wss h k = IsIn-flat_map (λ u. map (λ l. u ∷ l) (product wss)) ws v (v ∷ vs) h (IsIn-map (λ l. v ∷ l) (product wss) vs k)
+
+pub from_product : (v : ℤ) (vs ws : List ℤ) (wss : List (List ℤ)) → IsIn (v ∷ vs) (product (ws ∷ wss)) → IsIn v ws × IsIn vs (product wss)
+from_product v vs ws wss h =
+    let p = from_flat_map (λ u. map (λ l. u ∷ l) (product wss)) ws (v ∷ vs) h in
+    let q = from_map (λ l. p.0 ∷ l) (product wss) (v ∷ vs) p.2 in
+    let e : v ≡ p.0 = let k = q.2 in cc in
+    let f : vs ≡ q.0 = let k = q.2 in cc in
+    (rw e p.1, rw f q.1)
+
+pub not_product : (ws : List ℤ) (wss : List (List ℤ)) → IsIn [] (product (ws ∷ wss)) → ⊥
+not_product ws wss h =
+    let p = from_flat_map (λ u. map (λ l. u ∷ l) (product wss)) ws [] h in
+    let q = from_map (λ l. p.0 ∷ l) (product wss) [] p.2 in
+    let k = q.2 in absurd cc
+
+-- a link to a task that a target names
+pub to_links : (n class flow : ℕ) (ps : List ℤ) (cs : List (List ℤ)) → IsIn ps cs → IsIn (link n class flow ps) (map (link n class flow) cs)
+to_links n class flow ps cs h = IsIn-map (link n class flow) cs ps h
+
+pub to_links_of : (n class flow : ℕ) (far : Task) (far_flow : ℕ) (cs : List (List ℤ)) → class ≡ far.class → flow ≡ far_flow → IsIn far.params cs → IsIn (record { near = n; far = far; far_flow = far_flow }) (map (link n class flow) cs)
+to_links_of n class flow far far_flow cs e f h = rw (e, f) (to_links n far.class far_flow far.params cs h)
+
+pub from_links : (n class flow : ℕ) (cs : List (List ℤ)) (l : Link) → IsIn l (map (link n class flow) cs) → (l.far.class ≡ class) × (l.far_flow ≡ flow) × IsIn l.far.params cs × (l.near ≡ n)
+from_links n class flow cs l h =
+    let p = from_map (link n class flow) cs l h in
+    (ap (λ (l : Link). l.far.class) p.2, ap (λ (l : Link). l.far_flow) p.2, rw (ap (λ (l : Link). l.far.params) p.2) p.1, ap (λ (l : Link). l.near) p.2)
+
+-- the links of a flow's targets have the number of the flow
+near_is : (env : List ℤ) (n : ℕ) (x : Target) (l : Link) → IsIn l (links_to env n x) → l.near ≡ n
+near_is env n (target.Task class flow args) l h = (from_links n class flow (combinations args env) l h).3
+near_is env n (target.Element coll indices) l h = absurd h
+near_is env n target.New l h = absurd h
+near_is env n target.Null l h = absurd h
+
+pub near_among : (env : List ℤ) (n : ℕ) (xs : List Target) (l : Link) → IsIn l (flat_map (links_to env n) xs) → l.near ≡ n
+near_among env n xs l h = let p = from_flat_map (links_to env n) xs l h in near_is env n p.0 l p.2
+
+flat_map-append : {A B : Type 0} (f : A → List B) (xs ys : List A) → flat_map f (xs ++ ys) ≡ flat_map f xs ++ flat_map f ys
+flat_map-append f [] ys = refl
+flat_map-append f (x ∷ xs) ys = ap (λ l. f x ++ l) (flat_map-append f xs ys) ∙ sym (append_assoc (f x) (flat_map f xs) (flat_map f ys))
+
+flat_map-numbered : (env : List ℤ) (n : ℕ) (xs : List Target) → all_links env (map (λ x. (n, x)) xs) ≡ flat_map (links_to env n) xs
+flat_map-numbered env n [] = refl
+flat_map-numbered env n (x ∷ xs) = ap (λ l. links_to env n x ++ l) (flat_map-numbered env n xs)
+
+module _ (env : List ℤ) (g : FlowPlan → List Target) where
+  by_flow-links : (n : ℕ) (f : FlowPlan) (fs : List FlowPlan) → all_links env (by_flow g n (f ∷ fs)) ≡ flat_map (links_to env n) (g f) ++ all_links env (by_flow g (suc n) fs)
+  by_flow-links n f fs =
+      flat_map-append (λ (a : ℕ × Target). links_to env a.0 a.1) (map (λ x. (n, x)) (g f)) (by_flow g (suc n) fs)
+      ∙ ap (λ l. l ++ all_links env (by_flow g (suc n) fs)) (flat_map-numbered env n (g f))
+
+  -- a link of the targets of flows is one of the targets of one of them
+  from_flows : (n : ℕ) (fs : List FlowPlan) (l : Link) → IsIn l (all_links env (by_flow g n fs)) → (i : ℕ) × (l.near ≡ n + i) × IsSomeAnd (slice_get fs i) (λ f. IsIn l (flat_map (links_to env l.near) (g f)))
+  from_flows n [] l h = absurd h
+  from_flows n (f ∷ fs) l h =
+      elim (from_append l (flat_map (links_to env n) (g f)) (all_links env (by_flow g (suc n) fs)) (rw (by_flow-links n f fs) at h)) [
+        | inl a ↦
+            let e = near_among env n (g f) l a in
+            (0, e ∙ sym (add-zero n), subst (λ m. IsIn l (flat_map (links_to env m) (g f))) (sym e) a)
+        | inr b ↦ let p = from_flows (suc n) fs l b in (suc p.0, (let e = p.1 in omega arith), p.2)
+      ]
+
+  to_flows : (n : ℕ) (fs : List FlowPlan) (l : Link) (i : ℕ) → IsSomeAnd (slice_get fs i) (λ f. IsIn l (flat_map (links_to env (n + i)) (g f))) → IsIn l (all_links env (by_flow g n fs))
+  to_flows n [] l i h = absurd h
+  to_flows n (f ∷ fs) l zero h =
+      let k = subst (λ m. IsIn l (flat_map (links_to env m) (g f))) (add-zero n) h in
+      rw (by_flow-links n f fs) (IsIn-append_left l (flat_map (links_to env n) (g f)) (all_links env (by_flow g (suc n) fs)) k)
+  to_flows n (f ∷ fs) l (suc i) h =
+      let k = subst (λ m. IsSomeAnd (slice_get fs i) (λ e. IsIn l (flat_map (links_to env m) (g e)))) (omega arith) h in
+      rw (by_flow-links n f fs) (IsIn-append_right l (flat_map (links_to env n) (g f)) (all_links env (by_flow g (suc n) fs)) (to_flows (suc n) fs l i k))
+
+-- the link that an edge into a task is, and that an edge out of a task is
+abbrev pub link_in : Edge → Link
+link_in e = record { near = e.in_flow; far = e.from; far_flow = e.out_flow }
+
+abbrev pub link_out : Edge → Link
+link_out e = record { near = e.out_flow; far = e.to; far_flow = e.in_flow }
+
+pub from_edges_in : (t : Task) (ls : List Link) (e : Edge) → IsIn e (map (edge_in t) ls) → (e.to ≡ t) × IsIn (link_in e) ls
+from_edges_in t ls e h =
+    let p = from_map (edge_in t) ls e h in
+    (ap (λ (e : Edge). e.to) p.2, rw (ap link_in p.2) p.1)
+
+pub to_edges_in : (t : Task) (ls : List Link) (e : Edge) → e.to ≡ t → IsIn (link_in e) ls → IsIn e (map (edge_in t) ls)
+to_edges_in t ls e q h = subst (λ u. IsIn e (map (edge_in u) ls)) q (IsIn-map (edge_in e.to) ls (link_in e) h)
+
+pub from_edges_out : (t : Task) (ls : List Link) (e : Edge) → IsIn e (map (edge_out t) ls) → (e.from ≡ t) × IsIn (link_out e) ls
+from_edges_out t ls e h =
+    let p = from_map (edge_out t) ls e h in
+    (ap (λ (e : Edge). e.from) p.2, rw (ap link_out p.2) p.1)
+
+pub to_edges_out : (t : Task) (ls : List Link) (e : Edge) → e.from ≡ t → IsIn (link_out e) ls → IsIn e (map (edge_out t) ls)
+to_edges_out t ls e q h = subst (λ u. IsIn e (map (edge_out u) ls)) q (IsIn-map (edge_out e.from) ls (link_out e) h)
+
+-- the links of a task whose flow has the number of the link
+pub from_task : (P : Plan) (t : Task) (inward : Bool) (l : Link) → IsIn l (task_links P t inward) → IsSomeAnd (slice_get (flows_of P t) l.near) (λ f. IsIn l (flat_map (links_to (locals_of P t) l.near) (flow_targets inward (locals_of P t) f)))
+from_task P t inward l h =
+    let env = locals_of P t in
+    let p = from_flows env (flow_targets inward env) 0 (flows_of P t) l h in
+    let e : p.0 ≡ l.near = let k = p.1 in omega arith in
+    subst (λ i. IsSomeAnd (slice_get (flows_of P t) i) (λ f. IsIn l (flat_map (links_to env l.near) (flow_targets inward env f)))) e p.2
+
+pub to_task : (P : Plan) (t : Task) (inward : Bool) (l : Link) → IsSomeAnd (slice_get (flows_of P t) l.near) (λ f. IsIn l (flat_map (links_to (locals_of P t) l.near) (flow_targets inward (locals_of P t) f))) → IsIn l (task_links P t inward)
+to_task P t inward l h =
+    let env = locals_of P t in
+    to_flows env (flow_targets inward env) 0 (flows_of P t) l l.near (subst (λ m. IsSomeAnd (slice_get (flows_of P t) l.near) (λ f. IsIn l (flat_map (links_to env m) (flow_targets inward env f)))) (omega arith) h)
+
+-- an edge into a task is a link of the flow that it goes into
+pub in_edge_is : (P : Plan) (t : Task) (e : Edge) → IsIn e (in_edges P t) ↔ ((e.to ≡ t) × IsSomeAnd (slice_get (flows_of P t) e.in_flow) (λ f. IsIn (link_in e) (flat_map (links_to (locals_of P t) e.in_flow) (flow_targets true (locals_of P t) f))))
+in_edge_is P t e = (
+  λ h. let p = from_edges_in t (task_links P t true) e (rw (sym (in_edges-links P t)) at h) in (p.0, from_task P t true (link_in e) p.1),
+  λ h. rw (sym (in_edges-links P t)) (to_edges_in t (task_links P t true) e h.0 (to_task P t true (link_in e) h.1)),
+)
+
+pub out_edge_is : (P : Plan) (t : Task) (e : Edge) → IsIn e (out_edges P t) ↔ ((e.from ≡ t) × IsSomeAnd (slice_get (flows_of P t) e.out_flow) (λ f. IsIn (link_out e) (flat_map (links_to (locals_of P t) e.out_flow) (flow_targets false (locals_of P t) f))))
+out_edge_is P t e = (
+  λ h. let p = from_edges_out t (task_links P t false) e (rw (sym (out_edges-links P t)) at h) in (p.0, from_task P t false (link_out e) p.1),
+  λ h. rw (sym (out_edges-links P t)) (to_edges_out t (task_links P t false) e h.0 (to_task P t false (link_out e) h.1)),
+)
+
+pub empty_is : {A : Type 0} (xs : List A) → length xs ≡ 0 → xs ≡ []
+empty_is [] h = refl
+empty_is (x ∷ xs) h = absurd (omega arith)
+
+-- the targets that count of dependences, by whether the first one holds
+pub held-none : (first_only : Bool) (d : DepPlan) (ds : List DepPlan) (env : List ℤ) → held_target d env ≡ None → held_targets first_only (d ∷ ds) env ≡ held_targets first_only ds env
+held-none first_only d ds env e = ap (λ o. held_then first_only o (held_targets first_only ds env)) e
+
+pub held-first : (d : DepPlan) (ds : List DepPlan) (env : List ℤ) (x : Target) → held_target d env ≡ Some x → held_targets true (d ∷ ds) env ≡ x ∷ []
+held-first d ds env x e = ap (λ o. held_then true o (held_targets true ds env)) e
+
+pub held-more : (d : DepPlan) (ds : List DepPlan) (env : List ℤ) (x : Target) → held_target d env ≡ Some x → held_targets false (d ∷ ds) env ≡ x ∷ held_targets false ds env
+held-more d ds env x e = ap (λ o. held_then false o (held_targets false ds env)) e
+
+-- whether a flow's targets that count stand for a link, by the first dependence
+module _ (env : List ℤ) (n : ℕ) (l : Link) (d : DepPlan) (ds : List DepPlan) where
+  pub any-none : (first_only : Bool) (b : Bool) → held_target d env ≡ None → IsTrue b ↔ IsIn l (flat_map (links_to env n) (held_targets first_only ds env)) → IsTrue b ↔ IsIn l (flat_map (links_to env n) (held_targets first_only (d ∷ ds) env))
+  any-none first_only b e w = rw (held-none first_only d ds env e) w
+
+  pub any-here : (first_only : Bool) (x : Target) → held_target d env ≡ Some x → IsIn l (links_to env n x) → IsIn l (flat_map (links_to env n) (held_targets first_only (d ∷ ds) env))
+  any-here true x e h = rw (held-first d ds env x e) (IsIn-append_left l (links_to env n x) [] h)
+  any-here false x e h = rw (held-more d ds env x e) (IsIn-append_left l (links_to env n x) (flat_map (links_to env n) (held_targets false ds env)) h)
+
+  pub any-first : (x : Target) → held_target d env ≡ Some x → IsIn l (flat_map (links_to env n) (held_targets true (d ∷ ds) env)) → IsIn l (links_to env n x)
+  any-first x e h =
+      elim (from_append l (links_to env n x) [] (rw (held-first d ds env x e) at h)) [ inl a ↦ a | inr b ↦ absurd b ]
+
+  pub any-later : (first_only b : Bool) (x : Target) → first_only ≡ false → held_target d env ≡ Some x → (IsIn l (links_to env n x) → ⊥) → IsTrue b ↔ IsIn l (flat_map (links_to env n) (held_targets first_only ds env)) → IsTrue b ↔ IsIn l (flat_map (links_to env n) (held_targets first_only (d ∷ ds) env))
+  any-later true b x k e not_here w = absurd (false≢true (sym k))
+  any-later false b x k e not_here w =
+      rw (held-more d ds env x e) (
+        λ t. IsIn-append_right l (links_to env n x) (flat_map (links_to env n) (held_targets false ds env)) (w.0 t),
+        λ h. elim (from_append l (links_to env n x) (flat_map (links_to env n) (held_targets false ds env)) h) [ inl a ↦ absurd (not_here a) | inr k ↦ w.1 k ],
+      )
+
+-- whether an edge is one into a task, and one out of it, where its flow exists
+module _ (P : Plan) (t : Task) (e : Edge) (f : FlowPlan) where
+  pub in_edge-by : slice_get (flows_of P t) e.in_flow ≡ Some f → e.to ≡ t → (b : Bool) → IsTrue b ↔ IsIn (link_in e) (flat_map (links_to (locals_of P t) e.in_flow) (flow_targets true (locals_of P t) f)) → IsTrue b ↔ IsIn e (in_edges P t)
+  in_edge-by here same b w = (
+    λ q. (in_edge_is P t e).1 (same, rw here (w.0 q)),
+    λ h. w.1 (rw here at ((in_edge_is P t e).0 h).1),
+  )
+
+  pub out_edge-by : slice_get (flows_of P t) e.out_flow ≡ Some f → e.from ≡ t → (b : Bool) → IsTrue b ↔ IsIn (link_out e) (flat_map (links_to (locals_of P t) e.out_flow) (flow_targets false (locals_of P t) f)) → IsTrue b ↔ IsIn e (out_edges P t)
+  out_edge-by here same b w = (
+    λ q. (out_edge_is P t e).1 (same, rw here (w.0 q)),
+    λ h. w.1 (rw here at ((out_edge_is P t e).0 h).1),
+  )
+
+-- whether an edge is one of those that the first dependences of its flow give
+module _ (P : Plan) (t : Task) (e : Edge) (f : FlowPlan) (k : ℕ) where
+  pub in_before-is : slice_get (flows_of P t) e.in_flow ≡ Some f → IsIn e (in_edges_before P t e.in_flow k) ↔ ((e.to ≡ t) × IsIn (link_in e) (flat_map (links_to (locals_of P t) e.in_flow) (held_targets (takes_first f.kind) (take k f.ins) (locals_of P t))))
+  unfolding in_edges_before
+  in_before-is here =
+      let env = locals_of P t in
+      let xs = held_targets (takes_first f.kind) (take k f.ins) env in
+      rw (here, edges_into-among t env e.in_flow xs) (
+        λ h. from_edges_in t (flat_map (links_to env e.in_flow) xs) e h,
+        λ h. to_edges_in t (flat_map (links_to env e.in_flow) xs) e h.0 h.1,
+      )
+
+  pub out_before-is : slice_get (flows_of P t) e.out_flow ≡ Some f → IsIn e (out_edges_before P t e.out_flow k) ↔ ((e.from ≡ t) × IsIn (link_out e) (flat_map (links_to (locals_of P t) e.out_flow) (held_targets false (take k f.outs) (locals_of P t))))
+  unfolding out_edges_before
+  out_before-is here =
+      let env = locals_of P t in
+      let xs = held_targets false (take k f.outs) env in
+      rw (here, items_to-among t env e.out_flow xs) (
+        λ h. from_edges_out t (flat_map (links_to env e.out_flow) xs) e h,
+        λ h. to_edges_out t (flat_map (links_to env e.out_flow) xs) e h.0 h.1,
+      )
+
+pub in_before-past : (P : Plan) (t : Task) (e : Edge) (k : ℕ) → slice_get (flows_of P t) e.in_flow ≡ None → IsIn e (in_edges_before P t e.in_flow k) → ⊥
+unfolding in_edges_before
+in_before-past P t e k past h = rw past at h
+
+pub out_before-past : (P : Plan) (t : Task) (e : Edge) (k : ℕ) → slice_get (flows_of P t) e.out_flow ≡ None → IsIn e (out_edges_before P t e.out_flow k) → ⊥
+unfolding out_edges_before
+out_before-past P t e k past h = rw past at h

@@ -1,0 +1,107 @@
+-- No combination occurs twice.
+use Rattle.std.proofs.Common.{◌≡◌, ℕ, zero, suc, ℤ, pos, negsuc, ◌+ℤ◌, true, List, [], ◌∷◌, ◌++◌, map, refl, ap, sym, ◌∙◌, subst, Result, Ok, Err, inl, inr, arith}
+use Rattle.std.proofs.lemmas.Int.{ints}
+use Rattle.std.specs.List.{filter_map, flat_map}
+use Rattle.ptg_base.specs.Lists.{HasNoRepeats, IsIn}
+use Rattle.ptg_base.specs.Task.{Task}
+use Rattle.term_core.specs.Value.{and_then}
+use Rattle.range_space.specs.declared.fault.SpanFault.{SpanFault}
+use Rattle.range_space.specs.Values.{is_within, values, while_within}
+use Rattle.range_space.specs.Fault.{Bounds, bounds, number}
+use Rattle.range_space.specs.Tasks.{or_empty}
+use Rattle.range_space.proofs.Stepping.{by_test, while_in, while_past}
+use Rattle.range_space.proofs.Members.{on_way}
+use Rattle.range_space.proofs.MemberLists.{from_append, from_flat_map, from_map}
+use Rattle.plan_core.specs.declared.target.Arg.{Arg}
+use Rattle.plan_core.specs.declared.target.Arg.TheVariants.{One, Span}
+use Rattle.plan_core.specs.declared.target.Target.{Target}
+use Rattle.plan_core.specs.declared.target.Target.TheVariants as target
+use Rattle.dep_iter.specs.declared.link.Link.{Link}
+use Rattle.dep_iter.specs.Arguments.{arg_values, combinations, product}
+use Rattle.dep_iter.specs.Edges.{edges_into}
+use Rattle.dep_iter.specs.Items.{edge_of, items_to}
+use Rattle.dep_iter.specs.Links.{edge_in, edge_out, link, links_to}
+use Rattle.dep_iter.proofs.Belonging.{link_in, link_out}
+use Rattle.dep_iter.proofs.Joining.{edges_into-links, items_to-links}
+
+HasNoRepeats-append : {A : Type 0} (xs ys : List A) → HasNoRepeats xs → HasNoRepeats ys → ((x : A) → IsIn x xs → IsIn x ys → ⊥) → HasNoRepeats (xs ++ ys)
+HasNoRepeats-append [] ys w u apart = u
+HasNoRepeats-append (x ∷ xs) ys w u apart = (
+  λ t. elim (from_append x xs ys t) [ inl l ↦ w.0 l | inr r ↦ apart x (inl refl) r ],
+  HasNoRepeats-append xs ys w.1 u (λ z h k. apart z (inr h) k),
+)
+
+HasNoRepeats-flat_map : {A B : Type 0} (f : A → List B) (vs : List A) → HasNoRepeats vs → ((v : A) → HasNoRepeats (f v)) → ((v w : A) (x : B) → IsIn x (f v) → IsIn x (f w) → v ≡ w) → HasNoRepeats (flat_map f vs)
+HasNoRepeats-flat_map f [] w each apart = tt
+HasNoRepeats-flat_map f (v ∷ vs) w each apart =
+    HasNoRepeats-append (f v) (flat_map f vs) (each v) (HasNoRepeats-flat_map f vs w.1 each apart) (λ x h k.
+    let p = from_flat_map f vs x k in
+    let same = apart v p.0 x h p.2 in
+    w.0 (subst (λ z. IsIn z vs) (sym same) p.1))
+
+HasNoRepeats-map : {A B : Type 0} (f : A → B) (xs : List A) → HasNoRepeats xs → ((x y : A) → f x ≡ f y → x ≡ y) → HasNoRepeats (map f xs)
+HasNoRepeats-map f [] w one = tt
+HasNoRepeats-map f (x ∷ xs) w one = (
+  λ t. let p = from_map f xs (f x) t in
+      let same = one x p.0 p.2 in
+      w.0 (subst (λ z. IsIn z xs) (sym same) p.1),
+  HasNoRepeats-map f xs w.1 one,
+)
+
+-- a step leads away from a value
+not_back : (step v : ℤ) → is_within v step (v +ℤ step) ≡ true → ⊥
+not_back (pos zero) v h = absurd cc
+not_back (pos (suc n)) v h = grind (arith, ints)
+not_back (negsuc n) v h = grind (arith, ints)
+
+distinct_while : (hi step : ℤ) (n : ℕ) (v : ℤ) → HasNoRepeats (while_within hi step n v)
+unfolding while_within
+distinct_while hi step zero v = tt
+distinct_while hi step (suc n) v =
+    by_test (is_within hi step v)
+    (λ h. rw (while_in hi step n v h) (
+      λ w. not_back step v (on_way hi step n (v +ℤ step) v w).after_start,
+      distinct_while hi step n (v +ℤ step),
+    ))
+    (λ h. rw (while_past hi step (suc n) v h) tt)
+
+distinct_range : (r : Result Bounds SpanFault) → HasNoRepeats (or_empty (and_then r (λ b. Ok (values b.lo b.hi b.step))))
+unfolding values
+distinct_range (Ok b) = distinct_while b.hi b.step _ b.lo
+distinct_range (Err e) = tt
+
+distinct_number : (r : Result ℤ SpanFault) → HasNoRepeats (or_empty (and_then r (λ z. Ok (z ∷ []))))
+distinct_number (Ok z) = (λ w. w, tt)
+distinct_number (Err e) = tt
+
+distinct_arg : (a : Arg) (env : List ℤ) → HasNoRepeats (or_empty (arg_values a env))
+distinct_arg (One e) env = distinct_number (number e env)
+distinct_arg (Span r) env = distinct_range (bounds r env)
+
+-- no combination of the values of arguments occurs twice
+distinct_combinations : (args : List Arg) (env : List ℤ) → HasNoRepeats (combinations args env)
+distinct_combinations [] env = (λ w. w, tt)
+distinct_combinations (a ∷ args) env =
+    let cs = combinations args env in
+    HasNoRepeats-flat_map (λ v. map (λ ws. v ∷ ws) cs) (or_empty (arg_values a env)) (distinct_arg a env)
+    (λ v. HasNoRepeats-map (λ ws. v ∷ ws) cs (distinct_combinations args env) (λ x y e. cc))
+    (λ v w x h k.
+    let p = from_map (λ ws. v ∷ ws) cs x h in
+    let q = from_map (λ ws. w ∷ ws) cs x k in
+    let e = sym p.2 ∙ q.2 in
+    cc)
+
+distinct_links : (env : List ℤ) (n : ℕ) (x : Target) → HasNoRepeats (links_to env n x)
+distinct_links env n (target.Task class flow args) =
+    HasNoRepeats-map (link n class flow) (combinations args env) (distinct_combinations args env) (λ x y e. ap (λ (l : Link). l.far.params) e)
+distinct_links env n (target.Element coll indices) = tt
+distinct_links env n target.New = tt
+distinct_links env n target.Null = tt
+
+pub distinct_in : (t : Task) (env : List ℤ) (n : ℕ) (x : Target) → HasNoRepeats (edges_into t env n x)
+distinct_in t env n x =
+    rw (edges_into-links t env n x) (HasNoRepeats-map (edge_in t) (links_to env n x) (distinct_links env n x) (λ k l e. ap link_in e))
+
+pub distinct_out : (t : Task) (env : List ℤ) (n : ℕ) (x : Target) → HasNoRepeats (filter_map edge_of (items_to t env n x))
+distinct_out t env n x =
+    rw (items_to-links t env n x) (HasNoRepeats-map (edge_out t) (links_to env n x) (distinct_links env n x) (λ k l e. ap link_out e))

@@ -1,0 +1,106 @@
+-- Lists that are joined from parts, and the edges of a task as its links.
+use Rattle.std.proofs.Common.{◌≡◌, ℕ, suc, ℤ, List, [], ◌∷◌, ◌++◌, map, refl, ap, sym, ◌∙◌, append_assoc, true, false, Option, Some, None, rules}
+use Rattle.std.specs.List.{cons_option, filter_map, flat_map}
+use Rattle.ptg_base.specs.Task.{Task}
+use Rattle.ptg_base.specs.declared.edge.Edge.{Edge}
+use Rattle.ptg_base.specs.declared.edge.WriteBack.{WriteBack}
+use Rattle.ptg_base.specs.declared.edge.Item.{Item}
+use Rattle.ptg_base.specs.declared.edge.Item.TheVariants as item
+use Rattle.plan_core.specs.declared.plan.Plan.{Plan}
+use Rattle.plan_core.specs.declared.target.Target.{Target}
+use Rattle.plan_core.specs.declared.target.Target.TheVariants as target
+use Rattle.dep_iter.specs.declared.link.Link.{Link}
+use Rattle.dep_iter.specs.Tasks.{locals_of, task}
+use Rattle.dep_iter.specs.Active.{active_ins, active_outs}
+use Rattle.dep_iter.specs.Arguments.{combinations}
+use Rattle.dep_iter.specs.Edges.{edge, edges_into, in_edges}
+use Rattle.dep_iter.specs.Items.{edge_of, items, items_to, out_edges, write_backs, write_of}
+use Rattle.dep_iter.specs.Links.{edge_in, edge_out, link, links_to, task_links}
+use Rattle.dep_iter.specs.Walking.{all_writes_to, writes_to}
+
+pub map-append : {A B : Type 0} (h : A → B) (xs ys : List A) → map h (xs ++ ys) ≡ map h xs ++ map h ys
+map-append h [] ys = refl
+map-append h (x ∷ xs) ys = ap (λ l. h x ∷ l) (map-append h xs ys)
+
+pub map-map : {A B C : Type 0} (g : B → C) (f : A → B) (xs : List A) → map g (map f xs) ≡ map (λ x. g (f x)) xs
+map-map g f [] = refl
+map-map g f (x ∷ xs) = ap (λ l. g (f x) ∷ l) (map-map g f xs)
+
+pub map-flat_map : {A B C : Type 0} (h : B → C) (f : A → List B) (xs : List A) → map h (flat_map f xs) ≡ flat_map (λ x. map h (f x)) xs
+map-flat_map h f [] = refl
+map-flat_map h f (x ∷ xs) = map-append h (f x) (flat_map f xs) ∙ ap (λ l. map h (f x) ++ l) (map-flat_map h f xs)
+
+cons_option-append : {A : Type 0} (o : Option A) (xs ys : List A) → cons_option o (xs ++ ys) ≡ cons_option o xs ++ ys
+cons_option-append None xs ys = refl
+cons_option-append (Some x) xs ys = refl
+
+pub filter_map-append : {A B : Type 0} (h : A → Option B) (xs ys : List A) → filter_map h (xs ++ ys) ≡ filter_map h xs ++ filter_map h ys
+filter_map-append h [] ys = refl
+filter_map-append h (x ∷ xs) ys = ap (cons_option (h x)) (filter_map-append h xs ys) ∙ cons_option-append (h x) (filter_map h xs) (filter_map h ys)
+
+pub filter_map-flat_map : {A B C : Type 0} (h : B → Option C) (f : A → List B) (xs : List A) → filter_map h (flat_map f xs) ≡ flat_map (λ x. filter_map h (f x)) xs
+filter_map-flat_map h f [] = refl
+filter_map-flat_map h f (x ∷ xs) = filter_map-append h (f x) (flat_map f xs) ∙ ap (λ l. filter_map h (f x) ++ l) (filter_map-flat_map h f xs)
+
+pub flat_map-same : {A B : Type 0} (f g : A → List B) → ((x : A) → f x ≡ g x) → (xs : List A) → flat_map f xs ≡ flat_map g xs
+flat_map-same f g e [] = refl
+flat_map-same f g e (x ∷ xs) = ap (λ l. l ++ flat_map f xs) (e x) ∙ ap (λ l. g x ++ l) (flat_map-same f g e xs)
+
+pub edges_into-links : (t : Task) (env : List ℤ) (n : ℕ) (x : Target) → edges_into t env n x ≡ map (edge_in t) (links_to env n x)
+edges_into-links t env n (target.Task class flow args) = sym (map-map (edge_in t) (link n class flow) (combinations args env))
+edges_into-links t env n (target.Element coll indices) = refl
+edges_into-links t env n target.New = refl
+edges_into-links t env n target.Null = refl
+
+edges_among : (t : Task) (n class flow : ℕ) (cs : List (List ℤ)) → filter_map edge_of (map (λ params. item.Edge (edge t n (task class params) flow)) cs) ≡ map (edge_out t) (map (link n class flow) cs)
+edges_among t n class flow [] = refl
+edges_among t n class flow (c ∷ cs) = ap (λ l. edge t n (task class c) flow ∷ l) (edges_among t n class flow cs)
+
+no_writes_among : (t : Task) (n class flow : ℕ) (cs : List (List ℤ)) → filter_map write_of (map (λ params. item.Edge (edge t n (task class params) flow)) cs) ≡ []
+no_writes_among t n class flow [] = refl
+no_writes_among t n class flow (c ∷ cs) = no_writes_among t n class flow cs
+
+pub items_to-links : (t : Task) (env : List ℤ) (n : ℕ) (x : Target) → filter_map edge_of (items_to t env n x) ≡ map (edge_out t) (links_to env n x)
+items_to-links t env n (target.Task class flow args) = edges_among t n class flow (combinations args env)
+items_to-links t env n (target.Element coll indices) = refl
+items_to-links t env n target.New = refl
+items_to-links t env n target.Null = refl
+
+pub items_to-writes : (t : Task) (env : List ℤ) (n : ℕ) (x : Target) → filter_map write_of (items_to t env n x) ≡ writes_to t env n x
+items_to-writes t env n (target.Task class flow args) = no_writes_among t n class flow (combinations args env)
+items_to-writes t env n (target.Element coll indices) = refl
+items_to-writes t env n target.New = refl
+items_to-writes t env n target.Null = refl
+
+pub in_edges-links : (P : Plan) (t : Task) → map (edge_in t) (task_links P t true) ≡ in_edges P t
+unfolding in_edges
+in_edges-links P t =
+    let env = locals_of P t in
+    map-flat_map (edge_in t) (λ (a : ℕ × Target). links_to env a.0 a.1) (active_ins P t)
+    ∙ flat_map-same (λ (a : ℕ × Target). map (edge_in t) (links_to env a.0 a.1)) (λ a. edges_into t env a.0 a.1) (λ a. sym (edges_into-links t env a.0 a.1)) (active_ins P t)
+
+pub out_edges-links : (P : Plan) (t : Task) → map (edge_out t) (task_links P t false) ≡ out_edges P t
+unfolding items
+out_edges-links P t =
+    let env = locals_of P t in
+    map-flat_map (edge_out t) (λ (a : ℕ × Target). links_to env a.0 a.1) (active_outs P t)
+    ∙ flat_map-same (λ (a : ℕ × Target). map (edge_out t) (links_to env a.0 a.1)) (λ a. filter_map edge_of (items_to t env a.0 a.1)) (λ a. sym (items_to-links t env a.0 a.1)) (active_outs P t)
+    ∙ sym (filter_map-flat_map edge_of (λ (a : ℕ × Target). items_to t env a.0 a.1) (active_outs P t))
+
+pub write_backs-targets : (P : Plan) (t : Task) → all_writes_to t (locals_of P t) (active_outs P t) ≡ write_backs P t
+unfolding items
+write_backs-targets P t =
+    let env = locals_of P t in
+    flat_map-same (λ (a : ℕ × Target). writes_to t env a.0 a.1) (λ a. filter_map write_of (items_to t env a.0 a.1)) (λ a. sym (items_to-writes t env a.0 a.1)) (active_outs P t)
+    ∙ sym (filter_map-flat_map write_of (λ (a : ℕ × Target). items_to t env a.0 a.1) (active_outs P t))
+
+-- the edges that targets of one flow stand for, inward and outward, as links
+pub edges_into-among : (t : Task) (env : List ℤ) (n : ℕ) (xs : List Target) → flat_map (edges_into t env n) xs ≡ map (edge_in t) (flat_map (links_to env n) xs)
+edges_into-among t env n xs =
+    flat_map-same (edges_into t env n) (λ x. map (edge_in t) (links_to env n x)) (edges_into-links t env n) xs ∙ sym (map-flat_map (edge_in t) (links_to env n) xs)
+
+pub items_to-among : (t : Task) (env : List ℤ) (n : ℕ) (xs : List Target) → filter_map edge_of (flat_map (items_to t env n) xs) ≡ map (edge_out t) (flat_map (links_to env n) xs)
+items_to-among t env n xs =
+    filter_map-flat_map edge_of (items_to t env n) xs
+    ∙ flat_map-same (λ x. filter_map edge_of (items_to t env n x)) (λ x. map (edge_out t) (links_to env n x)) (items_to-links t env n) xs
+    ∙ sym (map-flat_map (edge_out t) (links_to env n) xs)

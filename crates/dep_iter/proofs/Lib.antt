@@ -1,0 +1,6 @@
+pub mod Odometer
+pub mod Fitting
+pub mod Joining
+pub mod Belonging
+pub mod Listing
+pub mod Distinctness

@@ -1,0 +1,108 @@
+-- How the combinations of values of progressions follow one another.
+use Rattle.std.proofs.Common.{◌≡◌, ◌||◌, ℤ, pos, ◌+ℤ◌, Bool, true, false, List, [], ◌∷◌, ◌++◌, length, map, refl, ap, sym, ◌∙◌, append_assoc, Option, Some, None, Result, Ok, Err, IsErr, is_ok, MatchOption, FitsSigned, w64, rules}
+use Rattle.std.proofs.lemmas.Bool.{false≢true}
+use Rattle.std.specs.List.{flat_map}
+use Rattle.term_core.specs.Term.{Term}
+use Rattle.range_space.specs.declared.fault.SpanFault.{SpanFault}
+use Rattle.range_space.specs.declared.steps.Steps.{Steps}
+use Rattle.range_space.specs.Fault.{number}
+use Rattle.range_space.specs.Values.{is_within, values}
+use Rattle.range_space.proofs.Stepping.{by_test, values_in, values_past, values_unfit}
+use Rattle.range_space.proofs.Nesting.{values-one}
+use Rattle.term_core.specs.Value.{and_then}
+use Rattle.dep_iter.specs.declared.progression.Progression.{Progression}
+use Rattle.dep_iter.specs.Arguments.{product}
+use Rattle.dep_iter.specs.Combining.{steps_values, HaveFirst, HasOneEach, first_values, product_after, has_next, next_of, combinations_left, AddsSteps}
+
+or_left : (a b : Bool) → (a || b) ≡ false → a ≡ false
+or_left true b h = absurd (false≢true (sym h))
+or_left false b h = refl
+
+or_right : (a b : Bool) → a ≡ false → (a || b) ≡ true → b ≡ true
+or_right true b k h = absurd (false≢true (sym k))
+or_right false b k h = h
+
+or_neither : (a b : Bool) → (a || b) ≡ false → b ≡ false
+or_neither true b h = absurd (false≢true (sym h))
+or_neither false b h = h
+
+-- where the later lists have no combination, all have none
+pub none_later : (vs : List ℤ) (vss : List (List ℤ)) → product vss ≡ [] → product (vs ∷ vss) ≡ []
+none_later [] vss e = refl
+none_later (v ∷ vs) vss e =
+    ap (λ (l : List (List ℤ)). map (λ ws. v ∷ ws) l ++ flat_map (λ u. map (λ ws. u ∷ ws) (product vss)) vs) e ∙ none_later vs vss e
+
+pub none_here : (vs : List ℤ) (vss : List (List ℤ)) → vs ≡ [] → product (vs ∷ vss) ≡ []
+none_here vs vss e = ap (λ (l : List ℤ). product (l ∷ vss)) e
+
+-- the values of the first list, each before the combinations of the others
+over : List Progression → List ℤ → List (List ℤ)
+over ss vs = flat_map (λ w. map (λ ws. w ∷ ws) (product (map steps_values ss))) vs
+
+-- the combinations begin with the first values
+pub product-first : (ss : List Progression) → HaveFirst ss → product (map steps_values ss) ≡ first_values ss ∷ product_after ss (first_values ss)
+unfolding over
+product-first [] h = refl
+product-first (s ∷ ss) h =
+    ap (over ss) (values_in s.hi s.step s.lo h.0)
+    ∙ ap (λ (l : List (List ℤ)). map (λ ws. s.lo ∷ ws) l ++ over ss (values (s.lo +ℤ s.step) s.hi s.step)) (product-first ss h.1)
+
+-- no combination comes after the last
+pub product_after-none : (ss : List Progression) (vs : List ℤ) → has_next ss vs ≡ false → product_after ss vs ≡ []
+unfolding over
+product_after-none [] vs h = refl
+product_after-none (s ∷ ss) [] h = refl
+product_after-none (s ∷ ss) (v ∷ vs) h =
+    ap (λ (l : List (List ℤ)). map (λ ws. v ∷ ws) l ++ over ss (values (v +ℤ s.step) s.hi s.step)) (product_after-none ss vs (or_left _ _ h))
+    ∙ ap (over ss) (values_past s.hi s.step (v +ℤ s.step) (or_neither (has_next ss vs) _ h))
+
+-- the one after another, and those after that
+pub product_after-next : (ss : List Progression) (vs : List ℤ) → HaveFirst ss → has_next ss vs ≡ true → product_after ss vs ≡ next_of ss vs ∷ product_after ss (next_of ss vs)
+unfolding over
+product_after-next [] vs f h = absurd (false≢true h)
+product_after-next (s ∷ ss) [] f h = absurd (false≢true h)
+product_after-next (s ∷ ss) (v ∷ vs) f h =
+    by_test (has_next ss vs)
+    (λ k. rw k (ap (λ (l : List (List ℤ)). map (λ ws. v ∷ ws) l ++ over ss (values (v +ℤ s.step) s.hi s.step)) (product_after-next ss vs f.1 k)))
+    (λ k. rw k (
+    ap (λ (l : List (List ℤ)). map (λ ws. v ∷ ws) l ++ over ss (values (v +ℤ s.step) s.hi s.step)) (product_after-none ss vs k)
+    ∙ ap (over ss) (values_in s.hi s.step (v +ℤ s.step) (or_right _ _ k h))
+    ∙ ap (λ (l : List (List ℤ)). map (λ ws. (v +ℤ s.step) ∷ ws) l ++ over ss (values ((v +ℤ s.step) +ℤ s.step) s.hi s.step)) (product-first ss f.1)))
+
+pub HasOneEach-first : (ss : List Progression) → HasOneEach ss (first_values ss)
+HasOneEach-first [] = tt
+HasOneEach-first (s ∷ ss) = HasOneEach-first ss
+
+pub HasOneEach-next : (ss : List Progression) (vs : List ℤ) → HasOneEach ss vs → HasOneEach ss (next_of ss vs)
+HasOneEach-next [] vs w = tt
+HasOneEach-next (s ∷ ss) [] w = absurd w
+HasOneEach-next (s ∷ ss) (v ∷ vs) w =
+    by_test (has_next ss vs)
+    (λ k. rw k (HasOneEach-next ss vs w))
+    (λ k. rw k (HasOneEach-first ss))
+
+-- this combination and those left where another comes after it, and where none does
+pub left-next : (ss : List Progression) (at new : List ℤ) → HaveFirst ss → has_next ss at ≡ true → new ≡ next_of ss at → combinations_left true ss at ≡ at ∷ combinations_left true ss new
+left-next ss at new f h e = rw e (ap (λ l. at ∷ l) (product_after-next ss at f h))
+
+pub left-last : (ss : List Progression) (at new : List ℤ) → has_next ss at ≡ false → combinations_left true ss at ≡ at ∷ combinations_left false ss new
+left-last ss at new h = ap (λ l. at ∷ l) (product_after-none ss at h)
+
+-- what does not fit 64 bits is past an end that does
+pub unfit_past : (v hi step : ℤ) → FitsSigned w64 v → FitsSigned w64 hi → (FitsSigned w64 (v +ℤ step) → ⊥) → is_within hi step (v +ℤ step) ≡ false
+unfit_past v hi step f g not_fit =
+    by_test (is_within hi step (v +ℤ step))
+    (λ w. let a = values_unfit v hi step f g not_fit in let b = values_in hi step (v +ℤ step) w in absurd cc)
+    (λ w. w)
+
+-- an expression as a progression of one value
+pub one_value : (r : Result ℤ SpanFault) (o : Option Steps) → MatchOption o (IsErr r) (λ s. (r ≡ Ok s.lo) × (s.hi ≡ s.lo) × (s.step ≡ pos 1)) →
+    MatchOption o (is_ok (and_then r (λ z. Ok (z ∷ []))) ≡ false) (λ s. and_then r (λ z. Ok (z ∷ [])) ≡ Ok (values s.lo s.hi s.step))
+one_value (Ok z) None h = absurd (false≢true h)
+one_value (Err f) None h = refl
+one_value r (Some s) h =
+    rw (h.0, h.1, h.2) (ap Ok (sym (values-one s.lo)))
+
+-- where progressions were added to none, these are all
+pub all_added : (lists : List (List ℤ)) (new : List Progression) → AddsSteps lists [] new → (map steps_values new ≡ lists) × HaveFirst new
+all_added lists new w = (ap (map steps_values) w.extends ∙ w.same_values, rw w.extends w.have_first)

@@ -1,0 +1,70 @@
+-- Which dependences of a task hold, and where they lead. Source: DAGuE (Parallel Computing, 2012) and PaRSEC (2013): of a data flow's in dependences the first that holds is active; of its out dependences, and of a CTL flow's dependences, all that hold.
+use Rattle.std.specs.Prelude.{ℕ, suc, ℤ, List, [], ◌∷◌, ◌++◌, map, Bool, true, false, Option, Some, None, Result, Ok}
+use Rattle.std.specs.Result.{result_unwrap_or}
+use Rattle.ptg_base.specs.Task.{Task}
+use Rattle.term_core.specs.Term.{Term}
+use Rattle.term_core.specs.Arith.{holds}
+use Rattle.term_core.specs.Value.{value, and_then}
+use Rattle.term_core.specs.declared.fault.ExprFault.{ExprFault}
+use Rattle.term_core.specs.declared.flow.FlowKind.{FlowKind}
+use Rattle.term_core.specs.declared.flow.FlowKind.TheVariants.{Read, Write, Rw, Ctl}
+use Rattle.plan_core.specs.declared.flow.DepPlan.{DepPlan}
+use Rattle.plan_core.specs.declared.flow.FlowPlan.{FlowPlan}
+use Rattle.plan_core.specs.declared.plan.Plan.{Plan}
+use Rattle.plan_core.specs.declared.target.Target.{Target}
+use Rattle.dep_iter.specs.Tasks.{locals_of, flows_of}
+
+-- whether a guard holds under these locals, which is where it is not 0, or its fault; without a guard a dependence always holds
+abbrev pub guard_value : Option Term → List ℤ → Result Bool ExprFault
+guard_value None env = Ok true
+guard_value (Some c) env = and_then (value c env) (λ v. Ok (holds v))
+
+-- where a dependence leads whose guard holds, and where one leads whose guard does not
+abbrev pub target_by : DepPlan → Bool → Option Target
+target_by d true = Some d.yes
+target_by d false = d.no
+
+-- the target of a dependence under these locals, None where it does not hold, or the fault of its guard
+abbrev pub active_target : DepPlan → List ℤ → Result (Option Target) ExprFault
+active_target d env = and_then (guard_value d.guard env) (λ b. Ok (target_by d b))
+
+-- the same, where a dependence whose guard has a fault does not hold. The guards that a well task needs have none
+abbrev pub held_target : DepPlan → List ℤ → Option Target
+held_target d env = result_unwrap_or (active_target d env) None
+
+-- a target that is active, and the later ones; where the first alone counts, no later one
+abbrev pub held_then : Bool → Option Target → List Target → List Target
+held_then first_only None later = later
+held_then true (Some x) later = x ∷ []
+held_then false (Some x) later = x ∷ later
+
+-- the targets of these dependences that hold, in order; where the first alone counts, that of the first that holds
+abbrev pub held_targets : Bool → List DepPlan → List ℤ → List Target
+held_targets first_only [] env = []
+held_targets first_only (d ∷ ds) env = held_then first_only (held_target d env) (held_targets first_only ds env)
+
+-- whether of the in dependences of a flow of this kind the first that holds counts alone: not of a CTL flow
+abbrev pub takes_first : FlowKind → Bool
+takes_first Read = true
+takes_first Write = true
+takes_first Rw = true
+takes_first Ctl = false
+
+-- the targets of the active in dependences of a flow, and of its active out dependences
+abbrev pub flow_ins : List ℤ → FlowPlan → List Target
+flow_ins env f = held_targets (takes_first f.kind) f.ins env
+
+abbrev pub flow_outs : List ℤ → FlowPlan → List Target
+flow_outs env f = held_targets false f.outs env
+
+-- the targets of each of these flows, which are numbered from n on, with the number of their flow
+abbrev pub by_flow : (FlowPlan → List Target) → ℕ → List FlowPlan → List (ℕ × Target)
+by_flow targets n [] = []
+by_flow targets n (f ∷ fs) = map (λ x. (n, x)) (targets f) ++ by_flow targets (suc n) fs
+
+-- the targets of the active in dependences of a task, and of its active out dependences, by flow in the text's order
+abbrev pub active_ins : Plan → Task → List (ℕ × Target)
+active_ins P t = by_flow (flow_ins (locals_of P t)) 0 (flows_of P t)
+
+abbrev pub active_outs : Plan → Task → List (ℕ × Target)
+active_outs P t = by_flow (flow_outs (locals_of P t)) 0 (flows_of P t)

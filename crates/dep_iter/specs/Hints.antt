@@ -1,0 +1,23 @@
+-- Where a task would best run, and how urgent it is. Source: PaRSEC (2013) and the JDF documentation; both are hints.
+use Rattle.std.specs.Prelude.{ℕ, ℤ, pos, List, Option, Some, None, slice_get}
+use Rattle.std.specs.Option.{option_map_or}
+use Rattle.ptg_base.specs.Task.{Task}
+use Rattle.ptg_base.specs.declared.place.Place.{Place}
+use Rattle.term_core.specs.Term.{Term}
+use Rattle.plan_core.specs.declared.class.ClassPlan.{ClassPlan}
+use Rattle.plan_core.specs.declared.plan.Plan.{Plan}
+use Rattle.dep_iter.specs.Tasks.{locals_of}
+use Rattle.dep_iter.specs.Arguments.{place_at, place_of, value_or_zero}
+
+-- the place of the affinity of a task
+unfoldable pub affinity : Plan → Task → Place
+affinity P t = option_map_or (λ (c : ClassPlan). place_of c.affinity.0 c.affinity.1 (locals_of P t)) (slice_get P.classes t.class) (record { coll = 0; i = pos 0; j = pos 0 })
+
+-- the value of a priority, 0 where none is written
+abbrev pub priority_value : List ℤ → Option Term → ℤ
+priority_value env None = pos 0
+priority_value env (Some e) = value_or_zero env e
+
+-- the priority of a task
+unfoldable pub priority : Plan → Task → ℤ
+priority P t = option_map_or (λ (c : ClassPlan). priority_value (locals_of P t) c.priority) (slice_get P.classes t.class) (pos 0)

@@ -1,0 +1,11 @@
+pub mod Tasks
+pub mod Active
+pub mod Arguments
+pub mod Edges
+pub mod Items
+pub mod Hints
+pub mod Well
+pub mod Consistent
+pub mod Combining
+pub mod Links
+pub mod Walking

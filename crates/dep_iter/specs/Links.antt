@@ -1,0 +1,66 @@
+-- The edges of a task seen from the task: the tasks at the other ends. A link is an edge in without the task that it goes into, or an edge out without the task that it comes from.
+use Rattle.std.specs.Prelude.{ℕ, ℤ, List, [], ◌∷◌, ◌++◌, map, flat_map, Bool, true, false, Option, Some, None, ◌&&◌, ◌==◌, is_some, length, slice_get}
+use Rattle.std.specs.List.{list_all}
+use Rattle.std.specs.Option.{option_map_or}
+use Rattle.ptg_base.specs.Task.{Task}
+use Rattle.ptg_base.specs.declared.edge.Edge.{Edge}
+use Rattle.plan_core.specs.declared.flow.DepPlan.{DepPlan}
+use Rattle.plan_core.specs.declared.flow.FlowPlan.{FlowPlan}
+use Rattle.plan_core.specs.declared.plan.Plan.{Plan}
+use Rattle.plan_core.specs.declared.target.Target.{Target}
+use Rattle.plan_core.specs.declared.target.Target.TheVariants as target
+use Rattle.plan_core.specs.Kinds.{flow_of}
+use Rattle.plan_core.specs.Targets.{has_params}
+use Rattle.dep_iter.specs.declared.link.Link.{Link}
+use Rattle.dep_iter.specs.Tasks.{flows_of, locals_of, task}
+use Rattle.dep_iter.specs.Active.{by_flow, flow_ins, flow_outs, held_targets}
+use Rattle.dep_iter.specs.Arguments.{combinations}
+use Rattle.dep_iter.specs.Edges.{edge}
+
+-- the link of flow n with a flow of the task of this class with these parameters
+abbrev pub link : ℕ → ℕ → ℕ → List ℤ → Link
+link n class flow params = record { near = n; far = task class params; far_flow = flow }
+
+-- the links of flow n that a target stands for
+abbrev pub links_to : List ℤ → ℕ → Target → List Link
+links_to env n (target.Task class flow args) = map (link n class flow) (combinations args env)
+links_to env n (target.Element coll indices) = []
+links_to env n target.New = []
+links_to env n target.Null = []
+
+-- the links that these targets of flows stand for
+abbrev pub all_links : List ℤ → List (ℕ × Target) → List Link
+all_links env targets = flat_map (λ a. links_to env a.0 a.1) targets
+
+-- a link of the task t as an edge into it, and as an edge out of it
+abbrev pub edge_in : Task → Link → Edge
+edge_in t l = edge l.far l.far_flow t l.near
+
+abbrev pub edge_out : Task → Link → Edge
+edge_out t l = edge t l.near l.far l.far_flow
+
+-- the targets of a flow's active dependences: its in dependences where `inward` is true, else its out dependences
+abbrev pub flow_targets : Bool → List ℤ → FlowPlan → List Target
+flow_targets true env f = flow_ins env f
+flow_targets false env f = flow_outs env f
+
+-- whether a target names a flow of a class and has as many arguments as the class has parameters, if it names a task
+abbrev pub fits : Plan → Target → Bool
+fits P (target.Task class flow args) = is_some (flow_of P.classes class flow) && has_params P.spaces class (length args)
+fits P (target.Element coll indices) = true
+fits P target.New = true
+fits P target.Null = true
+
+-- whether the targets of a dependence do, of these dependences, and of these flows
+abbrev pub dependence_fits : Plan → DepPlan → Bool
+dependence_fits P d = fits P d.yes && option_map_or (fits P) d.no true
+
+abbrev pub dependences_fit : Plan → List DepPlan → Bool
+dependences_fit P ds = list_all (dependence_fits P) ds
+
+abbrev pub flows_fit : Plan → List FlowPlan → Bool
+flows_fit P fs = list_all (λ (f : FlowPlan). dependences_fit P f.ins && dependences_fit P f.outs) fs
+
+-- all links of a task: inward those of its in dependences, else those of its out dependences
+abbrev pub task_links : Plan → Task → Bool → List Link
+task_links P t inward = all_links (locals_of P t) (by_flow (flow_targets inward (locals_of P t)) 0 (flows_of P t))

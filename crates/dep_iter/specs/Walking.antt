@@ -1,0 +1,30 @@
+-- A walk over the active targets of a task: what it has left at a position.
+use Rattle.std.specs.Prelude.{ℕ, ℤ, List, [], ◌∷◌, ◌++◌, flat_map, map, Bool, ◌&&◌}
+use Rattle.plan_core.specs.declared.plan.Plan.{Plan}
+use Rattle.plan_core.specs.declared.target.Target.{Target}
+use Rattle.dep_iter.specs.declared.position.Position.{Position}
+use Rattle.plan_core.specs.declared.target.Target.TheVariants as target
+use Rattle.ptg_base.specs.Task.{Task}
+use Rattle.ptg_base.specs.declared.edge.WriteBack.{WriteBack}
+use Rattle.dep_iter.specs.Arguments.{place_of}
+use Rattle.dep_iter.specs.Active.{by_flow, held_targets}
+use Rattle.dep_iter.specs.Links.{dependences_fit, flow_targets, flows_fit}
+
+-- the targets left: those of the dependences left of the flow at hand, and those of the flows after it
+abbrev pub targets_left : Bool → List ℤ → Position → List (ℕ × Target)
+targets_left inward env p = map (λ x. (p.flow, x)) (held_targets p.first_only p.deps.now env) ++ by_flow (flow_targets inward env) p.next_flow p.flows.now
+
+-- whether the targets of all dependences left fit the plan
+abbrev pub position_fits : Plan → Position → Bool
+position_fits P p = dependences_fit P p.deps.now && flows_fit P p.flows.now
+
+-- the write-backs of flow n of a task that a target stands for
+abbrev pub writes_to : Task → List ℤ → ℕ → Target → List WriteBack
+writes_to t env n (target.Task class flow args) = []
+writes_to t env n (target.Element coll indices) = record { from = t; flow = n; place = place_of coll indices env } ∷ []
+writes_to t env n target.New = []
+writes_to t env n target.Null = []
+
+-- the write-backs that these targets of flows stand for
+abbrev pub all_writes_to : Task → List ℤ → List (ℕ × Target) → List WriteBack
+all_writes_to t env targets = flat_map (λ a. writes_to t env a.0 a.1) targets

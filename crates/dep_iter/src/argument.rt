@@ -1,0 +1,66 @@
+//! The values of arguments.
+
+ghost use Rattle.std.specs.Prelude.{◌≡◌, ◌↔◌, IsTrue, pos, [], Ok, IsErr, MatchOption, false, is_ok};
+ghost use Rattle.ptg_base.specs.Lists.{IsIn};
+ghost use Rattle.range_space.specs.Fault.{number};
+ghost use Rattle.range_space.specs.Tasks.{or_empty};
+ghost use Rattle.range_space.specs.Values.{values};
+ghost use Rattle.dep_iter.specs.Arguments as arguments;
+ghost use Rattle.dep_iter.specs.Combining.{steps_values, HasFirst};
+
+use crate::progression::{Progression, within};
+use plan_core::Arg;
+use range_space::{Steps, steps_of};
+use term_core::{Expr, eval};
+
+// The value of an expression as a progression of one value.
+fn single_steps(e: &Expr, env: &[i64]) -> Option<Steps>
+    ensures { MatchOption result (IsErr (number e.now env.now)) (λ s. (number e.now env.now ≡ Ok s.lo) × (s.hi ≡ s.lo) × (s.step ≡ pos 1)) }
+{
+    match eval(e, env) {
+        Ok(z) => Some(Steps {
+            lo: z,
+            hi: z,
+            step: 1,
+        }),
+        Err(_) => None,
+    }
+}
+
+/// The progression of the values of an argument under these locals, or None where it has a fault.
+pub fn arg_steps(arg: &Arg, env: &[i64]) -> Option<Steps>
+    ensures { MatchOption result (is_ok (arguments.arg_values arg.now env.now) ≡ false) (λ s. arguments.arg_values arg.now env.now ≡ Ok (values s.lo s.hi s.step)) }
+{
+    match arg {
+        Arg::One(e) => single_steps(e, env),
+        Arg::Span(range) => match steps_of(range, env) {
+            Ok(steps) => Some(steps),
+            Err(_) => None,
+        },
+    }
+}
+
+// The progression of an argument, or None where it has no value.
+pub(crate) fn nonempty(arg: &Arg, env: &[i64]) -> Option<Progression>
+    ensures { MatchOption result (or_empty (arguments.arg_values arg.now env.now) ≡ []) (λ s. (or_empty (arguments.arg_values arg.now env.now) ≡ steps_values s) × HasFirst s) }
+{
+    let steps = arg_steps(arg, env)?;
+    if !within(steps.hi, steps.step, steps.lo) {
+        return None;
+    }
+    Some(Progression {
+        lo: steps.lo,
+        hi: steps.hi,
+        step: steps.step,
+    })
+}
+
+// Whether a number is one of the values of an argument.
+pub(crate) fn has_value(arg: &Arg, env: &[i64], v: i64) -> bool
+    ensures { IsTrue result ↔ IsIn v (or_empty (arguments.arg_values arg.now env.now)) }
+{
+    match arg_steps(arg, env) {
+        Some(steps) => steps.has(v),
+        None => false,
+    }
+}

@@ -1,0 +1,111 @@
+//! The edges of a task, one after another.
+
+ghost use Rattle.std.specs.Prelude.{◌≡◌};
+ghost use Rattle.std.specs.Iterator.{YieldsFirst, item_count};
+ghost use Rattle.dep_iter.specs.Tasks.{IsTask};
+ghost use Rattle.dep_iter.specs.Edges as edges;
+ghost use Rattle.dep_iter.specs.Items as items;
+
+use crate::links::Links;
+use plan_core::Plan;
+use ptg_base::{Edge, TaskId};
+use std::marker::Model;
+
+// A copy of a task.
+pub(crate) fn copy_of(t: &TaskId) -> TaskId
+    ensures { result ≡ t.now }
+{
+    TaskId::new(t.class(), t.params())
+}
+
+/// An iterator over the edges into a task. Contracts see it as the list of those not yet given. It takes no memory.
+#[derive(Debug, Drop)]
+pub struct InEdges<'a> {
+    task: TaskId,
+    links: Links<'a>,
+}
+
+impl<'a> Model for InEdges<'a> {
+    ghost use Rattle.std.specs.Prelude.{List, map};
+    ghost use Rattle.ptg_base.specs.declared.edge.Edge.{Edge};
+    ghost use Rattle.dep_iter.specs.Links.{edge_in};
+
+    ghost Value = { List Edge };
+
+    ghost view = { λ e. map (edge_in e.task) e.links };
+}
+
+/// The edges into a task, by flow in the text's order; of a gather, the first argument outermost. They are evaluated as they are asked for.
+pub fn in_edges<'a>(plan: &'a Plan, t: &TaskId) -> InEdges<'a>
+    requires { IsTask plan.now t.now }
+    ensures { result ≡ edges.in_edges plan.now t.now }
+{
+    InEdges {
+        task: copy_of(t),
+        links: Links::new(plan, t, true),
+    }
+}
+
+impl Iterator for InEdges<'_> {
+    type Item = Edge;
+
+    ghost next_gives = { YieldsFirst (λ left. left) };
+
+    ghost remaining = { item_count (λ left. left) };
+
+    fn next(&mut self) -> Option<Edge> {
+        let link = self.links.next()?;
+        Some(Edge {
+            from: link.far,
+            out_flow: link.far_flow,
+            to: copy_of(&self.task),
+            in_flow: link.near,
+        })
+    }
+}
+
+/// An iterator over the edges out of a task. Contracts see it as the list of those not yet given. It takes no memory.
+#[derive(Debug, Drop)]
+pub struct OutEdges<'a> {
+    task: TaskId,
+    links: Links<'a>,
+}
+
+impl<'a> Model for OutEdges<'a> {
+    ghost use Rattle.std.specs.Prelude.{List, map};
+    ghost use Rattle.ptg_base.specs.declared.edge.Edge.{Edge};
+    ghost use Rattle.dep_iter.specs.Links.{edge_out};
+
+    ghost Value = { List Edge };
+
+    ghost view = { λ e. map (edge_out e.task) e.links };
+}
+
+/// The edges out of a task, by flow and dependence in the text's order; of a broadcast, the first argument outermost. They are evaluated as they are asked for.
+pub fn out_edges<'a>(plan: &'a Plan, t: &TaskId) -> OutEdges<'a>
+    requires { IsTask plan.now t.now }
+    ensures { result ≡ items.out_edges plan.now t.now }
+{
+    OutEdges {
+        task: copy_of(t),
+        links: Links::new(plan, t, false),
+    }
+}
+
+impl Iterator for OutEdges<'_> {
+    type Item = Edge;
+
+    ghost next_gives = { YieldsFirst (λ left. left) };
+
+    ghost remaining = { item_count (λ left. left) };
+
+    fn next(&mut self) -> Option<Edge> {
+        let link = self.links.next()?;
+        Some(Edge {
+            from: copy_of(&self.task),
+            out_flow: link.near,
+            to: link.far,
+            in_flow: link.far_flow,
+        })
+    }
+}

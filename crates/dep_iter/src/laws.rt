@@ -1,0 +1,37 @@
+//! Laws of tasks and edges.
+
+ghost use Rattle.std.specs.Prelude.{◌≡◌, ◌≤◌, ◌↔◌, true, false, ℕ, ℤ, List, filter_map, length, map};
+ghost use Rattle.ptg_base.specs.Lists.{HasNoRepeats, IsIn};
+ghost use Rattle.ptg_base.specs.Task.{Task};
+ghost use Rattle.range_space.specs.Walk.{task_total};
+ghost use Rattle.plan_core.specs.declared.plan.Plan.{Plan};
+ghost use Rattle.plan_core.specs.declared.target.Target.{Target};
+ghost use Rattle.dep_iter.specs.Tasks.{IsTask, all_tasks};
+ghost use Rattle.dep_iter.specs.Links.{edge_in, edge_out, task_links};
+ghost use Rattle.dep_iter.specs.Edges as edges;
+ghost use Rattle.dep_iter.specs.Items as items;
+ghost use Rattle.dep_iter.specs.Consistent as consistent;
+
+/// A law: the list of all tasks has the tasks of the job, as many as its classes have.
+pub fn all_tasks_are_listed()
+    ensures members { (P : Plan) (t : Task) → IsTask P t ↔ IsIn t (all_tasks P) }
+    ensures count { (P : Plan) → length (all_tasks P) ≡ task_total P.spaces }
+{}
+
+/// A law: a task has no more edges and items than the job.
+pub fn a_task_has_no_more_edges_than_the_job()
+    ensures ins { (P : Plan) (t : Task) → IsTask P t → length (edges.in_edges P t) ≤ length (consistent.all_in P) }
+    ensures outs { (P : Plan) (t : Task) → IsTask P t → length (items.out_edges P t) ≤ length (consistent.all_out P) }
+{}
+
+/// A law: the edges of a task are its links, of its in dependences and of its out dependences.
+pub fn edges_are_links()
+    ensures ins { (P : Plan) (t : Task) → map (edge_in t) (task_links P t true) ≡ edges.in_edges P t }
+    ensures outs { (P : Plan) (t : Task) → map (edge_out t) (task_links P t false) ≡ items.out_edges P t }
+{}
+
+/// A law: within one dependence no edge occurs twice, inward and outward.
+pub fn edges_of_a_dependence_differ()
+    ensures ins { (t : Task) (env : List ℤ) (n : ℕ) (x : Target) → HasNoRepeats (edges.edges_into t env n x) }
+    ensures outs { (t : Task) (env : List ℤ) (n : ℕ) (x : Target) → HasNoRepeats (filter_map items.edge_of (items.items_to t env n x)) }
+{}

@@ -1,0 +1,164 @@
+//! The links of a task, one after another.
+
+ghost use Rattle.std.specs.Prelude.{◌≡◌, ◌+◌, ◌≤◌, [], ◌∷◌, ◌++◌, length, map, IsTrue, List};
+ghost use Rattle.std.specs.Iterator.{YieldsFirst};
+ghost use Rattle.dep_iter.specs.Links.{all_links, fits, links_to, task_links};
+ghost use Rattle.dep_iter.specs.Tasks.{IsTask};
+ghost use Rattle.dep_iter.specs.declared.link.Link.{Link as LinkValue};
+ghost use Rattle.dep_iter.specs.Arguments.{combinations};
+ghost use Rattle.dep_iter.specs.Walking.{position_fits, targets_left};
+ghost use Rattle.plan_core.specs.declared.target.Target.TheVariants.{Task};
+
+use crate::combining::Combinations;
+use crate::link::Link;
+use crate::position::{Position, next_target, start};
+use crate::task::{flows_of, locals_of};
+use plan_core::{Arg, Plan, Target};
+use ptg_base::TaskId;
+use range_space::Numbers;
+use std::marker::Model;
+
+/// The links of one target that are not yet given.
+#[derive(Debug, Drop)]
+pub(crate) struct TargetLinks {
+    near: u8,
+    class: u32,
+    far_flow: u8,
+    params: Combinations,
+}
+
+impl Model for TargetLinks {
+    ghost use Rattle.std.specs.Prelude.{List, map};
+    ghost use Rattle.dep_iter.specs.declared.link.Link.{Link};
+    ghost use Rattle.dep_iter.specs.Links.{link};
+
+    ghost Value = { List Link };
+
+    ghost view = { λ t. map (link t.near t.class t.far_flow) t.params };
+}
+
+// So many arguments as the class has parameters are at most eight.
+pub(crate) fn arguments_at_most(plan: &Plan, class: u32, flow: u8, args: &[Arg])
+    requires { IsTrue (fits plan.now (Task class flow args.now)) }
+    ensures { length args.now ≤ 8 }
+{
+    let _ = plan.space(class).params.as_slice();
+}
+
+impl TargetLinks {
+    // No links.
+    fn none() -> TargetLinks
+        ensures { result ≡ [] }
+    {
+        TargetLinks {
+            near: 0,
+            class: 0,
+            far_flow: 0,
+            params: Combinations::none(),
+        }
+    }
+
+    // The links of this flow that a target stands for.
+    fn new(plan: &Plan, near: u8, target: &Target, env: &[i64]) -> TargetLinks
+        requires { IsTrue (fits plan.now target.now) }
+        ensures { result ≡ links_to env.now near target.now }
+    {
+        let Target::Task(class, far_flow, args) = target else {
+            return TargetLinks::none();
+        };
+        arguments_at_most(plan, *class, *far_flow, args.as_slice());
+        TargetLinks {
+            near,
+            class: *class,
+            far_flow: *far_flow,
+            params: Combinations::new(args.as_slice(), env),
+        }
+    }
+
+    fn next(&mut self) -> Option<Link>
+        ensures { YieldsFirst (λ left. left) self.old result self.new }
+    {
+        let params = self.params.next()?;
+        Some(Link {
+            near: self.near,
+            far: TaskId::new(self.class, params.as_slice()),
+            far_flow: self.far_flow,
+        })
+    }
+}
+
+// The next link of a walk under these locals: of those left of the target at hand, or of the targets after it.
+fn next_link<'a>(
+    plan: &Plan,
+    inward: bool,
+    env: &[i64],
+    p: &mut Position<'a>,
+    at_hand: &mut TargetLinks,
+) -> Option<Link>
+    requires room { p.old.next_flow + length p.old.flows.now ≤ 8 }
+    requires fit { IsTrue (position_fits plan.now p.old) }
+    ensures found { YieldsFirst (λ (left : List LinkValue). left) (at_hand.old ++ all_links env.now (targets_left inward env.now p.old)) result (at_hand.new ++ all_links env.now (targets_left inward env.now p.new)) }
+    ensures room { p.new.next_flow + length p.new.flows.now ≤ 8 }
+    ensures fit { IsTrue (position_fits plan.now p.new) }
+{
+    if let Some(link) = at_hand.next() {
+        return Some(link);
+    }
+    let (target, later) = next_target(inward, env, *p)?;
+    *at_hand = TargetLinks::new(plan, later.flow, target, env);
+    *p = later;
+    next_link(plan, inward, env, p, at_hand)
+}
+
+/// The links of a task that are not yet given, of its in dependences or of its out dependences. It takes no memory.
+#[derive(Debug, Drop)]
+pub(crate) struct Links<'a> {
+    plan: &'a Plan,
+    inward: bool,
+    env: Numbers<16>,
+    position: Position<'a>,
+    at_hand: TargetLinks,
+}
+
+impl<'a> Model for Links<'a> {
+    ghost use Rattle.std.specs.Prelude.{◌+◌, ◌≤◌, ◌++◌, IsTrue, List, length};
+    ghost use Rattle.dep_iter.specs.declared.link.Link.{Link};
+    ghost use Rattle.dep_iter.specs.Links.{all_links};
+    ghost use Rattle.dep_iter.specs.Walking.{position_fits, targets_left};
+
+    ghost Value = { List Link };
+
+    ghost view = { λ l. l.at_hand ++ all_links l.env (targets_left l.inward l.env l.position) };
+
+    ghost invariant = { λ l. (l.position.next_flow + length l.position.flows.now ≤ 8) × IsTrue (position_fits l.plan.now l.position) };
+}
+
+impl<'a> Links<'a> {
+    // All links of a task.
+    pub(crate) fn new(plan: &'a Plan, t: &TaskId, inward: bool) -> Links<'a>
+        requires { IsTask plan.now t.now }
+        ensures { result ≡ task_links plan.now t.now inward }
+    {
+        let flows = flows_of(plan, t);
+        Links {
+            plan,
+            inward,
+            env: locals_of(plan, t),
+            position: start(flows),
+            at_hand: TargetLinks::none(),
+        }
+    }
+
+    pub(crate) fn next(&mut self) -> Option<Link>
+        ensures { YieldsFirst (λ left. left) self.old result self.new }
+    {
+        let env = self.env.as_slice();
+        next_link(
+            self.plan,
+            self.inward,
+            env,
+            &mut self.position,
+            &mut self.at_hand,
+        )
+    }
+}

@@ -1,0 +1,112 @@
+//! A walk over the active targets of a task, from one to the next.
+
+ghost use Rattle.std.specs.Prelude.{Bool, ◌≡◌, ◌+◌, ◌<◌, ◌≤◌, [], ◌∷◌, ℤ, List, length, IfSome, IsTrue, MatchOption, ◌&&◌};
+ghost use Rattle.plan_core.specs.declared.plan.Plan.{Plan};
+ghost use Rattle.dep_iter.specs.Active as active;
+ghost use Rattle.dep_iter.specs.Active.{by_flow, held_targets};
+ghost use Rattle.dep_iter.specs.Links.{dependences_fit, fits, flow_targets, flows_fit};
+ghost use Rattle.dep_iter.specs.Walking.{position_fits, targets_left};
+
+use crate::guard::held_target;
+use plan_core::{DepPlan, FlowPlan, Target};
+use term_core::FlowKind;
+
+/// Where a walk over the active targets of a task stands.
+#[derive(Clone, Copy, Debug)]
+pub struct Position<'a> {
+    /// The number of the flow at hand.
+    pub flow: u8,
+    /// Whether of its dependences the first that holds counts alone.
+    pub first_only: bool,
+    /// Its dependences that are left.
+    pub deps: &'a [DepPlan],
+    /// The number of the flow after it.
+    pub next_flow: u8,
+    /// The flows after it.
+    pub flows: &'a [FlowPlan],
+}
+
+// The start of a walk over these flows.
+pub(crate) fn start<'a>(flows: &'a [FlowPlan]) -> Position<'a>
+    requires { length flows.now ≤ 8 }
+    ensures targets { (inward : Bool) (env : List ℤ) → targets_left inward env result ≡ by_flow (flow_targets inward env) 0 flows.now }
+    ensures room { result.next_flow + length result.flows.now ≤ 8 }
+    ensures fits { (P : Plan) → IsTrue (flows_fit P flows.now) → IsTrue (position_fits P result) }
+{
+    Position {
+        flow: 0,
+        first_only: false,
+        deps: &[],
+        next_flow: 0,
+        flows,
+    }
+}
+
+/// Whether of the in dependences of a flow of this kind the first that holds counts alone.
+pub fn takes_first(kind: FlowKind) -> bool
+    ensures { result ≡ active.takes_first kind }
+{
+    match kind {
+        FlowKind::Read => true,
+        FlowKind::Write => true,
+        FlowKind::Rw => true,
+        FlowKind::Ctl => false,
+    }
+}
+
+// The target of the first of these dependences that holds, and the dependences after it that count.
+pub(crate) fn next_held<'a>(
+    first_only: bool,
+    deps: &'a [DepPlan],
+    env: &[i64],
+) -> Option<(&'a Target, &'a [DepPlan])>
+    ensures found { MatchOption result (held_targets first_only deps.now env.now ≡ []) (λ r. held_targets first_only deps.now env.now ≡ r.0.now ∷ held_targets first_only r.1.now env.now) }
+    ensures fits { (P : Plan) → IsTrue (dependences_fit P deps.now) → IfSome result (λ r. IsTrue (fits P r.0.now) × IsTrue (dependences_fit P r.1.now)) }
+{
+    let (d, later) = deps.split_first()?;
+    match held_target(d, env) {
+        Some(target) => Some((target, if first_only { &later[..0] } else { later })),
+        None => next_held(first_only, later, env),
+    }
+}
+
+// The walk where it enters a flow, with the flows after it.
+fn enter<'a>(inward: bool, flow: &'a FlowPlan, number: u8, others: &'a [FlowPlan]) -> Position<'a>
+    requires { number < 8 }
+    ensures flow { result.flow ≡ number }
+    ensures next { result.next_flow ≡ number + 1 }
+    ensures flows { result.flows.now ≡ others.now }
+    ensures targets { (env : List ℤ) → held_targets result.first_only result.deps.now env ≡ flow_targets inward env flow.now }
+    ensures fits { (P : Plan) → IsTrue (dependences_fit P flow.now.ins && dependences_fit P flow.now.outs) → IsTrue (dependences_fit P result.deps.now) }
+{
+    let deps = if inward {
+        flow.ins.as_slice()
+    } else {
+        flow.outs.as_slice()
+    };
+    Position {
+        flow: number,
+        first_only: inward && takes_first(flow.kind),
+        deps,
+        next_flow: number + 1,
+        flows: others,
+    }
+}
+
+// The next active target of a walk, inward or outward, under these locals, and where the walk stands after it.
+pub(crate) fn next_target<'a>(
+    inward: bool,
+    env: &[i64],
+    p: Position<'a>,
+) -> Option<(&'a Target, Position<'a>)>
+    requires { p.next_flow + length p.flows.now ≤ 8 }
+    ensures found { MatchOption result (targets_left inward env.now p.entry ≡ []) (λ r. targets_left inward env.now p.entry ≡ (r.1.flow, r.0.now) ∷ targets_left inward env.now r.1) }
+    ensures room { IfSome result (λ r. r.1.next_flow + length r.1.flows.now ≤ 8) }
+    ensures fits { (P : Plan) → IsTrue (position_fits P p.entry) → IfSome result (λ r. IsTrue (fits P r.0.now) × IsTrue (position_fits P r.1)) }
+{
+    if let Some((target, later)) = next_held(p.first_only, p.deps, env) {
+        return Some((target, Position { deps: later, ..p }));
+    }
+    let (flow, others) = p.flows.split_first()?;
+    next_target(inward, env, enter(inward, flow, p.next_flow, others))
+}

@@ -1,0 +1,56 @@
+//! Tasks of a plan, their locals and their flows.
+
+ghost use Rattle.std.specs.Prelude.{◌≡◌, ◌↔◌, ◌<◌, ◌≤◌, length, slice_get, Some, IsTrue};
+ghost use Rattle.term_core.specs.WellSpace.{IsWellSpace};
+ghost use Rattle.dep_iter.specs.Tasks as tasks;
+ghost use Rattle.dep_iter.specs.Tasks.{IsTask};
+ghost use Rattle.dep_iter.specs.Links.{flows_fit};
+
+use plan_core::{FlowPlan, Plan};
+use ptg_base::TaskId;
+use range_space::{Numbers, a_task_has_one_list_of_locals, in_space};
+use term_core::ClassSpace;
+
+// The space of a class.
+fn space_of(plan: &Plan, class: u32) -> &ClassSpace
+    requires { class < length plan.now.classes }
+    ensures space { slice_get plan.now.spaces class ≡ Some result.now }
+    ensures well { IsWellSpace result.now }
+{
+    let _ = plan.class(class);
+    plan.space(class)
+}
+
+/// Whether the job has this task: its class exists and has a task with these parameters.
+pub fn is_task(plan: &Plan, t: &TaskId) -> bool
+    ensures { IsTrue result ↔ IsTask plan.now t.now }
+{
+    if t.class() as usize >= plan.classes.len() {
+        return false;
+    }
+    let space = space_of(plan, t.class());
+    if space.params.as_slice().len() != t.params().len() {
+        return false;
+    }
+    in_space(space, t.params())
+}
+
+/// The locals of a task, under which all that its class says of it is evaluated.
+pub fn locals_of(plan: &Plan, t: &TaskId) -> Numbers<16>
+    requires { IsTask plan.now t.now }
+    ensures { result ≡ tasks.locals_of plan.now t.now }
+{
+    a_task_has_one_list_of_locals();
+    range_space::locals_of(space_of(plan, t.class()), t.params())
+}
+
+/// The flows of the class of a task.
+pub fn flows_of<'a>(plan: &'a Plan, t: &TaskId) -> &'a [FlowPlan]
+    requires { IsTask plan.now t.now }
+    ensures flows { result.now ≡ tasks.flows_of plan.now t.now }
+    ensures at_most { length result.now ≤ 8 }
+    ensures fit { IsTrue (flows_fit plan.now result.now) }
+{
+    let _ = plan.space(t.class());
+    plan.class(t.class()).flows.as_slice()
+}

@@ -1,0 +1,97 @@
+//! Where the tile of a data flow comes from.
+
+ghost use Rattle.std.specs.Prelude.{◌≡◌, ◌+◌, ◌≤◌, ◌++◌, length, map, IsTrue};
+ghost use Rattle.plan_core.specs.declared.target.Target.TheVariants.{Task};
+ghost use Rattle.dep_iter.specs.Active.{flow_ins};
+ghost use Rattle.dep_iter.specs.Arguments as arguments;
+ghost use Rattle.dep_iter.specs.Edges as edges;
+ghost use Rattle.dep_iter.specs.Links.{dependences_fit, fits};
+ghost use Rattle.dep_iter.specs.Tasks.{IsTask};
+
+use crate::edges::copy_of;
+use crate::links::arguments_at_most;
+use crate::place::{place_of, value_or_zero};
+use crate::position::{next_held, takes_first};
+use crate::source::Source;
+use crate::task::{flows_of, locals_of};
+use plan_core::{Arg, FlowPlan, Plan, Target};
+use ptg_base::{Edge, TaskId};
+use range_space::Numbers;
+
+// The value of an argument that is no range.
+fn single_value(env: &[i64], arg: &Arg) -> i64
+    ensures { result ≡ arguments.single_value env.now arg.now }
+{
+    match arg {
+        Arg::One(e) => value_or_zero(env, e),
+        Arg::Span(_) => 0,
+    }
+}
+
+// Adds the value of each of these arguments.
+fn push_single(args: &[Arg], env: &[i64], values: &mut Numbers<8>)
+    requires { length values.old + length args.now ≤ 8 }
+    ensures { values.new ≡ values.old ++ map (arguments.single_value env.now) args.now }
+{
+    let Some((arg, others)) = args.split_first() else {
+        return;
+    };
+    values.push(single_value(env, arg));
+    push_single(others, env, values);
+}
+
+// The task that these arguments name, none of which is a range.
+fn single_task(class: u32, args: &[Arg], env: &[i64]) -> TaskId
+    requires { length args.now ≤ 8 }
+    ensures { result ≡ record { class = class; params = map (arguments.single_value env.now) args.now } }
+{
+    let mut values = Numbers::new();
+    push_single(args, env, &mut values);
+    TaskId::new(class, values.as_slice())
+}
+
+// What the target of an in dependence of this flow is to a task.
+fn source_at(plan: &Plan, t: &TaskId, env: &[i64], flow: u8, target: &Target) -> Source
+    requires { IsTrue (fits plan.now target.now) }
+    ensures { result ≡ edges.source_at t.now env.now flow target.now }
+{
+    match target {
+        Target::Task(class, out_flow, args) => {
+            arguments_at_most(plan, *class, *out_flow, args.as_slice());
+            Source::Task(Edge {
+                from: single_task(*class, args.as_slice(), env),
+                out_flow: *out_flow,
+                to: copy_of(t),
+                in_flow: flow,
+            })
+        }
+        Target::Element(coll, indices) => Source::Place(place_of(*coll, indices.as_slice(), env)),
+        Target::New => Source::New,
+        Target::Null => Source::Null,
+    }
+}
+
+// Where the tile of this flow of a task comes from.
+fn flow_source(plan: &Plan, t: &TaskId, env: &[i64], number: u8, flow: &FlowPlan) -> Source
+    requires { IsTrue (dependences_fit plan.now flow.now.ins) }
+    ensures { result ≡ edges.source_among t.now env.now number (flow_ins env.now flow.now) }
+{
+    match next_held(takes_first(flow.kind), flow.ins.as_slice(), env) {
+        Some((target, _)) => source_at(plan, t, env, number, target),
+        None => Source::Nothing,
+    }
+}
+
+/// Where the tile of a data flow of a task comes from, by the first in dependence that holds: `Source::Nothing` exactly where none holds.
+pub fn data_source(plan: &Plan, t: &TaskId, flow: u8) -> Source
+    requires { IsTask plan.now t.now }
+    ensures { result ≡ edges.data_source plan.now t.now flow }
+{
+    let flows = flows_of(plan, t);
+    let number = flow as usize;
+    if number >= flows.len() {
+        return Source::Nothing;
+    }
+    let env = locals_of(plan, t);
+    flow_source(plan, t, env.as_slice(), flow, &flows[number])
+}

@@ -1,0 +1,79 @@
+//! The write-backs of a task, one after another.
+
+ghost use Rattle.std.specs.Prelude.{◌≡◌, ◌+◌, ◌≤◌, length, List, false};
+ghost use Rattle.std.specs.Iterator.{YieldsFirst, item_count};
+ghost use Rattle.ptg_base.specs.declared.edge.WriteBack.{WriteBack as WriteBackValue};
+ghost use Rattle.dep_iter.specs.Tasks.{IsTask};
+ghost use Rattle.dep_iter.specs.Items as items;
+ghost use Rattle.dep_iter.specs.Walking.{all_writes_to, targets_left};
+
+use crate::edges::copy_of;
+use crate::place::place_of;
+use crate::position::{Position, next_target, start};
+use crate::task::{flows_of, locals_of};
+use plan_core::{Plan, Target};
+use ptg_base::{TaskId, WriteBack};
+use range_space::Numbers;
+use std::marker::Model;
+
+/// An iterator over the write-backs of a task. Contracts see it as the list of those not yet given. It takes no memory.
+#[derive(Debug, Drop)]
+pub struct WriteBacks<'a> {
+    task: TaskId,
+    env: Numbers<16>,
+    position: Position<'a>,
+}
+
+impl<'a> Model for WriteBacks<'a> {
+    ghost use Rattle.std.specs.Prelude.{◌+◌, ◌≤◌, List, length, false};
+    ghost use Rattle.ptg_base.specs.declared.edge.WriteBack.{WriteBack};
+    ghost use Rattle.dep_iter.specs.Walking.{all_writes_to, targets_left};
+
+    ghost Value = { List WriteBack };
+
+    ghost view = { λ w. all_writes_to w.task w.env (targets_left false w.env w.position) };
+
+    ghost invariant = { λ w. w.position.next_flow + length w.position.flows.now ≤ 8 };
+}
+
+// The next write-back of a walk over the active out targets of a task, under its locals.
+fn next_write<'a>(t: &TaskId, env: &[i64], p: &mut Position<'a>) -> Option<WriteBack>
+    requires { p.old.next_flow + length p.old.flows.now ≤ 8 }
+    ensures found { YieldsFirst (λ (left : List WriteBackValue). left) (all_writes_to t.now env.now (targets_left false env.now p.old)) result (all_writes_to t.now env.now (targets_left false env.now p.new)) }
+    ensures room { p.new.next_flow + length p.new.flows.now ≤ 8 }
+{
+    let (target, later) = next_target(false, env, *p)?;
+    *p = later;
+    if let Target::Element(coll, indices) = target {
+        return Some(WriteBack {
+            from: copy_of(t),
+            flow: later.flow,
+            place: place_of(*coll, indices.as_slice(), env),
+        });
+    }
+    next_write(t, env, p)
+}
+
+/// The write-backs of a task, by flow and dependence in the text's order. They are evaluated as they are asked for.
+pub fn write_backs<'a>(plan: &'a Plan, t: &TaskId) -> WriteBacks<'a>
+    requires { IsTask plan.now t.now }
+    ensures { result ≡ items.write_backs plan.now t.now }
+{
+    WriteBacks {
+        task: copy_of(t),
+        env: locals_of(plan, t),
+        position: start(flows_of(plan, t)),
+    }
+}
+
+impl Iterator for WriteBacks<'_> {
+    type Item = WriteBack;
+
+    ghost next_gives = { YieldsFirst (λ left. left) };
+
+    ghost remaining = { item_count (λ left. left) };
+
+    fn next(&mut self) -> Option<WriteBack> {
+        next_write(&self.task, self.env.as_slice(), &mut self.position)
+    }
+}

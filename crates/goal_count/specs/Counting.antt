@@ -1,0 +1,23 @@
+-- How many edges go into a task, by its dependences: the product of the counts of the arguments for each target of a task.
+use Rattle.std.specs.Prelude.{ℕ, ℤ, List, Bool, length, sum_by}
+use Rattle.plan_core.specs.declared.flow.DepPlan.{DepPlan}
+use Rattle.plan_core.specs.declared.flow.FlowPlan.{FlowPlan}
+use Rattle.plan_core.specs.declared.target.Target.{Target}
+use Rattle.plan_core.specs.declared.target.Target.TheVariants as target
+use Rattle.dep_iter.specs.Active.{held_targets, takes_first}
+use Rattle.dep_iter.specs.Arguments.{combinations}
+
+-- how many edges a target stands for
+abbrev pub target_count : List ℤ → Target → ℕ
+target_count env (target.Task class flow args) = length (combinations args env)
+target_count env (target.Element coll indices) = 0
+target_count env target.New = 0
+target_count env target.Null = 0
+
+-- how many these dependences give
+abbrev pub held_count : Bool → List DepPlan → List ℤ → ℕ
+held_count first_only ds env = sum_by (target_count env) (held_targets first_only ds env)
+
+-- how many go into these flows
+abbrev pub flows_count : List ℤ → List FlowPlan → ℕ
+flows_count env fs = sum_by (λ (f : FlowPlan). held_count (takes_first f.kind) f.ins env) fs

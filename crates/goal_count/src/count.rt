@@ -1,0 +1,95 @@
+//! The number of edges into a task: 1 for each plain edge, and for a gather the product of the counts of its ranges.
+
+ghost use Rattle.std.specs.Prelude.{◌≡◌, ◌≤◌, length};
+ghost use Rattle.range_space.specs.Tasks.{or_empty};
+ghost use Rattle.dep_iter.specs.Arguments.{arg_values, combinations};
+ghost use Rattle.dep_iter.specs.Edges as edges;
+ghost use Rattle.dep_iter.specs.Tasks.{IsTask};
+ghost use Rattle.goal_count.specs.Counting as counting;
+
+use dep_iter::{
+    Matched, a_task_has_no_more_edges_than_the_job, arg_steps, edges_are_links, flows_of,
+    held_target, locals_of, takes_first,
+};
+use plan_core::{Arg, DepPlan, FlowPlan, Target};
+use ptg_base::TaskId;
+
+// How many values an argument has.
+fn arg_count(arg: &Arg, env: &[i64]) -> u128
+    ensures { result ≡ length (or_empty (arg_values arg.now env.now)) }
+{
+    match arg_steps(arg, env) {
+        Some(steps) => steps.count(),
+        None => 0,
+    }
+}
+
+// How many combinations the values of these arguments have: their product, which is known to be small though its factors may be large.
+fn combination_count(args: &[Arg], env: &[i64]) -> u128
+    requires { length (combinations args.now env.now) ≤ 4000000 }
+    ensures { result ≡ length (combinations args.now env.now) }
+{
+    let Some((arg, others)) = args.split_first() else {
+        return 1;
+    };
+    let count = arg_count(arg, env);
+    if count == 0 {
+        return 0;
+    }
+    count * combination_count(others, env)
+}
+
+// How many edges a target stands for.
+fn target_count(target: &Target, env: &[i64]) -> u128
+    requires { counting.target_count env.now target.now ≤ 4000000 }
+    ensures { result ≡ counting.target_count env.now target.now }
+{
+    match target {
+        Target::Task(_, _, args) => combination_count(args.as_slice(), env),
+        Target::Element(_, _) => 0,
+        Target::New => 0,
+        Target::Null => 0,
+    }
+}
+
+// How many edges these dependences give.
+fn held_count(first_only: bool, deps: &[DepPlan], env: &[i64]) -> u128
+    requires { counting.held_count first_only deps.now env.now ≤ 4000000 }
+    ensures { result ≡ counting.held_count first_only deps.now env.now }
+{
+    let Some((d, later)) = deps.split_first() else {
+        return 0;
+    };
+    let Some(target) = held_target(d, env) else {
+        return held_count(first_only, later, env);
+    };
+    let here = target_count(target, env);
+    if first_only {
+        return here;
+    }
+    here + held_count(first_only, later, env)
+}
+
+// How many edges go into these flows.
+fn flows_count(flows: &[FlowPlan], env: &[i64]) -> u128
+    requires { counting.flows_count env.now flows.now ≤ 4000000 }
+    ensures { result ≡ counting.flows_count env.now flows.now }
+{
+    let Some((flow, others)) = flows.split_first() else {
+        return 0;
+    };
+    let here = held_count(takes_first(flow.kind), flow.ins.as_slice(), env);
+    here + flows_count(others, env)
+}
+
+/// How many edges go into a task of a consistent plan. No edge is walked.
+pub fn goal(m: &Matched, t: &TaskId) -> u32
+    requires { IsTask m.now t.now }
+    ensures { result ≡ edges.goal m.now t.now }
+{
+    a_task_has_no_more_edges_than_the_job();
+    edges_are_links();
+    let plan = m.plan();
+    let env = locals_of(plan, t);
+    flows_count(flows_of(plan, t), env.as_slice()) as u32
+}
