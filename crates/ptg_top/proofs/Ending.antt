@@ -9,7 +9,7 @@ use Rattle.core_first.specs.declared.outcome.Outcome.TheVariants as outcome
 use Rattle.ptg_top.specs.declared.verdict.Verdict.{Verdict}
 use Rattle.ptg_top.specs.declared.verdict.Verdict.TheVariants as say
 use Rattle.ptg_top.specs.Stages.{Entries}
-use Rattle.ptg_top.specs.Meaning.{Means}
+use Rattle.ptg_top.specs.Meaning.{Means, IsNoOrder}
 use Rattle.ptg_top.specs.Reports.{Judged}
 use Rattle.ptg_top.specs.Headline.{text_of, status_of, usage_line, IsExact, Prints}
 
@@ -50,3 +50,15 @@ usage_is_its_line (say.Spelling text) e = absurd cc
 usage_is_its_line (say.Answer P (outcome.Complete count given)) e = absurd cc
 usage_is_its_line (say.Answer P (outcome.Trapped rows)) e = absurd cc
 usage_is_its_line (say.Answer P (outcome.Stalled ran total rows)) e = absurd cc
+
+-- and only to words that order nothing
+pub usage_is_no_order : (words : List (List ℕ)) (contents : Option Entries) (old new : List ℕ → ℕ) (v : Verdict) → Judged words contents old new v → status_of v ≡ status.Usage → IsNoOrder words
+usage_is_no_order words contents old new say.Usage h e = h
+usage_is_no_order words contents old new (say.Unread name) h e = absurd cc
+usage_is_no_order words contents old new (say.Jdf fault) h e = absurd cc
+usage_is_no_order words contents old new (say.Data fault) h e = absurd cc
+usage_is_no_order words contents old new (say.Match fault) h e = absurd cc
+usage_is_no_order words contents old new (say.Spelling text) h e = absurd cc
+usage_is_no_order words contents old new (say.Answer P (outcome.Complete count given)) h e = absurd cc
+usage_is_no_order words contents old new (say.Answer P (outcome.Trapped rows)) h e = absurd cc
+usage_is_no_order words contents old new (say.Answer P (outcome.Stalled ran total rows)) h e = absurd cc

@@ -1,12 +1,18 @@
 -- What is said where a step stops, and where all steps lead on.
 use Rattle.std.proofs.Common.{◌≡◌, ℕ, ◌≤◌, List, Some, Result, Ok, Err, refl, sym, subst, inl, inr, arith}
-use Rattle.std.specs.Prelude.{Option, MatchResult, IfOk}
+use Rattle.std.specs.Prelude.{Option, MatchResult, IfOk, Bool, true, false}
 use Rattle.ptg_base.specs.declared.memory.OutOfMemory.{OutOfMemory}
 use Rattle.ptg_io.specs.Faults.{Rose}
 use Rattle.ptg_io.specs.Files.{file_of}
-use Rattle.ptg_words.specs.declared.order.Order.TheVariants.{Run, Show}
+use Rattle.ptg_top.specs.declared.request.Request.TheVariants.{Run, Show}
+use Rattle.ptg_top.specs.declared.request.Request.{Request}
+use Rattle.std.specs.Str.{IsUtf8}
 use Rattle.ptg_words.specs.declared.order.Order.{Order}
-use Rattle.ptg_words.specs.Words.{Orders}
+use Rattle.ptg_words.specs.declared.order.Order.TheVariants as order
+use Rattle.ptg_words.specs.Parts.{Part}
+use Rattle.ptg_words.specs.Words as words
+use Rattle.ptg_words.specs.Words.{Orders, Verb}
+use Rattle.ptg_top.specs.Requests.{Requests, request_of}
 use Rattle.jdf_lex.specs.Tokens as jdf_text
 use Rattle.jdf_lex.specs.declared.fault.JdfFault.{JdfFault}
 use Rattle.jdf_first.specs.declared.tree.Jdf.{Jdf}
@@ -58,7 +64,7 @@ tree_stop_reports contents old new jdf tiles (Said v) h = tree_reports contents 
 tree_stop_reports contents old new jdf tiles Memory h = tt
 
 module _ (contents : Option Entries) (old new : List ℕ → ℕ) (jdf tiles : List ℕ) (J : Jdf) (tree : (files : Entries) → contents ≡ Some files → TreeAt files jdf J) where
-  has_tree : (words : List (List ℕ)) (files : Entries) → Orders words (Run jdf tiles) → contents ≡ Some files → HasTree words files tiles J
+  has_tree : (words : List (List ℕ)) (files : Entries) → Requests words (Run jdf tiles) → contents ≡ Some files → HasTree words files tiles J
   has_tree words files order t = let at = tree files t in record { jdf = jdf; order = order; bytes = at.0; file = at.1; tree = at.2 }
 
   -- the data file leads no further
@@ -74,7 +80,7 @@ module _ (contents : Option Entries) (old new : List ℕ → ℕ) (jdf tiles : L
   data_stop_reports mid Memory le h = tt
 
   module _ (G : Given) (known : (files : Entries) → contents ≡ Some files → DataAt files tiles G) where
-    has_data : (words : List (List ℕ)) (files : Entries) → Orders words (Run jdf tiles) → contents ≡ Some files → HasData words files J G
+    has_data : (words : List (List ℕ)) (files : Entries) → Requests words (Run jdf tiles) → contents ≡ Some files → HasData words files J G
     has_data words files order t = let at = known files t in record { tiles = tiles; tree = has_tree words files order t; bytes = at.0; file = at.1; spelled = at.2 }
 
     -- the names lead no further
@@ -91,7 +97,7 @@ module _ (contents : Option Entries) (old new : List ℕ → ℕ) (jdf tiles : L
     plan_stop_reports Memory h = tt
 
     module _ (P : Plan) (named : IsMissing J G → ⊥) (plan : IsPlan J G P) where
-      has_plan : (words : List (List ℕ)) (files : Entries) → Orders words (Run jdf tiles) → contents ≡ Some files → HasPlan words files G P
+      has_plan : (words : List (List ℕ)) (files : Entries) → Requests words (Run jdf tiles) → contents ≡ Some files → HasPlan words files G P
       has_plan words files order t = record { jdf = J; known = has_data words files order t; named = named; plan = plan }
 
       -- the plan has its answer, or is not consistent
@@ -116,15 +122,15 @@ pub plan_fits_data : (J : Jdf) (G : Given) (P : Plan) → IsPlan J G P → HasWh
 plan_fits_data J G P plan whole = record { elems = plan.elems; colls = sym plan.colls; whole = whole }
 
 -- what is said for the files of an order is said for its words
-unread_may_be : (words : List (List ℕ)) (contents : Option Entries) (jdf tiles name : List ℕ) → Orders words (Run jdf tiles) → IsUnreadOf contents jdf tiles name → MayBeUnread words contents name
+unread_may_be : (words : List (List ℕ)) (contents : Option Entries) (jdf tiles name : List ℕ) → Requests words (Run jdf tiles) → IsUnreadOf contents jdf tiles name → MayBeUnread words contents name
 unread_may_be words contents jdf tiles name order (inl e) =
-    let Ordered : List ℕ → Type 0 = λ j. Orders words (Run j tiles) in inl (tiles, subst Ordered (sym e) order)
+    let Ordered : List ℕ → Type 0 = λ j. Requests words (Run j tiles) in inl (tiles, subst Ordered (sym e) order)
 unread_may_be words contents jdf tiles name order (inr h) =
-    let Ordered : List ℕ → Type 0 = λ d. Orders words (Run jdf d) in
-    let named : Orders words (Run jdf name) = subst Ordered (sym h.0) order in
+    let Ordered : List ℕ → Type 0 = λ d. Requests words (Run jdf d) in
+    let named : Requests words (Run jdf name) = subst Ordered (sym h.0) order in
     inr (inr (jdf, named, λ files t. let at = h.1 files t in (at.0, record { jdf = jdf; order = named; bytes = at.1.0; file = at.1.1; tree = at.1.2 })))
 
-pub judged_by_order : (words : List (List ℕ)) (contents : Option Entries) (old new : List ℕ → ℕ) (jdf tiles : List ℕ) (v : Verdict) → Orders words (Run jdf tiles) → Reports contents old new jdf tiles v → Judged words contents old new v
+pub judged_by_order : (words : List (List ℕ)) (contents : Option Entries) (old new : List ℕ → ℕ) (jdf tiles : List ℕ) (v : Verdict) → Requests words (Run jdf tiles) → Reports contents old new jdf tiles v → Judged words contents old new v
 judged_by_order words contents old new jdf tiles say.Usage order h = absurd h
 judged_by_order words contents old new jdf tiles (say.Unread name) order h = (h.0, unread_may_be words contents jdf tiles name order h.1, λ none. none (Run jdf tiles) order)
 judged_by_order words contents old new jdf tiles (say.Jdf fault) order h = (λ files t. h words files order t, λ none. none (Run jdf tiles) order)
@@ -155,11 +161,30 @@ says_at P (Err (Said w)) v h e = subst P e h
 says_at P (Err Memory) v h e = absurd e
 
 pub run_judged : (words : List (List ℕ)) (contents : Option Entries) (old new : List ℕ → ℕ) (jdf tiles : List ℕ) (r : Result Verdict Stop) (s : Result Verdict OutOfMemory)
-    → Orders words (Run jdf tiles) → Says (Reports contents old new jdf tiles) r → IfOk s (IsSaid r) → IfOk s (λ v. Judged words contents old new v)
+    → Requests words (Run jdf tiles) → Says (Reports contents old new jdf tiles) r → IfOk s (IsSaid r) → IfOk s (λ v. Judged words contents old new v)
 run_judged words contents old new jdf tiles r (Ok v) order h e = judged_by_order words contents old new jdf tiles v order (says_at (Reports contents old new jdf tiles) r v h e)
 run_judged words contents old new jdf tiles r (Err x) order h e = tt
 
--- the names of an order are text
-pub order_texts : (words : List (List ℕ)) (o : Order) → Orders words o → AreTexts o
-order_texts words (Run jdf tiles) h = (h.1.1, h.2.1)
-order_texts words (Show jdf) h = h.1.1
+-- the names in a command are text
+named_texts : (v : Verb) (ps : List Part) (j t : List ℕ) (w s : ℕ) (p : Bool) → words.Means v ps (order.Run j t w s p) → IsUtf8 j × IsUtf8 t
+named_texts words.run ps j t w s p m = (m.1, m.2)
+named_texts words.show ps j t w s p m = absurd m
+named_texts words.check ps j t w s p m = absurd m
+named_texts words.demo ps j t w s p m = absurd m
+
+named_text : (v : Verb) (ps : List Part) (j : List ℕ) → words.Means v ps (order.Show j) → IsUtf8 j
+named_text words.run ps j m = absurd m
+named_text words.show ps j m = m.1
+named_text words.check ps j m = absurd m
+named_text words.demo ps j m = absurd m
+
+-- the names of a request are text
+asked_texts : (o : Order) (v : Verb) (ps : List Part) → words.Means v ps o → (r : Request) → request_of o ≡ Some r → AreTexts r
+asked_texts (order.Run j t w s true) v ps m r e = absurd cc
+asked_texts (order.Run j t w s false) v ps m r e = let same : Run j t ≡ r = cc in subst AreTexts same (named_texts v ps j t w s false m)
+asked_texts (order.Show j) v ps m r e = let same : Show j ≡ r = cc in subst AreTexts same (named_text v ps j m)
+asked_texts (order.Check j t) v ps m r e = absurd cc
+asked_texts (order.Demo n) v ps m r e = absurd cc
+
+pub request_texts : (list : List (List ℕ)) (o : Order) (r : Request) → Orders list o → request_of o ≡ Some r → AreTexts r
+request_texts list o r formed e = asked_texts o formed.verb formed.rest formed.means r e

@@ -1,13 +1,14 @@
 -- Words and files mean one thing at most. What is to be said names the last stage that words and files reach, of
 -- order, JDF file, tree, data file, data, globals, plan and consistency, and each stage that is reached is reached in one way.
-use Rattle.std.proofs.Common.{◌≡◌, ℕ, zero, suc, ◌+◌, ◌<◌, ◌≤◌, List, [], ◌∷◌, Some, refl, sym, ◌∙◌, ap, subst, inl, inr, arith, codes}
+use Rattle.std.proofs.Common.{◌≡◌, ℕ, zero, suc, ◌+◌, ◌<◌, ◌≤◌, List, [], ◌∷◌, Some, refl, sym, ◌∙◌, ap, subst, inl, inr, arith}
 use Rattle.std.specs.Prelude.{Option, None, ◌⊎◌}
 use Rattle.std.proofs.lemmas.Bool.{cases_lt, cases_order}
 use Rattle.ptg_io.specs.Files.{file_of}
 use Rattle.ptg_io.specs.Sink.{appended}
-use Rattle.ptg_words.specs.declared.order.Order.{Order}
-use Rattle.ptg_words.specs.declared.order.Order.TheVariants.{Run, Show}
-use Rattle.ptg_words.specs.Words.{Orders}
+use Rattle.ptg_top.specs.declared.request.Request.{Request}
+use Rattle.ptg_top.specs.declared.request.Request.TheVariants.{Run, Show}
+use Rattle.ptg_words.proofs.OneOrder.{one_order}
+use Rattle.ptg_top.specs.Requests.{Requests, request_of}
 use Rattle.jdf_lex.specs.Tokens as jdf_text
 use Rattle.jdf_first.specs.declared.tree.Jdf.{Jdf}
 use Rattle.jdf_first.specs.Jdf.{IsJdf}
@@ -33,12 +34,19 @@ use Rattle.jdf_read.proofs.Once.{one_tree, one_fault, not_both}
 use Rattle.ptg_top.specs.Meaning.{MeansRun, Shows, MeansShow, Means, OneMeaning, IsNoOrder, IsNoFile, IsNoTree, IsNoData, IsLacking, IsNoPlan}
 use Rattle.ptg_top.specs.Headline.{text_of, status_of, OneOutput}
 
--- the two files of an order are determined
-same_files : (words : List (List ℕ)) (jdf tiles jdf' tiles' : List ℕ) → Orders words (Run jdf tiles) → Orders words (Run jdf' tiles') → (jdf ≡ jdf') × (tiles ≡ tiles')
-same_files words jdf tiles jdf' tiles' one other = parts (codes "run") (sym one.0 ∙ other.0)
+-- words ask for one thing at most
+pub one_request : (words : List (List ℕ)) (a b : Request) → Requests words a → Requests words b → a ≡ b
+one_request words a b p q = asked (sym p.asks ∙ (ap request_of (one_order words p.order q.order p.formed q.formed) ∙ q.asks))
   where
-    parts : (verb : List ℕ) → ◌≡◌ {A = List (List ℕ)} (verb ∷ jdf ∷ tiles ∷ []) (verb ∷ jdf' ∷ tiles' ∷ []) → (jdf ≡ jdf') × (tiles ≡ tiles')
-    parts verb e = (cc, cc)
+    asked : ◌≡◌ {A = Option Request} (Some a) (Some b) → a ≡ b
+    asked e = cc
+
+-- the two files of a request are determined
+same_files : (words : List (List ℕ)) (jdf tiles jdf' tiles' : List ℕ) → Requests words (Run jdf tiles) → Requests words (Run jdf' tiles') → (jdf ≡ jdf') × (tiles ≡ tiles')
+same_files words jdf tiles jdf' tiles' one other = parts (one_request words (Run jdf tiles) (Run jdf' tiles') one other)
+  where
+    parts : ◌≡◌ {A = Request} (Run jdf tiles) (Run jdf' tiles') → (jdf ≡ jdf') × (tiles ≡ tiles')
+    parts e = (cc, cc)
 
 -- a name has one content
 same_bytes : (files : Entries) (name name' bytes bytes' : List ℕ) → name ≡ name' → file_of files name ≡ Some bytes → file_of files name' ≡ Some bytes' → bytes ≡ bytes'
@@ -75,10 +83,10 @@ module _ (words : List (List ℕ)) (files : Entries) where
   -- ---- the stages, each behind the one before it
 
   abbrev Ordered : Type 0
-  Ordered = (jdf tiles : List ℕ) × Orders words (Run jdf tiles)
+  Ordered = (jdf tiles : List ℕ) × Requests words (Run jdf tiles)
 
   abbrev JdfFile : Type 0
-  JdfFile = (jdf tiles bytes : List ℕ) × Orders words (Run jdf tiles) × (file_of files jdf ≡ Some bytes)
+  JdfFile = (jdf tiles bytes : List ℕ) × Requests words (Run jdf tiles) × (file_of files jdf ≡ Some bytes)
 
   abbrev Tree : Type 0
   Tree = (tiles : List ℕ) × (J : Jdf) × HasTree words files tiles J
@@ -128,7 +136,7 @@ module _ (words : List (List ℕ)) (files : Entries) where
   -- what is said where the last stage is this one
   abbrev SaidAt : ℕ → Verdict → Type 0
   SaidAt zero v = v ≡ say.Usage
-  SaidAt (suc zero) v = (jdf tiles : List ℕ) × Orders words (Run jdf tiles) × (v ≡ say.Unread jdf)
+  SaidAt (suc zero) v = (jdf tiles : List ℕ) × Requests words (Run jdf tiles) × (v ≡ say.Unread jdf)
   SaidAt (suc (suc zero)) v = v ≡ say.Jdf jdf_text.not_built
   SaidAt (suc (suc (suc zero))) v = (tiles : List ℕ) × (J : Jdf) × HasTree words files tiles J × (v ≡ say.Unread tiles)
   SaidAt (suc (suc (suc (suc zero)))) v = v ≡ say.Data coll.not_built
@@ -242,13 +250,13 @@ module _ (words : List (List ℕ)) (files : Entries) where
   -- ---- a file that is shown
 
   -- words that order to run a job do not order to show a file
-  no_run_and_show : (jdf tiles name : List ℕ) → Orders words (Run jdf tiles) → Orders words (Show name) → ⊥
-  no_run_and_show jdf tiles name run show = parts (codes "run") (codes "show") (sym run.0 ∙ show.0)
+  no_run_and_show : (jdf tiles name : List ℕ) → Requests words (Run jdf tiles) → Requests words (Show name) → ⊥
+  no_run_and_show jdf tiles name run show = parts (one_request words (Run jdf tiles) (Show name) run show)
     where
-      parts : (verb verb' : List ℕ) → ◌≡◌ {A = List (List ℕ)} (verb ∷ jdf ∷ tiles ∷ []) (verb' ∷ name ∷ []) → ⊥
-      parts verb verb' e = absurd cc
+      parts : ◌≡◌ {A = Request} (Run jdf tiles) (Show name) → ⊥
+      parts e = absurd cc
 
-  run_or_show : (v : Verdict) (name : List ℕ) → MeansRun words files v → Orders words (Show name) → ⊥
+  run_or_show : (v : Verdict) (name : List ℕ) → MeansRun words files v → Requests words (Show name) → ⊥
   run_or_show say.Usage name h order = h (Show name) order
   run_or_show (say.Unread file) name (inl run, none) order = no_run_and_show file run.0 name run.1 order
   run_or_show (say.Unread file) name (inr tree, none) order = no_run_and_show tree.1.jdf file name tree.1.order order
@@ -260,11 +268,11 @@ module _ (words : List (List ℕ)) (files : Entries) where
   run_or_show (say.Spelling text) name h order = h
   run_or_show (say.Answer P outcome) name h order = no_run_and_show h.1.known.tree.jdf h.1.known.tiles name h.1.known.tree.order order
 
-  same_file : (name name' : List ℕ) → Orders words (Show name) → Orders words (Show name') → name ≡ name'
-  same_file name name' one other = parts (codes "show") (sym one.0 ∙ other.0)
+  same_file : (name name' : List ℕ) → Requests words (Show name) → Requests words (Show name') → name ≡ name'
+  same_file name name' one other = parts (one_request words (Show name) (Show name') one other)
     where
-      parts : (verb : List ℕ) → ◌≡◌ {A = List (List ℕ)} (verb ∷ name ∷ []) (verb ∷ name' ∷ []) → name ≡ name'
-      parts verb e = cc
+      parts : ◌≡◌ {A = Request} (Show name) (Show name') → name ≡ name'
+      parts e = cc
 
   -- the bytes of a file show one thing
   shows_once : (bytes : List ℕ) (v w : Verdict) → Shows bytes v → Shows bytes w → v ≡ w

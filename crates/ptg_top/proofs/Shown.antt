@@ -4,8 +4,8 @@ use Rattle.std.specs.Prelude.{Option, IfOk}
 use Rattle.ptg_base.specs.declared.memory.OutOfMemory.{OutOfMemory}
 use Rattle.ptg_io.specs.Faults.{Rose}
 use Rattle.ptg_io.specs.Files.{file_of}
-use Rattle.ptg_words.specs.declared.order.Order.TheVariants.{Show}
-use Rattle.ptg_words.specs.Words.{Orders}
+use Rattle.ptg_top.specs.declared.request.Request.TheVariants.{Show}
+use Rattle.ptg_top.specs.Requests.{Requests}
 use Rattle.ptg_top.specs.declared.verdict.Verdict.{Verdict}
 use Rattle.ptg_top.specs.declared.verdict.Verdict.TheVariants as say
 use Rattle.ptg_top.specs.declared.stages.Stop.{Stop}
@@ -23,7 +23,7 @@ loaded_shows contents old new name bytes (Ok v) there h = inr (h.0, λ files t. 
 loaded_shows contents old new name bytes (Err (Said v)) there h = inr (h.0, λ files t. (bytes, there files t, h.1))
 loaded_shows contents old new name bytes (Err Memory) there h = tt
 
-module _ (words : List (List ℕ)) (contents : Option Entries) (old new : List ℕ → ℕ) (jdf : List ℕ) (order : Orders words (Show jdf)) where
+module _ (words : List (List ℕ)) (contents : Option Entries) (old new : List ℕ → ℕ) (jdf : List ℕ) (order : Requests words (Show jdf)) where
   told_of : (v : Verdict) → ((files : Entries) → contents ≡ Some files → (bytes : List ℕ) × (file_of files jdf ≡ Some bytes) × Shows bytes v) → (files : Entries) → contents ≡ Some files → Means words files v
   told_of v h files t = inr (record { jdf = jdf; order = order; said = inr (h files t) })
 

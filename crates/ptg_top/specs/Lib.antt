@@ -1,3 +1,4 @@
+pub mod Requests
 pub mod Stages
 pub mod Meaning
 pub mod Steps

@@ -1,9 +1,9 @@
 -- The meaning of a run: what is to be said for words and files, whatever the machine.
 use Rattle.std.specs.Prelude.{◌≡◌, ◌⊎◌, ℕ, List, Option, Some, None}
 use Rattle.ptg_io.specs.Files.{file_of}
-use Rattle.ptg_words.specs.declared.order.Order.{Order}
-use Rattle.ptg_words.specs.declared.order.Order.TheVariants.{Run, Show}
-use Rattle.ptg_words.specs.Words.{Orders}
+use Rattle.ptg_top.specs.declared.request.Request.{Request}
+use Rattle.ptg_top.specs.declared.request.Request.TheVariants.{Run, Show}
+use Rattle.ptg_top.specs.Requests.{Requests}
 use Rattle.jdf_lex.specs.Tokens as jdf
 use Rattle.jdf_first.specs.declared.tree.Jdf.{Jdf}
 use Rattle.jdf_first.specs.Jdf.{IsJdf}
@@ -25,18 +25,18 @@ use Rattle.ptg_top.specs.Stages.{Entries, HasTree, HasData, HasPlan}
 
 -- the words order nothing
 abbrev pub IsNoOrder : List (List ℕ) → Type 0
-IsNoOrder words = (order : Order) → Orders words order → ⊥
+IsNoOrder words = (order : Request) → Requests words order → ⊥
 
 -- there is no JDF file, or with a JDF there is no data file
 abbrev pub IsNoFile : List (List ℕ) → Entries → List ℕ → Type 0
 IsNoFile words files name =
-    (((tiles : List ℕ) × Orders words (Run name tiles)) ⊎ ((J : Jdf) × HasTree words files name J)) × (file_of files name ≡ None)
+    (((tiles : List ℕ) × Requests words (Run name tiles)) ⊎ ((J : Jdf) × HasTree words files name J)) × (file_of files name ≡ None)
 
 -- the JDF file is not the text of a tree
 pub record IsNoTree (words : List (List ℕ)) (files : Entries) : Type 0 where
   pub jdf : List ℕ
   pub tiles : List ℕ
-  pub order : Orders words (Run jdf tiles)
+  pub order : Requests words (Run jdf tiles)
   pub bytes : List ℕ
   pub file : file_of files jdf ≡ Some bytes
   pub none : (J : Jdf) → IsJdf bytes J → ⊥
@@ -99,7 +99,7 @@ IsShown (say.Answer P outcome) = ⊥
 -- the words order to show this file
 pub record MeansShow (words : List (List ℕ)) (files : Entries) (v : Verdict) : Type 0 where
   pub jdf : List ℕ
-  pub order : Orders words (Show jdf)
+  pub order : Requests words (Show jdf)
   -- that there is no such file, or what is to be said of its bytes
   pub said : ((v ≡ say.Unread jdf) × (file_of files jdf ≡ None)) ⊎ ((bytes : List ℕ) × (file_of files jdf ≡ Some bytes) × Shows bytes v)
 
@@ -114,6 +114,6 @@ OneMeaning = (words : List (List ℕ)) (files : Entries) (v w : Verdict) → Mea
 -- whose name may be told as unread: the JDF file's, or the data file's once the JDF is the text of a tree, where the files are told
 abbrev pub MayBeUnread : List (List ℕ) → Option Entries → List ℕ → Type 0
 MayBeUnread words contents name =
-    ((tiles : List ℕ) × Orders words (Run name tiles))
-    ⊎ (Orders words (Show name)
-    ⊎ ((jdf : List ℕ) × Orders words (Run jdf name) × ((files : Entries) → contents ≡ Some files → (J : Jdf) × HasTree words files name J)))
+    ((tiles : List ℕ) × Requests words (Run name tiles))
+    ⊎ (Requests words (Show name)
+    ⊎ ((jdf : List ℕ) × Requests words (Run jdf name) × ((files : Entries) → contents ≡ Some files → (J : Jdf) × HasTree words files name J)))

@@ -2,9 +2,9 @@
 use Rattle.std.specs.Prelude.{◌≡◌, ◌⊎◌, ℕ, List, Option, Some, Result, Ok, Err}
 use Rattle.ptg_io.specs.Faults.{Rose}
 use Rattle.ptg_io.specs.Files.{file_of}
-use Rattle.ptg_words.specs.declared.order.Order.TheVariants.{Run, Show}
-use Rattle.ptg_words.specs.declared.order.Order.{Order}
-use Rattle.ptg_words.specs.Words.{Orders}
+use Rattle.ptg_top.specs.declared.request.Request.TheVariants.{Run, Show}
+use Rattle.ptg_top.specs.declared.request.Request.{Request}
+use Rattle.ptg_top.specs.Requests.{Requests}
 use Rattle.std.specs.Str.{IsUtf8}
 use Rattle.jdf_first.specs.declared.tree.Jdf.{Jdf}
 use Rattle.jdf_first.specs.Jdf.{IsJdf}
@@ -27,7 +27,7 @@ Says P (Err Memory) = Unit {0}
 
 -- this is what words that order the job of these two files mean, where the files are told
 abbrev pub IsMeant : Option Entries → List ℕ → List ℕ → Verdict → Type 0
-IsMeant contents jdf tiles v = (words : List (List ℕ)) (files : Entries) → Orders words (Run jdf tiles) → contents ≡ Some files → Means words files v
+IsMeant contents jdf tiles v = (words : List (List ℕ)) (files : Entries) → Requests words (Run jdf tiles) → contents ≡ Some files → Means words files v
 
 -- one of the two files could not be read, and the data file only behind a JDF
 abbrev pub IsUnreadOf : Option Entries → List ℕ → List ℕ → List ℕ → Type 0
@@ -59,7 +59,7 @@ Judged words contents old new (say.Spelling text) = IsTold words contents (say.S
 Judged words contents old new (say.Answer P outcome) = IsTold words contents (say.Answer P outcome)
 
 -- the names of an order are text
-abbrev pub AreTexts : Order → Type 0
+abbrev pub AreTexts : Request → Type 0
 AreTexts (Run jdf tiles) = IsUtf8 jdf × IsUtf8 tiles
 AreTexts (Show jdf) = IsUtf8 jdf
 

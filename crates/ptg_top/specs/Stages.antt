@@ -1,8 +1,8 @@
 -- How far the words and the files lead: to a tree, to data, to a plan.
 use Rattle.std.specs.Prelude.{◌≡◌, ℕ, List, Some}
 use Rattle.ptg_io.specs.Files.{file_of}
-use Rattle.ptg_words.specs.declared.order.Order.TheVariants.{Run}
-use Rattle.ptg_words.specs.Words.{Orders}
+use Rattle.ptg_top.specs.declared.request.Request.TheVariants.{Run}
+use Rattle.ptg_top.specs.Requests.{Requests}
 use Rattle.jdf_first.specs.declared.tree.Jdf.{Jdf}
 use Rattle.jdf_first.specs.Jdf.{IsJdf}
 use Rattle.data_first.specs.declared.given.Given.{Given}
@@ -18,7 +18,7 @@ Entries = List (List ℕ × List ℕ)
 -- the words order to run a job with the data file of this name, and its JDF file is the text of this tree
 pub record HasTree (words : List (List ℕ)) (files : Entries) (tiles : List ℕ) (J : Jdf) : Type 0 where
   pub jdf : List ℕ
-  pub order : Orders words (Run jdf tiles)
+  pub order : Requests words (Run jdf tiles)
   pub bytes : List ℕ
   pub file : file_of files jdf ≡ Some bytes
   pub tree : IsJdf bytes J

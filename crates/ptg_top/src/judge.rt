@@ -4,16 +4,17 @@ ghost use Rattle.std.specs.Prelude.{◌≡◌, ◌≤◌, ℕ, List, Some, IfOk}
 ghost use Rattle.std.specs.Str.{IsUtf8};
 ghost use Rattle.ptg_top.specs.declared.verdict.Verdict.TheVariants as say;
 ghost use Rattle.ptg_top.specs.Stages.{Entries};
-ghost use Rattle.ptg_words.specs.Words.{Orders};
+ghost use Rattle.ptg_top.specs.Requests.{Requests};
 ghost use Rattle.ptg_top.specs.Reports.{Reports, Says, Judged, TreeAt, AreTexts, IsSaid};
 
+use crate::request::{Request, request_of};
 use crate::showing::show;
 use crate::stages::{Stop, answer_of, data_of, plan_of, tree_of};
 use crate::verdict::Verdict;
 use jdf_first::Jdf;
 use ptg_base::{OutOfMemory, Text};
 use ptg_io::Files;
-use ptg_words::{Order, WordsRefusal, words};
+use ptg_words::{WordsRefusal, words};
 use std::alloc::Global;
 
 /// What is to be said for words and files.
@@ -23,23 +24,30 @@ pub fn judge<F: Files>(alloc: Global, list: &[Text], files: &mut F) -> Result<Ve
     ensures judged { IfOk result (λ v. Judged list.now (F.contents files.old) (F.faults files.old) (F.faults files.new) v) }
 {
     match words(alloc, list) {
-        Ok(order) => carry_out(alloc, &order, files),
+        Ok(order) => match request_of(order) {
+            Some(request) => carry_out(alloc, &request, files),
+            None => Ok(Verdict::Usage),
+        },
         Err(WordsRefusal::Usage) => Ok(Verdict::Usage),
         Err(WordsRefusal::OutOfMemory) => Err(OutOfMemory),
     }
 }
 
-// What is to be said for an order.
-fn carry_out<F: Files>(alloc: Global, order: &Order, files: &mut F) -> Result<Verdict, OutOfMemory>
-    requires { AreTexts order.now }
+// What is to be said for a request.
+fn carry_out<F: Files>(
+    alloc: Global,
+    request: &Request,
+    files: &mut F,
+) -> Result<Verdict, OutOfMemory>
+    requires { AreTexts request.now }
     ensures stays { F.contents files.new ≡ F.contents files.old }
     ensures grows { (other : List ℕ) → F.faults files.old other ≤ F.faults files.new other }
-    ensures judged { (words : List (List ℕ)) → Orders words order.now
+    ensures judged { (words : List (List ℕ)) → Requests words request.now
         → IfOk result (λ v. Judged words (F.contents files.old) (F.faults files.old) (F.faults files.new) v) }
 {
-    match order {
-        Order::Run(jdf, tiles) => said(run(alloc, jdf, tiles, files)),
-        Order::Show(jdf) => said(show(alloc, jdf, files)),
+    match request {
+        Request::Run(jdf, tiles) => said(run(alloc, jdf, tiles, files)),
+        Request::Show(jdf) => said(show(alloc, jdf, files)),
     }
 }
 

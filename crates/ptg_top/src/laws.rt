@@ -1,3 +1,5 @@
+//! Laws of the meaning of a command.
+
 ghost use Rattle.ptg_top.specs.Meaning.{OneMeaning};
 ghost use Rattle.ptg_top.specs.Headline.{OneOutput};
 

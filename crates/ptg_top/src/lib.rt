@@ -4,6 +4,7 @@
 mod judge;
 mod laws;
 mod program;
+mod request;
 mod showing;
 mod stages;
 mod status;
@@ -14,6 +15,3 @@ pub use laws::one_meaning;
 pub use program::ptg_main;
 pub use status::Status;
 pub use verdict::Verdict;
-
-#[cfg(test)]
-mod tests;

@@ -1,3 +1,5 @@
+//! The exit statuses.
+
 ghost use Rattle.std.specs.Prelude.{◌≡◌};
 ghost use Rattle.ptg_top.specs.Codes.{code_of};
 

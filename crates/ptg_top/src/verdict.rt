@@ -1,3 +1,5 @@
+//! What is to be printed.
+
 use core_first::Outcome;
 use data_first::DataFault;
 use dep_first::Matched;

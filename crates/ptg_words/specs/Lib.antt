@@ -1,1 +1,4 @@
+pub mod Commands
+pub mod Parts
+pub mod Readings
 pub mod Words

@@ -4,14 +4,19 @@ ghost use Rattle.std.specs.Prelude.{◌≡◌};
 ghost use Rattle.ptg_words.specs.declared.order.WordsRefusal.TheVariants.{OutOfMemory};
 
 use ptg_base::Text;
+use std::alloc::{AllocError, AllocFailed};
 
 /// A command of the program.
 #[derive(Debug, Drop)]
 pub enum Order {
-    /// Run the job of this JDF file on this data file.
-    Run(Text, Text),
+    /// Run the job of this JDF file on this data file, with these numbers of workers and of shards, and with all memory taken before the run or not.
+    Run(Text, Text, u32, u32, bool),
     /// Print the canonical spelling of this JDF file.
     Show(Text),
+    /// Check the consistency of the job of this JDF file with this data file.
+    Check(Text, Text),
+    /// Run the made job of this number of tiles a side.
+    Demo(u32),
 }
 
 /// Why the arguments give no command.
@@ -26,6 +31,22 @@ impl From<ptg_base::OutOfMemory> for WordsRefusal {
     ghost from_gives = { λ _ e. e ≡ OutOfMemory };
 
     fn from(_e: ptg_base::OutOfMemory) -> WordsRefusal {
+        WordsRefusal::OutOfMemory
+    }
+}
+
+impl From<AllocError> for WordsRefusal {
+    ghost from_gives = { λ _ e. e ≡ OutOfMemory };
+
+    fn from(_e: AllocError) -> WordsRefusal {
+        WordsRefusal::OutOfMemory
+    }
+}
+
+impl<T: Drop> From<AllocFailed<T>> for WordsRefusal {
+    ghost from_gives = { λ _ e. e ≡ OutOfMemory };
+
+    fn from(_e: AllocFailed<T>) -> WordsRefusal {
         WordsRefusal::OutOfMemory
     }
 }

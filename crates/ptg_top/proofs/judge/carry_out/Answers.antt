@@ -1,6 +1,6 @@
 use Rattle.std.proofs.Common.{List, ℕ, subst}
-use Rattle.ptg_words.specs.declared.order.Order.{Order}
-use Rattle.ptg_words.specs.Words.{Orders}
+use Rattle.ptg_top.specs.declared.request.Request.{Request}
+use Rattle.ptg_top.specs.Requests.{Requests}
 use Rattle.ptg_top.proofs.Leading.{run_judged}
 use Rattle.ptg_top.proofs.Shown.{show_judged}
 use Rattle.ptg_top.proofs.judge.carry_out.Goals as goal
@@ -8,13 +8,13 @@ use Rattle.ptg_top.proofs.judge.carry_out.Goals as goal
 -- what is said for the files of the order is said for its words
 pub returns-in-Run-clause-judged : goal.returns-in-Run-clause-judged
 returns-in-Run-clause-judged g c words order =
-    let Ordered : Order → Type 0 = λ o. Orders words o in
+    let Ordered : Request → Type 0 = λ o. Requests words o in
     run_judged words (g.F.Files.contents c.args.files.now) (g.F.Files.faults c.args.files.now) (g.F.Files.faults c.run.new.files)
     c.in-Run.jdf c.in-Run.tiles c.run.result c.said.result
     (subst Ordered c.in-Run.is order) c.run.ensures.said c.said.ensures
 
 pub returns-in-Show-clause-judged : goal.returns-in-Show-clause-judged
 returns-in-Show-clause-judged g c words order =
-    let Ordered : Order → Type 0 = λ o. Orders words o in
+    let Ordered : Request → Type 0 = λ o. Requests words o in
     show_judged words (g.F.Files.contents c.args.files.now) (g.F.Files.faults c.args.files.now) (g.F.Files.faults c.show.new.files)
     c.in-Show.jdf (subst Ordered c.in-Show.is order) c.show.result c.said-in-Show.result c.show.ensures.said c.said-in-Show.ensures

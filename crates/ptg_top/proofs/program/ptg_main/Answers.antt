@@ -1,6 +1,6 @@
 use Rattle.std.proofs.Common.{ap, sym, ◌∙◌}
 use Rattle.ptg_io.specs.Sink.{appended}
-use Rattle.ptg_top.proofs.Ending.{exact_prints, complete_prints, usage_is_its_line}
+use Rattle.ptg_top.proofs.Ending.{exact_prints, complete_prints, usage_is_its_line, usage_is_no_order}
 use Rattle.ptg_top.proofs.program.ptg_main.Goals as goal
 
 -- a verdict that went out whole is exact where its status is no fault's
@@ -21,3 +21,9 @@ returns-in-Ok-tell-clause-complete g c entries contents no_read no_write =
 pub returns-in-Ok-tell-clause-usage_line : goal.returns-in-Ok-tell-clause-usage_line
 returns-in-Ok-tell-clause-usage_line g c usage =
     c.in-Ok-tell.ensures.ok ∙ ap (appended (g.O.Sink.bytes c.args.out.now)) (usage_is_its_line c.in-Ok.verdict (sym c.status.ensures ∙ usage))
+
+-- and only to words that order nothing
+pub returns-in-Ok-tell-clause-usage_only : goal.returns-in-Ok-tell-clause-usage_only
+returns-in-Ok-tell-clause-usage_only g c usage =
+    usage_is_no_order c.args.words.now (g.F.Files.contents c.args.files.now) (g.F.Files.faults c.args.files.now) (g.F.Files.faults c.judge.new.files)
+    c.in-Ok.verdict c.in-Ok.ensures.judged (sym c.status.ensures ∙ usage)

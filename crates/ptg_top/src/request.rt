@@ -1,0 +1,34 @@
+//! What the program carries out so far.
+
+ghost use Rattle.std.specs.Prelude.{◌≡◌};
+ghost use Rattle.ptg_top.specs.Requests.{request_of};
+
+use ptg_base::Text;
+use ptg_words::Order;
+
+/// What a command asks for, where that is carried out so far.
+#[derive(Debug, Drop)]
+pub enum Request {
+    /// Run the job of this JDF file on this data file.
+    Run(Text, Text),
+    /// Print the canonical spelling of this JDF file.
+    Show(Text),
+}
+
+/// What a command asks for: nothing where it is `check`, `demo`, or a run whose memory is to be taken before.
+pub fn request_of(order: Order) -> Option<Request>
+    ensures { result ≡ request_of order }
+{
+    match order {
+        Order::Run(jdf, tiles, _, _, preload) => {
+            if preload {
+                None
+            } else {
+                Some(Request::Run(jdf, tiles))
+            }
+        }
+        Order::Show(jdf) => Some(Request::Show(jdf)),
+        Order::Check(_, _) => None,
+        Order::Demo(_) => None,
+    }
+}

@@ -1,0 +1,108 @@
+-- What clap sees in a word that is text and neither empty, `-` nor `--`.
+use Rattle.std.proofs.Common.{◌≡◌, ℕ, suc, Bool, true, false, cond, List, [], ◌∷◌, ◌++◌, length, Option, Some, None, refl, sym, ap, ap₂, ◌∙◌, subst, arith, codes}
+use Rattle.std.specs.Prelude.{◌==◌, slice_get, drop, encode_utf8}
+use Rattle.std.specs.List.{before_first}
+use Rattle.std.specs.Str.{bytes_eq, chars, IsUtf8, encode_utf8_all}
+use Rattle.std.proofs.lemmas.Bool.Decides.{nat_tests}
+use Rattle.std.proofs.lemmas.Str.{encodes-chars, IsUtf8-past_char, encode_ascii}
+use Rattle.std.proofs.lemmas.Slice.Eq.{bytes_eq-Decides}
+use Rattle.std.specs.Option.{option_map_or}
+use Rattle.clap.specs.Walk.{Held, Row, Rule, Text, arg_by_short, arg_by_long}
+use Rattle.clap.specs.Faults.{flag_word_fault, flags_fault, bundle_fault, bundle_step_fault, short_fault, long_fault}
+use Rattle.clap.specs.Lexer.{long_of, short_of}
+use Rattle.ptg_words.specs.Parts.{Setting, name_of, workers, shards, named, form_of, text_after}
+use Rattle.ptg_words.specs.Words.{IsProper}
+use Rattle.ptg_words.proofs.ClapStates.{Pend, IsValue, View, is_plain, is_name, is_text, is_flag, is_refused, held}
+use Rattle.ptg_words.proofs.ClapUses.{none, setting_rule, preload_rule, and_false}
+
+pub first_char : (x : ℕ) (xs : List ℕ) → IsUtf8 (x ∷ xs) → (y : ℕ) × (slice_get (chars (x ∷ xs)) 0 ≡ Some y)
+first_char x xs u = go (chars (x ∷ xs)) refl
+  where
+    go : (cs : List ℕ) → chars (x ∷ xs) ≡ cs → (y : ℕ) × (slice_get (chars (x ∷ xs)) 0 ≡ Some y)
+    go [] e = let bad : [] ≡ x ∷ xs = sym (ap encode_utf8_all e) ∙ encodes-chars (x ∷ xs) u in absurd cc
+    go (y ∷ ys) e = (y, ap (λ l. slice_get l 0) e)
+
+same_bytes : (a b : List ℕ) → bytes_eq a b ≡ true → a ≡ b
+same_bytes a b e = (bytes_eq-Decides a b).0 e
+
+module _ (c : List Rule) (no_short : (x : ℕ) → arg_by_short c x ≡ None) where
+  bundle_fails : (x : ℕ) (xs : List ℕ) → IsUtf8 (x ∷ xs) → (k : ℕ) (h : Held) → none (flags_fault c false (suc k) (x ∷ xs) 0 h) ≡ false
+  unfolding flags_fault none
+  bundle_fails x xs u k h =
+      let y = first_char x xs u in
+      let rest = drop (length (encode_utf8 y.0)) (x ∷ xs) in
+      ap (λ o. none (bundle_step_fault c false o (x ∷ xs) 0 h (flags_fault c false k))) y.1
+      ∙ ap (λ r. none (short_fault c false r rest h (flags_fault c false k rest 0))) (no_short y.0)
+
+  short_fails : (x : ℕ) (xs : List ℕ) → IsUtf8 (x ∷ xs) → (x == 45) ≡ false → (rows : List Row) (p : Pend)
+      → none (flag_word_fault c false (long_of (45 ∷ x ∷ xs)) (45 ∷ x ∷ xs) (held rows p)) ≡ false
+  short_fails x xs u e rows p =
+      let long : long_of (45 ∷ x ∷ xs) ≡ None = rw e refl in
+      let short : short_of (45 ∷ x ∷ xs) ≡ Some (x ∷ xs) = rw e refl in
+      ap (λ o. none (flag_word_fault c false o (45 ∷ x ∷ xs) (held rows p))) long
+      ∙ ap (λ o. none (option_map_or (λ flags. bundle_fault c false flags (held rows p)) o [])) short
+      ∙ bundle_fails x xs u (length xs) (held rows p)
+
+  module _ (opts : Bool) (double : (y : ℕ) (ys : List ℕ) → View c opts (45 ∷ 45 ∷ y ∷ ys)) where
+    dashed : (bs : List ℕ) → IsProper (45 ∷ bs) → View c opts (45 ∷ bs)
+    dashed [] p = absurd (p.2 refl)
+    dashed (x ∷ xs) p = go (x == 45) refl
+      where
+        go : (b : Bool) → (x == 45) ≡ b → View c opts (45 ∷ x ∷ xs)
+        go false e = is_refused (rw (e, and_false opts) refl) (rw e refl) (short_fails x xs (IsUtf8-past_char (45 ∷ x ∷ xs) (x ∷ xs) 45 p.0 (sym (ap (λ l. l ++ (x ∷ xs)) (encode_ascii 45 (omega arith))))) e)
+        go true e =
+            let is_dash : x ≡ 45 = grind (arith, nat_tests) in
+            again xs (subst (λ z. IsProper (45 ∷ z ∷ xs)) is_dash p) (λ v. subst (λ z. View c opts (45 ∷ z ∷ xs)) (sym is_dash) v)
+          where
+            again : (zs : List ℕ) → IsProper (45 ∷ 45 ∷ zs) → (View c opts (45 ∷ 45 ∷ zs) → View c opts (45 ∷ x ∷ zs)) → View c opts (45 ∷ x ∷ zs)
+            again [] q back = absurd (q.3 refl)
+            again (y ∷ ys) q back = back (double y ys)
+
+    pub view : (w : Text) → IsProper w → View c opts w
+    view [] p = absurd (p.1 refl)
+    view (b ∷ bs) p = go (b == 45) refl
+      where
+        go : (t : Bool) → (b == 45) ≡ t → View c opts (b ∷ bs)
+        go false e = is_plain (rw e refl) (rw e refl) (rw e refl) (rw e refl)
+        go true e =
+            let is_dash : b ≡ 45 = grind (arith, nat_tests) in
+            subst (λ z. View c opts (z ∷ bs)) (sym is_dash) (dashed bs (subst (λ z. IsProper (z ∷ bs)) is_dash p))
+
+abbrev pub name_part : ℕ → List ℕ → Text
+name_part y ys = before_first (λ b. b == 61) (y ∷ ys)
+
+-- a command without options
+pub no_option : (c : List Rule) → ((name : Text) → arg_by_long c name ≡ None) → (y : ℕ) (ys : List ℕ) → View c false (45 ∷ 45 ∷ y ∷ ys)
+unfolding none
+no_option c no_long y ys = is_refused refl refl (λ rows p. rw (no_long (before_first (λ b. b == 61) (y ∷ ys))) refl)
+
+-- a command with the three options
+abbrev pub long_rule : Text → Option Rule
+long_rule name = cond (bytes_eq (codes "workers") name) (Some (setting_rule workers)) (cond (bytes_eq (codes "shards") name) (Some (setting_rule shards))
+    (cond (bytes_eq (codes "preload") name) (Some preload_rule) None))
+
+module _ (c : List Rule) (by_long : (name : Text) → arg_by_long c name ≡ long_rule name) (by_id : (s : Setting) → IsValue c (name_of s)) where
+  named_view : (s : Setting) (y : ℕ) (ys : List ℕ) (text : Option Text) → text_after (y ∷ ys) ≡ text → name_of s ≡ before_first (λ b. b == 61) (y ∷ ys)
+      → ((t : Option Text) → form_of true (45 ∷ 45 ∷ y ∷ ys) ≡ named s (text_after (y ∷ ys))) → arg_by_long c (name_of s) ≡ Some (setting_rule s)
+      → View c true (45 ∷ 45 ∷ y ∷ ys)
+  named_view s y ys None e n f found =
+      is_name s (f None ∙ ap (named s) e) refl (ap₂ (λ (a : Text) (t : Option Text). Some (a, t)) (sym n) e) found (by_id s)
+  named_view s y ys (Some t) e n f found =
+      is_text s t (f None ∙ ap (named s) e) refl (ap₂ (λ (a : Text) (t : Option Text). Some (a, t)) (sym n) e) found
+
+  pub some_option : (y : ℕ) (ys : List ℕ) → View c true (45 ∷ 45 ∷ y ∷ ys)
+  unfolding none
+  some_option y ys = go (bytes_eq (codes "workers") (name_part y ys)) (bytes_eq (codes "shards") (name_part y ys)) (bytes_eq (codes "preload") (name_part y ys)) (text_after (y ∷ ys)) refl refl refl refl
+    where
+      go : (a b d : Bool) (text : Option Text) → bytes_eq (codes "workers") (name_part y ys) ≡ a → bytes_eq (codes "shards") (name_part y ys) ≡ b → bytes_eq (codes "preload") (name_part y ys) ≡ d
+          → text_after (y ∷ ys) ≡ text → View c true (45 ∷ 45 ∷ y ∷ ys)
+      go true b d text ea eb ed e = named_view workers y ys text e (same_bytes _ _ ea) (λ t. rw ea refl) (by_long (codes "workers"))
+      go false true d text ea eb ed e = named_view shards y ys text e (same_bytes _ _ eb) (λ t. rw (ea, eb) refl) (by_long (codes "shards"))
+      go false false true None ea eb ed e =
+          is_flag (rw (ea, eb, ed, e) refl) refl (ap₂ (λ (a : Text) (t : Option Text). Some (a, t)) (sym (same_bytes _ _ ed)) e) (by_long (codes "preload"))
+      go false false true (Some t) ea eb ed e =
+          is_refused (rw (ea, eb, ed, e) refl) refl
+          (λ rows p. ap (λ o. none (flag_word_fault c false o (45 ∷ 45 ∷ y ∷ ys) (held rows p))) (ap₂ (λ (a : Text) (t : Option Text). Some (a, t)) (sym (same_bytes _ _ ed)) e)
+          ∙ ap (λ r. none (long_fault c false r (Some t) (held rows p))) (by_long (codes "preload")))
+      go false false false text ea eb ed e =
+          is_refused (rw (ea, eb, ed) refl) refl (λ rows p. rw (by_long (name_part y ys), ea, eb, ed) refl)

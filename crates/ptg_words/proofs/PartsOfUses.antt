@@ -1,0 +1,214 @@
+-- What clap keeps of the words says the same as their parts: each option stands once, and the positionals are the operands.
+use Rattle.std.proofs.Common.{◌≡◌, ℕ, suc, Bool, true, false, not, cond, ◌&&◌, ◌||◌, List, [], ◌∷◌, ◌++◌, length, Option, Some, None, refl, sym, ap, ◌∙◌, arith, codes}
+use Rattle.std.specs.Prelude.{find, option_map, slice_get, nat_le, ◌==◌}
+use Rattle.std.specs.List.{list_any, list_all}
+use Rattle.std.specs.Str.{bytes_eq}
+use Rattle.clap.specs.Walk.{Row, Text, has_row}
+use Rattle.ptg_words.specs.Parts.{Setting, Part, name_of, workers, shards, operand, given, lacking, preload, stray, operands, texts_of, is_preload, is_lacking, is_stray, is_named, has_twice}
+use Rattle.std.proofs.lemmas.Bool.Decides.{nat_tests}
+use Rattle.ptg_words.proofs.ClapUses.{Use, use_row, fresh}
+use Rattle.ptg_words.proofs.ClapStates.{good, uses}
+
+-- no id stands twice
+abbrev pub distinct : List Use → Bool
+distinct [] = true
+distinct (u ∷ us) = not (list_any (λ v. bytes_eq u.0 v.0) us) && distinct us
+
+has_more : (id : Text) (rows : List Row) (u : Use) → has_row id (rows ++ use_row u ∷ []) ≡ (has_row id rows || bytes_eq u.0 id)
+has_more id [] u = go (bytes_eq u.0 id)
+  where
+    go : (b : Bool) → (b || false) ≡ b
+    go true = refl
+    go false = refl
+has_more id (r ∷ rs) u = go (bytes_eq r.id id) (has_more id rs u)
+  where
+    go : (b : Bool) → has_row id (rs ++ use_row u ∷ []) ≡ (has_row id rs || bytes_eq u.0 id) → (b || has_row id (rs ++ use_row u ∷ [])) ≡ ((b || has_row id rs) || bytes_eq u.0 id)
+    go true e = refl
+    go false e = e
+
+none_more : (us : List Use) (rows : List Row) (u : Use)
+    → list_all (λ (v : Use). not (has_row v.0 (rows ++ use_row u ∷ []))) us ≡ (list_all (λ (v : Use). not (has_row v.0 rows)) us && not (list_any (λ (v : Use). bytes_eq u.0 v.0) us))
+none_more [] rows u = refl
+none_more (v ∷ vs) rows u =
+    ap (λ b. not b && list_all (λ (v : Use). not (has_row v.0 (rows ++ use_row u ∷ []))) vs) (has_more v.0 rows u)
+    ∙ ap (λ b. not (has_row v.0 rows || bytes_eq u.0 v.0) && b) (none_more vs rows u)
+    ∙ go (has_row v.0 rows) (bytes_eq u.0 v.0) (list_all (λ (v : Use). not (has_row v.0 rows)) vs) (list_any (λ (v : Use). bytes_eq u.0 v.0) vs)
+  where
+    go : (a b x y : Bool) → (not (a || b) && (x && not y)) ≡ ((not a && x) && not (b || y))
+    go true b x y = refl
+    go false true true y = refl
+    go false true false y = refl
+    go false false x y = refl
+
+fresh_is : (us : List Use) (rows : List Row) → fresh rows us ≡ (list_all (λ (u : Use). not (has_row u.0 rows)) us && distinct us)
+fresh_is [] rows = refl
+fresh_is (u ∷ us) rows =
+    ap (λ b. not (has_row u.0 rows) && b) (fresh_is us (rows ++ use_row u ∷ []) ∙ ap (λ b. b && distinct us) (none_more us rows u))
+    ∙ go (not (has_row u.0 rows)) (list_all (λ (v : Use). not (has_row v.0 rows)) us) (not (list_any (λ (v : Use). bytes_eq u.0 v.0) us)) (distinct us)
+  where
+    go : (a x y d : Bool) → (a && ((x && y) && d)) ≡ ((a && x) && (y && d))
+    go false x y d = refl
+    go true false y d = refl
+    go true true y d = refl
+
+no_rows : (us : List Use) → list_all (λ (u : Use). not (has_row u.0 [])) us ≡ true
+no_rows [] = refl
+no_rows (u ∷ us) = no_rows us
+
+pub fresh_first : (us : List Use) → fresh [] us ≡ distinct us
+fresh_first us = fresh_is us [] ∙ ap (λ b. b && distinct us) (no_rows us)
+
+-- the ids of positionals are no names of options, and differ
+abbrev pub Apart : List Text → Type 0
+Apart [] = Unit {0}
+Apart (i ∷ is) = ((s : Setting) → (bytes_eq (name_of s) i ≡ false) × (bytes_eq i (name_of s) ≡ false)) × (bytes_eq (codes "preload") i ≡ false)
+    × (bytes_eq i (codes "preload") ≡ false) × (list_any (bytes_eq i) is ≡ false) × Apart is
+
+-- the name of an option, which is no positional's id
+abbrev pub IsOptionName : List Text → Text → Type 0
+IsOptionName [] name = Unit {0}
+IsOptionName (i ∷ is) name = (bytes_eq name i ≡ false) × IsOptionName is name
+
+right_of : (a b : Bool) → (a || b) ≡ false → b ≡ false
+right_of false b e = e
+right_of true b e = let bad : true ≡ false = e in absurd cc
+
+not_later : (i : Text) → ((s : Setting) → bytes_eq i (name_of s) ≡ false) → bytes_eq i (codes "preload") ≡ false
+    → (is : List Text) (ps : List Part) → list_any (bytes_eq i) is ≡ false → list_any (λ (v : Use). bytes_eq i v.0) (uses is ps) ≡ false
+not_later i a b is [] e = refl
+not_later i a b [] (operand w ∷ ps) e = not_later i a b [] ps e
+not_later i a b (j ∷ js) (operand w ∷ ps) e = go (bytes_eq i j) refl (not_later i a b js ps (right_of (bytes_eq i j) _ e))
+  where
+    go : (t : Bool) → bytes_eq i j ≡ t → list_any (λ (v : Use). bytes_eq i v.0) (uses js ps) ≡ false → (bytes_eq i j || list_any (λ (v : Use). bytes_eq i v.0) (uses js ps)) ≡ false
+    go false t r = rw t r
+    go true t r = let bad : true ≡ false = sym (rw t refl) ∙ e in absurd cc
+not_later i a b is (given s t ∷ ps) e = rw (a s) (not_later i a b is ps e)
+not_later i a b is (lacking s ∷ ps) e = not_later i a b is ps e
+not_later i a b is (preload ∷ ps) e = rw b (not_later i a b is ps e)
+not_later i a b is (stray ∷ ps) e = not_later i a b is ps e
+
+names_any : (name : Text) (ids : List Text) (ps : List Part) → IsOptionName ids name → good ids ps ≡ true
+    → list_any (λ (v : Use). bytes_eq name v.0) (uses ids ps) ≡ list_any (is_named name) ps
+names_any name ids [] o g = refl
+names_any name [] (operand w ∷ ps) o g = let bad : false ≡ true = g in absurd cc
+names_any name (i ∷ is) (operand w ∷ ps) o g = rw (o.0) (names_any name is ps o.1 g)
+names_any name ids (given s t ∷ ps) o g = ap (λ b. bytes_eq name (name_of s) || b) (names_any name ids ps o g)
+names_any name ids (lacking s ∷ ps) o g = let bad : false ≡ true = g in absurd cc
+names_any name ids (preload ∷ ps) o g = ap (λ b. bytes_eq name (codes "preload") || b) (names_any name ids ps o g)
+names_any name ids (stray ∷ ps) o g = let bad : false ≡ true = g in absurd cc
+
+setting_name : (s : Setting) (ids : List Text) → Apart ids → IsOptionName ids (name_of s)
+setting_name s [] a = tt
+setting_name s (i ∷ is) a = ((a.0 s).0, setting_name s is a.4)
+
+preload_name : (ids : List Text) → Apart ids → IsOptionName ids (codes "preload")
+preload_name [] a = tt
+preload_name (i ∷ is) a = (a.1, preload_name is a.4)
+
+not_or : (a b : Bool) → (not a && not b) ≡ not (a || b)
+not_or true b = refl
+not_or false b = refl
+
+distinct_is : (ids : List Text) (ps : List Part) → Apart ids → good ids ps ≡ true → distinct (uses ids ps) ≡ not (has_twice ps)
+distinct_is ids [] a g = refl
+distinct_is [] (operand w ∷ ps) a g = let bad : false ≡ true = g in absurd cc
+distinct_is (i ∷ is) (operand w ∷ ps) a g = rw (not_later i (λ s. (a.0 s).1) a.2 is ps a.3) (distinct_is is ps a.4 g)
+distinct_is ids (given s t ∷ ps) a g =
+    ap (λ b. not b && distinct (uses ids ps)) (names_any (name_of s) ids ps (setting_name s ids a) g)
+    ∙ ap (λ b. not (list_any (is_named (name_of s)) ps) && b) (distinct_is ids ps a g) ∙ not_or _ _
+distinct_is ids (lacking s ∷ ps) a g = let bad : false ≡ true = g in absurd cc
+distinct_is ids (preload ∷ ps) a g =
+    ap (λ b. not b && distinct (uses ids ps)) (names_any (codes "preload") ids ps (preload_name ids a) g)
+    ∙ ap (λ b. not (list_any (is_named (codes "preload")) ps) && b) (distinct_is ids ps a g) ∙ not_or _ _
+distinct_is ids (stray ∷ ps) a g = let bad : false ≡ true = g in absurd cc
+
+pub fresh_once : (ids : List Text) (ps : List Part) → Apart ids → good ids ps ≡ true → fresh [] (uses ids ps) ≡ not (has_twice ps)
+fresh_once ids ps a g = fresh_first (uses ids ps) ∙ distinct_is ids ps a g
+
+-- the first value of an id
+abbrev pub value_in : Text → List Use → Option Text
+value_in id us = option_map (λ u. u.1) (find (λ u. bytes_eq u.0 id) us)
+
+pub same : (i : Text) → bytes_eq i i ≡ true
+same [] = refl
+same (b ∷ bs) = let here : (b == b) ≡ true = grind (arith, nat_tests) in rw (here, same bs)
+
+pub first_operand : (i : Text) (is : List Text) (ps : List Part) → ((s : Setting) → bytes_eq (name_of s) i ≡ false) → bytes_eq (codes "preload") i ≡ false
+    → value_in i (uses (i ∷ is) ps) ≡ slice_get (operands ps) 0
+first_operand i is [] a b = refl
+first_operand i is (operand w ∷ ps) a b = rw (same i) refl
+first_operand i is (given s t ∷ ps) a b = rw (a s) (first_operand i is ps a b)
+first_operand i is (lacking s ∷ ps) a b = first_operand i is ps a b
+first_operand i is (preload ∷ ps) a b = rw b (first_operand i is ps a b)
+first_operand i is (stray ∷ ps) a b = first_operand i is ps a b
+
+pub second_operand : (i j : Text) (is : List Text) (ps : List Part) → bytes_eq i j ≡ false → ((s : Setting) → bytes_eq (name_of s) j ≡ false) → bytes_eq (codes "preload") j ≡ false
+    → value_in j (uses (i ∷ j ∷ is) ps) ≡ slice_get (operands ps) 1
+second_operand i j is [] d a b = refl
+second_operand i j is (operand w ∷ ps) d a b = rw d (first_operand j is ps a b)
+second_operand i j is (given s t ∷ ps) d a b = rw (a s) (second_operand i j is ps d a b)
+second_operand i j is (lacking s ∷ ps) d a b = second_operand i j is ps d a b
+second_operand i j is (preload ∷ ps) d a b = rw b (second_operand i j is ps d a b)
+second_operand i j is (stray ∷ ps) d a b = second_operand i j is ps d a b
+
+-- none of these is the name
+abbrev pub NoneIs : Text → List Text → Type 0
+NoneIs name [] = Unit {0}
+NoneIs name (i ∷ is) = (bytes_eq i name ≡ false) × NoneIs name is
+
+pub setting_value : (s : Setting) (ids : List Text) (ps : List Part) → NoneIs (name_of s) ids → value_in (name_of s) (uses ids ps) ≡ slice_get (texts_of s ps) 0
+setting_value s ids [] h = refl
+setting_value s [] (operand w ∷ ps) h = setting_value s [] ps h
+setting_value s (i ∷ is) (operand w ∷ ps) h = rw (h.0) (setting_value s is ps h.1)
+setting_value workers ids (given workers t ∷ ps) h = refl
+setting_value workers ids (given shards t ∷ ps) h = setting_value workers ids ps h
+setting_value shards ids (given workers t ∷ ps) h = setting_value shards ids ps h
+setting_value shards ids (given shards t ∷ ps) h = refl
+setting_value s ids (lacking t ∷ ps) h = setting_value s ids ps h
+setting_value workers ids (preload ∷ ps) h = setting_value workers ids ps h
+setting_value shards ids (preload ∷ ps) h = setting_value shards ids ps h
+setting_value s ids (stray ∷ ps) h = setting_value s ids ps h
+
+pub preload_value : (ids : List Text) (ps : List Part) → NoneIs (codes "preload") ids
+    → value_in (codes "preload") (uses ids ps) ≡ cond (list_any is_preload ps) (Some (codes "true")) None
+preload_value ids [] h = refl
+preload_value [] (operand w ∷ ps) h = preload_value [] ps h
+preload_value (i ∷ is) (operand w ∷ ps) h = rw (h.0) (preload_value is ps h.1)
+preload_value ids (given workers t ∷ ps) h = preload_value ids ps h
+preload_value ids (given shards t ∷ ps) h = preload_value ids ps h
+preload_value ids (lacking t ∷ ps) h = preload_value ids ps h
+preload_value ids (preload ∷ ps) h = refl
+preload_value ids (stray ∷ ps) h = preload_value ids ps h
+
+zero_le : (n : ℕ) → nat_le 0 n ≡ true
+zero_le n = grind (arith, nat_tests)
+
+none_below : (n : ℕ) → nat_le (suc n) 0 ≡ false
+none_below n = grind (arith, nat_tests)
+
+le_suc : (a b : ℕ) (t : Bool) → nat_le a b ≡ t → nat_le (suc a) (suc b) ≡ t
+le_suc a b true e = grind (arith, nat_tests)
+le_suc a b false e = grind (arith, nat_tests)
+
+both_more : (a b : ℕ) → nat_le (suc a) (suc b) ≡ nat_le a b
+both_more a b = le_suc a b (nat_le a b) refl
+
+both_false : (a b : Bool) → false ≡ (not a && (not b && false))
+both_false true b = refl
+both_false false true = refl
+both_false false false = refl
+
+-- the parts fit where none is stray or lacking, and there are no more operands than positionals
+pub good_is : (ids : List Text) (ps : List Part)
+    → good ids ps ≡ (not (list_any is_stray ps) && (not (list_any is_lacking ps) && nat_le (length (operands ps)) (length ids)))
+good_is ids [] = sym (zero_le (length ids))
+good_is [] (operand w ∷ ps) = rw (none_below (length (operands ps))) (both_false (list_any is_stray ps) (list_any is_lacking ps))
+good_is (i ∷ is) (operand w ∷ ps) = good_is is ps ∙ ap (λ b. not (list_any is_stray ps) && (not (list_any is_lacking ps) && b)) (sym (both_more (length (operands ps)) (length is)))
+good_is ids (given s t ∷ ps) = good_is ids ps
+good_is ids (lacking s ∷ ps) = go (list_any is_stray ps)
+  where
+    go : (a : Bool) → false ≡ (not a && false)
+    go true = refl
+    go false = refl
+good_is ids (preload ∷ ps) = good_is ids ps
+good_is ids (stray ∷ ps) = refl

@@ -1,0 +1,112 @@
+-- The rules hold or fail by what the parts of the words are.
+use Rattle.std.proofs.Common.{◌≡◌, ℕ, Bool, true, false, not, ◌&&◌, List, [], ◌∷◌, ◌++◌, ◌+◌, take, length, Some, refl, sym, ap, ◌∙◌, subst, arith, ◌<◌}
+use Rattle.std.specs.Prelude.{◌==◌, drop, option_map, nat_le}
+use Rattle.std.specs.List.{All, list_any, list_all, slice_index_or}
+use Rattle.std.specs.Option.{option_map_or}
+use Rattle.std.proofs.lemmas.List.Elements.{All-drop, All-push}
+use Rattle.std.proofs.lemmas.List.{take_more, map-append}
+use Rattle.std.specs.Borrow.{Bor}
+use Rattle.ptg_base.specs.Decimal.{decimal, is_decimal, is_digit}
+use Rattle.ptg_words.specs.Parts.{Part, parts, operands, is_lacking, is_stray, has_twice}
+use Rattle.ptg_words.specs.declared.order.Order.{Order}
+use Rattle.ptg_words.specs.Words.{Verb, Breaks, Means, Orders, IsProper, IsUsage, no_verb, improper_word, stray_word, lacking_number, option_twice, operand_number, bad_number, read, verb_of, has_options, operand_count, has_bad_number, has_wrong_count}
+use Rattle.ptg_words.specs.Readings.{AllProper, IsOf, is_read, texts}
+
+pub all_proper : (ws : List (List ℕ)) → All IsProper ws → AllProper ws
+all_proper [] h = tt
+all_proper (w ∷ ws) h = (h 0 w (omega arith), all_proper ws (All-drop IsProper 1 (w ∷ ws) h))
+
+pub rest_proper : (ws : List (List ℕ)) → All IsProper ws → AllProper (drop 1 ws)
+rest_proper [] h = tt
+rest_proper (w ∷ ws) h = all_proper ws (All-drop IsProper 1 (w ∷ ws) h)
+
+-- a rule that is broken is broken by the parts
+by_parts : (rule : Verb → List Part → Bool) (ws : List (List ℕ)) (v : Verb) (ps : List Part) → read ws ≡ Some (v, ps) → Breaks rule ws → rule v ps ≡ true
+by_parts rule ws v ps e h = sym (ap (λ o. option_map_or (λ r. rule r.0 r.1) o false) e) ∙ h
+
+to_rule : (rule : Verb → List Part → Bool) (ws : List (List ℕ)) (v : Verb) (ps : List Part) → read ws ≡ Some (v, ps) → rule v ps ≡ true → Breaks rule ws
+to_rule rule ws v ps e h = ap (λ o. option_map_or (λ r. rule r.0 r.1) o false) e ∙ h
+
+clash : (b : Bool) → b ≡ true → not b ≡ true → ⊥
+clash true e f = absurd cc
+clash false e f = absurd cc
+
+four : (a b c d : Bool) → (not a && (not b && (not c && d))) ≡ true → (not a ≡ true) × (not b ≡ true) × (not c ≡ true) × (d ≡ true)
+four false false false true e = (refl, refl, refl, refl)
+four false false false false e = absurd cc
+four false false true d e = absurd cc
+four false true c d e = absurd cc
+four true b c d e = absurd cc
+
+kept : (v : Verb) (ps : List Part) → is_read (operand_count v) ps ≡ true
+    → (not (list_any is_stray ps) ≡ true) × (not (list_any is_lacking ps) ≡ true) × (not (has_twice ps) ≡ true) × ((length (operands ps) == operand_count v) ≡ true)
+kept v ps good = four (list_any is_stray ps) (list_any is_lacking ps) (has_twice ps) (length (operands ps) == operand_count v) good
+
+-- arguments whose parts keep the rules break none
+pub keeps_rules : (ws : List (List ℕ)) (v : Verb) (ps : List Part) → read ws ≡ Some (v, ps) → All IsProper ws → is_read (operand_count v) ps ≡ true → has_bad_number v ps ≡ false
+    → IsUsage ws → ⊥
+keeps_rules ws v ps e proper good number (no_verb h) = absurd cc
+keeps_rules ws v ps e proper good number (improper_word any) = any.4 (subst IsProper any.3 (proper any.0 any.1 any.2))
+keeps_rules ws v ps e proper good number (stray_word h) = clash _ (by_parts (λ v ps. list_any is_stray ps) ws v ps e h) (kept v ps good).0
+keeps_rules ws v ps e proper good number (lacking_number h) = clash _ (by_parts (λ v ps. list_any is_lacking ps) ws v ps e h) (kept v ps good).1
+keeps_rules ws v ps e proper good number (option_twice h) = clash _ (by_parts (λ v ps. has_twice ps) ws v ps e h) (kept v ps good).2
+keeps_rules ws v ps e proper good number (operand_number h) =
+    clash (length (operands ps) == operand_count v) (kept v ps good).3 (by_parts has_wrong_count ws v ps e h)
+keeps_rules ws v ps e proper good number (bad_number h) = let bad = by_parts has_bad_number ws v ps e h in absurd cc
+
+-- arguments whose parts break a rule
+pub breaks_rule : (ws : List (List ℕ)) (v : Verb) (ps : List Part) → read ws ≡ Some (v, ps) → is_read (operand_count v) ps ≡ false → IsUsage ws
+breaks_rule ws v ps e h = go (list_any is_stray ps) (list_any is_lacking ps) (has_twice ps) (length (operands ps) == operand_count v) refl refl refl refl
+  where
+    go : (a b c d : Bool) → list_any is_stray ps ≡ a → list_any is_lacking ps ≡ b → has_twice ps ≡ c → (length (operands ps) == operand_count v) ≡ d → IsUsage ws
+    go true b c d ea eb ec ed = stray_word (to_rule (λ v ps. list_any is_stray ps) ws v ps e ea)
+    go false true c d ea eb ec ed = lacking_number (to_rule (λ v ps. list_any is_lacking ps) ws v ps e eb)
+    go false false true d ea eb ec ed = option_twice (to_rule (λ v ps. has_twice ps) ws v ps e ec)
+    go false false false false ea eb ec ed = operand_number (to_rule has_wrong_count ws v ps e (ap not ed))
+    go false false false true ea eb ec ed = let bad : true ≡ false = sym (rw (ea, eb, ec, ed) refl) ∙ h in absurd cc
+
+pub breaks_number : (ws : List (List ℕ)) (v : Verb) (ps : List Part) → read ws ≡ Some (v, ps) → has_bad_number v ps ≡ true → IsUsage ws
+breaks_number ws v ps e h = bad_number (to_rule has_bad_number ws v ps e h)
+
+-- a number in decimal digits is at most the largest
+pub at_most : (most : ℕ) (text : List ℕ) → is_decimal most text ≡ true → nat_le (decimal text) most ≡ true
+unfolding is_decimal
+at_most most [] h = absurd cc
+at_most most (b ∷ bs) h = go (list_all is_digit (b ∷ bs)) (nat_le (decimal (b ∷ bs)) most) h
+  where
+    go : (x y : Bool) → (x && y) ≡ true → y ≡ true
+    go true y e = e
+    go false y e = absurd cc
+
+-- what the parts of proper words mean is what the words order
+pub order_of : (v : Verb) (ws : List (List ℕ)) (order : Order) → IsOf v ws → is_read (operand_count v) (parts (has_options v) (drop 1 ws)) ≡ true
+    → has_bad_number v (parts (has_options v) (drop 1 ws)) ≡ false → Means v (parts (has_options v) (drop 1 ws)) order → Orders ws order
+order_of v ws order of good number means = record {
+  verb = v;
+  rest = parts (has_options v) (drop 1 ws);
+  reads = of.reads;
+  means = means;
+  keeps = keeps_rules ws v (parts (has_options v) (drop 1 ws)) of.reads of.proper good number;
+}
+
+pub refused : (v : Verb) (ws : List (List ℕ)) → IsOf v ws → is_read (operand_count v) (parts (has_options v) (drop 1 ws)) ≡ false → IsUsage ws
+refused v ws of h = breaks_rule ws v (parts (has_options v) (drop 1 ws)) of.reads h
+
+pub no_number : (v : Verb) (ws : List (List ℕ)) → IsOf v ws → has_bad_number v (parts (has_options v) (drop 1 ws)) ≡ true → IsUsage ws
+no_number v ws of h = breaks_number ws v (parts (has_options v) (drop 1 ws)) of.reads h
+
+-- proper words whose first is the word of a verb
+pub begins : (word : List ℕ) (v : Verb) (w : List ℕ) (ws : List (List ℕ)) → All IsProper (w ∷ ws) → w ≡ word → verb_of word ≡ Some v → IsOf v (w ∷ ws)
+begins word v w ws proper same is = record {
+  reads = ap (option_map (λ verb. (verb, parts (has_options verb) ws))) (ap verb_of same ∙ is);
+  proper = proper;
+}
+
+-- one more word
+pub texts_more : (xs ys : List (Bor (List ℕ))) (list : List (List ℕ)) (i : ℕ) (d : List ℕ) (x : Bor (List ℕ)) → ys ≡ xs ++ x ∷ [] → texts xs ≡ take i list → i < length list → x.now ≡ slice_index_or list i d
+    → texts ys ≡ take (i + 1) list
+texts_more xs ys list i d x pushed same lt is =
+    ap texts pushed ∙ map-append (λ (s : Bor (List ℕ)). s.now) xs (x ∷ []) ∙ ap (λ zs. zs ++ x.now ∷ []) same ∙ ap (λ z. take i list ++ z ∷ []) is ∙ sym (take_more list i d lt)
+
+pub proper_more : (list : List (List ℕ)) (i : ℕ) (d : List ℕ) → All IsProper (take i list) → i < length list → IsProper (slice_index_or list i d) → All IsProper (take (i + 1) list)
+proper_more list i d all lt p = subst (All IsProper) (sym (take_more list i d lt)) (All-push IsProper (take i list) (slice_index_or list i d) all p)

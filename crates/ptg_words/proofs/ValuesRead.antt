@@ -1,0 +1,125 @@
+-- From clap's clauses to what the parts of the words give.
+use Rattle.std.proofs.Common.{◌≡◌, ◌≢◌, ℕ, Bool, true, false, not, cond, ◌&&◌, ◌||◌, List, [], ◌∷◌, map, length, Option, Some, None, refl, sym, ap, ◌∙◌, arith}
+use Rattle.std.specs.Prelude.{option_map, option_and_then, slice_get, ◌==◌, find}
+use Rattle.std.specs.List.{list_any}
+use Rattle.std.specs.Str.{bytes_eq}
+use Rattle.std.specs.Borrow.{Bor}
+use Rattle.std.proofs.lemmas.Bool.Decides.{nat_tests}
+use Rattle.clap.specs.Walk.{Row, Text, one_of, row_of, row_text, rows_of}
+use Rattle.clap.specs.Values.{read_as}
+use Rattle.clap.specs.Matches.{one_text}
+use Rattle.clap.specs.Facts.{Entry}
+use Rattle.clap.specs.Kinds.{Kinds}
+use Rattle.clap.specs.declared.parser.matches.Found.{Found}
+use Rattle.clap.specs.declared.parser.matches.MatchedArg.{MatchedArg}
+use Rattle.ptg_words.specs.Parts.{Setting, Part, name_of, workers, shards, operand, given, lacking, preload, stray, operands, texts_of, is_lacking, is_stray, is_named, has_twice}
+use Rattle.ptg_words.specs.Readings.{is_read, texts_in}
+use Rattle.ptg_words.proofs.ClapUses.{none}
+
+pub none_is : (k : Kinds) → k ≡ [] → none k ≡ true
+unfolding none
+none_is k e = rw e refl
+
+pub some_is : (k : Kinds) → k ≢ [] → none k ≡ false
+unfolding none
+some_is [] h = absurd (h refl)
+some_is (k ∷ ks) h = refl
+
+-- the flag that clap reads is in the rows
+pub one_text-rows : (f : Found) (id : Text) → one_text f id ≡ one_of id (rows_of f)
+one_text-rows f id = go f.entries.items
+  where
+    first : (xs : List (Bor Text)) (read : Text → Text) → option_map (λ s. read s.now) (slice_get xs 0) ≡ option_map read (slice_get (map (λ s. s.now) xs) 0)
+    first [] read = refl
+    first (x ∷ xs) read = refl
+
+    go : (xs : List Entry) → option_and_then (λ (a : MatchedArg). option_map (λ s. read_as a.reading s.now) (slice_get a.vals.items 0)) (option_map (λ (e : Entry). e.1) (find (λ (e : Entry). bytes_eq e.0.now id) xs))
+        ≡ option_and_then row_text (find (λ (r : Row). bytes_eq r.id id) (map row_of xs))
+    go [] = refl
+    go (x ∷ xs) = here (bytes_eq x.0.now id) (go xs)
+      where
+        here : (b : Bool)
+            → option_and_then (λ (a : MatchedArg). option_map (λ s. read_as a.reading s.now) (slice_get a.vals.items 0)) (option_map (λ (e : Entry). e.1) (find (λ (e : Entry). bytes_eq e.0.now id) xs))
+            ≡ option_and_then row_text (find (λ (r : Row). bytes_eq r.id id) (map row_of xs))
+            → option_and_then (λ (a : MatchedArg). option_map (λ s. read_as a.reading s.now) (slice_get a.vals.items 0)) (option_map (λ (e : Entry). e.1) (cond b (Some x) (find (λ (e : Entry). bytes_eq e.0.now id) xs)))
+            ≡ option_and_then row_text (cond b (Some (row_of x)) (find (λ (r : Row). bytes_eq r.id id) (map row_of xs)))
+        here true e = first x.1.vals.items (read_as x.1.reading)
+        here false e = e
+
+-- ---- lists of as many texts as wanted
+
+four : (a b c d : Bool) → (a && (b && (c && d))) ≡ true → (a ≡ true) × (b ≡ true) × (c ≡ true) × (d ≡ true)
+four true true true true e = (refl, refl, refl, refl)
+four true true true false e = absurd cc
+four true true false d e = absurd cc
+four true false c d e = absurd cc
+four false b c d e = absurd cc
+
+pub counted : (n : ℕ) (ps : List Part) → is_read n ps ≡ true → (length (operands ps) ≡ n) × (has_twice ps ≡ false)
+counted n ps e =
+    let f = four (not (list_any is_stray ps)) (not (list_any is_lacking ps)) (not (has_twice ps)) (length (operands ps) == n) e in
+    let same : (length (operands ps) == n) ≡ true = f.3 in
+    (grind (arith, nat_tests), no_twice (has_twice ps) f.2)
+  where
+    no_twice : (b : Bool) → not b ≡ true → b ≡ false
+    no_twice false h = refl
+    no_twice true h = absurd cc
+
+pub one_of_one : (xs : List Text) (o : Option (Bor Text)) → length xs ≡ 1 → option_map (λ (s : Bor Text). s.now) o ≡ slice_get xs 0 → xs ≡ texts_in o
+one_of_one [] o n e = absurd (omega (arith, n))
+one_of_one (a ∷ []) None n e = absurd cc
+one_of_one (a ∷ []) (Some s) n e = let same : s.now ≡ a = cc in cc
+one_of_one (a ∷ b ∷ rest) o n e = absurd (omega (arith, n))
+
+pub two_of_two : (xs : List Text) (o p : Option (Bor Text)) → length xs ≡ 2 → option_map (λ (s : Bor Text). s.now) o ≡ slice_get xs 0 → option_map (λ (s : Bor Text). s.now) p ≡ slice_get xs 1
+    → (a b : Bor Text) × (o ≡ Some a) × (p ≡ Some b) × (xs ≡ a.now ∷ b.now ∷ [])
+two_of_two [] o p n e f = absurd (omega (arith, n))
+two_of_two (x ∷ []) o p n e f = absurd (omega (arith, n))
+two_of_two (x ∷ y ∷ []) None p n e f = absurd cc
+two_of_two (x ∷ y ∷ []) (Some a) None n e f = absurd cc
+two_of_two (x ∷ y ∷ []) (Some a) (Some b) n e f = let same : a.now ≡ x = cc in let other : b.now ≡ y = cc in (a, b, refl, refl, cc)
+two_of_two (x ∷ y ∷ z ∷ rest) o p n e f = absurd (omega (arith, n))
+
+-- an option that does not stand twice has one text at most
+no_texts : (s : Setting) (ps : List Part) → list_any (is_named (name_of s)) ps ≡ false → texts_of s ps ≡ []
+no_texts s [] e = refl
+no_texts s (operand w ∷ ps) e = no_texts s ps e
+no_texts workers (given workers t ∷ ps) e = absurd cc
+no_texts workers (given shards t ∷ ps) e = no_texts workers ps e
+no_texts shards (given workers t ∷ ps) e = no_texts shards ps e
+no_texts shards (given shards t ∷ ps) e = absurd cc
+no_texts workers (lacking workers ∷ ps) e = absurd cc
+no_texts workers (lacking shards ∷ ps) e = no_texts workers ps e
+no_texts shards (lacking workers ∷ ps) e = no_texts shards ps e
+no_texts shards (lacking shards ∷ ps) e = absurd cc
+no_texts workers (preload ∷ ps) e = no_texts workers ps e
+no_texts shards (preload ∷ ps) e = no_texts shards ps e
+no_texts s (stray ∷ ps) e = no_texts s ps e
+
+neither_of : (a b : Bool) → (a || b) ≡ false → (a ≡ false) × (b ≡ false)
+neither_of false false e = (refl, refl)
+neither_of true b e = absurd cc
+neither_of false true e = absurd cc
+
+abbrev listed : Option Text → List Text
+listed None = []
+listed (Some t) = t ∷ []
+
+once : (s : Setting) (ps : List Part) → has_twice ps ≡ false → texts_of s ps ≡ listed (slice_get (texts_of s ps) 0)
+once s [] e = refl
+once s (operand w ∷ ps) e = once s ps e
+once workers (given workers t ∷ ps) e = ap (λ xs. t ∷ xs) (no_texts workers ps (neither_of _ _ e).0)
+once workers (given shards t ∷ ps) e = once workers ps (neither_of _ _ e).1
+once shards (given workers t ∷ ps) e = once shards ps (neither_of _ _ e).1
+once shards (given shards t ∷ ps) e = ap (λ xs. t ∷ xs) (no_texts shards ps (neither_of _ _ e).0)
+once s (lacking t ∷ ps) e = once s ps (neither_of _ _ e).1
+once s (preload ∷ ps) e = once s ps (neither_of _ _ e).1
+once s (stray ∷ ps) e = once s ps e
+
+pub text_of_setting : (s : Setting) (ps : List Part) (o : Option (Bor Text)) → has_twice ps ≡ false
+    → option_map (λ (x : Bor Text). x.now) o ≡ slice_get (texts_of s ps) 0 → texts_of s ps ≡ texts_in o
+text_of_setting s ps o e f = once s ps e ∙ ap listed (sym f) ∙ go o
+  where
+    go : (o : Option (Bor Text)) → listed (option_map (λ (x : Bor Text). x.now) o) ≡ texts_in o
+    go None = refl
+    go (Some x) = refl

@@ -1,0 +1,6 @@
+use Rattle.ptg_words.specs.Readings.{texts}
+use Rattle.ptg_words.proofs.Rules.{rest_proper}
+use Rattle.ptg_words.proofs.reading.show.Goals as goal
+
+pub read_one-requires-clause-proper : goal.read_one-requires-clause-proper
+read_one-requires-clause-proper c = rest_proper (texts c.args.words.now) c.requires.proper

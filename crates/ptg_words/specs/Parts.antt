@@ -1,0 +1,136 @@
+-- The words after the verb, read as operands and options. Source: this project's own choice; the option forms are those of
+-- GNU's long options.
+use Rattle.std.specs.Prelude.{◌==◌, ◌&&◌, ◌||◌, not, ℕ, Bool, true, false, List, [], ◌∷◌, Option, Some, None, is_some, if◌then◌else◌, codes, drop}
+use Rattle.std.specs.List.{list_any, before_first, after_first}
+use Rattle.std.specs.Option.{option_map_or}
+use Rattle.std.specs.Str.{bytes_eq}
+
+-- an option that has a number as its value
+pub data Setting : Type 0 where
+  workers : Setting
+  shards : Setting
+
+abbrev pub name_of : Setting → List ℕ
+name_of workers = codes "workers"
+name_of shards = codes "shards"
+
+-- What a word is by itself: a word that begins with no `-`, `--NAME` or `--NAME=TEXT` of a setting, `--preload`, or a word that
+-- begins with `-` and is none of these.
+pub data Form : Type 0 where
+  plain : Form
+  named : Setting → Option (List ℕ) → Form
+  flag : Form
+  unknown : Form
+
+-- `-`, which is 45, begins the word
+abbrev pub is_dashed : List ℕ → Bool
+is_dashed [] = false
+is_dashed (b ∷ bs) = b == 45
+
+-- the option that has this name, with the text after `=` if there is one
+abbrev pub option_named : List ℕ → Option (List ℕ) → Form
+option_named name text =
+    if bytes_eq (codes "workers") name then named workers text
+    else if bytes_eq (codes "shards") name then named shards text
+    else if bytes_eq (codes "preload") name && not (is_some text) then flag
+    else unknown
+
+-- the text after the first `=`, which is 61
+abbrev pub text_after : List ℕ → Option (List ℕ)
+text_after word = if list_any (λ b. b == 61) word then Some (after_first (λ b. b == 61) word) else None
+
+-- the form of a word that begins with `-`; only `run` has options
+abbrev pub dashed_form : Bool → List ℕ → Form
+dashed_form has_options word =
+    if has_options && is_dashed word then option_named (before_first (λ b. b == 61) (drop 1 word)) (text_after (drop 1 word))
+    else unknown
+
+abbrev pub form_of : Bool → List ℕ → Form
+form_of has_options word = if is_dashed word then dashed_form has_options (drop 1 word) else plain
+
+-- What the words are in their order: an operand, a setting with its text, a setting that lacks it, `--preload`, or a stray
+-- word, which begins with `-` and is no option.
+pub data Part : Type 0 where
+  operand : List ℕ → Part
+  given : Setting → List ℕ → Part
+  lacking : Setting → Part
+  preload : Part
+  stray : Part
+
+-- the parts from a word of this form on
+abbrev pub after_word : Form → List ℕ → (Option Setting → List Part) → List Part
+after_word plain word rest = operand word ∷ rest None
+after_word (named s None) word rest = rest (Some s)
+after_word (named s (Some text)) word rest = given s text ∷ rest None
+after_word flag word rest = preload ∷ rest None
+after_word unknown word rest = stray ∷ rest None
+
+-- the same, after `--NAME`: a word that begins with no `-` is its text
+abbrev pub after_name : Setting → Form → List ℕ → (Option Setting → List Part) → List Part
+after_name s plain word rest = given s word ∷ rest None
+after_name s form word rest = lacking s ∷ after_word form word rest
+
+abbrev pub after : Option Setting → Form → List ℕ → (Option Setting → List Part) → List Part
+after None = after_word
+after (Some s) = after_name s
+
+abbrev pub at_end : Option Setting → List Part
+at_end None = []
+at_end (Some s) = lacking s ∷ []
+
+-- the parts of words, the first of which may follow `--NAME` of a setting
+unfoldable pub parts_from : Bool → Option Setting → List (List ℕ) → List Part
+parts_from has_options due [] = at_end due
+parts_from has_options due (word ∷ words) = after due (form_of has_options word) word (λ next. parts_from has_options next words)
+
+abbrev pub parts : Bool → List (List ℕ) → List Part
+parts has_options words = parts_from has_options None words
+
+-- the operands, in their order
+abbrev pub operands : List Part → List (List ℕ)
+operands [] = []
+operands (operand word ∷ rest) = word ∷ operands rest
+operands (given s text ∷ rest) = operands rest
+operands (lacking s ∷ rest) = operands rest
+operands (preload ∷ rest) = operands rest
+operands (stray ∷ rest) = operands rest
+
+-- the texts that a setting has, and whether `--preload` stands among the words
+abbrev pub is_of : Setting → Setting → Bool
+is_of s t = bytes_eq (name_of s) (name_of t)
+
+abbrev pub texts_of : Setting → List Part → List (List ℕ)
+texts_of s [] = []
+texts_of s (operand word ∷ rest) = texts_of s rest
+texts_of s (given t text ∷ rest) = if is_of s t then text ∷ texts_of s rest else texts_of s rest
+texts_of s (lacking t ∷ rest) = texts_of s rest
+texts_of s (preload ∷ rest) = texts_of s rest
+texts_of s (stray ∷ rest) = texts_of s rest
+
+abbrev pub is_preload : Part → Bool
+is_preload preload = true
+is_preload _ = false
+
+abbrev pub is_lacking : Part → Bool
+is_lacking (lacking s) = true
+is_lacking _ = false
+
+abbrev pub is_stray : Part → Bool
+is_stray stray = true
+is_stray _ = false
+
+-- the name of the option that a part is
+abbrev pub option_of : Part → Option (List ℕ)
+option_of (operand word) = None
+option_of (given s text) = Some (name_of s)
+option_of (lacking s) = Some (name_of s)
+option_of preload = Some (codes "preload")
+option_of stray = None
+
+abbrev pub is_named : List ℕ → Part → Bool
+is_named name part = option_map_or (bytes_eq name) (option_of part) false
+
+-- an option stands twice
+abbrev pub has_twice : List Part → Bool
+has_twice [] = false
+has_twice (part ∷ rest) = option_map_or (λ name. list_any (is_named name) rest) (option_of part) false || has_twice rest
