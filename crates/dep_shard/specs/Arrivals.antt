@@ -1,4 +1,4 @@
--- The tiles that came to a task, by the numbers of its flows.
+-- The tiles that came to a task, by the numbers of its flows. Source: DAGuE 2012, where a task keeps the data of its dependences until it runs; one tile a flow, in flow order, is this project's own choice.
 use Rattle.std.specs.Prelude.{ℕ, ◌+◌, ◌<◌, ◌≤◌, ℤ, not, nat_eq, nat_lt, if◌then◌else◌, List, [], ◌∷◌, filter, Option, Some, None}
 use Rattle.std.specs.Map.{lookup}
 

@@ -1,4 +1,4 @@
--- What contracts see of a shard: its entries by task, what was written, what trapped, two numbers, and its spares.
+-- What contracts see of a shard: its entries by task, what was written, what trapped, two numbers, and its spares. Source: DAGuE 2012, where an entry counts the dependences that have come; the form of the table is this project's own choice.
 use Rattle.std.specs.Prelude.{◌≡◌, ℕ, ◌+◌, ◌<◌, ◌≤◌, ℤ, false, cond, List, [], length, slice_index, Option, Some, None}
 use Rattle.std.specs.Map.{lookup}
 use Rattle.std.specs.Option.{unwrap_or}

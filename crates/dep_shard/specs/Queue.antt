@@ -1,4 +1,4 @@
--- How a shard's queue of candidates serves its entries.
+-- How a shard's queue of candidates serves its entries. Source: this project's own choice.
 use Rattle.std.specs.Prelude.{◌≡◌, ℕ, ◌+◌, ◌≤◌, ℤ, Bool, true, false, ◌&&◌, cond, nat_lt, nat_eq, List, [], ◌∷◌, Option}
 use Rattle.std.specs.BinaryHeap.{IsHeap}
 use Rattle.std.specs.List.{list_any}

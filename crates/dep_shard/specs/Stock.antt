@@ -1,4 +1,4 @@
--- Reserved tiles, by type.
+-- Reserved tiles, by type. Source: this project's own choice.
 use Rattle.std.specs.Prelude.{ℕ, ◌+◌, ◌≤◌, nat_eq, if◌then◌else◌, List, slice_index, Option, Some, None}
 
 -- the tiles of one type: how many numbers each has, and how many more can come without memory

@@ -1,4 +1,4 @@
--- The links of a list of tiles: each holds a tile and the links after it.
+-- The links of a list of tiles: each holds a tile and the links after it. Source: this project's own choice.
 use Rattle.std.specs.Prelude.{◌<◌, List, [], ◌∷◌}
 use Rattle.dep_shard.specs.Arrivals.{FlowTile}
 use Rattle.dep_shard.specs.declared.tile_list.First.{First}

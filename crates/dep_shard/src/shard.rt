@@ -32,7 +32,8 @@ pub enum Arrived {
 
 /// One shard of the dependency table: the entries of its unclaimed tasks, what its tasks wrote back, and which trapped.
 ///
-/// An addition within the spares cannot be refused. Without spares an addition takes memory as it needs it.
+/// An addition within the spares cannot be refused. Without spares an addition takes memory as it needs it; one that is refused lowers
+/// no spares.
 #[derive(Drop)]
 pub struct Shard {
     table: Table,
@@ -123,6 +124,7 @@ impl Shard {
         ensures err { OnErr result (self.new.entries ≡ self.old.entries) }
         ensures rest { KeepsAllButEntries self.old self.new }
         ensures spare { Uses self.old.spare self.new.spare 1 None 0 0 }
+        ensures kept { OnErr result (Uses self.old.spare self.new.spare 0 None 0 0) }
         ensures succeeds { 0 < self.old.spare.entries → IsOk result }
     {
         self.reserve_entries(1)?;
@@ -195,6 +197,7 @@ impl Shard {
         ensures err { OnErr result (self.new.entries ≡ self.old.entries) }
         ensures rest { KeepsAllButEntries self.old self.new }
         ensures spare { Uses self.old.spare self.new.spare (if is_some (entry_of self.old edge.now.to) then 0 else 1) (if is_some tile.entry then Some datatype else None) 0 0 }
+        ensures kept { OnErr result (Uses self.old.spare self.new.spare 0 None 0 0) }
         ensures succeeds { (entry_of self.old edge.now.to ≡ None → 0 < self.old.spare.entries) → (IsSome tile.entry → 0 < slice_index self.old.spare.tiles datatype) → IsOk result }
     {
         self.reserve_entry_of(&edge.to)?;
@@ -227,6 +230,7 @@ impl Shard {
         ensures ok { IfOk result (λ made. option_map (λ m. m.0) made ≡ option_copied tile.entry) }
         ensures same { IsUnchanged self.old self.new }
         ensures spare { Uses self.old.spare self.new.spare 0 (if is_some tile.entry then Some datatype else None) 0 0 }
+        ensures kept { OnErr result (Uses self.old.spare self.new.spare 0 None 0 0) }
         ensures succeeds { (IsSome tile.entry → 0 < slice_index self.old.spare.tiles datatype) → IsOk result }
     {
         self.stock.copy_if_any(datatype, tile)
@@ -319,6 +323,7 @@ impl Shard {
         ensures err { OnErr result (self.new.written ≡ self.old.written) }
         ensures rest { KeepsAllButWritten self.old self.new }
         ensures spare { Uses self.old.spare self.new.spare 0 (Some datatype) 1 0 }
+        ensures kept { OnErr result (Uses self.old.spare self.new.spare 0 None 0 0) }
         ensures succeeds { 0 < self.old.spare.writes → 0 < slice_index self.old.spare.tiles datatype → IsOk result }
     {
         self.written.reserve(1)?;
@@ -354,6 +359,7 @@ impl Shard {
         ensures rest { KeepsEntriesAndWritten self.old self.new }
         ensures err { OnErr result (IsUnchanged self.old self.new) }
         ensures spare { Uses self.old.spare self.new.spare 0 None 0 1 }
+        ensures kept { OnErr result (Uses self.old.spare self.new.spare 0 None 0 0) }
         ensures succeeds { 0 < self.old.spare.traps → IsOk result }
     {
         self.trapped.push((copy_of_task(t), cause))?;

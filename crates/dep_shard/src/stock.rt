@@ -1,5 +1,5 @@
 //! Reserved tiles of each type, and links to hold them in entries.
-ghost use Rattle.std.specs.Prelude.{◌≡◌, ◌+◌, ◌<◌, ◌≤◌, ℕ, Some, None, IsOk, IsSome, IfOk, IfSome, OnOk, is_some, if◌then◌else◌, length, slice_index, vec_len};
+ghost use Rattle.std.specs.Prelude.{◌≡◌, ◌+◌, ◌<◌, ◌≤◌, ℕ, Some, None, IsOk, IsSome, IfOk, IfSome, OnOk, OnErr, is_some, if◌then◌else◌, length, slice_index, vec_len};
 ghost use Rattle.std.specs.Option.{option_copied, option_map};
 ghost use Rattle.dep_shard.specs.Content.{IsTileOf};
 ghost use Rattle.dep_shard.specs.Stock.{UsesTile};
@@ -55,6 +55,7 @@ impl TypeStock {
         ensures ok { IfOk result (λ copy. copy ≡ tile.now) }
         ensures elems { self.new.elems ≡ self.old.elems }
         ensures spare { self.old.spare ≤ self.new.spare + 1 }
+        ensures err { OnErr result (self.old.spare ≤ self.new.spare) }
         ensures succeeds { 0 < self.old.spare → IsOk result }
     {
         self.pool.copy_of(tile)
@@ -66,6 +67,7 @@ impl TypeStock {
         ensures ok { IfOk result (λ made. made.0 ≡ tile.now) }
         ensures elems { self.new.elems ≡ self.old.elems }
         ensures spare { self.old.spare ≤ self.new.spare + 1 }
+        ensures err { OnErr result (self.old.spare ≤ self.new.spare) }
         ensures succeeds { 0 < self.old.spare → IsOk result }
     {
         let link = match self.links.pop() {
@@ -148,6 +150,7 @@ impl Stock {
         ensures ok { IfOk result (λ copy. copy ≡ tile.now) }
         ensures elems { self.new.elems ≡ self.old.elems }
         ensures spare { UsesTile self.old.spare self.new.spare (Some datatype) }
+        ensures err { OnErr result (UsesTile self.old.spare self.new.spare None) }
         ensures succeeds { 0 < slice_index self.old.spare datatype → IsOk result }
     {
         let stock = &mut self.types[datatype as usize];
@@ -165,6 +168,7 @@ impl Stock {
         ensures ok { IfOk result (λ made. made.0 ≡ tile.now) }
         ensures elems { self.new.elems ≡ self.old.elems }
         ensures spare { UsesTile self.old.spare self.new.spare (Some datatype) }
+        ensures err { OnErr result (UsesTile self.old.spare self.new.spare None) }
         ensures succeeds { 0 < slice_index self.old.spare datatype → IsOk result }
     {
         let stock = &mut self.types[datatype as usize];
@@ -181,6 +185,7 @@ impl Stock {
         ensures ok { IfOk result (λ made. option_map (λ m. m.0) made ≡ option_copied tile.entry) }
         ensures elems { self.new.elems ≡ self.old.elems }
         ensures spare { UsesTile self.old.spare self.new.spare (if is_some tile.entry then Some datatype else None) }
+        ensures err { OnErr result (UsesTile self.old.spare self.new.spare None) }
         ensures succeeds { (IsSome tile.entry → 0 < slice_index self.old.spare datatype) → IsOk result }
     {
         match tile {

@@ -4,3 +4,4 @@ pub mod Outcomes
 pub mod Accounts
 pub mod Rows
 pub mod Settled
+pub mod Pair

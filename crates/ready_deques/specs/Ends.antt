@@ -1,4 +1,4 @@
--- What contracts see of the ends of a deque.
+-- What contracts see of the ends of a deque. Source: this project's own choice.
 use Rattle.std.specs.Prelude.{◌≡◌, ℕ, ◌+◌, ◌-◌, List, []}
 use Rattle.std.specs.declared.alloc.Global.{Global}
 use Rattle.ptg_base.specs.Task.{Task}

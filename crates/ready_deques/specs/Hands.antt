@@ -1,4 +1,4 @@
--- What contracts see of one worker's hands: its account.
+-- What contracts see of one worker's hands: its account. Source: this project's own choice.
 use Rattle.std.specs.Prelude.{◌≡◌, ◌≢◌, ℕ, ◌+◌, ◌<◌, ◌≤◌, Some, List, [], ◌∷◌, ◌++◌, All, length, replicate, sum_by, slice_get, slice_index_or, slice_set}
 use Rattle.ptg_base.specs.Task.{Task}
 use Rattle.ready_deques.specs.Ends.{DequeId}

@@ -1,4 +1,4 @@
--- The rule of a deque of ready tasks, over all who hold an end of it: an id is taken from it at most as often as it was pushed to it.
+-- The rule of a deque of ready tasks, over all who hold an end of it: an id is taken from it at most as often as it was pushed to it. Source: work stealing as in DAGuE 2012; the rule is this project's own choice.
 use Rattle.std.specs.Prelude.{◌≡◌, ℕ, ◌+◌, ◌≤◌, List, [], ◌++◌, length, Contains, All, sum_by, count_by}
 use Rattle.ptg_base.specs.Task.{Task}
 use Rattle.ptg_base.specs.TaskComparing.{same_task}

@@ -1,4 +1,4 @@
--- What a clause says of a steal's answer.
+-- What a clause says of a steal's answer. Source: this project's own choice.
 use Rattle.ptg_base.specs.Task.{Task as TheTask}
 use Rattle.ready_deques.specs.declared.stolen.Stolen.{Stolen}
 use Rattle.ready_deques.specs.declared.stolen.Stolen.TheVariants.{Task, Empty}

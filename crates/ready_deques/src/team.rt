@@ -61,7 +61,7 @@ fn assemble(
     owners: Vec<OwnerEnd>,
     rows: Vec<Vec<ThiefEnd>>,
 ) -> Result<Vec<Hands>, OutOfMemory>
-    requires few { length owners.items ≤ 64 }
+    requires workers_at_most { length owners.items ≤ 64 }
     requires new { All (IsNew (length owners.items)) owners.items }
     requires rows { (length rows.items ≡ length owners.items) × All (λ row. row.items ≡ map new_thief owners.items) rows.items }
     ensures { IfOk result (λ hands. AreFresh (length owners.items) (map (λ b. b.deque) owners.items) hands.items) }

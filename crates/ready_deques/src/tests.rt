@@ -1,7 +1,11 @@
-ghost use Rattle.ready_deques.specs.Hands.{SameWorker};
+//! Deques on one thread and on several.
+
+ghost use Rattle.std.specs.Prelude.{[], ◌∷◌, IfOk};
+ghost use Rattle.ready_deques.specs.Hands.{AreTheOthers, SameWorker};
 
 use super::*;
 use ptg_base::TaskId;
+use std::alloc::Global;
 use std::sync::Wait;
 use std::test::Fail;
 use std::thread;
@@ -17,7 +21,9 @@ fn number_of(id: &TaskId) -> Option<i64> {
     id.params().first().copied()
 }
 
-fn pop(hands: &mut Hands) -> Option<i64> {
+fn pop(hands: &mut Hands) -> Option<i64>
+    ensures { SameWorker hands.old hands.new }
+{
     hands.pop().and_then(|id| number_of(&id))
 }
 
@@ -132,5 +138,28 @@ fn each_id_is_taken_once_by_four_threads(rt: HostRuntime) -> Result<(), Fail> {
         }
         assert_eq!(rt; all, 1);
     }
+    Ok(())
+}
+
+/// The hands of worker 1 of two, and those of worker 0.
+#[tactic(auto, using(crate::proofs::Pair::of_two))]
+fn pair(alloc: Global) -> Result<(Hands, Hands), Fail>
+    ensures { IfOk result (λ pair. AreTheOthers pair.0 (pair.1 ∷ [])) }
+{
+    let mut team = make(alloc, 2)?;
+    let (Some(last), Some(first)) = (team.pop(), team.pop()) else {
+        return Err("fewer than two".into());
+    };
+    Ok((last, first))
+}
+
+#[test]
+fn the_hands_of_a_team_are_settled(rt: HostRuntime) -> Result<(), Fail> {
+    let (mut owner, mut other) = pair(rt.alloc())?;
+    assert!(rt; owner.push(task(0)).is_ok());
+    assert!(rt; owner.push(task(1)).is_ok());
+    assert_eq!(rt; steal(&rt, &mut other, 1), Some(0));
+    assert_eq!(rt; pop(&mut owner), Some(1));
+    owner.settle(vec![in rt.alloc(); other]?);
     Ok(())
 }

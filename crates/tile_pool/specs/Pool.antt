@@ -1,4 +1,4 @@
--- What contracts see of a pool of tiles.
+-- What contracts see of a pool of tiles. Source: this project's own choice.
 use Rattle.std.specs.Prelude.{◌≡◌, ℕ, ◌+◌, ℤ, List, length}
 use Rattle.std.specs.List.{All}
 
