@@ -15,6 +15,3 @@ mod table;
 pub use checking::check;
 pub use laws::one_plan;
 pub use names::{is_missing, missing};
-
-#[cfg(test)]
-mod tests;

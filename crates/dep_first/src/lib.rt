@@ -8,8 +8,6 @@ mod place;
 mod range;
 mod source;
 mod task;
-#[cfg(test)]
-mod tests;
 
 pub use item::item_at;
 pub use matched::Matched;

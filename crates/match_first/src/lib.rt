@@ -8,8 +8,6 @@ mod gathered;
 mod good;
 mod meeting;
 mod tasks;
-#[cfg(test)]
-mod tests;
 mod totals;
 mod written;
 

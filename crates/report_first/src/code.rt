@@ -39,6 +39,8 @@ pub fn jdf_code(code: JdfCode) -> &'static [u8]
         JdfCode::RangeInDataInput => b"RangeInDataInput",
         JdfCode::RangeInPlace => b"RangeInPlace",
         JdfCode::Datatype => b"Datatype",
+        JdfCode::MixedTypes => b"MixedTypes",
+        JdfCode::TypeDiffers => b"TypeDiffers",
         JdfCode::ReadAssigned => b"ReadAssigned",
         JdfCode::NotAssignable => b"NotAssignable",
         JdfCode::NotBuilt => b"NotBuilt",

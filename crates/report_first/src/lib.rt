@@ -10,6 +10,3 @@ mod refusal_line;
 
 pub use printing::report;
 pub use refusal_line::{Line, refusal};
-
-#[cfg(test)]
-mod tests;

@@ -1,0 +1,4 @@
+pub mod Alphabet
+pub mod Faults
+pub mod Returns
+pub mod Given

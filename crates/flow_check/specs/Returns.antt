@@ -1,0 +1,24 @@
+-- The result of a function that checks a part of a text and resolves its names.
+use Rattle.std.specs.Prelude.{◌≡◌, List, [], ◌∷◌, Option, Some, None, option_map, Result, Ok, Err}
+use Rattle.ptg_base.specs.declared.refusal.Refusal.{Refusal}
+use Rattle.ptg_base.specs.declared.refusal.Refusal.TheVariants.{Fault, OutOfMemory}
+use Rattle.flow_check.specs.Alphabet.{JdfFault}
+use Rattle.flow_check.specs.Faults.{earlier, first_fault}
+
+-- The part is what its names mean, and no rule is broken; or the first of its faults is named; or there was no memory.
+abbrev pub ReturnsChecked : {A : Type 0} → Result A (Refusal JdfFault) → Option A → List JdfFault → Type 0
+ReturnsChecked (Ok part) meant faults = (meant ≡ Some part) × (faults ≡ [])
+ReturnsChecked (Err (Fault f)) meant faults = first_fault faults ≡ Some f
+ReturnsChecked (Err OutOfMemory) meant faults = Unit {0}
+
+-- the earlier fault of two refusals; or that there was no memory, if either says so
+abbrev pub earlier_refusal : Refusal JdfFault → Refusal JdfFault → Refusal JdfFault
+earlier_refusal OutOfMemory other = OutOfMemory
+earlier_refusal (Fault f) OutOfMemory = OutOfMemory
+earlier_refusal (Fault f) (Fault g) = Fault (earlier f g)
+
+-- both, if both are there
+abbrev pub both : {A B C : Type 0} → (A → B → C) → Option A → Option B → Option C
+both f (Some a) (Some b) = Some (f a b)
+both f (Some a) None = None
+both f None b = None
