@@ -1,5 +1,7 @@
-pub mod Order
-pub mod First
-pub mod Joins
-pub mod Least
-pub mod Named
+pub mod Tables
+pub mod Folds
+pub mod Globals
+pub mod Heads
+pub mod ClassesRead
+pub mod Counts
+pub mod Unique

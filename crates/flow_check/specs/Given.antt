@@ -4,7 +4,7 @@ use Rattle.std.specs.List.{list_any}
 use Rattle.name_table.specs.Names.{has_name}
 use Rattle.coll_data.specs.declared.coll.Coll.{Coll}
 use Rattle.coll_data.specs.Data.{Data}
-use Rattle.flow_check.specs.Alphabet.{Word, Jdf}
+use Rattle.check_names.specs.Alphabet.{Word, Jdf}
 
 abbrev pub name_of_int : List ℕ × ℤ → List ℕ
 name_of_int x = x.0

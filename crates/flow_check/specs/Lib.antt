@@ -1,4 +1,6 @@
-pub mod Alphabet
-pub mod Faults
-pub mod Returns
 pub mod Given
+pub mod Bodies
+pub mod Jobs
+pub mod Classes
+pub mod Check
+pub mod Laws

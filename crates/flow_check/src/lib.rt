@@ -1,10 +1,16 @@
-//! The beginnings of the type check of a JDF: the first of many faults, two checks together, and whether data lack a global.
+//! The type check of a JDF: whether data lack a global, and the parts of the plan of a text with all names resolved, or the first fault of the whole text.
 #![tactic(auto)]
 
-mod fault;
+mod class;
 mod given;
-mod join;
+mod head;
 mod laws;
+mod parts;
+mod resolving;
+mod scope;
+mod whole;
 
 pub use given::missing;
-pub use laws::the_first_fault_is_the_least;
+pub use laws::one_answer;
+pub use parts::Parts;
+pub use resolving::resolve;

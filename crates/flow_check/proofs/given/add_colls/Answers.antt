@@ -1,6 +1,6 @@
 use Rattle.std.proofs.Common.{◌∙◌}
 use Rattle.flow_check.specs.Given.{name_of_coll}
-use Rattle.flow_check.proofs.Named.{next_name}
+use Rattle.check_names.proofs.Named.{next_name}
 use Rattle.flow_check.proofs.given.add_colls.Goals as goal
 
 pub loop-coll-preserved : goal.loop-coll-preserved

@@ -1,0 +1,6 @@
+pub mod Kinds
+pub mod Places
+pub mod Datatypes
+pub mod Targets
+pub mod Rules
+pub mod Dependences

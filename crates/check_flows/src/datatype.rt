@@ -1,0 +1,101 @@
+//! The datatypes of flows.
+
+ghost use Rattle.std.specs.Prelude.{◌≡◌, ◌<◌, ◌≤◌, IfSome, length, position};
+ghost use Rattle.std.specs.Str.{bytes_eq};
+ghost use Rattle.check_names.specs.Returns.{ReturnsChecked};
+ghost use Rattle.check_flows.specs.Datatypes.{default_name, type_is, type_number, allowed_type, type_of_written, written_faults, first_written, type_of_flow, flow_type};
+
+use crate::kind::is_control;
+use check_names::fault_at;
+use coll_data::Given;
+use jdf_lex::{JdfCode, JdfRefusal};
+use jdf_tree::{DepTree, FlowTree, Word};
+use ptg_base::Text;
+use term_core::FlowKind;
+
+// Is this the name of type 0?
+fn is_default(name: &[u8]) -> bool
+    ensures { result ≡ bytes_eq name.now default_name }
+{
+    name == b"DEFAULT".as_slice()
+}
+
+// The number of the first of these types that has the name.
+fn type_named(types: &[(Text, u32)], name: &[u8]) -> Option<usize>
+    ensures number { result ≡ position (type_is name.now) types.now }
+    ensures within { IfSome result (λ n. n < length types.now) }
+{
+    types.iter().position(|named| named.0.bytes() == name)
+}
+
+/// The number of a type of the data.
+pub(crate) fn type_number(given: &Given, name: &[u8]) -> Option<u32>
+    requires { length given.now.types ≤ 15 }
+    ensures { result ≡ type_number given.now name.now }
+{
+    if is_default(name) {
+        return Some(0);
+    }
+    let number = type_named(given.types(), name)?;
+    Some(number as u32 + 1)
+}
+
+// The number of the datatype of this name, if a flow of this kind may have it.
+fn allowed_type(given: &Given, kind: FlowKind, name: &[u8]) -> Option<u32>
+    requires { length given.now.types ≤ 15 }
+    ensures { result ≡ allowed_type given.now kind name.now }
+{
+    if is_control(kind) && !is_default(name) {
+        return None;
+    }
+    type_number(given, name)
+}
+
+/// The name of the datatype of a dependence, by the one that is written on it.
+pub(crate) fn type_of_written(written: &Option<Word>) -> &[u8]
+    ensures { result.now ≡ type_of_written written.now }
+{
+    match written {
+        None => b"DEFAULT".as_slice(),
+        Some(word) => word.text.bytes(),
+    }
+}
+
+/// The number of the datatype of a dependence, which a flow of this kind must be allowed to have.
+pub(crate) fn written_type(
+    given: &Given,
+    kind: FlowKind,
+    written: &Option<Word>,
+) -> Result<u32, JdfRefusal>
+    requires { length given.now.types ≤ 15 }
+    ensures { ReturnsChecked result (allowed_type given.now kind (type_of_written written.now)) (written_faults given.now kind written.now) }
+{
+    match written {
+        None => Ok(0),
+        Some(word) => match allowed_type(given, kind, word.text.bytes()) {
+            None => Err(fault_at(word.spot, JdfCode::Datatype)),
+            Some(number) => Ok(number),
+        },
+    }
+}
+
+/// The name of the type of a flow's tiles.
+pub(crate) fn type_of_flow(flow: &FlowTree) -> &[u8]
+    ensures { result.now ≡ type_of_flow flow.now }
+{
+    match flow.deps.as_slice().first() {
+        None => b"DEFAULT".as_slice(),
+        Some(dependence) => type_of_written(&dependence.datatype),
+    }
+}
+
+/// The number of the type of a flow.
+pub(crate) fn flow_type(given: &Given, flow: &FlowTree) -> Result<u32, JdfRefusal>
+    requires { length given.now.types ≤ 15 }
+    ensures { ReturnsChecked result (flow_type given.now flow.now) (written_faults given.now flow.now.kind (first_written flow.now.deps)) }
+{
+    match flow.deps.as_slice().first() {
+        None => Ok(0),
+        Some(dependence) => written_type(given, flow.kind, &dependence.datatype),
+    }
+}

@@ -1,0 +1,173 @@
+//! Dependences and flows.
+
+ghost use Rattle.std.specs.Prelude.{◌≡◌, ◌≤◌, IfOk, List, Some, length};
+ghost use Rattle.plan_core.specs.declared.flow.DepPlan.{DepPlan};
+ghost use Rattle.check_names.specs.Contexts.{IsContext, job_of};
+ghost use Rattle.check_names.specs.Returns.{ReturnsChecked, each_option};
+ghost use Rattle.check_flows.specs.Targets.{target_of};
+ghost use Rattle.check_flows.specs.Dependences.{target_faults, second_faults, type_spot, type_faults, dependence_faults, dependence_of, is_of_way, dependences_of, dependences_faults, ways_of, ways_faults, flow_faults, flow_from, flow_plan};
+
+use crate::datatype::{flow_type, type_of_flow, type_of_written, written_type};
+use crate::kind::is_control;
+use crate::rule::target_rules;
+use crate::target::{first_spot, named_target};
+use check_names::{Context, and_rules, fault_if, join, option_term, with_part};
+use coll_data::Given;
+use jdf_lex::{JdfCode, JdfRefusal, Spot};
+use jdf_tree::{DepTree, FlowTree, TargetTree, Word};
+use plan_core::{DepPlan, FlowPlan, Target};
+use ptg_base::{OutOfMemory, Seq, Text};
+
+// A target of a flow, with its names resolved.
+fn target(
+    context: &Context,
+    flow: &FlowTree,
+    inward: bool,
+    target: &TargetTree,
+) -> Result<Target, JdfRefusal>
+    requires { IsContext context.now }
+    ensures { ReturnsChecked result (target_of (job_of context.now) context.now.seen.now target.now) (target_faults (job_of context.now) context.now.seen.now flow.now inward target.now) }
+{
+    and_rules(
+        named_target(context, target),
+        target_rules(context, flow, inward, target),
+    )
+}
+
+// The second target of a dependence, if there is one.
+fn second(
+    context: &Context,
+    flow: &FlowTree,
+    inward: bool,
+    no: &Option<TargetTree>,
+) -> Result<Option<Target>, JdfRefusal>
+    requires { IsContext context.now }
+    ensures { ReturnsChecked result (each_option (target_of (job_of context.now) context.now.seen.now) no.now) (second_faults (target_faults (job_of context.now) context.now.seen.now flow.now inward) no.now) }
+{
+    match no {
+        None => Ok(None),
+        Some(no) => Ok(Some(target(context, flow, inward, no)?)),
+    }
+}
+
+// The place of the datatype of a dependence.
+fn type_spot(yes: &TargetTree, written: &Option<Word>) -> Spot
+    ensures { result ≡ type_spot yes.now written.now }
+{
+    match written {
+        None => first_spot(yes),
+        Some(word) => word.spot,
+    }
+}
+
+// The rules of the datatype of a dependence.
+fn type_rules(given: &Given, flow: &FlowTree, dependence: &DepTree) -> Result<(), JdfRefusal>
+    requires { length given.now.types ≤ 15 }
+    ensures { ReturnsChecked result (Some tt) (type_faults given.now flow.now dependence.now) }
+{
+    let differs = !is_control(flow.kind)
+        && type_of_written(&dependence.datatype) != type_of_flow(flow);
+    let spot = type_spot(&dependence.yes, &dependence.datatype);
+    let same = fault_if(differs, spot, JdfCode::MixedTypes);
+    match written_type(given, flow.kind, &dependence.datatype) {
+        Ok(_) => same,
+        Err(refusal) => and_rules(Err(refusal), same),
+    }
+}
+
+// A dependence of a flow, with its names resolved.
+fn dependence(
+    context: &Context,
+    flow: &FlowTree,
+    dependence: &DepTree,
+) -> Result<DepPlan, JdfRefusal>
+    requires { IsContext context.now }
+    ensures { ReturnsChecked result (dependence_of (job_of context.now) context.now.seen.now dependence.now) (dependence_faults (job_of context.now) context.now.seen.now flow.now dependence.now) }
+{
+    let inward = dependence.inward;
+    let targets = join(
+        target(context, flow, inward, &dependence.yes),
+        second(context, flow, inward, &dependence.no),
+    );
+    let known = join(option_term(context, &dependence.guard), targets);
+    match and_rules(known, type_rules(context.given, flow, dependence)) {
+        Err(refusal) => Err(refusal),
+        Ok((guard, targets)) => Ok(DepPlan {
+            guard,
+            yes: targets.0,
+            no: targets.1,
+        }),
+    }
+}
+
+// Is a dependence an in dependence, or an out dependence?
+fn is_of_way(inward: bool, dependence: &DepTree) -> bool
+    ensures { result ≡ is_of_way inward dependence.now }
+{
+    if inward {
+        dependence.inward
+    } else {
+        !dependence.inward
+    }
+}
+
+// The in dependences or the out dependences of a flow, with their names resolved.
+fn dependences(
+    context: &Context,
+    flow: &FlowTree,
+    inward: bool,
+    deps: &[DepTree],
+) -> Result<Seq<DepPlan>, JdfRefusal>
+    requires { IsContext context.now }
+    ensures { ReturnsChecked result (dependences_of (job_of context.now) context.now.seen.now inward deps.now) (dependences_faults (job_of context.now) context.now.seen.now flow.now inward deps.now) }
+{
+    let mut parts = Ok(Seq::new(context.alloc));
+    for each in deps {
+        if is_of_way(inward, each) {
+            parts = with_part(parts, dependence(context, flow, each));
+        }
+    }
+    parts
+}
+
+// Both the in dependences and the out dependences of a flow.
+fn both_ways(context: &Context, flow: &FlowTree) -> Result<(Seq<DepPlan>, Seq<DepPlan>), JdfRefusal>
+    requires { IsContext context.now }
+    ensures { ReturnsChecked {A = List DepPlan × List DepPlan} result (ways_of (job_of context.now) context.now.seen.now flow.now.deps) (ways_faults (job_of context.now) context.now.seen.now flow.now flow.now.deps) }
+{
+    let deps = flow.deps.as_slice();
+    join(
+        dependences(context, flow, true, deps),
+        dependences(context, flow, false, deps),
+    )
+}
+
+// The plan of a flow, by its datatype and its dependences.
+fn flow_with(
+    context: &Context,
+    flow: &FlowTree,
+    datatype: u32,
+    ways: (Seq<DepPlan>, Seq<DepPlan>),
+) -> Result<FlowPlan, OutOfMemory>
+    ensures { IfOk result (λ plan. plan ≡ flow_from flow.now datatype ways) }
+{
+    Ok(FlowPlan {
+        name: Text::of(context.alloc, flow.name.text.bytes())?,
+        kind: flow.kind,
+        datatype,
+        ins: ways.0,
+        outs: ways.1,
+    })
+}
+
+/// A flow of a class, with its names resolved.
+pub fn flow(context: &Context, flow: &FlowTree) -> Result<FlowPlan, JdfRefusal>
+    requires { IsContext context.now }
+    ensures { ReturnsChecked result (flow_plan (job_of context.now) context.now.seen.now flow.now) (flow_faults (job_of context.now) context.now.seen.now flow.now) }
+{
+    let ways = both_ways(context, flow);
+    match join(flow_type(context.given, flow), ways) {
+        Err(refusal) => Err(refusal),
+        Ok((datatype, ways)) => Ok(flow_with(context, flow, datatype, ways)?),
+    }
+}

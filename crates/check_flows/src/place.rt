@@ -1,0 +1,74 @@
+//! Elements of collections.
+
+ghost use Rattle.std.specs.Prelude.{◌≡◌, Some, is_some, if◌then◌else◌, length};
+ghost use Rattle.check_names.specs.Contexts.{IsContext, job_of};
+ghost use Rattle.jdf_lex.specs.declared.fault.JdfCode.TheVariants.{UnknownName, WrongKind};
+ghost use Rattle.check_names.specs.Names.{coll_named, int_named};
+ghost use Rattle.check_names.specs.Returns.{ReturnsChecked};
+ghost use Rattle.check_flows.specs.Places.{dimensions_of, collection_faults, element_faults, element_of};
+
+use check_names::{Context, and_rules, coll_named, fault_at, fault_if, indices, int_named, join};
+use coll_data::Given;
+use jdf_lex::{JdfCode, JdfRefusal};
+use jdf_tree::{ArgTree, Word};
+use ptg_base::{Seq, Text};
+use term_core::Expr;
+
+// How many dimensions the collection with this number has.
+fn dimensions_of(context: &Context, number: u32) -> usize
+    ensures { result ≡ dimensions_of (job_of context.now) number }
+{
+    match context.given.colls().get(number as usize) {
+        None => 0,
+        Some(coll) => match coll.shape.1 {
+            None => 1,
+            Some(_) => 2,
+        },
+    }
+}
+
+// The code of a name that is that of no collection.
+fn no_collection(context: &Context, name: &Text) -> JdfCode
+    requires { IsContext context.now }
+    ensures { result ≡ (if is_some (int_named (job_of context.now) name.now) then WrongKind else UnknownName) }
+{
+    if int_named(context, name).is_some() {
+        JdfCode::WrongKind
+    } else {
+        JdfCode::UnknownName
+    }
+}
+
+// The number of a collection, which must have so many dimensions.
+fn dimensioned(context: &Context, word: &Word, count: usize, number: u32) -> Result<u32, JdfRefusal>
+    ensures { ReturnsChecked result (Some number) (collection_faults (job_of context.now) word.now count (Some number)) }
+{
+    let differs = dimensions_of(context, number) != count;
+    and_rules(Ok(number), fault_if(differs, word.spot, JdfCode::Arity))
+}
+
+// The number of a collection that is named with so many indices.
+fn collection(context: &Context, word: &Word, count: usize) -> Result<u32, JdfRefusal>
+    requires { IsContext context.now }
+    ensures { ReturnsChecked result (coll_named (job_of context.now) word.now.text) (collection_faults (job_of context.now) word.now count (coll_named (job_of context.now) word.now.text)) }
+{
+    match coll_named(context, &word.text) {
+        None => Err(fault_at(word.spot, no_collection(context, &word.text))),
+        Some(number) => dimensioned(context, word, count, number),
+    }
+}
+
+/// An element of a collection, with its names resolved: the number of the collection and the indices.
+pub fn element(
+    context: &Context,
+    word: &Word,
+    args: &[ArgTree],
+) -> Result<(u32, Seq<Expr>), JdfRefusal>
+    requires { IsContext context.now }
+    ensures { ReturnsChecked result (element_of (job_of context.now) context.now.seen.now word.now args.now) (element_faults (job_of context.now) context.now.seen.now word.now args.now) }
+{
+    join(
+        collection(context, word, args.len()),
+        indices(context, args),
+    )
+}

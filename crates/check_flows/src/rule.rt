@@ -1,0 +1,175 @@
+//! Which targets a flow may have, by its kind and its datatype.
+
+ghost use Rattle.std.specs.Prelude.{◌≡◌, ◌≤◌, Some, length, option_copied};
+ghost use Rattle.check_names.specs.Contexts.{IsContext, job_of};
+ghost use Rattle.check_names.specs.Returns.{ReturnsChecked};
+ghost use Rattle.check_flows.specs.Rules.{flow_of_target, mixes_flows, is_mixed, is_no_start, is_new, task_ranges, in_faults, out_faults, has_other_type, is_other_flow, type_differs, rule_faults};
+ghost use Rattle.check_names.specs.Names.{class_of};
+
+use crate::datatype::{type_number, type_of_flow};
+use crate::kind::{are_mixed, is_control, is_write};
+use crate::target::{first_spot, flow_named};
+use check_names::{Context, and_rules, class_named, coll_named, fault_if, no_ranges};
+use coll_data::Given;
+use jdf_lex::{JdfCode, JdfRefusal};
+use jdf_tree::{ClassTree, FlowTree, TargetTree, Word};
+use ptg_base::Text;
+use term_core::FlowKind;
+
+// The first class of this name.
+fn class_of<'a>(context: &Context<'a>, name: &Text) -> Option<&'a ClassTree>
+    requires { IsContext context.now }
+    ensures { option_copied result ≡ class_of (job_of context.now) name.now }
+{
+    let number = class_named(context, name)?;
+    Some(context.jdf.classes.get(number))
+}
+
+// The flow that a target names, if it is one of a task and there is one.
+fn flow_of_target<'a>(context: &Context<'a>, target: &TargetTree) -> Option<&'a FlowTree>
+    requires { IsContext context.now }
+    ensures { option_copied result ≡ flow_of_target (job_of context.now) target.now }
+{
+    match target {
+        TargetTree::Task(flow, class, _) => {
+            let class = class_of(context, &class.text)?;
+            let number = flow_named(class, &flow.text)?;
+            Some(class.flows.get(number))
+        }
+        TargetTree::Element(_, _) => None,
+        TargetTree::New(_) => None,
+        TargetTree::Null(_) => None,
+    }
+}
+
+// Would order go to a tile, or a tile to order?
+fn is_mixed(context: &Context, kind: FlowKind, target: &TargetTree) -> bool
+    requires { IsContext context.now }
+    ensures { result ≡ is_mixed (job_of context.now) kind target.now }
+{
+    match target {
+        TargetTree::Task(_, _, _) => match flow_of_target(context, target) {
+            None => false,
+            Some(named) => are_mixed(kind, named.kind),
+        },
+        TargetTree::Element(_, _) => is_control(kind),
+        TargetTree::New(_) => is_control(kind),
+        TargetTree::Null(_) => is_control(kind),
+    }
+}
+
+// Would a tile that is only written come from a task, or be none?
+fn is_no_start(target: &TargetTree) -> bool
+    ensures { result ≡ is_no_start target.now }
+{
+    match target {
+        TargetTree::Task(_, _, _) => true,
+        TargetTree::Element(_, _) => false,
+        TargetTree::New(_) => false,
+        TargetTree::Null(_) => true,
+    }
+}
+
+// Is the target a new tile?
+fn is_new(target: &TargetTree) -> bool
+    ensures { result ≡ is_new target.now }
+{
+    match target {
+        TargetTree::Task(_, _, _) => false,
+        TargetTree::Element(_, _) => false,
+        TargetTree::New(_) => true,
+        TargetTree::Null(_) => false,
+    }
+}
+
+// Ranges in a task target are refused.
+fn task_ranges(target: &TargetTree) -> Result<(), JdfRefusal>
+    ensures { ReturnsChecked result (Some tt) (task_ranges target.now) }
+{
+    match target {
+        TargetTree::Task(_, _, args) => no_ranges(JdfCode::RangeInDataInput, args.as_slice()),
+        TargetTree::Element(_, _) => Ok(()),
+        TargetTree::New(_) => Ok(()),
+        TargetTree::Null(_) => Ok(()),
+    }
+}
+
+// The rules of the target of an in dependence of a flow of this kind.
+fn in_rules(kind: FlowKind, target: &TargetTree) -> Result<(), JdfRefusal>
+    ensures { ReturnsChecked result (Some tt) (in_faults kind target.now) }
+{
+    let is_wrong = is_write(kind) && is_no_start(target);
+    let ranges = if is_control(kind) {
+        Ok(())
+    } else {
+        task_ranges(target)
+    };
+    and_rules(
+        fault_if(is_wrong, first_spot(target), JdfCode::WriteInput),
+        ranges,
+    )
+}
+
+// The rules of the target of an out dependence.
+fn out_rules(target: &TargetTree) -> Result<(), JdfRefusal>
+    ensures { ReturnsChecked result (Some tt) (out_faults target.now) }
+{
+    fault_if(is_new(target), first_spot(target), JdfCode::NewSent)
+}
+
+// Do the tiles of the collection with this number have another type than this one?
+fn has_other_type(given: &Given, name: &[u8], number: u32) -> bool
+    requires { length given.now.types ≤ 15 }
+    ensures { result ≡ has_other_type given.now name.now number }
+{
+    let Some(coll) = given.colls().get(number as usize) else {
+        return false;
+    };
+    match type_number(given, name) {
+        None => true,
+        Some(datatype) => datatype != coll.datatype,
+    }
+}
+
+// Is a target of a flow whose tiles have this type a data flow or an element of another type?
+fn type_differs(context: &Context, name: &[u8], target: &TargetTree) -> bool
+    requires { IsContext context.now }
+    ensures { result ≡ type_differs (job_of context.now) name.now target.now }
+{
+    match target {
+        TargetTree::Task(_, _, _) => match flow_of_target(context, target) {
+            None => false,
+            Some(named) => !is_control(named.kind) && type_of_flow(named) != name,
+        },
+        TargetTree::Element(coll, _) => match coll_named(context, &coll.text) {
+            None => false,
+            Some(number) => has_other_type(context.given, name, number),
+        },
+        TargetTree::New(_) => false,
+        TargetTree::Null(_) => false,
+    }
+}
+
+/// The rules of a target by the flow that has it, in an in dependence or an out dependence.
+pub(crate) fn target_rules(
+    context: &Context,
+    flow: &FlowTree,
+    inward: bool,
+    target: &TargetTree,
+) -> Result<(), JdfRefusal>
+    requires { IsContext context.now }
+    ensures { ReturnsChecked result (Some tt) (rule_faults (job_of context.now) flow.now inward target.now) }
+{
+    let spot = first_spot(target);
+    let is_mixed = is_mixed(context, flow.kind, target);
+    let differs = !is_control(flow.kind) && type_differs(context, type_of_flow(flow), target);
+    let fits = and_rules(
+        fault_if(is_mixed, spot, JdfCode::CtlMixed),
+        fault_if(differs, spot, JdfCode::TypeDiffers),
+    );
+    if inward {
+        and_rules(fits, in_rules(flow.kind, target))
+    } else {
+        and_rules(fits, out_rules(target))
+    }
+}

@@ -1,0 +1,104 @@
+//! What targets name.
+
+ghost use Rattle.std.specs.Prelude.{◌≡◌, ◌<◌, ◌++◌, ℕ, IfSome, is_none, length};
+ghost use Rattle.jdf_lex.specs.declared.fault.JdfCode.TheVariants.{NoSuchFlow};
+ghost use Rattle.plan_core.specs.declared.target.Target.TheVariants.{Task};
+ghost use Rattle.check_names.specs.Arguments.{arguments_faults, arguments_of};
+ghost use Rattle.check_names.specs.Contexts.{IsContext, job_of};
+ghost use Rattle.check_names.specs.Faults.{fault_if};
+ghost use Rattle.check_names.specs.Limits.{IsShortClass};
+ghost use Rattle.check_names.specs.Names.{class_named, flow_named};
+ghost use Rattle.check_names.specs.Returns.{ReturnsChecked, both};
+ghost use Rattle.check_flows.specs.Targets.{first_spot, task_faults, class_at, task_of, named_faults, target_of};
+
+use crate::place::element;
+use check_names::{Context, and_rules, arguments, class_named, fault_at, fault_if, join};
+use jdf_lex::{JdfCode, JdfRefusal, Spot};
+use jdf_tree::{ArgTree, ClassTree, TargetTree, Word};
+use plan_core::Target;
+use ptg_base::Text;
+
+/// The place of a target: its first token.
+pub(crate) fn first_spot(target: &TargetTree) -> Spot
+    ensures { result ≡ first_spot target.now }
+{
+    match target {
+        TargetTree::Task(flow, _, _) => flow.spot,
+        TargetTree::Element(coll, _) => coll.spot,
+        TargetTree::New(spot) => *spot,
+        TargetTree::Null(spot) => *spot,
+    }
+}
+
+/// The number of the first flow of this name in a class. It looks through all of them, which are at most 8.
+pub(crate) fn flow_named(class: &ClassTree, name: &Text) -> Option<usize>
+    ensures number { result ≡ flow_named class.now name.now }
+    ensures within { IfSome result (λ n. n < length class.now.flows) }
+{
+    class
+        .flows
+        .as_slice()
+        .iter()
+        .position(|flow| flow.name.text.bytes() == name.bytes())
+}
+
+// The number of a flow of a class.
+fn flow_number(class: &ClassTree, word: &Word) -> Result<u8, JdfRefusal>
+    requires { IsShortClass class.now }
+    ensures { ReturnsChecked result (flow_named class.now word.now.text) (fault_if (is_none (flow_named class.now word.now.text)) word.now.spot NoSuchFlow) }
+{
+    match flow_named(class, &word.text) {
+        None => Err(fault_at(word.spot, JdfCode::NoSuchFlow)),
+        Some(number) => Ok(number as u8),
+    }
+}
+
+// The numbers of a class and of a flow of it, which are named with so many arguments.
+fn task(context: &Context, flow: &Word, name: &Word, count: usize) -> Result<(u32, u8), JdfRefusal>
+    requires { IsContext context.now }
+    ensures { ReturnsChecked result (task_of (job_of context.now) flow.now (class_named (job_of context.now) name.now.text)) (task_faults flow.now name.now count (class_at (job_of context.now) (class_named (job_of context.now) name.now.text))) }
+{
+    let Some(number) = class_named(context, &name.text) else {
+        return Err(fault_at(name.spot, JdfCode::UnknownName));
+    };
+    let class = context.jdf.classes.get(number);
+    let differs = class.params.len() != count;
+    let known = and_rules(
+        Ok(number as u32),
+        fault_if(differs, name.spot, JdfCode::Arity),
+    );
+    join(known, flow_number(class, flow))
+}
+
+// A target in a task, with its names resolved.
+fn task_target(
+    context: &Context,
+    flow: &Word,
+    name: &Word,
+    args: &[ArgTree],
+) -> Result<Target, JdfRefusal>
+    requires { IsContext context.now }
+    ensures { ReturnsChecked result (both (λ (x : ℕ × ℕ) y. Task x.0 x.1 y) (task_of (job_of context.now) flow.now (class_named (job_of context.now) name.now.text)) (arguments_of (job_of context.now) context.now.seen.now args.now)) (task_faults flow.now name.now (length args.now) (class_at (job_of context.now) (class_named (job_of context.now) name.now.text)) ++ arguments_faults (job_of context.now) context.now.seen.now args.now) }
+{
+    let known = task(context, flow, name, args.len());
+    match join(known, arguments(context, args)) {
+        Err(refusal) => Err(refusal),
+        Ok((known, args)) => Ok(Target::Task(known.0, known.1, args)),
+    }
+}
+
+/// A target with its names resolved.
+pub(crate) fn named_target(context: &Context, target: &TargetTree) -> Result<Target, JdfRefusal>
+    requires { IsContext context.now }
+    ensures { ReturnsChecked result (target_of (job_of context.now) context.now.seen.now target.now) (named_faults (job_of context.now) context.now.seen.now target.now) }
+{
+    match target {
+        TargetTree::Task(flow, name, args) => task_target(context, flow, name, args.as_slice()),
+        TargetTree::Element(coll, args) => {
+            let (coll, indices) = element(context, coll, args.as_slice())?;
+            Ok(Target::Element(coll, indices))
+        }
+        TargetTree::New(_) => Ok(Target::New),
+        TargetTree::Null(_) => Ok(Target::Null),
+    }
+}

@@ -1,0 +1,15 @@
+pub mod Order
+pub mod Ordered
+pub mod First
+pub mod Joins
+pub mod Least
+pub mod Operations
+pub mod Parts
+pub mod Named
+pub mod GivenTwice
+pub mod Defined
+pub mod Ranges
+pub mod Spaces
+pub mod Within
+pub mod Closed
+pub mod WellSpaces

@@ -1,0 +1,67 @@
+-- Lists of names that grow by one.
+use Rattle.std.proofs.Common.{◌≡◌, ℕ, ◌+◌, ◌<◌, Bool, true, false, not, ◌||◌, List, [], ◌∷◌, ◌++◌, map, take, length, get_or, if◌then◌else◌, refl, sym, ◌∙◌, ap, subst}
+use Rattle.std.specs.Str.{bytes_eq}
+use Rattle.std.specs.Cmp.Lexicographic.{bytes_decides}
+use Rattle.std.proofs.lemmas.List.{take_more}
+use Rattle.name_table.specs.Names.{has_name}
+
+pub or-assoc : (a b c : Bool) → ((a || b) || c) ≡ (a || (b || c))
+or-assoc true b c = refl
+or-assoc false b c = refl
+
+pub or-false : (a : Bool) → (a || false) ≡ a
+or-false true = refl
+or-false false = refl
+
+-- one name more
+pub has_pushed : (names : List (List ℕ)) (x n : List ℕ) → has_name (names ++ x ∷ []) n ≡ (has_name names n || bytes_eq x n)
+has_pushed [] x n = or-false (bytes_eq x n)
+has_pushed (m ∷ names) x n = ap (λ b. bytes_eq m n || b) (has_pushed names x n) ∙ sym (or-assoc (bytes_eq m n) (has_name names n) (bytes_eq x n))
+
+-- a name that is there already
+has_same : (names : List (List ℕ)) (x n : List ℕ) → has_name names x ≡ true → has_name names n ≡ (has_name names n || bytes_eq x n)
+has_same names x n there = go (bytes_eq x n) refl
+  where
+    go : (b : Bool) → bytes_eq x n ≡ b → has_name names n ≡ (has_name names n || b)
+    go true same =
+        let e : x ≡ n = (bytes_decides x n).0 same in
+        let h : has_name names n ≡ true = subst (λ m. has_name names m ≡ true) e there in
+        h ∙ sym (ap (λ b. b || true) h)
+    go false differ = sym (or-false (has_name names n))
+
+-- one name more in a set
+pub has_added : (names after : List (List ℕ)) (x n : List ℕ) (new : Bool) → new ≡ not (has_name names x) → after ≡ (if new then names ++ x ∷ [] else names)
+    → has_name after n ≡ (has_name names n || bytes_eq x n)
+has_added names after x n new e s = go (has_name names x) refl
+  where
+    go : (b : Bool) → has_name names x ≡ b → has_name after n ≡ (has_name names n || bytes_eq x n)
+    go true there =
+        let same : after ≡ names = s ∙ ap (λ b. if b then names ++ x ∷ [] else names) (e ∙ ap not there) in
+        ap (λ l. has_name l n) same ∙ has_same names x n there
+    go false none =
+        let more : after ≡ names ++ x ∷ [] = s ∙ ap (λ b. if b then names ++ x ∷ [] else names) (e ∙ ap not none) in
+        ap (λ l. has_name l n) more ∙ has_pushed names x n
+
+map_pushed : {X : Type 0} (f : X → List ℕ) (xs : List X) (x : X) → map f (xs ++ x ∷ []) ≡ map f xs ++ f x ∷ []
+map_pushed f [] x = refl
+map_pushed f (y ∷ xs) x = ap (λ l. f y ∷ l) (map_pushed f xs x)
+
+-- one element more, and its name
+pub has_more : {X : Type 0} (f : X → List ℕ) (xs : List X) (i : ℕ) (d : X) (n : List ℕ) → i < length xs
+    → has_name (map f (take (i + 1) xs)) n ≡ (has_name (map f (take i xs)) n || bytes_eq (f (get_or xs i d)) n)
+has_more f xs i d n lt =
+    ap (λ l. has_name (map f l) n) (take_more xs i d lt)
+    ∙ (ap (λ l. has_name l n) (map_pushed f (take i xs) (get_or xs i d)) ∙ has_pushed (map f (take i xs)) (f (get_or xs i d)) n)
+
+-- a set that has the names before, after the next one
+pub next_name : {X : Type 0} (f : X → List ℕ) (xs : List X) (i : ℕ) (d : X) (x : List ℕ) (first names after : List (List ℕ)) (new : Bool)
+    → i < length xs → d ≡ get_or xs i d → x ≡ f d
+    → ((n : List ℕ) → has_name names n ≡ (has_name first n || has_name (map f (take i xs)) n))
+    → new ≡ not (has_name names x) → after ≡ (if new then names ++ x ∷ [] else names)
+    → (n : List ℕ) → has_name after n ≡ (has_name first n || has_name (map f (take (i + 1) xs)) n)
+next_name f xs i d x first names after new lt at named before e s n =
+    let same : x ≡ f (get_or xs i d) = named ∙ ap f at in
+    has_added names after x n new e s
+    ∙ (ap (λ b. b || bytes_eq x n) (before n)
+    ∙ (or-assoc (has_name first n) (has_name (map f (take i xs)) n) (bytes_eq x n)
+    ∙ (ap (λ m. has_name first n || (has_name (map f (take i xs)) n || bytes_eq m n)) same ∙ ap (λ b. has_name first n || b) (sym (has_more f xs i d n lt)))))

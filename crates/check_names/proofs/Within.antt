@@ -1,0 +1,22 @@
+-- The tree of a text is short.
+use Rattle.std.proofs.Common.{ℕ, List, [], ◌∷◌}
+use Rattle.std.specs.List.{AllByRecursion}
+use Rattle.jdf_tree.specs.Jdf.{IsJdf}
+use Rattle.jdf_tree.specs.TreeLimits.{IsFlowWithinLimits, IsClassWithinLimits}
+use Rattle.jdf_tree.proofs.TreeLimits.{texts_within}
+use Rattle.check_names.specs.Alphabet.{FlowTree, ClassTree, Jdf}
+use Rattle.check_names.specs.Limits.{IsShortFlow, IsShortClass, IsShort}
+
+flows_short : (flows : List FlowTree) → AllByRecursion IsFlowWithinLimits flows → AllByRecursion IsShortFlow flows
+flows_short [] h = tt
+flows_short (f ∷ fs) h = (h.0.count, flows_short fs h.1)
+
+class_short : (c : ClassTree) → IsClassWithinLimits c → IsShortClass c
+class_short c h = record { params = h.params; defs = h.defs; flows = h.count; deps = flows_short c.flows h.flows }
+
+classes_short : (cs : List ClassTree) → AllByRecursion IsClassWithinLimits cs → AllByRecursion IsShortClass cs
+classes_short [] h = tt
+classes_short (c ∷ cs) h = (class_short c h.0, classes_short cs h.1)
+
+pub read_is_short : (bytes : List ℕ) (jdf : Jdf) → IsJdf bytes jdf → IsShort jdf
+read_is_short bytes jdf h = let within = texts_within bytes jdf h in record { count = within.count; classes = classes_short jdf.classes within.classes }

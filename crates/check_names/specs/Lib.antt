@@ -1,0 +1,10 @@
+pub mod Alphabet
+pub mod Faults
+pub mod Returns
+pub mod Names
+pub mod Limits
+pub mod Contexts
+pub mod Repeats
+pub mod Expressions
+pub mod Arguments
+pub mod Definitions

@@ -1,0 +1,20 @@
+-- How long the lists of a JDF are at most. A text with longer ones is refused before its names are looked at. Source: this project's own choice.
+use Rattle.std.specs.Prelude.{◌≤◌, length}
+use Rattle.std.specs.List.{AllByRecursion}
+use Rattle.check_names.specs.Alphabet.{FlowTree, ClassTree, Jdf}
+
+-- a flow with at most 16 dependences
+abbrev pub IsShortFlow : FlowTree → Type 0
+IsShortFlow flow = length flow.deps ≤ 16
+
+-- a class with at most 8 parameters, 16 definitions and 8 flows
+pub record IsShortClass (class : ClassTree) : Type 0 where
+  pub params : length class.params ≤ 8
+  pub defs : length class.defs ≤ 16
+  pub flows : length class.flows ≤ 8
+  pub deps : AllByRecursion IsShortFlow class.flows
+
+-- at most 64 of these classes
+pub record IsShort (jdf : Jdf) : Type 0 where
+  pub count : length jdf.classes ≤ 64
+  pub classes : AllByRecursion IsShortClass jdf.classes

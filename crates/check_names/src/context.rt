@@ -1,0 +1,68 @@
+//! A JDF with its data, and what names mean there.
+
+ghost use Rattle.std.specs.Prelude.{◌≡◌, ◌<◌, IfSome, length};
+ghost use Rattle.check_names.specs.Names.{int_named, coll_named, class_named, local_named};
+ghost use Rattle.check_names.specs.Contexts.{IsContext, job_of};
+
+use coll_data::Given;
+use jdf_tree::{DefTree, Jdf};
+use name_table::NameTable;
+use ptg_base::Text;
+use std::alloc::Global;
+
+/// The globals of a JDF by name.
+#[derive(Drop)]
+pub struct Globals {
+    /// The value of each that is an integer of the data.
+    pub ints: NameTable<i64>,
+    /// The number of each that is a collection of the data.
+    pub colls: NameTable<u32>,
+}
+
+/// What names are resolved with: where memory comes from, a JDF and its data, the globals by name, and the definitions that are seen.
+#[derive(Clone, Copy)]
+pub struct Context<'a> {
+    pub alloc: Global,
+    pub jdf: &'a Jdf,
+    pub given: &'a Given,
+    pub globals: &'a Globals,
+    pub seen: &'a [DefTree],
+}
+
+/// The value of a global that is an integer.
+pub fn int_named(context: &Context, name: &Text) -> Option<i64>
+    requires { IsContext context.now }
+    ensures { result ≡ int_named (job_of context.now) name.now }
+{
+    context.globals.ints.get(name).copied()
+}
+
+/// The number of a global that is a collection.
+pub fn coll_named(context: &Context, name: &Text) -> Option<u32>
+    requires { IsContext context.now }
+    ensures { result ≡ coll_named (job_of context.now) name.now }
+{
+    context.globals.colls.get(name).copied()
+}
+
+/// The number of the first definition of this name. It looks through all of them, which are at most 16.
+pub fn local_named(seen: &[DefTree], name: &Text) -> Option<usize>
+    ensures number { result ≡ local_named seen.now name.now }
+    ensures within { IfSome result (λ n. n < length seen.now) }
+{
+    seen.iter()
+        .position(|definition| definition.name.text.bytes() == name.bytes())
+}
+
+/// The number of the first class of this name. It looks through all of them, which are at most 64.
+pub fn class_named(context: &Context, name: &Text) -> Option<usize>
+    ensures number { result ≡ class_named (job_of context.now) name.now }
+    ensures within { IfSome result (λ n. n < length context.now.jdf.now.classes) }
+{
+    context
+        .jdf
+        .classes
+        .as_slice()
+        .iter()
+        .position(|class| class.name.text.bytes() == name.bytes())
+}

@@ -1,0 +1,20 @@
+//! What the names of a JDF mean outside of bodies: its expressions, arguments and definitions with their names resolved, or their first fault.
+#![tactic(auto)]
+
+mod argument;
+mod context;
+mod definition;
+mod expression;
+mod fault;
+mod laws;
+mod part;
+mod repeat;
+
+pub use argument::{arguments, indices, no_ranges, range};
+pub use context::{Context, Globals, class_named, coll_named, int_named, local_named};
+pub use definition::space;
+pub use expression::{option_term, term_of};
+pub use fault::{fault_at, fault_if};
+pub use laws::{a_resolved_space_is_well_made, the_first_fault_is_the_least};
+pub use part::{and_rules, join, refused, with_part};
+pub use repeat::{HasName, repeats};

@@ -1,0 +1,30 @@
+use Rattle.std.proofs.Common.{[], ◌∙◌, sym, ap}
+use Rattle.name_table.specs.Names.{value_named}
+use Rattle.check_names.specs.Names.{is_declared}
+use Rattle.flow_check.specs.Bodies.{with_value, is_declared_int}
+use Rattle.flow_check.specs.Jobs.{job_with}
+use Rattle.flow_check.proofs.Folds.{fold_kept, fold_dropped}
+use Rattle.flow_check.proofs.Globals.{ints_step, ints_skip}
+use Rattle.flow_check.proofs.scope.ints_among.Goals as goal
+use Rattle.flow_check.proofs.scope.ints_among.Goals.{then-contains+in_ok-add_int, else-contains}
+
+pub loop-int-preserved : goal.loop-int-preserved
+loop-int-preserved c =
+    let job = job_with c.args.declared.now in
+    let xs = c.args.ints.now in
+    let i = c.loop-int.int-index in
+    let d = c.int-item.result in
+    elim c.if-contains.branch [
+      | then-contains+in_ok-add_int w ↦
+          let passes = sym (c.requires d.0) ∙ (sym c.contains.ensures ∙ w.if-contains.true) in
+          record {
+            same = w.table-is ∙ fold_kept with_value [] (is_declared_int job) xs i d c.loop-int.table w.add_int.new.table c.loop-int-test.true c.int-item.is passes c.loop-int.invariant.same w.in_ok-add_int.ensures;
+            values = λ n. ap (λ t. value_named t n) w.table-is ∙ ints_step (is_declared job) xs i d c.loop-int.table w.add_int.new.table c.loop-int-test.true c.int-item.is passes c.loop-int.invariant.values w.in_ok-add_int.ensures n;
+          }
+      | else-contains w ↦
+          let fails = sym (c.requires d.0) ∙ (sym c.contains.ensures ∙ w.if-contains.false) in
+          record {
+            same = w.table-is ∙ fold_dropped with_value [] (is_declared_int job) xs i d c.loop-int.table c.loop-int-test.true c.int-item.is fails c.loop-int.invariant.same;
+            values = λ n. ap (λ t. value_named t n) w.table-is ∙ ints_skip (is_declared job) xs i d c.loop-int.table c.loop-int-test.true c.int-item.is fails c.loop-int.invariant.values n;
+          }
+    ]

@@ -1,0 +1,12 @@
+use Rattle.std.proofs.Common.{◌∙◌, ap, sym, Some}
+use Rattle.check_names.proofs.Joins.{still_err, of_both}
+use Rattle.flow_check.proofs.ClassesRead.{with_plan}
+use Rattle.flow_check.proofs.whole.with_class.Goals as goal
+
+pub returns-in-Err : goal.returns-in-Err
+returns-in-Err c p q fs gs h k = still_err c.in-Err.refusal _ _ _ (c.in-Err.ensures p q fs gs h k)
+
+pub returns-in_ok-pushed-in-Ok : goal.returns-in_ok-pushed-in-Ok
+returns-in_ok-pushed-in-Ok c p q fs gs h k =
+    let r = of_both with_plan c.in-Ok.classes c.in-Ok.class _ _ _ (c.in-Ok.ensures p q fs gs h k) in
+    (r.0 ∙ ap (λ x. Some x) (sym c.in_ok-pushed-in-Ok.ensures), r.1)

@@ -1,0 +1,84 @@
+-- The plan of a JDF and its data, and the first fault. Source: PaRSEC 2013 and the JDF documentation; that the first fault of the whole text is named is this project's own choice.
+use Rattle.std.specs.Prelude.{◌≡◌, List, [], ◌∷◌, ◌++◌, Option, Some, None, Result, Ok, Err}
+use Rattle.term_core.specs.declared.space.ClassSpace.{ClassSpace}
+use Rattle.plan_core.specs.declared.class.ClassPlan.{ClassPlan}
+use Rattle.ptg_base.specs.declared.refusal.Refusal.{Refusal}
+use Rattle.ptg_base.specs.declared.refusal.Refusal.TheVariants.{Fault, OutOfMemory}
+use Rattle.plan_data.specs.Fit.{DataFit}
+use Rattle.flow_check.specs.declared.parts.Parts.{Parts}
+use Rattle.check_names.specs.Alphabet.{JdfFault, Word, ClassTree, NameTwice}
+use Rattle.check_names.specs.Faults.{first_fault}
+use Rattle.check_names.specs.Returns.{ReturnsChecked, both}
+use Rattle.check_names.specs.Repeats.{repeats}
+use Rattle.check_names.specs.Names.{Job}
+use Rattle.flow_check.specs.Bodies.{BodyResult, ReadsBody}
+use Rattle.flow_check.specs.Classes.{class_plan, class_faults}
+
+-- Reading the bodies of these classes gives these results, in order.
+abbrev pub ReadBodies : Job → List ClassTree → List BodyResult → Type 0
+ReadBodies job [] [] = Unit {0}
+ReadBodies job [] (b ∷ bodies) = ⊥
+ReadBodies job (c ∷ classes) [] = ⊥
+ReadBodies job (c ∷ classes) (b ∷ bodies) = ReadsBody job c b × ReadBodies job classes bodies
+
+-- all faults of some classes, whose bodies were read so
+abbrev pub classes_faults : Job → List ClassTree → List BodyResult → List JdfFault
+classes_faults job [] bodies = []
+classes_faults job (c ∷ classes) [] = []
+classes_faults job (c ∷ classes) (b ∷ bodies) = class_faults job c b ++ classes_faults job classes bodies
+
+-- the classes and their spaces with all names resolved, whose bodies were read so
+abbrev pub classes_plan : Job → List ClassTree → List BodyResult → Option (List ClassPlan × List ClassSpace)
+classes_plan job [] bodies = Some ([], [])
+classes_plan job (c ∷ classes) [] = None
+classes_plan job (c ∷ classes) (b ∷ bodies) = both (λ x xs. (x.0 ∷ xs.0, x.1 ∷ xs.1)) (class_plan job c b) (classes_plan job classes bodies)
+
+-- The result of resolving a class: its body was read, and it is what the class means, or the first of its faults.
+pub record IsClassRead (job : Job) (class : ClassTree) (r : Result (ClassPlan × ClassSpace) (Refusal JdfFault)) : Type 0 where
+  pub body : BodyResult
+  pub read : ReadsBody job class body
+  pub checked : ReturnsChecked r (class_plan job class body) (class_faults job class body)
+
+-- The same of some classes in order.
+pub record AreRead (job : Job) (classes : List ClassTree) (r : Result (List ClassPlan × List ClassSpace) (Refusal JdfFault)) : Type 0 where
+  pub bodies : List BodyResult
+  pub read : ReadBodies job classes bodies
+  pub checked : ReturnsChecked r (classes_plan job classes bodies) (classes_faults job classes bodies)
+
+-- the faults of the names of globals and classes
+abbrev pub names_faults : Job → List JdfFault
+names_faults job = repeats (λ (w : Word). w) NameTwice job.jdf.globals ++ repeats (λ (c : ClassTree). c.name) NameTwice job.jdf.classes
+
+-- all faults of a text
+abbrev pub faults_of : Job → List BodyResult → List JdfFault
+faults_of job bodies = classes_faults job job.jdf.classes bodies ++ names_faults job
+
+-- The classes of a JDF and their spaces with all names resolved: no rule is broken.
+pub record AreResolved (job : Job) (classes : List ClassPlan) (spaces : List ClassSpace) : Type 0 where
+  pub bodies : List BodyResult
+  pub read : ReadBodies job job.jdf.classes bodies
+  pub no_fault : faults_of job bodies ≡ []
+  pub meant : classes_plan job job.jdf.classes bodies ≡ Some (classes, spaces)
+
+-- The first fault of a JDF with its data.
+pub record IsFirstFault (job : Job) (f : JdfFault) : Type 0 where
+  pub bodies : List BodyResult
+  pub read : ReadBodies job job.jdf.classes bodies
+  pub first : first_fault (faults_of job bodies) ≡ Some f
+
+-- The result of resolving all names: the classes with their spaces, or the first fault, unless there was no memory.
+abbrev pub ReturnsResolved : Job → Result (List ClassPlan × List ClassSpace) (Refusal JdfFault) → Type 0
+ReturnsResolved job (Ok x) = AreResolved job x.0 x.1
+ReturnsResolved job (Err (Fault f)) = IsFirstFault job f
+ReturnsResolved job (Err OutOfMemory) = Unit {0}
+
+-- What a plan is made of: the classes with their spaces, the shapes of the collections, and the numbers of elements by type.
+pub record ArePartsOf (job : Job) (parts : Parts) : Type 0 where
+  pub resolved : AreResolved job parts.classes parts.spaces
+  pub fit : DataFit parts.colls parts.elems job.given
+
+-- The result of resolving a JDF and its data: the parts of a plan, or the first fault, unless there was no memory.
+abbrev pub ReturnsParts : Job → Result Parts (Refusal JdfFault) → Type 0
+ReturnsParts job (Ok parts) = ArePartsOf job parts
+ReturnsParts job (Err (Fault f)) = IsFirstFault job f
+ReturnsParts job (Err OutOfMemory) = Unit {0}

@@ -1,0 +1,50 @@
+-- A class of tasks, outside of its body and with it. Source: the JDF documentation.
+use Rattle.std.specs.Prelude.{ℕ, List, ◌++◌, flat_map, Option}
+use Rattle.term_core.specs.Term.{Term}
+use Rattle.term_core.specs.declared.body.Body.{Body}
+use Rattle.term_core.specs.declared.space.ClassSpace.{ClassSpace}
+use Rattle.plan_core.specs.declared.class.ClassPlan.{ClassPlan}
+use Rattle.plan_core.specs.declared.flow.FlowPlan.{FlowPlan}
+use Rattle.check_names.specs.Alphabet.{JdfFault, DefTree, FlowTree, ClassTree, NameTwice}
+use Rattle.check_names.specs.Returns.{both, each}
+use Rattle.check_names.specs.Repeats.{repeats}
+use Rattle.check_names.specs.Names.{Job}
+use Rattle.check_names.specs.Expressions.{option_faults, option_term}
+use Rattle.check_names.specs.Definitions.{space_of, space_faults}
+use Rattle.check_flows.specs.Places.{element_faults, element_of}
+use Rattle.check_flows.specs.Dependences.{flow_faults, flow_plan}
+use Rattle.flow_check.specs.Bodies.{BodyResult, body_faults, body_of}
+
+-- the flows of a class, and all their faults
+abbrev pub flows_of : Job → List DefTree → List FlowTree → Option (List FlowPlan)
+flows_of job seen flows = each (flow_plan job seen) flows
+
+abbrev pub flows_faults : Job → List DefTree → List FlowTree → List JdfFault
+flows_faults job seen flows = flat_map (flow_faults job seen) flows ++ repeats (λ (f : FlowTree). f.name) NameTwice flows
+
+-- the parts of a class outside of its body: its space and its affinity, its flows and its priority
+abbrev pub Head : Type 0
+Head = (ClassSpace × (ℕ × List Term)) × (List FlowPlan × Option Term)
+
+abbrev pub head_of : Job → ClassTree → Option Head
+head_of job class =
+    both (λ x y. (x, y)) (both (λ x y. (x, y)) (space_of job class.params class.defs) (element_of job class.defs class.affinity class.affinity_args))
+    (both (λ x y. (x, y)) (flows_of job class.defs class.flows) (option_term job class.defs class.priority))
+
+-- all their faults
+abbrev pub head_faults : Job → ClassTree → List JdfFault
+head_faults job class =
+    (space_faults job class.params class.defs ++ element_faults job class.defs class.affinity class.affinity_args)
+    ++ (flows_faults job class.defs class.flows ++ option_faults job class.defs class.priority)
+
+-- the class of its parts
+abbrev pub class_from : ClassTree → Head → Body × List (List ℕ) → ClassPlan × ClassSpace
+class_from class x b = (record { name = class.name.text; affinity = x.0.1; flows = x.1.0; priority = x.1.1; body = b.0; trap_words = b.1 }, x.0.0)
+
+-- a class and its space with all names resolved, whose body was read so
+abbrev pub class_plan : Job → ClassTree → BodyResult → Option (ClassPlan × ClassSpace)
+class_plan job class body = both (class_from class) (head_of job class) (body_of body)
+
+-- all faults of a class whose body was read so
+abbrev pub class_faults : Job → ClassTree → BodyResult → List JdfFault
+class_faults job class body = head_faults job class ++ body_faults body

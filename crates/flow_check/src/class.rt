@@ -1,0 +1,103 @@
+//! The classes of a JDF with their bodies.
+
+ghost use Rattle.std.specs.Prelude.{◌≡◌, IfOk, OnOk};
+ghost use Rattle.check_names.specs.Contexts.{IsContext, job_of};
+ghost use Rattle.check_names.specs.Limits.{IsShortClass};
+ghost use Rattle.check_names.specs.Returns.{ReturnsChecked};
+ghost use Rattle.plan_core.specs.declared.class.ClassPlan.{ClassPlan};
+ghost use Rattle.term_core.specs.declared.space.ClassSpace.{ClassSpace};
+ghost use Rattle.flow_check.specs.Bodies.{ReadsAs, HasGlobals};
+ghost use Rattle.flow_check.specs.Check.{IsClassRead};
+ghost use Rattle.flow_check.specs.Classes.{class_from, class_plan, class_faults};
+
+use crate::head::{Head, head};
+use crate::scope::enter;
+use body_lang::read_body;
+use body_names::Scope;
+use check_names::{Context, refused};
+use jdf_lex::{JdfFault, JdfRefusal};
+use jdf_tree::ClassTree;
+use plan_core::ClassPlan;
+use ptg_base::{OutOfMemory, Seq, Text};
+use std::alloc::Global;
+use term_core::{Body, ClassSpace};
+
+// What reading a body gives: the body and its trap words, or its first fault.
+type BodyResult = Result<(Body, Seq<Text>), JdfFault>;
+
+/// A class with all names resolved and its space, or its first fault.
+pub(crate) type ClassResult = Result<(ClassPlan, ClassSpace), JdfRefusal>;
+
+// Reads the body of a class.
+fn body(alloc: Global, class: &ClassTree, scope: &Scope) -> Result<BodyResult, OutOfMemory>
+    ensures { IfOk result (λ read. ReadsAs scope.now class.now read) }
+{
+    match read_body(alloc, class.body.as_slice(), class.finish, scope) {
+        Ok(read) => Ok(Ok(read)),
+        Err(JdfRefusal::Fault(fault)) => Ok(Err(fault)),
+        Err(JdfRefusal::OutOfMemory) => Err(OutOfMemory),
+    }
+}
+
+// The class of its parts, and its space.
+fn class_from(
+    alloc: Global,
+    class: &ClassTree,
+    head: Head,
+    body: (Body, Seq<Text>),
+) -> Result<(ClassPlan, ClassSpace), OutOfMemory>
+    ensures { IfOk result (λ x. x ≡ class_from class.now head body) }
+{
+    let ((space, affinity), (flows, priority)) = head;
+    let plan = ClassPlan {
+        name: Text::of(alloc, class.name.text.bytes())?,
+        affinity,
+        flows,
+        priority,
+        body: body.0,
+        trap_words: body.1,
+    };
+    Ok((plan, space))
+}
+
+// A class with all names resolved, and its space. All of its definitions are seen.
+fn class(
+    context: &Context,
+    class: &ClassTree,
+    body: BodyResult,
+) -> Result<(ClassPlan, ClassSpace), JdfRefusal>
+    requires context { IsContext context.now }
+    requires seen { context.now.seen.now ≡ class.now.defs }
+    requires short { IsShortClass class.now }
+    ensures { ReturnsChecked {A = ClassPlan × ClassSpace} result (class_plan (job_of context.now) class.now body) (class_faults (job_of context.now) class.now body) }
+{
+    let head = head(context, class);
+    match body {
+        Err(fault) => refused(head, fault.spot, fault.code),
+        Ok(body) => match head {
+            Err(refusal) => Err(refusal),
+            Ok(head) => Ok(class_from(context.alloc, class, head, body)?),
+        },
+    }
+}
+
+/// A class with all names resolved, and its space, by the globals that names in its body mean.
+pub(crate) fn class_read(
+    context: &Context,
+    one: &ClassTree,
+    scope: &mut Scope,
+) -> Result<ClassResult, OutOfMemory>
+    requires context { IsContext context.now }
+    requires short { IsShortClass one.now }
+    requires globals { HasGlobals (job_of context.now) scope.old }
+    ensures read { IfOk result (λ r. IsClassRead (job_of context.now) one.now r) }
+    ensures globals { OnOk result (HasGlobals (job_of context.now) scope.new) }
+{
+    enter(context.alloc, one, scope)?;
+    let read = body(context.alloc, one, scope)?;
+    let here = Context {
+        seen: one.defs.as_slice(),
+        ..*context
+    };
+    Ok(class(&here, one, read))
+}

@@ -1,0 +1,64 @@
+//! The parts of a class outside of its body.
+
+ghost use Rattle.std.specs.Prelude.{◌≡◌};
+ghost use Rattle.check_names.specs.Contexts.{IsContext, job_of};
+ghost use Rattle.check_names.specs.Limits.{IsShortClass};
+ghost use Rattle.check_names.specs.Returns.{ReturnsChecked};
+ghost use Rattle.check_flows.specs.Dependences.{flow_faults};
+ghost use Rattle.flow_check.specs.Classes.{Head, flows_of, flows_faults, head_of, head_faults};
+ghost use Rattle.std.specs.Prelude.{flat_map};
+
+use check_flows::{element, flow};
+use check_names::{Context, and_rules, join, option_term, repeats, space, with_part};
+use jdf_lex::{JdfCode, JdfRefusal};
+use jdf_tree::{ClassTree, FlowTree};
+use plan_core::FlowPlan;
+use ptg_base::Seq;
+use term_core::{ClassSpace, Expr};
+
+/// The parts of a class outside of its body: its space and its affinity, its flows and its priority.
+pub(crate) type Head = (
+    (ClassSpace, (u32, Seq<Expr>)),
+    (Seq<FlowPlan>, Option<Expr>),
+);
+
+// The flows of a class, one by one.
+fn each_flow(context: &Context, flows: &[FlowTree]) -> Result<Seq<FlowPlan>, JdfRefusal>
+    requires { IsContext context.now }
+    ensures { ReturnsChecked result (flows_of (job_of context.now) context.now.seen.now flows.now) (flat_map (flow_faults (job_of context.now) context.now.seen.now) flows.now) }
+{
+    let mut parts = Ok(Seq::new(context.alloc));
+    for each in flows {
+        parts = with_part(parts, flow(context, each));
+    }
+    parts
+}
+
+// The flows of a class, of which no two have one name.
+fn flows(context: &Context, flows: &[FlowTree]) -> Result<Seq<FlowPlan>, JdfRefusal>
+    requires { IsContext context.now }
+    ensures { ReturnsChecked result (flows_of (job_of context.now) context.now.seen.now flows.now) (flows_faults (job_of context.now) context.now.seen.now flows.now) }
+{
+    and_rules(
+        each_flow(context, flows),
+        repeats(context.alloc, JdfCode::NameTwice, flows),
+    )
+}
+
+/// The parts of a class outside of its body, with their names resolved. All definitions of the class are seen.
+pub(crate) fn head(context: &Context, class: &ClassTree) -> Result<Head, JdfRefusal>
+    requires context { IsContext context.now }
+    requires seen { context.now.seen.now ≡ class.now.defs }
+    requires short { IsShortClass class.now }
+    ensures { ReturnsChecked {A = Head} result (head_of (job_of context.now) class.now) (head_faults (job_of context.now) class.now) }
+{
+    let place = join(
+        space(context, class),
+        element(context, &class.affinity, class.affinity_args.as_slice()),
+    );
+    let rest = join(
+        flows(context, class.flows.as_slice()),
+        option_term(context, &class.priority),
+    );
+    join(place, rest)
+}
