@@ -1,0 +1,11 @@
+pub mod Parts
+pub mod Tallies
+pub mod InEdges
+pub mod SentItems
+pub mod PlaceBits
+pub mod Walks
+pub mod Added
+pub mod Passing
+pub mod Consistency
+pub mod NoFault
+pub mod OneFault

@@ -1,0 +1,54 @@
+use Rattle.std.proofs.Common.{◌≡◌, ◌++◌, map, ap, sym, ◌∙◌, subst}
+use Rattle.std.proofs.lemmas.Result.{err_from_is_err_and}
+use Rattle.range_space.specs.Tasks.{tasks}
+use Rattle.dep_iter.specs.Tasks.{task}
+use Rattle.edge_match.specs.Marks.{task_marks}
+use Rattle.edge_match.proofs.Walks.{IsSoFar, all_done, at_hand, nothing_yet, one_more, stopped}
+use Rattle.edge_match.proofs.tasks.check_class.Goals as goal
+
+pub loop-params-init : goal.loop-params-init
+loop-params-init c = record { can_next = tt; is_finite = tt; so_far = nothing_yet _ _ _ _ }
+
+pub check_task-requires : goal.check_task-requires
+check_task-requires c =
+    let P = c.args.plan.now in
+    let class = c.args.class in
+    let space = c.space_of-space.result.now in
+    let all = ap (map (task class)) (sym (c.into_iter-params-iterator.ensures.into_iter_gives ∙ c.new-params-items.ensures)) in
+    let w = c.loop-params.invariant.so_far in
+    let split = all ∙ w.split ∙ ap (λ l. w.done ++ map (task class) l) c.in-Some.ensures.steps in
+    rw (c.new-t.ensures, c.as_slice.ensures.same) (at_hand P class space w.done c.in-Some.params (map (task class) c.next.new.self) c.space_of-space.ensures.space split)
+
+pub loop-params-preserved : goal.loop-params-preserved
+loop-params-preserved c =
+    let P = c.args.plan.now in
+    let class = c.args.class in
+    let marks = task_marks c.args.phase P in
+    let all = map (task class) c.into_iter-params-iterator.result in
+    let w = subst (λ l. IsSoFar P marks c.args.counted.now c.loop-params.counted all (map (task class) l)) c.in-Some.ensures.steps c.loop-params.invariant.so_far in
+    let k = rw (c.new-t.ensures, c.as_slice.ensures.same) at c.in_ok-check_task.ensures in
+    record { can_next = tt; is_finite = tt; so_far = one_more P marks c.args.counted.now c.loop-params.counted c.check_task.new.counted all (task class c.in-Some.params) (map (task class) c.next.new.self) w k }
+
+pub returns-in_err-check_task : goal.returns-in_err-check_task
+returns-in_err-check_task c = λ s here.
+    let P = c.args.plan.now in
+    let class = c.args.class in
+    let marks = task_marks c.args.phase P in
+    let all = map (task class) c.into_iter-params-iterator.result in
+    let w = subst (λ l. IsSoFar P marks c.args.counted.now c.loop-params.counted all (map (task class) l)) c.in-Some.ensures.steps c.loop-params.invariant.so_far in
+    let k = rw (c.new-t.ensures, c.as_slice.ensures.same) at c.in_err-check_task.ensures in
+    let same : c.space_of-space.result.now ≡ s = let a = c.space_of-space.ensures.space in cc in
+    let q = c.into_iter-params-iterator.ensures.into_iter_gives ∙ c.new-params-items.ensures ∙ ap tasks same in
+    let p = err_from_is_err_and c.from_residual.result c.from_residual.ensures.1 in
+    rw (p.1, p.2, sym q) (stopped P marks c.args.counted.now c.loop-params.counted c.check_task.new.counted all (task class c.in-Some.params) (map (task class) c.next.new.self) w _ k)
+
+pub returns : goal.returns
+returns c = λ s here.
+    let P = c.args.plan.now in
+    let class = c.args.class in
+    let marks = task_marks c.args.phase P in
+    let all = map (task class) c.into_iter-params-iterator.result in
+    let same : c.space_of-space.result.now ≡ s = let a = c.space_of-space.ensures.space in cc in
+    let q = c.into_iter-params-iterator.ensures.into_iter_gives ∙ c.new-params-items.ensures ∙ ap tasks same in
+    let w = subst (λ l. IsSoFar P marks c.args.counted.now c.loop-params.counted all (map (task class) l)) c.in-None.ensures.steps.0 c.loop-params.invariant.so_far in
+    rw (sym q) (all_done P marks c.args.counted.now c.loop-params.counted all w)

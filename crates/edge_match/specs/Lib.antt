@@ -1,0 +1,5 @@
+pub mod Faults
+pub mod Marks
+pub mod FirstFault
+pub mod Written
+pub mod Counted

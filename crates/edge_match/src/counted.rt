@@ -1,0 +1,19 @@
+//! What was counted so far.
+
+ghost use Rattle.std.specs.Prelude.{◌≤◌};
+
+use crate::written::Written;
+
+/// How many edges into tasks and items were counted, how many of those edges carry a tile, and which places are written.
+#[derive(Debug, Drop)]
+pub(crate) struct Counted {
+    pub(crate) ins: u64,
+    pub(crate) data_edges: u64,
+    pub(crate) items: u64,
+    pub(crate) writes: u64,
+    pub(crate) written: Written,
+    pub(crate) ghost ins_at_most: { ins ≤ 4000000 },
+    pub(crate) ghost data_at_most: { data_edges ≤ ins },
+    pub(crate) ghost items_at_most: { items ≤ 4000000 },
+    pub(crate) ghost writes_at_most: { writes ≤ items },
+}

@@ -1,0 +1,164 @@
+//! Checks of the flows of a task.
+
+ghost use Rattle.std.specs.Prelude.{◌≡◌, ◌≢◌, ◌↔◌, ◌+◌, ◌≤◌, ◌&&◌, ℕ, IsTrue, Some, length, slice_get};
+ghost use Rattle.ptg_base.specs.declared.place.Place.{Place as PlaceValue};
+ghost use Rattle.plan_core.specs.Place.{HasPlace};
+ghost use Rattle.dep_iter.specs.declared.source.Source.TheVariants as source_variant;
+ghost use Rattle.dep_iter.specs.Consistent as consistent;
+ghost use Rattle.dep_iter.specs.Edges.{data_source as data_source_of};
+ghost use Rattle.dep_iter.specs.Links.{dependences_fit, flows_fit};
+ghost use Rattle.dep_iter.specs.Tasks as tasks;
+ghost use Rattle.dep_iter.specs.Tasks.{IsTask};
+ghost use Rattle.edge_match.specs.Counted.{Checked};
+ghost use Rattle.edge_match.specs.Marks.{flow_marks, flow_start, flows_marks};
+ghost use Rattle.edge_match.specs.declared.counted.Counted.{Counted as CountedValue};
+ghost use Rattle.edge_match.specs.declared.phase.Phase.TheVariants as phase;
+
+use crate::at::FlowAt;
+use crate::counted::Counted;
+use crate::fault::{MatchCode, MatchFault};
+use crate::gathering::check_ins;
+use crate::phase::Phase;
+use crate::sending::check_outs;
+use crate::task_at::TaskAt;
+use dep_iter::{Source, data_source};
+use plan_core::{FlowPlan, Plan};
+use term_core::FlowKind;
+
+// Whether a flow of this kind takes a tile, so that one of its in dependences must hold.
+fn takes_tile(kind: FlowKind) -> bool
+    ensures { result ≡ consistent.takes_tile kind }
+{
+    match kind {
+        FlowKind::Read => true,
+        FlowKind::Write => false,
+        FlowKind::Rw => true,
+        FlowKind::Ctl => false,
+    }
+}
+
+// Whether no in dependence of the flow with this source holds.
+fn is_nothing(source: &Source) -> bool
+    ensures { IsTrue result ↔ (source.now ≡ source_variant.Nothing) }
+{
+    match source {
+        Source::Task(_) => false,
+        Source::Place(_) => false,
+        Source::New => false,
+        Source::Null => false,
+        Source::Nothing => true,
+    }
+}
+
+// Whether an in dependence of a flow of this kind with this source holds, if one must.
+fn has_input(kind: FlowKind, source: &Source) -> bool
+    ensures { IsTrue result ↔ (IsTrue (consistent.takes_tile kind) → source.now ≢ source_variant.Nothing) }
+{
+    if is_nothing(source) {
+        !takes_tile(kind)
+    } else {
+        true
+    }
+}
+
+// Whether the source is `NULL`.
+fn is_null(source: &Source) -> bool
+    ensures { IsTrue result ↔ (source.now ≡ source_variant.Null) }
+{
+    match source {
+        Source::Task(_) => false,
+        Source::Place(_) => false,
+        Source::New => false,
+        Source::Null => true,
+        Source::Nothing => false,
+    }
+}
+
+// Whether the place of the source exists, if it is one.
+fn has_place(plan: &Plan, source: &Source) -> bool
+    ensures { IsTrue result ↔ ((p : PlaceValue) → source.now ≡ source_variant.Place p → HasPlace plan.now.colls p) }
+{
+    match source {
+        Source::Task(_) => true,
+        Source::Place(p) => plan.has_place(p),
+        Source::New => true,
+        Source::Null => true,
+        Source::Nothing => true,
+    }
+}
+
+// Whether the flow has a source, if it must, and the place of its source exists.
+fn connect_flow(at: &FlowAt, source: &Source) -> Result<(), MatchFault>
+    requires { source.now ≡ data_source_of at.now.plan.now at.now.task.now at.now.number }
+    ensures { (s : CountedValue) → Checked at.now.plan.now s s result (flow_start phase.Connecting at.now.plan.now at.now.task.now at.now.number at.now.flow.now) }
+{
+    at.require(has_input(at.flow.kind, source), MatchCode::NoInput)?;
+    at.require(has_place(at.plan, source), MatchCode::BadPlace)
+}
+
+// Checks the flow itself.
+fn start_flow(at: &FlowAt, source: &Source) -> Result<(), MatchFault>
+    requires { source.now ≡ data_source_of at.now.plan.now at.now.task.now at.now.number }
+    ensures { (s : CountedValue) → Checked at.now.plan.now s s result (flow_start at.now.phase at.now.plan.now at.now.task.now at.now.number at.now.flow.now) }
+{
+    match at.phase {
+        Phase::Connecting => connect_flow(at, source),
+        Phase::Matching => Ok(()),
+    }
+}
+
+// Checks the flow, the edges into it and what it sends.
+fn check_flow(at: &FlowAt, source: &Source, counted: &mut Counted) -> Result<(), MatchFault>
+    requires of_job { IsTask at.now.plan.now at.now.task.now }
+    requires source { source.now ≡ data_source_of at.now.plan.now at.now.task.now at.now.number }
+    ensures { Checked at.now.plan.now counted.old counted.new result (flow_marks at.now.phase at.now.plan.now at.now.task.now at.now.number at.now.flow.now) }
+{
+    start_flow(at, source)?;
+    check_ins(at, 0, at.flow.ins.as_slice(), counted)?;
+    check_outs(at, 0, at.flow.outs.as_slice(), counted)
+}
+
+// Checks the flow with this number of a task.
+fn check_flow_of(
+    task: &TaskAt,
+    number: u8,
+    flow: &FlowPlan,
+    counted: &mut Counted,
+) -> Result<(), MatchFault>
+    requires of_job { IsTask task.now.plan.now task.now.task.now }
+    requires here { slice_get (tasks.flows_of task.now.plan.now task.now.task.now) number ≡ Some flow.now }
+    requires fit { IsTrue (dependences_fit task.now.plan.now flow.now.ins && dependences_fit task.now.plan.now flow.now.outs) }
+    ensures { Checked task.now.plan.now counted.old counted.new result (flow_marks task.now.phase task.now.plan.now task.now.task.now number flow.now) }
+{
+    let source = data_source(task.plan, task.task, number);
+    let at = FlowAt {
+        phase: task.phase,
+        plan: task.plan,
+        task: task.task,
+        env: task.env,
+        number,
+        flow,
+        absent: is_null(&source),
+    };
+    check_flow(&at, &source, counted)
+}
+
+// Checks these flows of a task, which are numbered from `number` on.
+pub(crate) fn check_flows(
+    task: &TaskAt,
+    number: u8,
+    flows: &[FlowPlan],
+    counted: &mut Counted,
+) -> Result<(), MatchFault>
+    requires of_job { IsTask task.now.plan.now task.now.task.now }
+    requires here { (i : ℕ) → slice_get (tasks.flows_of task.now.plan.now task.now.task.now) (number + i) ≡ slice_get flows.now i }
+    requires fit { IsTrue (flows_fit task.now.plan.now flows.now) }
+    requires room { number + length flows.now ≤ 8 }
+    ensures { Checked task.now.plan.now counted.old counted.new result (flows_marks task.now.phase task.now.plan.now task.now.task.now number flows.now) }
+{
+    let Some((flow, others)) = flows.split_first() else {
+        return Ok(());
+    };
+    check_flow_of(task, number, flow, counted)?;
+    check_flows(task, number + 1, others, counted)
+}

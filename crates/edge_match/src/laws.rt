@@ -1,0 +1,33 @@
+//! Laws of the marks and of the first fault.
+
+ghost use Rattle.std.specs.Prelude.{◌≡◌, ◌≤◌, length, map};
+ghost use Rattle.std.specs.List.{AllByRecursion};
+ghost use Rattle.ptg_base.specs.declared.edge.WriteBack.{WriteBack};
+ghost use Rattle.range_space.specs.Sound.{IsSound, prefix_total};
+ghost use Rattle.plan_core.specs.declared.plan.Plan.{Plan};
+ghost use Rattle.dep_iter.specs.Tasks.{all_tasks};
+ghost use Rattle.dep_iter.specs.Consistent.{IsConsistent, all_in, all_items, all_writes};
+ghost use Rattle.edge_match.specs.FirstFault.{IsFirstFault};
+ghost use Rattle.edge_match.specs.Marks.{AllPass, add_all, marks, nothing, phase_marks};
+ghost use Rattle.edge_match.specs.declared.fault.MatchFault.{MatchFault};
+ghost use Rattle.edge_match.specs.declared.phase.Phase.TheVariants.{Connecting};
+
+/// A law: the first phase counts all edges into tasks, all items and all places that are written.
+pub fn all_edges_and_items_are_counted()
+    ensures { (P : Plan) → add_all nothing (phase_marks Connecting P) ≡ record { ins = all_in P; items = all_items P; places = map (λ (w : WriteBack). w.place) (all_writes P) } }
+{}
+
+/// A law: a plan is consistent where its spaces are sound and within their limits and all its marks pass.
+pub fn a_plan_that_passes_is_consistent()
+    ensures { (P : Plan) → AllByRecursion IsSound P.spaces → length (all_tasks P) ≤ 1000000 → prefix_total P.spaces ≤ 16000000 → AllPass P nothing (marks P) → IsConsistent P }
+{}
+
+/// A law: a plan has one first fault at most.
+pub fn a_plan_has_one_first_fault()
+    ensures { (P : Plan) (f g : MatchFault) → IsFirstFault P f → IsFirstFault P g → f ≡ g }
+{}
+
+/// A law: a consistent plan has no fault.
+pub fn a_consistent_plan_has_no_fault()
+    ensures { (P : Plan) (f : MatchFault) → IsConsistent P → IsFirstFault P f → ⊥ }
+{}

@@ -1,0 +1,31 @@
+//! Whether a job is consistent: each edge out of a task is one into its target and the other way round, and all that tasks need exists.
+#![tactic(auto)]
+
+mod at;
+mod counted;
+mod counting;
+mod ends;
+mod fault;
+mod flows;
+mod gathering;
+mod ins;
+mod laws;
+mod matching;
+mod named;
+mod outs;
+mod phase;
+mod refusing;
+mod sending;
+mod task_at;
+mod tasks;
+#[cfg(test)]
+mod tests;
+mod totals;
+mod written;
+
+pub use fault::{MatchCode, MatchFault, MatchRefusal};
+pub use laws::{
+    a_consistent_plan_has_no_fault, a_plan_has_one_first_fault, a_plan_that_passes_is_consistent,
+    all_edges_and_items_are_counted,
+};
+pub use matching::match_edges;

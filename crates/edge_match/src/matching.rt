@@ -1,0 +1,120 @@
+//! Whether a plan is consistent, or its first fault.
+
+ghost use Rattle.std.specs.Prelude.{◌≡◌, Err, IfErr, IfOk, IsTrue, MatchResult};
+ghost use Rattle.plan_core.specs.declared.plan.Plan.{Plan as PlanValue};
+ghost use Rattle.dep_iter.specs.Consistent.{HasCounts, IsConsistent};
+ghost use Rattle.edge_match.specs.Counted.{AreTotals, Checked, IsCounted, IsRefusalOf};
+ghost use Rattle.edge_match.specs.Faults as faults;
+ghost use Rattle.edge_match.specs.FirstFault.{IsFirstFailure, IsFirstFault};
+ghost use Rattle.edge_match.specs.Marks.{AllPass, marks, nothing, phase_marks};
+ghost use Rattle.edge_match.specs.Written.{FitsShapes, is_written};
+ghost use Rattle.edge_match.specs.declared.fault.MatchFault.{MatchFault as MatchFaultValue};
+ghost use Rattle.edge_match.specs.declared.fault.MatchRefusal.TheVariants as refusal;
+ghost use Rattle.ptg_base.specs.declared.place.Place.{Place as PlaceValue};
+
+use crate::counted::Counted;
+use crate::fault::{MatchCode, MatchFault, MatchRefusal};
+use crate::laws::{
+    a_consistent_plan_has_no_fault, a_plan_that_passes_is_consistent,
+    all_edges_and_items_are_counted,
+};
+use crate::phase::Phase;
+use crate::tasks::check_classes;
+use crate::totals::Totals;
+use crate::written::Written;
+use dep_iter::{Matched, all_tasks_are_listed};
+use plan_core::Plan;
+use range_space::{Numbers, SpaceFault, space_size};
+use std::alloc::Global;
+
+// A fault of the walk through the spaces, as one of the plan.
+fn space_fault(fault: SpaceFault) -> MatchFault
+    ensures { result ≡ faults.space_fault fault }
+{
+    match fault {
+        SpaceFault::BadExpr(class, outer) => MatchFault {
+            code: MatchCode::BadExpr,
+            class,
+            numbers: outer,
+            flow: None,
+        },
+        SpaceFault::TooManyTasks(class) => MatchFault {
+            code: MatchCode::TooManyTasks,
+            class,
+            numbers: Numbers::new(),
+            flow: None,
+        },
+    }
+}
+
+// Checks all tasks in one phase.
+fn check_phase(phase: Phase, plan: &Plan, counted: &mut Counted) -> Result<(), MatchFault>
+    ensures { Checked plan.now counted.old counted.new result (phase_marks phase plan.now) }
+{
+    check_classes(phase, plan, 0, counted)
+}
+
+// Nothing is counted yet.
+fn nothing_counted(written: Written) -> Counted
+    ensures { (P : PlanValue) → FitsShapes P.colls written → ((p : PlaceValue) → IsTrue (is_written written p) → ⊥) → IsCounted P result nothing }
+{
+    Counted {
+        ins: 0,
+        data_edges: 0,
+        items: 0,
+        writes: 0,
+        written,
+    }
+}
+
+// Checks a plan of so many tasks, whose spaces have no fault, and gives its totals.
+fn check_tasks(plan: &Plan, tasks: u64, mut counted: Counted) -> Result<Totals, MatchFault>
+    requires { IsCounted plan.now counted nothing }
+    ensures { MatchResult result (λ t. AllPass plan.now nothing (marks plan.now) × AreTotals plan.now tasks t) (IsFirstFailure plan.now nothing (marks plan.now)) }
+{
+    all_edges_and_items_are_counted();
+    check_phase(Phase::Connecting, plan, &mut counted)?;
+    let totals = Totals {
+        tasks,
+        edges: counted.ins,
+        data_edges: counted.data_edges,
+        writes: counted.writes,
+    };
+    check_phase(Phase::Matching, plan, &mut counted)?;
+    Ok(totals)
+}
+
+// Checks a plan and gives its totals.
+fn check_plan(alloc: Global, plan: &Plan) -> Result<Totals, MatchRefusal>
+    ensures consistent { IfOk result (λ t. IsConsistent plan.now × HasCounts plan.now t.tasks t.edges t.data_edges t.writes) }
+    ensures refused { IfErr result (IsRefusalOf plan.now) }
+{
+    a_plan_that_passes_is_consistent();
+    all_tasks_are_listed();
+    let tasks = match space_size(plan.spaces.as_slice()) {
+        Ok(tasks) => tasks,
+        Err(fault) => return Err(MatchRefusal::Fault(space_fault(fault))),
+    };
+    let Ok(written) = Written::new(alloc, plan.colls.as_slice()) else {
+        return Err(MatchRefusal::OutOfMemory);
+    };
+    match check_tasks(plan, tasks, nothing_counted(written)) {
+        Ok(totals) => Ok(totals),
+        Err(fault) => Err(MatchRefusal::Fault(fault)),
+    }
+}
+
+/// The plan, as one that is consistent, with its counts; or its first fault, and the plan back. Takes time according to the numbers of tasks and edges,
+/// and a byte of memory for each place of a collection.
+pub fn match_edges(alloc: Global, plan: Plan) -> Result<Matched, (MatchRefusal, Plan)>
+    ensures found { IfOk result (λ m. (m ≡ plan) × IsConsistent plan) }
+    ensures back { IfErr result (λ e. e.1 ≡ plan) }
+    ensures fault { (f : MatchFaultValue) (p : PlanValue) → result ≡ Err (refusal.Fault f, p) → IsFirstFault plan f }
+    ensures only_inconsistent { IsConsistent plan → (f : MatchFaultValue) (p : PlanValue) → result ≡ Err (refusal.Fault f, p) → ⊥ }
+{
+    a_consistent_plan_has_no_fault();
+    match check_plan(alloc, &plan) {
+        Ok(t) => Ok(Matched::trusted(plan, t.tasks, t.edges, t.data_edges, t.writes)),
+        Err(refusal) => Err((refusal, plan)),
+    }
+}

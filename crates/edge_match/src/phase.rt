@@ -1,0 +1,10 @@
+//! The phases of the pass over all tasks.
+
+/// In which phase a task is checked.
+#[derive(Clone, Copy, Debug, PartialEq, Eq)]
+pub(crate) enum Phase {
+    /// Whether what the task needs and names exists.
+    Connecting,
+    /// Whether its edges match those at their other ends.
+    Matching,
+}

@@ -1,0 +1,50 @@
+//! Faults of tasks.
+
+ghost use Rattle.std.specs.Prelude.{◌≡◌, ◌+◌, ◌≤◌, ◌++◌, length, IsTrue, MatchResult};
+ghost use Rattle.edge_match.specs.Faults.{fault_at};
+
+use crate::fault::{MatchCode, MatchFault};
+use ptg_base::TaskId;
+use range_space::Numbers;
+
+// Adds these values.
+fn push_all(values: &[i64], numbers: &mut Numbers<16>)
+    requires { length numbers.old + length values.now ≤ 16 }
+    ensures { numbers.new ≡ numbers.old ++ values.now }
+{
+    let Some((v, others)) = values.split_first() else {
+        return;
+    };
+    numbers.push(*v);
+    push_all(others, numbers);
+}
+
+// The fault with this code of a task, of one of its flows or of none.
+pub(crate) fn fault_of(code: MatchCode, t: &TaskId, flow: Option<u8>) -> MatchFault
+    ensures { result ≡ fault_at code t.now flow }
+{
+    let mut numbers = Numbers::new();
+    push_all(t.params(), &mut numbers);
+    MatchFault {
+        code,
+        class: t.class(),
+        numbers,
+        flow,
+    }
+}
+
+// An error with this code where this is not so of a task, or of one of its flows.
+pub(crate) fn require(
+    holds: bool,
+    code: MatchCode,
+    t: &TaskId,
+    flow: Option<u8>,
+) -> Result<(), MatchFault>
+    ensures { MatchResult result (λ _. IsTrue holds) (λ f. (IsTrue holds → ⊥) × (f ≡ fault_at code t.now flow)) }
+{
+    if holds {
+        Ok(())
+    } else {
+        Err(fault_of(code, t, flow))
+    }
+}
