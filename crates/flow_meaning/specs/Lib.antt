@@ -1,0 +1,12 @@
+pub mod Counting
+pub mod Comparing
+pub mod Starting
+pub mod Ending
+pub mod Backward
+pub mod Answer
+pub mod Final
+pub mod Machine
+pub mod Sound
+pub mod Table
+pub mod Order
+pub mod StateAnswer

@@ -1,0 +1,23 @@
+-- Legal orders of tasks: those in which each task comes after the sources of the edges into it. Source: a topological order of the tasks by their edges, of those tasks that are in it.
+use Rattle.std.specs.Prelude.{List, [], ◌∷◌, ◌++◌}
+use Rattle.ptg_base.specs.Lists.{IsIn}
+use Rattle.ptg_base.specs.Task.{Task}
+use Rattle.ptg_base.specs.declared.edge.Edge.{Edge}
+use Rattle.plan_core.specs.declared.plan.Plan.{Plan}
+use Rattle.dep_iter.specs.Tasks.{IsTask}
+use Rattle.dep_iter.specs.Edges.{in_edges}
+
+-- a task of the job that may come after these tasks: it is none of them, and the source of each edge into it is
+pub record MayFollow (P : Plan) (before : List Task) (t : Task) : Type 0 where
+  pub task : IsTask P t
+  pub first_time : IsIn t before → ⊥
+  pub after_sources : (e : Edge) → IsIn e (in_edges P t) → IsIn e.from before
+
+-- each of the tasks may follow these and those that come before it
+abbrev pub IsLegalAfter : Plan → List Task → List Task → Type 0
+IsLegalAfter P before [] = Unit {0}
+IsLegalAfter P before (t ∷ ts) = MayFollow P before t × IsLegalAfter P (before ++ t ∷ []) ts
+
+-- each task occurs once, after the sources of all edges into it
+abbrev pub IsLegalOrder : Plan → List Task → Type 0
+IsLegalOrder P ts = IsLegalAfter P [] ts

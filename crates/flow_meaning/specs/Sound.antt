@@ -1,0 +1,54 @@
+-- Sound states of the event machine: what is claimed may run, and what is sent is what the backward meaning says. Source: this project's own choice.
+use Rattle.std.specs.Prelude.{◌≡◌, ◌≤◌, ◌⊎◌, List, IsTrue, IsFalse}
+use Rattle.ptg_base.specs.Lists.{IsIn}
+use Rattle.ptg_base.specs.Task.{Task}
+use Rattle.ptg_base.specs.declared.edge.Item.{Item}
+use Rattle.plan_core.specs.declared.plan.Plan.{Plan}
+use Rattle.coll_data.specs.Data.{Data}
+use Rattle.dep_iter.specs.Tasks.{IsTask}
+use Rattle.dep_iter.specs.Edges.{goal}
+use Rattle.dep_iter.specs.Items.{items, item_flow}
+use Rattle.flow_meaning.specs.Counting.{HasSameMembers}
+use Rattle.flow_meaning.specs.Ending.{has_outputs, output_tile}
+use Rattle.flow_meaning.specs.Backward.{ended}
+use Rattle.flow_meaning.specs.Machine.{Event, Happen, MachineState, MayClaim, Sent, arrived, claim_count, is_sent, opening_state, send_count, sender}
+
+-- a task of the job all of whose in edges were sent
+pub record HasAllArrived (P : Plan) (S : MachineState) (t : Task) : Type 0 where
+  pub task : IsTask P t
+  pub all_arrived : arrived P S t ≡ goal P t
+
+-- an item of a claimed task that has outputs by the backward meaning, sent with the tile that the task leaves in the flow of the item
+pub record IsOutput (P : Plan) (G : Data) (S : MachineState) (x : Sent) : Type 0 where
+  pub claimed : IsIn (sender x.item) S.claims
+  pub is_item : IsIn x.item (items P (sender x.item))
+  pub outputs : IsTrue (has_outputs (ended P G (sender x.item)))
+  pub tile : x.tile ≡ output_tile (ended P G (sender x.item)) (item_flow x.item)
+
+pub record IsSoundState (P : Plan) (G : Data) (S : MachineState) : Type 0 where
+  -- no task is claimed twice, and no item is sent twice
+  pub claimed_once : (t : Task) → claim_count S t ≤ 1
+  pub sent_once : (i : Item) → send_count S i ≤ 1
+  pub claimed_have_all : (t : Task) → IsIn t S.claims → HasAllArrived P S t
+  pub sent_are_outputs : (x : Sent) → IsIn x S.sends → IsOutput P G S x
+
+-- the same tasks are claimed and the same items sent with the same tiles, in whatever order
+pub record IsReordered (S T : MachineState) : Type 0 where
+  pub claims : HasSameMembers S.claims T.claims
+  pub sends : HasSameMembers S.sends T.sends
+
+-- some list of events leads from the opening state to this state, up to the order of its two lists
+pub record IsReached (P : Plan) (G : Data) (S : MachineState) : Type 0 where
+  pub events : List Event
+  pub state : MachineState
+  pub happen : Happen P G events opening_state state
+  pub same : IsReordered S state
+
+-- a claimed task that does no more: it traps, or all its items were sent
+abbrev pub IsFinished : Plan → Data → MachineState → Task → Type 0
+IsFinished P G S t = IsFalse (has_outputs (ended P G t)) ⊎ ((i : Item) → IsIn i (items P t) → IsTrue (is_sent S i))
+
+-- no task may be claimed, and each claimed task does no more
+pub record IsAtRest (P : Plan) (G : Data) (S : MachineState) : Type 0 where
+  pub none_ready : (t : Task) → MayClaim P S t → ⊥
+  pub all_finished : (t : Task) → IsIn t S.claims → IsFinished P G S t

@@ -1,0 +1,38 @@
+-- The answer of a job as a quiescent state of the event machine has it: by how the claimed tasks end, what was written back and which tasks wait. Source: this project's own choice.
+use Rattle.std.specs.Prelude.{ℤ, ◌==◌, List, [], ◌∷◌, length, flat_map, Bool, Option, None, if◌then◌else◌}
+use Rattle.ptg_base.specs.TaskOrder.{in_task_order}
+use Rattle.ptg_base.specs.declared.place.Place.{Place}
+use Rattle.ptg_base.specs.declared.edge.WriteBack.{WriteBack}
+use Rattle.plan_core.specs.declared.plan.Plan.{Plan}
+use Rattle.coll_data.specs.Data.{Data}
+use Rattle.dep_iter.specs.Tasks.{all_tasks}
+use Rattle.flow_meaning.specs.declared.outcome.TrapRow.{TrapRow}
+use Rattle.flow_meaning.specs.declared.outcome.Outcome.{Outcome}
+use Rattle.flow_meaning.specs.declared.outcome.Outcome.TheVariants.{Complete, Trapped, Stalled}
+use Rattle.flow_meaning.specs.Answer.{trap_rows}
+use Rattle.flow_meaning.specs.Final.{replaced_data}
+use Rattle.flow_meaning.specs.Machine.{MachineState, end_in}
+use Rattle.flow_meaning.specs.Table.{waiting_rows, written}
+
+-- the claimed tasks that trap, in task order
+unfoldable pub state_traps : Plan → Data → MachineState → List TrapRow
+state_traps P G S = in_task_order (λ (r : TrapRow). r.task) (flat_map (λ t. trap_rows t (end_in P G S t)) S.claims)
+
+-- the tile that came with the first of these write-backs whose place passes a test
+abbrev pub first_written : (Place → Bool) → List (WriteBack × Option (List ℤ)) → Option (List ℤ)
+first_written here [] = None
+first_written here (w ∷ ws) = if here w.0.place then w.1 else first_written here ws
+
+-- the data with each place replaced to which a tile was written back
+unfoldable pub state_data : Data → MachineState → Data
+state_data G S = replaced_data (λ here. first_written here (written S)) G
+
+-- the answer, where these tasks trap
+abbrev pub state_answer_by : Plan → Data → MachineState → List TrapRow → Outcome
+state_answer_by P G S (r ∷ rows) = Trapped (r ∷ rows)
+state_answer_by P G S [] =
+    if length S.claims == length (all_tasks P) then Complete (length (all_tasks P)) (state_data G S)
+    else Stalled (length S.claims) (length (all_tasks P)) (waiting_rows P S)
+
+unfoldable pub state_answer : Plan → Data → MachineState → Outcome
+state_answer P G S = state_answer_by P G S (state_traps P G S)

@@ -1,0 +1,31 @@
+//! The answer of a job.
+
+use coll_data::Given;
+use ptg_base::{Seq, TaskId};
+use term_core::Trap;
+
+/// A task that trapped, and why.
+#[derive(Debug, Drop)]
+pub struct TrapRow {
+    pub task: TaskId,
+    pub cause: Trap,
+}
+
+/// A task that waits: how many of the edges into it have come, and how many there are.
+#[derive(Debug, Drop)]
+pub struct WaitRow {
+    pub task: TaskId,
+    pub arrived: u32,
+    pub goal: u32,
+}
+
+/// The answer of a job.
+#[derive(Debug, Drop)]
+pub enum Outcome {
+    /// All tasks ran: how many, and the data with what they wrote back.
+    Complete(u64, Given),
+    /// Some task trapped: all that did, in task order.
+    Trapped(Seq<TrapRow>),
+    /// Some task could not run: how many ran, how many there are, and those that wait, in task order.
+    Stalled(u64, u64, Seq<WaitRow>),
+}
