@@ -1,0 +1,4 @@
+pub mod Putting
+pub mod Loops
+pub mod Lines
+pub mod Placing

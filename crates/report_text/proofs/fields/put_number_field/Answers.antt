@@ -1,0 +1,10 @@
+use Rattle.std.proofs.Common.{refl}
+use Rattle.std.specs.Fmt.{decimal}
+use Rattle.report_text.proofs.Putting.{puts_cut, puts_then}
+use Rattle.report_text.proofs.fields.put_number_field.Goals as goal
+
+pub returns-in_err-put_byte : goal.returns-in_err-put_byte
+returns-in_err-put_byte g c = puts_cut (decimal c.args.n) _ c.in_err-put_byte.ensures c.from_residual.ensures.0 refl
+
+pub returns : goal.returns
+returns g c = puts_then _ c.in_ok-put_byte.ensures c.put_number.ensures refl

@@ -1,0 +1,20 @@
+-- Fields and lines. Source: this project's own choice.
+use Rattle.std.specs.Prelude.{ℕ, List, [], ◌∷◌, ◌++◌, map, flat_map}
+use Rattle.std.specs.List.{join_with_byte}
+use Rattle.std.specs.Fmt.{decimal, signed_decimal}
+use Rattle.report_text.specs.declared.fields.Field.{Field}
+use Rattle.report_text.specs.declared.fields.Field.TheVariants.{Word, Number, Integers}
+
+-- a line: its texts, joined by commas, and LF
+abbrev pub line : List (List ℕ) → List ℕ
+line texts = join_with_byte 44 texts ++ 10 ∷ []
+
+-- the texts of a field: its word, its number in decimal, or each of its integers in decimal
+abbrev pub field_texts : Field → List (List ℕ)
+field_texts (Word word) = word.now ∷ []
+field_texts (Number n) = decimal n ∷ []
+field_texts (Integers integers) = map signed_decimal integers.now
+
+-- texts with a comma before each
+abbrev pub with_commas : List (List ℕ) → List ℕ
+with_commas texts = flat_map (λ text. 44 ∷ text) texts

@@ -1,0 +1,7 @@
+pub mod Puts
+pub mod Field
+pub mod Places
+pub mod Rows
+pub mod Codes
+pub mod Printed
+pub mod Refusal

@@ -1,0 +1,26 @@
+-- What is printed of a refusal. Source: this project's own choice.
+use Rattle.std.specs.Prelude.{ℕ, List, [], ◌∷◌, ◌++◌, map, codes, Option, Some, None}
+use Rattle.std.specs.Fmt.{decimal, signed_decimal}
+use Rattle.edge_match.specs.declared.fault.MatchFault.{MatchFault}
+use Rattle.report_text.specs.declared.refusal_line.Line.{Line}
+use Rattle.report_text.specs.declared.refusal_line.Line.TheVariants.{Usage, Jdf, Rows, Match, Unread, Preload}
+use Rattle.report_text.specs.Field.{line}
+use Rattle.report_text.specs.Codes.{jdf_code, data_code, match_code}
+
+-- the flow of a fault: its name, or `-` where the fault is of no flow
+abbrev pub flow_text : Option ℕ → List ℕ → List ℕ
+flow_text None name = codes "-"
+flow_text (Some flow) name = name
+
+-- the line of a job that is not consistent: the code of its fault, the class, the numbers and the flow
+abbrev pub inconsistent_line : MatchFault → List ℕ → List ℕ → List ℕ
+inconsistent_line fault class flow = line (codes "inconsistent" ∷ match_code fault.code ∷ class ∷ (map signed_decimal fault.numbers ++ flow_text fault.flow flow ∷ []))
+
+-- what is printed of a refusal
+abbrev pub refusal_text : Line → List ℕ
+refusal_text Usage = line (codes "usage" ∷ [])
+refusal_text (Jdf fault) = line (codes "refused" ∷ decimal fault.spot.line ∷ decimal fault.spot.column ∷ jdf_code fault.code ∷ [])
+refusal_text (Rows fault) = line (codes "data" ∷ decimal fault.row ∷ data_code fault.code ∷ [])
+refusal_text (Match fault class flow) = inconsistent_line fault.now class.now flow.now
+refusal_text (Unread name) = line (codes "unread" ∷ name.now ∷ [])
+refusal_text Preload = line (codes "preload" ∷ [])

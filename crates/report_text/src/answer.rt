@@ -1,0 +1,94 @@
+//! The text of an answer.
+
+ghost use Rattle.std.specs.Prelude.{◌≡◌, ◌≤◌, OnOk, OnErr};
+ghost use Rattle.ptg_io.specs.Faults.{Rose};
+ghost use Rattle.ptg_io.specs.Sink.{appended};
+ghost use Rattle.report_text.specs.Puts.{Puts, HasPrefix};
+ghost use Rattle.report_text.specs.Rows.{HasRowsOf};
+ghost use Rattle.report_text.specs.Printed.{consistent_text, first_line, outcome_text, row_lines};
+
+use crate::fields::{Field, put_line};
+use crate::pieces::{Pieces, flush};
+use crate::rows::{put_traps, put_waits};
+use crate::tiles::put_colls;
+use flow_meaning::Outcome;
+use plan_core::Plan;
+use ptg_io::{Failed, Sink};
+
+/// Prints the answer of a job. On `Err` some first bytes of it went out.
+pub fn report<O: Sink>(plan: &Plan, outcome: &Outcome, sink: &mut O) -> Result<(), Failed>
+    requires { HasRowsOf plan.now outcome.now }
+    ensures ok { OnOk result (O.bytes sink.new ≡ appended (O.bytes sink.old) (outcome_text plan.now outcome.now)) }
+    ensures prefix { OnErr result (HasPrefix (O.bytes sink.old) (O.bytes sink.new) (outcome_text plan.now outcome.now)) }
+    ensures grows { O.faults sink.old ≤ O.faults sink.new }
+    ensures failed { OnErr result (Rose (O.faults sink.old) (O.faults sink.new)) }
+{
+    let mut out = Pieces::new();
+    put_outcome(sink, &mut out, plan, outcome)?;
+    flush(sink, &mut out)
+}
+
+/// Prints that a job is consistent, with its numbers of tasks, of edges and of write-backs. On `Err` some first bytes of it
+/// went out.
+pub fn consistent<O: Sink>(tasks: u64, edges: u64, writes: u64, sink: &mut O) -> Result<(), Failed>
+    ensures ok { OnOk result (O.bytes sink.new ≡ appended (O.bytes sink.old) (consistent_text tasks edges writes)) }
+    ensures prefix { OnErr result (HasPrefix (O.bytes sink.old) (O.bytes sink.new) (consistent_text tasks edges writes)) }
+    ensures grows { O.faults sink.old ≤ O.faults sink.new }
+    ensures failed { OnErr result (Rose (O.faults sink.old) (O.faults sink.new)) }
+{
+    let mut out = Pieces::new();
+    let counts = [
+        Field::Number(tasks),
+        Field::Number(edges),
+        Field::Number(writes),
+    ];
+    put_line(sink, &mut out, b"consistent", &counts)?;
+    flush(sink, &mut out)
+}
+
+/// Puts the text of an answer.
+fn put_outcome<O: Sink>(
+    sink: &mut O,
+    out: &mut Pieces,
+    plan: &Plan,
+    outcome: &Outcome,
+) -> Result<(), Failed>
+    requires { HasRowsOf plan.now outcome.now }
+    ensures { Puts O.bytes O.faults result sink.old out.old sink.new out.new (outcome_text plan.now outcome.now) }
+{
+    put_first_line(sink, out, outcome)?;
+    put_rows(sink, out, plan, outcome)
+}
+
+/// Puts what became of the job, with its counts.
+fn put_first_line<O: Sink>(sink: &mut O, out: &mut Pieces, outcome: &Outcome) -> Result<(), Failed>
+    ensures { Puts O.bytes O.faults result sink.old out.old sink.new out.new (first_line outcome.now) }
+{
+    match outcome {
+        Outcome::Complete(count, _) => put_line(sink, out, b"complete", &[Field::Number(*count)]),
+        Outcome::Trapped(rows) => {
+            put_line(sink, out, b"trapped", &[Field::Number(rows.len() as u64)])
+        }
+        Outcome::Stalled(ran, total, _) => {
+            let counts = [Field::Number(*ran), Field::Number(*total)];
+            put_line(sink, out, b"stalled", &counts)
+        }
+    }
+}
+
+/// Puts the lines of the tiles, or of the tasks that trapped or wait.
+fn put_rows<O: Sink>(
+    sink: &mut O,
+    out: &mut Pieces,
+    plan: &Plan,
+    outcome: &Outcome,
+) -> Result<(), Failed>
+    requires { HasRowsOf plan.now outcome.now }
+    ensures { Puts O.bytes O.faults result sink.old out.old sink.new out.new (row_lines plan.now outcome.now) }
+{
+    match outcome {
+        Outcome::Complete(_, given) => put_colls(sink, out, given.colls()),
+        Outcome::Trapped(rows) => put_traps(sink, out, plan, rows.as_slice()),
+        Outcome::Stalled(_, _, rows) => put_waits(sink, out, plan, rows.as_slice()),
+    }
+}

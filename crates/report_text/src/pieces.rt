@@ -1,0 +1,108 @@
+ghost use Rattle.std.specs.Prelude.{◌≡◌, ◌∷◌, [], ◌++◌, ◌<◌, length, IsFalse, OnOk};
+ghost use Rattle.report_text.specs.Puts.{Puts};
+
+use ptg_io::{Failed, Sink, write_all};
+use std::marker::Model;
+
+/// How many bytes go out at once.
+const PIECE: usize = 4096;
+
+/// The bytes that are kept back until there are enough for a piece, seen as the list of them.
+#[derive(Drop)]
+pub struct Pieces {
+    buffer: [u8; PIECE],
+    count: usize,
+}
+
+impl Model for Pieces {
+    ghost use Rattle.std.specs.Prelude.{List, ℕ, take, ◌≤◌};
+
+    ghost Value = { List ℕ };
+
+    ghost view = { λ p. take p.count p.buffer };
+
+    ghost invariant = { λ p. p.count ≤ 4096 };
+}
+
+/// A buffer, with anything in it.
+fn any_buffer() -> [u8; PIECE] {
+    [0; PIECE]
+}
+
+impl Pieces {
+    pub fn new() -> Pieces
+        ensures { result ≡ [] }
+    {
+        Pieces {
+            buffer: any_buffer(),
+            count: 0,
+        }
+    }
+
+    fn is_full(&self) -> bool
+        ensures { IsFalse result → length self.now < 4096 }
+    {
+        self.count == PIECE
+    }
+
+    fn as_slice(&self) -> &[u8]
+        ensures { result.now ≡ self.now }
+    {
+        &self.buffer[..self.count]
+    }
+
+    fn clear(&mut self)
+        ensures { self.new ≡ [] }
+    {
+        self.count = 0;
+    }
+
+    fn push(&mut self, byte: u8)
+        requires { length self.old < 4096 }
+        ensures { self.new ≡ self.old ++ byte ∷ [] }
+    {
+        self.buffer[self.count] = byte;
+        self.count += 1;
+    }
+}
+
+/// Writes what is kept back.
+pub fn flush<O: Sink>(sink: &mut O, out: &mut Pieces) -> Result<(), Failed>
+    ensures puts { Puts O.bytes O.faults result sink.old out.old sink.new out.new [] }
+    ensures empty { OnOk result (out.new ≡ []) }
+{
+    write_all(sink, out.as_slice())?;
+    out.clear();
+    Ok(())
+}
+
+/// Writes what is kept back if there is no room for one more byte.
+fn make_room<O: Sink>(sink: &mut O, out: &mut Pieces) -> Result<(), Failed>
+    ensures puts { Puts O.bytes O.faults result sink.old out.old sink.new out.new [] }
+    ensures room { OnOk result (length out.new < 4096) }
+{
+    if out.is_full() {
+        flush(sink, out)
+    } else {
+        Ok(())
+    }
+}
+
+/// Puts a byte.
+pub fn put_byte<O: Sink>(sink: &mut O, out: &mut Pieces, byte: u8) -> Result<(), Failed>
+    ensures { Puts O.bytes O.faults result sink.old out.old sink.new out.new (byte ∷ []) }
+{
+    make_room(sink, out)?;
+    out.push(byte);
+    Ok(())
+}
+
+/// Puts these bytes.
+pub fn put_bytes<O: Sink>(sink: &mut O, out: &mut Pieces, bytes: &[u8]) -> Result<(), Failed>
+    ensures { Puts O.bytes O.faults result sink.old out.old sink.new out.new bytes.now }
+{
+    for byte in bytes {
+        put_byte(sink, out, *byte)?;
+    }
+    Ok(())
+}

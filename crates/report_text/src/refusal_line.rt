@@ -1,0 +1,97 @@
+//! The line of a refusal.
+
+ghost use Rattle.std.specs.Prelude.{◌≡◌, ◌≤◌, OnOk, OnErr};
+ghost use Rattle.ptg_io.specs.Faults.{Rose};
+ghost use Rattle.ptg_io.specs.Sink.{appended};
+ghost use Rattle.report_text.specs.Puts.{Puts, HasPrefix};
+ghost use Rattle.report_text.specs.Refusal.{flow_text, inconsistent_line, refusal_text};
+
+use crate::codes::{data_code, jdf_code, match_code};
+use crate::fields::{Field, put_line};
+use crate::pieces::{Pieces, flush};
+use coll_data::DataFault;
+use edge_match::MatchFault;
+use jdf_lex::JdfFault;
+use ptg_io::{Failed, Sink};
+
+/// Why a job was not run.
+#[derive(Clone, Copy, Debug)]
+pub enum Line<'a> {
+    /// The words of the command line are no command.
+    Usage,
+    /// The JDF is refused.
+    Jdf(JdfFault),
+    /// The data file is refused.
+    Rows(DataFault),
+    /// The job is not consistent: its fault, the name of the fault's class, and that of its flow, if it is one's fault.
+    Match(&'a MatchFault, &'a [u8], &'a [u8]),
+    /// The file with this name could not be read.
+    Unread(&'a [u8]),
+    /// The tiles that were to be reserved take too much memory.
+    Preload,
+}
+
+/// Prints a refusal. On `Err` some first bytes of it went out.
+pub fn refusal<O: Sink>(line: &Line, sink: &mut O) -> Result<(), Failed>
+    ensures ok { OnOk result (O.bytes sink.new ≡ appended (O.bytes sink.old) (refusal_text line.now)) }
+    ensures prefix { OnErr result (HasPrefix (O.bytes sink.old) (O.bytes sink.new) (refusal_text line.now)) }
+    ensures grows { O.faults sink.old ≤ O.faults sink.new }
+    ensures failed { OnErr result (Rose (O.faults sink.old) (O.faults sink.new)) }
+{
+    let mut out = Pieces::new();
+    put_refusal(sink, &mut out, line)?;
+    flush(sink, &mut out)
+}
+
+/// Puts the text of a refusal.
+fn put_refusal<O: Sink>(sink: &mut O, out: &mut Pieces, line: &Line) -> Result<(), Failed>
+    ensures { Puts O.bytes O.faults result sink.old out.old sink.new out.new (refusal_text line.now) }
+{
+    match line {
+        Line::Usage => put_line(sink, out, b"usage", &[]),
+        Line::Jdf(fault) => {
+            let fields = [
+                Field::Number(u64::from(fault.spot.line)),
+                Field::Number(u64::from(fault.spot.column)),
+                Field::Word(jdf_code(fault.code)),
+            ];
+            put_line(sink, out, b"refused", &fields)
+        }
+        Line::Rows(fault) => {
+            let fields = [Field::Number(fault.row), Field::Word(data_code(fault.code))];
+            put_line(sink, out, b"data", &fields)
+        }
+        Line::Match(fault, class, flow) => put_inconsistent(sink, out, fault, class, flow),
+        Line::Unread(name) => put_line(sink, out, b"unread", &[Field::Word(name)]),
+        Line::Preload => put_line(sink, out, b"preload", &[]),
+    }
+}
+
+/// Puts the line of a job that is not consistent.
+fn put_inconsistent<'a, O: Sink>(
+    sink: &mut O,
+    out: &mut Pieces,
+    fault: &'a MatchFault,
+    class: &'a [u8],
+    flow: &'a [u8],
+) -> Result<(), Failed>
+    ensures { Puts O.bytes O.faults result sink.old out.old sink.new out.new (inconsistent_line fault.now class.now flow.now) }
+{
+    let fields = [
+        Field::Word(match_code(fault.code)),
+        Field::Word(class),
+        Field::Integers(fault.numbers.as_slice()),
+        Field::Word(flow_text(fault.flow, flow)),
+    ];
+    put_line(sink, out, b"inconsistent", &fields)
+}
+
+/// The flow of a fault: its name, or `-` where the fault is of no flow.
+fn flow_text(flow: Option<u8>, name: &[u8]) -> &[u8]
+    ensures { result.now ≡ flow_text flow name.now }
+{
+    match flow {
+        None => b"-",
+        Some(_) => name,
+    }
+}
