@@ -1,4 +1,4 @@
--- The data of a job as contracts see them.
+-- The data of a job as contracts see them. The format of data files is this project's own choice.
 use Rattle.std.specs.Prelude.{ℕ, ℤ, List}
 use Rattle.coll_data.specs.declared.coll.Coll.{Coll}
 

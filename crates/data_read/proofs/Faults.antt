@@ -6,7 +6,10 @@ use Rattle.coll_data.specs.declared.fault.DataFault.{DataFault}
 use Rattle.data_read.specs.Draft.{Draft, begun}
 use Rattle.data_read.specs.Records.{first_record, later_record}
 use Rattle.data_read.specs.Reading.{all_records, as_data, data_of, later_records, records_of, then_at}
-use Rattle.data_read.specs.WholeTexts.{HasFaultAfter, IsFirstFault, Row}
+use Rattle.data_read.specs.WholeRecords.{Row, data_of_records}
+use Rattle.data_read.specs.WholeTexts.{HasFaultAfter, HasNoRecord, IsFirstFault}
+use Rattle.data_read.proofs.FirstCodes.{code_is_fault, code_is_fault_at_start, fault_at_start_has_code, fault_has_code}
+use Rattle.data_read.proofs.AllRecords.{are_read, read_all}
 use Rattle.data_read.proofs.Choices.{by_result}
 
 same_fault : {A : Type 0} (a b : DataFault) → ◌≡◌ {A = Result A DataFault} (Err a) (Err b) → a ≡ b
@@ -54,6 +57,12 @@ later_fault row d (fields ∷ rows) fault is =
       has = h ∙ ap (λ (f : DataFault). Err f.code) same;
     })
 
+-- the data before a fault are those of the records before it
+fault_after : (first : Row) (rows : List Row) (row : Row) (code : DataCode) (draft : Draft) → all_records (first ∷ rows) ≡ Ok draft → later_record draft row ≡ Err code → HasFaultAfter (first ∷ rows) row code
+fault_after first rows row code draft is has =
+    let read = are_read first rows draft is in
+    (read.elems, read.is_first, read.none_fits, fault_has_code (data_of_records read.elems rows) row code (ap (λ (d : Draft). later_record d row) (sym read.is) ∙ has))
+
 at_first : (first : Row) (rows : List Row) (fault : DataFault) → all_records (first ∷ rows) ≡ Err fault → IsFirstFault (first ∷ rows) fault
 at_first first rows fault is =
     by_result (first_record first)
@@ -66,22 +75,23 @@ at_first first rows fault is =
       after = later.after;
       here = ap (λ rs. first ∷ rs) later.here;
       number = omega arith;
-      has = (later.draft, ap (λ r. then_at 1 r (λ e. later_records 2 (begun e) later.before)) h ∙ later.is_draft, later.has);
+      has = fault_after first later.before later.fields fault.code later.draft
+          (ap (λ r. then_at 1 r (λ e. later_records 2 (begun e) later.before)) h ∙ later.is_draft) later.has;
     })
     (λ code h.
     let same = same_fault (record { row = 1; code = code }) fault (rw h at is) in
     let n : 1 ≡ fault.row = ap (λ (f : DataFault). f.row) same in
-    record { before = []; row = first; after = rows; here = refl; number = omega arith; has = h ∙ ap (λ (f : DataFault). Err f.code) same })
+    record { before = []; row = first; after = rows; here = refl; number = omega arith; has = fault_at_start_has_code first fault.code (h ∙ ap (λ (f : DataFault). Err f.code) same) })
 
 no_data : (n : ℕ) (r : Result Draft DataFault) (fault : DataFault) → as_data n r ≡ Err fault → r ≡ Err fault
 no_data n (Ok d) fault is = absurd cc
 no_data n (Err f) fault is = ap (λ (g : DataFault). Err g) (same_fault f fault is)
 
-in_rows : (rows : List Row) (fault : DataFault) → all_records rows ≡ Err fault → ((rows ≡ []) × (fault ≡ record { row = 1; code = NoElems })) ⊎ IsFirstFault rows fault
+in_rows : (rows : List Row) (fault : DataFault) → all_records rows ≡ Err fault → HasNoRecord rows fault ⊎ IsFirstFault rows fault
 in_rows [] fault is = inl (refl, sym (same_fault (record { row = 1; code = NoElems }) fault is))
 in_rows (first ∷ rows) fault is = inr (at_first first rows fault is)
 
-pub fault_is_first : (text : List ℕ) (fault : DataFault) → data_of text ≡ Err fault → ((records_of text ≡ []) × (fault ≡ record { row = 1; code = NoElems })) ⊎ IsFirstFault (records_of text) fault
+pub fault_is_first : (text : List ℕ) (fault : DataFault) → data_of text ≡ Err fault → HasNoRecord (records_of text) fault ⊎ IsFirstFault (records_of text) fault
 fault_is_first text fault is = in_rows (records_of text) fault (no_data (length (records_of text)) (all_records (records_of text)) fault is)
 
 -- ---- back
@@ -104,12 +114,12 @@ later_is_fault row d draft (r ∷ before) after fields code is has =
     (λ code h. absurd (let s = rw h at is in cc))
 
 rows_are_fault : (before after : List Row) (row : Row) (code : DataCode) → HasFaultAfter before row code → all_records (before ++ row ∷ after) ≡ Err (record { row = length before + 1; code = code })
-rows_are_fault [] after row code has = ap (λ r. then_at 1 r (λ e. later_records 2 (begun e) after)) has
+rows_are_fault [] after row code has = ap (λ r. then_at 1 r (λ e. later_records 2 (begun e) after)) (code_is_fault_at_start row code has)
 rows_are_fault (first ∷ before) after row code has =
-    let is = has.1 in
+    let is = read_all first before has.0 has.1 has.2 in
     by_result (first_record first)
     (λ elements h.
-    let more = later_is_fault 2 (begun elements) has.0 before after row code (rw h at is) has.2 in
+    let more = later_is_fault 2 (begun elements) (data_of_records has.0 before) before after row code (rw h at is) (code_is_fault (data_of_records has.0 before) row code has.3) in
     ap (λ x. then_at 1 x (λ e. later_records 2 (begun e) (before ++ row ∷ after))) h ∙ more
     ∙ ap (λ n. Err (record { row = n; code = code })) (let n : 2 + length before ≡ length (first ∷ before) + 1 = omega arith in n))
     (λ code h. absurd (let s = rw h at is in cc))
@@ -117,8 +127,13 @@ rows_are_fault (first ∷ before) after row code has =
 as_fault : (n : ℕ) (r : Result Draft DataFault) (fault : DataFault) → r ≡ Err fault → as_data n r ≡ Err fault
 as_fault n r fault e = rw e refl
 
-pub first_is_fault : (text : List ℕ) (fault : DataFault) → IsFirstFault (records_of text) fault → data_of text ≡ Err fault
+first_is_fault : (text : List ℕ) (fault : DataFault) → IsFirstFault (records_of text) fault → data_of text ≡ Err fault
 first_is_fault text fault first =
     as_fault (length (records_of text)) (all_records (records_of text)) fault
     (ap all_records first.here ∙ rows_are_fault first.before first.after first.row fault.code first.has
     ∙ ap (λ n. Err (record { row = n; code = fault.code })) (sym first.number))
+
+pub is_fault : (text : List ℕ) (fault : DataFault) → HasNoRecord (records_of text) fault ⊎ IsFirstFault (records_of text) fault → data_of text ≡ Err fault
+is_fault text fault (inl none) =
+    as_fault (length (records_of text)) (all_records (records_of text)) fault (ap all_records none.0 ∙ ap (λ (f : DataFault). Err f) (sym none.1))
+is_fault text fault (inr first) = first_is_fault text fault first

@@ -10,5 +10,10 @@ pub mod Digits
 pub mod FieldsAt
 pub mod SoFar
 pub mod TileSteps
-pub mod Grown
+pub mod WholeLists
+pub mod Headings
+pub mod TileChanges
+pub mod OneMore
+pub mod FirstCodes
+pub mod AllRecords
 pub mod Faults

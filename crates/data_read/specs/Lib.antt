@@ -4,4 +4,6 @@ pub mod Records
 pub mod Reading
 pub mod Growing
 pub mod Rows
+pub mod WholeRecords
+pub mod Codes
 pub mod WholeTexts

@@ -1,14 +1,20 @@
 //! What the records of a text make of its data, said of the records as a whole.
 
-ghost use Rattle.data_read.specs.WholeTexts.{DataAreByRecords, FaultIsFirst, FirstIsFault};
+ghost use Rattle.data_read.specs.Codes.{FaultAtStartIsFirstCode, FaultIsFirstCode};
+ghost use Rattle.data_read.specs.WholeTexts.{DataAreByRecords, FaultIsFirst};
 
-/// A law: the types, the integers and the collections of data are what the records of their text say, in order.
+/// A law: the fault of a record is the first code that fits it, and a record that none fits has no fault.
+pub fn the_first_code_is_the_fault()
+    ensures later { FaultIsFirstCode }
+    ensures start { FaultAtStartIsFirstCode }
+{}
+
+/// A law: a text spells the data that its records make as a whole, where no code fits one of them, and no others.
 pub fn data_are_by_records()
     ensures { DataAreByRecords }
 {}
 
-/// A law: the fault of a text is that of its first record that has one, and no record after it matters.
+/// A law: the fault of a text is that of the first record that a code fits, and no record after it matters.
 pub fn faults_are_first()
-    ensures first { FaultIsFirst }
-    ensures fault { FirstIsFault }
+    ensures { FaultIsFirst }
 {}

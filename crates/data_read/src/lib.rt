@@ -14,8 +14,5 @@ mod rows;
 mod tiles;
 mod types;
 
-pub use laws::{data_are_by_records, faults_are_first};
+pub use laws::{data_are_by_records, faults_are_first, the_first_code_is_the_fault};
 pub use read::read_data;
-
-#[cfg(test)]
-mod tests;
