@@ -10,7 +10,8 @@ use std::io;
 #[derive(Drop)]
 pub struct Report<'a, R: Print> {
     rt: &'a R,
-    alloc: Global,
+    /// What rows take their memory from.
+    pub alloc: Global,
     /// How many rows came out as wanted.
     pub as_wanted: u64,
     /// How many did not, or could not be read. A file that can't be read counts once.
@@ -18,6 +19,7 @@ pub struct Report<'a, R: Print> {
 }
 
 impl<'a, R: Print> Report<'a, R> {
+    /// A report on no row so far.
     pub fn new(rt: &'a R, alloc: Global) -> Report<'a, R> {
         Report {
             rt,
@@ -27,14 +29,14 @@ impl<'a, R: Print> Report<'a, R> {
         }
     }
 
-    /// Tells why the file or the row at a line of it can't be read.
+    /// Prints why the file or the row at a line of it can't be read.
     pub fn unread(&mut self, file: &str, line: usize, Why(why): Why) -> io::Result<()> {
         self.others = self.others.saturating_add(1);
         let rt = self.rt;
         println!(rt; "{file}:{line}: can't be read: {why}")
     }
 
-    /// Tells how a row came out, where it is not as wanted.
+    /// Prints how a row came out, if it is not as wanted.
     pub fn tried(&mut self, file: &str, line: usize, name: &str, tried: &Tried) -> io::Result<()> {
         if tried.is_as_wanted() {
             self.as_wanted = self.as_wanted.saturating_add(1);

@@ -87,7 +87,7 @@ fn spell_repeated<'a>(alloc: Global, inside: &'a [u8], bytes: &mut Vec<u8>) -> R
     Ok(rest)
 }
 
-// What stands before the first place of a mark in a text, and what stands after it.
+// The text before the first occurrence of a mark, and the text after it.
 fn split_at_first<'a>(text: &'a [u8], mark: &[u8]) -> Result<(&'a [u8], &'a [u8]), Why>
     ensures { IfOk result (λ parts. length parts.1.now ≤ length text.now) }
 {

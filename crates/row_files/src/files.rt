@@ -21,7 +21,7 @@ fn file_of(alloc: Global, name: &[u8], bytes: Vec<u8>) -> Result<File, Why> {
     Ok(File::new(Text::of(alloc, name)?, Seq::of(bytes)))
 }
 
-/// Puts a file among files, in the place of the one of its name where there is one.
+/// Adds a file to files, in place of the one of its name if there is one.
 pub fn put(files: &mut Vec<File>, file: File) -> Result<(), Why> {
     for held in files.iter_mut() {
         if held.name() == file.name() {
@@ -33,6 +33,7 @@ pub fn put(files: &mut Vec<File>, file: File) -> Result<(), Why> {
     Ok(())
 }
 
+/// Copies of these files.
 pub fn copies(alloc: Global, files: &[File]) -> Result<Vec<File>, Why> {
     let mut list = Vec::new(alloc);
     for file in files {
@@ -42,7 +43,7 @@ pub fn copies(alloc: Global, files: &[File]) -> Result<Vec<File>, Why> {
     Ok(list)
 }
 
-/// Does `NAME OLD => NEW`: puts the new text in the place of the old one, which stands once in the file of this name.
+/// Does `NAME OLD => NEW`: replaces the old text, which occurs once in the file of this name, by the new one.
 pub fn change(alloc: Global, files: &mut Vec<File>, order: &str) -> Result<(), Why> {
     let (name, texts) = first_word(order);
     let Some((old, new)) = texts.split_once(" => ") else {
@@ -76,7 +77,7 @@ fn changed(alloc: Global, text: &[u8], old: &[u8], new: &[u8]) -> Result<Vec<u8>
     Ok(bytes)
 }
 
-// What stands before and after the one place where a piece stands in a text.
+// The text before and after the one occurrence of a piece.
 fn around_only<'a>(text: &'a [u8], piece: &[u8]) -> Result<(&'a [u8], &'a [u8]), Why> {
     let mut found = None;
     for at in 0..text.len() {

@@ -1,4 +1,4 @@
-//! A row: words, files and failing calls, and what must be printed.
+//! A row: words, files and failing calls, and what must come.
 
 use crate::files::{change, copies, named_file, put, spelled};
 use crate::items::{Item, first_word};
@@ -25,14 +25,15 @@ pub struct WorkedRow<'a> {
     status: Option<u8>,
 }
 
-/// What `ptg_main` is called with, and what it must print.
+/// What a row calls: words, the files that there are, and which of the calls that read or write fail.
 #[derive(Drop)]
 pub struct Order {
     pub files: Vec<File>,
     pub words: Vec<Text>,
+    /// The numbers of the reads that fail, from 1.
     pub failing_reads: Vec<u64>,
+    /// The numbers of the writes that fail, from 1.
     pub failing_writes: Vec<u64>,
-    pub wanted: Printed,
 }
 
 /// A text and an exit status.
@@ -104,25 +105,25 @@ impl<'a> WorkedRow<'a> {
         }
     }
 
-    /// What the row asks for, where it is whole. Words and status may be those of all rows.
-    pub fn order(self, alloc: Global, all: &WorkedRow<'a>) -> Result<Order, Why> {
+    /// What the row calls and what must come, where it is whole. Words and status may be those of all rows.
+    pub fn order(self, alloc: Global, all: &WorkedRow<'a>) -> Result<(Order, Printed), Why> {
         let (Some(list), Some(status)) = (self.words.or(all.words), self.status.or(all.status))
         else {
             return Err(Why("a row without words or status"));
         };
-        let (Some(mut text), true) = (self.prints, self.shows) else {
+        let (Some(mut text), true) = (self.prints, self.shows || all.shows) else {
             return Err(Why("a row without shows or prints"));
         };
         if let Some(length) = self.cut {
             text.truncate(length);
         }
-        Ok(Order {
+        let order = Order {
             files: self.files,
             words: words(alloc, list)?,
             failing_reads: self.failing_reads,
             failing_writes: self.failing_writes,
-            wanted: Printed { text, status },
-        })
+        };
+        Ok((order, Printed { text, status }))
     }
 }
 

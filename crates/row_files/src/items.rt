@@ -14,7 +14,7 @@ pub struct Item<'a> {
     block: Option<Vec<&'a str>>,
 }
 
-// What stands alone on the lines before and after a text.
+// The line before a text, and the line after it.
 const DASHES: &str = "---";
 
 /// The items of a file. Outside of texts, empty lines and lines that begin with `#` are skipped.

@@ -1,7 +1,7 @@
 -- Each turn takes at least one byte off what is left of the text.
 
 use Rattle.std.specs.Prelude.{length}
-use Rattle.ptg_rows.proofs.escapes.spell.Given as goal
+use Rattle.row_files.proofs.escapes.spelled_plainly.Given as goal
 
 abbrev pub decreases-loop-rest : goal.decreases-loop-rest
 decreases-loop-rest l = length l.rest

@@ -1,0 +1,61 @@
+//! Rows of parts that the program does not use yet: each is a call of such a part with what it must give, written down in
+//! a file. The words name the files. Prints the rows that came out otherwise.
+#![tactic(auto)]
+
+mod bodies;
+mod data;
+mod jobs;
+mod scope;
+mod tokens;
+
+use ptg_base::Text;
+use ptg_io::File;
+use row_files::{Call, Order, Printed, Why, all_as_wanted};
+use std::alloc::Global;
+use std::process::ExitCode;
+
+fn main(rt: HostRuntime) -> ExitCode {
+    match all_as_wanted(&rt, &Parts) {
+        Ok(true) => ExitCode::SUCCESS,
+        _ => ExitCode::FAILURE,
+    }
+}
+
+// The parts: the first of a row's words says which one is called.
+struct Parts;
+
+impl Call for Parts {
+    fn printed(&self, alloc: Global, order: Order) -> Result<Printed, Why> {
+        let files = order.files.as_slice();
+        let [word, words @ ..] = order.words.as_slice() else {
+            return Err(Why("no word that says what is called"));
+        };
+        match (word.bytes(), words) {
+            (b"check", [jdf, data]) => jobs::check(alloc, named(files, jdf)?, named(files, data)?),
+            (b"read-tokens", []) => tokens::read(alloc, only(files)?),
+            (b"read-syntax", []) => bodies::read_syntax(alloc, only(files)?),
+            (b"read-body", []) => bodies::read_names(alloc, only(files)?),
+            (b"run-body", [elements]) => bodies::run(alloc, only(files)?, elements.bytes()),
+            (b"read-data", []) => data::read(alloc, only(files)?),
+            _ => Err(Why("words that call nothing")),
+        }
+    }
+}
+
+// The bytes of the one file that there is.
+fn only(files: &[File]) -> Result<&[u8], Why> {
+    match files {
+        [file] => Ok(file.bytes()),
+        _ => Err(Why("not one file")),
+    }
+}
+
+// The bytes of the file of this name.
+fn named<'a>(files: &'a [File], name: &Text) -> Result<&'a [u8], Why> {
+    for file in files {
+        if file.name() == name.bytes() {
+            return Ok(file.bytes());
+        }
+    }
+    Err(Why("no file of this name"))
+}
