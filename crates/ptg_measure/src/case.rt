@@ -1,6 +1,9 @@
 //! The cases that can be measured.
 use crate::bodies::body;
 use crate::count::{Count, Failure};
+use crate::data_files::{ints, long_tiles, short_tiles};
+use crate::edges::{edges, star_edges};
+use crate::names::names;
 use crate::spaces::space;
 use crate::texts::tokens_of_text;
 use std::alloc::Global;
@@ -14,6 +17,18 @@ pub enum Case {
     Body,
     /// The tokens of a JDF text of so many tokens.
     Tokens,
+    /// A data file of so many tiles with 2,000 numbers each, read.
+    LongTiles,
+    /// A data file of so many tiles of one number, read.
+    ShortTiles,
+    /// A data file of so many integers, read.
+    Ints,
+    /// A body with so many names, read under as many globals.
+    Names,
+    /// The edges of a job of the shape of a tiled Cholesky factorization, of so many rows of tiles, walked in both directions.
+    Edges,
+    /// A broadcast to so many tasks and a gather from them, walked, and each edge asked for on its other side.
+    Star,
 }
 
 impl Case {
@@ -23,6 +38,12 @@ impl Case {
             "space" => Some(Case::Space),
             "body" => Some(Case::Body),
             "tokens" => Some(Case::Tokens),
+            "long_tiles" => Some(Case::LongTiles),
+            "short_tiles" => Some(Case::ShortTiles),
+            "ints" => Some(Case::Ints),
+            "names" => Some(Case::Names),
+            "edges" => Some(Case::Edges),
+            "star" => Some(Case::Star),
             _ => None,
         }
     }
@@ -34,5 +55,11 @@ pub fn measure(alloc: Global, case: Case, size: u32) -> Result<Vec<Count>, Failu
         Case::Space => space(alloc, size),
         Case::Body => body(alloc, size),
         Case::Tokens => tokens_of_text(alloc, size),
+        Case::LongTiles => long_tiles(alloc, size),
+        Case::ShortTiles => short_tiles(alloc, size),
+        Case::Ints => ints(alloc, size),
+        Case::Names => names(alloc, size),
+        Case::Edges => edges(alloc, size),
+        Case::Star => star_edges(alloc, size),
     }
 }

@@ -1,4 +1,5 @@
 //! What a measured case counts, and why one ends early.
+use coll_data::DataRefusal;
 use jdf_lex::JdfRefusal;
 use ptg_base::OutOfMemory;
 use std::alloc::{AllocError, AllocFailed};
@@ -10,6 +11,16 @@ use term_core::Trap;
 pub struct Count {
     pub name: &'static str,
     pub value: i64,
+}
+
+impl Count {
+    /// A number that is not below 0, or the largest where it does not fit.
+    pub fn of(name: &'static str, number: u64) -> Count {
+        Count {
+            name,
+            value: i64::try_from(number).unwrap_or(i64::MAX),
+        }
+    }
 }
 
 impl fmt::Display for Count {
@@ -28,6 +39,8 @@ pub enum Failure {
     NotWellMade,
     /// The text that was made is refused.
     Refused(JdfRefusal),
+    /// The data file that was made is refused.
+    RefusedData(DataRefusal),
     /// The body that was made trapped.
     Trapped(Trap),
 }
@@ -53,5 +66,11 @@ impl From<OutOfMemory> for Failure {
 impl From<JdfRefusal> for Failure {
     fn from(refusal: JdfRefusal) -> Self {
         Failure::Refused(refusal)
+    }
+}
+
+impl From<DataRefusal> for Failure {
+    fn from(refusal: DataRefusal) -> Self {
+        Failure::RefusedData(refusal)
     }
 }

@@ -1,42 +1,61 @@
-//! Measures one part of the runtime: the words name a case and its size, and what was counted is printed, a line each.
+//! Measures parts of the runtime: the words name cases and their sizes, and what was counted is printed, a line each.
 #![tactic(auto)]
 
 mod bodies;
 mod case;
+mod cholesky;
 mod count;
+mod data_files;
+mod edges;
+mod names;
+mod pieces;
 mod spaces;
+mod star;
 mod texts;
 
 use crate::case::{Case, measure};
+use crate::count::{Count, Failure};
+use std::alloc::Global;
 use std::process::ExitCode;
 use std::{env, io};
 
-const USAGE: &str = "usage: ptg_measure space|body|tokens SIZE";
+const USAGE: &str =
+    "usage: ptg_measure (space|body|tokens|long_tiles|short_tiles|ints|names|edges|star SIZE)..";
 
-// The case and the size that the words name.
-fn wanted(words: &[String]) -> Option<(Case, u32)> {
-    match words {
-        [_, case, size] => Some((Case::of(case.as_str())?, size.as_str().parse().ok()?)),
-        _ => None,
-    }
+// The case and the size that two words name.
+fn wanted(case: &String, size: &String) -> Option<(Case, u32)> {
+    Some((Case::of(case.as_str())?, size.as_str().parse().ok()?))
+}
+
+// What is counted by the case and the size that two words name, if they name any.
+fn counts(alloc: Global, case: &String, size: &String) -> Option<Result<Vec<Count>, Failure>> {
+    let (case, size) = wanted(case, size)?;
+    Some(measure(alloc, case, size))
 }
 
 fn main(rt: HostRuntime) -> io::Result<ExitCode> {
     let words: Vec<String> = env::args(&rt)?.collect(rt.alloc())?;
-    let Some((case, size)) = wanted(words.as_slice()) else {
+    let words = words.as_slice();
+    if words.len() % 2 == 0 {
         println!(rt; "{USAGE}")?;
         return Ok(ExitCode::FAILURE);
-    };
-    match measure(rt.alloc(), case, size) {
-        Ok(counts) => {
-            for count in counts.as_slice() {
-                println!(rt; "{count}")?;
+    }
+    for number in 0..words.len() / 2 {
+        match counts(rt.alloc(), &words[2 * number + 1], &words[2 * number + 2]) {
+            Some(Ok(counts)) => {
+                for count in counts.as_slice() {
+                    println!(rt; "{count}")?;
+                }
             }
-            Ok(ExitCode::SUCCESS)
-        }
-        Err(failure) => {
-            println!(rt; "failed,{failure:?}")?;
-            Ok(ExitCode::FAILURE)
+            Some(Err(failure)) => {
+                println!(rt; "failed,{failure:?}")?;
+                return Ok(ExitCode::FAILURE);
+            }
+            None => {
+                println!(rt; "{USAGE}")?;
+                return Ok(ExitCode::FAILURE);
+            }
         }
     }
+    Ok(ExitCode::SUCCESS)
 }

@@ -40,14 +40,5 @@ pub fn space(alloc: Global, size: u32) -> Result<Vec<Count>, Failure> {
     let classes = vec![in alloc; line(alloc, size)?]?;
     let walked = walked(&classes[0]).ok_or(Failure::TooLarge)?;
     let counted = space_size(classes.as_slice()).map_err(|_| Failure::TooLarge)?;
-    Ok(vec![in alloc;
-        Count {
-            name: "walked",
-            value: i64::try_from(walked).unwrap_or(i64::MAX)
-        },
-        Count {
-            name: "counted",
-            value: i64::try_from(counted).unwrap_or(i64::MAX)
-        },
-    ]?)
+    Ok(vec![in alloc; Count::of("walked", walked), Count::of("counted", counted)]?)
 }

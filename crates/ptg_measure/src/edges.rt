@@ -1,0 +1,118 @@
+//! The edges of jobs, walked in both directions, and asked for on their other side.
+ghost use Rattle.std.specs.Prelude.{◌<◌, length};
+ghost use Rattle.dep_iter.specs.Tasks.{IsTask};
+
+use crate::cholesky::cholesky;
+use crate::count::{Count, Failure};
+use crate::star::star;
+use dep_iter::{has_in_edge, has_out_edge, in_edges, is_task, out_edges};
+use plan_core::Plan;
+use ptg_base::TaskId;
+use range_space::Space;
+use std::alloc::Global;
+
+// How many edges were walked.
+#[derive(Clone, Copy, Debug, Drop)]
+struct Walked {
+    tasks: u64,
+    ins: u64,
+    outs: u64,
+}
+
+impl Walked {
+    fn none() -> Walked {
+        Walked {
+            tasks: 0,
+            ins: 0,
+            outs: 0,
+        }
+    }
+
+    // Walks the edges of a task.
+    fn add(&mut self, plan: &Plan, task: &TaskId)
+        requires { IsTask plan.now task.now }
+    {
+        self.tasks = self.tasks.wrapping_add(1);
+        for _edge in in_edges(plan, task) {
+            self.ins = self.ins.wrapping_add(1);
+        }
+        for _edge in out_edges(plan, task) {
+            self.outs = self.outs.wrapping_add(1);
+        }
+    }
+
+    // Walks the edges of the tasks of a class.
+    fn add_class(&mut self, plan: &Plan, class: u32) -> Result<(), Failure>
+        requires { class < length plan.now.classes }
+    {
+        let space = plan.space(class);
+        if space.defs.len() > 16 {
+            return Err(Failure::NotWellMade);
+        }
+        for params in Space::new(space) {
+            let task = TaskId::new(class, params.as_slice());
+            if !is_task(plan, &task) {
+                return Err(Failure::NotWellMade);
+            }
+            self.add(plan, &task);
+        }
+        Ok(())
+    }
+}
+
+/// The edges of a job of the shape of a tiled Cholesky factorization with so many rows of tiles: those into each task and those out
+/// of each.
+pub fn edges(alloc: Global, size: u32) -> Result<Vec<Count>, Failure> {
+    if size > 256 {
+        return Err(Failure::TooLarge);
+    }
+    let plan = cholesky(alloc, size)?;
+    let mut walked = Walked::none();
+    for class in 0..4 {
+        walked.add_class(&plan, class)?;
+    }
+    Ok(vec![in alloc;
+        Count::of("tasks", walked.tasks),
+        Count::of("in", walked.ins),
+        Count::of("out", walked.outs),
+    ]?)
+}
+
+// How many of the edges out of a task are edges into their targets.
+fn received(plan: &Plan, task: &TaskId) -> u64
+    requires { IsTask plan.now task.now }
+{
+    let mut count: u64 = 0;
+    for edge in out_edges(plan, task) {
+        if is_task(plan, &edge.to) && has_in_edge(plan, &edge.to, &edge) {
+            count = count.wrapping_add(1);
+        }
+    }
+    count
+}
+
+// How many of the edges into a task are edges out of their sources.
+fn sent(plan: &Plan, task: &TaskId) -> u64
+    requires { IsTask plan.now task.now }
+{
+    let mut count: u64 = 0;
+    for edge in in_edges(plan, task) {
+        if is_task(plan, &edge.from) && has_out_edge(plan, &edge.from, &edge) {
+            count = count.wrapping_add(1);
+        }
+    }
+    count
+}
+
+/// One task with an edge to and an edge from each of so many others: how many of them the others have too.
+pub fn star_edges(alloc: Global, size: u32) -> Result<Vec<Count>, Failure> {
+    let plan = star(alloc, size)?;
+    let task = TaskId::new(0, &[0]);
+    if !is_task(&plan, &task) {
+        return Err(Failure::NotWellMade);
+    }
+    Ok(vec![in alloc;
+        Count::of("received", received(&plan, &task)),
+        Count::of("sent", sent(&plan, &task)),
+    ]?)
+}

@@ -1,0 +1,81 @@
+//! Bodies read under many globals.
+use crate::count::{Count, Failure};
+use body_lang::read_body;
+use body_names::{FlowName, Scope};
+use jdf_lex::tokens;
+use name_table::{NameSet, NameTable};
+use ptg_base::{Seq, Text};
+use std::alloc::Global;
+use term_core::FlowKind;
+
+// How many variables the body declares: as many as a body may have.
+const VARIABLES: u32 = 256;
+
+// How many names an expression has: with the operators between them they are 127 of the 128 tokens that it may have.
+const NAMES: u32 = 64;
+
+fn integers(alloc: Global, count: u32) -> Result<NameTable<i64>, Failure> {
+    let mut integers = NameTable::new(alloc);
+    for number in 0..count {
+        let name = format!(in alloc; "g{number}")?;
+        integers.add(Text::of(alloc, name.as_bytes())?, i64::from(number))?;
+    }
+    Ok(integers)
+}
+
+// A scope of one flow and so many integers.
+fn scope(alloc: Global, count: u32) -> Result<Scope, Failure> {
+    let flow = FlowName {
+        name: Text::of(alloc, b"A")?,
+        kind: FlowKind::Rw,
+    };
+    Ok(Scope {
+        locals: Seq::new(alloc),
+        ints: integers(alloc, count)?,
+        colls: NameSet::new(alloc),
+        flows: Seq::of(vec![in alloc; flow]?),
+    })
+}
+
+// One more name: a variable where a statement begins, and else a global.
+fn add_name(text: &mut String, number: u32) -> Result<(), Failure> {
+    if number % NAMES > 0 {
+        write!(text, " + g{number}")?;
+        return Ok(());
+    }
+    if number > 0 {
+        text.push_str(";\n")?;
+    }
+    write!(text, "A[0] = v{}", number / NAMES % VARIABLES)?;
+    Ok(())
+}
+
+// A body that declares all variables, and then uses so many names: one of 64 is a variable, and the others are globals.
+fn body(alloc: Global, size: u32) -> Result<String, Failure> {
+    let mut text = String::new(alloc);
+    for number in 0..VARIABLES {
+        write!(text, "int v{number} = 0;\n")?;
+    }
+    for number in 0..size {
+        add_name(&mut text, number)?;
+    }
+    if size > 0 {
+        text.push_str(";\n")?;
+    }
+    Ok(text)
+}
+
+/// A body with so many names, read under as many globals: how many tokens and slots it has.
+pub fn names(alloc: Global, size: u32) -> Result<Vec<Count>, Failure> {
+    let scope = scope(alloc, size)?;
+    let text = body(alloc, size)?;
+    if text.len() > 16777216 {
+        return Err(Failure::TooLarge);
+    }
+    let lexed = tokens(alloc, text.as_str())?;
+    let (body, _words) = read_body(alloc, lexed.tokens.as_slice(), lexed.end, &scope)?;
+    Ok(vec![in alloc;
+        Count::of("tokens", lexed.tokens.len() as u64),
+        Count::of("slots", u64::from(body.slots)),
+    ]?)
+}
