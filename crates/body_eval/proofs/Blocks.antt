@@ -22,7 +22,7 @@ pub run-drop : (ss : List Stmt) (k : ℕ) (s : Stmt) → k < length ss → s ≡
 run-drop ss k s below is at =
     ap (λ xs. run (statement_list xs) at) (drop_more ss k s below ∙ ap (λ x. x ∷ drop (k + 1) ss) (sym is)) ∙ run-then s (statement_list (drop (k + 1) ss)) at
 
--- how many statements stand in a statement, itself included
+-- how many statements a statement has, itself included
 abbrev pub count_of : Stmt → ℕ
 count_of s = statement_count (then s Done)
 

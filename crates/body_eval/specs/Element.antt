@@ -1,4 +1,4 @@
--- The elements of the tiles of a task's flows.
+-- The elements of the tiles of a task's flows. Source: this project's own choice.
 use Rattle.std.specs.Prelude.{ℕ, ℤ, pos, negsuc, List, length, nat_lt, Result, Ok, Err, Option, Some, None, if◌then◌else◌, slice_index_or, slice_set}
 use Rattle.term_core.specs.Term.{Term}
 use Rattle.term_core.specs.Value.{and_then, value_with}

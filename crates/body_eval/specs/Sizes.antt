@@ -1,4 +1,4 @@
--- The sizes of the tiles of a task's flows.
+-- The sizes of the tiles of a task's flows. Source: this project's own choice.
 use Rattle.std.specs.Prelude.{◌≡◌, ℕ, ℤ, List, length, Option, option_map}
 use Rattle.body_eval.specs.Element.{tile_of}
 

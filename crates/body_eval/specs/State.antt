@@ -1,4 +1,4 @@
--- The state of a body between two statements.
+-- The state of a body between two statements. Source: this project's own choice.
 use Rattle.std.specs.Prelude.{ℕ, ◌-◌, ℤ, List, Result, Ok, Err, Option, ◌==◌, if◌then◌else◌, slice_set}
 use Rattle.term_core.specs.Term.{Term}
 use Rattle.term_core.specs.Value.{and_then}

@@ -5,8 +5,6 @@ mod element;
 mod laws;
 mod run;
 mod scratch;
-#[cfg(test)]
-mod tests;
 mod well;
 
 pub use laws::more_units_change_nothing;

@@ -17,7 +17,7 @@ const BUDGET: u32 = 16777216;
 
 /// Runs a body on the tiles of its task. After a trap the tiles have no meaning.
 ///
-/// It goes as deep as blocks nest, whatever the number of statements and turns.
+/// It recurses as deep as blocks nest, whatever the number of statements and turns.
 #[tactic(auto, unfolding(crate::specs::Meaning::task_budget))]
 pub fn run_body(
     body: &Body,

@@ -78,7 +78,7 @@ fn well_statement(locals: usize, slots: usize, flows: usize, statement: &Stmt) -
 
 /// Is a body well made for so many locals and flows? This is the condition of `run_body`.
 ///
-/// It goes as deep as blocks nest, whatever the number of statements.
+/// It recurses as deep as blocks nest, whatever the number of statements.
 pub fn is_well_body(body: &Body, locals: usize, flows: usize) -> bool
     ensures { IsTrue result ↔ IsWellBody locals flows body.now }
 {

@@ -25,7 +25,7 @@ use Rattle.body_names.specs.Bindings.{Bindings, room_for, fresh_in, numbered}
 use Rattle.body_names.specs.Statements.{Resolver, declare, set, put, in_block, for_loop, follow, resolved, statement_of, body_of}
 use Rattle.body_names.specs.Statements as resolving
 use Rattle.body_names.specs.TokenScan.{TokenScan, declared, fault_of}
-use Rattle.body_lang.proofs.Along.{along, along_append, after_after, after_same, at, is_inside}
+use Rattle.body_lang.proofs.Along.{along, along_append, after_after, after_same, with_previous, is_inside}
 use Rattle.body_lang.proofs.Alike.{Alike, names_append, fresh_alike, slot_alike, term_alike}
 use Rattle.body_lang.proofs.Declared as count
 use Rattle.body_lang.proofs.Judging.{NoIndex, no_index, Names, outer_judges}
@@ -60,12 +60,12 @@ module _ (scope : Scope) where
   -- ---- a value and its semicolon
 
   abbrev done : TokenScan → TokenScan
-  done st = at terminal.Semicolon (declared false st)
+  done st = with_previous terminal.Semicolon (declared false st)
 
-  done_behind : (k : Terminal) (j : Terminal) (st : TokenScan) → done (at k (at j st)) ≡ done st
-  done_behind k j st = go st.naming refl
+  done_after : (k : Terminal) (j : Terminal) (st : TokenScan) → done (with_previous k (with_previous j st)) ≡ done st
+  done_after k j st = go st.naming refl
     where
-      go : (o : Option (List ℕ)) → st.naming ≡ o → done (at k (at j st)) ≡ done st
+      go : (o : Option (List ℕ)) → st.naming ≡ o → done (with_previous k (with_previous j st)) ≡ done st
       go None e = rw e refl
       go (Some name) e = rw e refl
 
@@ -79,7 +79,7 @@ module _ (scope : Scope) where
     pub word : List Token
     pub parts : s ≡ word ++ r
     pub ends : Terminal
-    pub walks : (st : TokenScan) → along scope st word r ≡ and_then (fault_of (term_of scope st.bindings.seen t.tree)) (λ _. Ok (at ends st))
+    pub walks : (st : TokenScan) → along scope st word r ≡ and_then (fault_of (term_of scope st.bindings.seen t.tree)) (λ _. Ok (with_previous ends st))
 
   module _ (R : (n : Nonterminal) → Language (TreeOf n)) (N : Names scope R) where
     value_walks : (s : List Token) (t : ExprWithSpot) (o : Fault) (r : List Token) → Derives R value s t o r → Values s r t
@@ -101,9 +101,9 @@ module _ (scope : Scope) where
           parts = mark.0.0 ∙ ap (λ (l : List Token). x ∷ l) (j.parts ∙ (ap (λ (l : List Token). j.word ++ l) stop.0.0 ∙ sym (append_assoc j.word (y ∷ []) r)));
           walks = λ st.
               silent scope x (j.word ++ y ∷ []) r st (silent_as terminal.Assign (terminal_of x) refl assign)
-              ∙ (expression scope h.1.0 inside.1.0 (y ∷ []) r (λ seen. fault_of (term_of scope seen inside.0.0.tree)) j stop.0.0 (at (terminal_of x) st) (inside_as terminal.Assign (terminal_of x) refl assign)
-              ∙ after_same (fault_of (term_of scope st.bindings.seen inside.0.0.tree)) (λ _. along scope (at j.ends (at (terminal_of x) st)) (y ∷ []) r) (λ _. Ok (done st))
-              (λ _. semicolon scope y [] r (at j.ends (at (terminal_of x) st)) stop.0.1 ∙ ap (λ (m : TokenScan). Ok m) (done_behind j.ends (terminal_of x) st)));
+              ∙ (expression scope h.1.0 inside.1.0 (y ∷ []) r (λ seen. fault_of (term_of scope seen inside.0.0.tree)) j stop.0.0 (with_previous (terminal_of x) st) (inside_as terminal.Assign (terminal_of x) refl assign)
+              ∙ after_same (fault_of (term_of scope st.bindings.seen inside.0.0.tree)) (λ _. along scope (with_previous j.ends (with_previous (terminal_of x) st)) (y ∷ []) r) (λ _. Ok (done st))
+              (λ _. semicolon scope y [] r (with_previous j.ends (with_previous (terminal_of x) st)) stop.0.1 ∙ ap (λ (m : TokenScan). Ok m) (done_after j.ends (terminal_of x) st)));
         })
 
     -- ---- declarations
@@ -127,7 +127,7 @@ module _ (scope : Scope) where
           word = x ∷ (y ∷ v.word);
           parts = mark.0.0 ∙ ap (λ (l : List Token). x ∷ l) (word.1.0.0 ∙ ap (λ (l : List Token). y ∷ l) v.parts);
           follows = λ k st ready at_most.
-              let st1 = at (terminal_of x) st in
+              let st1 = with_previous (terminal_of x) st in
               let last_int : st1.previous ≡ Some terminal.Int = ap (λ (j : Terminal). Some j) (is_int (terminal_of x) mark.0.1) in
               let along_is : along scope st (x ∷ (y ∷ v.word)) r ≡ and_then (fresh_in w st.bindings) (λ _. and_then (fault_of (term_of scope st.bindings.seen e.tree)) (λ _. Ok (done (begun scope y st1)))) =
               silent scope x (y ∷ v.word) r st (silent_as terminal.Int (terminal_of x) refl mark.0.1)
@@ -179,17 +179,17 @@ module _ (scope : Scope) where
                 ends = terminal_of y;
                 walks = λ st.
                     silent scope x (j.word ++ y ∷ []) r st (silent_as terminal.LeftBracket (terminal_of x) refl mark.0.1)
-                    ∙ (expression scope h.1.0 inside.1.0 (y ∷ []) r (λ seen. fault_of (term_of scope seen inside.0.0.tree)) j stop.0.0 (at (terminal_of x) st) (inside_as terminal.LeftBracket (terminal_of x) refl mark.0.1)
-                    ∙ after_same (fault_of (term_of scope st.bindings.seen inside.0.0.tree)) (λ _. along scope (at j.ends (at (terminal_of x) st)) (y ∷ []) r) (λ _. Ok (at (terminal_of y) st))
-                    (λ _. silent scope y [] r (at j.ends (at (terminal_of x) st)) (silent_as terminal.RightBracket (terminal_of y) refl stop.0.1)));
+                    ∙ (expression scope h.1.0 inside.1.0 (y ∷ []) r (λ seen. fault_of (term_of scope seen inside.0.0.tree)) j stop.0.0 (with_previous (terminal_of x) st) (inside_as terminal.LeftBracket (terminal_of x) refl mark.0.1)
+                    ∙ after_same (fault_of (term_of scope st.bindings.seen inside.0.0.tree)) (λ _. along scope (with_previous j.ends (with_previous (terminal_of x) st)) (y ∷ []) r) (λ _. Ok (with_previous (terminal_of y) st))
+                    (λ _. silent scope y [] r (with_previous j.ends (with_previous (terminal_of x) st)) (silent_as terminal.RightBracket (terminal_of y) refl stop.0.1)));
               }),
           subst (λ (l : List Token). starts (is terminal.LeftBracket) l ≡ true) (sym mark.0.0) mark.0.1,
         )
 
-    settled : (st : TokenScan) → st.naming ≡ None → done st ≡ at terminal.Semicolon st
+    settled : (st : TokenScan) → st.naming ≡ None → done st ≡ with_previous terminal.Semicolon st
     settled st e = rw e refl
 
-    kept : (k : Bindings) (st : TokenScan) → Ready k st → Ready k (at terminal.Semicolon st)
+    kept : (k : Bindings) (st : TokenScan) → Ready k st → Ready k (with_previous terminal.Semicolon st)
     kept k st ready = record { alike = ready.alike; naming = ready.naming; begins = refl }
 
     pub assignment_walks : (s : List Token) (t : StmtTree) (o : Fault) (r : List Token) → Derives R assignment s t o r → Walks s r (count.declared t) (statement_of scope t)
@@ -210,10 +210,10 @@ module _ (scope : Scope) where
               word = y ∷ v.word;
               parts = word.1.0.0 ∙ ap (λ (l : List Token). y ∷ l) (rest.3.0 ∙ v.parts);
               follows = λ k st ready at_most.
-                  let st1 = at (terminal_of y) st in
-                  let along_is : along scope st (y ∷ v.word) r ≡ and_then (fault_of (slot_of (word_of y) (meaning_of scope st.bindings.seen y.text))) (λ _. and_then (fault_of (term_of scope st.bindings.seen e.tree)) (λ _. Ok (at terminal.Semicolon st1))) =
+                  let st1 = with_previous (terminal_of y) st in
+                  let along_is : along scope st (y ∷ v.word) r ≡ and_then (fault_of (slot_of (word_of y) (meaning_of scope st.bindings.seen y.text))) (λ _. and_then (fault_of (term_of scope st.bindings.seen e.tree)) (λ _. Ok (with_previous terminal.Semicolon st1))) =
                   assigned_name scope y v.word r st word.1.0.1 ready.begins no assign
-                  ∙ after_same (fault_of (slot_of (word_of y) (meaning_of scope st.bindings.seen y.text))) (λ _. along scope st1 v.word r) (λ _. and_then (fault_of (term_of scope st.bindings.seen e.tree)) (λ _. Ok (at terminal.Semicolon st1)))
+                  ∙ after_same (fault_of (slot_of (word_of y) (meaning_of scope st.bindings.seen y.text))) (λ _. along scope st1 v.word r) (λ _. and_then (fault_of (term_of scope st.bindings.seen e.tree)) (λ _. Ok (with_previous terminal.Semicolon st1)))
                   (λ _. v.walks st1 ∙ ap (λ (m : TokenScan). and_then (fault_of (term_of scope st.bindings.seen e.tree)) (λ _. Ok m)) (settled st1 ready.naming)) in
                   walked st.open_blocks (set scope (word_of y) e.tree k) _ _ along_is
                   (first_step st.open_blocks (slot_of (word_of y) (meaning_of scope k.seen y.text)) _ (fault_of (slot_of (word_of y) (meaning_of scope st.bindings.seen y.text))) _ (slot_alike scope k.seen st.bindings.seen ready.alike.seen (word_of y))
@@ -234,17 +234,17 @@ module _ (scope : Scope) where
               word = y ∷ (ix.word ++ v.word);
               parts = word.1.0.0 ∙ ap (λ (l : List Token). y ∷ l) (ix.parts ∙ (ap (λ (l : List Token). ix.word ++ l) v.parts ∙ sym (append_assoc ix.word v.word r)));
               follows = λ k st ready at_most.
-                  let st1 = at (terminal_of y) st in
-                  let behind_index : along scope st1 (ix.word ++ v.word) r ≡ and_then (fault_of (term_of scope st.bindings.seen i.tree)) (λ _. and_then (fault_of (term_of scope st.bindings.seen e.tree)) (λ _. Ok (at terminal.Semicolon st1))) =
+                  let st1 = with_previous (terminal_of y) st in
+                  let after_index : along scope st1 (ix.word ++ v.word) r ≡ and_then (fault_of (term_of scope st.bindings.seen i.tree)) (λ _. and_then (fault_of (term_of scope st.bindings.seen e.tree)) (λ _. Ok (with_previous terminal.Semicolon st1))) =
                   along_append scope st1 ix.word v.word r
                   ∙ (ap (λ (l : List Token). and_then (along scope st1 ix.word l) (λ q. along scope q v.word r)) (sym v.parts)
                   ∙ (ap (λ (u : Resolved TokenScan). and_then u (λ q. along scope q v.word r)) (ix.walks st1)
-                  ∙ (after_after (fault_of (term_of scope st.bindings.seen i.tree)) (λ _. Ok (at ix.ends st1)) (λ q. along scope q v.word r)
-                  ∙ after_same (fault_of (term_of scope st.bindings.seen i.tree)) (λ _. along scope (at ix.ends st1) v.word r) (λ _. and_then (fault_of (term_of scope st.bindings.seen e.tree)) (λ _. Ok (at terminal.Semicolon st1)))
-                  (λ _. v.walks (at ix.ends st1) ∙ ap (λ (m : TokenScan). and_then (fault_of (term_of scope st.bindings.seen e.tree)) (λ _. Ok m)) (settled (at ix.ends st1) ready.naming))))) in
-                  let along_is : along scope st (y ∷ (ix.word ++ v.word)) r ≡ and_then (fault_of (written_flow scope (word_of y))) (λ _. and_then (fault_of (term_of scope st.bindings.seen i.tree)) (λ _. and_then (fault_of (term_of scope st.bindings.seen e.tree)) (λ _. Ok (at terminal.Semicolon st1)))) =
+                  ∙ (after_after (fault_of (term_of scope st.bindings.seen i.tree)) (λ _. Ok (with_previous ix.ends st1)) (λ q. along scope q v.word r)
+                  ∙ after_same (fault_of (term_of scope st.bindings.seen i.tree)) (λ _. along scope (with_previous ix.ends st1) v.word r) (λ _. and_then (fault_of (term_of scope st.bindings.seen e.tree)) (λ _. Ok (with_previous terminal.Semicolon st1)))
+                  (λ _. v.walks (with_previous ix.ends st1) ∙ ap (λ (m : TokenScan). and_then (fault_of (term_of scope st.bindings.seen e.tree)) (λ _. Ok m)) (settled (with_previous ix.ends st1) ready.naming))))) in
+                  let along_is : along scope st (y ∷ (ix.word ++ v.word)) r ≡ and_then (fault_of (written_flow scope (word_of y))) (λ _. and_then (fault_of (term_of scope st.bindings.seen i.tree)) (λ _. and_then (fault_of (term_of scope st.bindings.seen e.tree)) (λ _. Ok (with_previous terminal.Semicolon st1)))) =
                   element_name scope y (ix.word ++ v.word) r st word.1.0.1 ready.begins bracket
-                  ∙ after_same (fault_of (written_flow scope (word_of y))) (λ _. along scope st1 (ix.word ++ v.word) r) (λ _. and_then (fault_of (term_of scope st.bindings.seen i.tree)) (λ _. and_then (fault_of (term_of scope st.bindings.seen e.tree)) (λ _. Ok (at terminal.Semicolon st1)))) (λ _. behind_index) in
+                  ∙ after_same (fault_of (written_flow scope (word_of y))) (λ _. along scope st1 (ix.word ++ v.word) r) (λ _. and_then (fault_of (term_of scope st.bindings.seen i.tree)) (λ _. and_then (fault_of (term_of scope st.bindings.seen e.tree)) (λ _. Ok (with_previous terminal.Semicolon st1)))) (λ _. after_index) in
                   walked st.open_blocks (put scope (word_of y) i.tree e.tree k) _ _ along_is
                   (first_step st.open_blocks (written_flow scope (word_of y)) _ (fault_of (written_flow scope (word_of y))) _ refl
                   (λ _ _. first_step st.open_blocks (term_of scope k.seen i.tree) _ (fault_of (term_of scope st.bindings.seen i.tree)) _ (term_alike scope k.seen st.bindings.seen ready.alike.seen i.tree)
@@ -277,11 +277,11 @@ module _ (scope : Scope) where
           word = x ∷ (y ∷ z ∷ []);
           parts = mark.0.0 ∙ ap (λ (l : List Token). x ∷ l) (word.1.0.0 ∙ ap (λ (l : List Token). y ∷ l) last.0.0);
           follows = λ k st ready at_most.
-              let st1 = at (terminal_of x) st in
+              let st1 = with_previous (terminal_of x) st in
               let last_trap : st1.previous ≡ Some terminal.Trap = ap (λ (j : Terminal). Some j) (is_trap (terminal_of x) mark.0.1) in
-              let along_is : along scope st (x ∷ (y ∷ z ∷ [])) r ≡ Ok (at terminal.Semicolon st) =
+              let along_is : along scope st (x ∷ (y ∷ z ∷ [])) r ≡ Ok (with_previous terminal.Semicolon st) =
               silent scope x (y ∷ z ∷ []) r st (silent_as terminal.Trap (terminal_of x) refl mark.0.1)
               ∙ (trap_name scope y (z ∷ []) r st1 word.1.0.1 last_trap
-              ∙ (semicolon scope z [] r (at (terminal_of y) st1) last.0.1 ∙ ap (λ (m : TokenScan). Ok m) (settled (at (terminal_of y) st1) ready.naming))) in
+              ∙ (semicolon scope z [] r (with_previous (terminal_of y) st1) last.0.1 ∙ ap (λ (m : TokenScan). Ok m) (settled (with_previous (terminal_of y) st1) ready.naming))) in
               walked st.open_blocks (resolving.trap (word_of y) k) _ _ along_is (refl, record { alike = numbered_alike y.text k _ st.bindings ready.alike; naming = ready.naming; begins = refl });
         })

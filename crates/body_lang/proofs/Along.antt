@@ -62,9 +62,9 @@ abbrev pub is_inside : Option Terminal → Bool
 is_inside None = false
 is_inside (Some k) = is_plain k
 
--- the same place, after a token of this terminal
-abbrev pub at : Terminal → TokenScan → TokenScan
-at k st = record st { previous = Some k }
+-- the same scan, with this terminal as the token before
+abbrev pub with_previous : Terminal → TokenScan → TokenScan
+with_previous k st = record st { previous = Some k }
 
 six_false : (a b c d e f : Bool) → not (a || (b || (c || (d || (e || f))))) ≡ true → (a ≡ false) × (b ≡ false) × (c ≡ false) × (d ≡ false) × (e ≡ false) × (f ≡ false)
 six_false true b c d e f h = absurd cc
@@ -83,7 +83,7 @@ not_true : (b : Bool) → not b ≡ true → b ≡ false
 not_true true h = absurd cc
 not_true false h = refl
 
--- inside, the role of a name goes by the token after it
+-- inside, the token after a name decides its role
 inside_role : (last : Option Terminal) (s : List Token) → is_inside last ≡ true → role_of last s ≡ cond (starts (is terminal.LeftBracket) s) role.Element role.Value
 inside_role None s h = absurd cc
 inside_role (Some k) s h = let f = six_false (is terminal.Semicolon k) (is terminal.LeftBrace k) (is terminal.RightBrace k) (is terminal.Int k) (is terminal.For k) (is terminal.Trap k) h in rw (f.3, f.4, f.5, f.0, f.1, f.2) refl
@@ -97,8 +97,8 @@ quiet_terminal terminal.Name text st h = absurd cc
 quiet_terminal terminal.TypeWord text st h = absurd cc
 quiet_terminal _ text st h = refl
 
-pub quiet_behind : (x : Token) (st : TokenScan) → is_quiet (terminal_of x) ≡ true → after_token x st ≡ at (terminal_of x) st
-quiet_behind x st h = ap (at (terminal_of x)) (quiet_terminal (terminal_of x) x.text st h)
+pub quiet_after : (x : Token) (st : TokenScan) → is_quiet (terminal_of x) ≡ true → after_token x st ≡ with_previous (terminal_of x) st
+quiet_after x st h = ap (with_previous (terminal_of x)) (quiet_terminal (terminal_of x) x.text st h)
 
 pub quiet_judged : (scope : Scope) (x : Token) (s : List Token) (st : TokenScan) → is_quiet (terminal_of x) ≡ true → judged scope st (x ∷ s) ≡ Ok tt
 quiet_judged scope x s st h = rw (not_true (names Body (terminal_of x)) (both_true (is_plain (terminal_of x)) (not (names Body (terminal_of x))) h).1) refl
@@ -130,11 +130,11 @@ pub record Judges (scope : Scope) (s r : List Token) (verdict : List Variable �
   pub parts : s ≡ word ++ r
   pub ends : Terminal
   pub plain : is_plain ends ≡ true
-  pub judges : (st : TokenScan) → is_inside st.previous ≡ true → along scope st word r ≡ and_then (verdict st.bindings.seen) (λ _. Ok (at ends st))
+  pub judges : (st : TokenScan) → is_inside st.previous ≡ true → along scope st word r ≡ and_then (verdict st.bindings.seen) (λ _. Ok (with_previous ends st))
 
 -- no fault
-abbrev pub fine : List Variable → Resolved (Unit {0})
-fine seen = Ok tt
+abbrev pub faultless : List Variable → Resolved (Unit {0})
+faultless seen = Ok tt
 
 module _ (scope : Scope) where
   pub same_verdict : (s r : List Token) (V U : List Variable → Resolved (Unit {0})) → ((seen : List Variable) → V seen ≡ U seen) → Judges scope s r V → Judges scope s r U
@@ -144,21 +144,21 @@ module _ (scope : Scope) where
         parts = j.parts;
         ends = j.ends;
         plain = j.plain;
-        judges = λ st i. j.judges st i ∙ ap (λ (v : Resolved (Unit {0})). and_then v (λ _. Ok (at j.ends st))) (e st.bindings.seen);
+        judges = λ st i. j.judges st i ∙ ap (λ (v : Resolved (Unit {0})). and_then v (λ _. Ok (with_previous j.ends st))) (e st.bindings.seen);
       }
 
   pub same_rest : (s r q : List Token) (V : List Variable → Resolved (Unit {0})) → r ≡ q → Judges scope s r V → Judges scope s q V
   same_rest s r q V e j = subst (λ (l : List Token). Judges scope s l V) e j
 
   -- a quiet token alone
-  pub quiet_judges : (s r : List Token) (x : Token) → s ≡ x ∷ r → is_quiet (terminal_of x) ≡ true → Judges scope s r fine
+  pub quiet_judges : (s r : List Token) (x : Token) → s ≡ x ∷ r → is_quiet (terminal_of x) ≡ true → Judges scope s r faultless
   quiet_judges s r x e q =
       record {
         word = x ∷ [];
         parts = e;
         ends = terminal_of x;
         plain = (both_true (is_plain (terminal_of x)) (not (names Body (terminal_of x))) q).0;
-        judges = λ st i. rw (quiet_judged scope x r st q) (ap (λ (m : TokenScan). Ok m) (quiet_behind x st q));
+        judges = λ st i. rw (quiet_judged scope x r st q) (ap (λ (m : TokenScan). Ok m) (quiet_after x st q));
       }
 
   -- one stretch and another
@@ -173,21 +173,21 @@ module _ (scope : Scope) where
             along_append scope st a.word b.word r
             ∙ (ap (λ (l : List Token). and_then (along scope st a.word l) (λ m. along scope m b.word r)) (sym b.parts)
             ∙ (ap (λ (v : Resolved TokenScan). and_then v (λ m. along scope m b.word r)) (a.judges st i)
-            ∙ (after_after (V st.bindings.seen) (λ _. Ok (at a.ends st)) (λ m. along scope m b.word r)
-            ∙ (after_same (V st.bindings.seen) (λ _. along scope (at a.ends st) b.word r) (λ _. and_then (U st.bindings.seen) (λ _. Ok (at b.ends st))) (λ _. b.judges (at a.ends st) a.plain)
-            ∙ sym (after_after (V st.bindings.seen) (λ _. U st.bindings.seen) (λ _. Ok (at b.ends st)))))));
+            ∙ (after_after (V st.bindings.seen) (λ _. Ok (with_previous a.ends st)) (λ m. along scope m b.word r)
+            ∙ (after_same (V st.bindings.seen) (λ _. along scope (with_previous a.ends st) b.word r) (λ _. and_then (U st.bindings.seen) (λ _. Ok (with_previous b.ends st))) (λ _. b.judges (with_previous a.ends st) a.plain)
+            ∙ sym (after_after (V st.bindings.seen) (λ _. U st.bindings.seen) (λ _. Ok (with_previous b.ends st)))))));
       }
 
-  nothing_behind : (v : Resolved (Unit {0})) → and_then v (λ _. Ok tt) ≡ v
-  nothing_behind (Ok x) = refl
-  nothing_behind (Err e) = refl
+  nothing_after : (v : Resolved (Unit {0})) → and_then v (λ _. Ok tt) ≡ v
+  nothing_after (Ok x) = refl
+  nothing_after (Err e) = refl
 
   -- a quiet token before it, and one after it
   pub token_then : (s m r : List Token) (x : Token) (V : List Variable → Resolved (Unit {0})) → s ≡ x ∷ m → is_quiet (terminal_of x) ≡ true → Judges scope m r V → Judges scope s r V
-  token_then s m r x V e q j = same_verdict s r (λ seen. and_then (fine seen) (λ _. V seen)) V (λ seen. refl) (then_judges s m r fine V (quiet_judges s m x e q) j)
+  token_then s m r x V e q j = same_verdict s r (λ seen. and_then (faultless seen) (λ _. V seen)) V (λ seen. refl) (then_judges s m r faultless V (quiet_judges s m x e q) j)
 
   pub then_token : (s m r : List Token) (x : Token) (V : List Variable → Resolved (Unit {0})) → m ≡ x ∷ r → is_quiet (terminal_of x) ≡ true → Judges scope s m V → Judges scope s r V
-  then_token s m r x V e q j = same_verdict s r (λ seen. and_then (V seen) (λ _. fine seen)) V (λ seen. nothing_behind (V seen)) (then_judges s m r V fine j (quiet_judges m r x e q))
+  then_token s m r x V e q j = same_verdict s r (λ seen. and_then (V seen) (λ _. faultless seen)) V (λ seen. nothing_after (V seen)) (then_judges s m r V faultless j (quiet_judges m r x e q))
 
   -- a name that means a number, and one before an index
   name_judges : (s r : List Token) (x : Token) (j : Role) (V : List Variable → Resolved (Unit {0})) → s ≡ x ∷ r → names Body (terminal_of x) ≡ true → cond (starts (is terminal.LeftBracket) r) role.Element role.Value ≡ j

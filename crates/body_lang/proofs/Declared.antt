@@ -10,7 +10,7 @@ use Rattle.jdf_alphabet.specs.declared.terminal.Terminal.{Terminal}
 use Rattle.jdf_alphabet.specs.declared.terminal.Terminal.TheVariants as terminal
 use Rattle.grammar_core.specs.declared.code.Code.{Code}
 use Rattle.jdf_alphabet.specs.Codes.{TooManyVars}
-use Rattle.grammar_core.specs.Production.{seq, map, alt, opt, star, limited, Fault, Language, Many, Derives, DerivedWithin, Derived, IsText, cut_at, taken, one_of, valued, pick, after_token}
+use Rattle.grammar_core.specs.Production.{seq, map, alt, opt, star, limited, Fault, Language, Many, Derives, DerivedWithin, Derived, IsText, cut_at, taken, one_of, checked, pick, after_token}
 use Rattle.grammar_core.specs.LimitBy.{index_by}
 use Rattle.jdf_alphabet.specs.Terminals.{terminal_of, is, set}
 use Rattle.jdf_alphabet.specs.Sets as sets
@@ -91,7 +91,7 @@ module _ (R : (n : Nonterminal) → Language (TreeOf n)) (H : (n : Nonterminal) 
   -- what is left is no more than what there was
   none : {A : Type 0} (g : Grammar A) → Spends (Derives R g) (λ t. 0)
   none (one_of q) s t o r h = let k = one_spends q s t r h.0.0 in omega (arith, k)
-  none (valued q good c) s t o r h = let k = one_spends q s t r h.0.0 in omega (arith, k)
+  none (checked q good c) s t o r h = let k = one_spends q s t r h.0.0 in omega (arith, k)
   none (seq g k) s t o r h = let a = none g s t.0 h.1 h.0 h.3 in let b = none k h.0 t.1 h.2 r h.4 in omega (arith, a, b)
   none (map v g) s t o r h = none g s h.0 o r h.1
   none (alt g k) s t o r h = elim h [ inl u ↦ none g s t o r u | inr u ↦ none k s t o r u ]

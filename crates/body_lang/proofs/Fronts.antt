@@ -17,9 +17,9 @@ module _ (scope : Scope) where
       go (Ok u) h = h
       go (Err e) h = inr refl
 
-  pub whatever_behind : (st : TokenScan) (n : ℕ) (w r q : List Token) → n < length w → judged_among scope st n (w ++ r) ≡ judged_among scope st n (w ++ q)
-  whatever_behind st zero w r q h = refl
-  whatever_behind st (suc n) [] r q h = absurd (omega arith)
-  whatever_behind st (suc n) (x ∷ []) r q h = absurd (omega arith)
-  whatever_behind st (suc n) (x ∷ (y ∷ w)) r q h =
-      ap (λ (u : Resolved (Unit {0})). and_then (judged scope st (x ∷ (y ∷ (w ++ r)))) (λ _. u)) (whatever_behind (after_token x st) n (y ∷ w) r q (omega (arith, h)))
+  pub whatever_after : (st : TokenScan) (n : ℕ) (w r q : List Token) → n < length w → judged_among scope st n (w ++ r) ≡ judged_among scope st n (w ++ q)
+  whatever_after st zero w r q h = refl
+  whatever_after st (suc n) [] r q h = absurd (omega arith)
+  whatever_after st (suc n) (x ∷ []) r q h = absurd (omega arith)
+  whatever_after st (suc n) (x ∷ (y ∷ w)) r q h =
+      ap (λ (u : Resolved (Unit {0})). and_then (judged scope st (x ∷ (y ∷ (w ++ r)))) (λ _. u)) (whatever_after (after_token x st) n (y ∷ w) r q (omega (arith, h)))

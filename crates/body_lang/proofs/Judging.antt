@@ -8,7 +8,7 @@ use Rattle.jdf_alphabet.specs.declared.terminal.Terminal.TheVariants as terminal
 use Rattle.grammar_core.specs.Production.{seq, map, opt, Fault, Language, Many, Derives, DerivedWithin, Derived}
 use Rattle.jdf_alphabet.specs.Sets.{one_of, starts}
 use Rattle.jdf_alphabet.specs.Terminals.{terminal_of, is}
-use Rattle.jdf_alphabet.proofs.Disjoint.{disjoint, disjoint_at}
+use Rattle.jdf_alphabet.proofs.Disjoint.{are_disjoint, disjoint_at}
 use Rattle.term_core.specs.declared.operator.BinOp.{BinOp}
 use Rattle.term_core.specs.Term.{Term}
 use Rattle.term_core.specs.Term as term
@@ -26,29 +26,29 @@ use Rattle.body_names.specs.declared.variable.Variable.{Variable}
 use Rattle.body_names.specs.Meanings.{meaning_of}
 use Rattle.body_names.specs.Expressions.{Resolved, value_of, read_flow, term_of}
 use Rattle.body_names.specs.TokenScan.{fault_of}
-use Rattle.body_lang.proofs.Along.{Judges, fine, same_verdict, same_rest, then_judges, token_then, then_token, quiet_judges, value_judges, element_judges, after_after, is_quiet}
+use Rattle.body_lang.proofs.Along.{Judges, faultless, same_verdict, same_rest, then_judges, token_then, then_token, quiet_judges, value_judges, element_judges, after_after, is_quiet}
 
 -- no index follows
 abbrev pub NoIndex : List Token → Type 0
 NoIndex r = starts (is terminal.LeftBracket) r ≡ false
 
 -- a token that is no bracket
-pub no_index : (q : Terminal → Bool) (s r : List Token) (x : Token) → disjoint q (is terminal.LeftBracket) ≡ true → s ≡ x ∷ r → q (terminal_of x) ≡ true → NoIndex s
+pub no_index : (q : Terminal → Bool) (s r : List Token) (x : Token) → are_disjoint q (is terminal.LeftBracket) ≡ true → s ≡ x ∷ r → q (terminal_of x) ≡ true → NoIndex s
 no_index q s r x d e h = subst (λ (l : List Token). NoIndex l) (sym e) (disjoint_at q (is terminal.LeftBracket) d (terminal_of x) h)
 
-abbrev pub flip : Bool → Bool
-flip true = false
-flip false = true
+abbrev pub negated : Bool → Bool
+negated true = false
+negated false = true
 
--- the terminals that are not quiet
+-- a name, or a token after which a statement or a declaration may begin
 abbrev pub is_loud : Terminal → Bool
-is_loud k = flip (is_quiet k)
+is_loud k = negated (is_quiet k)
 
 -- tokens of these terminals are quiet
-pub within_quiet : (q : Terminal → Bool) → disjoint q is_loud ≡ true → (k : Terminal) → q k ≡ true → is_quiet k ≡ true
+pub within_quiet : (q : Terminal → Bool) → are_disjoint q is_loud ≡ true → (k : Terminal) → q k ≡ true → is_quiet k ≡ true
 within_quiet q d k h = go (is_quiet k) (disjoint_at q is_loud d k h)
   where
-    go : (b : Bool) → flip b ≡ false → b ≡ true
+    go : (b : Bool) → negated b ≡ false → b ≡ true
     go true e = refl
     go false e = absurd cc
 
@@ -57,8 +57,8 @@ module _ (scope : Scope) where
   abbrev pub fault : Expression → List Variable → Resolved (Unit {0})
   fault e seen = fault_of (term_of scope seen e)
 
-  abbrev pub J : {A : Type 0} → Language A → (A → List Variable → Resolved (Unit {0})) → Type 0
-  J {A = A} G V = (s : List Token) (t : A) (o : Fault) (r : List Token) → G s t o r → NoIndex r → Judges scope s r (V t)
+  abbrev pub JudgesBy : {A : Type 0} → Language A → (A → List Variable → Resolved (Unit {0})) → Type 0
+  JudgesBy {A = A} G V = (s : List Token) (t : A) (o : Fault) (r : List Token) → G s t o r → NoIndex r → Judges scope s r (V t)
 
   -- ---- what a fault is made of
 
@@ -112,27 +112,27 @@ module _ (scope : Scope) where
 
   -- ---- the forms of an expression, where the names inside are judged
 
-  module _ (R : (n : Nonterminal) → Language (TreeOf n)) (E : J (R (an_expr Body)) (λ t. fault t.tree)) (U : J (R (a_unary Body)) (λ t. fault t.tree)) where
-    number_judges : J (Derives R number) (λ t. fault t.tree)
+  module _ (R : (n : Nonterminal) → Language (TreeOf n)) (E : JudgesBy (R (an_expr Body)) (λ t. fault t.tree)) (U : JudgesBy (R (a_unary Body)) (λ t. fault t.tree)) where
+    number_judges : JudgesBy (Derives R number) (λ t. fault t.tree)
     unfolding number
     number_judges s t o r h n =
-        subst (λ (t : ExprWithSpot). Judges scope s r (fault t.tree)) h.2 (same_verdict scope s r fine (fault (number_at h.0).tree) (λ seen. refl) (quiet_judges scope s r h.0 h.1.0.0 (within_quiet (is terminal.Number) refl (terminal_of h.0) h.1.0.1)))
+        subst (λ (t : ExprWithSpot). Judges scope s r (fault t.tree)) h.2 (same_verdict scope s r faultless (fault (number_at h.0).tree) (λ seen. refl) (quiet_judges scope s r h.0 h.1.0.0 (within_quiet (is terminal.Number) refl (terminal_of h.0) h.1.0.1)))
 
     -- an expression between two marks
-    between : (first last : Terminal → Bool) → disjoint first is_loud ≡ true → disjoint last is_loud ≡ true → disjoint last (is terminal.LeftBracket) ≡ true → (s m p r : List Token) (x y : Token) (t : ExprWithSpot) (o : Fault)
+    between : (first last : Terminal → Bool) → are_disjoint first is_loud ≡ true → are_disjoint last is_loud ≡ true → are_disjoint last (is terminal.LeftBracket) ≡ true → (s m p r : List Token) (x y : Token) (t : ExprWithSpot) (o : Fault)
         → s ≡ x ∷ m → first (terminal_of x) ≡ true → R (an_expr Body) m t o p → p ≡ y ∷ r → last (terminal_of y) ≡ true → Judges scope s r (fault t.tree)
     between first last a b c s m p r x y t o e f h k l =
         token_then scope s m r x (fault t.tree) e (within_quiet first a (terminal_of x) f)
         (then_token scope m p r y (fault t.tree) k (within_quiet last b (terminal_of y) l) (E m t o p h (no_index last p r y c k l)))
 
-    parens_judges : J (Derives R (parens Body)) (λ t. fault t.tree)
+    parens_judges : JudgesBy (Derives R (parens Body)) (λ t. fault t.tree)
     unfolding parens
     parens_judges s t o r h n =
         let both = h.1 in let front = both.3 in let back = both.4 in
         subst (λ (t : ExprWithSpot). Judges scope s r (fault t.tree)) h.2
         (between (is terminal.LeftParen) (is terminal.RightParen) refl refl refl s front.0 both.0 r h.0.0.0 h.0.1 h.0.0.1 front.1 front.2.0 front.2.1 front.3 back.0.0 back.0.1)
 
-    index_judges : J (Derives R index) (λ t. fault t.tree)
+    index_judges : JudgesBy (Derives R index) (λ t. fault t.tree)
     unfolding index
     index_judges s t o r h n =
         let both = h.1 in let front = both.3.1 in let back = both.4 in
@@ -142,7 +142,7 @@ module _ (scope : Scope) where
         (between (is terminal.LeftBracket) (is terminal.RightBracket) refl refl refl s front.0 both.0 r both.3.0.0 h.0.1 both.3.0.1 front.1 front.2.0 front.2.1 front.3 back.0.0 back.0.1)
 
     -- a name alone, or an element
-    reference_judges : J (Derives R (reference Body)) (λ t. fault t.tree)
+    reference_judges : JudgesBy (Derives R (reference Body)) (λ t. fault t.tree)
     unfolding reference index
     reference_judges s t o r h n = subst (λ (t : ExprWithSpot). Judges scope s r (fault t.tree)) h.2 (by_index h.0.0 h.0.1 h.1)
       where
@@ -162,7 +162,7 @@ module _ (scope : Scope) where
             subst (λ (w : Word). Judges scope s r (fault (Elem w at.tree))) word.2
             (same_verdict scope s r (λ seen. and_then (fault_of (read_flow scope (word_of word.0))) (λ _. fault at.tree seen)) (fault (Elem (word_of word.0) at.tree)) (elem_fault (word_of word.0) at.tree) whole)
 
-    signed_judges : J (Derives R (signed Body)) (λ t. fault t.tree)
+    signed_judges : JudgesBy (Derives R (signed Body)) (λ t. fault t.tree)
     unfolding signed
     signed_judges s t o r h n =
         let k = h.1 in
@@ -170,7 +170,7 @@ module _ (scope : Scope) where
         (same_verdict scope s r (fault h.0.1.tree) (fault (signed_of h.0).tree) (unary_fault (sign_by (terminal_of h.0.0)) h.0.1.tree h.0.0.spot)
         (token_then scope s k.0 r h.0.0 (fault h.0.1.tree) k.2.0 (within_quiet is_sign refl (terminal_of h.0.0) k.2.1) (U k.0 h.0.1 k.1 r k.3 n)))
 
-    unary_judges : J (Derives R (unary Body)) (λ t. fault t.tree)
+    unary_judges : JudgesBy (Derives R (unary Body)) (λ t. fault t.tree)
     unfolding unary
     unary_judges s t o r h n = elim h [
       | inl u ↦ signed_judges s t o r u n
@@ -182,16 +182,16 @@ module _ (scope : Scope) where
 
     -- ---- operands with operators between them
 
-    module _ (ops : Terminal → Bool) (quiet : disjoint ops is_loud ≡ true) (apart : disjoint ops (is terminal.LeftBracket) ≡ true) (operand : Grammar ExprWithSpot) (O : J (Derives R operand) (λ t. fault t.tree)) where
+    module _ (ops : Terminal → Bool) (quiet : are_disjoint ops is_loud ≡ true) (apart : are_disjoint ops (is terminal.LeftBracket) ≡ true) (operand : Grammar ExprWithSpot) (O : JudgesBy (Derives R operand) (λ t. fault t.tree)) where
       abbrev operation : Grammar (BinOp × ExprWithSpot)
       operation = seq (map operator_of (one_of ops)) operand
 
       abbrev Operations : List (BinOp × ExprWithSpot) → ℕ → List Token → Fault → List Token → Type 0
       Operations xs i s o r = Many any (Derives R operation) i s xs o r
 
-      no_index_behind : (xs : List (BinOp × ExprWithSpot)) (i : ℕ) (s : List Token) (o : Fault) (r : List Token) → Operations xs i s o r → NoIndex r → NoIndex s
-      no_index_behind [] i s o r h n = subst (λ (l : List Token). NoIndex l) (sym h.0) n
-      no_index_behind (x ∷ xs) i s o r h n = let mark = h.3.3 in no_index ops s h.3.0 mark.0 apart mark.1.0.0 mark.1.0.1
+      no_index_after : (xs : List (BinOp × ExprWithSpot)) (i : ℕ) (s : List Token) (o : Fault) (r : List Token) → Operations xs i s o r → NoIndex r → NoIndex s
+      no_index_after [] i s o r h n = subst (λ (l : List Token). NoIndex l) (sym h.0) n
+      no_index_after (x ∷ xs) i s o r h n = let mark = h.3.3 in no_index ops s h.3.0 mark.0 apart mark.1.0.0 mark.1.0.1
 
       operations_judge : (xs : List (BinOp × ExprWithSpot)) (i : ℕ) (start s : List Token) (V : List Variable → Resolved (Unit {0})) (o : Fault) (r : List Token) → Operations xs i s o r → NoIndex r → Judges scope start s V → Judges scope start r (λ seen. and_then (V seen) (λ _. faults xs seen))
       operations_judge [] i start s V o r h n j = same_rest scope start s r (λ seen. and_then (V seen) (λ _. faults [] seen)) h.0 (same_verdict scope start s V (λ seen. and_then (V seen) (λ _. faults [] seen)) (λ seen. nothing_more (V seen)) j)
@@ -202,49 +202,49 @@ module _ (scope : Scope) where
       operations_judge (x ∷ xs) i start s V o r h n j =
           let op = h.3 in
           let mark = op.3 in
-          let no = no_index_behind xs (suc i) h.0 h.2 r h.4 n in
+          let no = no_index_after xs (suc i) h.0 h.2 r h.4 n in
           let past_mark = then_token scope start s op.0 mark.0 V mark.1.0.0 (within_quiet ops quiet (terminal_of mark.0) mark.1.0.1) j in
           let past_operand = then_judges scope start op.0 h.0 V (fault x.1.tree) past_mark (O op.0 x.1 op.2 h.0 op.4 no) in
           let later = operations_judge xs (suc i) start h.0 (λ seen. and_then (V seen) (λ _. fault x.1.tree seen)) h.2 r h.4 n past_operand in
           same_verdict scope start r (λ seen. and_then (and_then (V seen) (λ _. fault x.1.tree seen)) (λ _. faults xs seen)) (λ seen. and_then (V seen) (λ _. faults (x ∷ xs) seen)) (λ seen. after_after (V seen) (λ _. fault x.1.tree seen) (λ _. faults xs seen)) later
 
-      ranked_judges : J (Derives R (ranked ops operand)) (λ t. fault t.tree)
+      ranked_judges : JudgesBy (Derives R (ranked ops operand)) (λ t. fault t.tree)
       ranked_judges s t o r h n =
           let k = h.1 in
           let first = h.0.0 in
           let xs = h.0.1 in
-          let no = no_index_behind xs 0 k.0 k.2 r k.4 n in
+          let no = no_index_after xs 0 k.0 k.2 r k.4 n in
           subst (λ (t : ExprWithSpot). Judges scope s r (fault t.tree)) h.2
           (same_verdict scope s r (λ seen. and_then (fault first.tree seen) (λ _. faults xs seen)) (fault (grouped first.tree xs)) (grouped_fault xs first.tree)
           (operations_judge xs 0 s k.0 (fault first.tree) k.2 r k.4 n (O s first k.1 k.0 k.3 no)))
 
-    product_judges : J (Derives R (product Body)) (λ t. fault t.tree)
+    product_judges : JudgesBy (Derives R (product Body)) (λ t. fault t.tree)
     unfolding product
     product_judges = ranked_judges is_product refl refl (unary Body) unary_judges
 
-    sum_judges : J (Derives R (sum Body)) (λ t. fault t.tree)
+    sum_judges : JudgesBy (Derives R (sum Body)) (λ t. fault t.tree)
     unfolding sum
     sum_judges = ranked_judges is_sum refl refl (product Body) product_judges
 
-    relation_judges : J (Derives R (relation Body)) (λ t. fault t.tree)
+    relation_judges : JudgesBy (Derives R (relation Body)) (λ t. fault t.tree)
     unfolding relation
     relation_judges = ranked_judges is_relation refl refl (sum Body) sum_judges
 
-    equality_judges : J (Derives R (equality Body)) (λ t. fault t.tree)
+    equality_judges : JudgesBy (Derives R (equality Body)) (λ t. fault t.tree)
     unfolding equality
     equality_judges = ranked_judges is_equality refl refl (relation Body) relation_judges
 
-    conjunction_judges : J (Derives R (conjunction Body)) (λ t. fault t.tree)
+    conjunction_judges : JudgesBy (Derives R (conjunction Body)) (λ t. fault t.tree)
     unfolding conjunction
     conjunction_judges = ranked_judges is_conjunction refl refl (equality Body) equality_judges
 
-    disjunction_judges : J (Derives R (disjunction Body)) (λ t. fault t.tree)
+    disjunction_judges : JudgesBy (Derives R (disjunction Body)) (λ t. fault t.tree)
     unfolding disjunction
     disjunction_judges = ranked_judges is_disjunction refl refl (conjunction Body) conjunction_judges
 
     -- ---- choices
 
-    expr_judges : J (Derives R (expr Body)) (λ t. fault t.tree)
+    expr_judges : JudgesBy (Derives R (expr Body)) (λ t. fault t.tree)
     unfolding expr branches
     expr_judges s t o r h n = subst (λ (t : ExprWithSpot). Judges scope s r (fault t.tree)) h.2 (by_branches h.0.0 h.0.1 h.1)
       where
@@ -271,8 +271,8 @@ module _ (scope : Scope) where
   -- ---- names of any depth
 
   pub record Names (R : (n : Nonterminal) → Language (TreeOf n)) : Type 0 where
-    pub exprs : J (R (an_expr Body)) (λ t. fault t.tree)
-    pub unaries : J (R (a_unary Body)) (λ t. fault t.tree)
+    pub exprs : JudgesBy (R (an_expr Body)) (λ t. fault t.tree)
+    pub unaries : JudgesBy (R (a_unary Body)) (λ t. fault t.tree)
 
   pub names_at : (k : ℕ) → Names (DerivedWithin productions k)
   unfolding productions

@@ -33,10 +33,10 @@ use Rattle.body_names.specs.Statements as resolving
 use Rattle.body_names.proofs.Blocks.{resolved-then}
 use Rattle.body_names.specs.TokenScan.{TokenScan, at_first, declared_by, declared, block_entered, block_left_by, block_left, fault_of, front_fault}
 use Rattle.body_lang.specs.Declarations.{declarations}
-use Rattle.body_lang.proofs.Along.{along, along_append, after_after, after_same, among_all, at, is_inside}
+use Rattle.body_lang.proofs.Along.{along, along_append, after_after, after_same, among_all, with_previous, is_inside}
 use Rattle.body_lang.proofs.Alike.{Alike, names_of, names_append, names_take, names_length, term_alike}
 use Rattle.body_lang.proofs.Declared as count
-use Rattle.body_lang.proofs.VariableCount.{Other, Adds, declare_bounded, set_bounded, put_bounded, choice_bounded, counted_bounded, stop_bounded, block_bounded}
+use Rattle.body_lang.proofs.VariableCount.{NotTooMany, Adds, declare_bounded, set_bounded, put_bounded, choice_bounded, loop_bounded, trap_bounded, block_bounded}
 use Rattle.body_lang.proofs.Judging.{NoIndex, no_index, Names, outer_judges, names_at, names_judge}
 use Rattle.body_lang.proofs.Walking.{is_for, silent_as, inside_as, is_silent, silent, left_brace, right_brace, begun, counter_name, expression, Ready, Follows, first_step, known_step, last_step, walked}
 use Rattle.body_lang.proofs.Agreeing.{room_is, last_is, front_is, Walks, Indexes, declaration_walks, assignment_walks, stop_walks}
@@ -55,12 +55,12 @@ abbrev both : Bindings → ℕ × ℕ
 both k = (length k.seen, k.outside)
 
 -- inside of a block of `if` and of `else`
-ready_inside : (k : Bindings) (st : TokenScan) → Alike k st.bindings → st.naming ≡ None → Ready (block_opened k) (at terminal.LeftBrace (declared true (block_entered st)))
+ready_inside : (k : Bindings) (st : TokenScan) → Alike k st.bindings → st.naming ≡ None → Ready (block_opened k) (with_previous terminal.LeftBrace (declared true (block_entered st)))
 ready_inside k st h e = rw e (record { alike = record { seen = h.seen; outside = same_length k st.bindings h }; naming = refl; begins = refl })
 
 -- inside of a loop's
 ready_counted : (scope : Scope) (k : Bindings) (st : TokenScan) (name : List ℕ) → Alike k st.bindings → st.naming ≡ Some name
-    → Ready (with_variable scope name true (block_opened k)) (at terminal.LeftBrace (declared true (block_entered st)))
+    → Ready (with_variable scope name true (block_opened k)) (with_previous terminal.LeftBrace (declared true (block_entered st)))
 ready_counted scope k st name h e =
     rw e
     (record {
@@ -89,7 +89,7 @@ module _ (scope : Scope) where
 
   -- what is known after the brace that opens a block
   abbrev Opens : (Bindings → Bindings) → Bindings → Option (List ℕ) → Type 0
-  Opens opening k naming = (st : TokenScan) → Alike k st.bindings → st.naming ≡ naming → Ready (opening k) (at terminal.LeftBrace (declared true (block_entered st)))
+  Opens opening k naming = (st : TokenScan) → Alike k st.bindings → st.naming ≡ naming → Ready (opening k) (with_previous terminal.LeftBrace (declared true (block_entered st)))
 
   -- a block with both braces
   record Blocks (s r : List Token) (t : Statements) : Type 0 where
@@ -99,9 +99,9 @@ module _ (scope : Scope) where
         → (opening k).declared + declarations t ≤ 256 → Follows st.open_blocks (in_block opening (resolved scope t) k) (along scope st word r)
 
   -- after the brace as much is seen as before the block
-  left_known : (k m : Bindings) (st : TokenScan) (beyond : List (ℕ × ℕ)) → Ready m st → st.open_blocks ≡ beyond ++ (length k.seen, k.outside) ∷ [] → ((block_left st).open_blocks ≡ beyond) × Ready (block_closed k m) (at terminal.RightBrace (block_left st))
+  left_known : (k m : Bindings) (st : TokenScan) (beyond : List (ℕ × ℕ)) → Ready m st → st.open_blocks ≡ beyond ++ (length k.seen, k.outside) ∷ [] → ((block_left st).open_blocks ≡ beyond) × Ready (block_closed k m) (with_previous terminal.RightBrace (block_left st))
   left_known k m st beyond ready e =
-      subst (λ (o : Option (ℕ × ℕ)). ((block_left_by o st).open_blocks ≡ beyond) × Ready (block_closed k m) (at terminal.RightBrace (block_left_by o st))) (sym last) (
+      subst (λ (o : Option (ℕ × ℕ)). ((block_left_by o st).open_blocks ≡ beyond) × Ready (block_closed k m) (with_previous terminal.RightBrace (block_left_by o st))) (sym last) (
         front,
         record {
           alike = record {
@@ -123,17 +123,17 @@ module _ (scope : Scope) where
   nothing_inside : (k : Bindings) (m : Bindings) → Alike k m → Alike (block_closed k (block_opened k)) m
   nothing_inside k m h = record { seen = ap names_of (take_all (length k.seen) k.seen (omega arith)) ∙ h.seen; outside = h.outside }
 
-  statement_bounded : (t : StmtTree) (k : Bindings) → k.declared + count.declared t ≤ 256 → Other (Adds scope {A = Stmt} k (count.declared t)) (statement_of scope t k)
+  statement_bounded : (t : StmtTree) (k : Bindings) → k.declared + count.declared t ≤ 256 → NotTooMany (Adds scope {A = Stmt} k (count.declared t)) (statement_of scope t k)
   statement_bounded (stmt.Declare w e) k le = declare_bounded scope w e k (omega (arith, le))
   statement_bounded (stmt.Set w e) k le = set_bounded scope w e k
   statement_bounded (stmt.Put w i e) k le = put_bounded scope w i e k
   statement_bounded (stmt.If c first second) k le =
       choice_bounded scope c (resolved scope first) (resolved scope second) (declarations first) (declarations second) (block_bounded scope first) (block_bounded scope second) k le
-  statement_bounded (stmt.For w lo hi turn) k le = counted_bounded scope w lo hi (resolved scope turn) (declarations turn) (block_bounded scope turn) k le
-  statement_bounded (stmt.Trap w) k le = stop_bounded scope w k
+  statement_bounded (stmt.For w lo hi turn) k le = loop_bounded scope w lo hi (resolved scope turn) (declarations turn) (block_bounded scope turn) k le
+  statement_bounded (stmt.Trap w) k le = trap_bounded scope w k
 
-  adds_of : (k : Bindings) (n : ℕ) (a : Resolved (Stmt × Bindings)) (x : Stmt × Bindings) → Other (Adds scope {A = Stmt} k n) a → a ≡ Ok x → x.1.declared ≡ k.declared + n
-  adds_of k n a x h e = subst (λ (a : Resolved (Stmt × Bindings)). Other (Adds scope {A = Stmt} k n) a) e h
+  adds_of : (k : Bindings) (n : ℕ) (a : Resolved (Stmt × Bindings)) (x : Stmt × Bindings) → NotTooMany (Adds scope {A = Stmt} k n) a → a ≡ Ok x → x.1.declared ≡ k.declared + n
+  adds_of k n a x h e = subst (λ (a : Resolved (Stmt × Bindings)). NotTooMany (Adds scope {A = Stmt} k n) a) e h
 
   block_adds : (k : Bindings) (t : Statements) (opening : Bindings → Bindings) (x : StatementList × Bindings) → (opening k).declared + declarations t ≤ 256 → in_block opening (resolved scope t) k ≡ Ok x → x.1.declared ≡ (opening k).declared + declarations t
   block_adds k t opening x le e = go (resolved scope t (opening k)) (block_bounded scope t (opening k) le) e
@@ -142,7 +142,7 @@ module _ (scope : Scope) where
       declared_of (Ok y) = y.1.declared
       declared_of (Err f) = 0
 
-      go : (a : Resolved (StatementList × Bindings)) → Other (Adds scope {A = StatementList} (opening k) (declarations t)) a → and_then a (λ x. Ok (x.0, block_closed k x.1)) ≡ Ok x → x.1.declared ≡ (opening k).declared + declarations t
+      go : (a : Resolved (StatementList × Bindings)) → NotTooMany (Adds scope {A = StatementList} (opening k) (declarations t)) a → and_then a (λ x. Ok (x.0, block_closed k x.1)) ≡ Ok x → x.1.declared ≡ (opening k).declared + declarations t
       go (Ok y) h e = sym (ap declared_of e) ∙ h
       go (Err f) h e = absurd cc
 
@@ -161,7 +161,7 @@ module _ (scope : Scope) where
           parts = pair.2.0 ∙ ap (λ (l : List Token). x ∷ l) c.parts;
           follows = λ opening k naming opens st alike is_naming at_most.
               walked st.open_blocks (in_block opening (resolved scope h.0.1) k) _ _ (left_brace scope x c.word r st pair.2.1)
-              (c.follows opening k (at terminal.LeftBrace (declared true (block_entered st))) st.open_blocks (opens st alike is_naming)
+              (c.follows opening k (with_previous terminal.LeftBrace (declared true (block_entered st))) st.open_blocks (opens st alike is_naming)
               (declared_around st.naming (block_entered st) ∙ ap (λ (p : ℕ × ℕ). st.open_blocks ++ p ∷ []) (same_pair k st.bindings alike)) at_most);
         })
       where
@@ -193,9 +193,9 @@ module _ (scope : Scope) where
           ends = terminal_of y;
           walks = λ st.
               silent scope x (j.word ++ y ∷ []) r st (silent_as terminal.LeftParen (terminal_of x) refl mark.0.1)
-              ∙ (expression scope h.1.0 inner_part.1.0 (y ∷ []) r (λ seen. fault_of (term_of scope seen inner_part.0.0.tree)) j stop.0.0 (at (terminal_of x) st) (inside_as terminal.LeftParen (terminal_of x) refl mark.0.1)
-              ∙ after_same (fault_of (term_of scope st.bindings.seen inner_part.0.0.tree)) (λ _. along scope (at j.ends (at (terminal_of x) st)) (y ∷ []) r) (λ _. Ok (at (terminal_of y) st))
-              (λ _. silent scope y [] r (at j.ends (at (terminal_of x) st)) (silent_as terminal.RightParen (terminal_of y) refl stop.0.1)));
+              ∙ (expression scope h.1.0 inner_part.1.0 (y ∷ []) r (λ seen. fault_of (term_of scope seen inner_part.0.0.tree)) j stop.0.0 (with_previous (terminal_of x) st) (inside_as terminal.LeftParen (terminal_of x) refl mark.0.1)
+              ∙ after_same (fault_of (term_of scope st.bindings.seen inner_part.0.0.tree)) (λ _. along scope (with_previous j.ends (with_previous (terminal_of x) st)) (y ∷ []) r) (λ _. Ok (with_previous (terminal_of y) st))
+              (λ _. silent scope y [] r (with_previous j.ends (with_previous (terminal_of x) st)) (silent_as terminal.RightParen (terminal_of y) refl stop.0.1)));
         })
 
     -- the block after `else`
@@ -211,7 +211,7 @@ module _ (scope : Scope) where
           parts = mark.0.0 ∙ ap (λ (l : List Token). x ∷ l) b.parts;
           follows = λ opening k naming opens st alike is_naming at_most.
               walked st.open_blocks (in_block opening (resolved scope h.0.1) k) _ _ (silent scope x b.word r st (silent_as terminal.Else (terminal_of x) refl mark.0.1))
-              (b.follows opening k naming opens (at (terminal_of x) st) alike is_naming at_most);
+              (b.follows opening k naming opens (with_previous (terminal_of x) st) alike is_naming at_most);
         })
 
     -- an else part, or none
@@ -228,11 +228,11 @@ module _ (scope : Scope) where
 
     -- after an expression
     past_index : (s m w r : List Token) (t : ExprWithSpot) (c : Indexes scope s m t) → m ≡ w ++ r → (st : TokenScan)
-        → along scope st (c.word ++ w) r ≡ and_then (fault_of (term_of scope st.bindings.seen t.tree)) (λ _. along scope (at c.ends st) w r)
+        → along scope st (c.word ++ w) r ≡ and_then (fault_of (term_of scope st.bindings.seen t.tree)) (λ _. along scope (with_previous c.ends st) w r)
     past_index s m w r t c e st =
         along_append scope st c.word w r
         ∙ (ap (λ (l : List Token). and_then (along scope st c.word l) (λ q. along scope q w r)) (sym e)
-        ∙ (ap (λ (u : Resolved TokenScan). and_then u (λ q. along scope q w r)) (c.walks st) ∙ after_after (fault_of (term_of scope st.bindings.seen t.tree)) (λ _. Ok (at c.ends st)) (λ q. along scope q w r)))
+        ∙ (ap (λ (u : Resolved TokenScan). and_then u (λ q. along scope q w r)) (c.walks st) ∙ after_after (fault_of (term_of scope st.bindings.seen t.tree)) (λ _. Ok (with_previous c.ends st)) (λ q. along scope q w r)))
 
     choice_walks : (s : List Token) (t : StmtTree) (o : Fault) (r : List Token) → Derives R choice s t o r → Walks scope s r (count.declared t) (statement_of scope t)
     unfolding choice
@@ -255,8 +255,8 @@ module _ (scope : Scope) where
               word = x ∷ (i.word ++ (a.word ++ b.word));
               parts = e ∙ ap (λ (l : List Token). x ∷ l) (i.parts ∙ (ap (λ (l : List Token). i.word ++ l) behind_it ∙ sym (append_assoc i.word (a.word ++ b.word) r)));
               follows = λ k st ready at_most.
-                  let st1 = at (terminal_of x) st in
-                  let st2 = at i.ends st1 in
+                  let st1 = with_previous (terminal_of x) st in
+                  let st2 = with_previous i.ends st1 in
                   let along_is : along scope st (x ∷ (i.word ++ (a.word ++ b.word))) r ≡ and_then (fault_of (term_of scope st.bindings.seen c.tree)) (λ _. and_then (along scope st2 a.word rest.0) (λ q. along scope q b.word r)) =
                   silent scope x (i.word ++ (a.word ++ b.word)) r st (silent_as terminal.If (terminal_of x) refl is_if)
                   ∙ (past_index m h.0 (a.word ++ b.word) r c i behind_it st1
@@ -287,7 +287,7 @@ module _ (scope : Scope) where
           word = x ∷ q.word;
           parts = mark.0.0 ∙ ap (λ (l : List Token). x ∷ l) q.parts;
           ends = q.ends;
-          walks = λ st. silent scope x q.word r st of_terminal.0 ∙ q.judges (at (terminal_of x) st) of_terminal.1;
+          walks = λ st. silent scope x q.word r st of_terminal.0 ∙ q.judges (with_previous (terminal_of x) st) of_terminal.1;
         })
 
     assign_terminals : (k : Terminal) → is terminal.Assign k ≡ true → (is_silent k ≡ true) × (is_inside (Some k) ≡ true)
@@ -332,10 +332,10 @@ module _ (scope : Scope) where
               word = x ∷ (y ∷ (i.word ++ (j.word ++ b.word)));
               parts = e ∙ ap (λ (l : List Token). x ∷ l) (word.1.0.0 ∙ ap (λ (l : List Token). y ∷ l) (i.parts ∙ (ap (λ (l : List Token). i.word ++ l) behind_lo ∙ sym (append_assoc i.word (j.word ++ b.word) r))));
               follows = λ k st ready at_most.
-                  let st1 = at (terminal_of x) st in
+                  let st1 = with_previous (terminal_of x) st in
                   let st2 = begun scope y st1 in
-                  let st3 = at i.ends st2 in
-                  let st4 = at j.ends st3 in
+                  let st3 = with_previous i.ends st2 in
+                  let st4 = with_previous j.ends st3 in
                   let last_for : st1.previous ≡ Some terminal.For = ap (λ (j : Terminal). Some j) (is_for (terminal_of x) is_for_word) in
                   let along_is : along scope st (x ∷ (y ∷ (i.word ++ (j.word ++ b.word)))) r ≡ and_then (fault_of (term_of scope st.bindings.seen lo.tree)) (λ _. and_then (fault_of (term_of scope st.bindings.seen hi.tree)) (λ _. along scope st4 b.word r)) =
                   silent scope x (y ∷ (i.word ++ (j.word ++ b.word))) r st (silent_as terminal.For (terminal_of x) refl is_for_word)

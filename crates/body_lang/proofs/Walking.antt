@@ -1,4 +1,4 @@
--- Single tokens of statements, as they are judged, and when what is known along the tokens goes with what is known of the tree.
+-- Single tokens of statements, as they are judged, and when the scan of the tokens agrees with the bindings of the tree.
 use Rattle.std.proofs.Common.{◌≡◌, ℕ, Bool, true, false, List, ◌∷◌, ◌++◌, Ok, Err, refl, sym, ap, ◌∙◌, subst, arith}
 use Rattle.std.specs.Prelude.{Option, Some, None, ◌||◌, not}
 use Rattle.std.proofs.lemmas.Bool.Decides.{nat_tests}
@@ -16,7 +16,7 @@ use Rattle.body_names.specs.Meanings.{meaning_of}
 use Rattle.body_names.specs.Expressions.{Resolved, slot_of, written_flow}
 use Rattle.body_names.specs.Bindings.{Bindings, fresh_in}
 use Rattle.body_names.specs.TokenScan.{TokenScan, after_terminal, after_token, named_by, previous_is, begins_here, fault_of, judged, declared, block_left}
-use Rattle.body_lang.proofs.Along.{along, along_append, after_after, at, is_inside, Judges}
+use Rattle.body_lang.proofs.Along.{along, along_append, after_after, with_previous, is_inside, Judges}
 use Rattle.body_lang.proofs.Alike.{Alike}
 
 -- ---- terminals that change what is known
@@ -93,37 +93,37 @@ module _ (scope : Scope) where
   mute : (x : Token) (w r : List Token) (st m : TokenScan) → names Body (terminal_of x) ≡ false → after_token x st ≡ m → along scope st (x ∷ w) r ≡ along scope m w r
   mute x w r st m n e = rw n (ap (λ (q : TokenScan). along scope q w r) e)
 
-  pub silent : (x : Token) (w r : List Token) (st : TokenScan) → is_silent (terminal_of x) ≡ true → along scope st (x ∷ w) r ≡ along scope (at (terminal_of x) st) w r
-  silent x w r st h = mute x w r st (at (terminal_of x) st) (no_name (terminal_of x) h) (ap (at (terminal_of x)) (silent_terminal (terminal_of x) x.text st h))
+  pub silent : (x : Token) (w r : List Token) (st : TokenScan) → is_silent (terminal_of x) ≡ true → along scope st (x ∷ w) r ≡ along scope (with_previous (terminal_of x) st) w r
+  silent x w r st h = mute x w r st (with_previous (terminal_of x) st) (no_name (terminal_of x) h) (ap (with_previous (terminal_of x)) (silent_terminal (terminal_of x) x.text st h))
 
-  pub semicolon : (x : Token) (w r : List Token) (st : TokenScan) → is terminal.Semicolon (terminal_of x) ≡ true → along scope st (x ∷ w) r ≡ along scope (at terminal.Semicolon (declared false st)) w r
+  pub semicolon : (x : Token) (w r : List Token) (st : TokenScan) → is terminal.Semicolon (terminal_of x) ≡ true → along scope st (x ∷ w) r ≡ along scope (with_previous terminal.Semicolon (declared false st)) w r
   semicolon x w r st h =
       let e = is_semicolon (terminal_of x) h in
-      mute x w r st (at terminal.Semicolon (declared false st)) (ap (names Body) e) (ap (λ (k : Terminal). at k (after_terminal k x.text st)) e)
+      mute x w r st (with_previous terminal.Semicolon (declared false st)) (ap (names Body) e) (ap (λ (k : Terminal). with_previous k (after_terminal k x.text st)) e)
 
-  pub left_brace : (x : Token) (w r : List Token) (st : TokenScan) → is terminal.LeftBrace (terminal_of x) ≡ true → along scope st (x ∷ w) r ≡ along scope (at terminal.LeftBrace (after_terminal terminal.LeftBrace x.text st)) w r
+  pub left_brace : (x : Token) (w r : List Token) (st : TokenScan) → is terminal.LeftBrace (terminal_of x) ≡ true → along scope st (x ∷ w) r ≡ along scope (with_previous terminal.LeftBrace (after_terminal terminal.LeftBrace x.text st)) w r
   left_brace x w r st h =
       let e = is_left (terminal_of x) h in
-      mute x w r st (at terminal.LeftBrace (after_terminal terminal.LeftBrace x.text st)) (ap (names Body) e) (ap (λ (k : Terminal). at k (after_terminal k x.text st)) e)
+      mute x w r st (with_previous terminal.LeftBrace (after_terminal terminal.LeftBrace x.text st)) (ap (names Body) e) (ap (λ (k : Terminal). with_previous k (after_terminal k x.text st)) e)
 
-  pub right_brace : (x : Token) (w r : List Token) (st : TokenScan) → is terminal.RightBrace (terminal_of x) ≡ true → along scope st (x ∷ w) r ≡ along scope (at terminal.RightBrace (block_left st)) w r
+  pub right_brace : (x : Token) (w r : List Token) (st : TokenScan) → is terminal.RightBrace (terminal_of x) ≡ true → along scope st (x ∷ w) r ≡ along scope (with_previous terminal.RightBrace (block_left st)) w r
   right_brace x w r st h =
       let e = is_right (terminal_of x) h in
-      mute x w r st (at terminal.RightBrace (block_left st)) (ap (names Body) e) (ap (λ (k : Terminal). at k (after_terminal k x.text st)) e)
+      mute x w r st (with_previous terminal.RightBrace (block_left st)) (ap (names Body) e) (ap (λ (k : Terminal). with_previous k (after_terminal k x.text st)) e)
 
   -- ---- names
 
   -- a declaration has begun
   abbrev pub begun : Token → TokenScan → TokenScan
-  begun x st = at (terminal_of x) (record st { naming = Some x.text })
+  begun x st = with_previous (terminal_of x) (record st { naming = Some x.text })
 
   -- a name is judged, and passed
   a_name : (x : Token) (w r : List Token) (st m : TokenScan) (v : Resolved (Unit {0})) → judged scope st (x ∷ (w ++ r)) ≡ v → after_token x st ≡ m → along scope st (x ∷ w) r ≡ and_then v (λ _. along scope m w r)
   a_name x w r st m v h e =
       ap (λ (u : Resolved (Unit {0})). and_then u (λ _. along scope (after_token x st) w r)) h ∙ ap (λ (q : TokenScan). and_then v (λ _. along scope q w r)) e
 
-  past_name : (x : Token) (st m : TokenScan) → names Body (terminal_of x) ≡ true → named_by x.text st ≡ m → after_token x st ≡ at (terminal_of x) m
-  past_name x st m n e = ap (λ (q : TokenScan). at (terminal_of x) q) (name_terminal (terminal_of x) x.text st n ∙ e)
+  past_name : (x : Token) (st m : TokenScan) → names Body (terminal_of x) ≡ true → named_by x.text st ≡ m → after_token x st ≡ with_previous (terminal_of x) m
+  past_name x st m n e = ap (λ (q : TokenScan). with_previous (terminal_of x) q) (name_terminal (terminal_of x) x.text st n ∙ e)
 
   begins_naming : (x : Token) (st : TokenScan) (k : Terminal) → (previous_is terminal.Int (Some k) || previous_is terminal.For (Some k)) ≡ true → st.previous ≡ Some k → named_by x.text st ≡ record st { naming = Some x.text }
   begins_naming x st k d e = rw (e, d) refl
@@ -138,33 +138,33 @@ module _ (scope : Scope) where
   pub counter_name : (x : Token) (w r : List Token) (st : TokenScan) → names Body (terminal_of x) ≡ true → st.previous ≡ Some terminal.For → along scope st (x ∷ w) r ≡ along scope (begun x st) w r
   counter_name x w r st n e = a_name x w r st (begun x st) no_fault (rw (n, e) refl) (past_name x st (record st { naming = Some x.text }) n (begins_naming x st terminal.For refl e))
 
-  pub trap_name : (x : Token) (w r : List Token) (st : TokenScan) → names Body (terminal_of x) ≡ true → st.previous ≡ Some terminal.Trap → along scope st (x ∷ w) r ≡ along scope (at (terminal_of x) st) w r
-  trap_name x w r st n e = a_name x w r st (at (terminal_of x) st) no_fault (rw (n, e) refl) (past_name x st st n (rw e refl))
+  pub trap_name : (x : Token) (w r : List Token) (st : TokenScan) → names Body (terminal_of x) ≡ true → st.previous ≡ Some terminal.Trap → along scope st (x ∷ w) r ≡ along scope (with_previous (terminal_of x) st) w r
+  trap_name x w r st n e = a_name x w r st (with_previous (terminal_of x) st) no_fault (rw (n, e) refl) (past_name x st st n (rw e refl))
 
   -- where a statement begins
-  first_past : (x : Token) (st : TokenScan) → names Body (terminal_of x) ≡ true → begins_here st.previous ≡ true → after_token x st ≡ at (terminal_of x) st
+  first_past : (x : Token) (st : TokenScan) → names Body (terminal_of x) ≡ true → begins_here st.previous ≡ true → after_token x st ≡ with_previous (terminal_of x) st
   first_past x st n b = let f = begins_apart st.previous b in past_name x st st n (rw (f.0, f.1) refl)
 
   pub assigned_name : (x : Token) (w r : List Token) (st : TokenScan) → names Body (terminal_of x) ≡ true → begins_here st.previous ≡ true → starts (is terminal.LeftBracket) (w ++ r) ≡ false → starts (is terminal.Assign) (w ++ r) ≡ true
-      → along scope st (x ∷ w) r ≡ and_then (fault_of (slot_of (word_of x) (meaning_of scope st.bindings.seen x.text))) (λ _. along scope (at (terminal_of x) st) w r)
+      → along scope st (x ∷ w) r ≡ and_then (fault_of (slot_of (word_of x) (meaning_of scope st.bindings.seen x.text))) (λ _. along scope (with_previous (terminal_of x) st) w r)
   assigned_name x w r st n b no_bracket assign =
       let f = begins_apart st.previous b in
-      a_name x w r st (at (terminal_of x) st) (fault_of (slot_of (word_of x) (meaning_of scope st.bindings.seen x.text))) (rw (n, f.0, f.1, f.2, b, no_bracket, assign) refl) (first_past x st n b)
+      a_name x w r st (with_previous (terminal_of x) st) (fault_of (slot_of (word_of x) (meaning_of scope st.bindings.seen x.text))) (rw (n, f.0, f.1, f.2, b, no_bracket, assign) refl) (first_past x st n b)
 
   pub element_name : (x : Token) (w r : List Token) (st : TokenScan) → names Body (terminal_of x) ≡ true → begins_here st.previous ≡ true → starts (is terminal.LeftBracket) (w ++ r) ≡ true
-      → along scope st (x ∷ w) r ≡ and_then (fault_of (written_flow scope (word_of x))) (λ _. along scope (at (terminal_of x) st) w r)
+      → along scope st (x ∷ w) r ≡ and_then (fault_of (written_flow scope (word_of x))) (λ _. along scope (with_previous (terminal_of x) st) w r)
   element_name x w r st n b bracket =
       let f = begins_apart st.previous b in
-      a_name x w r st (at (terminal_of x) st) (fault_of (written_flow scope (word_of x))) (rw (n, f.0, f.1, f.2, b, bracket) refl) (first_past x st n b)
+      a_name x w r st (with_previous (terminal_of x) st) (fault_of (written_flow scope (word_of x))) (rw (n, f.0, f.1, f.2, b, bracket) refl) (first_past x st n b)
 
   -- ---- expressions
 
   pub expression : (s m w r : List Token) (V : List Variable → Resolved (Unit {0})) (j : Judges scope s m V) → m ≡ w ++ r → (st : TokenScan) → is_inside st.previous ≡ true
-      → along scope st (j.word ++ w) r ≡ and_then (V st.bindings.seen) (λ _. along scope (at j.ends st) w r)
+      → along scope st (j.word ++ w) r ≡ and_then (V st.bindings.seen) (λ _. along scope (with_previous j.ends st) w r)
   expression s m w r V j e st i =
       along_append scope st j.word w r
       ∙ (ap (λ (l : List Token). and_then (along scope st j.word l) (λ q. along scope q w r)) (sym e)
-      ∙ (ap (λ (v : Resolved TokenScan). and_then v (λ q. along scope q w r)) (j.judges st i) ∙ after_after (V st.bindings.seen) (λ _. Ok (at j.ends st)) (λ q. along scope q w r)))
+      ∙ (ap (λ (v : Resolved TokenScan). and_then v (λ q. along scope q w r)) (j.judges st i) ∙ after_after (V st.bindings.seen) (λ _. Ok (with_previous j.ends st)) (λ q. along scope q w r)))
 
 -- ---- what is known of the tree, and along the tokens
 
@@ -173,7 +173,7 @@ pub record Ready (k : Bindings) (st : TokenScan) : Type 0 where
   pub naming : st.naming ≡ None
   pub begins : begins_here st.previous ≡ true
 
--- what was walked goes with what is resolved, with the same blocks open
+-- the scan agrees with the bindings, with the same blocks open
 abbrev pub Follows : {A : Type 0} → List (ℕ × ℕ) → Resolved (A × Bindings) → Resolved TokenScan → Type 0
 Follows around (Ok x) (Ok m) = (m.open_blocks ≡ around) × Ready x.1 m
 Follows around (Ok x) (Err g) = ⊥

@@ -20,12 +20,12 @@ use Rattle.body_names.specs.Meanings.{meaning_of}
 use Rattle.body_names.specs.Expressions.{Resolved, slot_of, written_flow, term_of}
 use Rattle.body_names.specs.Bindings.{Bindings, no_bindings, block_opened, with_variable, room_for, fresh_in, numbered}
 use Rattle.body_names.specs.Statements.{Resolver, declare, set, put, in_block, if_else, for_loop, trap, follow, resolved, body_of}
-use Rattle.body_lang.proofs.VariableCount.{Any}
-use Rattle.body_lang.specs.TrapWords.{words_of, numbers_of, with_word, each_once}
+use Rattle.body_lang.proofs.VariableCount.{Anything}
+use Rattle.body_lang.specs.TrapWords.{words_of, numbers_of, with_word, words_in_order}
 
 -- ---- words in the order of their first use
 
-once_append : (front ws vs : List (List ℕ)) → each_once front (ws ++ vs) ≡ each_once (each_once front ws) vs
+once_append : (front ws vs : List (List ℕ)) → words_in_order front (ws ++ vs) ≡ words_in_order (words_in_order front ws) vs
 once_append front [] vs = refl
 once_append front (w ∷ ws) vs = once_append (with_word front w (position (λ (v : List ℕ). bytes_eq v w) front)) ws vs
 
@@ -38,7 +38,7 @@ one_longer : (front : List (List ℕ)) (w : List ℕ) (o : Option ℕ) → Longe
 one_longer front w None = record { more = w ∷ []; is = refl }
 one_longer front w (Some n) = record { more = []; is = sym (append-nil front) }
 
-once_longer : (front ws : List (List ℕ)) → Longer front (each_once front ws)
+once_longer : (front ws : List (List ℕ)) → Longer front (words_in_order front ws)
 once_longer front [] = record { more = []; is = sym (append-nil front) }
 once_longer front (w ∷ ws) =
     let next = with_word front w (position (λ (v : List ℕ). bytes_eq v w) front) in
@@ -54,19 +54,19 @@ looked_up words ns = map (λ (n : ℕ). slice_get words n) ns
 abbrev each_some : List (List ℕ) → List (Option (List ℕ))
 each_some ws = map (λ (w : List ℕ). Some w) ws
 
--- from k to m traps of these words came, with these numbers
-record Told (k m : Bindings) (ws : List (List ℕ)) (ns : List ℕ) : Type 0 where
-  words : m.words ≡ each_once k.words ws
+-- from k to m there are traps of these words, with these numbers
+record HasTraps (k m : Bindings) (ws : List (List ℕ)) (ns : List ℕ) : Type 0 where
+  words : m.words ≡ words_in_order k.words ws
   own : (more : List (List ℕ)) → looked_up (m.words ++ more) ns ≡ each_some ws
 
-none_told : (k m : Bindings) → m.words ≡ k.words → Told k m [] []
-none_told k m e = record { words = e; own = λ more. refl }
+no_traps : (k m : Bindings) → m.words ≡ k.words → HasTraps k m [] []
+no_traps k m e = record { words = e; own = λ more. refl }
 
-both_told : (k m q : Bindings) (ws vs : List (List ℕ)) (ns ms : List ℕ) → Told k m ws ns → Told m q vs ms → Told k q (ws ++ vs) (ns ++ ms)
-both_told k m q ws vs ns ms a b =
+traps_of_both : (k m q : Bindings) (ws vs : List (List ℕ)) (ns ms : List ℕ) → HasTraps k m ws ns → HasTraps m q vs ms → HasTraps k q (ws ++ vs) (ns ++ ms)
+traps_of_both k m q ws vs ns ms a b =
     let l = once_longer m.words vs in
     record {
-      words = b.words ∙ (ap (λ (f : List (List ℕ)). each_once f vs) a.words ∙ sym (once_append k.words ws vs));
+      words = b.words ∙ (ap (λ (f : List (List ℕ)). words_in_order f vs) a.words ∙ sym (once_append k.words ws vs));
       own = λ more.
           map-append (λ (n : ℕ). slice_get (q.words ++ more) n) ns ms
           ∙ (ap (λ (l : List (Option (List ℕ))). l ++ looked_up (q.words ++ more) ms)
@@ -76,22 +76,22 @@ both_told k m q ws vs ns ms a b =
 
 -- ---- statements
 
--- where there is a value, it is so
-abbrev Good : {A : Type 0} → (A → Type 0) → Resolved A → Type 0
-Good P (Ok x) = P x
-Good P (Err f) = Unit {0}
+-- a value satisfies P
+abbrev IfValue : {A : Type 0} → (A → Type 0) → Resolved A → Type 0
+IfValue P (Ok x) = P x
+IfValue P (Err f) = Unit {0}
 
-after_good : {A B : Type 0} (P : A → Type 0) (Q : B → Type 0) (r : Resolved A) (f : A → Resolved B) → Good P r → ((x : A) → P x → Good Q (f x)) → Good Q (and_then r f)
-after_good P Q (Ok x) f h k = k x h
-after_good P Q (Err e) f h k = tt
+after_if_value : {A B : Type 0} (P : A → Type 0) (Q : B → Type 0) (r : Resolved A) (f : A → Resolved B) → IfValue P r → ((x : A) → P x → IfValue Q (f x)) → IfValue Q (and_then r f)
+after_if_value P Q (Ok x) f h k = k x h
+after_if_value P Q (Err e) f h k = tt
 
-any_good : {A : Type 0} (r : Resolved A) → Good (Any {A = A}) r
-any_good (Ok x) = tt
-any_good (Err e) = tt
+any_if_value : {A : Type 0} (r : Resolved A) → IfValue (Anything {A = A}) r
+any_if_value (Ok x) = tt
+any_if_value (Err e) = tt
 
 -- a first step that says nothing of words
-past : {A B : Type 0} (Q : B → Type 0) (r : Resolved A) (f : A → Resolved B) → ((x : A) → Good Q (f x)) → Good Q (and_then r f)
-past Q r f k = after_good Any Q r f (any_good r) (λ x _. k x)
+past : {A B : Type 0} (Q : B → Type 0) (r : Resolved A) (f : A → Resolved B) → ((x : A) → IfValue Q (f x)) → IfValue Q (and_then r f)
+past Q r f k = after_if_value Anything Q r f (any_if_value r) (λ x _. k x)
 
 -- the numbers of the traps of one statement
 abbrev numbers_in : Stmt → List ℕ
@@ -108,18 +108,18 @@ numbers_then (stmt.If c first second) rest = refl
 numbers_then (stmt.For n lo hi turn) rest = refl
 numbers_then (stmt.Trap n) rest = refl
 
-abbrev ToldOf : Bindings → List (List ℕ) → Stmt × Bindings → Type 0
-ToldOf k ws x = Told k x.1 ws (numbers_in x.0)
+abbrev HasTrapsOfOne : Bindings → List (List ℕ) → Stmt × Bindings → Type 0
+HasTrapsOfOne k ws x = HasTraps k x.1 ws (numbers_in x.0)
 
-abbrev ToldAll : Bindings → List (List ℕ) → StatementList × Bindings → Type 0
-ToldAll k ws x = Told k x.1 ws (numbers_of x.0)
+abbrev HasTrapsOfAll : Bindings → List (List ℕ) → StatementList × Bindings → Type 0
+HasTrapsOfAll k ws x = HasTraps k x.1 ws (numbers_of x.0)
 
-abbrev Tells : Resolver → List (List ℕ) → Type 0
-Tells block ws = (k : Bindings) → Good (ToldAll k ws) (block k)
+abbrev GivesTraps : Resolver → List (List ℕ) → Type 0
+GivesTraps block ws = (k : Bindings) → IfValue (HasTrapsOfAll k ws) (block k)
 
 -- the words of a trap after which this is known
-stop_told_by : (text : List ℕ) (k : Bindings) (o : Option ℕ) → position (λ (v : List ℕ). bytes_eq v text) k.words ≡ o → Told k (numbered text k o).1 (text ∷ []) ((numbered text k o).0 ∷ [])
-stop_told_by text k None e =
+traps_of_trap_by : (text : List ℕ) (k : Bindings) (o : Option ℕ) → position (λ (v : List ℕ). bytes_eq v text) k.words ≡ o → HasTraps k (numbered text k o).1 (text ∷ []) ((numbered text k o).0 ∷ [])
+traps_of_trap_by text k None e =
     record {
       words = sym (ap (with_word k.words text) e);
       own = λ more. ap (λ (x : Option (List ℕ)). x ∷ []) (ap (λ (l : List (List ℕ)). slice_get l (length k.words)) (append_assoc k.words (text ∷ []) more) ∙ at_end k.words more);
@@ -128,7 +128,7 @@ stop_told_by text k None e =
     at_end : (xs more : List (List ℕ)) → slice_get (xs ++ text ∷ more) (length xs) ≡ Some text
     at_end [] more = refl
     at_end (x ∷ xs) more = at_end xs more
-stop_told_by text k (Some n) e =
+traps_of_trap_by text k (Some n) e =
     let found = position-Some (λ (v : List ℕ). bytes_eq v text) k.words n [] e in
     let same : get_or k.words n [] ≡ text = (bytes_decides (get_or k.words n []) text).0 found.1 in
     let there : slice_get k.words n ≡ Some text = slice_get-get_or k.words n [] found.0 ∙ ap (λ (w : List ℕ). Some w) same in
@@ -143,71 +143,71 @@ stop_told_by text k (Some n) e =
     at_front (x ∷ xs) more (suc n) h = at_front xs more n h
 
 module _ (scope : Scope) where
-  declare_told : (w : Word) (e : Expression) (k : Bindings) → Good (ToldOf k []) (declare scope w e k)
-  declare_told w e k =
-      past (ToldOf k []) (room_for w k) _ (λ _. past (ToldOf k []) (fresh_in w k) _ (λ _. past (ToldOf k []) (term_of scope k.seen e) _ (λ x. none_told k _ refl)))
+  traps_of_declare : (w : Word) (e : Expression) (k : Bindings) → IfValue (HasTrapsOfOne k []) (declare scope w e k)
+  traps_of_declare w e k =
+      past (HasTrapsOfOne k []) (room_for w k) _ (λ _. past (HasTrapsOfOne k []) (fresh_in w k) _ (λ _. past (HasTrapsOfOne k []) (term_of scope k.seen e) _ (λ x. no_traps k _ refl)))
 
-  set_told : (w : Word) (e : Expression) (k : Bindings) → Good (ToldOf k []) (set scope w e k)
-  set_told w e k = past (ToldOf k []) (slot_of w (meaning_of scope k.seen w.text)) _ (λ n. past (ToldOf k []) (term_of scope k.seen e) _ (λ x. none_told k _ refl))
+  traps_of_set : (w : Word) (e : Expression) (k : Bindings) → IfValue (HasTrapsOfOne k []) (set scope w e k)
+  traps_of_set w e k = past (HasTrapsOfOne k []) (slot_of w (meaning_of scope k.seen w.text)) _ (λ n. past (HasTrapsOfOne k []) (term_of scope k.seen e) _ (λ x. no_traps k _ refl))
 
-  put_told : (w : Word) (i e : Expression) (k : Bindings) → Good (ToldOf k []) (put scope w i e k)
-  put_told w i e k =
-      past (ToldOf k []) (written_flow scope w) _ (λ flow. past (ToldOf k []) (term_of scope k.seen i) _ (λ x. past (ToldOf k []) (term_of scope k.seen e) _ (λ y. none_told k _ refl)))
+  traps_of_put : (w : Word) (i e : Expression) (k : Bindings) → IfValue (HasTrapsOfOne k []) (put scope w i e k)
+  traps_of_put w i e k =
+      past (HasTrapsOfOne k []) (written_flow scope w) _ (λ flow. past (HasTrapsOfOne k []) (term_of scope k.seen i) _ (λ x. past (HasTrapsOfOne k []) (term_of scope k.seen e) _ (λ y. no_traps k _ refl)))
 
-  inside_told : (opening : Bindings → Bindings) (block : Resolver) (ws : List (List ℕ)) → Tells block ws → (k : Bindings) → (opening k).words ≡ k.words → Good (ToldAll k ws) (in_block opening block k)
-  inside_told opening block ws h k e =
-      after_good (ToldAll (opening k) ws) (ToldAll k ws) (block (opening k)) _ (h (opening k)) (λ x t. record { words = t.words ∙ ap (λ (f : List (List ℕ)). each_once f ws) e; own = t.own })
+  traps_inside : (opening : Bindings → Bindings) (block : Resolver) (ws : List (List ℕ)) → GivesTraps block ws → (k : Bindings) → (opening k).words ≡ k.words → IfValue (HasTrapsOfAll k ws) (in_block opening block k)
+  traps_inside opening block ws h k e =
+      after_if_value (HasTrapsOfAll (opening k) ws) (HasTrapsOfAll k ws) (block (opening k)) _ (h (opening k)) (λ x t. record { words = t.words ∙ ap (λ (f : List (List ℕ)). words_in_order f ws) e; own = t.own })
 
-  choice_told : (c : Expression) (first second : Resolver) (ws vs : List (List ℕ)) → Tells first ws → Tells second vs → (k : Bindings) → Good (ToldOf k (ws ++ vs)) (if_else scope c first second k)
-  choice_told c first second ws vs one two k =
-      past (ToldOf k (ws ++ vs)) (term_of scope k.seen c) _
-      (λ x. after_good (ToldAll k ws) (ToldOf k (ws ++ vs)) (in_block block_opened first k) _ (inside_told block_opened first ws one k refl)
-      (λ a s. after_good (ToldAll a.1 vs) (ToldOf k (ws ++ vs)) (in_block block_opened second a.1) _ (inside_told block_opened second vs two a.1 refl)
-      (λ b t. both_told k a.1 b.1 ws vs (numbers_of a.0) (numbers_of b.0) s t)))
+  traps_of_choice : (c : Expression) (first second : Resolver) (ws vs : List (List ℕ)) → GivesTraps first ws → GivesTraps second vs → (k : Bindings) → IfValue (HasTrapsOfOne k (ws ++ vs)) (if_else scope c first second k)
+  traps_of_choice c first second ws vs one two k =
+      past (HasTrapsOfOne k (ws ++ vs)) (term_of scope k.seen c) _
+      (λ x. after_if_value (HasTrapsOfAll k ws) (HasTrapsOfOne k (ws ++ vs)) (in_block block_opened first k) _ (traps_inside block_opened first ws one k refl)
+      (λ a s. after_if_value (HasTrapsOfAll a.1 vs) (HasTrapsOfOne k (ws ++ vs)) (in_block block_opened second a.1) _ (traps_inside block_opened second vs two a.1 refl)
+      (λ b t. traps_of_both k a.1 b.1 ws vs (numbers_of a.0) (numbers_of b.0) s t)))
 
-  counted_told : (w : Word) (lo hi : Expression) (turn : Resolver) (ws : List (List ℕ)) → Tells turn ws → (k : Bindings) → Good (ToldOf k ws) (for_loop scope w lo hi turn k)
-  counted_told w lo hi turn ws h k =
-      past (ToldOf k ws) (room_for w k) _
-      (λ _. past (ToldOf k ws) (term_of scope k.seen lo) _
-      (λ x. past (ToldOf k ws) (term_of scope k.seen hi) _
-      (λ y. after_good (ToldAll k ws) (ToldOf k ws) (in_block (λ m. with_variable scope w.text true (block_opened m)) turn k) _ (inside_told (λ m. with_variable scope w.text true (block_opened m)) turn ws h k refl) (λ t s. s))))
+  traps_of_loop : (w : Word) (lo hi : Expression) (turn : Resolver) (ws : List (List ℕ)) → GivesTraps turn ws → (k : Bindings) → IfValue (HasTrapsOfOne k ws) (for_loop scope w lo hi turn k)
+  traps_of_loop w lo hi turn ws h k =
+      past (HasTrapsOfOne k ws) (room_for w k) _
+      (λ _. past (HasTrapsOfOne k ws) (term_of scope k.seen lo) _
+      (λ x. past (HasTrapsOfOne k ws) (term_of scope k.seen hi) _
+      (λ y. after_if_value (HasTrapsOfAll k ws) (HasTrapsOfOne k ws) (in_block (λ m. with_variable scope w.text true (block_opened m)) turn k) _ (traps_inside (λ m. with_variable scope w.text true (block_opened m)) turn ws h k refl) (λ t s. s))))
 
-  stop_told : (w : Word) (k : Bindings) → Good (ToldOf k (w.text ∷ [])) (trap w k)
-  stop_told w k = stop_told_by w.text k (position (λ (v : List ℕ). bytes_eq v w.text) k.words) refl
+  traps_of_trap : (w : Word) (k : Bindings) → IfValue (HasTrapsOfOne k (w.text ∷ [])) (trap w k)
+  traps_of_trap w k = traps_of_trap_by w.text k (position (λ (v : List ℕ). bytes_eq v w.text) k.words) refl
 
-  follow_told : (k : Bindings) (ws vs : List (List ℕ)) (first : Resolved (Stmt × Bindings)) (rest : Resolver) → Good (ToldOf k ws) first → Tells rest vs → Good (ToldAll k (ws ++ vs)) (follow first rest)
-  follow_told k ws vs first rest one more =
-      after_good (ToldOf k ws) (ToldAll k (ws ++ vs)) first _ one
-      (λ x s. after_good (ToldAll x.1 vs) (ToldAll k (ws ++ vs)) (rest x.1) _ (more x.1)
-      (λ y t. subst (λ (ns : List ℕ). Told k y.1 (ws ++ vs) ns) (sym (numbers_then x.0 y.0)) (both_told k x.1 y.1 ws vs (numbers_in x.0) (numbers_of y.0) s t)))
+  traps_of_follow : (k : Bindings) (ws vs : List (List ℕ)) (first : Resolved (Stmt × Bindings)) (rest : Resolver) → IfValue (HasTrapsOfOne k ws) first → GivesTraps rest vs → IfValue (HasTrapsOfAll k (ws ++ vs)) (follow first rest)
+  traps_of_follow k ws vs first rest one more =
+      after_if_value (HasTrapsOfOne k ws) (HasTrapsOfAll k (ws ++ vs)) first _ one
+      (λ x s. after_if_value (HasTrapsOfAll x.1 vs) (HasTrapsOfAll k (ws ++ vs)) (rest x.1) _ (more x.1)
+      (λ y t. subst (λ (ns : List ℕ). HasTraps k y.1 (ws ++ vs) ns) (sym (numbers_then x.0 y.0)) (traps_of_both k x.1 y.1 ws vs (numbers_in x.0) (numbers_of y.0) s t)))
 
-  told : (t : Statements) → Tells (resolved scope t) (words_of t)
-  told Done k = none_told k k refl
-  told (DeclareThen w e rest) k = follow_told k [] (words_of rest) (declare scope w e k) (resolved scope rest) (declare_told w e k) (told rest)
-  told (SetThen w e rest) k = follow_told k [] (words_of rest) (set scope w e k) (resolved scope rest) (set_told w e k) (told rest)
-  told (PutThen w i e rest) k = follow_told k [] (words_of rest) (put scope w i e k) (resolved scope rest) (put_told w i e k) (told rest)
-  told (IfThen c first second rest) k =
-      follow_told k (words_of first ++ words_of second) (words_of rest) (if_else scope c (resolved scope first) (resolved scope second) k) (resolved scope rest)
-      (choice_told c (resolved scope first) (resolved scope second) (words_of first) (words_of second) (told first) (told second) k) (told rest)
-  told (ForThen w lo hi turn rest) k =
-      follow_told k (words_of turn) (words_of rest) (for_loop scope w lo hi (resolved scope turn) k) (resolved scope rest) (counted_told w lo hi (resolved scope turn) (words_of turn) (told turn) k) (told rest)
-  told (TrapThen w rest) k = follow_told k (w.text ∷ []) (words_of rest) (trap w k) (resolved scope rest) (stop_told w k) (told rest)
+  traps_of : (t : Statements) → GivesTraps (resolved scope t) (words_of t)
+  traps_of Done k = no_traps k k refl
+  traps_of (DeclareThen w e rest) k = traps_of_follow k [] (words_of rest) (declare scope w e k) (resolved scope rest) (traps_of_declare w e k) (traps_of rest)
+  traps_of (SetThen w e rest) k = traps_of_follow k [] (words_of rest) (set scope w e k) (resolved scope rest) (traps_of_set w e k) (traps_of rest)
+  traps_of (PutThen w i e rest) k = traps_of_follow k [] (words_of rest) (put scope w i e k) (resolved scope rest) (traps_of_put w i e k) (traps_of rest)
+  traps_of (IfThen c first second rest) k =
+      traps_of_follow k (words_of first ++ words_of second) (words_of rest) (if_else scope c (resolved scope first) (resolved scope second) k) (resolved scope rest)
+      (traps_of_choice c (resolved scope first) (resolved scope second) (words_of first) (words_of second) (traps_of first) (traps_of second) k) (traps_of rest)
+  traps_of (ForThen w lo hi turn rest) k =
+      traps_of_follow k (words_of turn) (words_of rest) (for_loop scope w lo hi (resolved scope turn) k) (resolved scope rest) (traps_of_loop w lo hi (resolved scope turn) (words_of turn) (traps_of turn) k) (traps_of rest)
+  traps_of (TrapThen w rest) k = traps_of_follow k (w.text ∷ []) (words_of rest) (trap w k) (resolved scope rest) (traps_of_trap w k) (traps_of rest)
 
   -- ---- a whole body
 
-  abbrev ToldBody : Statements → Body × List (List ℕ) → Type 0
-  ToldBody t x = (looked_up x.1 (numbers_of x.0.statements) ≡ each_some (words_of t)) × (x.1 ≡ each_once [] (words_of t))
+  abbrev HasTrapsOfBody : Statements → Body × List (List ℕ) → Type 0
+  HasTrapsOfBody t x = (looked_up x.1 (numbers_of x.0.statements) ≡ each_some (words_of t)) × (x.1 ≡ words_in_order [] (words_of t))
 
-  body_told : (t : Statements) → Good (ToldBody t) (body_of scope t)
-  body_told t =
-      after_good (ToldAll no_bindings (words_of t)) (ToldBody t) (resolved scope t no_bindings) _ (told t no_bindings)
+  traps_of_body : (t : Statements) → IfValue (HasTrapsOfBody t) (body_of scope t)
+  traps_of_body t =
+      after_if_value (HasTrapsOfAll no_bindings (words_of t)) (HasTrapsOfBody t) (resolved scope t no_bindings) _ (traps_of t no_bindings)
       (λ x h. (ap (λ (l : List (List ℕ)). looked_up l (numbers_of x.0)) (sym (append-nil x.1.words)) ∙ h.own [], h.words))
 
-  of_body : (t : Statements) (x : Body × List (List ℕ)) → body_of scope t ≡ Ok x → ToldBody t x
-  of_body t x e = subst (λ (r : Resolved (Body × List (List ℕ))). Good (ToldBody t) r) e (body_told t)
+  of_body : (t : Statements) (x : Body × List (List ℕ)) → body_of scope t ≡ Ok x → HasTrapsOfBody t x
+  of_body t x e = subst (λ (r : Resolved (Body × List (List ℕ))). IfValue (HasTrapsOfBody t) r) e (traps_of_body t)
 
   pub own_words : (t : Statements) (x : Body × List (List ℕ)) → body_of scope t ≡ Ok x → map (λ (n : ℕ). slice_get x.1 n) (numbers_of x.0.statements) ≡ map (λ (w : List ℕ). Some w) (words_of t)
   own_words t x e = (of_body t x e).0
 
-  pub words_once : (t : Statements) (x : Body × List (List ℕ)) → body_of scope t ≡ Ok x → x.1 ≡ each_once [] (words_of t)
+  pub words_once : (t : Statements) (x : Body × List (List ℕ)) → body_of scope t ≡ Ok x → x.1 ≡ words_in_order [] (words_of t)
   words_once t x e = (of_body t x e).1

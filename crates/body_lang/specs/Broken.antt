@@ -1,4 +1,4 @@
--- The first fault of a body whose text is broken at the token of an index.
+-- The first fault of a body whose text is broken at the token of an index. The order of faults is this project's own choice.
 use Rattle.std.specs.Prelude.{ℕ, List, Err}
 use Rattle.grammar_core.specs.declared.token.Spot.{Spot}
 use Rattle.grammar_core.specs.declared.token.Token.{Token}

@@ -14,7 +14,7 @@ use Rattle.body_names.specs.Statements.{body_of}
 use Rattle.body_names.specs.TokenScan.{fault_of, front_fault}
 use Rattle.body_lang.specs.Body.{IsBody, IsNameFault, IsBodyFault}
 use Rattle.body_lang.specs.Declarations.{declarations}
-use Rattle.body_lang.specs.TrapWords.{words_of, numbers_of, each_once}
+use Rattle.body_lang.specs.TrapWords.{words_of, numbers_of, words_in_order}
 
 -- Tokens are one body at most.
 abbrev pub OneBody : Type 0
@@ -29,23 +29,23 @@ abbrev pub BodyOrFault : Type 0
 BodyOrFault = (scope : Scope) (tokens : List Token) (finish : Spot) (x : Body × List (List ℕ)) (f : JdfFault) → IsBody scope tokens x → IsBodyFault scope tokens finish f → ⊥
 
 -- A text never declares too many variables where it has no fault, so no name is refused because of their number.
-abbrev pub NoNameTooMany : Type 0
-NoNameTooMany = (scope : Scope) (tokens : List Token) (f : JdfFault) → IsNameFault scope tokens f → f.code ≢ TooManyVars
+abbrev pub NameNeverTooMany : Type 0
+NameNeverTooMany = (scope : Scope) (tokens : List Token) (f : JdfFault) → IsNameFault scope tokens f → f.code ≢ TooManyVars
 
 -- Beside the locals of the class, a body has a slot for each variable that it declares.
 abbrev pub SlotForEach : Type 0
 SlotForEach = (scope : Scope) (tokens : List Token) (x : Body × List (List ℕ)) (h : IsBody scope tokens x) → x.0.slots ≡ length scope.locals + declarations h.tree
 
 -- In a text without a fault the names have the same first fault, or none, by the tokens beside them and by the tree.
-abbrev pub NamesAgree : Type 0
-NamesAgree = (scope : Scope) (tokens : List Token) (tree : Statements) → IsText productions body tokens tree None → front_fault scope tokens (length tokens) ≡ fault_of (body_of scope tree)
+abbrev pub TokensAgreeWithTree : Type 0
+TokensAgreeWithTree = (scope : Scope) (tokens : List Token) (tree : Statements) → IsText productions body tokens tree None → front_fault scope tokens (length tokens) ≡ fault_of (body_of scope tree)
 
 -- The names at the front of such a text have no fault, or that of the tree.
-abbrev pub FrontsAgree : Type 0
-FrontsAgree = (scope : Scope) (tokens : List Token) (tree : Statements) (n : ℕ) → IsText productions body tokens tree None
+abbrev pub FrontsAgreeWithTree : Type 0
+FrontsAgreeWithTree = (scope : Scope) (tokens : List Token) (tree : Statements) (n : ℕ) → IsText productions body tokens tree None
     → (front_fault scope tokens n ≡ Ok tt) ⊎ (front_fault scope tokens n ≡ fault_of (body_of scope tree))
 
--- Behind the names at the front of any tokens only the next token matters.
+-- Of the tokens after a front, only the next one changes how the names in the front are judged.
 abbrev pub OnlyTheNextCounts : Type 0
 OnlyTheNextCounts = (scope : Scope) (front rest other : List Token) (n : ℕ) → n < length front → front_fault scope (front ++ rest) n ≡ front_fault scope (front ++ other) n
 
@@ -56,4 +56,4 @@ OwnWords = (scope : Scope) (tokens : List Token) (x : Body × List (List ℕ)) (
 
 -- The trap words of a body are those of its text, each once, in the order of their first use.
 abbrev pub WordsOnce : Type 0
-WordsOnce = (scope : Scope) (tokens : List Token) (x : Body × List (List ℕ)) (h : IsBody scope tokens x) → x.1 ≡ each_once [] (words_of h.tree)
+WordsOnce = (scope : Scope) (tokens : List Token) (x : Body × List (List ℕ)) (h : IsBody scope tokens x) → x.1 ≡ words_in_order [] (words_of h.tree)

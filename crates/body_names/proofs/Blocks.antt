@@ -7,7 +7,7 @@ use Rattle.term_core.specs.declared.body.Stmt.{Stmt}
 use Rattle.term_core.specs.BlockStatementList.{statement_list}
 use Rattle.term_core.specs.BlockStatementList as block
 use Rattle.term_core.specs.StatementList.{StatementList}
-use Rattle.term_core.specs.StatementList as steps
+use Rattle.term_core.specs.StatementList as list
 use Rattle.term_core.specs.Value.{and_then}
 use Rattle.jdf_tree.specs.declared.body.StmtTree.{StmtTree}
 use Rattle.jdf_tree.specs.declared.body.StmtTree.TheVariants as tree
@@ -29,7 +29,7 @@ onto_one : (ss : List Stmt) (s : Stmt) (rest : StatementList) → steps_onto (ss
 onto_one [] s rest = refl
 onto_one (x ∷ ss) s rest = ap (block.then x) (onto_one ss s rest)
 
-onto_done : (ss : List Stmt) → steps_onto ss steps.Done ≡ statement_list ss
+onto_done : (ss : List Stmt) → steps_onto ss list.Done ≡ statement_list ss
 onto_done [] = refl
 onto_done (x ∷ ss) = ap (block.then x) (onto_done ss)
 
@@ -96,7 +96,7 @@ ends scope ss i front k total all before =
 
 -- ---- how many statements there are
 
--- how many stand in a statement, itself included
+-- how many statements a statement has, itself included
 abbrev pub count_of : StmtTree → ℕ
 count_of s = count_of_statements (then s Done)
 

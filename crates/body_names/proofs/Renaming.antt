@@ -1,4 +1,4 @@
--- A body under another name of one variable: what is seen under both names goes along, and the statements are the same.
+-- A body under another name of one variable: what is seen under both names agrees, and the statements are the same.
 use Rattle.std.proofs.Common.{◌≡◌, ℕ, zero, suc, ◌+◌, Bool, true, false, cond, List, [], ◌∷◌, ◌++◌, length, take, drop, Result, Ok, Err, refl, sym, ap, ◌∙◌, subst, append_assoc, append-nil, length-append}
 use Rattle.std.specs.Prelude.{◌||◌, Option, Some, None, find, reverse}
 use Rattle.std.specs.Str.{bytes_eq}
@@ -11,7 +11,7 @@ use Rattle.term_core.specs.declared.body.Stmt.{Stmt}
 use Rattle.term_core.specs.declared.body.Stmt.TheVariants as stmt
 use Rattle.term_core.specs.BlockStatementList.{then}
 use Rattle.term_core.specs.StatementList.{StatementList}
-use Rattle.term_core.specs.StatementList as steps
+use Rattle.term_core.specs.StatementList as list
 use Rattle.term_core.specs.Term.{Term}
 use Rattle.term_core.specs.Term as term
 use Rattle.term_core.specs.Value.{and_then}
@@ -242,7 +242,7 @@ module _ (scope : Scope) (old new : List ℕ) (pre : List Variable) (v : Variabl
           ∙ (ap (λ (r : Resolved Term). and_then (term_of scope (under_old post) c) (λ x. and_then r (λ y. and_then (term_of scope (under_new post) (with_words (changed h) b)) (λ z. Ok (term.Choose x y z))))) (term_same a (first_false (reads new a) (reads new b) more))
           ∙ ap (λ (r : Resolved Term). and_then (term_of scope (under_old post) c) (λ x. and_then (term_of scope (under_old post) a) (λ y. and_then r (λ z. Ok (term.Choose x y z))))) (term_same b (second_false (reads new a) (reads new b) more)))
 
-  -- ---- what goes along
+  -- ---- what agrees under both names
 
   -- the same, with this list as the variables that are seen
   abbrev seeing : Bindings → List Variable → Bindings
@@ -310,7 +310,7 @@ module _ (scope : Scope) (old new : List ℕ) (pre : List Variable) (v : Variabl
     abbrev e_new : Expression → Expression
     e_new e = with_words (changed h) e
 
-    -- a statement goes along, and after it the variable is hidden or not
+    -- a statement agrees under both names, and after it the variable is hidden or not
     abbrev One : Bool → Stmt × Bindings → Resolved (Stmt × Bindings) → Type 0
     One f y r = (a : Along post y r) × (has old (post ++ a.more) ≡ f)
 
@@ -511,8 +511,8 @@ module _ (scope : Scope) (old new : List ℕ) (pre : List Variable) (v : Variabl
 
   goes : (t : Statements) → occurs new t ≡ false → Goes (resolved scope t) (λ h. resolved scope (chosen h t))
   goes Done apart h post hidden no_new k x is =
-      subst (λ (y : StatementList × Bindings). Along post y (resolved scope (chosen h Done) (new_of post k))) (pair_is (steps.Done, old_of post k) x is)
-      (stays post steps.Done k (resolved scope (chosen h Done) (new_of post k)) no_new (ap (λ (t : Statements). resolved scope t (new_of post k)) (done_chosen h)))
+      subst (λ (y : StatementList × Bindings). Along post y (resolved scope (chosen h Done) (new_of post k))) (pair_is (list.Done, old_of post k) x is)
+      (stays post list.Done k (resolved scope (chosen h Done) (new_of post k)) no_new (ap (λ (t : Statements). resolved scope t (new_of post k)) (done_chosen h)))
   goes (DeclareThen w e rest) apart h post hidden no_new k x is =
       let aw = first_false (bytes_eq w.text new) (reads new e || occurs new rest) apart in
       let more = second_false (bytes_eq w.text new) (reads new e || occurs new rest) apart in

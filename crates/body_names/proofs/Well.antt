@@ -69,7 +69,7 @@ module _ (scope : Scope) (end : ℕ) (room : length scope.locals ≤ end) where
         (local_there (local_named scope name) (integer_or (integer_named scope name) (collection_or_nothing (has_collection scope name)))
         (λ n e. place_below (λ (text : List ℕ). bytes_eq text name) scope.locals n e) (global_there (integer_named scope name) (has_collection scope name)))
 
-    -- what a name stands for is closed
+    -- the meaning of a name is closed
     value_closed : (w : Word) (m : Meaning) (t : Term) → IsThere m → value_of w m ≡ Ok t → is_closed_with end (length scope.flows) t ≡ true
     value_closed w (meaning.Variable n) t h e = rw (← (value_is (term.Local n) t e)) (lt-ltb n end h.1)
     value_closed w (meaning.LoopVariable n) t h e = rw (← (value_is (term.Local n) t e)) (lt-ltb n end h.1)

@@ -9,7 +9,7 @@ use Rattle.term_core.specs.declared.body.Stmt.{Stmt}
 use Rattle.term_core.specs.declared.body.Stmt.TheVariants as stmt
 use Rattle.term_core.specs.BlockStatementList.{then}
 use Rattle.term_core.specs.StatementList.{StatementList}
-use Rattle.term_core.specs.StatementList as steps
+use Rattle.term_core.specs.StatementList as list
 use Rattle.term_core.specs.Term.{Term}
 use Rattle.term_core.specs.Value.{and_then, is_closed_with}
 use Rattle.term_core.specs.WellBody.{is_variable, are_well_made, IsWellBody}
@@ -213,7 +213,7 @@ module _ (scope : Scope) where
 
   block_well : (statements : Statements) → IsBlock (resolved scope statements)
   block_well Done k sound x h =
-      subst (λ (y : StatementList × Bindings). Keeps k y.1 (λ end. are_well_made (length scope.locals) end (length scope.flows) y.0)) (pair_is (steps.Done, k) x h) (record { rises = omega arith; sound = sound; well = λ end le. refl })
+      subst (λ (y : StatementList × Bindings). Keeps k y.1 (λ end. are_well_made (length scope.locals) end (length scope.flows) y.0)) (pair_is (list.Done, k) x h) (record { rises = omega arith; sound = sound; well = λ end le. refl })
   block_well (DeclareThen w e rest) k sound x h = follow_well k (declare scope w e k) (resolved scope rest) (declare_well w e k sound) (block_well rest) x h
   block_well (SetThen w e rest) k sound x h = follow_well k (set scope w e k) (resolved scope rest) (set_well w e k sound) (block_well rest) x h
   block_well (PutThen w at e rest) k sound x h = follow_well k (put scope w at e k) (resolved scope rest) (put_well w at e k sound) (block_well rest) x h

@@ -1,4 +1,5 @@
 -- What names are bound to between two tokens of a body: which variables are seen, and what has been numbered so far.
+-- Source: this project's own choice.
 use Rattle.std.specs.Prelude.{ℕ, ◌+◌, Bool, List, [], ◌∷◌, ◌++◌, length, take, drop, Option, Some, None, position, if◌then◌else◌, nat_lt, Ok}
 use Rattle.std.specs.Str.{bytes_eq}
 use Rattle.name_table.specs.Names.{index_named}

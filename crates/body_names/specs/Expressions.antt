@@ -1,4 +1,4 @@
--- The expressions of a body with their names resolved, or the first name in the text's order that has a fault.
+-- The expressions of a body with their names resolved, or the first name in the text's order that has a fault. Source: this project's own choice.
 use Rattle.std.specs.Prelude.{ℕ, List, Option, Some, None, Result, Ok, Err, slice_get}
 use Rattle.jdf_lex.specs.declared.fault.JdfCode.{JdfCode}
 use Rattle.jdf_lex.specs.declared.fault.JdfCode.TheVariants.{UnknownName, WrongKind, CtlMixed, ReadAssigned, NotAssignable}

@@ -12,17 +12,17 @@ use Rattle.body_names.specs.declared.scope.FlowName.{FlowName}
 abbrev pub last_named : List Variable → List ℕ → Option Variable
 last_named seen name = find (λ (v : Variable). bytes_eq v.name name) (reverse seen)
 
--- a variable, or what else is meant
+-- a variable, or else the other meaning
 abbrev pub variable_or : Option Variable → Meaning → Meaning
 variable_or None other = other
 variable_or (Some v) other = if v.is_loop_variable then meaning.LoopVariable v.slot else meaning.Variable v.slot
 
--- a definition of the class, or what else is meant
+-- a definition of the class, or else the other meaning
 abbrev pub local_or : Option ℕ → Meaning → Meaning
 local_or None other = other
 local_or (Some n) other = meaning.Local n
 
--- an integer, or what else is meant
+-- an integer, or else the other meaning
 abbrev pub integer_or : Option ℤ → Meaning → Meaning
 integer_or None other = other
 integer_or (Some z) other = meaning.Integer z

@@ -1,4 +1,5 @@
--- Another name for one variable of a body. That hiding goes by blocks is this project's own choice, as in most languages with blocks.
+-- Another name for one variable of a body. That hiding ends with the block is this project's own choice, as in
+-- most languages with blocks.
 use Rattle.std.specs.Prelude.{◌≡◌, ℕ, Bool, false, ◌||◌, List, ◌∷◌, ◌++◌, if◌then◌else◌, Ok}
 use Rattle.std.specs.Str.{bytes_eq}
 use Rattle.std.specs.List.{list_any}

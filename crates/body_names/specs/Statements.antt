@@ -1,4 +1,4 @@
--- The statements of a body with their names resolved, or the first name in the text's order that has a fault.
+-- The statements of a body with their names resolved, or the first name in the text's order that has a fault. Source: this project's own choice.
 use Rattle.std.specs.Prelude.{ℕ, ◌+◌, true, false, List, length, Result, Ok}
 use Rattle.jdf_lex.specs.declared.fault.JdfFault.{JdfFault}
 use Rattle.term_core.specs.declared.body.Body.{Body}
@@ -6,7 +6,7 @@ use Rattle.term_core.specs.declared.body.Stmt.{Stmt}
 use Rattle.term_core.specs.declared.body.Stmt.TheVariants as stmt
 use Rattle.term_core.specs.BlockStatementList.{then}
 use Rattle.term_core.specs.StatementList.{StatementList}
-use Rattle.term_core.specs.StatementList as steps
+use Rattle.term_core.specs.StatementList as list
 use Rattle.term_core.specs.Value.{and_then}
 use Rattle.jdf_tree.specs.declared.expression.Word.{Word}
 use Rattle.jdf_tree.specs.declared.body.StmtTree.{StmtTree}
@@ -62,7 +62,7 @@ follow first rest = and_then first (λ x. and_then (rest x.1) (λ y. Ok (then x.
 
 -- statements in order
 abbrev pub resolved : Scope → Statements → Resolver
-resolved scope Done k = Ok (steps.Done, k)
+resolved scope Done k = Ok (list.Done, k)
 resolved scope (DeclareThen w e rest) k = follow (declare scope w e k) (resolved scope rest)
 resolved scope (SetThen w e rest) k = follow (set scope w e k) (resolved scope rest)
 resolved scope (PutThen w at e rest) k = follow (put scope w at e k) (resolved scope rest)

@@ -1,4 +1,5 @@
 -- The names at the front of a body that is broken further on. Such a body has no tree, so each name is judged by the tokens beside it.
+-- Source: this project's own choice.
 use Rattle.std.specs.Prelude.{ℕ, suc, zero, ◌-◌, Bool, true, false, ◌||◌, List, [], ◌∷◌, ◌++◌, length, take, Option, Some, None, Ok, if◌then◌else◌, slice_get}
 use Rattle.grammar_core.specs.declared.token.Token.{Token}
 use Rattle.jdf_alphabet.specs.declared.terminal.Terminal.{Terminal}
@@ -92,9 +93,9 @@ begins_here (Some k) = is terminal.Semicolon k || is terminal.LeftBrace k || is 
 abbrev pub role_of : Option Terminal → List Token → Role
 role_of last s =
     if previous_is terminal.Int last then role.Declared
-    else (if previous_is terminal.For last || previous_is terminal.Trap last then role.Free
+    else (if previous_is terminal.For last || previous_is terminal.Trap last then role.NotLookedUp
     else (if begins_here last
-    then (if starts (is terminal.LeftBracket) s then role.ElementAssigned else (if starts (is terminal.Assign) s then role.Assigned else role.Free))
+    then (if starts (is terminal.LeftBracket) s then role.ElementAssigned else (if starts (is terminal.Assign) s then role.Assigned else role.NotLookedUp))
     else (if starts (is terminal.LeftBracket) s then role.Element else role.Value)))
 
 -- a fault, if there is one
@@ -103,7 +104,7 @@ fault_of r = and_then r (λ _. Ok tt)
 
 abbrev pub judged_as : Role → Scope → Bindings → Word → Resolved (Unit {0})
 judged_as role.Declared scope k w = fresh_in w k
-judged_as role.Free scope k w = Ok tt
+judged_as role.NotLookedUp scope k w = Ok tt
 judged_as role.Assigned scope k w = fault_of (slot_of w (meaning_of scope k.seen w.text))
 judged_as role.ElementAssigned scope k w = fault_of (written_flow scope w)
 judged_as role.Element scope k w = fault_of (read_flow scope w)

@@ -32,7 +32,7 @@ fn judge_as(
     let seen = bindings.seen.as_slice();
     match role {
         Role::Declared => fresh_in(word, bindings)?,
-        Role::Free => {}
+        Role::NotLookedUp => {}
         Role::Assigned => {
             let _slot = slot_of(scope, seen, word)?;
         }

@@ -8,7 +8,7 @@ use crate::scope::Scope;
 use crate::variable::Variable;
 use ptg_base::Text;
 
-// The variable of this name that was declared last. It goes as deep as there are variables, at most 256.
+// The variable of this name that was declared last. It recurses as deep as there are variables, at most 256.
 #[tactic(auto, using(crate::proofs::Last::last_is, crate::proofs::Last::last_is_before))]
 fn last_named<'a>(seen: &'a [Variable], name: &[u8]) -> Option<&'a Variable>
     ensures { MatchOption result (last_named seen.now name.now ≡ None) (λ v. last_named seen.now name.now ≡ Some v.now) }

@@ -11,13 +11,15 @@ use jdf_lex::Token;
 pub enum Role {
     /// It names a variable that `int` declares.
     Declared,
-    /// It is not looked up: a loop's variable, a trap word, or a statement's first name while its role is open.
-    Free,
+    /// It is not looked up: a loop's variable, a trap word, or the name that begins a statement, where neither `=` nor `[` follows.
+    NotLookedUp,
+    /// A variable is assigned.
     Assigned,
     /// An element of the flow is assigned.
     ElementAssigned,
     /// An element of the flow is read.
     Element,
+    /// It means a number.
     Value,
 }
 
@@ -50,7 +52,7 @@ pub(crate) fn role_of(last: Option<Terminal>, rest: &[Token]) -> Role
         return Role::Declared;
     }
     if previous_is(Terminal::For, last) || previous_is(Terminal::Trap, last) {
-        return Role::Free;
+        return Role::NotLookedUp;
     }
     let indexed = is_next(rest, Terminal::LeftBracket);
     if !begins_here(last) {
@@ -62,6 +64,6 @@ pub(crate) fn role_of(last: Option<Terminal>, rest: &[Token]) -> Role
     if is_next(rest, Terminal::Assign) {
         Role::Assigned
     } else {
-        Role::Free
+        Role::NotLookedUp
     }
 }

@@ -1,4 +1,4 @@
--- What the next token tells of the statements of a body.
+-- What the next token shows of the statements of a body.
 use Rattle.std.proofs.Common.{◌≡◌, ◌<◌, ◌≤◌, Bool, true, false, cond, List, [], ◌∷◌, ◌++◌, length, Ok, Err, refl, sym, ap, ◌∙◌, subst}
 use Rattle.grammar_core.specs.declared.token.Token.{Token}
 use Rattle.jdf_alphabet.specs.declared.terminal.Terminal.{Terminal}
@@ -7,7 +7,7 @@ use Rattle.grammar_core.specs.Production.{Production, star}
 use Rattle.jdf_alphabet.specs.Sets.{one_of, starts, token_at}
 use Rattle.grammar_core.specs.Returns.{ReadRefusal, Fails}
 use Rattle.grammar_core.specs.Reading.{Read, ◌>>=◌, first, nonterminal_at, reading}
-use Rattle.grammar_core.specs.Reading as engine
+use Rattle.grammar_core.specs.Reading as numbered
 use Rattle.jdf_alphabet.specs.Terminals.{is, set, terminal_at}
 use Rattle.grammar_core.proofs.Fuel.{nonterminal_is, nonterminal_shrinks, run_shrinks}
 use Rattle.grammar_core.proofs.Sets.{alike_at}
@@ -34,15 +34,15 @@ pub block_is : (s : List Token) → nonterminal_at productions a_block s ≡ rea
 unfolding productions
 block_is s = nonterminal_is productions a_block s
 
-pub element_begins : (s : List Token) → engine.starts (first element) s ≡ starts (is terminal.LeftBracket) s
+pub element_begins : (s : List Token) → numbered.starts (first element) s ≡ starts (is terminal.LeftBracket) s
 unfolding element
 element_begins s = refl
 
-pub otherwise_begins : (s : List Token) → engine.starts (first otherwise) s ≡ starts (is terminal.Else) s
+pub otherwise_begins : (s : List Token) → numbered.starts (first otherwise) s ≡ starts (is terminal.Else) s
 unfolding otherwise
 otherwise_begins s = refl
 
--- the next token tells which statement comes
+-- the next token shows which statement comes
 pub statement_reads : (s : List Token) → reading productions statement s ≡ cond (starts (is terminal.Int) s) (reading productions declaration s) (cond (starts (is terminal.If) s) (reading productions choice s) (cond (starts (is terminal.For) s) (reading productions for_loop s) (cond (starts (is terminal.Trap) s) (reading productions trap_statement s) (reading productions assignment s))))
 unfolding statement declaration choice for_loop trap_statement
 statement_reads s = refl
@@ -53,7 +53,7 @@ text_reads s = refl
 
 -- ---- statements, one after the other
 
-statements_alike : (s : List Token) → engine.starts (first statement) s ≡ starts begins_statement s
+statements_alike : (s : List Token) → numbered.starts (first statement) s ≡ starts begins_statement s
 unfolding terminal_at statement declaration choice for_loop trap_statement assignment
 statements_alike [] = refl
 statements_alike (x ∷ s) = alike_at (first statement) (set begins_statement) refl refl x

@@ -1,4 +1,4 @@
--- The two limits of a body as one: the first of their places, and the code that goes with it.
+-- The two limits of a body as one: the smaller of their indices, and its code.
 use Rattle.std.proofs.Common.{◌≡◌, ℕ, suc, ◌-◌, ◌+◌, ◌≤◌, ◌<◌, Bool, true, false, cond, List, [], ◌∷◌, ◌++◌, length, take, drop, Ok, Err, refl, inl, inr, sym, ap, ◌∙◌, arith}
 use Rattle.std.specs.Prelude.{◌==◌, nat_lt, nat_le, min, if◌then◌else◌}
 use Rattle.std.proofs.lemmas.Bool.{le-ltb, lt-ltb, cases_lt}
@@ -55,7 +55,7 @@ both =
           (block_limit.stays w x r r') (variable_limit.stays w x r r') (block_limit.keeps w (x ∷ r) (x ∷ r')) (variable_limit.keeps w (x ∷ r) (x ∷ r')) h;
     }
 
--- the code that goes with the first of the places
+-- the code of the smaller index
 abbrev pub code_of : List Token → Code
 code_of s = if nat_le (block_limit.at s) (variable_limit.at s) then TooDeep else TooManyVars
 

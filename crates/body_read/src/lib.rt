@@ -3,8 +3,6 @@
 
 mod limits;
 mod statement;
-#[cfg(test)]
-mod tests;
 mod text;
 
 pub use text::{read, tree};

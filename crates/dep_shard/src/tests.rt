@@ -1,4 +1,4 @@
-//! A shard, used by each of its calls.
+//! A shard: each call that may want memory, with memory.
 ghost use Rattle.std.specs.Prelude.{◌≡◌};
 
 use super::*;
@@ -32,20 +32,6 @@ fn the_only_edge_fires_and_its_tile_is_handed_over(rt: HostRuntime) -> Result<()
 }
 
 #[test]
-fn the_first_edge_of_two_is_noted(rt: HostRuntime) -> Result<(), Fail> {
-    let edge = edge();
-    let mut shard = Shard::new(rt.alloc(), &[])?;
-    assert_eq!(rt; shard.arrive(&edge, 2, 9, 0, None)?, Arrived::Waits);
-    let (task, entry) = shard.entry(0).ok_or("no entry")?;
-    assert!(rt; *task == edge.to);
-    assert_eq!(rt; entry.goal(), 2);
-    assert_eq!(rt; entry.arrived(), 1);
-    assert_eq!(rt; entry.priority(), 9);
-    assert_eq!(rt; shard.len(), 1);
-    Ok(())
-}
-
-#[test]
 fn of_equal_priorities_the_first_task_is_best(rt: HostRuntime) -> Result<(), Fail> {
     let (first, last) = (TaskId::new(2, &[3]), TaskId::new(2, &[8]));
     let mut shard = Shard::new(rt.alloc(), &[])?;
@@ -74,18 +60,6 @@ fn a_tile_is_written_back(rt: HostRuntime) -> Result<(), Fail> {
     let (key, value) = shard.written(0).ok_or("nothing was written")?;
     assert!(rt; *key == write);
     assert_eq!(rt; value.len(), 3);
-    Ok(())
-}
-
-#[test]
-fn a_task_ends(rt: HostRuntime) -> Result<(), Fail> {
-    let task = TaskId::new(0, &[1]);
-    let mut shard = Shard::new(rt.alloc(), &[])?;
-    shard.add_ready(&task, 0)?;
-    let _tiles = shard.take_ready(&task).ok_or("not ready")?;
-    assert_eq!(rt; shard.running(), 1);
-    shard.end();
-    assert_eq!(rt; shard.ended(), 1);
     Ok(())
 }
 

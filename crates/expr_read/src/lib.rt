@@ -6,8 +6,6 @@ mod names;
 mod number;
 mod operators;
 mod rank;
-#[cfg(test)]
-mod tests;
 mod window;
 
 pub use front::{fault_at, read_expr};

@@ -13,7 +13,7 @@ use jdf_lex::Token;
 use jdf_tree::{ExprTree, ExprWithSpot};
 use ptg_base::decimal;
 
-/// The largest number.
+// The largest number.
 const LARGEST: u64 = 9223372036854775807;
 
 // Does a number of several digits begin with 0?

@@ -15,7 +15,7 @@ use jdf_lex::Token;
 use jdf_tree::{ExprWithSpot, Part};
 use std::alloc::Global;
 
-/// This many tokens are within the limit, whatever they are.
+// This many tokens are within the limit, whatever they are.
 const WITHIN: usize = 128;
 
 // An outermost expression, without its limit.
@@ -63,7 +63,7 @@ fn within_limit(
     if tokens.len() <= limit {
         return form(alloc, outermost, tokens);
     }
-    let (window, behind) = tokens.split_at(limit + 1);
+    let (window, after) = tokens.split_at(limit + 1);
     match form(alloc, outermost, window) {
         Ok((tree, rest)) if !rest.is_empty() => Ok((tree, &tokens[window.len() - rest.len()..])),
         Ok(_) => Err(refusal_at(&tokens[limit..], GrammarCode::ExprTooLong.code())),
@@ -73,7 +73,7 @@ fn within_limit(
             GrammarCode::ExprTooLong.code(),
         )),
         Err(ReadRefusal::Fault(ReadFault { left, code })) => Err(ReadRefusal::Fault(ReadFault {
-            left: left + behind.len(),
+            left: left + after.len(),
             code,
         })),
     }

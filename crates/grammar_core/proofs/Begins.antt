@@ -6,7 +6,7 @@ use Rattle.grammar_core.specs.Terminals.{Terminal}
 use Rattle.grammar_core.specs.declared.token.Token.{Token}
 use Rattle.grammar_core.specs.declared.code.Code.{Code}
 use Rattle.grammar_core.specs.Terminals.{terminal_of, terminal_count, some_is}
-use Rattle.grammar_core.specs.Production.{Production, one_of, valued, seq, map, alt, opt, star, pick, after_token, limited, Language, Fault, IsOne, Many, Derives}
+use Rattle.grammar_core.specs.Production.{Production, one_of, checked, seq, map, alt, opt, star, pick, after_token, limited, Language, Fault, IsOne, Many, Derives}
 use Rattle.grammar_core.specs.Reading.{union, and_if, may_be_empty, first, starts}
 use Rattle.grammar_core.specs.Predictive.{Claims, alone, second, is_fine}
 use Rattle.grammar_core.proofs.Sets.{some_from}
@@ -70,7 +70,7 @@ many_begins full G f h i (t ∷ ts) s o r m =
 -- A text begins with a token of the first set, or is empty.
 pub begins : {N : Type 0} {Tree : N → Type 0} (R : (n : N) → Language (Tree n)) {A : Type 0} (g : Production N Tree A) (s : List Token) (t : A) (o : Fault) (r : List Token) → Derives R g s t o r → (starts (first g) s ≡ true) ⊎ ((s ≡ r) × (may_be_empty g ≡ true))
 begins R (one_of q) s t o r h = inl (one_starts q s t r h.0)
-begins R (valued q good c) s t o r h = inl (one_starts q s t r h.0)
+begins R (checked q good c) s t o r h = inl (one_starts q s t r h.0)
 begins R (seq g k) s t o r h =
     elim (begins R g s t.0 h.1 h.0 h.3) [
       | inl e ↦ inl (and_if_left (may_be_empty g) (first g) (first k) s e)
@@ -113,7 +113,7 @@ pub seconds : {N : Type 0} {Tree : N → Type 0} (c : Claims N) (R : (n : N) →
 seconds c R hR a x s ax (one_of q) fine s0 t o r e h =
     let same = tail_same x t s r (sym e ∙ h.0.0) in
     inr (inl (same.1, some_from (λ k. a k && q k) x (and_from (a (terminal_of x)) (q (terminal_of x)) ax (rw same.0 h.0.1))))
-seconds c R hR a x s ax (valued q good d) fine s0 t o r e h =
+seconds c R hR a x s ax (checked q good d) fine s0 t o r e h =
     let same = tail_same x t s r (sym e ∙ h.0.0) in
     inr (inl (same.1, some_from (λ k. a k && q k) x (and_from (a (terminal_of x)) (q (terminal_of x)) ax (rw same.0 h.0.1))))
 seconds c R hR a x s ax (limited l d g) fine s0 t o r e h = seconds c R hR a x s ax g fine s0 t h.0 r e h.1

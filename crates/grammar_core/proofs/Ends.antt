@@ -5,10 +5,10 @@ use Rattle.std.proofs.lemmas.Bool.{and_parts, and_from, not-true, both_ways, cas
 use Rattle.std.proofs.lemmas.List.{length-append, nil_from_length}
 use Rattle.grammar_core.specs.declared.token.Token.{Token}
 use Rattle.grammar_core.specs.Terminals.{Terminal}
-use Rattle.grammar_core.specs.Terminals.{terminal_of, within}
+use Rattle.grammar_core.specs.Terminals.{terminal_of, is_within}
 use Rattle.grammar_core.specs.declared.code.Code.{Code}
 use Rattle.grammar_core.specs.declared.code.Code.TheVariants.{Syntax}
-use Rattle.grammar_core.specs.Production.{Production, one_of, valued, seq, map, alt, opt, star, pick, after_token, limited, Language, Fault, Derives, DerivedWithin, Derived}
+use Rattle.grammar_core.specs.Production.{Production, one_of, checked, seq, map, alt, opt, star, pick, after_token, limited, Language, Fault, Derives, DerivedWithin, Derived}
 use Rattle.grammar_core.specs.Reading.{◌>>=◌, Read, FaultFromEnd, refuse, check, may_be_empty, first, starts, picks, token_at, many_at, nonterminal_at, reading}
 use Rattle.grammar_core.specs.Predictive.{Claims, alone, both_first, is_limit, are_limits, is_fine, has_plain, are_names}
 use Rattle.grammar_core.proofs.Sets.{starts_into}
@@ -99,7 +99,7 @@ module _ {N : Type 0} {Tree : N → Type 0} (body : (n : N) → Production N Tre
   within_begins zero n s t o r h = absurd h
   within_begins (suc k) n s t o r h =
       let rest = and_parts (not (may_be_empty (body n))) _ (and_parts (has_plain (body n)) _ (and_parts (is_fine c (body n)) _ (fine n)).1).1 in
-      let sets = and_parts (within (first (body n)) (c.firsts n)) _ rest.1 in
+      let sets = and_parts (is_within (first (body n)) (c.firsts n)) _ rest.1 in
       starts_into (first (body n)) (c.firsts n) s sets.0 (surely_begins (DerivedWithin body k) (body n) (not-true (may_be_empty (body n)) rest.0) s t o r h)
 
   form_faults : {A : Type 0} (g : Production N Tree A) → is_fine c g ≡ true → FaultsWithin (reading body g)
@@ -241,7 +241,7 @@ module _ {N : Type 0} {Tree : N → Type 0} (body : (n : N) → Production N Tre
   module _ (k : ℕ) (names : (n : N) (w r : List Token) (x : Tree n × List Token) → length w < k → nonterminal_at body n w ≡ Ok x → x.1 ≡ [] → nonterminal_at body n (w ++ r) ≡ Err (length r, Syntax) → ⊥) where
     run_goes_on : {A : Type 0} (g : Production N Tree A) → is_fine c g ≡ true → LimitsOnly g → GoesOn k (reading body g)
     run_goes_on (one_of q) ok l w r x le e none f = no_ok (x.0, x.1 ++ r) (length r, Syntax) (sym (token_front q w r x e) ∙ f)
-    run_goes_on (valued q good d) ok l w r x le e none f =
+    run_goes_on (checked q good d) ok l w r x le e none f =
         let a = bind_ok (token_at q w) (check good d w) x e in
         elim (bind_err (token_at q (w ++ r)) (check good d (w ++ r)) (length r, Syntax) f) [
           | inl u ↦ no_ok (a.0.0, a.0.1 ++ r) (length r, Syntax) (sym (token_front q w r a.0 a.1) ∙ u)

@@ -6,7 +6,7 @@ use Rattle.grammar_core.specs.declared.token.Token.{Token}
 use Rattle.grammar_core.specs.declared.code.Code.{Code}
 use Rattle.grammar_core.specs.Terminals.{Terminal}
 use Rattle.grammar_core.specs.Terminals.{terminal_of}
-use Rattle.grammar_core.specs.Production.{Production, one_of, valued, seq, map, alt, opt, star, pick, after_token, limited}
+use Rattle.grammar_core.specs.Production.{Production, one_of, checked, seq, map, alt, opt, star, pick, after_token, limited}
 use Rattle.grammar_core.specs.Reading.{◌>>=◌, Read, FaultFromEnd, refuse, check, judge, may_be_empty, first, starts, picks, token_at, many_at, run, nonterminal_within, nonterminal_at}
 use Rattle.grammar_core.proofs.ReadCases.{bind_ok, chosen, ok_is, token_ok, refuse_ok, check_ok, judge_ok}
 
@@ -35,7 +35,7 @@ Shorter empty s r = (length r ≤ length s) × (empty ≡ false → length r < l
 
 pub run_shrinks : {N : Type 0} {Tree : N → Type 0} (p : (n : N) → List Token → Read (Tree n)) → ((n : N) → Shrinks (p n)) → {A : Type 0} (g : Production N Tree A) (s : List Token) (x : A × List Token) → run p g s ≡ Ok x → Shorter (may_be_empty g) s x.1
 run_shrinks p h (one_of q) s x e = let t = token_ok q s x e in rw t.0 (omega arith, λ _. omega arith)
-run_shrinks p h (valued q good c) s x e =
+run_shrinks p h (checked q good c) s x e =
     let a = bind_ok (token_at q s) (check good c s) x e in
     let t = token_ok q s a.0 a.1 in
     let same = (check_ok good c s a.0 x a.2).1 in
@@ -96,7 +96,7 @@ many_agrees m full q p p' same h (suc n) i s le =
 
 run_agrees : {N : Type 0} {Tree : N → Type 0} (m : ℕ) (p p' : (n : N) → List Token → Read (Tree n)) → ((n : N) (s : List Token) → length s < m → p n s ≡ p' n s) → ((n : N) → Shrinks (p n)) → {A : Type 0} (g : Production N Tree A) (s : List Token) → length s ≤ m → run p g s ≡ run p' g s
 run_agrees m p p' same h (one_of q) s le = refl
-run_agrees m p p' same h (valued q good c) s le = refl
+run_agrees m p p' same h (checked q good c) s le = refl
 run_agrees m p p' same h (limited l c g) s le = ap (λ (r : Read _). judge (l.at s) c s r) (run_agrees m p p' same h g s le)
 run_agrees m p p' same h (seq g k) s le =
     bind_same (run p g s) (run p' g s) _ _ (run_agrees m p p' same h g s le) (λ a e.

@@ -5,8 +5,8 @@ use Rattle.std.proofs.lemmas.Bool.{and_parts, and_from, not-true, both_ways, cas
 use Rattle.grammar_core.specs.Terminals.{Terminal}
 use Rattle.grammar_core.specs.declared.token.Token.{Token}
 use Rattle.grammar_core.specs.declared.code.Code.{Code}
-use Rattle.grammar_core.specs.Terminals.{terminal_of, disjoint, within}
-use Rattle.grammar_core.specs.Production.{Production, one_of, valued, seq, map, alt, opt, star, pick, after_token, limited, Language, Fault, then_fault, or_fault, at_start, bad_unless, cut_at, taken, IsOne, Many, Derives}
+use Rattle.grammar_core.specs.Terminals.{terminal_of, are_disjoint, is_within}
+use Rattle.grammar_core.specs.Production.{Production, one_of, checked, seq, map, alt, opt, star, pick, after_token, limited, Language, Fault, then_fault, or_fault, at_start, bad_unless, cut_at, taken, IsOne, Many, Derives}
 use Rattle.grammar_core.specs.Reading.{◌>>=◌, Read, refuse, check, judge, may_be_empty, first, starts, picks, token_at, many_at, run}
 use Rattle.grammar_core.specs.Predictive.{Claims, continuing, alone, second, both_first, is_fine}
 use Rattle.grammar_core.proofs.Sets.{starts_disjoint, starts_into}
@@ -77,7 +77,7 @@ many_fits full G f i (t ∷ ts) s o r h =
 
 pub fits : {N : Type 0} {Tree : N → Type 0} (R : (n : N) → Language (Tree n)) → ((n : N) (s : List Token) (t : Tree n) (o : Fault) (r : List Token) → R n s t o r → Fits s o r) → {A : Type 0} (g : Production N Tree A) (s : List Token) (t : A) (o : Fault) (r : List Token) → Derives R g s t o r → Fits s o r
 fits R hR (one_of q) s t o r h = rw (h.0.0, h.1) (omega arith, tt)
-fits R hR (valued q good c) s t o r h = rw (h.0.0, h.1) (omega arith, go (good t))
+fits R hR (checked q good c) s t o r h = rw (h.0.0, h.1) (omega arith, go (good t))
   where
     go : (b : Bool) → InText (bad_unless b c) (suc (length r) - length r)
     go true = tt
@@ -133,7 +133,7 @@ judge_outcome {A} l c s t (Some f) r a =
 
 many_only : {A : Type 0} (full : ℕ → Option Code) (G : Language A) (p : List Token → Read A) (f go : Terminal → Bool) → Consumes p → ((s : List Token) (t : A) (o : Fault) (r : List Token) → G s t o r → starts f s ≡ true)
     → ((s : List Token) (t : A) (o : Fault) (r : List Token) → G s t o r → Fits s o r)
-    → ((s : List Token) (t : A) (o : Fault) (r : List Token) → G s t o r → starts go r ≡ false → p s ≡ outcome s t o r) → disjoint go f ≡ true
+    → ((s : List Token) (t : A) (o : Fault) (r : List Token) → G s t o r → starts go r ≡ false → p s ≡ outcome s t o r) → are_disjoint go f ≡ true
     → (i : ℕ) (ts : List A) (s : List Token) (o : Fault) (r : List Token) → Many full G i s ts o r → starts (λ k. f k || go k) r ≡ false → many_at full f p i (length s) s ≡ outcome s ts o r
 many_only full G p f go consumes begin fit only apart i [] s o r h stops =
     many_is full f p consumes i s ∙ rw (h.0, stop_left f go r stops, h.1) refl
@@ -156,7 +156,7 @@ pub only : {N : Type 0} {Tree : N → Type 0} (c : Claims N) (R : (n : N) → La
     → ((n : N) (s : List Token) (t : Tree n) (o : Fault) (r : List Token) → R n s t o r → starts (c.continues n) r ≡ false → p n s ≡ outcome s t o r)
     → {A : Type 0} (g : Production N Tree A) → is_fine c g ≡ true → (s : List Token) (t : A) (o : Fault) (r : List Token) → Derives R g s t o r → starts (continuing c g) r ≡ false → run p g s ≡ outcome s t o r
 only c R p shrinks fit firsts known (one_of q) fine s t o r h stops = rw (token_is q s t r h.0, h.1) refl
-only c R p shrinks fit firsts known (valued q good d) fine s t o r h stops = rw (token_is q s t r h.0, h.1) (check_outcome good d s t r)
+only c R p shrinks fit firsts known (checked q good d) fine s t o r h stops = rw (token_is q s t r h.0, h.1) (check_outcome good d s t r)
 only c R p shrinks fit firsts known (limited l d g) fine s t o r h stops =
     rw (only c R p shrinks fit firsts known g fine s t h.0 r h.1 stops, h.2) (judge_outcome (l.at s) d s t h.0 r (fits R fit g s t h.0 r h.1))
 only c R p shrinks fit firsts known (seq g k) fine s t o r h stops =
@@ -197,8 +197,8 @@ only c R p shrinks fit firsts known (pick q g k) fine s t o r h stops =
     let f4 = and_parts (not (may_be_empty k)) _ f3.1 in
     let f5 = and_parts (not (alone both g)) _ f4.1 in
     let f6 = and_parts (not (alone both k)) _ f5.1 in
-    let f7 = and_parts (within (second c both g) q) _ f6.1 in
-    let f8 = and_parts (disjoint (second c both k) q) _ f7.1 in
+    let f7 = and_parts (is_within (second c both g) q) _ f6.1 in
+    let f8 = and_parts (are_disjoint (second c both k) q) _ f7.1 in
     elim h [
       | inl u ↦
           let b = surely_begins R g (not-true (may_be_empty g) f3.0) s t o r u in
@@ -233,6 +233,6 @@ only c R p shrinks fit firsts known (star full g) fine s t o r h stops =
     let f = and_parts (is_fine c g) _ fine in
     let f' = and_parts (not (may_be_empty g)) _ f.1 in
     let never = not-true (may_be_empty g) f'.0 in
-    many_only full (Derives R g) (run p g) (first g) (continuing c g) (λ s' x e. (run_shrinks p shrinks g s' x e).1 never) (surely_begins R g never) (fits R fit g) (only c R p shrinks fit firsts known g f.0) (and_parts (disjoint (continuing c g) (first g)) _ f'.1).0 0 t s o r h stops
+    many_only full (Derives R g) (run p g) (first g) (continuing c g) (λ s' x e. (run_shrinks p shrinks g s' x e).1 never) (surely_begins R g never) (fits R fit g) (only c R p shrinks fit firsts known g f.0) (and_parts (are_disjoint (continuing c g) (first g)) _ f'.1).0 0 t s o r h stops
 only c R p shrinks fit firsts known (after_token q n) fine s t o r h stops =
     rw (token_is q s t.0 h.0 h.2, h.4, h.2.0) (ap (λ (u : Read _). u >>= λ b. Ok ((t.0, b.0), b.1)) (known n h.0 t.1 h.1 r h.3 stops) ∙ one_more t.0 h.0 t.1 h.1 r)

@@ -6,8 +6,8 @@ use Rattle.grammar_core.specs.Terminals.{Terminal}
 use Rattle.grammar_core.specs.declared.token.Token.{Token}
 use Rattle.grammar_core.specs.declared.code.Code.{Code}
 use Rattle.grammar_core.specs.declared.code.Code.TheVariants.{Syntax}
-use Rattle.grammar_core.specs.Terminals.{terminal_of, terminal_count, some_is, disjoint}
-use Rattle.grammar_core.specs.Production.{Production, one_of, valued, seq, map, alt, opt, star, pick, after_token, limited}
+use Rattle.grammar_core.specs.Terminals.{terminal_of, terminal_count, some_is, are_disjoint}
+use Rattle.grammar_core.specs.Production.{Production, one_of, checked, seq, map, alt, opt, star, pick, after_token, limited}
 use Rattle.grammar_core.specs.Reading.{◌>>=◌, Read, FaultFromEnd, refuse, check, may_be_empty, first, starts, picks, token_at, many_at, run}
 use Rattle.grammar_core.specs.Predictive.{Claims, continuing, is_fine, is_none, is_limit, are_limits, is_safe}
 use Rattle.grammar_core.proofs.ReadCases.{bind_ok, bind_err, chosen, ok_is, no_ok, token_ok, token_err, refuse_ok, refuse_err, check_err, judge_ok, judge_err}
@@ -42,7 +42,7 @@ many_faults full f p h l (suc k) i s n e =
 
 pub run_faults : {N : Type 0} {Tree : N → Type 0} (p : (n : N) → List Token → Read (Tree n)) → ((n : N) → Shrinks (p n)) → ((n : N) → FaultsWithin (p n)) → {A : Type 0} (g : Production N Tree A) → FaultsWithin (run p g)
 run_faults p h l (one_of q) s n e = let t = first_is (token_err q s n e).0 in omega (arith, t)
-run_faults p h l (valued q good c) s n e =
+run_faults p h l (checked q good c) s n e =
     elim (bind_err (token_at q s) (check good c s) n e) [
       | inl u ↦ let t = first_is (token_err q s n u).0 in omega (arith, t)
       | inr a ↦ let t = first_is (check_err good c s a.0 n a.2).1 in omega (arith, t)
@@ -98,7 +98,7 @@ module _ {N : Type 0} {Tree : N → Type 0} (c : Claims N) (p : (n : N) → List
   -- where the next token is not in the first set, an empty text is read
   stays : {A : Type 0} (g : Production N Tree A) → is_fine c g ≡ true → (s : List Token) → starts (first g) s ≡ false → may_be_empty g ≡ true → (t : A) × (run p g s ≡ Ok (t, s))
   stays (one_of q) fine s e empty = absurd cc
-  stays (valued q good d) fine s e empty = absurd cc
+  stays (checked q good d) fine s e empty = absurd cc
   stays (limited d b g) fine s e empty =
       let a = stays g fine s e empty in
       let zero_left : nat_lt (d.at s) (length s - length s) ≡ false = le-ltb (d.at s) (length s - length s) (omega arith) in
@@ -152,15 +152,15 @@ module _ {N : Type 0} {Tree : N → Type 0} (c : Claims N) (p : (n : N) → List
 
   pub passes : (w : Bool) (b0 : Terminal → Bool) {A : Type 0} (g : Production N Tree A) → is_fine c g ≡ true → is_safe w b0 g ≡ true → (s : List Token) → (w ≡ false → starts b0 s ≡ true) → starts (first g) s ≡ true → Passes w (run p g) s
   passes w b0 (one_of q) fine safe s at b = (λ n e y. absurd (token_passes q s b n e), λ x e. let t = ap (λ (y : List Token). length y) (token_ok q s x e).0 in omega (arith, t))
-  passes w b0 (valued q good d) fine safe s at b = (
+  passes w b0 (checked q good d) fine safe s at b = (
     λ n e y. elim (bind_err (token_at q s) (check good d s) n e) [
       | inl u ↦ absurd (token_passes q s b n u)
       | inr a ↦ absurd (bad w safe at y (check_err good d s a.0 n a.2).1)
     ],
-    λ x e. (run_shrinks p h (valued q good d) s x e).1 refl,
+    λ x e. (run_shrinks p h (checked q good d) s x e).1 refl,
   )
     where
-      bad : (w : Bool) → (w || disjoint b0 q) ≡ true → (w ≡ false → starts b0 s ≡ true) → {n : FaultFromEnd} → (w ≡ true → n.1 ≡ Syntax) → n ≡ (length s, d) → ⊥
+      bad : (w : Bool) → (w || are_disjoint b0 q) ≡ true → (w ≡ false → starts b0 s ≡ true) → {n : FaultFromEnd} → (w ≡ true → n.1 ≡ Syntax) → n ≡ (length s, d) → ⊥
       bad true safe at y e = not_limit d (ap (λ (x : FaultFromEnd). x.1) (sym e) ∙ y refl) (and_parts (some_is q terminal_count) (is_limit d) fine).1
       bad false safe at y e = both_ways (starts b0 s) (starts_disjoint b0 q s safe b) (at refl)
   passes w b0 (limited d d0 g) fine safe s at b =
@@ -258,7 +258,7 @@ module _ {N : Type 0} {Tree : N → Type 0} (c : Claims N) (p : (n : N) → List
       let one = passes w b0 g f.0 sf.0 s at b in
       let rest : A1 × List Token → Read (List A1) = λ a. many_at full (first g) (run p g) 1 (length a.1) a.1 >>= λ more. Ok (a.0 ∷ more.0, more.1) in
       let goes : run p (star full g) s ≡ refuse (full 0) s (run p g s >>= rest) = many_is full (first g) (run p g) (λ s' x e'. (run_shrinks p h g s' x e').1 never) 0 s ∙ rw b refl in
-      let limits = (and_parts (disjoint (continuing c g) (first g)) _ (and_parts (not (may_be_empty g)) _ f.1).1).1 in
+      let limits = (and_parts (are_disjoint (continuing c g) (first g)) _ (and_parts (not (may_be_empty g)) _ f.1).1).1 in
       let later : FaultsWithin (λ l. many_at full (first g) (run p g) 1 (length l) l) = λ l' n e. many_faults full (first g) (run p g) (λ s' x e'. (run_shrinks p h g s' x e').0) (run_faults p h l g) (length l') 1 l' n e in (
         λ n e y. elim (refuse_err (full 0) s (run p g s >>= rest) n (sym goes ∙ e)) [
           | inl u ↦ absurd (full_bad w (full 0) u.0 sf.1 limits y u.1 u.2)
@@ -291,7 +291,7 @@ module _ {N : Type 0} {Tree : N → Type 0} (c : Claims N) (p : (n : N) → List
 -- where only Syntax is asked of, each production is safe
 pub safe_true : {N : Type 0} {Tree : N → Type 0} (b0 : Terminal → Bool) {A : Type 0} (g : Production N Tree A) → is_safe true b0 g ≡ true
 safe_true b0 (one_of q) = refl
-safe_true b0 (valued q good d) = refl
+safe_true b0 (checked q good d) = refl
 safe_true b0 (seq g k) = and_from (is_safe true b0 g) (is_safe true b0 k) (safe_true b0 g) (safe_true b0 k)
 safe_true b0 (map f g) = safe_true b0 g
 safe_true b0 (alt g k) = and_from (is_safe true b0 g) (is_safe true b0 k) (safe_true b0 g) (safe_true b0 k)

@@ -4,14 +4,14 @@ use Rattle.std.specs.Prelude.{None, not}
 use Rattle.std.proofs.lemmas.Bool.{and_parts, and_from, or_cases, not-true}
 use Rattle.grammar_core.specs.Terminals.{Terminal}
 use Rattle.grammar_core.specs.declared.token.Token.{Token}
-use Rattle.grammar_core.specs.Terminals.{terminal_of, terminal_count, some_is, disjoint, within}
-use Rattle.grammar_core.specs.Production.{Production, one_of, valued, seq, map, alt, opt, star, pick, after_token, limited, Language, then_fault, bad_unless, cut_at, taken, Derives}
+use Rattle.grammar_core.specs.Terminals.{terminal_of, terminal_count, some_is, are_disjoint, is_within}
+use Rattle.grammar_core.specs.Production.{Production, one_of, checked, seq, map, alt, opt, star, pick, after_token, limited, Language, then_fault, bad_unless, cut_at, taken, Derives}
 use Rattle.grammar_core.specs.Reading.{Read, may_be_empty, first, starts, run}
 use Rattle.grammar_core.specs.Predictive.{Claims, alone, second, both_first, is_fine, is_safe, has_plain}
 use Rattle.grammar_core.proofs.Fuel.{Shrinks, run_shrinks}
 use Rattle.grammar_core.proofs.Passes.{FaultsWithin, passes, safe_true}
 use Rattle.grammar_core.proofs.Sound.{Sound, Text}
-use Rattle.grammar_core.proofs.SoundTokens.{one_text, token_sound, valued_sound}
+use Rattle.grammar_core.proofs.SoundTokens.{one_text, token_sound, checked_sound}
 use Rattle.grammar_core.proofs.SoundSequences.{both_sound, both_text}
 use Rattle.grammar_core.proofs.SoundChoices.{alt_sound, map_sound, opt_sound, pick_sound}
 use Rattle.grammar_core.proofs.SoundLists.{many_sound}
@@ -21,7 +21,7 @@ use Rattle.grammar_core.proofs.SoundLimits.{limited_sound}
 -- each production has a text
 pub texts : {N : Type 0} {Tree : N → Type 0} (c : Claims N) (R : (n : N) → Language (Tree n)) → ((n : N) → Text (R n)) → {A : Type 0} (g : Production N Tree A) → is_fine c g ≡ true → Text (Derives R g)
 texts c R names (one_of q) fine = let one = one_text q fine in record { word = one.0 ∷ []; tree = one.0; fault = λ z. None; derives = λ z. (one.1 z, refl) }
-texts c R names (valued q good d) fine = let one = one_text q (and_parts (some_is q terminal_count) _ fine).0 in record { word = one.0 ∷ []; tree = one.0; fault = λ z. bad_unless (good one.0) d; derives = λ z. (one.1 z, refl) }
+texts c R names (checked q good d) fine = let one = one_text q (and_parts (some_is q terminal_count) _ fine).0 in record { word = one.0 ∷ []; tree = one.0; fault = λ z. bad_unless (good one.0) d; derives = λ z. (one.1 z, refl) }
 texts c R names (limited l d g) fine = let t = texts c R names g fine in record { word = t.word; tree = t.tree; fault = λ z. cut_at (l.at (t.word ++ z)) d (taken (t.word ++ z) z) (t.fault z); derives = λ z. (t.fault z, t.derives z, refl) }
 texts c R names (seq g h) fine =
     let f = and_parts (is_fine c g) _ fine in
@@ -40,7 +40,7 @@ texts c R names (after_token q n) fine =
 -- one without nonterminals
 pub plain_text : {N : Type 0} {Tree : N → Type 0} (R : (n : N) → Language (Tree n)) {A : Type 0} (g : Production N Tree A) → has_plain g ≡ true → Text (Derives R g)
 plain_text R (one_of q) h = let one = one_text q h in record { word = one.0 ∷ []; tree = one.0; fault = λ z. None; derives = λ z. (one.1 z, refl) }
-plain_text R (valued q good d) h = let one = one_text q h in record { word = one.0 ∷ []; tree = one.0; fault = λ z. bad_unless (good one.0) d; derives = λ z. (one.1 z, refl) }
+plain_text R (checked q good d) h = let one = one_text q h in record { word = one.0 ∷ []; tree = one.0; fault = λ z. bad_unless (good one.0) d; derives = λ z. (one.1 z, refl) }
 plain_text R (limited l d g) h = let t = plain_text R g h in record { word = t.word; tree = t.tree; fault = λ z. cut_at (l.at (t.word ++ z)) d (taken (t.word ++ z) z) (t.fault z); derives = λ z. (t.fault z, t.derives z, refl) }
 plain_text R (seq g k) h = let a = and_parts (has_plain g) (has_plain k) h in both_text (Derives R g) (Derives R k) (plain_text R g a.0) (plain_text R k a.1)
 plain_text R (map f g) h = let t = plain_text R g h in record { word = t.word; tree = f t.tree; fault = t.fault; derives = λ z. (t.tree, t.derives z, refl) }
@@ -71,15 +71,15 @@ pick_safe c q g h fine =
     let f4 = and_parts (not (may_be_empty h)) _ f3.1 in
     let f5 = and_parts (not (alone both g)) _ f4.1 in
     let f6 = and_parts (not (alone both h)) _ f5.1 in
-    let f7 = and_parts (within (second c both g) q) _ f6.1 in
-    let f8 = and_parts (disjoint (second c both h) q) _ f7.1 in
+    let f7 = and_parts (is_within (second c both g) q) _ f6.1 in
+    let f8 = and_parts (are_disjoint (second c both h) q) _ f7.1 in
     and_parts (is_safe false both g) (is_safe false both h) f8.1
 
 pub run_sound : {N : Type 0} {Tree : N → Type 0} (c : Claims N) (R : (n : N) → Language (Tree n)) (p : (n : N) → List Token → Read (Tree n))
     → ((n : N) → Shrinks (p n)) → ((n : N) → FaultsWithin (p n)) → ((n : N) → Text (R n)) → ((n : N) (s : List Token) → Sound (R n) (p n) s)
     → {A : Type 0} (g : Production N Tree A) → is_fine c g ≡ true → (s : List Token) → Sound (Derives R g) (run p g) s
 run_sound c R p shrink faults names known (one_of q) fine s = token_sound q s fine
-run_sound c R p shrink faults names known (valued q good d) fine s = valued_sound q good d s (and_parts (some_is q terminal_count) _ fine).0
+run_sound c R p shrink faults names known (checked q good d) fine s = checked_sound q good d s (and_parts (some_is q terminal_count) _ fine).0
 run_sound c R p shrink faults names known (limited l d g) fine s = limited_sound l d (Derives R g) (run p g) (run_sound c R p shrink faults names known g fine) s
 run_sound c R p shrink faults names known (seq g h) fine s =
     let f = and_parts (is_fine c g) _ fine in

@@ -56,8 +56,8 @@ token_sound q s h =
 abbrev pub Valued : (Terminal → Bool) → (Token → Bool) → Code → Language Token
 Valued q good c s t o r = IsOne q s t r × (o ≡ bad_unless (good t) c)
 
-pub valued_sound : (q : Terminal → Bool) (good : Token → Bool) (c : Code) (s : List Token) → some_is q terminal_count ≡ true → Sound (Valued q good c) (λ l. token_at q l >>= check good c l) s
-valued_sound q good c s h =
+pub checked_sound : (q : Terminal → Bool) (good : Token → Bool) (c : Code) (s : List Token) → some_is q terminal_count ≡ true → Sound (Valued q good c) (λ l. token_at q l >>= check good c l) s
+checked_sound q good c s h =
     record {
       accepted = λ x e.
           let a = bind_ok (token_at q s) (check good c s) x e in

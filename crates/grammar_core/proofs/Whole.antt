@@ -4,10 +4,10 @@ use Rattle.std.specs.Prelude.{Option, Some, None, nat_lt, ◌==◌, not}
 use Rattle.std.proofs.lemmas.Bool.{and_parts, not-true, both_ways, eqb-true, eqb-false, cases_lt, cases_order}
 use Rattle.std.proofs.lemmas.List.{take_at, drop_at, length-append, nil_from_length, take-append-drop, take-take, take-append-le, length-take-le}
 use Rattle.grammar_core.specs.declared.token.Token.{Token}
-use Rattle.grammar_core.specs.Terminals.{within}
+use Rattle.grammar_core.specs.Terminals.{is_within}
 use Rattle.grammar_core.specs.declared.code.Code.{Code}
 use Rattle.grammar_core.specs.declared.code.Code.TheVariants.{Syntax}
-use Rattle.grammar_core.specs.Production.{Production, one_of, valued, seq, map, alt, opt, star, pick, after_token, limited, Language, Fault, then_fault, or_fault, at_start, bad_unless, cut_at, taken, Many, IsFrom, Derives, DerivedWithin, Derived, IsText, Begins, IsSyntaxFault, IsLimitFault, IsFirstFault}
+use Rattle.grammar_core.specs.Production.{Production, one_of, checked, seq, map, alt, opt, star, pick, after_token, limited, Language, Fault, then_fault, or_fault, at_start, bad_unless, cut_at, taken, Many, IsFrom, Derives, DerivedWithin, Derived, IsText, Begins, IsSyntaxFault, IsLimitFault, IsFirstFault}
 use Rattle.grammar_core.specs.Reading.{FaultFromEnd, may_be_empty, first, starts, nonterminal_within, nonterminal_at, reading, whole}
 use Rattle.grammar_core.specs.Predictive.{Claims, continuing, is_limit, are_limits, is_fine, has_plain, are_names}
 pub use Rattle.grammar_core.specs.Predictive.{LimitsOnly}
@@ -79,7 +79,7 @@ many_limits full G l f i (t ∷ ts) s o r h = rw h.5 (not_then (or_fault (at_sta
 
 limits : {N : Type 0} {Tree : N → Type 0} (R : (n : N) → Language (Tree n)) → ((n : N) (s : List Token) (t : Tree n) (o : Fault) (r : List Token) → R n s t o r → NotSyntax o) → {A : Type 0} (g : Production N Tree A) → LimitsOnly g → (s : List Token) (t : A) (o : Fault) (r : List Token) → Derives R g s t o r → NotSyntax o
 limits R hR (one_of q) l s t o r h = rw h.1 tt
-limits R hR (valued q good d) l s t o r h = rw h.1 (not_bad (good t) d l)
+limits R hR (checked q good d) l s t o r h = rw h.1 (not_bad (good t) d l)
 limits R hR (seq g k) l s t o r h = rw h.5 (not_then h.1 h.2 (taken s h.0) (limits R hR g l.0 s t.0 h.1 h.0 h.3) (limits R hR k l.1 h.0 t.1 h.2 r h.4))
 limits R hR (map f g) l s t o r h = limits R hR g l s h.0 o r h.1
 limits R hR (alt g k) l s t o r h = elim h [ inl u ↦ limits R hR g l.0 s t o r u | inr u ↦ limits R hR k l.1 s t o r u ]
@@ -100,8 +100,8 @@ module _ {N : Type 0} {Tree : N → Type 0} (body : (n : N) → Production N Tre
   name_full : (n : N) → may_be_empty (body n) ≡ false
   name_full n = not-true (may_be_empty (body n)) (and_parts (not (may_be_empty (body n))) _ (and_parts (has_plain (body n)) _ (and_parts (is_fine c (body n)) _ (fine n)).1).1).0
 
-  name_sets : (n : N) → (within (first (body n)) (c.firsts n) ≡ true) × (within (continuing c (body n)) (c.continues n) ≡ true)
-  name_sets n = and_parts (within (first (body n)) (c.firsts n)) _ (and_parts (not (may_be_empty (body n))) _ (and_parts (has_plain (body n)) _ (and_parts (is_fine c (body n)) _ (fine n)).1).1).1
+  name_sets : (n : N) → (is_within (first (body n)) (c.firsts n) ≡ true) × (is_within (continuing c (body n)) (c.continues n) ≡ true)
+  name_sets n = and_parts (is_within (first (body n)) (c.firsts n)) _ (and_parts (not (may_be_empty (body n))) _ (and_parts (has_plain (body n)) _ (and_parts (is_fine c (body n)) _ (fine n)).1).1).1
 
   within_fits : (k : ℕ) (n : N) (s : List Token) (t : Tree n) (o : Fault) (r : List Token) → DerivedWithin body k n s t o r → Fits s o r
   within_fits zero n s t o r h = absurd h

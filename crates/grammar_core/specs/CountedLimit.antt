@@ -1,4 +1,4 @@
--- Why the index of the token that is too many makes a limit. These proofs stand in specs/ since the limit `expression_limit` holds them.
+-- Why the index of the token that is too many makes a limit. These proofs stand in specs/ since a limit by count holds them.
 use Rattle.std.proofs.Common.{◌≡◌, ℕ, zero, suc, ◌+◌, ◌≤◌, min, Bool, true, false, List, [], ◌∷◌, ◌++◌, length, get_or, refl, arith}
 use Rattle.grammar_core.specs.declared.token.Token.{Token}
 use Rattle.grammar_core.specs.Terminals.{Terminal}

@@ -9,7 +9,7 @@ unfoldable pub index_by : (List Token → Token → Bool) → List Token → Lis
 index_by p front [] = 1
 index_by p front (x ∷ s) = if p front x then 0 else suc (index_by p (front ++ x ∷ []) s)
 
--- an index that is one later, unless it is this one
+-- if the later limit is kept (stays), so is the one a token earlier
 step_keeps : (b : Bool) (n y y' : ℕ) → (n ≤ y → n ≤ y') → suc n ≤ cond b 0 (suc y) → suc n ≤ cond b 0 (suc y')
 step_keeps true n y y' f h = h
 step_keeps false n y y' f h = let k = f (omega arith) in omega (arith, k)

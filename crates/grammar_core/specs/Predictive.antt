@@ -1,10 +1,10 @@
--- The test for predictive grammars: those that one token of lookahead reads.
+-- The test for predictive grammars: those that one token of lookahead reads. Source: the field's LL(1) grammars.
 use Rattle.std.specs.Prelude.{◌≡◌, ℕ, Option, Some, None, Bool, true, false, ◌&&◌, ◌||◌, not}
 use Rattle.grammar_core.specs.Terminals.{Terminal}
 use Rattle.grammar_core.specs.declared.code.Code.{Code}
 use Rattle.grammar_core.specs.declared.code.Code.TheVariants.{Syntax}
-use Rattle.grammar_core.specs.Terminals.{terminal_count, some_is, disjoint, within}
-use Rattle.grammar_core.specs.Production.{Production, one_of, valued, seq, map, alt, opt, star, pick, after_token, limited}
+use Rattle.grammar_core.specs.Terminals.{terminal_count, some_is, are_disjoint, is_within}
+use Rattle.grammar_core.specs.Production.{Production, one_of, checked, seq, map, alt, opt, star, pick, after_token, limited}
 use Rattle.grammar_core.specs.Reading.{may_be_empty, first}
 
 -- Two sets of terminals that are claimed of each nonterminal: its first set, and the terminals with which reading would continue a text of it.
@@ -15,7 +15,7 @@ pub record Claims (N : Type 0) : Type 0 where
 -- The terminals with which reading would continue a text of this production, instead of ending it.
 abbrev pub continuing : {N : Type 0} {Tree : N → Type 0} → Claims N → {A : Type 0} → Production N Tree A → Terminal → Bool
 continuing c (one_of q) k = false
-continuing c (valued q good d) k = false
+continuing c (checked q good d) k = false
 continuing c (seq g h) k = continuing c h k || (may_be_empty h && continuing c g k)
 continuing c (map f g) k = continuing c g k
 continuing c (alt g h) k = continuing c g k || (continuing c h k || (may_be_empty h && first g k))
@@ -28,7 +28,7 @@ continuing c (limited l d g) k = continuing c g k
 -- May one token of this set alone be a text of the production?
 abbrev pub alone : {N : Type 0} {Tree : N → Type 0} → (Terminal → Bool) → {A : Type 0} → Production N Tree A → Bool
 alone a (one_of q) = some_is (λ k. a k && q k) terminal_count
-alone a (valued q good d) = some_is (λ k. a k && q k) terminal_count
+alone a (checked q good d) = some_is (λ k. a k && q k) terminal_count
 alone a (seq g h) = (alone a g && may_be_empty h) || (may_be_empty g && alone a h)
 alone a (map f g) = alone a g
 alone a (alt g h) = alone a g || alone a h
@@ -41,7 +41,7 @@ alone a (limited l d g) = alone a g
 -- The terminals that may be second in a text whose first token is in this set.
 abbrev pub second : {N : Type 0} {Tree : N → Type 0} → Claims N → (Terminal → Bool) → {A : Type 0} → Production N Tree A → Terminal → Bool
 second c a (one_of q) k = false
-second c a (valued q good d) k = false
+second c a (checked q good d) k = false
 second c a (seq g h) k = second c a g k || ((alone a g && first h k) || (may_be_empty g && second c a h k))
 second c a (map f g) k = second c a g k
 second c a (alt g h) k = second c a g k || second c a h k
@@ -73,7 +73,7 @@ are_limits (Some d) = is_limit d
 -- No text of the production has a fault at a first token of the set a; where w holds, this is only asked of Syntax.
 abbrev pub is_safe : {N : Type 0} {Tree : N → Type 0} → Bool → (Terminal → Bool) → {A : Type 0} → Production N Tree A → Bool
 is_safe w a (one_of q) = true
-is_safe w a (valued q good d) = w || disjoint a q
+is_safe w a (checked q good d) = w || are_disjoint a q
 is_safe w a (seq g h) = is_safe w a g && is_safe w a h
 is_safe w a (map f g) = is_safe w a g
 is_safe w a (alt g h) = is_safe w a g && is_safe w a h
@@ -86,24 +86,24 @@ is_safe w a (limited l d g) = is_safe w a g
 -- The next token decides at each point of the production what to read, and each part of it has a text.
 abbrev pub is_fine : {N : Type 0} {Tree : N → Type 0} → Claims N → {A : Type 0} → Production N Tree A → Bool
 is_fine c (one_of q) = some_is q terminal_count
-is_fine c (valued q good d) = some_is q terminal_count && is_limit d
-is_fine c (seq g h) = is_fine c g && (is_fine c h && disjoint (continuing c g) (first h))
+is_fine c (checked q good d) = some_is q terminal_count && is_limit d
+is_fine c (seq g h) = is_fine c g && (is_fine c h && are_disjoint (continuing c g) (first h))
 is_fine c (map f g) = is_fine c g
-is_fine c (alt g h) = is_fine c g && (is_fine c h && (not (may_be_empty g) && disjoint (first g) (first h)))
+is_fine c (alt g h) = is_fine c g && (is_fine c h && (not (may_be_empty g) && are_disjoint (first g) (first h)))
 is_fine c (pick q g h) =
     is_fine c g && (is_fine c h && (not (may_be_empty g) && (not (may_be_empty h)
     && (not (alone (both_first g h) g) && (not (alone (both_first g h) h)
-    && (within (second c (both_first g h) g) q && (disjoint (second c (both_first g h) h) q
+    && (is_within (second c (both_first g h) g) q && (are_disjoint (second c (both_first g h) h) q
     && (is_safe false (both_first g h) g && is_safe false (both_first g h) h))))))))
 is_fine c (opt g) = is_fine c g && not (may_be_empty g)
-is_fine c (star full g) = is_fine c g && (not (may_be_empty g) && (disjoint (continuing c g) (first g) && are_limits (full 0)))
+is_fine c (star full g) = is_fine c g && (not (may_be_empty g) && (are_disjoint (continuing c g) (first g) && are_limits (full 0)))
 is_fine c (after_token q n) = some_is q terminal_count
 is_fine c (limited l d g) = is_fine c g
 
 -- Has the production a text without nonterminals?
 abbrev pub has_plain : {N : Type 0} {Tree : N → Type 0} {A : Type 0} → Production N Tree A → Bool
 has_plain (one_of q) = some_is q terminal_count
-has_plain (valued q good d) = some_is q terminal_count
+has_plain (checked q good d) = some_is q terminal_count
 has_plain (seq g h) = has_plain g && has_plain h
 has_plain (map f g) = has_plain g
 has_plain (alt g h) = has_plain g || has_plain h
@@ -117,12 +117,12 @@ has_plain (limited l d g) = has_plain g
 abbrev pub are_names : {N : Type 0} {Tree : N → Type 0} → ((n : N) → Production N Tree (Tree n)) → Claims N → N → Bool
 are_names body c n =
     is_fine c (body n) && (has_plain (body n) && (not (may_be_empty (body n))
-    && (within (first (body n)) (c.firsts n) && within (continuing c (body n)) (c.continues n))))
+    && (is_within (first (body n)) (c.firsts n) && is_within (continuing c (body n)) (c.continues n))))
 
 -- No limit of the production has the code Syntax.
 abbrev pub LimitsOnly : {N : Type 0} {Tree : N → Type 0} {A : Type 0} → Production N Tree A → Type 0
 LimitsOnly (one_of q) = Unit {0}
-LimitsOnly (valued q good d) = is_limit d ≡ true
+LimitsOnly (checked q good d) = is_limit d ≡ true
 LimitsOnly (seq g h) = LimitsOnly g × LimitsOnly h
 LimitsOnly (map f g) = LimitsOnly g
 LimitsOnly (alt g h) = LimitsOnly g × LimitsOnly h

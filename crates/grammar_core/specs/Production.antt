@@ -1,4 +1,5 @@
 -- Grammars as data: which texts a production derives, with which trees and first faults. Nothing here says how a text is read: no lookahead, no order of choice.
+-- Source: the field's context-free grammars with synthesized attributes. That the first fault counts, and limits, are this project's own choice.
 use Rattle.std.specs.Prelude.{◌≡◌, ℕ, zero, suc, Bool, true, false, List, [], ◌∷◌, Option, Some, None, ◌⊎◌, ◌++◌, ◌≤◌, ◌<◌, ◌+◌, ◌-◌, length, take, nat_lt, if◌then◌else◌}
 use Rattle.grammar_core.specs.declared.token.Token.{Token}
 use Rattle.grammar_core.specs.Terminals.{Terminal}
@@ -9,8 +10,11 @@ use Rattle.grammar_core.specs.declared.code.Code.TheVariants.{Syntax}
 -- How many tokens a text may have: `at s` is the index in s of the first token that is too many. It depends on no token after that one.
 pub record Limit : Type 0 where
   pub at : List Token → ℕ
+  -- at least one token fits
   pub one : (s : List Token) → 1 ≤ at s
+  -- whether a prefix fits depends on it alone
   pub keeps : (w r r' : List Token) → length w ≤ at (w ++ r) → length w ≤ at (w ++ r')
+  -- where it ends depends on no later token
   pub stays : (w : List Token) (x : Token) (r r' : List Token) → at (w ++ x ∷ r) ≡ length w → at (w ++ x ∷ r') ≡ length w
 
 -- A production whose trees have type A. N is the type of nonterminals, and Tree n the type of the trees of nonterminal n. Recursion goes through nonterminals alone.
@@ -18,7 +22,7 @@ pub data Production (N : Type 0) (Tree : N → Type 0) : Type 0 → Type 1 where
   -- a token whose terminal is in the set
   one_of : (Terminal → Bool) → Production N Tree Token
   -- a token whose terminal is in the set; the code is its fault unless the test holds of it
-  valued : (Terminal → Bool) → (Token → Bool) → Code → Production N Tree Token
+  checked : (Terminal → Bool) → (Token → Bool) → Code → Production N Tree Token
   -- one text after another
   seq : {A B : Type 0} → Production N Tree A → Production N Tree B → Production N Tree (A × B)
   map : {A B : Type 0} → (A → B) → Production N Tree A → Production N Tree B
@@ -53,7 +57,7 @@ abbrev pub at_start : Option Code → Fault
 at_start None = None
 at_start (Some c) = Some (0, c)
 
--- a fault at the first token, unless the token is good
+-- a fault at the first token, unless the test holds of the token
 abbrev pub bad_unless : Bool → Code → Fault
 bad_unless true c = None
 bad_unless false c = Some (0, c)
@@ -80,7 +84,7 @@ abbrev pub Maybe : {A : Type 0} → Language A → List Token → Option A → F
 Maybe G s None o r = (s ≡ r) × (o ≡ None)
 Maybe G s (Some a) o r = G s a o r
 
--- a list of texts, of which the first has index i
+-- a list of texts; the first has index i
 abbrev pub Many : {A : Type 0} → (ℕ → Option Code) → Language A → ℕ → List Token → List A → Fault → List Token → Type 0
 Many full G i s [] o r = (s ≡ r) × (o ≡ None)
 Many full G i s (a ∷ more) o r = (m : List Token) × (x y : Fault) × G s a x m × Many full G (suc i) m more y r × (o ≡ then_fault (or_fault (at_start (full i)) x) (taken s m) y)
@@ -88,7 +92,7 @@ Many full G i s (a ∷ more) o r = (m : List Token) × (x y : Fault) × G s a x 
 -- The production derives the tokens of s before the rest r, with the tree t and the first fault o, where R are the languages of the nonterminals.
 abbrev pub Derives : {N : Type 0} {Tree : N → Type 0} → ((n : N) → Language (Tree n)) → {A : Type 0} → Production N Tree A → Language A
 Derives R (one_of q) s t o r = IsOne q s t r × (o ≡ None)
-Derives R (valued q good c) s t o r = IsOne q s t r × (o ≡ bad_unless (good t) c)
+Derives R (checked q is_valid c) s t o r = IsOne q s t r × (o ≡ bad_unless (is_valid t) c)
 Derives R (seq g h) s t o r = (m : List Token) × (x y : Fault) × Derives R g s t.0 x m × Derives R h m t.1 y r × (o ≡ then_fault x (taken s m) y)
 Derives R (map {A = A} f g) s t o r = (a : A) × Derives R g s a o r × (f a ≡ t)
 Derives R (alt g h) s t o r = Derives R g s t o r ⊎ Derives R h s t o r

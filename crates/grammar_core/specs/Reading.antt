@@ -5,7 +5,7 @@ use Rattle.grammar_core.specs.Terminals.{Terminal}
 use Rattle.grammar_core.specs.Terminals.{terminal_of}
 use Rattle.grammar_core.specs.declared.code.Code.{Code}
 use Rattle.grammar_core.specs.declared.code.Code.TheVariants.{Syntax}
-use Rattle.grammar_core.specs.Production.{Production, one_of, valued, seq, map, alt, opt, star, pick, after_token, limited}
+use Rattle.grammar_core.specs.Production.{Production, one_of, checked, seq, map, alt, opt, star, pick, after_token, limited}
 
 -- A fault by its distance from the end of the tokens: how many tokens are left there, and its code.
 abbrev pub FaultFromEnd : Type 0
@@ -23,7 +23,7 @@ abbrev pub ◌>>=◌ : {A B : Type 0} → Result A FaultFromEnd → (A → Resul
 -- May a text of this production be empty?
 abbrev pub may_be_empty : {N : Type 0} {Tree : N → Type 0} {A : Type 0} → Production N Tree A → Bool
 may_be_empty (one_of q) = false
-may_be_empty (valued q good c) = false
+may_be_empty (checked q good c) = false
 may_be_empty (seq g h) = may_be_empty g && may_be_empty h
 may_be_empty (map f g) = may_be_empty g
 may_be_empty (alt g h) = may_be_empty g || may_be_empty h
@@ -45,7 +45,7 @@ and_if false a b = a
 -- The first set of a production: the terminals that a text of it may begin with.
 abbrev pub first : {N : Type 0} {Tree : N → Type 0} {A : Type 0} → Production N Tree A → Terminal → Bool
 first (one_of q) = q
-first (valued q good c) = q
+first (checked q good c) = q
 first (seq g h) = and_if (may_be_empty g) (first g) (first h)
 first (map f g) = first g
 first (alt g h) = union (first g) (first h)
@@ -80,7 +80,7 @@ unfoldable pub many_at : {A : Type 0} → (ℕ → Option Code) → (Terminal �
 many_at full q p i zero s = Ok ([], s)
 many_at full q p i (suc n) s = if starts q s then refuse (full i) s (p s >>= λ a. many_at full q p (suc i) n a.1 >>= λ more. Ok (a.0 ∷ more.0, more.1)) else Ok ([], s)
 
--- the token that was read first in s if it is good, or else the code c at it
+-- the token that was read first in s if the test holds of it, or else the code c at it
 abbrev pub check : (Token → Bool) → Code → List Token → Token × List Token → Read Token
 check good c s x = if good x.0 then Ok x else Err (length s, c)
 
@@ -92,7 +92,7 @@ judge l c s (Err e) = if nat_lt l (length s - e.0) then Err (length s - l, c) el
 -- Reading a production, where p reads the nonterminals.
 abbrev pub run : {N : Type 0} {Tree : N → Type 0} → ((n : N) → List Token → Read (Tree n)) → {A : Type 0} → Production N Tree A → List Token → Read A
 run p (one_of q) s = token_at q s
-run p (valued q good c) s = token_at q s >>= check good c s
+run p (checked q good c) s = token_at q s >>= check good c s
 run p (seq g h) s = run p g s >>= λ a. run p h a.1 >>= λ b. Ok ((a.0, b.0), b.1)
 run p (map f g) s = run p g s >>= λ a. Ok (f a.0, a.1)
 run p (alt g h) s = if starts (first g) s then run p g s else run p h s

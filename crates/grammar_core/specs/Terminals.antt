@@ -1,4 +1,4 @@
--- Terminals, which a grammar knows by their numbers alone, and sets of them.
+-- Terminals as numbers, and sets of them.
 use Rattle.std.specs.Prelude.{ℕ, zero, suc, Bool, true, false, ◌&&◌, ◌||◌, ◌%◌, not}
 use Rattle.grammar_core.specs.declared.token.Token.{Token}
 
@@ -10,7 +10,7 @@ Terminal = ℕ
 abbrev pub terminal_count : ℕ
 terminal_count = 64
 
--- The terminal of a token.
+-- The terminal of a token: its number, reduced to 0 to 63 so that every token has one.
 unfoldable pub terminal_of : Token → Terminal
 terminal_of x = x.terminal % 64
 
@@ -25,9 +25,9 @@ some_is p zero = false
 some_is p (suc n) = p n || some_is p n
 
 -- Is no terminal in both sets?
-abbrev pub disjoint : (Terminal → Bool) → (Terminal → Bool) → Bool
-disjoint a b = all_are (λ k. not (a k && b k)) terminal_count
+abbrev pub are_disjoint : (Terminal → Bool) → (Terminal → Bool) → Bool
+are_disjoint a b = all_are (λ k. not (a k && b k)) terminal_count
 
 -- Is the first set within the second?
-abbrev pub within : (Terminal → Bool) → (Terminal → Bool) → Bool
-within a b = all_are (λ k. not (a k) || b k) terminal_count
+abbrev pub is_within : (Terminal → Bool) → (Terminal → Bool) → Bool
+is_within a b = all_are (λ k. not (a k) || b k) terminal_count

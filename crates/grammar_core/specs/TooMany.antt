@@ -1,4 +1,4 @@
--- The index of the first token that is too many.
+-- The index of the first token that is too many. Limits by count are this project's own choice.
 use Rattle.std.specs.Prelude.{ℕ, Bool, List, min, map, filter, slice_index_or}
 use Rattle.std.specs.List.{enumerate_from}
 use Rattle.grammar_core.specs.declared.token.Token.{Token}

@@ -3,7 +3,7 @@ use Rattle.std.proofs.Common.{◌≡◌, ℕ, suc, ◌+◌, ◌≤◌, ◌<◌, 
 use Rattle.std.proofs.Math.Seq.{drop-cons}
 use Rattle.std.proofs.lemmas.List.{drop_all}
 use Rattle.grammar_core.specs.declared.token.Token.{Token}
-use Rattle.grammar_core.specs.Terminals as engine
+use Rattle.grammar_core.specs.Terminals as numbered
 use Rattle.jdf_alphabet.specs.declared.terminal.Terminal.{Terminal}
 use Rattle.jdf_alphabet.specs.Terminals.{terminal_of}
 use Rattle.jdf_alphabet.specs.Counted.{is_counted}
@@ -28,12 +28,12 @@ module _ (q : ℕ → Bool) (s : List Token) (cap n i m : ℕ) (same : get_or (t
     here : drop i s ≡ get_or s i d ∷ drop (i + 1) s
     here = drop-cons s i d inside ∙ ap (λ (j : ℕ). get_or s i d ∷ drop j s) (sym (add-one i))
 
-    pub stops_here : i < cap → m ≡ 0 → q (engine.terminal_of (get_or s i d)) ≡ true → i ≡ limit_at q cap n s
+    pub stops_here : i < cap → m ≡ 0 → q (numbered.terminal_of (get_or s i d)) ≡ true → i ≡ limit_at q cap n s
     unfolding limit_at
     stops_here few e t = let k = rw (here, indices_kept q i (get_or s i d) (drop (i + 1) s) t, e) at same in omega (arith, k)
 
-    pub one_counted : (l : ℕ) → m ≡ suc l → q (engine.terminal_of (get_or s i d)) ≡ true → get_or (token_indices q (i + 1) (drop (i + 1) s)) l cap ≡ get_or (token_indices q 0 s) n cap
+    pub one_counted : (l : ℕ) → m ≡ suc l → q (numbered.terminal_of (get_or s i d)) ≡ true → get_or (token_indices q (i + 1) (drop (i + 1) s)) l cap ≡ get_or (token_indices q 0 s) n cap
     one_counted l e t = rw (here, indices_kept q i (get_or s i d) (drop (i + 1) s) t, e) at same
 
-    pub one_passed : q (engine.terminal_of (get_or s i d)) ≡ false → get_or (token_indices q (i + 1) (drop (i + 1) s)) m cap ≡ get_or (token_indices q 0 s) n cap
+    pub one_passed : q (numbered.terminal_of (get_or s i d)) ≡ false → get_or (token_indices q (i + 1) (drop (i + 1) s)) m cap ≡ get_or (token_indices q 0 s) n cap
     one_passed f = rw (here, indices_passed q i (get_or s i d) (drop (i + 1) s) f) at same

@@ -12,12 +12,12 @@ all_are p [] = true
 all_are p (k ∷ ks) = p k && all_are p ks
 
 -- Is no terminal in both sets?
-abbrev pub disjoint : (Terminal → Bool) → (Terminal → Bool) → Bool
-disjoint a b = all_are (λ k. not (a k && b k)) all_terminals
+abbrev pub are_disjoint : (Terminal → Bool) → (Terminal → Bool) → Bool
+are_disjoint a b = all_are (λ k. not (a k && b k)) all_terminals
 
 -- Is the first set within the second?
-abbrev pub within : (Terminal → Bool) → (Terminal → Bool) → Bool
-within a b = all_are (λ k. not (a k) || b k) all_terminals
+abbrev pub is_within : (Terminal → Bool) → (Terminal → Bool) → Bool
+is_within a b = all_are (λ k. not (a k) || b k) all_terminals
 
 listed : (k : Terminal) → get_or all_terminals (number_of k) Not ≡ k
 listed Name = refl
@@ -92,14 +92,14 @@ others = TypeWord ∷ Int ∷ If ∷ Else ∷ For ∷ Trap ∷ Number ∷ Quoted
 pub all_at : (p : Terminal → Bool) → all_are p all_terminals ≡ true → (k : Terminal) → p k ≡ true
 all_at p h k = subst (λ (x : Terminal). p x ≡ true) (listed k) (all_get p all_terminals Not (number_of k) (all_last p Name others h) h)
 
-pub disjoint_at : (a b : Terminal → Bool) → disjoint a b ≡ true → (k : Terminal) → a k ≡ true → b k ≡ false
+pub disjoint_at : (a b : Terminal → Bool) → are_disjoint a b ≡ true → (k : Terminal) → a k ≡ true → b k ≡ false
 disjoint_at a b h k x = go (a k) (b k) x (all_at (λ y. not (a y && b y)) h k)
   where
     go : (s t : Bool) → s ≡ true → not (s && t) ≡ true → t ≡ false
     go true t x e = not-true t e
     go false t x e = absurd cc
 
-pub within_at : (a b : Terminal → Bool) → within a b ≡ true → (k : Terminal) → a k ≡ true → b k ≡ true
+pub within_at : (a b : Terminal → Bool) → is_within a b ≡ true → (k : Terminal) → a k ≡ true → b k ≡ true
 within_at a b h k x = go (a k) (b k) x (all_at (λ y. not (a y) || b y) h k)
   where
     go : (s t : Bool) → s ≡ true → (not s || t) ≡ true → t ≡ true

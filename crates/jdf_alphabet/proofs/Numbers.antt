@@ -3,7 +3,7 @@ use Rattle.std.proofs.Common.{◌≡◌, ℕ, ◌<◌, refl, ◌∙◌, ap, arit
 use Rattle.std.specs.Prelude.{◌%◌}
 use Rattle.std.proofs.Math.Nat.{mod-eq_of_lt}
 use Rattle.grammar_core.specs.declared.token.Token.{Token}
-use Rattle.grammar_core.specs.Terminals as engine
+use Rattle.grammar_core.specs.Terminals as numbered
 use Rattle.jdf_alphabet.specs.declared.code.GrammarCode.{GrammarCode}
 use Rattle.jdf_alphabet.specs.declared.code.GrammarCode.TheVariants as grammar
 use Rattle.jdf_alphabet.specs.declared.terminal.Terminal.{Terminal}
@@ -121,7 +121,7 @@ below Not = omega arith
 
 -- A token with the number of a terminal has this terminal.
 pub token_terminal : (x : Token) (k : Terminal) → x.terminal ≡ number_of k → terminal_of x ≡ k
-unfolding engine.terminal_of
+unfolding numbered.terminal_of
 token_terminal x k e = ap terminal_at (ap (λ (n : ℕ). n % 64) e ∙ mod-eq_of_lt (below k)) ∙ terminal_of_number k
 
 pub code_of_number : (c : GrammarCode) → code_at (code_number c) ≡ c

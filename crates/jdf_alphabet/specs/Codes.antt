@@ -21,7 +21,7 @@ code_number grammar.TooManyVars = 8
 abbrev pub all_codes : List GrammarCode
 all_codes = grammar.BadNumber ∷ grammar.ExprTooLong ∷ grammar.TooManyClasses ∷ grammar.TooManyParams ∷ grammar.TooManyLocals ∷ grammar.TooManyFlows ∷ grammar.TooManyDeps ∷ grammar.TooDeep ∷ grammar.TooManyVars ∷ []
 
--- a code, or BadNumber where there is none
+-- a code, or BadNumber where there is none (a grammar states no other number)
 abbrev pub or_bad_number : Option GrammarCode → GrammarCode
 or_bad_number None = grammar.BadNumber
 or_bad_number (Some c) = c

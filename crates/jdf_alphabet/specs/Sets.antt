@@ -1,4 +1,4 @@
--- Productions and readings of the engine over sets of the terminals of JDF.
+-- The productions and readings of grammar_core, with sets of JDF's terminals in place of sets of numbers.
 use Rattle.std.specs.Prelude.{ℕ, Bool, List}
 use Rattle.grammar_core.specs.declared.code.Code.{Code}
 use Rattle.grammar_core.specs.declared.token.Token.{Token}
@@ -15,8 +15,8 @@ abbrev pub one_of : {N : Type 0} {Tree : N → Type 0} → (Terminal → Bool) �
 one_of q = production.one_of (set q)
 
 -- a token whose terminal is in the set; the code is its fault unless the test holds of it
-abbrev pub valued : {N : Type 0} {Tree : N → Type 0} → (Terminal → Bool) → (Token → Bool) → Code → Production N Tree Token
-valued q good c = production.valued (set q) good c
+abbrev pub checked : {N : Type 0} {Tree : N → Type 0} → (Terminal → Bool) → (Token → Bool) → Code → Production N Tree Token
+checked q is_valid c = production.checked (set q) is_valid c
 
 -- either of two productions: the first one where the token after the next one is in the set
 abbrev pub pick : {N : Type 0} {Tree : N → Type 0} {A : Type 0} → (Terminal → Bool) → Production N Tree A → Production N Tree A → Production N Tree A

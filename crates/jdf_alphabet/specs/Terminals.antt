@@ -1,8 +1,8 @@
--- The terminals of JDF: how they are spelled, and their numbers.
+-- The terminals of JDF: how they are spelled (source: the JDF documentation), and their numbers (this project's own choice).
 use Rattle.std.specs.Prelude.{ℕ, Bool, List, [], ◌∷◌, ◌==◌, if◌then◌else◌, codes, slice_get, Option, Some, None}
 use Rattle.std.specs.Str.{bytes_eq}
 use Rattle.grammar_core.specs.declared.token.Token.{Token}
-use Rattle.grammar_core.specs.Terminals as engine
+use Rattle.grammar_core.specs.Terminals as numbered
 use Rattle.jdf_alphabet.specs.declared.kind.TokenKind.{TokenKind}
 use Rattle.jdf_alphabet.specs.declared.kind.TokenKind.TheVariants as kinds
 use Rattle.jdf_alphabet.specs.declared.terminal.Terminal.{Terminal}
@@ -104,7 +104,7 @@ terminal_at n = or_other (slice_get all_terminals n)
 
 -- The terminal of a token, by its number.
 abbrev pub terminal_of : Token → Terminal
-terminal_of x = terminal_at (engine.terminal_of x)
+terminal_of x = terminal_at (numbered.terminal_of x)
 
 -- a set of terminals as a set of their numbers
 abbrev pub set : (Terminal → Bool) → ℕ → Bool

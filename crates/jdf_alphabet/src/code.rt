@@ -28,7 +28,7 @@ pub enum GrammarCode {
     TooManyVars,
 }
 
-/// The codes, each at the index that is its number.
+// The codes, each at the index that is its number.
 const CODES: [GrammarCode; 9] = [
     GrammarCode::BadNumber,
     GrammarCode::ExprTooLong,

@@ -8,8 +8,6 @@ mod laws;
 mod limit;
 mod next;
 mod terminal;
-#[cfg(test)]
-mod tests;
 
 pub use code::GrammarCode;
 pub use kind::TokenKind;

@@ -6,10 +6,10 @@ ghost use Rattle.jdf_alphabet.specs.Counted.{expression_limit, is_counted};
 use crate::terminal::Terminal;
 use grammar_core::Token;
 
-/// How many tokens an expression may have.
+// How many tokens an expression may have.
 const MOST_TOKENS: usize = 512;
 
-/// How many of its tokens may be names, numbers, operators and `?`.
+// How many of its tokens may be names, numbers, operators and `?`.
 const MOST_COUNTED: usize = 128;
 
 // Is this terminal a name, a number, an operator or `?`?

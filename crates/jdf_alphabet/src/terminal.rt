@@ -113,7 +113,7 @@ pub enum Terminal {
     Not,
 }
 
-/// The terminals, each at the index that is its number.
+// The terminals, each at the index that is its number.
 const TERMINALS: [Terminal; 51] = [
     Terminal::Name,
     Terminal::TypeWord,
@@ -168,7 +168,7 @@ const TERMINALS: [Terminal; 51] = [
     Terminal::Not,
 ];
 
-/// The words that are terminals of their own.
+// The words that are terminals of their own.
 const WORDS: [(&[u8], Terminal); 15] = [
     (b"type", Terminal::TypeWord),
     (b"int", Terminal::Int),
@@ -187,7 +187,7 @@ const WORDS: [(&[u8], Terminal); 15] = [
     (b"NULL", Terminal::Null),
 ];
 
-/// The marks.
+// The marks.
 const MARKS: [(&[u8], Terminal); 30] = [
     (b"(", Terminal::LeftParen),
     (b")", Terminal::RightParen),

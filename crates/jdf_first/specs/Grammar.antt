@@ -10,7 +10,7 @@ use Rattle.grammar_core.specs.declared.code.Code.{Code}
 use Rattle.jdf_alphabet.specs.Codes.{BadNumber, ExprTooLong, TooManyDeps}
 use Rattle.jdf_alphabet.specs.Terminals.{terminal_of, is, set}
 use Rattle.grammar_core.specs.Production.{Production, seq, map, alt, opt, star, limited}
-use Rattle.jdf_alphabet.specs.Sets.{one_of, valued, pick, after_token}
+use Rattle.jdf_alphabet.specs.Sets.{one_of, checked, pick, after_token}
 use Rattle.jdf_alphabet.specs.Counted.{is_name, expression_limit}
 use Rattle.grammar_core.specs.Predictive.{Claims}
 use Rattle.jdf_first.specs.declared.expression.Word.{Word}
@@ -72,7 +72,7 @@ is_good x = is_number x.text
 
 -- number = Number, which has to be a decimal number that fits
 unfoldable pub number : Grammar Expression
-number = map number_at (valued (is terminal.Number) is_good BadNumber)
+number = map number_at (checked (is terminal.Number) is_good BadNumber)
 
 -- an expression behind a word or a mark
 abbrev pub inside : Terminal → Part → Grammar Expression

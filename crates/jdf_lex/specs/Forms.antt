@@ -1,4 +1,5 @@
 -- The written form of each lexical unit, and the law that the lexical units of a text are those of these forms.
+-- Source: the JDF documentation; where it is silent, this project's own choice.
 use Rattle.std.specs.Prelude.{◌≡◌, ℕ, ◌||◌, ◌==◌, Bool, List, [], ◌∷◌, ◌++◌, codes, Some, IsTrue, IsFalse}
 use Rattle.std.specs.List.{list_all}
 use Rattle.jdf_lex.specs.declared.lexical_unit.LexicalUnit.{LexicalUnit}
@@ -38,7 +39,7 @@ pub data HasForm : LexicalUnit → List ℕ → Type 0 where
   quoted : (items : List ℕ) → IsQuotedItems items → HasForm (TokenOf Quoted) (34 ∷ (items ++ 34 ∷ []))
   -- `%{`, then bytes without `%}`, then `%}`
   raw : (w : List ℕ) → IsFreeOf (codes "%}") w → HasForm (TokenOf Raw) (codes "%{" ++ (w ++ codes "%}"))
-  -- `%option`, then bytes without LF, the first of which is not a letter, a digit or `_`
+  -- `%option`, then bytes without LF; the first one is not a letter, a digit or `_`
   option_line : (w : List ℕ) → IsFalse (begins_part w) → IsTrue (list_all is_not_lf w) → HasForm (TokenOf OptionLine) (codes "%option" ++ w)
   -- one of the marks
   mark : (w : List ℕ) → IsTrue (is_mark w) → HasForm (TokenOf Mark) w

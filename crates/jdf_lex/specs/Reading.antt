@@ -69,7 +69,7 @@ pub record IsCursorIn (text : List ℕ) (here : Cursor) : Type 0 where
   pub within : here.index ≤ length text
   pub spot : here.spot ≡ spot_after (take here.index text)
 
--- The text up to the cursor is scanned: it has these tokens, and no more than allowed.
+-- The text up to the cursor is scanned: it has these tokens, no more of them than the most that a text may have.
 pub record IsScanned (text : List ℕ) (tokens : List Token) (here : Cursor) : Type 0 where
   pub cursor : IsCursorIn text here
   pub at_most : length tokens ≤ 1000000

@@ -1,4 +1,5 @@
 -- The tokens of a JDF text and its first token fault, as relations: nothing here walks the bytes as a program would.
+-- That a text is refused with its first fault is this project's own choice.
 use Rattle.std.specs.Prelude.{◌≡◌, ℕ, ◌+◌, ◌≤◌, ◌⊎◌, Bool, true, false, not, ◌==◌, List, [], ◌∷◌, ◌++◌, length, count_by, Some, IsTrue, IsFalse}
 use Rattle.std.specs.List.{suffix_len}
 use Rattle.jdf_lex.specs.declared.fault.JdfCode.{JdfCode}

@@ -112,7 +112,8 @@ fn lex(alloc: Global, text: &[u8]) -> Result<Lexed, JdfRefusal>
 }
 
 /// The tokens of a text, at most 1,000,000, and the spot after its last byte; or its first token fault.
-// Each byte is read a bounded number of times; no clause says so.
+///
+/// Each byte is read a bounded number of times; no clause says so.
 pub fn tokens(alloc: Global, text: &str) -> Result<Lexed, JdfRefusal>
     requires { length text.now ≤ 16777216 }
     // The result is the list of the text's tokens.

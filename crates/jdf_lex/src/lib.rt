@@ -9,8 +9,6 @@ mod laws;
 mod lex;
 mod lexical_unit;
 mod opening;
-#[cfg(test)]
-mod tests;
 mod token;
 
 pub use fault::{JdfCode, JdfFault, JdfRefusal};

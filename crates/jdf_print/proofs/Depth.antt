@@ -3,7 +3,7 @@ use Rattle.std.proofs.Common.{ℕ, zero, suc, ◌+◌, ◌≤◌, List, [], ◌�
 use Rattle.std.specs.Prelude.{Option, Some, None}
 use Rattle.grammar_core.specs.declared.token.Token.{Token}
 use Rattle.grammar_core.specs.declared.code.Code.{Code}
-use Rattle.grammar_core.specs.Production.{Production, seq, map, alt, opt, star, limited, Fault, Language, Many, Derives, DerivedWithin, Derived, one_of, valued, pick, after_token}
+use Rattle.grammar_core.specs.Production.{Production, seq, map, alt, opt, star, limited, Fault, Language, Many, Derives, DerivedWithin, Derived, one_of, checked, pick, after_token}
 
 abbrev Into : {A : Type 0} → Language A → Language A → Type 0
 Into {A = A} G H = (s : List Token) (t : A) (o : Fault) (r : List Token) → G s t o r → H s t o r
@@ -14,7 +14,7 @@ many_map full G H f i (t ∷ ts) s o r h = (h.0, h.1, h.2, f s t h.1 h.0 h.3, ma
 
 derives_map : {N : Type 0} {Tree : N → Type 0} (R R' : (n : N) → Language (Tree n)) → ((n : N) → Into (R n) (R' n)) → {A : Type 0} (g : Production N Tree A) (s : List Token) (t : A) (o : Fault) (r : List Token) → Derives R g s t o r → Derives R' g s t o r
 derives_map R R' f (one_of q) s t o r h = h
-derives_map R R' f (valued q good c) s t o r h = h
+derives_map R R' f (checked q good c) s t o r h = h
 derives_map R R' f (seq g k) s t o r h = (h.0, h.1, h.2, derives_map R R' f g s t.0 h.1 h.0 h.3, derives_map R R' f k h.0 t.1 h.2 r h.4, h.5)
 derives_map R R' f (map v g) s t o r h = (h.0, derives_map R R' f g s h.0 o r h.1, h.2)
 derives_map R R' f (alt g k) s t o r h = elim h [ inl u ↦ inl (derives_map R R' f g s t o r u) | inr u ↦ inr (derives_map R R' f k s t o r u) ]
@@ -52,7 +52,7 @@ module _ {N : Type 0} {Tree : N → Type 0} (body : (n : N) → Production N Tre
 
   pub at_depth : {A : Type 0} (g : Production N Tree A) (s : List Token) (t : A) (o : Fault) (r : List Token) → Derives (Derived body) g s t o r → AtDepth g s t o r
   at_depth (one_of q) s t o r h = (0, h)
-  at_depth (valued q good c) s t o r h = (0, h)
+  at_depth (checked q good c) s t o r h = (0, h)
   at_depth (seq g k) s t o r h =
       let a = at_depth g s t.0 h.1 h.0 h.3 in
       let b = at_depth k h.0 t.1 h.2 r h.4 in

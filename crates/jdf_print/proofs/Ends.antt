@@ -4,7 +4,7 @@ use Rattle.std.specs.Prelude.{Option, Some, None, nat_lt}
 use Rattle.std.proofs.lemmas.Bool.{ltb-false}
 use Rattle.grammar_core.specs.declared.token.Token.{Token}
 use Rattle.grammar_core.specs.declared.code.Code.{Code}
-use Rattle.grammar_core.specs.Production.{Production, seq, map, alt, opt, star, limited, Fault, Language, Many, Derives, then_fault, or_fault, at_start, cut_at, one_of, valued, pick, after_token}
+use Rattle.grammar_core.specs.Production.{Production, seq, map, alt, opt, star, limited, Fault, Language, Many, Derives, then_fault, or_fault, at_start, cut_at, one_of, checked, pick, after_token}
 
 -- The second list is the end of the first.
 abbrev pub HasEnd : List Token → List Token → Type 0
@@ -25,7 +25,7 @@ many_has_end full G f i (t ∷ ts) s o r h = through s h.0 r (f s t h.1 h.0 h.3)
 
 pub derives_has_end : {N : Type 0} {Tree : N → Type 0} (R : (n : N) → Language (Tree n)) → ((n : N) → Shortens (R n)) → {A : Type 0} (g : Production N Tree A) (s : List Token) (t : A) (o : Fault) (r : List Token) → Derives R g s t o r → HasEnd s r
 derives_has_end R f (one_of q) s t o r h = one_has_end t s r h.0.0
-derives_has_end R f (valued q good c) s t o r h = one_has_end t s r h.0.0
+derives_has_end R f (checked q good c) s t o r h = one_has_end t s r h.0.0
 derives_has_end R f (seq g k) s t o r h = through s h.0 r (derives_has_end R f g s t.0 h.1 h.0 h.3) (derives_has_end R f k h.0 t.1 h.2 r h.4)
 derives_has_end R f (map v g) s t o r h = derives_has_end R f g s h.0 o r h.1
 derives_has_end R f (alt g k) s t o r h = elim h [ inl u ↦ derives_has_end R f g s t o r u | inr u ↦ derives_has_end R f k s t o r u ]

@@ -14,7 +14,7 @@ use Rattle.jdf_alphabet.specs.Counted.{is_name, is_counted}
 use Rattle.jdf_alphabet.specs.Sets.{limit_at, IsOne}
 use Rattle.grammar_core.specs.Production.{map, seq, opt, Fault, Language, Many, Derives, taken, bad_unless}
 use Rattle.jdf_alphabet.specs.Sets.{one_of}
-use Rattle.jdf_alphabet.proofs.Disjoint.{within, within_at}
+use Rattle.jdf_alphabet.proofs.Disjoint.{is_within, within_at}
 use Rattle.jdf_tree.specs.declared.expression.Word.{Word}
 use Rattle.jdf_tree.specs.declared.expression.ExprWithSpot.{ExprWithSpot}
 use Rattle.jdf_tree.specs.declared.part.Part.TheVariants.{Class}
@@ -44,7 +44,7 @@ abbrev counted : List Token → ℕ
 counted s = number_of is_counted s
 
 -- A token that counts, and any token.
-counts : (q : Terminal → Bool) → within q is_counted ≡ true → (s : List Token) (x : Token) (m : List Token) → IsOne q s x m → counted s ≡ 1 + counted m
+counts : (q : Terminal → Bool) → is_within q is_counted ≡ true → (s : List Token) (x : Token) (m : List Token) → IsOne q s x m → counted s ≡ 1 + counted m
 counts q w s x m h = ap counted h.0 ∙ ap (λ (b : Bool). cond b 1 0 + counted m) (within_at q is_counted w (terminal_of x) h.1)
 
 at_least : (b : Bool) (n : ℕ) → n ≤ cond b 1 0 + n
@@ -71,7 +71,7 @@ module _ (R : (n : Nonterminal) → Language (TreeOf n)) (B : (n : Nonterminal) 
   abbrev pub Tail : (Terminal → Bool) → Grammar ExprWithSpot → Grammar (BinOp × ExprWithSpot)
   Tail ops g = seq (map operator_of (one_of ops)) g
 
-  tail_facts : (ops : Terminal → Bool) → within ops is_counted ≡ true → (g : Grammar ExprWithSpot) → FactsOf (Derives R g) → (s : List Token) (x : BinOp × ExprWithSpot) (o : Fault) (r : List Token)
+  tail_facts : (ops : Terminal → Bool) → is_within ops is_counted ≡ true → (g : Grammar ExprWithSpot) → FactsOf (Derives R g) → (s : List Token) (x : BinOp × ExprWithSpot) (o : Fault) (r : List Token)
       → Derives R (Tail ops g) s x o r → o ≡ None → Every IsKnown s → IsWellFormed x.1.tree × (1 + weight x.1.tree + counted r ≤ counted s)
   tail_facts ops w g f s x o r h e known =
       let sign = h.3 in
@@ -79,7 +79,7 @@ module _ (R : (n : Nonterminal) → Language (TreeOf n)) (B : (n : Nonterminal) 
       let k = f h.0 x.1 h.2 r h.4 parts.1 (known_rest s h.0 (sign.0 ∷ [], sign.1.0.0) known) in
       (k.formed, omega (arith, k.spent, counts ops w s sign.0 h.0 sign.1.0))
 
-  many_facts : (ops : Terminal → Bool) → within ops is_counted ≡ true → (g : Grammar ExprWithSpot) → FactsOf (Derives R g) → (i n : ℕ) (a : Expression) → IsWellFormed a → (xs : List (BinOp × ExprWithSpot)) (s : List Token) (o : Fault) (r : List Token)
+  many_facts : (ops : Terminal → Bool) → is_within ops is_counted ≡ true → (g : Grammar ExprWithSpot) → FactsOf (Derives R g) → (i n : ℕ) (a : Expression) → IsWellFormed a → (xs : List (BinOp × ExprWithSpot)) (s : List Token) (o : Fault) (r : List Token)
       → weight a + counted s ≤ n → Many any (Derives R (Tail ops g)) i s xs o r → o ≡ None → Every IsKnown s → IsWellFormed (grouped a xs) × (weight (grouped a xs) + counted r ≤ n)
   many_facts ops w g f i n a formed [] s o r le h e known = (formed, omega (arith, le, ap counted h.0))
   many_facts ops w g f i n a formed (x ∷ xs) s o r le h e known =
@@ -87,7 +87,7 @@ module _ (R : (n : Nonterminal) → Language (TreeOf n)) (B : (n : Nonterminal) 
       let k = tail_facts ops w g f s x h.1 h.0 h.3 parts.0 known in
       many_facts ops w g f (suc i) n (Binary x.0 a x.1.tree) (formed, k.0) xs h.0 h.2 r (omega (arith, le, k.1)) h.4 parts.1 (rest_known (Tail ops g) s x h.1 h.0 h.3 known)
 
-  ranked_facts : (ops : Terminal → Bool) → within ops is_counted ≡ true → (g : Grammar ExprWithSpot) → FactsOf (Derives R g) → FactsOf (Derives R (ranked ops g))
+  ranked_facts : (ops : Terminal → Bool) → is_within ops is_counted ≡ true → (g : Grammar ExprWithSpot) → FactsOf (Derives R g) → FactsOf (Derives R (ranked ops g))
   ranked_facts ops w g f s p o r h e known =
       let a = h.0 in
       let q = h.1 in

@@ -10,7 +10,7 @@ use crate::writer::put;
 use jdf_tree::{ArgTree, ExprTree};
 use ptg_base::{OutOfMemory, Seq};
 
-// Puts the step of a range, if there is one.
+// Appends the step of a range, if there is one.
 fn put_step(out: &mut Seq<u8>, by: &Option<ExprTree>) -> Result<(), OutOfMemory>
     ensures { OnOk result (out.new ≡ out.old ++ text (step by.now)) }
 {
@@ -23,7 +23,7 @@ fn put_step(out: &mut Seq<u8>, by: &Option<ExprTree>) -> Result<(), OutOfMemory>
     }
 }
 
-/// Puts an argument, or the value of a definition.
+/// Appends an argument, or the value of a definition.
 pub(crate) fn put_argument(out: &mut Seq<u8>, arg: &ArgTree) -> Result<(), OutOfMemory>
     ensures { OnOk result (out.new ≡ out.old ++ text (argument arg.now)) }
 {
@@ -38,7 +38,7 @@ pub(crate) fn put_argument(out: &mut Seq<u8>, arg: &ArgTree) -> Result<(), OutOf
     }
 }
 
-// Puts the arguments after the first, a comma before each.
+// Appends the arguments after the first, a comma before each.
 fn put_later(out: &mut Seq<u8>, args: &[ArgTree]) -> Result<(), OutOfMemory>
     ensures { OnOk result (out.new ≡ out.old ++ text (flat_map (λ a. comma ++ argument a) args.now)) }
 {
@@ -49,7 +49,7 @@ fn put_later(out: &mut Seq<u8>, args: &[ArgTree]) -> Result<(), OutOfMemory>
     Ok(())
 }
 
-// Puts arguments with commas between them.
+// Appends arguments with commas between them.
 fn put_listed(out: &mut Seq<u8>, args: &[ArgTree]) -> Result<(), OutOfMemory>
     ensures { OnOk result (out.new ≡ out.old ++ text (with_commas (map argument args.now))) }
 {
@@ -60,7 +60,7 @@ fn put_listed(out: &mut Seq<u8>, args: &[ArgTree]) -> Result<(), OutOfMemory>
     put_later(out, later)
 }
 
-/// Puts a list of arguments in its parentheses.
+/// Appends a list of arguments in its parentheses.
 pub(crate) fn put_arguments(out: &mut Seq<u8>, args: &Seq<ArgTree>) -> Result<(), OutOfMemory>
     ensures { OnOk result (out.new ≡ out.old ++ text (arguments args.now)) }
 {

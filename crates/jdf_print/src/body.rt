@@ -9,7 +9,7 @@ use crate::writer::put;
 use jdf_lex::Token;
 use ptg_base::{OutOfMemory, Seq};
 
-// Puts the tokens after the first, a space before each.
+// Appends the tokens after the first, a space before each.
 fn put_later(out: &mut Seq<u8>, tokens: &[Token]) -> Result<(), OutOfMemory>
     ensures { OnOk result (out.new ≡ out.old ++ text (flat_map (λ t. space ∷ token t.text ∷ []) tokens.now)) }
 {
@@ -20,7 +20,7 @@ fn put_later(out: &mut Seq<u8>, tokens: &[Token]) -> Result<(), OutOfMemory>
     Ok(())
 }
 
-/// Puts the tokens of a body on a line, or nothing if there are none.
+/// Appends the tokens of a body on a line, or nothing if there are none.
 pub(crate) fn put_body(out: &mut Seq<u8>, tokens: &[Token]) -> Result<(), OutOfMemory>
     ensures { OnOk result (out.new ≡ out.old ++ text (body tokens.now)) }
 {

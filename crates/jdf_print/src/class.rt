@@ -26,7 +26,7 @@ fn word_of_kind(kind: FlowKind) -> &'static [u8]
     }
 }
 
-// Puts dependences, each on a line.
+// Appends dependences, each on a line.
 fn put_dependences(out: &mut Seq<u8>, deps: &[DepTree]) -> Result<(), OutOfMemory>
     ensures { OnOk result (out.new ≡ out.old ++ text (flat_map dependence deps.now)) }
 {
@@ -36,7 +36,7 @@ fn put_dependences(out: &mut Seq<u8>, deps: &[DepTree]) -> Result<(), OutOfMemor
     Ok(())
 }
 
-// Puts a flow on a line, then its dependences.
+// Appends a flow on a line, then its dependences.
 fn put_flow(out: &mut Seq<u8>, f: &FlowTree) -> Result<(), OutOfMemory>
     ensures { OnOk result (out.new ≡ out.old ++ text (flow f.now)) }
 {
@@ -47,7 +47,7 @@ fn put_flow(out: &mut Seq<u8>, f: &FlowTree) -> Result<(), OutOfMemory>
     put_dependences(out, f.deps.as_slice())
 }
 
-// Puts flows.
+// Appends flows.
 fn put_flows(out: &mut Seq<u8>, flows: &[FlowTree]) -> Result<(), OutOfMemory>
     ensures { OnOk result (out.new ≡ out.old ++ text (flat_map flow flows.now)) }
 {
@@ -57,7 +57,7 @@ fn put_flows(out: &mut Seq<u8>, flows: &[FlowTree]) -> Result<(), OutOfMemory>
     Ok(())
 }
 
-// Puts a definition on a line.
+// Appends a definition on a line.
 fn put_definition(out: &mut Seq<u8>, d: &DefTree) -> Result<(), OutOfMemory>
     ensures { OnOk result (out.new ≡ out.old ++ text (definition d.now)) }
 {
@@ -67,7 +67,7 @@ fn put_definition(out: &mut Seq<u8>, d: &DefTree) -> Result<(), OutOfMemory>
     put(out, b"\n")
 }
 
-// Puts definitions.
+// Appends definitions.
 fn put_definitions(out: &mut Seq<u8>, defs: &[DefTree]) -> Result<(), OutOfMemory>
     ensures { OnOk result (out.new ≡ out.old ++ text (flat_map definition defs.now)) }
 {
@@ -77,7 +77,7 @@ fn put_definitions(out: &mut Seq<u8>, defs: &[DefTree]) -> Result<(), OutOfMemor
     Ok(())
 }
 
-// Puts the parameters after the first, a comma before each.
+// Appends the parameters after the first, a comma before each.
 fn put_later(out: &mut Seq<u8>, names: &[Word]) -> Result<(), OutOfMemory>
     ensures { OnOk result (out.new ≡ out.old ++ text (flat_map (λ w. comma ++ token w.text ∷ []) names.now)) }
 {
@@ -88,7 +88,7 @@ fn put_later(out: &mut Seq<u8>, names: &[Word]) -> Result<(), OutOfMemory>
     Ok(())
 }
 
-// Puts parameters with commas between them.
+// Appends parameters with commas between them.
 fn put_parameters(out: &mut Seq<u8>, names: &[Word]) -> Result<(), OutOfMemory>
     ensures { OnOk result (out.new ≡ out.old ++ text (with_commas (map (λ w. token w.text ∷ []) names.now))) }
 {
@@ -99,7 +99,7 @@ fn put_parameters(out: &mut Seq<u8>, names: &[Word]) -> Result<(), OutOfMemory>
     put_later(out, later)
 }
 
-// Puts the name of a class and its parameters on a line.
+// Appends the name of a class and its parameters on a line.
 fn put_head(out: &mut Seq<u8>, c: &ClassTree) -> Result<(), OutOfMemory>
     ensures { OnOk result (out.new ≡ out.old ++ text (head c.now)) }
 {
@@ -109,7 +109,7 @@ fn put_head(out: &mut Seq<u8>, c: &ClassTree) -> Result<(), OutOfMemory>
     put(out, b")\n")
 }
 
-// Puts the affinity of a class on a line.
+// Appends the affinity of a class on a line.
 fn put_affinity(out: &mut Seq<u8>, c: &ClassTree) -> Result<(), OutOfMemory>
     ensures { OnOk result (out.new ≡ out.old ++ text (affinity c.now)) }
 {
@@ -119,7 +119,7 @@ fn put_affinity(out: &mut Seq<u8>, c: &ClassTree) -> Result<(), OutOfMemory>
     put(out, b"\n")
 }
 
-// Puts a priority on a line, if there is one.
+// Appends a priority on a line, if there is one.
 fn put_priority(out: &mut Seq<u8>, value: &Option<ExprTree>) -> Result<(), OutOfMemory>
     ensures { OnOk result (out.new ≡ out.old ++ text (priority value.now)) }
 {
@@ -133,7 +133,7 @@ fn put_priority(out: &mut Seq<u8>, value: &Option<ExprTree>) -> Result<(), OutOf
     }
 }
 
-/// Puts an empty line and a class.
+/// Appends an empty line and a class.
 pub(crate) fn put_class(out: &mut Seq<u8>, c: &ClassTree) -> Result<(), OutOfMemory>
     ensures { OnOk result (out.new ≡ out.old ++ text (class c.now)) }
 {

@@ -42,7 +42,7 @@ fn operator_of(op: BinOp) -> &'static [u8]
     }
 }
 
-// Puts an expression by the node at its root, every operator in parentheses.
+// Appends an expression by the node at its root, every operator in parentheses.
 fn put_node(out: &mut Seq<u8>, node: &ExprNode) -> Result<(), OutOfMemory>
     ensures { OnOk result (out.new ≡ out.old ++ text (expression (expression_of node.now))) }
 {
@@ -82,7 +82,7 @@ fn put_node(out: &mut Seq<u8>, node: &ExprNode) -> Result<(), OutOfMemory>
     }
 }
 
-/// Puts an expression.
+/// Appends an expression.
 pub(crate) fn put_expression(out: &mut Seq<u8>, e: &ExprTree) -> Result<(), OutOfMemory>
     ensures { OnOk result (out.new ≡ out.old ++ text (expression e.now)) }
 {

@@ -7,7 +7,7 @@ use crate::writer::put;
 use itoa::Buffer;
 use ptg_base::{OutOfMemory, Seq};
 
-/// Puts a number: its digits, with a sign before them if it is negative.
+/// Appends a number: its digits, with a sign before them if it is negative.
 pub(crate) fn put_number(out: &mut Seq<u8>, n: i64) -> Result<(), OutOfMemory>
     ensures { OnOk result (out.new ≡ out.old ++ signed_decimal n) }
 {

@@ -1,4 +1,4 @@
-//! Whole trees.
+//! Prints a whole tree.
 
 ghost use Rattle.std.specs.Prelude.{◌≡◌, ◌∷◌, [], ◌++◌, OnOk, IfOk};
 ghost use Rattle.std.specs.List.{flat_map};
@@ -11,7 +11,7 @@ use jdf_tree::{ClassTree, Jdf, Word};
 use ptg_base::{OutOfMemory, Seq, Text};
 use std::alloc::Global;
 
-// Puts each global on a line.
+// Appends each global on a line.
 fn put_globals(out: &mut Seq<u8>, names: &[Word]) -> Result<(), OutOfMemory>
     ensures { OnOk result (out.new ≡ out.old ++ text (flat_map (λ w. line (token w.text ∷ [])) names.now)) }
 {
@@ -22,7 +22,7 @@ fn put_globals(out: &mut Seq<u8>, names: &[Word]) -> Result<(), OutOfMemory>
     Ok(())
 }
 
-// Puts classes, an empty line before each.
+// Appends classes, an empty line before each.
 fn put_classes(out: &mut Seq<u8>, classes: &[ClassTree]) -> Result<(), OutOfMemory>
     ensures { OnOk result (out.new ≡ out.old ++ text (flat_map class classes.now)) }
 {

@@ -10,7 +10,7 @@ use crate::writer::{put, put_word};
 use jdf_tree::{DepTree, ExprTree, TargetTree, Word};
 use ptg_base::{OutOfMemory, Seq};
 
-// Puts a target of a dependence.
+// Appends a target of a dependence.
 fn put_target(out: &mut Seq<u8>, to: &TargetTree) -> Result<(), OutOfMemory>
     ensures { OnOk result (out.new ≡ out.old ++ text (target to.now)) }
 {
@@ -30,7 +30,7 @@ fn put_target(out: &mut Seq<u8>, to: &TargetTree) -> Result<(), OutOfMemory>
     }
 }
 
-// Puts a guard and its `?`, if there is one.
+// Appends a guard and its `?`, if there is one.
 fn put_guard(out: &mut Seq<u8>, condition: &Option<ExprTree>) -> Result<(), OutOfMemory>
     ensures { OnOk result (out.new ≡ out.old ++ text (guard condition.now)) }
 {
@@ -43,7 +43,7 @@ fn put_guard(out: &mut Seq<u8>, condition: &Option<ExprTree>) -> Result<(), OutO
     }
 }
 
-// Puts the target for a guard that is false, if there is one.
+// Appends the target for a guard that is false, if there is one.
 fn put_other(out: &mut Seq<u8>, no: &Option<TargetTree>) -> Result<(), OutOfMemory>
     ensures { OnOk result (out.new ≡ out.old ++ text (other no.now)) }
 {
@@ -56,7 +56,7 @@ fn put_other(out: &mut Seq<u8>, no: &Option<TargetTree>) -> Result<(), OutOfMemo
     }
 }
 
-// Puts the name of a datatype in its brackets, if there is one.
+// Appends the name of a datatype in its brackets, if there is one.
 fn put_datatype(out: &mut Seq<u8>, name: &Option<Word>) -> Result<(), OutOfMemory>
     ensures { OnOk result (out.new ≡ out.old ++ text (datatype name.now)) }
 {
@@ -77,7 +77,7 @@ fn arrow_of(inward: bool) -> &'static [u8]
     if inward { b"<-" } else { b"->" }
 }
 
-/// Puts a dependence on a line, indented by two spaces.
+/// Appends a dependence on a line, indented by two spaces.
 pub(crate) fn put_dependence(out: &mut Seq<u8>, d: &DepTree) -> Result<(), OutOfMemory>
     ensures { OnOk result (out.new ≡ out.old ++ text (dependence d.now)) }
 {

@@ -6,14 +6,14 @@ ghost use Rattle.jdf_print.specs.Fragments.{token, text};
 use jdf_tree::Word;
 use ptg_base::{OutOfMemory, Seq};
 
-/// Puts bytes at the end of the output.
+/// Appends bytes to the output.
 pub(crate) fn put(out: &mut Seq<u8>, bytes: &[u8]) -> Result<(), OutOfMemory>
     ensures { OnOk result (out.new ≡ out.old ++ bytes.now) }
 {
     out.append(bytes)
 }
 
-/// Puts the bytes of a word.
+/// Appends the bytes of a word.
 pub(crate) fn put_word(out: &mut Seq<u8>, word: &Word) -> Result<(), OutOfMemory>
     ensures { OnOk result (out.new ≡ out.old ++ word.now.text) }
 {

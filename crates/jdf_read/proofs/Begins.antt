@@ -9,7 +9,7 @@ use Rattle.jdf_alphabet.specs.Counted.{is_name}
 use Rattle.grammar_core.specs.Production.{opt}
 use Rattle.jdf_alphabet.specs.Sets.{pick, starts}
 use Rattle.grammar_core.specs.Reading.{Read, ◌>>=◌, first, picks, reading}
-use Rattle.grammar_core.specs.Reading as engine
+use Rattle.grammar_core.specs.Reading as numbered
 use Rattle.grammar_core.specs.Terminals as terminals
 use Rattle.grammar_core.proofs.Sets.{alike_at}
 use Rattle.grammar_core.proofs.Loops.{pair_with, applied}
@@ -23,7 +23,7 @@ use Rattle.jdf_tree.specs.Grammar.{productions, begins_operand}
 use Rattle.jdf_read.specs.Next.{is_target}
 
 -- arguments begin with an operand
-pub arguments_begin : (s : List Token) → engine.starts (first arguments) s ≡ starts (begins_operand Class) s
+pub arguments_begin : (s : List Token) → numbered.starts (first arguments) s ≡ starts (begins_operand Class) s
 unfolding terminal_at arguments argument outer expr disjunction conjunction equality relation sum product unary signed number reference parens
 arguments_begin [] = refl
 arguments_begin (x ∷ s) = alike_at (first arguments) (set (begins_operand Class)) refl refl x
@@ -54,7 +54,7 @@ choice_reads s = rw (target_begins s) refl
 
 -- ---- dependences
 
-pub datatype_begins : (s : List Token) → engine.starts (first datatype) s ≡ starts (is terminal.LeftBracket) s
+pub datatype_begins : (s : List Token) → numbered.starts (first datatype) s ≡ starts (is terminal.LeftBracket) s
 unfolding datatype
 datatype_begins s = refl
 
@@ -81,10 +81,10 @@ dependence_reads s = thrice (reading productions arrow s) (reading productions (
 
 -- ---- classes
 
-pub parameters_begin : (s : List Token) → engine.starts (first parameters) s ≡ starts (names Class) s
+pub parameters_begin : (s : List Token) → numbered.starts (first parameters) s ≡ starts (names Class) s
 unfolding parameters
 parameters_begin s = refl
 
-pub properties_begin : (s : List Token) → engine.starts (first properties) s ≡ starts (is terminal.LeftBracket) s
+pub properties_begin : (s : List Token) → numbered.starts (first properties) s ≡ starts (is terminal.LeftBracket) s
 unfolding properties
 properties_begin s = refl

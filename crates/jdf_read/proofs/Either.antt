@@ -17,7 +17,7 @@ use Rattle.grammar_core.specs.Reading.{FaultFromEnd, whole}
 use Rattle.jdf_tree.specs.declared.tree.Jdf.{Jdf}
 use Rattle.jdf_tree.specs.Grammar.{productions, file}
 use Rattle.jdf_tree.specs.Jdf.{IsJdf}
-use Rattle.jdf_tree.specs.Fault.{start, code_at_token, StopsBeingUtf8, IsGrammarFault, IsJdfFault}
+use Rattle.jdf_tree.specs.Fault.{first_spot, code_at_token, StopsBeingUtf8, IsGrammarFault, IsJdfFault}
 use Rattle.jdf_read.specs.Laws.{TreeOrFault}
 use Rattle.jdf_read.proofs.Limits.{found, faulty}
 use Rattle.jdf_read.proofs.File.{too_long, bad_token}
@@ -77,8 +77,8 @@ named_fault tokens end i c first = go (slice_get tokens i) refl
   where
     go : (o : Option Token) → slice_get tokens i ≡ o → (fault : JdfFault) × IsGrammarFault tokens end fault
     go (Some token) e =
-        (record { spot = token.spot; code = code_at_token c }, record { token_index = i; code = c; first = first; named = inl (token, e, refl) })
-    go None e = (record { spot = end; code = jdf.Truncated }, record { token_index = i; code = c; first = first; named = inr (e, refl) })
+        (record { spot = token.spot; code = code_at_token c }, record { token_index = i; code = c; first = first; fault_is = inl (token, e, refl) })
+    go None e = (record { spot = end; code = jdf.Truncated }, record { token_index = i; code = c; first = first; fault_is = inr (e, refl) })
 
 by_grammar : (bytes : List ℕ) → length bytes ≤ 16777216 → IsUtf8 bytes → (tokens : List Token) (end : Spot) → IsLexed bytes tokens end → length tokens ≤ 1000000 → Either bytes
 by_grammar bytes size utf8 tokens end lexed number = go (whole productions file tokens) refl
@@ -87,7 +87,7 @@ by_grammar bytes size utf8 tokens end lexed number = go (whole productions file 
     go (Ok tree) e = inl (tree, record { bytes_at_most = size; utf8 = utf8; tokens = tokens; end = end; lexed = lexed; tokens_at_most = number; text = found tokens tree e })
     go (Err n) e =
         let fault = named_fault tokens end (length tokens - n.0) n.1 (faulty tokens n.0 n.1 e) in
-        inr (fault.0, inr (inr (inr (record { bytes_at_most = size; utf8 = utf8; tokens = tokens; end = end; lexed = lexed; tokens_at_most = number; wrong = fault.1 }))))
+        inr (fault.0, inr (inr (inr (record { bytes_at_most = size; utf8 = utf8; tokens = tokens; end = end; lexed = lexed; tokens_at_most = number; fault_is = fault.1 }))))
 
 -- ---- the text
 
@@ -104,12 +104,12 @@ by_encoding bytes size =
       | inl t ↦ by_tokens bytes size (IsUtf8-from_is_utf8 bytes t)
       | inr f ↦
           let k = stops_somewhere bytes f in
-          inr (record { spot = spot_after (take k.0 bytes); code = jdf.NotUtf8 }, inr (inl (record { bytes_at_most = size; at = k.0; stops = k.1; named = refl })))
+          inr (record { spot = spot_after (take k.0 bytes); code = jdf.NotUtf8 }, inr (inl (record { bytes_at_most = size; at = k.0; stops = k.1; fault_is = refl })))
     ]
 
 pub tree_or_fault : TreeOrFault
 tree_or_fault bytes =
     elim (cases_lt 16777216 (length bytes)) [
-      | inl long ↦ inr (record { spot = start; code = jdf.TooLong }, too_long bytes _ long refl)
+      | inl long ↦ inr (record { spot = first_spot; code = jdf.TooLong }, too_long bytes _ long refl)
       | inr size ↦ by_encoding bytes size
     ]

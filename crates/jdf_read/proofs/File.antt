@@ -18,7 +18,7 @@ use Rattle.grammar_core.specs.Returns.{ReadRefusal, Fails}
 use Rattle.grammar_core.specs.Reading.{FaultFromEnd, whole}
 use Rattle.jdf_tree.specs.declared.tree.Jdf.{Jdf}
 use Rattle.jdf_tree.specs.Jdf.{IsJdf}
-use Rattle.jdf_tree.specs.Fault.{start, code_at_token, IsJdfFault}
+use Rattle.jdf_tree.specs.Fault.{first_spot, code_at_token, IsJdfFault}
 use Rattle.jdf_tree.specs.Grammar.{productions, file}
 use Rattle.jdf_read.proofs.Limits.{found, faulty}
 use Rattle.jdf_read.proofs.Once.{one_tree, one_fault, not_both}
@@ -50,7 +50,7 @@ fault_is_named text lexed slice left code f at_most_bytes utf8 is slices e at_to
       end = lexed.end;
       lexed = is.0;
       tokens_at_most = is.1;
-      wrong = record { token_index = token_index; code = code; first = faulty lexed.tokens left code (ap (whole productions file) (sym slices) ∙ e); named = go (slice_get lexed.tokens token_index) refl };
+      fault_is = record { token_index = token_index; code = code; first = faulty lexed.tokens left code (ap (whole productions file) (sym slices) ∙ e); fault_is = go (slice_get lexed.tokens token_index) refl };
     })))
   where
     token_index : ℕ
@@ -63,10 +63,10 @@ fault_is_named text lexed slice left code f at_most_bytes utf8 is slices e at_to
     go None h = inr (h, at_end h)
 
 pub bad_token : (text : List ℕ) (f : JdfFault) → length text ≤ 16777216 → IsUtf8 text → IsTokenFault text f → IsJdfFault text f
-bad_token text f at_most_bytes utf8 wrong = inr (inr (inl (record { bytes_at_most = at_most_bytes; utf8 = utf8; wrong = wrong })))
+bad_token text f at_most_bytes utf8 wrong = inr (inr (inl (record { bytes_at_most = at_most_bytes; utf8 = utf8; fault_is = wrong })))
 
-pub too_long : (bytes : List ℕ) (f : JdfFault) → 16777216 < length bytes → f ≡ record { spot = start; code = jdf.TooLong } → IsJdfFault bytes f
-too_long bytes f long e = inl (record { long = long; named = e })
+pub too_long : (bytes : List ℕ) (f : JdfFault) → 16777216 < length bytes → f ≡ record { spot = first_spot; code = jdf.TooLong } → IsJdfFault bytes f
+too_long bytes f long e = inl (record { long = long; fault_is = e })
 
 at_most : (n m : ℕ) → (m < n → ⊥) → n ≤ m
 at_most n m h = go (nat_lt m n) refl
@@ -81,7 +81,7 @@ no_utf8 bytes at f at_most_bytes valid e =
       bytes_at_most = at_most_bytes;
       at = at;
       stops = record { within = valid.short; before = valid.front; longest = λ n bound u. at_most n at (λ past. valid.longest n past u) };
-      named = e;
+      fault_is = e;
     }))
 
 pub no_utf8_at : (bytes : List ℕ) (at n : ℕ) (spot : Spot) → length bytes ≤ 16777216 → IsValidUpTo bytes n → at ≡ n → spot ≡ spot_after (take at bytes) → IsJdfFault bytes (record { spot = spot; code = jdf.NotUtf8 })

@@ -16,7 +16,7 @@ use Rattle.grammar_core.specs.Reading.{FaultFromEnd, whole}
 use Rattle.jdf_tree.specs.declared.tree.Jdf.{Jdf}
 use Rattle.jdf_tree.specs.Grammar.{productions, file}
 use Rattle.jdf_tree.specs.Jdf.{IsJdf}
-use Rattle.jdf_tree.specs.Fault.{StopsBeingUtf8, code_at_token, IsGrammarFault, IsNoText}
+use Rattle.jdf_tree.specs.Fault.{StopsBeingUtf8, code_at_token, IsGrammarFault, HasGrammarFault}
 use Rattle.jdf_read.specs.Laws.{OneTree, OneFault, NotBoth}
 use Rattle.jdf_read.proofs.Limits.{only, fault_read, fault_index}
 
@@ -72,16 +72,16 @@ one_end_of_utf8 bytes a b x y =
 
 -- ---- no text has a tree and a fault
 
-no_grammar_fault : (bytes : List ℕ) (a : Jdf) (f : JdfFault) → IsJdf bytes a → IsNoText bytes f → ⊥
+no_grammar_fault : (bytes : List ℕ) (a : Jdf) (f : JdfFault) → IsJdf bytes a → HasGrammarFault bytes f → ⊥
 no_grammar_fault bytes a f x y =
     let same = (one_list bytes x.tokens y.tokens x.end y.end x.lexed y.lexed).0 in
     let read : whole productions file y.tokens ≡ Ok a = ap (whole productions file) (sym same) ∙ only x.tokens a x.text in
-    not_failed a _ _ (sym read ∙ fault_read y.tokens y.wrong.token_index y.wrong.code y.wrong.first)
+    not_failed a _ _ (sym read ∙ fault_read y.tokens y.fault_is.token_index y.fault_is.code y.fault_is.first)
 
 pub not_both : NotBoth
 not_both bytes a f x (inl y) = let short = x.bytes_at_most in let long = y.long in omega (arith, short, long)
 not_both bytes a f x (inr (inl y)) = not_utf8 bytes y.at y.stops x.utf8
-not_both bytes a f x (inr (inr (inl y))) = no_fault bytes x.tokens x.end f x.lexed x.tokens_at_most y.wrong
+not_both bytes a f x (inr (inr (inl y))) = no_fault bytes x.tokens x.end f x.lexed x.tokens_at_most y.fault_is
 not_both bytes a f x (inr (inr (inr y))) = no_grammar_fault bytes a f x y
 
 -- ---- one first fault
@@ -121,28 +121,28 @@ same_wrong tokens end f g x y =
     let a = fault_index tokens x.token_index x.code x.first in
     let b = fault_index tokens y.token_index y.code y.first in
     let token_index : x.token_index ≡ y.token_index = omega (arith, left, a, b) in
-    same_named tokens end y.token_index y.code f g (subst (λ (c : Code). IsNamed tokens end y.token_index c f) code (subst (λ (p : ℕ). IsNamed tokens end p x.code f) token_index x.named)) y.named
+    same_named tokens end y.token_index y.code f g (subst (λ (c : Code). IsNamed tokens end y.token_index c f) code (subst (λ (p : ℕ). IsNamed tokens end p x.code f) token_index x.fault_is)) y.fault_is
 
-same_no_text : (bytes : List ℕ) (f g : JdfFault) → IsNoText bytes f → IsNoText bytes g → f ≡ g
+same_no_text : (bytes : List ℕ) (f g : JdfFault) → HasGrammarFault bytes f → HasGrammarFault bytes g → f ≡ g
 same_no_text bytes f g x y =
     let same = one_list bytes x.tokens y.tokens x.end y.end x.lexed y.lexed in
-    let moved : IsGrammarFault y.tokens y.end f = subst (λ (e : Spot). IsGrammarFault y.tokens e f) same.1 (subst (λ (t : List Token). IsGrammarFault t x.end f) same.0 x.wrong) in
-    same_wrong y.tokens y.end f g moved y.wrong
+    let moved : IsGrammarFault y.tokens y.end f = subst (λ (e : Spot). IsGrammarFault y.tokens e f) same.1 (subst (λ (t : List Token). IsGrammarFault t x.end f) same.0 x.fault_is) in
+    same_wrong y.tokens y.end f g moved y.fault_is
 
 pub one_fault : OneFault
-one_fault bytes f g (inl x) (inl y) = x.named ∙ sym y.named
+one_fault bytes f g (inl x) (inl y) = x.fault_is ∙ sym y.fault_is
 one_fault bytes f g (inl x) (inr (inl y)) = absurd (too_short bytes x.long y.bytes_at_most)
 one_fault bytes f g (inl x) (inr (inr (inl y))) = absurd (too_short bytes x.long y.bytes_at_most)
 one_fault bytes f g (inl x) (inr (inr (inr y))) = absurd (too_short bytes x.long y.bytes_at_most)
 one_fault bytes f g (inr (inl x)) (inl y) = absurd (too_short bytes y.long x.bytes_at_most)
-one_fault bytes f g (inr (inl x)) (inr (inl y)) = x.named ∙ (ap (λ (n : ℕ). record { spot = spot_after (take n bytes); code = jdf.NotUtf8 }) (one_end_of_utf8 bytes x.at y.at x.stops y.stops) ∙ sym y.named)
+one_fault bytes f g (inr (inl x)) (inr (inl y)) = x.fault_is ∙ (ap (λ (n : ℕ). record { spot = spot_after (take n bytes); code = jdf.NotUtf8 }) (one_end_of_utf8 bytes x.at y.at x.stops y.stops) ∙ sym y.fault_is)
 one_fault bytes f g (inr (inl x)) (inr (inr (inl y))) = absurd (not_utf8 bytes x.at x.stops y.utf8)
 one_fault bytes f g (inr (inl x)) (inr (inr (inr y))) = absurd (not_utf8 bytes x.at x.stops y.utf8)
 one_fault bytes f g (inr (inr (inl x))) (inl y) = absurd (too_short bytes y.long x.bytes_at_most)
 one_fault bytes f g (inr (inr (inl x))) (inr (inl y)) = absurd (not_utf8 bytes y.at y.stops x.utf8)
-one_fault bytes f g (inr (inr (inl x))) (inr (inr (inl y))) = lex.one_fault bytes f g x.wrong y.wrong
-one_fault bytes f g (inr (inr (inl x))) (inr (inr (inr y))) = absurd (no_fault bytes y.tokens y.end f y.lexed y.tokens_at_most x.wrong)
+one_fault bytes f g (inr (inr (inl x))) (inr (inr (inl y))) = lex.one_fault bytes f g x.fault_is y.fault_is
+one_fault bytes f g (inr (inr (inl x))) (inr (inr (inr y))) = absurd (no_fault bytes y.tokens y.end f y.lexed y.tokens_at_most x.fault_is)
 one_fault bytes f g (inr (inr (inr x))) (inl y) = absurd (too_short bytes y.long x.bytes_at_most)
 one_fault bytes f g (inr (inr (inr x))) (inr (inl y)) = absurd (not_utf8 bytes y.at y.stops x.utf8)
-one_fault bytes f g (inr (inr (inr x))) (inr (inr (inl y))) = absurd (no_fault bytes x.tokens x.end g x.lexed x.tokens_at_most y.wrong)
+one_fault bytes f g (inr (inr (inr x))) (inr (inr (inl y))) = absurd (no_fault bytes x.tokens x.end g x.lexed x.tokens_at_most y.fault_is)
 one_fault bytes f g (inr (inr (inr x))) (inr (inr (inr y))) = same_no_text bytes f g x y

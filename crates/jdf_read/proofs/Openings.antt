@@ -120,16 +120,16 @@ properties_same w (Ok b) tokens right later = after_left (tokens b.1)
 -- ---- by the terminal of the first token
 
 -- the three first terminals of an opening: `extern`, an option and a name
-pub record Told (k : Terminal) (extern option is_named : Bool) : Type 0 where
+pub record TerminalIs (k : Terminal) (extern option is_named : Bool) : Type 0 where
   pub extern_is : is terminal.Extern k ≡ extern
   pub option_is : is terminal.OptionLine k ≡ option
   pub named_is : is_name k ≡ is_named
 
 pub data Kinds (k : Terminal) : Type 0 where
-  an_extern : Told k true false false → Kinds k
-  an_option : Told k false true false → Kinds k
-  a_name : Told k false false true → Kinds k
-  another : Told k false false false → Kinds k
+  an_extern : TerminalIs k true false false → Kinds k
+  an_option : TerminalIs k false true false → Kinds k
+  a_name : TerminalIs k false false true → Kinds k
+  another : TerminalIs k false false false → Kinds k
 
 kinds_of : (k : Terminal) → Kinds k
 kinds_of terminal.Extern = an_extern (record { extern_is = refl; option_is = refl; named_is = refl })
@@ -165,23 +165,23 @@ opening_shape : (x : Token) (s : List Token) → reading productions opening (x 
 unfolding opening opening_after_extern opening_after_option opening_after_properties opening_after_global classes class_and_skips class head
 opening_shape x s = refl
 
-extern_led : (x : Token) (s : List Token) → Told (terminal_of x) true false false → reading productions opening_after_extern (x ∷ s) ≡ led_by (reading productions leading (x ∷ s))
+extern_led : (x : Token) (s : List Token) → TerminalIs (terminal_of x) true false false → reading productions opening_after_extern (x ∷ s) ≡ led_by (reading productions leading (x ∷ s))
 unfolding opening_after_extern leading skip opened
 extern_led x s t = rw t.extern_is (extern_same x (token_at (is terminal.Quoted) s) (token_at (is terminal.Raw)) (nonterminal_at productions an_opening))
 
-option_led : (x : Token) (s : List Token) → Told (terminal_of x) false true false → reading productions opening_after_option (x ∷ s) ≡ led_by (reading productions leading (x ∷ s))
+option_led : (x : Token) (s : List Token) → TerminalIs (terminal_of x) false true false → reading productions opening_after_option (x ∷ s) ≡ led_by (reading productions leading (x ∷ s))
 unfolding opening_after_option leading skip opened
 option_led x s t = rw (t.extern_is, t.option_is) (option_same x (nonterminal_at productions an_opening s))
 
-other_led : (x : Token) (s : List Token) → Told (terminal_of x) false false false → reading productions opening_after_global (x ∷ s) ≡ led_by (reading productions leading (x ∷ s))
+other_led : (x : Token) (s : List Token) → TerminalIs (terminal_of x) false false false → reading productions opening_after_global (x ∷ s) ≡ led_by (reading productions leading (x ∷ s))
 unfolding opening_after_global leading skip
 other_led x s t = rw (t.extern_is, t.option_is, t.named_is) refl
 
-properties_led : (x : Token) (s : List Token) → Told (terminal_of x) false false true → bracket_next s ≡ true → reading productions opening_after_properties (x ∷ s) ≡ led_by (reading productions leading (x ∷ s))
+properties_led : (x : Token) (s : List Token) → TerminalIs (terminal_of x) false false true → bracket_next s ≡ true → reading productions opening_after_properties (x ∷ s) ≡ led_by (reading productions leading (x ∷ s))
 unfolding opening_after_properties leading skip properties opened
 properties_led x s t b = rw (t.extern_is, t.option_is, t.named_is, b) (properties_same (word_of x) (token_at (is terminal.LeftBracket) s) (reading productions (star any (one_of is_no_right_bracket))) (token_at (is terminal.RightBracket)) (nonterminal_at productions an_opening))
 
-global_led : (x : Token) (s : List Token) → Told (terminal_of x) false false true → bracket_next s ≡ false → reading productions opening_after_global (x ∷ s) ≡ led_by (reading productions leading (x ∷ s))
+global_led : (x : Token) (s : List Token) → TerminalIs (terminal_of x) false false true → bracket_next s ≡ false → reading productions opening_after_global (x ∷ s) ≡ led_by (reading productions leading (x ∷ s))
 unfolding opening_after_global leading skip properties opened
 global_led x s t b = rw (t.extern_is, t.option_is, t.named_is, b) (global_same x (nonterminal_at productions an_opening s))
 

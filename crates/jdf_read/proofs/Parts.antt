@@ -1,4 +1,4 @@
--- The parts of a class one after another, of which some are skipped.
+-- The parts of a class one after another; some are skipped.
 use Rattle.std.proofs.Common.{◌≡◌, List, Ok, Err, refl, ◌∙◌}
 use Rattle.std.specs.Prelude.{Option}
 use Rattle.grammar_core.specs.declared.token.Token.{Token}

@@ -21,7 +21,7 @@ use jdf_tree::{ClassTree, ExprTree, Part, Word};
 use ptg_base::Seq;
 use std::alloc::Global;
 
-/// How many classes a text may have.
+// How many classes a text may have.
 const MOST_CLASSES: usize = 64;
 
 // `(";" expr)?`

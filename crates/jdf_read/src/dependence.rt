@@ -18,7 +18,7 @@ use jdf_tree::{DepTree, ExprTree, Part, TargetTree, Word};
 use ptg_base::Seq;
 use std::alloc::Global;
 
-/// How many dependences a flow may have.
+// How many dependences a flow may have.
 const MOST_DEPENDENCES: usize = 16;
 
 // A dependence after its arrow: its guard, the target where the guard holds, and the target where it does not.

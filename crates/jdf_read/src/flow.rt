@@ -17,7 +17,7 @@ use ptg_base::Seq;
 use std::alloc::Global;
 use term_core::FlowKind;
 
-/// How many flows a class may have.
+// How many flows a class may have.
 const MOST_FLOWS: usize = 8;
 
 fn kind_by(terminal: Terminal) -> Option<FlowKind>

@@ -21,10 +21,10 @@ use jdf_tree::{ArgTree, DefTree, Part, Word};
 use ptg_base::Seq;
 use std::alloc::Global;
 
-/// How many tokens eight parameters are, with the comma after each.
+// How many tokens eight parameters are, with the comma after each.
 const MOST_PARAMETER_TOKENS: usize = 16;
 
-/// How many definitions a class may have.
+// How many definitions a class may have.
 const MOST_DEFINITIONS: usize = 16;
 
 // `"," name`

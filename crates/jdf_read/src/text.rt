@@ -20,7 +20,7 @@ use jdf_lex::{JdfCode, JdfFault, JdfRefusal, Lexed, Spot, Token, tokens};
 use jdf_tree::{Jdf, code_at_token};
 use std::alloc::Global;
 
-/// How many bytes a text may have.
+// How many bytes a text may have.
 const MOST_BYTES: usize = 16777216;
 
 // Reads all of the tokens as one text.

@@ -3,3 +3,4 @@ pub mod Limits
 pub mod Lists
 pub mod Numbers
 pub mod Predictive
+pub mod TreeLimits

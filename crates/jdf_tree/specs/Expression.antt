@@ -1,4 +1,4 @@
--- Expressions in the text as trees. Parentheses are not kept.
+-- Expressions in the text as trees. Parentheses are not kept. Source: the JDF documentation.
 use Rattle.std.specs.Prelude.{ℤ}
 use Rattle.grammar_core.specs.declared.token.Spot.{Spot}
 use Rattle.term_core.specs.declared.operator.UnOp.{UnOp}

@@ -1,5 +1,5 @@
 -- The grammar of expressions. Source: the JDF documentation; ranks and grouping are those of C. The single `&` and `|` are this project's own choice.
-use Rattle.std.specs.Prelude.{ℕ, pos, Bool, List, [], ◌∷◌, Option, Some, None, ◌||◌}
+use Rattle.std.specs.Prelude.{pos, Bool, List, [], ◌∷◌, Option, Some, None, ◌||◌}
 use Rattle.grammar_core.specs.declared.token.Spot.{Spot}
 use Rattle.grammar_core.specs.declared.token.Token.{Token}
 use Rattle.term_core.specs.declared.operator.UnOp.{UnOp}
@@ -12,7 +12,7 @@ use Rattle.jdf_alphabet.specs.Codes.{BadNumber, ExprTooLong}
 use Rattle.jdf_alphabet.specs.Terminals.{terminal_of, is}
 use Rattle.jdf_alphabet.specs.Counted.{expression_limit}
 use Rattle.grammar_core.specs.Production.{seq, map, alt, opt, star, limited}
-use Rattle.jdf_alphabet.specs.Sets.{one_of, valued, after_token}
+use Rattle.jdf_alphabet.specs.Sets.{one_of, checked, after_token}
 use Rattle.jdf_tree.specs.declared.expression.Word.{Word}
 use Rattle.jdf_tree.specs.declared.expression.ExprWithSpot.{ExprWithSpot}
 use Rattle.jdf_tree.specs.declared.part.Part.{Part}
@@ -20,7 +20,7 @@ use Rattle.jdf_tree.specs.declared.part.Part.TheVariants.{Class, Body}
 use Rattle.jdf_tree.specs.Expression.{Expression, Num, Name, Elem, Unary, Binary, Choose}
 use Rattle.jdf_tree.specs.Numbers.{decimal, is_number}
 use Rattle.jdf_tree.specs.Nonterminal.{an_expr, a_unary, Grammar}
-use Rattle.jdf_tree.specs.GrammarParts.{word, suffixed_by, any, names, name}
+use Rattle.jdf_tree.specs.GrammarParts.{word, suffixed_by, any, name}
 
 -- an expression whose first token has this spot
 abbrev pub with_spot : Spot → Expression → ExprWithSpot
@@ -36,7 +36,7 @@ is_good x = is_number x.text
 
 -- number = Number, written in decimal and within the limit
 unfoldable pub number : Grammar ExprWithSpot
-number = map number_at (valued (is terminal.Number) is_good BadNumber)
+number = map number_at (checked (is terminal.Number) is_good BadNumber)
 
 -- an expression after a mark
 abbrev pub inside : Terminal → Part → Grammar ExprWithSpot

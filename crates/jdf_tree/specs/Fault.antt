@@ -16,8 +16,8 @@ use Rattle.grammar_core.specs.Production.{IsFirstFault}
 use Rattle.jdf_tree.specs.Grammar.{productions, file}
 
 -- the spot of the first byte
-abbrev pub start : Spot
-start = record { line = 1; column = 1 }
+abbrev pub first_spot : Spot
+first_spot = record { line = 1; column = 1 }
 
 -- The text stops being UTF-8 at this byte: the bytes before it are UTF-8, and no longer prefix of the text is.
 pub record StopsBeingUtf8 (bytes : List ℕ) (at : ℕ) : Type 0 where
@@ -47,38 +47,38 @@ pub record IsGrammarFault (tokens : List Token) (end : Spot) (fault : JdfFault) 
   pub token_index : ℕ
   pub code : Code
   pub first : IsFirstFault productions file tokens token_index code
-  pub named :
+  pub fault_is :
       ((token : Token) × (slice_get tokens token_index ≡ Some token) × (fault ≡ record { spot = token.spot; code = code_at_token code }))
       ⊎ ((slice_get tokens token_index ≡ None) × (fault ≡ record { spot = end; code = jdf.Truncated }))
 
 -- the text has more than 16 MiB
 pub record IsTooLong (bytes : List ℕ) (fault : JdfFault) : Type 0 where
   pub long : 16777216 < length bytes
-  pub named : fault ≡ record { spot = start; code = jdf.TooLong }
+  pub fault_is : fault ≡ record { spot = first_spot; code = jdf.TooLong }
 
 -- the text has at most 16 MiB, and is not UTF-8
 pub record IsNotUtf8 (bytes : List ℕ) (fault : JdfFault) : Type 0 where
   pub bytes_at_most : length bytes ≤ 16777216
   pub at : ℕ
   pub stops : StopsBeingUtf8 bytes at
-  pub named : fault ≡ record { spot = spot_after (take at bytes); code = jdf.NotUtf8 }
+  pub fault_is : fault ≡ record { spot = spot_after (take at bytes); code = jdf.NotUtf8 }
 
 -- the text is UTF-8, and has a token fault
-pub record IsBadToken (bytes : List ℕ) (fault : JdfFault) : Type 0 where
+pub record HasTokenFault (bytes : List ℕ) (fault : JdfFault) : Type 0 where
   pub bytes_at_most : length bytes ≤ 16777216
   pub utf8 : IsUtf8 bytes
-  pub wrong : IsTokenFault bytes fault
+  pub fault_is : IsTokenFault bytes fault
 
 -- the text has tokens, at most 1000000, which are no text of the grammar
-pub record IsNoText (bytes : List ℕ) (fault : JdfFault) : Type 0 where
+pub record HasGrammarFault (bytes : List ℕ) (fault : JdfFault) : Type 0 where
   pub bytes_at_most : length bytes ≤ 16777216
   pub utf8 : IsUtf8 bytes
   pub tokens : List Token
   pub end : Spot
   pub lexed : IsLexed bytes tokens end
   pub tokens_at_most : length tokens ≤ 1000000
-  pub wrong : IsGrammarFault tokens end fault
+  pub fault_is : IsGrammarFault tokens end fault
 
 -- The first fault of the bytes: of their length, their encoding, their tokens or their grammar, in this order.
 abbrev pub IsJdfFault : List ℕ → JdfFault → Type 0
-IsJdfFault bytes fault = IsTooLong bytes fault ⊎ (IsNotUtf8 bytes fault ⊎ (IsBadToken bytes fault ⊎ IsNoText bytes fault))
+IsJdfFault bytes fault = IsTooLong bytes fault ⊎ (IsNotUtf8 bytes fault ⊎ (HasTokenFault bytes fault ⊎ HasGrammarFault bytes fault))

@@ -1,4 +1,4 @@
--- The text of a JDF.
+-- The text of a JDF. Source: the JDF documentation; the limits are this project's own choice.
 use Rattle.std.specs.Prelude.{ℕ, ◌≤◌, List, length, None}
 use Rattle.std.specs.Str.{IsUtf8}
 use Rattle.grammar_core.specs.declared.token.Spot.{Spot}

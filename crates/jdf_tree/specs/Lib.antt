@@ -5,7 +5,7 @@ pub mod Numbers
 pub mod Statements
 pub mod StatementsCode
 pub mod BlockStatements
-pub mod BlockFalls
+pub mod BlockSize
 pub mod Nonterminal
 pub mod GrammarParts
 pub mod ExpressionGrammar
@@ -14,4 +14,5 @@ pub mod BodyLimits
 pub mod BodyGrammar
 pub mod Grammar
 pub mod Jdf
+pub mod TreeLimits
 pub mod Fault

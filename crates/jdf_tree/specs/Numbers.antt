@@ -1,4 +1,4 @@
--- How numbers are written in an expression.
+-- How numbers are written in an expression. Source: this project's own choice.
 use Rattle.std.specs.Prelude.{ℕ, Bool, false, not, ◌&&◌, ◌==◌, List, [], ◌∷◌}
 use Rattle.ptg_base.specs.Decimal.{is_decimal}
 pub use Rattle.ptg_base.specs.Decimal.{decimal}

@@ -1,4 +1,5 @@
 -- Statements in the text of a body as a tree: none, or one and the statements after it.
+-- Source: the language of bodies is this project's own choice.
 use Rattle.std.specs.Prelude.{ℕ, ◌+◌}
 use Rattle.jdf_tree.specs.declared.expression.Word.{Word}
 use Rattle.jdf_tree.specs.Expression.{Expression}

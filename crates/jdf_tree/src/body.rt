@@ -27,7 +27,7 @@ pub enum StmtTree {
 
 /// A block: statements in the order of the text. Contracts see the tree, not its vectors.
 ///
-/// The recursion of dropping a block is as deep as blocks nest, whatever the number of statements.
+/// Dropping a block recurses as deep as blocks nest, however many statements it has.
 #[cycle(block_tree)]
 #[derive(Debug, Drop)]
 pub struct BlockTree {
@@ -48,9 +48,9 @@ impl Model for BlockTree {
 
     ghost size = { count_of_statements };
 
-    ghost use Rattle.jdf_tree.specs.BlockFalls.{most_le-count};
+    ghost use Rattle.jdf_tree.specs.BlockSize.{depth_at_most_count};
 
-    ghost size_decreases = { λ b h. most_le-count b.statements.items };
+    ghost size_decreases = { λ b h. depth_at_most_count b.statements.items };
 }
 
 impl BlockTree {

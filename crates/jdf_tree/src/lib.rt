@@ -4,11 +4,13 @@
 mod body;
 mod code;
 mod expression;
+mod laws;
 mod part;
 mod tree;
 
 pub use body::{BlockTree, StmtTree};
 pub use code::code_at_token;
 pub use expression::{ExprNode, ExprTree, ExprWithSpot, Word};
+pub use laws::trees_are_within_limits;
 pub use part::Part;
 pub use tree::{ArgTree, ClassTree, DefTree, DepTree, FlowTree, Jdf, TargetTree};

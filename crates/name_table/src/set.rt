@@ -32,6 +32,7 @@ impl NameSet {
         }
     }
 
+    /// The number of names in the set.
     pub fn len(&self) -> usize
         ensures { result ≡ length self.now }
     {

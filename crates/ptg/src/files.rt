@@ -30,6 +30,7 @@ struct Opened<F> {
 }
 
 impl<'a, R: rt::Files> OsFiles<'a, R> {
+    /// The files of this system. No read has failed yet.
     pub fn new(system: &'a R, alloc: Global) -> Self {
         OsFiles {
             system,

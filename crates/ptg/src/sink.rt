@@ -12,6 +12,7 @@ pub struct OsSink<W: Write + Drop> {
 }
 
 impl<W: Write + Drop> OsSink<W> {
+    /// A sink over this writer. No write has failed yet.
     pub fn new(writer: W) -> Self {
         OsSink { writer, faults: 0 }
     }

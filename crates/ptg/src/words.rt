@@ -4,7 +4,7 @@ use ptg_base::{OutOfMemory, Seq, Text};
 use std::alloc::Global;
 use std::env::Env;
 
-/// More than the system takes as one argument.
+// More than the system takes as one argument.
 const LONGEST: usize = 262144;
 
 /// The arguments of the command line without the program's name, as the bytes that the system has, UTF-8 or not.

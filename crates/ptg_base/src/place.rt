@@ -3,7 +3,10 @@
 /// A place in a collection of tiles: the collection, the row and the column.
 #[derive(Clone, Copy, Debug, PartialEq, Eq, PartialOrd, Ord, Hash)]
 pub struct Place {
+    /// The collection's number, from 0.
     pub coll: u32,
+    /// The row.
     pub i: i64,
+    /// The column; 0 in a collection of one dimension.
     pub j: i64,
 }

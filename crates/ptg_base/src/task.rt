@@ -13,7 +13,7 @@ use std::cmp::Ordering;
 use std::hash::{Hash, Hasher};
 use std::marker::Model;
 
-/// A task: its class and the values of its parameters, of which there are at most eight. It takes no memory.
+/// A task: its class and the values of its parameters, at most eight. It takes no memory.
 ///
 /// Tasks are in task order: by class, then by the parameters as signed numbers from the first on.
 #[derive(Debug, Drop)]
@@ -44,12 +44,14 @@ impl TaskId {
         }
     }
 
+    /// The number of the class, from 0.
     pub fn class(&self) -> u32
         ensures { result ≡ self.now.class }
     {
         self.number
     }
 
+    /// The values of the parameters, in order.
     pub fn params(&self) -> &[i64]
         ensures within { length result.now ≤ 8 }
         ensures same { result.now ≡ self.now.params }

@@ -38,6 +38,7 @@ impl Text {
         })
     }
 
+    /// The bytes of the text.
     pub fn bytes(&self) -> &[u8]
         ensures { result.now ≡ self.now }
     {

@@ -49,12 +49,14 @@ impl Tile {
         self.cells.as_mut_slice().copy_from_slice(from.as_slice());
     }
 
+    /// The number of elements.
     pub fn len(&self) -> u32
         ensures { result ≡ length self.now }
     {
         self.cells.len() as u32
     }
 
+    /// The element at an index, counted from 0.
     pub fn get(&self, at: u32) -> i64
         requires { at < length self.now }
         ensures { result ≡ slice_index_or self.now at (pos 0) }
@@ -62,6 +64,7 @@ impl Tile {
         self.cells[at as usize]
     }
 
+    /// Sets the element at an index, counted from 0.
     pub fn set(&mut self, at: u32, v: i64)
         requires { at < length self.old }
         ensures { self.new ≡ slice_set self.old at v }
@@ -69,6 +72,7 @@ impl Tile {
         self.cells[at as usize] = v;
     }
 
+    /// The elements as a slice.
     pub fn as_slice(&self) -> &[i64]
         ensures { result.now ≡ self.now }
     {

@@ -1,3 +1,4 @@
+-- Counts of failed reads and writes. Source: this project's own choice.
 use Rattle.std.specs.Prelude.{◌≡◌, ◌⊎◌, ℕ, ◌+◌, ◌<◌, min}
 
 -- A count of faults rose: it is greater than before, or has reached its last value.

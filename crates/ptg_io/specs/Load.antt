@@ -1,3 +1,4 @@
+-- Reads of one file in turn, up to its end or past a limit. Source: this project's own choice.
 use Rattle.std.specs.Prelude.{◌≡◌, ◌<◌, ◌≤◌, ◌+◌, ℕ, List, [], ◌∷◌, length, take, Option, Some, sum}
 use Rattle.ptg_io.specs.Files.{file_of}
 
@@ -19,7 +20,7 @@ pub record HasRead {Files : Type 0} (gives : Files → List ℕ → ℕ → ℕ 
   pub reads : ReadsInTurn gives name start counts end
   pub together : sum counts ≡ size
 
--- Reads of one file in turn, the last of which is the first to go past so many bytes: none is made after it.
+-- Reads of one file in turn. The last is the first to go past so many bytes: none is made after it.
 pub record StopsPast {Files : Type 0} (gives : Files → List ℕ → ℕ → ℕ → Files → Type 0) (name : List ℕ) (limit : ℕ) (start end : Files) : Type 0 where
   pub last : ℕ
   pub earlier : List ℕ

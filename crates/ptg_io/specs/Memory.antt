@@ -1,3 +1,4 @@
+-- Files and a sink in memory, some of whose reads and writes fail. Source: this project's own choice, for tests.
 use Rattle.std.specs.Prelude.{◌≡◌, ◌≢◌, ℕ, List, Option, None, Some, slice_index, position, Contains}
 use Rattle.std.specs.Str.{bytes_eq}
 use Rattle.ptg_io.specs.Faults.{one_more}

@@ -1,3 +1,4 @@
+-- The bytes that a sink was given. Source: this project's own choice.
 use Rattle.std.specs.Prelude.{ℕ, List, ◌++◌, Option, None, Some}
 
 -- The bytes of a sink after a piece was appended, where they are known.

@@ -19,7 +19,7 @@ pub trait Files {
     /// How the files are after a read of a name from an offset gave so many bytes, as far as that is known.
     ghost read_gives: { Self → List ℕ → ℕ → ℕ → Self → Type 0 } = { λ _ _ _ _ _. ⊤ };
 
-    /// Puts the next bytes of a file from an offset on into a buffer, any number of them. No bytes means the end.
+    /// Copies the next bytes of a file from an offset on into a buffer, any number of them. No bytes means the end.
     fn read(&mut self, name: &str, from: u64, into: &mut [u8]) -> Result<usize, Failed>
         requires { 0 < length into.old }
         ensures stays { contents self.new ≡ contents self.old }

@@ -10,10 +10,10 @@ use crate::files::{self, Files};
 use ptg_base::Seq;
 use std::alloc::{AllocError, AllocFailed, Global};
 
-/// How many bytes are asked for at once.
+// How many bytes are asked for at once.
 const PIECE: usize = 65536;
 
-/// How many bytes a file may have.
+// How many bytes a file may have.
 const LIMIT: usize = 16777216;
 
 /// Why a file was not loaded.
@@ -70,14 +70,14 @@ pub fn load<F: Files>(alloc: Global, files: &mut F, name: &str) -> Result<Seq<u8
     Ok(Seq::of(bytes))
 }
 
-/// So many zeros.
+// So many zeros.
 fn zeros(alloc: Global, count: usize) -> Result<Vec<u8>, AllocError>
     ensures { IfOk result (λ zeros. length zeros.items ≡ count) }
 {
     vec![in alloc; 0u8; count]
 }
 
-/// The bytes of a file, read through this buffer.
+// Reads a file to its end, piece by piece, through this buffer.
 #[tactic(auto, using(crate::proofs::Turns::none_read, crate::proofs::Turns::stops))]
 fn read_all<F: Files>(
     alloc: Global,
@@ -101,14 +101,14 @@ fn read_all<F: Files>(
 {
     let mut bytes = Vec::new(alloc);
     'pieces: loop {
-        if !read_on(files, name, piece, &mut bytes)? {
+        if !read_piece(files, name, piece, &mut bytes)? {
             return Ok(bytes);
         }
     }
 }
 
-/// Reads the next piece of a file and adds it. Returns whether there may be more.
-fn read_on<F: Files>(
+// Reads the next piece of a file and adds it. Returns whether there may be more.
+fn read_piece<F: Files>(
     files: &mut F,
     name: &str,
     piece: &mut [u8],

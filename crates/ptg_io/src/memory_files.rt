@@ -93,14 +93,14 @@ impl Files for MemFiles {
     }
 }
 
-/// The index of the first file with this name.
+// The index of the first file with this name.
 fn index_of(files: &[File], name: &[u8]) -> Option<usize>
     ensures { result ≡ index_of files.now name.now }
 {
     files.iter().position(|file| file.name() == name)
 }
 
-/// Counts a failed read of the file at an index, or of a name that is missing.
+// Counts a failed read of the file at an index, or of a name that is missing.
 fn count_fault(failed: &mut Seq<u64>, missing: &mut u64, index: Option<usize>)
     requires { IfSome index (λ at. at < length failed.old) }
     ensures length { length failed.new ≡ length failed.old }
@@ -121,7 +121,7 @@ fn count_fault(failed: &mut Seq<u64>, missing: &mut u64, index: Option<usize>)
     }
 }
 
-/// Puts the bytes from an offset on into a buffer, as many as fit.
+// Copies the bytes from an offset on into a buffer, as many as fit.
 fn copy_piece(bytes: &[u8], from: u64, into: &mut [u8]) -> usize
     requires { 0 < length into.old }
     ensures within { result ≤ length into.new }

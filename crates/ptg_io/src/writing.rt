@@ -7,7 +7,7 @@ ghost use Rattle.ptg_io.specs.Sink.{appended};
 use crate::files::Failed;
 use crate::sink::Sink;
 
-/// How many bytes are written at once, if the sink takes that many.
+// How many bytes are written at once, if the sink takes that many.
 const PIECE: usize = 4096;
 
 /// Appends all of the bytes, piece by piece. On `Err` a proper prefix was written.

@@ -1,5 +1,5 @@
--- Words and files mean one thing at most. What is to be said names the last stage that words and files reach, of
--- order, JDF file, tree, data file, data, globals, plan and consistency, and each stage that is reached is reached in one way.
+-- Arguments and files denote one verdict at most. The verdict names the last stage that they reach, of command, JDF file, tree,
+-- data file, data, globals, plan and consistency, and each stage that is reached is reached in one way.
 use Rattle.std.proofs.Common.{◌≡◌, ℕ, zero, suc, ◌+◌, ◌<◌, ◌≤◌, List, [], ◌∷◌, Some, refl, sym, ◌∙◌, ap, subst, inl, inr, arith}
 use Rattle.std.specs.Prelude.{Option, None, ◌⊎◌}
 use Rattle.std.proofs.lemmas.Bool.{cases_lt, cases_order}
@@ -27,14 +27,14 @@ use Rattle.match_first.specs.declared.fault.MatchCode.{MatchCode}
 use Rattle.match_first.specs.declared.fault.MatchFault.{MatchFault}
 use Rattle.match_first.specs.declared.fault.MatchCode.TheVariants.{NotBuilt}
 use Rattle.ptg_top.specs.declared.verdict.Verdict.{Verdict}
-use Rattle.ptg_top.specs.declared.verdict.Verdict.TheVariants as say
+use Rattle.ptg_top.specs.declared.verdict.Verdict.TheVariants as verdicts
 use Rattle.ptg_top.specs.Stages.{Entries, HasTree, HasData, HasPlan}
 use Rattle.jdf_print.specs.Spelling.{spelling}
 use Rattle.jdf_read.proofs.Once.{one_tree, one_fault, not_both}
-use Rattle.ptg_top.specs.Meaning.{MeansRun, Shows, MeansShow, Means, OneMeaning, IsNoOrder, IsNoFile, IsNoTree, IsNoData, IsLacking, IsNoPlan}
+use Rattle.ptg_top.specs.Meaning.{DenotesRun, Shows, DenotesShow, Denotes, OneMeaning, IsNoOrder, IsNoFile, IsNoTree, IsNoData, IsLacking, IsNoPlan}
 use Rattle.ptg_top.specs.Headline.{text_of, status_of, OneOutput}
 
--- words ask for one thing at most
+-- the arguments ask for one thing at most
 pub one_request : (words : List (List ℕ)) (a b : Request) → Requests words a → Requests words b → a ≡ b
 one_request words a b p q = asked (sym p.asks ∙ (ap request_of (one_order words p.order q.order p.formed q.formed) ∙ q.asks))
   where
@@ -80,7 +80,7 @@ module _ (words : List (List ℕ)) (files : Entries) where
       let plan : IsPlan other.jdf G' P = subst (λ g. IsPlan other.jdf g P) known.1 (subst (λ j. IsPlan j G P) known.0 one.plan) in
       (known.1, one_plan other.jdf G' P P' plan other.plan)
 
-  -- ---- the stages, each behind the one before it
+  -- ---- the stages, each after the one before it
 
   abbrev Ordered : Type 0
   Ordered = (jdf tiles : List ℕ) × Requests words (Run jdf tiles)
@@ -133,37 +133,37 @@ module _ (words : List (List ℕ)) (files : Entries) where
   down k zero le h = let e : zero ≡ k = omega arith in subst Reaches e h
   down k (suc m) le h = elim (cases_lt k (suc m)) [ inl lt ↦ down k m (omega arith) (step m h) | inr ge ↦ let e : suc m ≡ k = omega arith in subst Reaches e h ]
 
-  -- what is said where the last stage is this one
-  abbrev SaidAt : ℕ → Verdict → Type 0
-  SaidAt zero v = v ≡ say.Usage
-  SaidAt (suc zero) v = (jdf tiles : List ℕ) × Requests words (Run jdf tiles) × (v ≡ say.Unread jdf)
-  SaidAt (suc (suc zero)) v = v ≡ say.Jdf jdf_text.not_built
-  SaidAt (suc (suc (suc zero))) v = (tiles : List ℕ) × (J : Jdf) × HasTree words files tiles J × (v ≡ say.Unread tiles)
-  SaidAt (suc (suc (suc (suc zero)))) v = v ≡ say.Data coll.not_built
-  SaidAt (suc (suc (suc (suc (suc zero))))) v = v ≡ say.Data coll.not_built
-  SaidAt (suc (suc (suc (suc (suc (suc zero)))))) v = v ≡ say.Jdf jdf_text.not_built
-  SaidAt (suc (suc (suc (suc (suc (suc (suc zero))))))) v = v ≡ say.Match (record { code = NotBuilt })
-  SaidAt (suc (suc (suc (suc (suc (suc (suc (suc n)))))))) v = (G : Given) × (P : Plan) × HasPlan words files G P × (v ≡ say.Answer P (answer P G))
+  -- the verdict where the last stage is this one
+  abbrev VerdictAt : ℕ → Verdict → Type 0
+  VerdictAt zero v = v ≡ verdicts.Usage
+  VerdictAt (suc zero) v = (jdf tiles : List ℕ) × Requests words (Run jdf tiles) × (v ≡ verdicts.Unread jdf)
+  VerdictAt (suc (suc zero)) v = v ≡ verdicts.Jdf jdf_text.not_built
+  VerdictAt (suc (suc (suc zero))) v = (tiles : List ℕ) × (J : Jdf) × HasTree words files tiles J × (v ≡ verdicts.Unread tiles)
+  VerdictAt (suc (suc (suc (suc zero)))) v = v ≡ verdicts.Data coll.not_built
+  VerdictAt (suc (suc (suc (suc (suc zero))))) v = v ≡ verdicts.Data coll.not_built
+  VerdictAt (suc (suc (suc (suc (suc (suc zero)))))) v = v ≡ verdicts.Jdf jdf_text.not_built
+  VerdictAt (suc (suc (suc (suc (suc (suc (suc zero))))))) v = v ≡ verdicts.Match (record { code = NotBuilt })
+  VerdictAt (suc (suc (suc (suc (suc (suc (suc (suc n)))))))) v = (G : Given) × (P : Plan) × HasPlan words files G P × (v ≡ verdicts.Answer P (answer P G))
 
-  said_once : (k : ℕ) (v w : Verdict) → SaidAt k v → SaidAt k w → v ≡ w
-  said_once zero v w one other = one ∙ sym other
-  said_once (suc zero) v w one other = one.3 ∙ (ap (λ (name : List ℕ). say.Unread name) (same_files words one.0 one.1 other.0 other.1 one.2 other.2).0 ∙ sym other.3)
-  said_once (suc (suc zero)) v w one other = one ∙ sym other
-  said_once (suc (suc (suc zero))) v w one other = one.3 ∙ (ap (λ (name : List ℕ). say.Unread name) (tree_once one.0 other.0 one.1 other.1 one.2 other.2).0 ∙ sym other.3)
-  said_once (suc (suc (suc (suc zero)))) v w one other = one ∙ sym other
-  said_once (suc (suc (suc (suc (suc zero))))) v w one other = one ∙ sym other
-  said_once (suc (suc (suc (suc (suc (suc zero)))))) v w one other = one ∙ sym other
-  said_once (suc (suc (suc (suc (suc (suc (suc zero))))))) v w one other = one ∙ sym other
-  said_once (suc (suc (suc (suc (suc (suc (suc (suc n)))))))) v w one other =
+  verdict_once : (k : ℕ) (v w : Verdict) → VerdictAt k v → VerdictAt k w → v ≡ w
+  verdict_once zero v w one other = one ∙ sym other
+  verdict_once (suc zero) v w one other = one.3 ∙ (ap (λ (name : List ℕ). verdicts.Unread name) (same_files words one.0 one.1 other.0 other.1 one.2 other.2).0 ∙ sym other.3)
+  verdict_once (suc (suc zero)) v w one other = one ∙ sym other
+  verdict_once (suc (suc (suc zero))) v w one other = one.3 ∙ (ap (λ (name : List ℕ). verdicts.Unread name) (tree_once one.0 other.0 one.1 other.1 one.2 other.2).0 ∙ sym other.3)
+  verdict_once (suc (suc (suc (suc zero)))) v w one other = one ∙ sym other
+  verdict_once (suc (suc (suc (suc (suc zero))))) v w one other = one ∙ sym other
+  verdict_once (suc (suc (suc (suc (suc (suc zero)))))) v w one other = one ∙ sym other
+  verdict_once (suc (suc (suc (suc (suc (suc (suc zero))))))) v w one other = one ∙ sym other
+  verdict_once (suc (suc (suc (suc (suc (suc (suc (suc n)))))))) v w one other =
       let same = plan_once one.0 other.0 one.1 other.1 one.2 other.2 in
-      one.3 ∙ ((λ i. say.Answer (same.1 i) (answer (same.1 i) (same.0 i))) ∙ sym other.3)
+      one.3 ∙ ((λ i. verdicts.Answer (same.1 i) (answer (same.1 i) (same.0 i))) ∙ sym other.3)
 
-  -- the last stage that is reached, and what is said there
+  -- the last stage that is reached, and the verdict there
   record Stopped (v : Verdict) : Type 0 where
     at : ℕ
     reached : Reaches at
     last : Reaches (suc at) → ⊥
-    said : SaidAt at v
+    verdict : VerdictAt at v
 
   match_fault : (fault : MatchFault) → fault ≡ record { code = NotBuilt }
   match_fault fault = go fault.code
@@ -171,13 +171,13 @@ module _ (words : List (List ℕ)) (files : Entries) where
       go : (code : MatchCode) → ◌≡◌ {A = MatchFault} (record { code = code }) (record { code = NotBuilt })
       go NotBuilt = refl
 
-  no_file_stops : (name : List ℕ) → IsNoFile words files name → Stopped (say.Unread name)
+  no_file_stops : (name : List ℕ) → IsNoFile words files name → Stopped (verdicts.Unread name)
   no_file_stops name (inl order, none) =
-      record { at = 1; reached = (name, order.0, order.1); last = λ h. no_bytes files name h.0 h.2 (same_files words name order.0 h.0 h.1 order.1 h.3).0 none h.4; said = (name, order.0, order.1, refl) }
+      record { at = 1; reached = (name, order.0, order.1); last = λ h. no_bytes files name h.0 h.2 (same_files words name order.0 h.0 h.1 order.1 h.3).0 none h.4; verdict = (name, order.0, order.1, refl) }
   no_file_stops name (inr tree, none) =
-      record { at = 3; reached = (name, tree.0, tree.1); last = λ h. no_bytes files name h.0 h.1 (tree_once name h.0 tree.0 h.2 tree.1 h.3).0 none h.4; said = (name, tree.0, tree.1, refl) }
+      record { at = 3; reached = (name, tree.0, tree.1); last = λ h. no_bytes files name h.0 h.1 (tree_once name h.0 tree.0 h.2 tree.1 h.3).0 none h.4; verdict = (name, tree.0, tree.1, refl) }
 
-  no_tree_stops : IsNoTree words files → Stopped (say.Jdf jdf_text.not_built)
+  no_tree_stops : IsNoTree words files → Stopped (verdicts.Jdf jdf_text.not_built)
   no_tree_stops h =
       record {
         at = 2;
@@ -185,10 +185,10 @@ module _ (words : List (List ℕ)) (files : Entries) where
         last = λ t.
             let names = same_files words t.2.jdf t.0 h.jdf h.tiles t.2.order h.order in
             h.none t.1 (subst (λ b. IsJdf b t.1) (same_bytes files t.2.jdf h.jdf t.2.bytes h.bytes names.0 t.2.file h.file) t.2.tree);
-        said = refl;
+        verdict = refl;
       }
 
-  no_data_stops : IsNoData words files → Stopped (say.Data coll.not_built)
+  no_data_stops : IsNoData words files → Stopped (verdicts.Data coll.not_built)
   no_data_stops h =
       record {
         at = 4;
@@ -196,10 +196,10 @@ module _ (words : List (List ℕ)) (files : Entries) where
         last = λ d.
             let names = tree_once d.2.tiles h.tiles d.0 h.jdf d.2.tree h.tree in
             h.none d.1 (subst (λ b. IsData b d.1) (same_bytes files d.2.tiles h.tiles d.2.bytes h.bytes names.0 d.2.file h.file) d.2.spelled);
-        said = refl;
+        verdict = refl;
       }
 
-  lacking_stops : IsLacking words files → Stopped (say.Data coll.not_built)
+  lacking_stops : IsLacking words files → Stopped (verdicts.Data coll.not_built)
   lacking_stops h =
       record {
         at = 5;
@@ -207,10 +207,10 @@ module _ (words : List (List ℕ)) (files : Entries) where
         last = λ n.
             let same = data_once h.jdf n.0 h.given n.1 h.known n.2 in
             n.3 (subst (λ g. IsMissing n.0 g) same.1 (subst (λ j. IsMissing j h.given) same.0 h.lacking));
-        said = refl;
+        verdict = refl;
       }
 
-  no_plan_stops : IsNoPlan words files → Stopped (say.Jdf jdf_text.not_built)
+  no_plan_stops : IsNoPlan words files → Stopped (verdicts.Jdf jdf_text.not_built)
   no_plan_stops h =
       record {
         at = 6;
@@ -218,55 +218,55 @@ module _ (words : List (List ℕ)) (files : Entries) where
         last = λ p.
             let same = data_once p.2.jdf h.jdf p.0 h.given p.2.known h.known in
             h.none p.1 (subst (λ g. IsPlan h.jdf g p.1) same.1 (subst (λ j. IsPlan j p.0 p.1) same.0 p.2.plan));
-        said = refl;
+        verdict = refl;
       }
 
-  said_by : (v : Verdict) (w : Verdict) → v ≡ w → Stopped w → Stopped v
-  said_by v w e h = subst Stopped (sym e) h
+  stopped_by : (v : Verdict) (w : Verdict) → v ≡ w → Stopped w → Stopped v
+  stopped_by v w e h = subst Stopped (sym e) h
 
-  stops : (v : Verdict) → MeansRun words files v → Stopped v
-  stops say.Usage h = record { at = 0; reached = tt; last = λ o. h (Run o.0 o.1) o.2; said = refl }
-  stops (say.Unread name) h = no_file_stops name h
-  stops (say.Jdf fault) h = said_by (say.Jdf fault) (say.Jdf jdf_text.not_built) (ap say.Jdf h.0) (elim h.1 [ inl t ↦ no_tree_stops t | inr p ↦ no_plan_stops p ])
-  stops (say.Data fault) h = said_by (say.Data fault) (say.Data coll.not_built) (ap say.Data h.0) (elim h.1 [ inl d ↦ no_data_stops d | inr l ↦ lacking_stops l ])
-  stops (say.Match fault) h =
+  stops : (v : Verdict) → DenotesRun words files v → Stopped v
+  stops verdicts.Usage h = record { at = 0; reached = tt; last = λ o. h (Run o.0 o.1) o.2; verdict = refl }
+  stops (verdicts.Unread name) h = no_file_stops name h
+  stops (verdicts.Jdf fault) h = stopped_by (verdicts.Jdf fault) (verdicts.Jdf jdf_text.not_built) (ap verdicts.Jdf h.0) (elim h.1 [ inl t ↦ no_tree_stops t | inr p ↦ no_plan_stops p ])
+  stops (verdicts.Data fault) h = stopped_by (verdicts.Data fault) (verdicts.Data coll.not_built) (ap verdicts.Data h.0) (elim h.1 [ inl d ↦ no_data_stops d | inr l ↦ lacking_stops l ])
+  stops (verdicts.Match fault) h =
       record {
         at = 7;
         reached = (h.0, h.1, h.2);
         last = λ c. h.3 (subst IsConsistent (plan_once c.0 h.0 c.1 h.1 c.2 h.2).1 c.3);
-        said = ap say.Match (match_fault fault);
+        verdict = ap verdicts.Match (match_fault fault);
       }
-  stops (say.Spelling text) h = absurd h
-  stops (say.Answer P outcome) h =
-      record { at = 8; reached = (h.0, P, h.1, h.2); last = λ none. none; said = (h.0, P, h.1, ap (λ o. say.Answer P o) h.3) }
+  stops (verdicts.Spelling text) h = absurd h
+  stops (verdicts.Answer P outcome) h =
+      record { at = 8; reached = (h.0, P, h.1, h.2); last = λ none. none; verdict = (h.0, P, h.1, ap (λ o. verdicts.Answer P o) h.3) }
 
-  one_stop : (v w : Verdict) → Stopped v → Stopped w → v ≡ w
-  one_stop v w one other = elim (cases_order one.at other.at) [
-    | inl same ↦ said_once other.at v w (subst (λ k. SaidAt k v) same one.said) other.said
+  one_verdict : (v w : Verdict) → Stopped v → Stopped w → v ≡ w
+  one_verdict v w one other = elim (cases_order one.at other.at) [
+    | inl same ↦ verdict_once other.at v w (subst (λ k. VerdictAt k v) same one.verdict) other.verdict
     | inr (inl lt) ↦ absurd (one.last (down (suc one.at) other.at (omega arith) other.reached))
     | inr (inr lt) ↦ absurd (other.last (down (suc other.at) one.at (omega arith) one.reached))
   ]
 
   -- ---- a file that is shown
 
-  -- words that order to run a job do not order to show a file
+  -- arguments that ask to run a job do not ask to show a file
   no_run_and_show : (jdf tiles name : List ℕ) → Requests words (Run jdf tiles) → Requests words (Show name) → ⊥
   no_run_and_show jdf tiles name run show = parts (one_request words (Run jdf tiles) (Show name) run show)
     where
       parts : ◌≡◌ {A = Request} (Run jdf tiles) (Show name) → ⊥
       parts e = absurd cc
 
-  run_or_show : (v : Verdict) (name : List ℕ) → MeansRun words files v → Requests words (Show name) → ⊥
-  run_or_show say.Usage name h order = h (Show name) order
-  run_or_show (say.Unread file) name (inl run, none) order = no_run_and_show file run.0 name run.1 order
-  run_or_show (say.Unread file) name (inr tree, none) order = no_run_and_show tree.1.jdf file name tree.1.order order
-  run_or_show (say.Jdf fault) name (e, inl t) order = no_run_and_show t.jdf t.tiles name t.order order
-  run_or_show (say.Jdf fault) name (e, inr p) order = no_run_and_show p.known.tree.jdf p.known.tiles name p.known.tree.order order
-  run_or_show (say.Data fault) name (e, inl d) order = no_run_and_show d.tree.jdf d.tiles name d.tree.order order
-  run_or_show (say.Data fault) name (e, inr l) order = no_run_and_show l.known.tree.jdf l.known.tiles name l.known.tree.order order
-  run_or_show (say.Match fault) name h order = no_run_and_show h.2.known.tree.jdf h.2.known.tiles name h.2.known.tree.order order
-  run_or_show (say.Spelling text) name h order = h
-  run_or_show (say.Answer P outcome) name h order = no_run_and_show h.1.known.tree.jdf h.1.known.tiles name h.1.known.tree.order order
+  run_or_show : (v : Verdict) (name : List ℕ) → DenotesRun words files v → Requests words (Show name) → ⊥
+  run_or_show verdicts.Usage name h order = h (Show name) order
+  run_or_show (verdicts.Unread file) name (inl run, none) order = no_run_and_show file run.0 name run.1 order
+  run_or_show (verdicts.Unread file) name (inr tree, none) order = no_run_and_show tree.1.jdf file name tree.1.order order
+  run_or_show (verdicts.Jdf fault) name (e, inl t) order = no_run_and_show t.jdf t.tiles name t.order order
+  run_or_show (verdicts.Jdf fault) name (e, inr p) order = no_run_and_show p.known.tree.jdf p.known.tiles name p.known.tree.order order
+  run_or_show (verdicts.Data fault) name (e, inl d) order = no_run_and_show d.tree.jdf d.tiles name d.tree.order order
+  run_or_show (verdicts.Data fault) name (e, inr l) order = no_run_and_show l.known.tree.jdf l.known.tiles name l.known.tree.order order
+  run_or_show (verdicts.Match fault) name h order = no_run_and_show h.2.known.tree.jdf h.2.known.tiles name h.2.known.tree.order order
+  run_or_show (verdicts.Spelling text) name h order = h
+  run_or_show (verdicts.Answer P outcome) name h order = no_run_and_show h.1.known.tree.jdf h.1.known.tiles name h.1.known.tree.order order
 
   same_file : (name name' : List ℕ) → Requests words (Show name) → Requests words (Show name') → name ≡ name'
   same_file name name' one other = parts (one_request words (Show name) (Show name') one other)
@@ -276,41 +276,41 @@ module _ (words : List (List ℕ)) (files : Entries) where
 
   -- the bytes of a file show one thing
   shows_once : (bytes : List ℕ) (v w : Verdict) → Shows bytes v → Shows bytes w → v ≡ w
-  shows_once bytes (say.Jdf f) (say.Jdf g) h k = ap say.Jdf (one_fault bytes f g h k)
-  shows_once bytes (say.Jdf f) (say.Spelling t) h k = absurd (not_both bytes k.0 f k.1 h)
-  shows_once bytes (say.Spelling t) (say.Jdf f) h k = absurd (not_both bytes h.0 f h.1 k)
-  shows_once bytes (say.Spelling t) (say.Spelling u) h k = ap say.Spelling (h.2 ∙ (ap spelling (one_tree bytes h.0 k.0 h.1 k.1) ∙ sym k.2))
-  shows_once bytes say.Usage w h k = absurd h
-  shows_once bytes (say.Unread name) w h k = absurd h
-  shows_once bytes (say.Data fault) w h k = absurd h
-  shows_once bytes (say.Match fault) w h k = absurd h
-  shows_once bytes (say.Answer P outcome) w h k = absurd h
-  shows_once bytes v say.Usage h k = absurd k
-  shows_once bytes v (say.Unread name) h k = absurd k
-  shows_once bytes v (say.Data fault) h k = absurd k
-  shows_once bytes v (say.Match fault) h k = absurd k
-  shows_once bytes v (say.Answer P outcome) h k = absurd k
+  shows_once bytes (verdicts.Jdf f) (verdicts.Jdf g) h k = ap verdicts.Jdf (one_fault bytes f g h k)
+  shows_once bytes (verdicts.Jdf f) (verdicts.Spelling t) h k = absurd (not_both bytes k.0 f k.1 h)
+  shows_once bytes (verdicts.Spelling t) (verdicts.Jdf f) h k = absurd (not_both bytes h.0 f h.1 k)
+  shows_once bytes (verdicts.Spelling t) (verdicts.Spelling u) h k = ap verdicts.Spelling (h.2 ∙ (ap spelling (one_tree bytes h.0 k.0 h.1 k.1) ∙ sym k.2))
+  shows_once bytes verdicts.Usage w h k = absurd h
+  shows_once bytes (verdicts.Unread name) w h k = absurd h
+  shows_once bytes (verdicts.Data fault) w h k = absurd h
+  shows_once bytes (verdicts.Match fault) w h k = absurd h
+  shows_once bytes (verdicts.Answer P outcome) w h k = absurd h
+  shows_once bytes v verdicts.Usage h k = absurd k
+  shows_once bytes v (verdicts.Unread name) h k = absurd k
+  shows_once bytes v (verdicts.Data fault) h k = absurd k
+  shows_once bytes v (verdicts.Match fault) h k = absurd k
+  shows_once bytes v (verdicts.Answer P outcome) h k = absurd k
 
-  show_once : (v w : Verdict) → MeansShow words files v → MeansShow words files w → v ≡ w
-  show_once v w one other = go one.said other.said
+  show_once : (v w : Verdict) → DenotesShow words files v → DenotesShow words files w → v ≡ w
+  show_once v w one other = go one.verdict other.verdict
     where
       same : one.jdf ≡ other.jdf
       same = same_file one.jdf other.jdf one.order other.order
 
-      go : ((v ≡ say.Unread one.jdf) × (file_of files one.jdf ≡ None)) ⊎ ((bytes : List ℕ) × (file_of files one.jdf ≡ Some bytes) × Shows bytes v)
-          → ((w ≡ say.Unread other.jdf) × (file_of files other.jdf ≡ None)) ⊎ ((bytes : List ℕ) × (file_of files other.jdf ≡ Some bytes) × Shows bytes w) → v ≡ w
-      go (inl h) (inl k) = h.0 ∙ (ap (λ (name : List ℕ). say.Unread name) same ∙ sym k.0)
+      go : ((v ≡ verdicts.Unread one.jdf) × (file_of files one.jdf ≡ None)) ⊎ ((bytes : List ℕ) × (file_of files one.jdf ≡ Some bytes) × Shows bytes v)
+          → ((w ≡ verdicts.Unread other.jdf) × (file_of files other.jdf ≡ None)) ⊎ ((bytes : List ℕ) × (file_of files other.jdf ≡ Some bytes) × Shows bytes w) → v ≡ w
+      go (inl h) (inl k) = h.0 ∙ (ap (λ (name : List ℕ). verdicts.Unread name) same ∙ sym k.0)
       go (inl h) (inr k) = absurd (no_bytes files one.jdf other.jdf k.0 same h.1 k.1)
       go (inr h) (inl k) = absurd (no_bytes files other.jdf one.jdf h.0 (sym same) k.1 h.1)
       go (inr h) (inr k) = shows_once k.0 v w (subst (λ (b : List ℕ). Shows b v) (same_bytes files one.jdf other.jdf h.0 k.0 same h.1 k.1) h.2) k.2
 
 pub one_meaning : OneMeaning
-one_meaning words files v w (inl one) (inl other) = one_stop words files v w (stops words files v one) (stops words files w other)
+one_meaning words files v w (inl one) (inl other) = one_verdict words files v w (stops words files v one) (stops words files w other)
 one_meaning words files v w (inl one) (inr other) = absurd (run_or_show words files v other.jdf one other.order)
 one_meaning words files v w (inr one) (inl other) = absurd (run_or_show words files w one.jdf other one.order)
 one_meaning words files v w (inr one) (inr other) = show_once words files v w one other
 
 pub one_output : OneOutput
 one_output words files before after other status another one two =
-    let same = one_meaning words files one.verdict two.verdict one.means two.means in
+    let same = one_meaning words files one.verdict two.verdict one.denoted two.denoted in
     (one.text ∙ (ap (λ v. appended before (text_of v)) same ∙ sym two.text), one.ends ∙ (ap status_of same ∙ sym two.ends))

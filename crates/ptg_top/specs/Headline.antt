@@ -1,4 +1,4 @@
--- What is printed for a verdict, and what a run of the program promises.
+-- What is printed for a verdict, and what a run of the program promises. Source: this project's own choice of lines and statuses.
 use Rattle.std.specs.Prelude.{◌≡◌, ℕ, List, [], ◌∷◌, Option, codes}
 use Rattle.ptg_io.specs.Sink.{appended}
 use Rattle.core_first.specs.declared.outcome.Outcome.{Outcome}
@@ -10,10 +10,10 @@ use Rattle.report_first.specs.Puts.{HasPrefix}
 use Rattle.ptg_top.specs.declared.status.Status.{Status}
 use Rattle.ptg_top.specs.declared.status.Status.TheVariants.{Complete, Usage, JdfRefused, DataRefused, Inconsistent, Trapped, Stalled, ReadFault, WriteFault, OutOfMemory}
 use Rattle.ptg_top.specs.declared.verdict.Verdict.{Verdict}
-use Rattle.ptg_top.specs.declared.verdict.Verdict.TheVariants as say
+use Rattle.ptg_top.specs.declared.verdict.Verdict.TheVariants as verdicts
 use Rattle.ptg_top.specs.Stages.{Entries}
-use Rattle.ptg_top.specs.Meaning.{Means}
-use Rattle.ptg_top.specs.Reports.{Judged}
+use Rattle.ptg_top.specs.Meaning.{Denotes}
+use Rattle.ptg_top.specs.Reports.{IsVerdictOnWords}
 
 -- the line that names a file which could not be read
 abbrev pub unread_line : List ℕ → List ℕ
@@ -25,13 +25,13 @@ usage_line = line (codes "usage" ∷ [])
 
 -- what is printed for a verdict
 abbrev pub text_of : Verdict → List ℕ
-text_of say.Usage = refusal_text line_of.Usage
-text_of (say.Unread name) = unread_line name
-text_of (say.Jdf fault) = refusal_text (line_of.Jdf fault)
-text_of (say.Data fault) = refusal_text (line_of.Rows fault)
-text_of (say.Match fault) = refusal_text line_of.Match
-text_of (say.Spelling text) = text
-text_of (say.Answer P answer) = outcome_text P answer
+text_of verdicts.Usage = refusal_text line_of.Usage
+text_of (verdicts.Unread name) = unread_line name
+text_of (verdicts.Jdf fault) = refusal_text (line_of.Jdf fault)
+text_of (verdicts.Data fault) = refusal_text (line_of.Rows fault)
+text_of (verdicts.Match fault) = refusal_text line_of.Match
+text_of (verdicts.Spelling text) = text
+text_of (verdicts.Answer P answer) = outcome_text P answer
 
 abbrev pub status_of_outcome : Outcome → Status
 status_of_outcome (outcome.Complete count given) = Complete
@@ -40,15 +40,15 @@ status_of_outcome (outcome.Stalled ran total rows) = Stalled
 
 -- and its status
 abbrev pub status_of : Verdict → Status
-status_of say.Usage = Usage
-status_of (say.Unread name) = ReadFault
-status_of (say.Jdf fault) = JdfRefused
-status_of (say.Data fault) = DataRefused
-status_of (say.Match fault) = Inconsistent
-status_of (say.Spelling text) = Complete
-status_of (say.Answer P answer) = status_of_outcome answer
+status_of verdicts.Usage = Usage
+status_of (verdicts.Unread name) = ReadFault
+status_of (verdicts.Jdf fault) = JdfRefused
+status_of (verdicts.Data fault) = DataRefused
+status_of (verdicts.Match fault) = Inconsistent
+status_of (verdicts.Spelling text) = Complete
+status_of (verdicts.Answer P answer) = status_of_outcome answer
 
--- the statuses of a verdict that no fault of the outside took the place of
+-- the statuses of a verdict, where no failed read or write and no want of memory took its place
 abbrev pub IsExact : Status → Type 0
 IsExact Complete = Unit {0}
 IsExact Usage = Unit {0}
@@ -61,21 +61,22 @@ IsExact ReadFault = ⊥
 IsExact WriteFault = ⊥
 IsExact OutOfMemory = ⊥
 
--- the sink grew by exactly the text of what words and files mean, which is one verdict at most, and this is its status
+-- the sink grew by exactly the text of the verdict that the arguments and the files denote (one at most), and this is its status
 pub record Prints (words : List (List ℕ)) (files : Entries) (before after : Option (List ℕ)) (status : Status) : Type 0 where
   pub verdict : Verdict
-  pub means : Means words files verdict
+  pub denoted : Denotes words files verdict
   pub text : after ≡ appended before (text_of verdict)
   pub ends : status ≡ status_of verdict
 
--- words and files determine what is printed, and the status
+-- the arguments and the files determine what is printed, and the status
 abbrev pub OneOutput : Type 0
 OneOutput =
     (words : List (List ℕ)) (files : Entries) (before after other : Option (List ℕ)) (status another : Status)
     → Prints words files before after status → Prints words files before other another → (after ≡ other) × (status ≡ another)
 
--- a failed write cut off what was due: what the words and files mean, or the name of a file of which a read failed
+-- a failed write cut the text of a verdict short: the one that the arguments and the files denote, or the name of a file that could
+-- not be read
 pub record IsCut (words : List (List ℕ)) (contents : Option Entries) (old new : List ℕ → ℕ) (before after : Option (List ℕ)) : Type 0 where
   pub verdict : Verdict
-  pub due : Judged words contents old new verdict
+  pub due : IsVerdictOnWords words contents old new verdict
   pub prefix : HasPrefix before after (text_of verdict)

@@ -1,4 +1,5 @@
--- The meaning of a run: what is to be said for words and files, whatever the machine.
+-- The verdict that the arguments and the files denote, whatever the machine. Source: this project's own choice (how the stages of
+-- the program are ordered), over the definitions of the stages.
 use Rattle.std.specs.Prelude.{◌≡◌, ◌⊎◌, ℕ, List, Option, Some, None}
 use Rattle.ptg_io.specs.Files.{file_of}
 use Rattle.ptg_top.specs.declared.request.Request.{Request}
@@ -20,10 +21,10 @@ use Rattle.check_first.specs.Planned.{IsPlan}
 use Rattle.dep_first.specs.Consistent.{IsConsistent}
 use Rattle.core_first.specs.Answer.{answer}
 use Rattle.ptg_top.specs.declared.verdict.Verdict.{Verdict}
-use Rattle.ptg_top.specs.declared.verdict.Verdict.TheVariants as say
+use Rattle.ptg_top.specs.declared.verdict.Verdict.TheVariants as verdicts
 use Rattle.ptg_top.specs.Stages.{Entries, HasTree, HasData, HasPlan}
 
--- the words order nothing
+-- the arguments form no command that is carried out
 abbrev pub IsNoOrder : List (List ℕ) → Type 0
 IsNoOrder words = (order : Request) → Requests words order → ⊥
 
@@ -50,14 +51,14 @@ pub record IsNoData (words : List (List ℕ)) (files : Entries) : Type 0 where
   pub file : file_of files tiles ≡ Some bytes
   pub none : (G : Given) → IsData bytes G → ⊥
 
--- the data do not give a global of the JDF
+-- the data lack a global of the JDF
 pub record IsLacking (words : List (List ℕ)) (files : Entries) : Type 0 where
   pub jdf : Jdf
   pub given : Given
   pub known : HasData words files jdf given
   pub lacking : IsMissing jdf given
 
--- the data give each global, and yet the names make no plan
+-- the data give each global, but the names make no plan
 pub record IsNoPlan (words : List (List ℕ)) (files : Entries) : Type 0 where
   pub jdf : Jdf
   pub given : Given
@@ -65,53 +66,53 @@ pub record IsNoPlan (words : List (List ℕ)) (files : Entries) : Type 0 where
   pub named : IsMissing jdf given → ⊥
   pub none : (P : Plan) → IsPlan jdf given P → ⊥
 
--- What `run` is to say, and what is to be said where the words order nothing: the first refusal in the order words, JDF
--- file, its text, data file, its text, missing global, names, consistency; else the answer of the job.
-abbrev pub MeansRun : List (List ℕ) → Entries → Verdict → Type 0
-MeansRun words files say.Usage = IsNoOrder words
-MeansRun words files (say.Unread name) = IsNoFile words files name
-MeansRun words files (say.Jdf fault) = (fault ≡ jdf.not_built) × (IsNoTree words files ⊎ IsNoPlan words files)
-MeansRun words files (say.Data fault) = (fault ≡ coll.not_built) × (IsNoData words files ⊎ IsLacking words files)
-MeansRun words files (say.Match fault) = (G : Given) × (P : Plan) × HasPlan words files G P × (IsConsistent P → ⊥)
-MeansRun words files (say.Spelling text) = ⊥
-MeansRun words files (say.Answer P outcome) = (G : Given) × HasPlan words files G P × IsConsistent P × (outcome ≡ answer P G)
+-- The verdict of `run`, and of arguments that form no command: the first refusal in the order arguments, JDF file, its text, data
+-- file, its text, missing global, names, consistency; else the answer of the job.
+abbrev pub DenotesRun : List (List ℕ) → Entries → Verdict → Type 0
+DenotesRun words files verdicts.Usage = IsNoOrder words
+DenotesRun words files (verdicts.Unread name) = IsNoFile words files name
+DenotesRun words files (verdicts.Jdf fault) = (fault ≡ jdf.not_built) × (IsNoTree words files ⊎ IsNoPlan words files)
+DenotesRun words files (verdicts.Data fault) = (fault ≡ coll.not_built) × (IsNoData words files ⊎ IsLacking words files)
+DenotesRun words files (verdicts.Match fault) = (G : Given) × (P : Plan) × HasPlan words files G P × (IsConsistent P → ⊥)
+DenotesRun words files (verdicts.Spelling text) = ⊥
+DenotesRun words files (verdicts.Answer P outcome) = (G : Given) × HasPlan words files G P × IsConsistent P × (outcome ≡ answer P G)
 
--- What `show` is to say of the bytes of a JDF file: their first fault, or the canonical spelling of their tree.
+-- The verdict of `show` on the bytes of a JDF file: their first fault, or the canonical spelling of their tree.
 abbrev pub Shows : List ℕ → Verdict → Type 0
-Shows bytes say.Usage = ⊥
-Shows bytes (say.Unread name) = ⊥
-Shows bytes (say.Jdf fault) = IsJdfFault bytes fault
-Shows bytes (say.Data fault) = ⊥
-Shows bytes (say.Match fault) = ⊥
-Shows bytes (say.Spelling text) = (J : WholeJdf) × IsWholeJdf bytes J × (text ≡ spelling J)
-Shows bytes (say.Answer P outcome) = ⊥
+Shows bytes verdicts.Usage = ⊥
+Shows bytes (verdicts.Unread name) = ⊥
+Shows bytes (verdicts.Jdf fault) = IsJdfFault bytes fault
+Shows bytes (verdicts.Data fault) = ⊥
+Shows bytes (verdicts.Match fault) = ⊥
+Shows bytes (verdicts.Spelling text) = (J : WholeJdf) × IsWholeJdf bytes J × (text ≡ spelling J)
+Shows bytes (verdicts.Answer P outcome) = ⊥
 
--- a verdict on a text that is shown
+-- a verdict that `show` can have on a text
 abbrev pub IsShown : Verdict → Type 0
-IsShown say.Usage = ⊥
-IsShown (say.Unread name) = ⊥
-IsShown (say.Jdf fault) = Unit {0}
-IsShown (say.Data fault) = ⊥
-IsShown (say.Match fault) = ⊥
-IsShown (say.Spelling text) = Unit {0}
-IsShown (say.Answer P outcome) = ⊥
+IsShown verdicts.Usage = ⊥
+IsShown (verdicts.Unread name) = ⊥
+IsShown (verdicts.Jdf fault) = Unit {0}
+IsShown (verdicts.Data fault) = ⊥
+IsShown (verdicts.Match fault) = ⊥
+IsShown (verdicts.Spelling text) = Unit {0}
+IsShown (verdicts.Answer P outcome) = ⊥
 
--- the words order to show this file
-pub record MeansShow (words : List (List ℕ)) (files : Entries) (v : Verdict) : Type 0 where
+-- the arguments ask to show a file
+pub record DenotesShow (words : List (List ℕ)) (files : Entries) (v : Verdict) : Type 0 where
   pub jdf : List ℕ
   pub order : Requests words (Show jdf)
-  -- that there is no such file, or what is to be said of its bytes
-  pub said : ((v ≡ say.Unread jdf) × (file_of files jdf ≡ None)) ⊎ ((bytes : List ℕ) × (file_of files jdf ≡ Some bytes) × Shows bytes v)
+  -- there is no such file, or the verdict is the one on its bytes
+  pub verdict : ((v ≡ verdicts.Unread jdf) × (file_of files jdf ≡ None)) ⊎ ((bytes : List ℕ) × (file_of files jdf ≡ Some bytes) × Shows bytes v)
 
--- What is to be said for words and files.
-abbrev pub Means : List (List ℕ) → Entries → Verdict → Type 0
-Means words files v = MeansRun words files v ⊎ MeansShow words files v
+-- The arguments and the files denote this verdict.
+abbrev pub Denotes : List (List ℕ) → Entries → Verdict → Type 0
+Denotes words files v = DenotesRun words files v ⊎ DenotesShow words files v
 
--- words and files mean one thing at most
+-- the arguments and the files denote one verdict at most
 abbrev pub OneMeaning : Type 0
-OneMeaning = (words : List (List ℕ)) (files : Entries) (v w : Verdict) → Means words files v → Means words files w → v ≡ w
+OneMeaning = (words : List (List ℕ)) (files : Entries) (v w : Verdict) → Denotes words files v → Denotes words files w → v ≡ w
 
--- whose name may be told as unread: the JDF file's, or the data file's once the JDF is the text of a tree, where the files are told
+-- the names that `unread` may have: the JDF file's, or the data file's if the JDF is the text of a tree, where the contents are known
 abbrev pub MayBeUnread : List (List ℕ) → Option Entries → List ℕ → Type 0
 MayBeUnread words contents name =
     ((tiles : List ℕ) × Requests words (Run name tiles))

@@ -1,4 +1,4 @@
--- What is said for a job's two files, and for words.
+-- The verdicts on a job's two files, and on the arguments, where a read may fail. Source: this project's own choice.
 use Rattle.std.specs.Prelude.{◌≡◌, ◌⊎◌, ℕ, List, Option, Some, Result, Ok, Err}
 use Rattle.ptg_io.specs.Faults.{Rose}
 use Rattle.ptg_io.specs.Files.{file_of}
@@ -9,62 +9,63 @@ use Rattle.std.specs.Str.{IsUtf8}
 use Rattle.jdf_first.specs.declared.tree.Jdf.{Jdf}
 use Rattle.jdf_first.specs.Jdf.{IsJdf}
 use Rattle.ptg_top.specs.declared.verdict.Verdict.{Verdict}
-use Rattle.ptg_top.specs.declared.verdict.Verdict.TheVariants as say
-use Rattle.ptg_top.specs.declared.stages.Stop.{Stop}
-use Rattle.ptg_top.specs.declared.stages.Stop.TheVariants.{Said, Memory}
+use Rattle.ptg_top.specs.declared.verdict.Verdict.TheVariants as verdicts
+use Rattle.ptg_top.specs.declared.stages.StageExit.{StageExit}
+use Rattle.ptg_top.specs.declared.stages.StageExit.TheVariants.{Decided, Memory}
 use Rattle.ptg_top.specs.Stages.{Entries}
-use Rattle.ptg_top.specs.Meaning.{Means, IsNoOrder, MayBeUnread}
+use Rattle.ptg_top.specs.Meaning.{Denotes, IsNoOrder, MayBeUnread}
 
 -- the file of this name is the text of this tree
 abbrev pub TreeAt : Entries → List ℕ → Jdf → Type 0
 TreeAt files name J = (bytes : List ℕ) × (file_of files name ≡ Some bytes) × IsJdf bytes J
 
--- what holds for whatever is said, unless memory ran out
-abbrev pub Says : (Verdict → Type 0) → Result Verdict Stop → Type 0
-Says P (Ok v) = P v
-Says P (Err (Said v)) = P v
-Says P (Err Memory) = Unit {0}
+-- P holds of the verdict, unless memory ran out
+abbrev pub OnVerdict : (Verdict → Type 0) → Result Verdict StageExit → Type 0
+OnVerdict P (Ok v) = P v
+OnVerdict P (Err (Decided v)) = P v
+OnVerdict P (Err Memory) = Unit {0}
 
--- this is what words that order the job of these two files mean, where the files are told
-abbrev pub IsMeant : Option Entries → List ℕ → List ℕ → Verdict → Type 0
-IsMeant contents jdf tiles v = (words : List (List ℕ)) (files : Entries) → Requests words (Run jdf tiles) → contents ≡ Some files → Means words files v
+-- arguments that ask to run the job of these two files denote this verdict, where the contents are known
+abbrev pub IsDenotedByJob : Option Entries → List ℕ → List ℕ → Verdict → Type 0
+IsDenotedByJob contents jdf tiles v = (words : List (List ℕ)) (files : Entries) → Requests words (Run jdf tiles) → contents ≡ Some files → Denotes words files v
 
--- one of the two files could not be read, and the data file only behind a JDF
+-- this is the JDF file, or it is the data file and the JDF is the text of a tree
 abbrev pub IsUnreadOf : Option Entries → List ℕ → List ℕ → List ℕ → Type 0
 IsUnreadOf contents jdf tiles name =
     (name ≡ jdf) ⊎ ((name ≡ tiles) × ((files : Entries) → contents ≡ Some files → (J : Jdf) × TreeAt files jdf J))
 
--- What is said for the job of two files, where `old` and `new` count the failed reads of each name.
-abbrev pub Reports : Option Entries → (List ℕ → ℕ) → (List ℕ → ℕ) → List ℕ → List ℕ → Verdict → Type 0
-Reports contents old new jdf tiles say.Usage = ⊥
-Reports contents old new jdf tiles (say.Unread name) = Rose (old name) (new name) × IsUnreadOf contents jdf tiles name
-Reports contents old new jdf tiles (say.Jdf fault) = IsMeant contents jdf tiles (say.Jdf fault)
-Reports contents old new jdf tiles (say.Data fault) = IsMeant contents jdf tiles (say.Data fault)
-Reports contents old new jdf tiles (say.Match fault) = IsMeant contents jdf tiles (say.Match fault)
-Reports contents old new jdf tiles (say.Spelling text) = ⊥
-Reports contents old new jdf tiles (say.Answer P outcome) = IsMeant contents jdf tiles (say.Answer P outcome)
+-- A verdict on the job of two files, where `old` and `new` count the failed reads of each name.
+abbrev pub IsVerdictOnJob : Option Entries → (List ℕ → ℕ) → (List ℕ → ℕ) → List ℕ → List ℕ → Verdict → Type 0
+IsVerdictOnJob contents old new jdf tiles verdicts.Usage = ⊥
+IsVerdictOnJob contents old new jdf tiles (verdicts.Unread name) = Rose (old name) (new name) × IsUnreadOf contents jdf tiles name
+IsVerdictOnJob contents old new jdf tiles (verdicts.Jdf fault) = IsDenotedByJob contents jdf tiles (verdicts.Jdf fault)
+IsVerdictOnJob contents old new jdf tiles (verdicts.Data fault) = IsDenotedByJob contents jdf tiles (verdicts.Data fault)
+IsVerdictOnJob contents old new jdf tiles (verdicts.Match fault) = IsDenotedByJob contents jdf tiles (verdicts.Match fault)
+IsVerdictOnJob contents old new jdf tiles (verdicts.Spelling text) = ⊥
+IsVerdictOnJob contents old new jdf tiles (verdicts.Answer P outcome) = IsDenotedByJob contents jdf tiles (verdicts.Answer P outcome)
 
--- this is what the words mean, where the files are told, and they do order something
-abbrev pub IsTold : List (List ℕ) → Option Entries → Verdict → Type 0
-IsTold words contents v = ((files : Entries) → contents ≡ Some files → Means words files v) × (IsNoOrder words → ⊥)
+-- the arguments denote this verdict, where the contents are known, and they form a command
+abbrev pub IsDenoted : List (List ℕ) → Option Entries → Verdict → Type 0
+IsDenoted words contents v = ((files : Entries) → contents ≡ Some files → Denotes words files v) × (IsNoOrder words → ⊥)
 
--- What is said for words: usage exactly where they order nothing; unread only where a read of that name failed; else what they mean.
-abbrev pub Judged : List (List ℕ) → Option Entries → (List ℕ → ℕ) → (List ℕ → ℕ) → Verdict → Type 0
-Judged words contents old new say.Usage = IsNoOrder words
-Judged words contents old new (say.Unread name) = Rose (old name) (new name) × MayBeUnread words contents name × (IsNoOrder words → ⊥)
-Judged words contents old new (say.Jdf fault) = IsTold words contents (say.Jdf fault)
-Judged words contents old new (say.Data fault) = IsTold words contents (say.Data fault)
-Judged words contents old new (say.Match fault) = IsTold words contents (say.Match fault)
-Judged words contents old new (say.Spelling text) = IsTold words contents (say.Spelling text)
-Judged words contents old new (say.Answer P outcome) = IsTold words contents (say.Answer P outcome)
+-- A verdict on the arguments: usage exactly where they form no command; unread only where a read of that name failed; else what
+-- they denote.
+abbrev pub IsVerdictOnWords : List (List ℕ) → Option Entries → (List ℕ → ℕ) → (List ℕ → ℕ) → Verdict → Type 0
+IsVerdictOnWords words contents old new verdicts.Usage = IsNoOrder words
+IsVerdictOnWords words contents old new (verdicts.Unread name) = Rose (old name) (new name) × MayBeUnread words contents name × (IsNoOrder words → ⊥)
+IsVerdictOnWords words contents old new (verdicts.Jdf fault) = IsDenoted words contents (verdicts.Jdf fault)
+IsVerdictOnWords words contents old new (verdicts.Data fault) = IsDenoted words contents (verdicts.Data fault)
+IsVerdictOnWords words contents old new (verdicts.Match fault) = IsDenoted words contents (verdicts.Match fault)
+IsVerdictOnWords words contents old new (verdicts.Spelling text) = IsDenoted words contents (verdicts.Spelling text)
+IsVerdictOnWords words contents old new (verdicts.Answer P outcome) = IsDenoted words contents (verdicts.Answer P outcome)
 
--- the names of an order are text
+-- the names in a request are UTF-8
 abbrev pub AreTexts : Request → Type 0
 AreTexts (Run jdf tiles) = IsUtf8 jdf × IsUtf8 tiles
 AreTexts (Show jdf) = IsUtf8 jdf
 
--- this is said, by the step that stopped or by the last
-abbrev pub IsSaid : Result Verdict Stop → Verdict → Type 0
-IsSaid (Ok v) w = v ≡ w
-IsSaid (Err (Said v)) w = v ≡ w
-IsSaid (Err Memory) w = ⊥
+-- the verdict, of the stage that ended early or of the last
+abbrev pub HasVerdict : Result Verdict StageExit → Verdict → Type 0
+HasVerdict (Ok v) w = v ≡ w
+HasVerdict (Err (Decided v)) w = v ≡ w
+HasVerdict (Err Memory) w = ⊥

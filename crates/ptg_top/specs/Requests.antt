@@ -14,7 +14,7 @@ request_of (order.Show jdf) = Some (Show jdf)
 request_of (order.Check jdf tiles) = None
 request_of (order.Demo n) = None
 
--- the words form a command that asks for this
+-- the arguments form a command that asks for this
 pub record Requests (words : List (List ℕ)) (request : Request) : Type 0 where
   pub order : Order
   pub formed : Orders words order

@@ -1,4 +1,4 @@
--- How far the words and the files lead: to a tree, to data, to a plan.
+-- The stages that the arguments and the files reach: a tree, data, a plan. Source: this project's own choice.
 use Rattle.std.specs.Prelude.{◌≡◌, ℕ, List, Some}
 use Rattle.ptg_io.specs.Files.{file_of}
 use Rattle.ptg_top.specs.declared.request.Request.TheVariants.{Run}
@@ -15,7 +15,7 @@ use Rattle.check_first.specs.Planned.{IsPlan}
 abbrev pub Entries : Type 0
 Entries = List (List ℕ × List ℕ)
 
--- the words order to run a job with the data file of this name, and its JDF file is the text of this tree
+-- the arguments ask to run a job with the data file of this name, and its JDF file is the text of this tree
 pub record HasTree (words : List (List ℕ)) (files : Entries) (tiles : List ℕ) (J : Jdf) : Type 0 where
   pub jdf : List ℕ
   pub order : Requests words (Run jdf tiles)

@@ -3,7 +3,7 @@
 ghost use Rattle.ptg_top.specs.Meaning.{OneMeaning};
 ghost use Rattle.ptg_top.specs.Headline.{OneOutput};
 
-/// A law: words and files mean one thing at most, and so determine what is printed.
+/// A law: arguments and files denote one verdict at most, and so determine what is printed.
 pub fn one_meaning()
     ensures meaning { OneMeaning }
     ensures output { OneOutput }

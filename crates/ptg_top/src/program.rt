@@ -14,7 +14,7 @@ use ptg_base::{OutOfMemory, Text};
 use ptg_io::{Failed, Files, Sink};
 use std::alloc::Global;
 
-/// Does what the words order, with these files, and prints the answer.
+/// Carries out the command that the arguments form, with these files, and prints the answer.
 ///
 /// Whatever the JDF and the data, `run JDF DATA` prints exactly the answer of the sequential dataflow meaning, with its
 /// status: the refusal, the final collections, all trapped tasks, or a stall with its waiting discovered tasks. Only a
@@ -29,7 +29,7 @@ pub fn ptg_main<F: Files, O: Sink>(
     ensures stays { F.contents files.new ≡ F.contents files.old }
     ensures read_faults { (other : List ℕ) → F.faults files.old other ≤ F.faults files.new other }
     ensures write_faults { O.faults out.old ≤ O.faults out.new }
-    // Where the contents of the files are known: exactly the text and the status that words and files mean.
+    // Where the contents of the files are known: exactly the text and the status that arguments and files denote.
     ensures exact { (entries : Entries) → F.contents files.old ≡ Some entries → IsExact result →
         Prints words.now entries (O.bytes out.old) (O.bytes out.new) result }
     // `unread,NAME` is printed only if reading NAME failed; NAME is the data file's only once the JDF was read.
@@ -40,14 +40,15 @@ pub fn ptg_main<F: Files, O: Sink>(
     // A write fault comes only where a write failed, and then a prefix of what was due was written.
     ensures cut { result ≡ Status.WriteFault → Rose (O.faults out.old) (O.faults out.new)
         × IsCut words.now (F.contents files.old) (F.faults files.old) (F.faults files.new) (O.bytes out.old) (O.bytes out.new) }
-    // Where memory is wanting nothing is written.
+    // If memory runs out, nothing is written.
     ensures silent { result ≡ Status.OutOfMemory → O.bytes out.new ≡ O.bytes out.old }
-    // Where no read and no write failed: what words and files mean, unless memory is wanting.
+    // Where no read and no write failed: what arguments and files denote, unless memory runs out.
     ensures complete { (entries : Entries) → F.contents files.old ≡ Some entries
         → ((name : List ℕ) → Rose (F.faults files.old name) (F.faults files.new name) → ⊥)
         → (Rose (O.faults out.old) (O.faults out.new) → ⊥)
         → Prints words.now entries (O.bytes out.old) (O.bytes out.new) result ⊎ (result ≡ Status.OutOfMemory) }
-    // Whatever the files: usage, with its line, is answered only to words that form no command, and to those nothing else, unless a write failed or memory is wanting.
+    // Whatever the files: usage, with its line, is the answer only to arguments that form no command, and to those nothing else is,
+    // unless a write failed or memory ran out.
     ensures usage_only { result ≡ Status.Usage → IsNoOrder words.now }
     ensures usage_line { result ≡ Status.Usage → O.bytes out.new ≡ appended (O.bytes out.old) usage_line }
     ensures usage { IsNoOrder words.now → (result ≡ Status.Usage) ⊎ ((result ≡ Status.WriteFault) ⊎ (result ≡ Status.OutOfMemory)) }

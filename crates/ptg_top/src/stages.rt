@@ -1,4 +1,4 @@
-//! From files to a tree, to data, to a plan, to an answer: each step with its refusal.
+//! From files to a tree, to data, to a plan, to an answer: each stage with its refusal.
 
 ghost use Rattle.std.specs.Prelude.{◌≡◌, ◌⊎◌, ◌≤◌, ℕ, List, Some, Err, IfOk, IfErr, MatchResult};
 ghost use Rattle.std.specs.Str.{IsUtf8};
@@ -17,9 +17,9 @@ ghost use Rattle.check_first.specs.Planned.{IsPlan};
 ghost use Rattle.dep_first.specs.Consistent.{IsConsistent};
 ghost use Rattle.core_first.specs.Fits.{Fits};
 ghost use Rattle.core_first.specs.Answer.{answer};
-ghost use Rattle.ptg_top.specs.declared.verdict.Verdict.TheVariants as say;
+ghost use Rattle.ptg_top.specs.declared.verdict.Verdict.TheVariants as verdicts;
 ghost use Rattle.ptg_top.specs.Stages.{Entries};
-ghost use Rattle.ptg_top.specs.Steps.{TreeStop, DataStop, PlanStop, AnswerSaid, IsUnread, TextStop};
+ghost use Rattle.ptg_top.specs.Steps.{TreeExit, DataExit, PlanExit, AnswerEndsWith, IsUnread, TextExit};
 
 use crate::verdict::Verdict;
 use check_first::{check, is_missing};
@@ -33,11 +33,12 @@ use ptg_base::{OutOfMemory, Seq, Text};
 use ptg_io::{Files, LoadFault, load};
 use std::alloc::Global;
 
-/// Why a step did not lead on.
+/// Why a stage ended early.
 #[derive(Debug, Drop)]
-pub enum Stop {
-    /// This is to be said.
-    Said(Verdict),
+pub enum StageExit {
+    /// The verdict is decided.
+    Decided(Verdict),
+    /// Memory ran out.
     Memory,
 }
 
@@ -73,102 +74,102 @@ pub fn name_of(word: &Text) -> &str
 }
 
 /// The tree of the JDF file of this name.
-pub fn tree_of<F: Files>(alloc: Global, name: &Text, files: &mut F) -> Result<Jdf, Stop>
+pub fn tree_of<F: Files>(alloc: Global, name: &Text, files: &mut F) -> Result<Jdf, StageExit>
     requires { IsUtf8 name.now }
     ensures stays { F.contents files.new ≡ F.contents files.old }
     ensures grows { (other : List ℕ) → F.faults files.old other ≤ F.faults files.new other }
     ensures found { (entries : Entries) → F.contents files.old ≡ Some entries →
         IfOk result (λ J. (bytes : List ℕ) × (file_of entries name.now ≡ Some bytes) × IsJdf bytes J) }
-    ensures stopped { IfErr result (TreeStop (F.contents files.old) (F.faults files.old name.now) (F.faults files.new name.now) name.now) }
+    ensures stopped { IfErr result (TreeExit (F.contents files.old) (F.faults files.old name.now) (F.faults files.new name.now) name.now) }
 {
     match load(alloc, files, name_of(name)) {
         Ok(bytes) => tree(alloc, bytes.as_slice()),
-        Err(LoadFault::TooLong) => Err(Stop::Said(Verdict::Jdf(jdf_fault()))),
+        Err(LoadFault::TooLong) => Err(StageExit::Decided(Verdict::Jdf(jdf_fault()))),
         Err(LoadFault::Failed) => Err(unread(alloc, name)),
-        Err(LoadFault::OutOfMemory) => Err(Stop::Memory),
+        Err(LoadFault::OutOfMemory) => Err(StageExit::Memory),
     }
 }
 
-/// That the file of this name could not be read.
-pub fn unread(alloc: Global, name: &Text) -> Stop
+/// The exit of a stage that could not read the file of this name.
+pub fn unread(alloc: Global, name: &Text) -> StageExit
     ensures { IsUnread name.now result }
 {
     match Text::of(alloc, name.bytes()) {
-        Ok(name) => Stop::Said(Verdict::Unread(name)),
-        Err(OutOfMemory) => Stop::Memory,
+        Ok(name) => StageExit::Decided(Verdict::Unread(name)),
+        Err(OutOfMemory) => StageExit::Memory,
     }
 }
 
 // The tree of a text.
-fn tree(alloc: Global, bytes: &[u8]) -> Result<Jdf, Stop>
-    ensures { MatchResult result (IsJdf bytes.now) (TextStop (say.Jdf jdf.not_built) (IsJdf bytes.now)) }
+fn tree(alloc: Global, bytes: &[u8]) -> Result<Jdf, StageExit>
+    ensures { MatchResult result (IsJdf bytes.now) (TextExit (verdicts.Jdf jdf.not_built) (IsJdf bytes.now)) }
 {
     match read_first(alloc, bytes) {
         Ok(tree) => Ok(tree),
-        Err(JdfRefusal::Fault(fault)) => Err(Stop::Said(Verdict::Jdf(fault))),
-        Err(JdfRefusal::OutOfMemory) => Err(Stop::Memory),
+        Err(JdfRefusal::Fault(fault)) => Err(StageExit::Decided(Verdict::Jdf(fault))),
+        Err(JdfRefusal::OutOfMemory) => Err(StageExit::Memory),
     }
 }
 
 /// The data of the file of this name.
-pub fn data_of<F: Files>(alloc: Global, name: &Text, files: &mut F) -> Result<Given, Stop>
+pub fn data_of<F: Files>(alloc: Global, name: &Text, files: &mut F) -> Result<Given, StageExit>
     requires { IsUtf8 name.now }
     ensures stays { F.contents files.new ≡ F.contents files.old }
     ensures grows { (other : List ℕ) → F.faults files.old other ≤ F.faults files.new other }
     ensures whole { IfOk result HasWholeTiles }
     ensures found { (entries : Entries) → F.contents files.old ≡ Some entries →
         IfOk result (λ G. (bytes : List ℕ) × (file_of entries name.now ≡ Some bytes) × IsData bytes G) }
-    ensures stopped { IfErr result (DataStop (F.contents files.old) (F.faults files.old name.now) (F.faults files.new name.now) name.now) }
+    ensures stopped { IfErr result (DataExit (F.contents files.old) (F.faults files.old name.now) (F.faults files.new name.now) name.now) }
 {
     match load(alloc, files, name_of(name)) {
         Ok(bytes) => data(alloc, bytes.as_slice()),
-        Err(LoadFault::TooLong) => Err(Stop::Said(Verdict::Data(data_fault()))),
+        Err(LoadFault::TooLong) => Err(StageExit::Decided(Verdict::Data(data_fault()))),
         Err(LoadFault::Failed) => Err(unread(alloc, name)),
-        Err(LoadFault::OutOfMemory) => Err(Stop::Memory),
+        Err(LoadFault::OutOfMemory) => Err(StageExit::Memory),
     }
 }
 
 // The data of a text.
-fn data(alloc: Global, bytes: &[u8]) -> Result<Given, Stop>
+fn data(alloc: Global, bytes: &[u8]) -> Result<Given, StageExit>
     ensures whole { IfOk result HasWholeTiles }
-    ensures spelled { MatchResult result (IsData bytes.now) (TextStop (say.Data coll.not_built) (IsData bytes.now)) }
+    ensures spelled { MatchResult result (IsData bytes.now) (TextExit (verdicts.Data coll.not_built) (IsData bytes.now)) }
 {
     match read_data(alloc, bytes) {
         Ok(given) => Ok(given),
-        Err(DataRefusal::Fault(fault)) => Err(Stop::Said(Verdict::Data(fault))),
-        Err(DataRefusal::OutOfMemory) => Err(Stop::Memory),
+        Err(DataRefusal::Fault(fault)) => Err(StageExit::Decided(Verdict::Data(fault))),
+        Err(DataRefusal::OutOfMemory) => Err(StageExit::Memory),
     }
 }
 
 /// The plan of a tree with data.
-pub fn plan_of(alloc: Global, jdf: &Jdf, given: &Given) -> Result<Plan, Stop>
+pub fn plan_of(alloc: Global, jdf: &Jdf, given: &Given) -> Result<Plan, StageExit>
     ensures named { IfOk result (λ P. IsMissing jdf.now given.now → ⊥) }
     ensures plan { IfOk result (IsPlan jdf.now given.now) }
-    ensures stopped { IfErr result (PlanStop jdf.now given.now) }
+    ensures stopped { IfErr result (PlanExit jdf.now given.now) }
 {
     match is_missing(alloc, jdf, given) {
-        Ok(true) => return Err(Stop::Said(Verdict::Data(data_fault()))),
+        Ok(true) => return Err(StageExit::Decided(Verdict::Data(data_fault()))),
         Ok(false) => {}
-        Err(OutOfMemory) => return Err(Stop::Memory),
+        Err(OutOfMemory) => return Err(StageExit::Memory),
     }
     match check(alloc, jdf, given) {
         Ok(plan) => Ok(plan),
-        Err(JdfRefusal::Fault(fault)) => Err(Stop::Said(Verdict::Jdf(fault))),
-        Err(JdfRefusal::OutOfMemory) => Err(Stop::Memory),
+        Err(JdfRefusal::Fault(fault)) => Err(StageExit::Decided(Verdict::Jdf(fault))),
+        Err(JdfRefusal::OutOfMemory) => Err(StageExit::Memory),
     }
 }
 
-/// What is to be said of a plan with its data.
-pub fn answer_of(alloc: Global, plan: Plan, given: Given) -> Result<Verdict, Stop>
+/// The verdict on a plan with its data.
+pub fn answer_of(alloc: Global, plan: Plan, given: Given) -> Result<Verdict, StageExit>
     requires { Fits plan given }
-    ensures { MatchResult result (AnswerSaid plan given) (λ stop. stop ≡ Stop.Memory) }
+    ensures { MatchResult result (AnswerEndsWith plan given) (λ exit. exit ≡ StageExit.Memory) }
 {
     match match_edges(alloc, plan) {
         Ok(matched) => match run_one(alloc, &matched, given) {
             Ok(outcome) => Ok(Verdict::Answer(matched, outcome)),
-            Err(OutOfMemory) => Err(Stop::Memory),
+            Err(OutOfMemory) => Err(StageExit::Memory),
         },
         Err((MatchRefusal::Fault(fault), _plan)) => Ok(Verdict::Match(fault)),
-        Err((MatchRefusal::OutOfMemory, _plan)) => Err(Stop::Memory),
+        Err((MatchRefusal::OutOfMemory, _plan)) => Err(StageExit::Memory),
     }
 }

@@ -8,7 +8,7 @@ ghost use Rattle.ptg_top.specs.Codes.{code_of};
 pub enum Status {
     /// All tasks ran, and the data with what they wrote were printed.
     Complete,
-    /// The words are no command.
+    /// The arguments form no command.
     Usage,
     /// The JDF was refused.
     JdfRefused,

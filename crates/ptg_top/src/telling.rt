@@ -1,4 +1,4 @@
-//! A verdict, printed.
+//! Prints a verdict; the status of a verdict.
 
 ghost use Rattle.std.specs.Prelude.{◌≡◌, ◌≤◌, OnOk, OnErr};
 ghost use Rattle.ptg_io.specs.Faults.{Rose};
@@ -13,7 +13,7 @@ use ptg_base::Text;
 use ptg_io::{Failed, Sink, write_all};
 use report_first::{Line, refusal, report};
 
-/// Prints a verdict. On `Err` some first bytes of its text went out.
+/// Prints a verdict. On `Err` a prefix of its text was written.
 pub fn tell<O: Sink>(verdict: &Verdict, out: &mut O) -> Result<(), Failed>
     ensures ok { OnOk result (O.bytes out.new ≡ appended (O.bytes out.old) (text_of verdict.now)) }
     ensures prefix { OnErr result (HasPrefix (O.bytes out.old) (O.bytes out.new) (text_of verdict.now)) }
@@ -41,7 +41,7 @@ fn spell<O: Sink>(text: &Text, out: &mut O) -> Result<(), Failed>
     write_all(out, text.bytes())
 }
 
-/// The status of a verdict whose text went out.
+/// The status of a verdict that was printed.
 pub fn status(verdict: &Verdict) -> Status
     ensures { result ≡ status_of verdict.now }
 {

@@ -1,4 +1,4 @@
-//! What is to be printed.
+//! The verdict: what a run comes to, before it is printed.
 
 use core_first::Outcome;
 use data_first::DataFault;
@@ -7,15 +7,18 @@ use jdf_lex::JdfFault;
 use match_first::MatchFault;
 use ptg_base::Text;
 
-/// What is to be printed.
+/// What a run comes to, before it is printed.
 #[derive(Debug, Drop)]
 pub enum Verdict {
-    /// The words are no command.
+    /// The arguments form no command.
     Usage,
     /// The file of this name could not be read.
     Unread(Text),
+    /// The JDF has this fault.
     Jdf(JdfFault),
+    /// The data have this fault.
     Data(DataFault),
+    /// The edges of the job are not consistent.
     Match(MatchFault),
     /// The canonical spelling of a JDF.
     Spelling(Text),

@@ -10,7 +10,7 @@ use Rattle.clap.specs.Simple.{built, matches_of}
 use Rattle.clap.specs.Takes.{is_given}
 use Rattle.clap.specs.Faults.{fault_of, level_fault, is_simple_and_free}
 use Rattle.clap.proofs.FaultLemmas.{leaf_fault}
-use Rattle.ptg_words.specs.Parts.{Setting, Part, name_of, workers, shards, operands, is_lacking, is_stray, has_twice, parts}
+use Rattle.ptg_words.specs.Parts.{NumberOption, Part, name_of, workers, shards, operands, is_lacking, is_stray, has_twice, parts}
 use Rattle.ptg_words.specs.Readings.{is_read, AllProper}
 use Rattle.ptg_words.specs.Commands.{one_operand, two_operands}
 use Rattle.ptg_words.proofs.ClapUses.{fresh, none, value_rule}
@@ -57,7 +57,7 @@ neither false b = refl
 
 -- ---- one operand
 
-module _ (name i : Text) (own : (s : Setting) → (bytes_eq (name_of s) i ≡ false) × (bytes_eq i (name_of s) ≡ false)) (not_flag : bytes_eq (codes "preload") i ≡ false)
+module _ (name i : Text) (own : (s : NumberOption) → (bytes_eq (name_of s) i ≡ false) × (bytes_eq i (name_of s) ≡ false)) (not_flag : bytes_eq (codes "preload") i ≡ false)
     (no_flag : bytes_eq i (codes "preload") ≡ false) where
   abbrev one_rules : List Rule
   one_rules = value_rule i None (Some 1) true ∷ []
@@ -115,11 +115,11 @@ data_rule = value_rule (codes "data") None (Some 2) true
 abbrev pub pair : List Text
 pair = codes "jdf" ∷ codes "data" ∷ []
 
-jdf_own : (s : Setting) → (bytes_eq (name_of s) (codes "jdf") ≡ false) × (bytes_eq (codes "jdf") (name_of s) ≡ false)
+jdf_own : (s : NumberOption) → (bytes_eq (name_of s) (codes "jdf") ≡ false) × (bytes_eq (codes "jdf") (name_of s) ≡ false)
 jdf_own workers = (refl, refl)
 jdf_own shards = (refl, refl)
 
-data_own : (s : Setting) → (bytes_eq (name_of s) (codes "data") ≡ false) × (bytes_eq (codes "data") (name_of s) ≡ false)
+data_own : (s : NumberOption) → (bytes_eq (name_of s) (codes "data") ≡ false) × (bytes_eq (codes "data") (name_of s) ≡ false)
 data_own workers = (refl, refl)
 data_own shards = (refl, refl)
 

@@ -116,7 +116,7 @@ module _ (name : Text) (c : List Rule) (ids : List Text) (opts : Bool) (fits : F
   all_views [] p = tt
   all_views (w ∷ ws) p = (fits.views w p.0, all_views ws p.1)
 
-  -- clap passes the words where their parts fit, no option stands twice and each positional is there
+  -- clap passes the words where their parts fit, no option occurs twice and each positional is there
   abbrev pub passes : List Text → Bool
   passes ws = (good ids (parts opts ws) && fresh [] (uses ids (parts opts ws))) && list_all (λ i. is_some (value_in i (uses ids (parts opts ws)))) ids
 

@@ -11,23 +11,23 @@ use Rattle.clap.specs.Faults.{fault_of, level_fault, is_simple_and_free}
 use Rattle.clap.proofs.FaultLemmas.{leaf_fault}
 use Rattle.clap.specs.declared.builder.value_parser.Reading.TheVariants.{AsWritten}
 use Rattle.clap.specs.declared.parser.matches.ValueSource.TheVariants.{DefaultValue}
-use Rattle.ptg_words.specs.Parts.{Setting, Part, name_of, workers, shards, operands, texts_of, is_preload, parts}
+use Rattle.ptg_words.specs.Parts.{NumberOption, Part, name_of, workers, shards, operands, texts_of, is_preload, parts}
 use Rattle.ptg_words.specs.Readings.{is_read, AllProper}
 use Rattle.ptg_words.specs.Commands.{run_command}
-use Rattle.ptg_words.proofs.ClapUses.{Use, use_row, fresh, none, preload_rule, setting_rule, other_head}
+use Rattle.ptg_words.proofs.ClapUses.{Use, use_row, fresh, none, preload_rule, number_option_rule, other_head}
 use Rattle.ptg_words.proofs.ClapStates.{good, uses, shape, IsValue}
 use Rattle.ptg_words.proofs.ClapViews.{view, some_option, long_rule}
-use Rattle.ptg_words.proofs.PartsOfUses.{NoneIs, value_in, setting_value, preload_value}
+use Rattle.ptg_words.proofs.PartsOfUses.{NoneIs, value_in, number_option_value, preload_value}
 use Rattle.ptg_words.proofs.ClapEnd.{Fits, level_passes, final_rows, seen, or_seen, seen_append, first_seen, value_default, value_kept, preload_default}
 use Rattle.ptg_words.proofs.ClapCommands.{or_false, both_true, neither, jdf_rule, data_rule, pair, pair_apart, first_of_pair, second_of_pair, pair_reads}
 
 abbrev run_rules : List Rule
-run_rules = jdf_rule ∷ data_rule ∷ setting_rule workers ∷ setting_rule shards ∷ preload_rule ∷ []
+run_rules = jdf_rule ∷ data_rule ∷ number_option_rule workers ∷ number_option_rule shards ∷ preload_rule ∷ []
 
 by_long : (n : Text) → arg_by_long run_rules n ≡ long_rule n
 by_long n = rw (or_false (bytes_eq (codes "workers") n), or_false (bytes_eq (codes "shards") n), or_false (bytes_eq (codes "preload") n)) refl
 
-by_id : (s : Setting) → IsValue run_rules (name_of s)
+by_id : (s : NumberOption) → IsValue run_rules (name_of s)
 by_id workers = record { long = Some (codes "workers"); index = None; required = false; found = refl }
 by_id shards = record { long = Some (codes "shards"); index = None; required = false; found = refl }
 
@@ -62,9 +62,9 @@ fits_run = record {
   );
   tail = run_tail;
   finished_is = λ rows.
-      ap (λ r. fold with_default r (data_rule ∷ setting_rule workers ∷ setting_rule shards ∷ preload_rule ∷ [])) (value_kept rows (codes "jdf") None (Some 1) true)
-      ∙ ap (λ r. fold with_default r (setting_rule workers ∷ setting_rule shards ∷ preload_rule ∷ [])) (value_kept rows (codes "data") None (Some 2) true)
-      ∙ ap (λ r. fold with_default r (setting_rule shards ∷ preload_rule ∷ [])) (value_kept rows (codes "workers") (Some (codes "workers")) None false)
+      ap (λ r. fold with_default r (data_rule ∷ number_option_rule workers ∷ number_option_rule shards ∷ preload_rule ∷ [])) (value_kept rows (codes "jdf") None (Some 1) true)
+      ∙ ap (λ r. fold with_default r (number_option_rule workers ∷ number_option_rule shards ∷ preload_rule ∷ [])) (value_kept rows (codes "data") None (Some 2) true)
+      ∙ ap (λ r. fold with_default r (number_option_rule shards ∷ preload_rule ∷ [])) (value_kept rows (codes "workers") (Some (codes "workers")) None false)
       ∙ ap (λ r. fold with_default r (preload_rule ∷ [])) (value_kept rows (codes "shards") (Some (codes "shards")) None false)
       ∙ with_off rows;
   absent = absent_off;
@@ -85,9 +85,9 @@ fault_run ws = leaf_fault (built run_command) nothing_held (drop 1 ws) refl
 pub reads_run : (ws : List Text) → AllProper (drop 1 ws) → none (fault_of run_command ws) ≡ is_read 2 (parts true (drop 1 ws))
 reads_run ws p = ap none (fault_run ws) ∙ level_passes (codes "run") run_rules pair true fits_run (drop 1 ws) p ∙ pair_reads (parts true (drop 1 ws))
 
-no_setting : (s : Setting) → NoneIs (name_of s) pair
-no_setting workers = (refl, (refl, tt))
-no_setting shards = (refl, (refl, tt))
+no_number_option : (s : NumberOption) → NoneIs (name_of s) pair
+no_number_option workers = (refl, (refl, tt))
+no_number_option shards = (refl, (refl, tt))
 
 -- the values that clap finds
 pub record RunValues (rows : List Row) (ps : List Part) : Type 0 where
@@ -132,8 +132,8 @@ values_run ws p h =
     record {
       jdf = ap (first_of (codes "jdf")) rows ∙ first_seen (codes "jdf") us _ (absent (codes "jdf") refl) ∙ first_of_pair ps;
       tiles = ap (first_of (codes "data")) rows ∙ first_seen (codes "data") us _ (absent (codes "data") refl) ∙ second_of_pair ps;
-      workers_text = ap (first_of (codes "workers")) rows ∙ first_seen (codes "workers") us _ (absent (codes "workers") refl) ∙ setting_value workers pair ps (no_setting workers);
-      shards_text = ap (first_of (codes "shards")) rows ∙ first_seen (codes "shards") us _ (absent (codes "shards") refl) ∙ setting_value shards pair ps (no_setting shards);
+      workers_text = ap (first_of (codes "workers")) rows ∙ first_seen (codes "workers") us _ (absent (codes "workers") refl) ∙ number_option_value workers pair ps (no_number_option workers);
+      shards_text = ap (first_of (codes "shards")) rows ∙ first_seen (codes "shards") us _ (absent (codes "shards") refl) ∙ number_option_value shards pair ps (no_number_option shards);
       preloads = ap (one_of (codes "preload")) rows ∙ preload_found us (list_any is_preload ps) (preload_value pair ps (refl, (refl, tt)));
     }
 

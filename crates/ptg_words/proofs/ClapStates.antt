@@ -1,4 +1,4 @@
--- Where clap's walk over the words stands between two of them.
+-- The state of clap's walk over the words between two of them.
 use Rattle.std.proofs.Common.{◌≡◌, ℕ, ◌+◌, Bool, true, false, not, ◌&&◌, List, [], ◌∷◌, Option, Some, None, refl, sym, ap, ◌∙◌, codes}
 use Rattle.std.specs.Prelude.{fold, min}
 use Rattle.std.specs.Option.{option_map_or}
@@ -9,15 +9,15 @@ use Rattle.clap.specs.Kinds.{Kinds, or_else}
 use Rattle.clap.specs.Faults.{use_fault, settle_fault, turn_fault, walk_fault, flag_word_fault}
 use Rattle.clap.specs.Lexer.{usize_max}
 use Rattle.clap.specs.Lexer.{long_of, short_of}
-use Rattle.ptg_words.specs.Parts.{Setting, Part, name_of, after, form_of, operand, given, lacking, preload, stray, plain, named, flag, unknown}
-use Rattle.ptg_words.proofs.ClapUses.{none, none_else, value_rule, preload_rule, setting_rule, Use, added, fresh, value_fault, value_used, and_true, and_assoc}
+use Rattle.ptg_words.specs.Parts.{NumberOption, Part, name_of, after, form_of, operand, given, lacking, preload, stray, plain, named, flag, unknown}
+use Rattle.ptg_words.proofs.ClapUses.{none, none_else, value_rule, preload_rule, number_option_rule, Use, added, fresh, value_fault, value_used, and_true, and_assoc}
 
 -- ---- the walk between two words
 
--- nothing is due, though a use may still be pending; or a setting that was named waits for its text
+-- nothing is due, though a use may still be pending; or an option with a number that was named waits for its text
 pub data Pend : Type 0 where
   quiet : Option Use → Pend
-  due : Setting → Pend
+  due : NumberOption → Pend
 
 abbrev pub pending_of : Pend → Option (Text × List Text)
 pending_of (quiet None) = None
@@ -28,7 +28,7 @@ abbrev pub waiting_of : Pend → Waiting
 waiting_of (quiet q) = idle
 waiting_of (due s) = option (name_of s)
 
-abbrev pub due_of : Pend → Option Setting
+abbrev pub due_of : Pend → Option NumberOption
 due_of (quiet q) = None
 due_of (due s) = Some s
 
@@ -63,10 +63,10 @@ Positions c n (i ∷ is) = (arg_by_index c n ≡ Some (value_rule i None (Some n
 -- what clap sees in a word, beside its form
 pub data View (c : List Rule) (opts : Bool) (w : Text) : Type 0 where
   is_plain : form_of opts w ≡ plain → bytes_eq w (45 ∷ 45 ∷ []) ≡ false → long_of w ≡ None → short_of w ≡ None → View c opts w
-  is_name : (s : Setting) → form_of opts w ≡ named s None → bytes_eq w (45 ∷ 45 ∷ []) ≡ false → long_of w ≡ Some (name_of s, None)
-      → arg_by_long c (name_of s) ≡ Some (setting_rule s) → IsValue c (name_of s) → View c opts w
-  is_text : (s : Setting) (t : Text) → form_of opts w ≡ named s (Some t) → bytes_eq w (45 ∷ 45 ∷ []) ≡ false
-      → long_of w ≡ Some (name_of s, Some t) → arg_by_long c (name_of s) ≡ Some (setting_rule s) → View c opts w
+  is_name : (s : NumberOption) → form_of opts w ≡ named s None → bytes_eq w (45 ∷ 45 ∷ []) ≡ false → long_of w ≡ Some (name_of s, None)
+      → arg_by_long c (name_of s) ≡ Some (number_option_rule s) → IsValue c (name_of s) → View c opts w
+  is_text : (s : NumberOption) (t : Text) → form_of opts w ≡ named s (Some t) → bytes_eq w (45 ∷ 45 ∷ []) ≡ false
+      → long_of w ≡ Some (name_of s, Some t) → arg_by_long c (name_of s) ≡ Some (number_option_rule s) → View c opts w
   is_flag : form_of opts w ≡ flag → bytes_eq w (45 ∷ 45 ∷ []) ≡ false → long_of w ≡ Some (codes "preload", None)
       → arg_by_long c (codes "preload") ≡ Some preload_rule → View c opts w
   is_refused : form_of opts w ≡ unknown → bytes_eq w (45 ∷ 45 ∷ []) ≡ false
@@ -126,7 +126,7 @@ module _ (name : Text) (c : List Rule) (opts : Bool) where
       free false e = e
       free true e = let bad : false ≡ true = sym (rw e refl) ∙ h in absurd cc
 
-  pub due_fails : (rows : List Row) (s : Setting) → Known c (due s) → none (settle_fault c false (held rows (due s))) ≡ false
+  pub due_fails : (rows : List Row) (s : NumberOption) → Known c (due s) → none (settle_fault c false (held rows (due s))) ≡ false
   unfolding none
   due_fails rows s k = ap (λ o. none (option_map_or (λ (a : Rule). use_fault false a [] rows) o [])) k.found
 

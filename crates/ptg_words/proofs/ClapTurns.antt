@@ -7,8 +7,8 @@ use Rattle.clap.specs.Kinds.{Kinds, or_else}
 use Rattle.clap.specs.Faults.{use_fault, settle_fault, turn_fault, flag_word_fault, word_fault}
 use Rattle.clap.specs.Lexer.{usize_max}
 use Rattle.clap.specs.Lexer.{long_of, short_of}
-use Rattle.ptg_words.specs.Parts.{Setting, name_of, workers, shards}
-use Rattle.ptg_words.proofs.ClapUses.{none, none_else, value_rule, preload_rule, setting_rule, Use, use_row, added, fresh, and_true, and_false, and_left, and_swap, fresh_split, added_split}
+use Rattle.ptg_words.specs.Parts.{NumberOption, name_of, workers, shards}
+use Rattle.ptg_words.proofs.ClapUses.{none, none_else, value_rule, preload_rule, number_option_rule, Use, use_row, added, fresh, and_true, and_false, and_left, and_swap, fresh_split, added_split}
 use Rattle.ptg_words.proofs.ClapStates.{Pend, pending_of, uses_of, held, here, IsValue, Known, quiet, due, shape, settle_none, settle_rows}
 
 module _ (name : Text) (c : List Rule) (opts : Bool) where
@@ -41,28 +41,28 @@ module _ (name : Text) (c : List Rule) (opts : Bool) where
   pub none_two : (a b : Kinds) → none (or_else (or_else a b) []) ≡ (none a && none b)
   none_two a b = none_nil (or_else a b) ∙ none_else a b
 
-  pub turn_name : (w : Text) (s : Setting) (rows : List Row) (p : Pend) (n : ℕ) → bytes_eq w (45 ∷ 45 ∷ []) ≡ false → long_of w ≡ Some (name_of s, None)
-      → arg_by_long c (name_of s) ≡ Some (setting_rule s)
+  pub turn_name : (w : Text) (s : NumberOption) (rows : List Row) (p : Pend) (n : ℕ) → bytes_eq w (45 ∷ 45 ∷ []) ≡ false → long_of w ≡ Some (name_of s, None)
+      → arg_by_long c (name_of s) ≡ Some (number_option_rule s)
       → turn_fault (shape name c opts) [] (here rows p n) w ≡ or_else (settle_fault c false (held rows p)) []
   turn_name w s rows (quiet q) n dd l found = rw (dd, l, found) refl
   turn_name w s rows (due d) n dd l found = rw (dd, l, found) refl
 
-  pub name_leads : (w : Text) (s : Setting) (rows : List Row) (q : Option Use) (n : ℕ) → bytes_eq w (45 ∷ 45 ∷ []) ≡ false → long_of w ≡ Some (name_of s, None)
-      → arg_by_long c (name_of s) ≡ Some (setting_rule s)
+  pub name_leads : (w : Text) (s : NumberOption) (rows : List Row) (q : Option Use) (n : ℕ) → bytes_eq w (45 ∷ 45 ∷ []) ≡ false → long_of w ≡ Some (name_of s, None)
+      → arg_by_long c (name_of s) ≡ Some (number_option_rule s)
       → walked c [] (here rows (quiet q) n) w ≡ here (settled_rows c (pending_of (quiet q)) rows) (due s) n
   unfolding walked
   name_leads w s rows q n dd l found = rw (dd, l, found) refl
 
-  pub turn_text : (w t : Text) (s : Setting) (rows : List Row) (p : Pend) (n : ℕ) → bytes_eq w (45 ∷ 45 ∷ []) ≡ false → long_of w ≡ Some (name_of s, Some t)
-      → arg_by_long c (name_of s) ≡ Some (setting_rule s)
+  pub turn_text : (w t : Text) (s : NumberOption) (rows : List Row) (p : Pend) (n : ℕ) → bytes_eq w (45 ∷ 45 ∷ []) ≡ false → long_of w ≡ Some (name_of s, Some t)
+      → arg_by_long c (name_of s) ≡ Some (number_option_rule s)
       → turn_fault (shape name c opts) [] (here rows p n) w
-      ≡ or_else (or_else (settle_fault c false (held rows p)) (use_fault false (setting_rule s) (t ∷ []) (settled_rows c (pending_of p) rows))) []
+      ≡ or_else (or_else (settle_fault c false (held rows p)) (use_fault false (number_option_rule s) (t ∷ []) (settled_rows c (pending_of p) rows))) []
   turn_text w t s rows (quiet q) n dd l found = rw (dd, l, found) refl
   turn_text w t s rows (due d) n dd l found = rw (dd, l, found) refl
 
-  pub text_leads : (w t : Text) (s : Setting) (rows : List Row) (q : Option Use) (n : ℕ) → bytes_eq w (45 ∷ 45 ∷ []) ≡ false → long_of w ≡ Some (name_of s, Some t)
-      → arg_by_long c (name_of s) ≡ Some (setting_rule s)
-      → walked c [] (here rows (quiet q) n) w ≡ here (used (setting_rule s) (t ∷ []) (settled_rows c (pending_of (quiet q)) rows)) (quiet None) n
+  pub text_leads : (w t : Text) (s : NumberOption) (rows : List Row) (q : Option Use) (n : ℕ) → bytes_eq w (45 ∷ 45 ∷ []) ≡ false → long_of w ≡ Some (name_of s, Some t)
+      → arg_by_long c (name_of s) ≡ Some (number_option_rule s)
+      → walked c [] (here rows (quiet q) n) w ≡ here (used (number_option_rule s) (t ∷ []) (settled_rows c (pending_of (quiet q)) rows)) (quiet None) n
   unfolding walked
   text_leads w t s rows q n dd l found = rw (dd, l, found) refl
 
@@ -88,11 +88,11 @@ module _ (name : Text) (c : List Rule) (opts : Bool) where
       let word : none (word_fault (shape name c opts) [] false (option (name_of d)) w (held rows (due d))) ≡ false = rw dd (bad rows (due d)) in
       none_else (word_fault (shape name c opts) [] false (option (name_of d)) w (held rows (due d))) _ ∙ and_left _ _ word
 
-  pub turn_value : (w : Text) (s : Setting) (rows : List Row) (n : ℕ) → bytes_eq w (45 ∷ 45 ∷ []) ≡ false → long_of w ≡ None → short_of w ≡ None
+  pub turn_value : (w : Text) (s : NumberOption) (rows : List Row) (n : ℕ) → bytes_eq w (45 ∷ 45 ∷ []) ≡ false → long_of w ≡ None → short_of w ≡ None
       → turn_fault (shape name c opts) [] (here rows (due s) n) w ≡ []
   turn_value w s rows n dd l sh = rw (dd, l, sh) refl
 
-  pub value_leads : (w : Text) (s : Setting) (rows : List Row) (n : ℕ) → IsValue c (name_of s) → bytes_eq w (45 ∷ 45 ∷ []) ≡ false → long_of w ≡ None → short_of w ≡ None
+  pub value_leads : (w : Text) (s : NumberOption) (rows : List Row) (n : ℕ) → IsValue c (name_of s) → bytes_eq w (45 ∷ 45 ∷ []) ≡ false → long_of w ≡ None → short_of w ≡ None
       → walked c [] (here rows (due s) n) w ≡ here rows (quiet (Some (name_of s, w))) n
   unfolding walked
   value_leads w workers rows n k dd l sh = rw (dd, l, sh, k.found) refl

@@ -8,7 +8,7 @@ use Rattle.clap.specs.Faults.{use_fault}
 use Rattle.clap.specs.declared.builder.action.ArgAction.TheVariants.{Set, SetTrue}
 use Rattle.clap.specs.declared.builder.value_parser.Reading.TheVariants.{AsWritten}
 use Rattle.clap.specs.declared.parser.matches.ValueSource.TheVariants.{CommandLine}
-use Rattle.ptg_words.specs.Parts.{Setting, name_of}
+use Rattle.ptg_words.specs.Parts.{NumberOption, name_of}
 
 -- ---- booleans and kinds
 
@@ -35,8 +35,8 @@ value_rule id long index required =
 abbrev pub preload_rule : Rule
 preload_rule = filled (record (new_rule (codes "preload")) { long = Some (codes "preload"); action = Some SetTrue })
 
-abbrev pub setting_rule : Setting → Rule
-setting_rule s = value_rule (name_of s) (Some (name_of s)) None false
+abbrev pub number_option_rule : NumberOption → Rule
+number_option_rule s = value_rule (name_of s) (Some (name_of s)) None false
 
 -- what clap keeps of a use
 abbrev pub Use : Type 0

@@ -10,10 +10,10 @@ use Rattle.std.specs.Option.{option_map_or}
 use Rattle.clap.specs.Walk.{Held, Row, Rule, Text, arg_by_short, arg_by_long}
 use Rattle.clap.specs.Faults.{flag_word_fault, flags_fault, bundle_fault, bundle_step_fault, short_fault, long_fault}
 use Rattle.clap.specs.Lexer.{long_of, short_of}
-use Rattle.ptg_words.specs.Parts.{Setting, name_of, workers, shards, named, form_of, text_after}
+use Rattle.ptg_words.specs.Parts.{NumberOption, name_of, workers, shards, named, form_of, text_after}
 use Rattle.ptg_words.specs.Words.{IsProper}
 use Rattle.ptg_words.proofs.ClapStates.{Pend, IsValue, View, is_plain, is_name, is_text, is_flag, is_refused, held}
-use Rattle.ptg_words.proofs.ClapUses.{none, setting_rule, preload_rule, and_false}
+use Rattle.ptg_words.proofs.ClapUses.{none, number_option_rule, preload_rule, and_false}
 
 pub first_char : (x : ℕ) (xs : List ℕ) → IsUtf8 (x ∷ xs) → (y : ℕ) × (slice_get (chars (x ∷ xs)) 0 ≡ Some y)
 first_char x xs u = go (chars (x ∷ xs)) refl
@@ -78,12 +78,12 @@ no_option c no_long y ys = is_refused refl refl (λ rows p. rw (no_long (before_
 
 -- a command with the three options
 abbrev pub long_rule : Text → Option Rule
-long_rule name = cond (bytes_eq (codes "workers") name) (Some (setting_rule workers)) (cond (bytes_eq (codes "shards") name) (Some (setting_rule shards))
+long_rule name = cond (bytes_eq (codes "workers") name) (Some (number_option_rule workers)) (cond (bytes_eq (codes "shards") name) (Some (number_option_rule shards))
     (cond (bytes_eq (codes "preload") name) (Some preload_rule) None))
 
-module _ (c : List Rule) (by_long : (name : Text) → arg_by_long c name ≡ long_rule name) (by_id : (s : Setting) → IsValue c (name_of s)) where
-  named_view : (s : Setting) (y : ℕ) (ys : List ℕ) (text : Option Text) → text_after (y ∷ ys) ≡ text → name_of s ≡ before_first (λ b. b == 61) (y ∷ ys)
-      → ((t : Option Text) → form_of true (45 ∷ 45 ∷ y ∷ ys) ≡ named s (text_after (y ∷ ys))) → arg_by_long c (name_of s) ≡ Some (setting_rule s)
+module _ (c : List Rule) (by_long : (name : Text) → arg_by_long c name ≡ long_rule name) (by_id : (s : NumberOption) → IsValue c (name_of s)) where
+  named_view : (s : NumberOption) (y : ℕ) (ys : List ℕ) (text : Option Text) → text_after (y ∷ ys) ≡ text → name_of s ≡ before_first (λ b. b == 61) (y ∷ ys)
+      → ((t : Option Text) → form_of true (45 ∷ 45 ∷ y ∷ ys) ≡ named s (text_after (y ∷ ys))) → arg_by_long c (name_of s) ≡ Some (number_option_rule s)
       → View c true (45 ∷ 45 ∷ y ∷ ys)
   named_view s y ys None e n f found =
       is_name s (f None ∙ ap (named s) e) refl (ap₂ (λ (a : Text) (t : Option Text). Some (a, t)) (sym n) e) found (by_id s)

@@ -2,15 +2,15 @@
 use Rattle.std.proofs.Common.{◌≡◌, ℕ, ◌+◌, Bool, true, false, ◌&&◌, List, [], ◌∷◌, ◌++◌, Option, Some, None, refl, sym, ap, ◌∙◌, subst, codes}
 use Rattle.clap.specs.Walk.{Row, Rule, Text, walked, used}
 use Rattle.clap.specs.Faults.{use_fault, turn_fault, walk_fault}
-use Rattle.ptg_words.specs.Parts.{Setting, Part, Form, name_of, after, parts_from, form_of, plain, named, flag, unknown}
-use Rattle.ptg_words.proofs.ClapUses.{none, none_nothing, preload_rule, setting_rule, Use, added, fresh, value_fault, value_used, preload_fault, preload_used, and_left, added_split}
+use Rattle.ptg_words.specs.Parts.{NumberOption, Part, Form, name_of, after, parts_from, form_of, plain, named, flag, unknown}
+use Rattle.ptg_words.proofs.ClapUses.{none, none_nothing, preload_rule, number_option_rule, Use, added, fresh, value_fault, value_used, preload_fault, preload_used, and_left, added_split}
 use Rattle.ptg_words.proofs.ClapStates.{Pend, due_of, uses_of, here, Known, Positions, View, good, uses, Ends, quiet, due, is_plain, is_name, is_text, is_flag, is_refused, shape, total, final, settle_none, settle_rows, due_fails, stops, advance}
 use Rattle.ptg_words.proofs.ClapTurns.{turn_operand, operand_leads, turn_stray, none_nil, none_two, turn_name, name_leads, turn_text, text_leads, turn_flag, flag_leads, turn_refused, turn_value, value_leads, react_none, react_rows, more, ok_split}
 
 module _ (name : Text) (c : List Rule) (opts : Bool) where
   -- ---- the walk over all words
 
-  pub parts_next : (d : Option Setting) (w : Text) (ws : List Text) (f : Form) → form_of opts w ≡ f
+  pub parts_next : (d : Option NumberOption) (w : Text) (ws : List Text) (f : Form) → form_of opts w ≡ f
       → parts_from opts d (w ∷ ws) ≡ after d f w (λ next. parts_from opts next ws)
   unfolding parts_from
   parts_next d w ws f e = ap (λ g. after d g w (λ next. parts_from opts next ws)) e
@@ -65,9 +65,9 @@ module _ (name : Text) (c : List Rule) (opts : Bool) where
       by_parts (w ∷ ws) rows (quiet q) n ids _ _ (parts_next None w ws (named s (Some t)) f)
       (at_once w ws next rows q n ids (name_of s, t) pos
       (ap none (turn_text name c opts w t s rows (quiet q) n dd l found) ∙ none_two name c opts _ _
-      ∙ react_none name c opts rows q (name_of s, t) (use_fault false (setting_rule s) (t ∷ [])) k (value_fault (name_of s) t (Some (name_of s)) None false))
+      ∙ react_none name c opts rows q (name_of s, t) (use_fault false (number_option_rule s) (t ∷ [])) k (value_fault (name_of s) t (Some (name_of s)) None false))
       (λ h. text_leads name c opts w t s rows q n dd l found ∙ ap (λ r. here r (quiet None) n)
-      (react_rows name c opts rows q (name_of s, t) (used (setting_rule s) (t ∷ [])) k (value_used (name_of s) t (Some (name_of s)) None false) h)))
+      (react_rows name c opts rows q (name_of s, t) (used (number_option_rule s) (t ∷ [])) k (value_used (name_of s) t (Some (name_of s)) None false) h)))
   step_quiet w ws (is_flag f dd l found) next rows q n ids k pos =
       by_parts (w ∷ ws) rows (quiet q) n ids _ _ (parts_next None w ws flag f)
       (at_once w ws next rows q n ids (codes "preload", codes "true") pos
@@ -79,7 +79,7 @@ module _ (name : Text) (c : List Rule) (opts : Bool) where
       by_parts (w ∷ ws) rows (quiet q) n ids _ _ (parts_next None w ws unknown f)
       (stops name c opts (here rows (quiet q) n) w ws _ _ (turn_refused name c opts w rows (quiet q) n dd bad) refl)
 
-  pub step_due : (w : Text) (ws : List Text) → View c opts w → Next ws → (rows : List Row) (s : Setting) (n : ℕ) (ids : List Text)
+  pub step_due : (w : Text) (ws : List Text) → View c opts w → Next ws → (rows : List Row) (s : NumberOption) (n : ℕ) (ids : List Text)
       → Known c (due s) → Positions c n ids → Walked (w ∷ ws) rows (due s) n ids (parts_from opts (Some s) (w ∷ ws))
   step_due w ws (is_plain f dd l sh) next rows s n ids k pos =
       by_parts (w ∷ ws) rows (due s) n ids _ _ (parts_next (Some s) w ws plain f)

@@ -15,17 +15,17 @@ use Rattle.ptg_words.specs.Readings.{AllProper, IsFreeId, is_read, texts_in}
 use Rattle.ptg_words.proofs.ClapUses.{none}
 use Rattle.ptg_words.proofs.ClapCommands.{both_true, reads_one, value_one, reads_two, values_two}
 use Rattle.ptg_words.proofs.ClapRun.{reads_run, values_run}
-use Rattle.ptg_words.proofs.ValuesRead.{none_is, some_is, one_text-rows, counted, text_of_setting}
+use Rattle.ptg_words.proofs.ValuesRead.{none_is, some_is, one_text-rows, counted, text_of_number_option}
 
 pub simple_first : (a : App) → is_simple_and_free a ≡ true → is_simple a ≡ true
 simple_first a h = both_true _ _ h
 
-one_in : (xs : List Text) → length xs ≡ 1 → (a : Text) × (xs ≡ a ∷ [])
+pub one_in : (xs : List Text) → length xs ≡ 1 → (a : Text) × (xs ≡ a ∷ [])
 one_in [] n = absurd (omega (arith, n))
 one_in (a ∷ []) n = (a, refl)
 one_in (a ∷ b ∷ rest) n = absurd (omega (arith, n))
 
-two_in : (xs : List Text) → length xs ≡ 2 → (a b : Text) × (xs ≡ a ∷ b ∷ [])
+pub two_in : (xs : List Text) → length xs ≡ 2 → (a b : Text) × (xs ≡ a ∷ b ∷ [])
 two_in [] n = absurd (omega (arith, n))
 two_in (a ∷ []) n = absurd (omega (arith, n))
 two_in (a ∷ b ∷ []) n = (a, b, refl)
@@ -110,8 +110,8 @@ module _ (app : App) (ws : List Text) (is : app ≡ run_command) (proper : AllPr
           jdf_value = first_value-rows f (codes "jdf") ∙ ap (first_of (codes "jdf")) all ∙ found.jdf ∙ ap (λ xs. slice_get xs 0) two.2;
           tiles_value = first_value-rows f (codes "data") ∙ ap (first_of (codes "data")) all ∙ found.tiles ∙ ap (λ xs. slice_get xs 1) two.2;
         };
-        workers_text = λ o e. text_of_setting workers ps o counts.1 (e ∙ first_value-rows f (codes "workers") ∙ ap (first_of (codes "workers")) all ∙ found.workers_text);
-        shards_text = λ o e. text_of_setting shards ps o counts.1 (e ∙ first_value-rows f (codes "shards") ∙ ap (first_of (codes "shards")) all ∙ found.shards_text);
+        workers_text = λ o e. text_of_number_option workers ps o counts.1 (e ∙ first_value-rows f (codes "workers") ∙ ap (first_of (codes "workers")) all ∙ found.workers_text);
+        shards_text = λ o e. text_of_number_option shards ps o counts.1 (e ∙ first_value-rows f (codes "shards") ∙ ap (first_of (codes "shards")) all ∙ found.shards_text);
         preloads = one_text-rows f (codes "preload") ∙ ap (one_of (codes "preload")) all ∙ found.preloads;
       }
 

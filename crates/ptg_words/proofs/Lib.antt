@@ -11,3 +11,4 @@ mod ValuesRead
 mod Commanded
 mod Rules
 pub mod OneOrder
+mod Either

@@ -1,15 +1,15 @@
--- What clap keeps of the words says the same as their parts: each option stands once, and the positionals are the operands.
+-- What clap keeps of the words says the same as their parts: each option occurs once, and the positionals are the operands.
 use Rattle.std.proofs.Common.{◌≡◌, ℕ, suc, Bool, true, false, not, cond, ◌&&◌, ◌||◌, List, [], ◌∷◌, ◌++◌, length, Option, Some, None, refl, sym, ap, ◌∙◌, arith, codes}
 use Rattle.std.specs.Prelude.{find, option_map, slice_get, nat_le, ◌==◌}
 use Rattle.std.specs.List.{list_any, list_all}
 use Rattle.std.specs.Str.{bytes_eq}
 use Rattle.clap.specs.Walk.{Row, Text, has_row}
-use Rattle.ptg_words.specs.Parts.{Setting, Part, name_of, workers, shards, operand, given, lacking, preload, stray, operands, texts_of, is_preload, is_lacking, is_stray, is_named, has_twice}
+use Rattle.ptg_words.specs.Parts.{NumberOption, Part, name_of, workers, shards, operand, given, lacking, preload, stray, operands, texts_of, is_preload, is_lacking, is_stray, is_named, has_twice}
 use Rattle.std.proofs.lemmas.Bool.Decides.{nat_tests}
 use Rattle.ptg_words.proofs.ClapUses.{Use, use_row, fresh}
 use Rattle.ptg_words.proofs.ClapStates.{good, uses}
 
--- no id stands twice
+-- no id occurs twice
 abbrev pub distinct : List Use → Bool
 distinct [] = true
 distinct (u ∷ us) = not (list_any (λ v. bytes_eq u.0 v.0) us) && distinct us
@@ -61,7 +61,7 @@ fresh_first us = fresh_is us [] ∙ ap (λ b. b && distinct us) (no_rows us)
 -- the ids of positionals are no names of options, and differ
 abbrev pub Apart : List Text → Type 0
 Apart [] = Unit {0}
-Apart (i ∷ is) = ((s : Setting) → (bytes_eq (name_of s) i ≡ false) × (bytes_eq i (name_of s) ≡ false)) × (bytes_eq (codes "preload") i ≡ false)
+Apart (i ∷ is) = ((s : NumberOption) → (bytes_eq (name_of s) i ≡ false) × (bytes_eq i (name_of s) ≡ false)) × (bytes_eq (codes "preload") i ≡ false)
     × (bytes_eq i (codes "preload") ≡ false) × (list_any (bytes_eq i) is ≡ false) × Apart is
 
 -- the name of an option, which is no positional's id
@@ -73,7 +73,7 @@ right_of : (a b : Bool) → (a || b) ≡ false → b ≡ false
 right_of false b e = e
 right_of true b e = let bad : true ≡ false = e in absurd cc
 
-not_later : (i : Text) → ((s : Setting) → bytes_eq i (name_of s) ≡ false) → bytes_eq i (codes "preload") ≡ false
+not_later : (i : Text) → ((s : NumberOption) → bytes_eq i (name_of s) ≡ false) → bytes_eq i (codes "preload") ≡ false
     → (is : List Text) (ps : List Part) → list_any (bytes_eq i) is ≡ false → list_any (λ (v : Use). bytes_eq i v.0) (uses is ps) ≡ false
 not_later i a b is [] e = refl
 not_later i a b [] (operand w ∷ ps) e = not_later i a b [] ps e
@@ -97,9 +97,9 @@ names_any name ids (lacking s ∷ ps) o g = let bad : false ≡ true = g in absu
 names_any name ids (preload ∷ ps) o g = ap (λ b. bytes_eq name (codes "preload") || b) (names_any name ids ps o g)
 names_any name ids (stray ∷ ps) o g = let bad : false ≡ true = g in absurd cc
 
-setting_name : (s : Setting) (ids : List Text) → Apart ids → IsOptionName ids (name_of s)
-setting_name s [] a = tt
-setting_name s (i ∷ is) a = ((a.0 s).0, setting_name s is a.4)
+number_option_name : (s : NumberOption) (ids : List Text) → Apart ids → IsOptionName ids (name_of s)
+number_option_name s [] a = tt
+number_option_name s (i ∷ is) a = ((a.0 s).0, number_option_name s is a.4)
 
 preload_name : (ids : List Text) → Apart ids → IsOptionName ids (codes "preload")
 preload_name [] a = tt
@@ -114,7 +114,7 @@ distinct_is ids [] a g = refl
 distinct_is [] (operand w ∷ ps) a g = let bad : false ≡ true = g in absurd cc
 distinct_is (i ∷ is) (operand w ∷ ps) a g = rw (not_later i (λ s. (a.0 s).1) a.2 is ps a.3) (distinct_is is ps a.4 g)
 distinct_is ids (given s t ∷ ps) a g =
-    ap (λ b. not b && distinct (uses ids ps)) (names_any (name_of s) ids ps (setting_name s ids a) g)
+    ap (λ b. not b && distinct (uses ids ps)) (names_any (name_of s) ids ps (number_option_name s ids a) g)
     ∙ ap (λ b. not (list_any (is_named (name_of s)) ps) && b) (distinct_is ids ps a g) ∙ not_or _ _
 distinct_is ids (lacking s ∷ ps) a g = let bad : false ≡ true = g in absurd cc
 distinct_is ids (preload ∷ ps) a g =
@@ -133,7 +133,7 @@ pub same : (i : Text) → bytes_eq i i ≡ true
 same [] = refl
 same (b ∷ bs) = let here : (b == b) ≡ true = grind (arith, nat_tests) in rw (here, same bs)
 
-pub first_operand : (i : Text) (is : List Text) (ps : List Part) → ((s : Setting) → bytes_eq (name_of s) i ≡ false) → bytes_eq (codes "preload") i ≡ false
+pub first_operand : (i : Text) (is : List Text) (ps : List Part) → ((s : NumberOption) → bytes_eq (name_of s) i ≡ false) → bytes_eq (codes "preload") i ≡ false
     → value_in i (uses (i ∷ is) ps) ≡ slice_get (operands ps) 0
 first_operand i is [] a b = refl
 first_operand i is (operand w ∷ ps) a b = rw (same i) refl
@@ -142,7 +142,7 @@ first_operand i is (lacking s ∷ ps) a b = first_operand i is ps a b
 first_operand i is (preload ∷ ps) a b = rw b (first_operand i is ps a b)
 first_operand i is (stray ∷ ps) a b = first_operand i is ps a b
 
-pub second_operand : (i j : Text) (is : List Text) (ps : List Part) → bytes_eq i j ≡ false → ((s : Setting) → bytes_eq (name_of s) j ≡ false) → bytes_eq (codes "preload") j ≡ false
+pub second_operand : (i j : Text) (is : List Text) (ps : List Part) → bytes_eq i j ≡ false → ((s : NumberOption) → bytes_eq (name_of s) j ≡ false) → bytes_eq (codes "preload") j ≡ false
     → value_in j (uses (i ∷ j ∷ is) ps) ≡ slice_get (operands ps) 1
 second_operand i j is [] d a b = refl
 second_operand i j is (operand w ∷ ps) d a b = rw d (first_operand j is ps a b)
@@ -156,18 +156,18 @@ abbrev pub NoneIs : Text → List Text → Type 0
 NoneIs name [] = Unit {0}
 NoneIs name (i ∷ is) = (bytes_eq i name ≡ false) × NoneIs name is
 
-pub setting_value : (s : Setting) (ids : List Text) (ps : List Part) → NoneIs (name_of s) ids → value_in (name_of s) (uses ids ps) ≡ slice_get (texts_of s ps) 0
-setting_value s ids [] h = refl
-setting_value s [] (operand w ∷ ps) h = setting_value s [] ps h
-setting_value s (i ∷ is) (operand w ∷ ps) h = rw (h.0) (setting_value s is ps h.1)
-setting_value workers ids (given workers t ∷ ps) h = refl
-setting_value workers ids (given shards t ∷ ps) h = setting_value workers ids ps h
-setting_value shards ids (given workers t ∷ ps) h = setting_value shards ids ps h
-setting_value shards ids (given shards t ∷ ps) h = refl
-setting_value s ids (lacking t ∷ ps) h = setting_value s ids ps h
-setting_value workers ids (preload ∷ ps) h = setting_value workers ids ps h
-setting_value shards ids (preload ∷ ps) h = setting_value shards ids ps h
-setting_value s ids (stray ∷ ps) h = setting_value s ids ps h
+pub number_option_value : (s : NumberOption) (ids : List Text) (ps : List Part) → NoneIs (name_of s) ids → value_in (name_of s) (uses ids ps) ≡ slice_get (texts_of s ps) 0
+number_option_value s ids [] h = refl
+number_option_value s [] (operand w ∷ ps) h = number_option_value s [] ps h
+number_option_value s (i ∷ is) (operand w ∷ ps) h = rw (h.0) (number_option_value s is ps h.1)
+number_option_value workers ids (given workers t ∷ ps) h = refl
+number_option_value workers ids (given shards t ∷ ps) h = number_option_value workers ids ps h
+number_option_value shards ids (given workers t ∷ ps) h = number_option_value shards ids ps h
+number_option_value shards ids (given shards t ∷ ps) h = refl
+number_option_value s ids (lacking t ∷ ps) h = number_option_value s ids ps h
+number_option_value workers ids (preload ∷ ps) h = number_option_value workers ids ps h
+number_option_value shards ids (preload ∷ ps) h = number_option_value shards ids ps h
+number_option_value s ids (stray ∷ ps) h = number_option_value s ids ps h
 
 pub preload_value : (ids : List Text) (ps : List Part) → NoneIs (codes "preload") ids
     → value_in (codes "preload") (uses ids ps) ≡ cond (list_any is_preload ps) (Some (codes "true")) None

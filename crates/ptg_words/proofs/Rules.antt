@@ -9,7 +9,7 @@ use Rattle.std.specs.Borrow.{Bor}
 use Rattle.ptg_base.specs.Decimal.{decimal, is_decimal, is_digit}
 use Rattle.ptg_words.specs.Parts.{Part, parts, operands, is_lacking, is_stray, has_twice}
 use Rattle.ptg_words.specs.declared.order.Order.{Order}
-use Rattle.ptg_words.specs.Words.{Verb, Breaks, Means, Orders, IsProper, IsUsage, no_verb, improper_word, stray_word, lacking_number, option_twice, operand_number, bad_number, read, verb_of, has_options, operand_count, has_bad_number, has_wrong_count}
+use Rattle.ptg_words.specs.Words.{Verb, Breaks, IsOrderOf, Orders, IsProper, IsUsage, no_verb, improper_word, stray_word, lacking_number, option_twice, operand_number, bad_number, read, verb_of, has_options, operand_count, has_bad_number, has_wrong_count}
 use Rattle.ptg_words.specs.Readings.{AllProper, IsOf, is_read, texts}
 
 pub all_proper : (ws : List (List ℕ)) → All IsProper ws → AllProper ws
@@ -43,16 +43,16 @@ kept : (v : Verb) (ps : List Part) → is_read (operand_count v) ps ≡ true
 kept v ps good = four (list_any is_stray ps) (list_any is_lacking ps) (has_twice ps) (length (operands ps) == operand_count v) good
 
 -- arguments whose parts keep the rules break none
-pub keeps_rules : (ws : List (List ℕ)) (v : Verb) (ps : List Part) → read ws ≡ Some (v, ps) → All IsProper ws → is_read (operand_count v) ps ≡ true → has_bad_number v ps ≡ false
+pub breaks_none : (ws : List (List ℕ)) (v : Verb) (ps : List Part) → read ws ≡ Some (v, ps) → All IsProper ws → is_read (operand_count v) ps ≡ true → has_bad_number v ps ≡ false
     → IsUsage ws → ⊥
-keeps_rules ws v ps e proper good number (no_verb h) = absurd cc
-keeps_rules ws v ps e proper good number (improper_word any) = any.4 (subst IsProper any.3 (proper any.0 any.1 any.2))
-keeps_rules ws v ps e proper good number (stray_word h) = clash _ (by_parts (λ v ps. list_any is_stray ps) ws v ps e h) (kept v ps good).0
-keeps_rules ws v ps e proper good number (lacking_number h) = clash _ (by_parts (λ v ps. list_any is_lacking ps) ws v ps e h) (kept v ps good).1
-keeps_rules ws v ps e proper good number (option_twice h) = clash _ (by_parts (λ v ps. has_twice ps) ws v ps e h) (kept v ps good).2
-keeps_rules ws v ps e proper good number (operand_number h) =
+breaks_none ws v ps e proper good number (no_verb h) = absurd cc
+breaks_none ws v ps e proper good number (improper_word any) = any.4 (subst IsProper any.3 (proper any.0 any.1 any.2))
+breaks_none ws v ps e proper good number (stray_word h) = clash _ (by_parts (λ v ps. list_any is_stray ps) ws v ps e h) (kept v ps good).0
+breaks_none ws v ps e proper good number (lacking_number h) = clash _ (by_parts (λ v ps. list_any is_lacking ps) ws v ps e h) (kept v ps good).1
+breaks_none ws v ps e proper good number (option_twice h) = clash _ (by_parts (λ v ps. has_twice ps) ws v ps e h) (kept v ps good).2
+breaks_none ws v ps e proper good number (operand_number h) =
     clash (length (operands ps) == operand_count v) (kept v ps good).3 (by_parts has_wrong_count ws v ps e h)
-keeps_rules ws v ps e proper good number (bad_number h) = let bad = by_parts has_bad_number ws v ps e h in absurd cc
+breaks_none ws v ps e proper good number (bad_number h) = let bad = by_parts has_bad_number ws v ps e h in absurd cc
 
 -- arguments whose parts break a rule
 pub breaks_rule : (ws : List (List ℕ)) (v : Verb) (ps : List Part) → read ws ≡ Some (v, ps) → is_read (operand_count v) ps ≡ false → IsUsage ws
@@ -80,13 +80,13 @@ at_most most (b ∷ bs) h = go (list_all is_digit (b ∷ bs)) (nat_le (decimal (
 
 -- what the parts of proper words mean is what the words order
 pub order_of : (v : Verb) (ws : List (List ℕ)) (order : Order) → IsOf v ws → is_read (operand_count v) (parts (has_options v) (drop 1 ws)) ≡ true
-    → has_bad_number v (parts (has_options v) (drop 1 ws)) ≡ false → Means v (parts (has_options v) (drop 1 ws)) order → Orders ws order
-order_of v ws order of good number means = record {
+    → has_bad_number v (parts (has_options v) (drop 1 ws)) ≡ false → IsOrderOf v (parts (has_options v) (drop 1 ws)) order → Orders ws order
+order_of v ws order of good number asks = record {
   verb = v;
   rest = parts (has_options v) (drop 1 ws);
   reads = of.reads;
-  means = means;
-  keeps = keeps_rules ws v (parts (has_options v) (drop 1 ws)) of.reads of.proper good number;
+  asks = asks;
+  breaks_no_rule = breaks_none ws v (parts (has_options v) (drop 1 ws)) of.reads of.proper good number;
 }
 
 pub refused : (v : Verb) (ws : List (List ℕ)) → IsOf v ws → is_read (operand_count v) (parts (has_options v) (drop 1 ws)) ≡ false → IsUsage ws

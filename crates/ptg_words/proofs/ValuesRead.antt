@@ -12,7 +12,7 @@ use Rattle.clap.specs.Facts.{Entry}
 use Rattle.clap.specs.Kinds.{Kinds}
 use Rattle.clap.specs.declared.parser.matches.Found.{Found}
 use Rattle.clap.specs.declared.parser.matches.MatchedArg.{MatchedArg}
-use Rattle.ptg_words.specs.Parts.{Setting, Part, name_of, workers, shards, operand, given, lacking, preload, stray, operands, texts_of, is_lacking, is_stray, is_named, has_twice}
+use Rattle.ptg_words.specs.Parts.{NumberOption, Part, name_of, workers, shards, operand, given, lacking, preload, stray, operands, texts_of, is_lacking, is_stray, is_named, has_twice}
 use Rattle.ptg_words.specs.Readings.{is_read, texts_in}
 use Rattle.ptg_words.proofs.ClapUses.{none}
 
@@ -80,8 +80,8 @@ two_of_two (x ∷ y ∷ []) (Some a) None n e f = absurd cc
 two_of_two (x ∷ y ∷ []) (Some a) (Some b) n e f = let same : a.now ≡ x = cc in let other : b.now ≡ y = cc in (a, b, refl, refl, cc)
 two_of_two (x ∷ y ∷ z ∷ rest) o p n e f = absurd (omega (arith, n))
 
--- an option that does not stand twice has one text at most
-no_texts : (s : Setting) (ps : List Part) → list_any (is_named (name_of s)) ps ≡ false → texts_of s ps ≡ []
+-- an option that does not occur twice has one text at most
+no_texts : (s : NumberOption) (ps : List Part) → list_any (is_named (name_of s)) ps ≡ false → texts_of s ps ≡ []
 no_texts s [] e = refl
 no_texts s (operand w ∷ ps) e = no_texts s ps e
 no_texts workers (given workers t ∷ ps) e = absurd cc
@@ -105,7 +105,7 @@ abbrev listed : Option Text → List Text
 listed None = []
 listed (Some t) = t ∷ []
 
-once : (s : Setting) (ps : List Part) → has_twice ps ≡ false → texts_of s ps ≡ listed (slice_get (texts_of s ps) 0)
+once : (s : NumberOption) (ps : List Part) → has_twice ps ≡ false → texts_of s ps ≡ listed (slice_get (texts_of s ps) 0)
 once s [] e = refl
 once s (operand w ∷ ps) e = once s ps e
 once workers (given workers t ∷ ps) e = ap (λ xs. t ∷ xs) (no_texts workers ps (neither_of _ _ e).0)
@@ -116,9 +116,9 @@ once s (lacking t ∷ ps) e = once s ps (neither_of _ _ e).1
 once s (preload ∷ ps) e = once s ps (neither_of _ _ e).1
 once s (stray ∷ ps) e = once s ps e
 
-pub text_of_setting : (s : Setting) (ps : List Part) (o : Option (Bor Text)) → has_twice ps ≡ false
+pub text_of_number_option : (s : NumberOption) (ps : List Part) (o : Option (Bor Text)) → has_twice ps ≡ false
     → option_map (λ (x : Bor Text). x.now) o ≡ slice_get (texts_of s ps) 0 → texts_of s ps ≡ texts_in o
-text_of_setting s ps o e f = once s ps e ∙ ap listed (sym f) ∙ go o
+text_of_number_option s ps o e f = once s ps e ∙ ap listed (sym f) ∙ go o
   where
     go : (o : Option (Bor Text)) → listed (option_map (λ (x : Bor Text). x.now) o) ≡ texts_in o
     go None = refl

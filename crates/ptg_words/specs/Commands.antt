@@ -1,4 +1,5 @@
--- The command of each verb, as clap sees it: operands by their ids, the two settings, and `--preload`.
+-- The command of each verb, as clap sees it: operands by their ids, the two options with a number, and
+-- `--preload`.
 use Rattle.std.specs.Prelude.{List, [], ◌∷◌, Some, true, codes}
 use Rattle.clap.specs.Walk.{Rule, Text}
 use Rattle.clap.specs.Simple.{App, new_rule, new_shape}

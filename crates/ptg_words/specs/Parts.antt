@@ -6,19 +6,19 @@ use Rattle.std.specs.Option.{option_map_or}
 use Rattle.std.specs.Str.{bytes_eq}
 
 -- an option that has a number as its value
-pub data Setting : Type 0 where
-  workers : Setting
-  shards : Setting
+pub data NumberOption : Type 0 where
+  workers : NumberOption
+  shards : NumberOption
 
-abbrev pub name_of : Setting → List ℕ
+abbrev pub name_of : NumberOption → List ℕ
 name_of workers = codes "workers"
 name_of shards = codes "shards"
 
--- What a word is by itself: a word that begins with no `-`, `--NAME` or `--NAME=TEXT` of a setting, `--preload`, or a word that
--- begins with `-` and is none of these.
+-- What a word is by itself: plain, where it begins with no `-`; an option with a number, `--NAME` or `--NAME=TEXT`; the flag
+-- `--preload`; or unknown: it begins with `-` and is none of these.
 pub data Form : Type 0 where
   plain : Form
-  named : Setting → Option (List ℕ) → Form
+  named : NumberOption → Option (List ℕ) → Form
   flag : Form
   unknown : Form
 
@@ -48,17 +48,17 @@ dashed_form has_options word =
 abbrev pub form_of : Bool → List ℕ → Form
 form_of has_options word = if is_dashed word then dashed_form has_options (drop 1 word) else plain
 
--- What the words are in their order: an operand, a setting with its text, a setting that lacks it, `--preload`, or a stray
--- word, which begins with `-` and is no option.
+-- The words in their order: an operand, an option with its number, an option that lacks it, `--preload`, or a stray word, which
+-- begins with `-` and is no option.
 pub data Part : Type 0 where
   operand : List ℕ → Part
-  given : Setting → List ℕ → Part
-  lacking : Setting → Part
+  given : NumberOption → List ℕ → Part
+  lacking : NumberOption → Part
   preload : Part
   stray : Part
 
 -- the parts from a word of this form on
-abbrev pub after_word : Form → List ℕ → (Option Setting → List Part) → List Part
+abbrev pub after_word : Form → List ℕ → (Option NumberOption → List Part) → List Part
 after_word plain word rest = operand word ∷ rest None
 after_word (named s None) word rest = rest (Some s)
 after_word (named s (Some text)) word rest = given s text ∷ rest None
@@ -66,20 +66,20 @@ after_word flag word rest = preload ∷ rest None
 after_word unknown word rest = stray ∷ rest None
 
 -- the same, after `--NAME`: a word that begins with no `-` is its text
-abbrev pub after_name : Setting → Form → List ℕ → (Option Setting → List Part) → List Part
+abbrev pub after_name : NumberOption → Form → List ℕ → (Option NumberOption → List Part) → List Part
 after_name s plain word rest = given s word ∷ rest None
 after_name s form word rest = lacking s ∷ after_word form word rest
 
-abbrev pub after : Option Setting → Form → List ℕ → (Option Setting → List Part) → List Part
+abbrev pub after : Option NumberOption → Form → List ℕ → (Option NumberOption → List Part) → List Part
 after None = after_word
 after (Some s) = after_name s
 
-abbrev pub at_end : Option Setting → List Part
+abbrev pub at_end : Option NumberOption → List Part
 at_end None = []
 at_end (Some s) = lacking s ∷ []
 
--- the parts of words, the first of which may follow `--NAME` of a setting
-unfoldable pub parts_from : Bool → Option Setting → List (List ℕ) → List Part
+-- the parts of words; the first one may follow `--NAME` of an option with a number
+unfoldable pub parts_from : Bool → Option NumberOption → List (List ℕ) → List Part
 parts_from has_options due [] = at_end due
 parts_from has_options due (word ∷ words) = after due (form_of has_options word) word (λ next. parts_from has_options next words)
 
@@ -95,11 +95,12 @@ operands (lacking s ∷ rest) = operands rest
 operands (preload ∷ rest) = operands rest
 operands (stray ∷ rest) = operands rest
 
--- the texts that a setting has, and whether `--preload` stands among the words
-abbrev pub is_of : Setting → Setting → Bool
+-- whether two options with a number are the same
+abbrev pub is_of : NumberOption → NumberOption → Bool
 is_of s t = bytes_eq (name_of s) (name_of t)
 
-abbrev pub texts_of : Setting → List Part → List (List ℕ)
+-- the texts that an option with a number has
+abbrev pub texts_of : NumberOption → List Part → List (List ℕ)
 texts_of s [] = []
 texts_of s (operand word ∷ rest) = texts_of s rest
 texts_of s (given t text ∷ rest) = if is_of s t then text ∷ texts_of s rest else texts_of s rest
@@ -130,7 +131,7 @@ option_of stray = None
 abbrev pub is_named : List ℕ → Part → Bool
 is_named name part = option_map_or (bytes_eq name) (option_of part) false
 
--- an option stands twice
+-- an option occurs twice
 abbrev pub has_twice : List Part → Bool
 has_twice [] = false
 has_twice (part ∷ rest) = option_map_or (λ name. list_any (is_named name) rest) (option_of part) false || has_twice rest

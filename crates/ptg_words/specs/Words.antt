@@ -1,5 +1,5 @@
 -- Which arguments give which command, and the seven rules by which they give none. Source: this project's own choice.
-use Rattle.std.specs.Prelude.{◌≡◌, ◌≢◌, ◌==◌, ◌&&◌, ◌||◌, not, ℕ, Bool, true, false, nat_le, List, [], ◌∷◌, length, Option, Some, None, option_map, if◌then◌else◌, codes}
+use Rattle.std.specs.Prelude.{◌≡◌, ◌≢◌, ◌==◌, ◌&&◌, ◌||◌, ◌⊎◌, not, ℕ, Bool, true, false, nat_le, List, [], ◌∷◌, length, Option, Some, None, option_map, if◌then◌else◌, codes}
 use Rattle.std.specs.List.{Any, list_any}
 use Rattle.std.specs.Option.{option_map_or}
 use Rattle.std.specs.Str.{IsUtf8, bytes_eq}
@@ -61,6 +61,7 @@ has_bad_number show ps = false
 has_bad_number check ps = false
 has_bad_number demo ps = has_no_number 96 (operands ps)
 
+-- A stray word is no operand: it breaks a rule of its own.
 abbrev pub has_wrong_count : Verb → List Part → Bool
 has_wrong_count verb ps = not (length (operands ps) == operand_count verb)
 
@@ -70,7 +71,7 @@ Breaks rule words = option_map_or (λ r. rule r.0 r.1) (read words) false ≡ tr
 
 -- The seven rules: arguments form no command where one of these holds. There is no word, or the first is no verb. A word is no
 -- text, is empty, or is `-` or `--`. A word begins with `-` and is no option of the verb. An option lacks its number. An option
--- stands twice. There are more or fewer operands than the verb takes. A number is none, or is out of its range.
+-- occurs twice. There are more or fewer operands than the verb takes. A number is none, or is out of its range.
 pub data IsUsage (words : List (List ℕ)) : Type 0 where
   no_verb : read words ≡ None → IsUsage words
   improper_word : Any (λ word. IsProper word → ⊥) words → IsUsage words
@@ -80,28 +81,28 @@ pub data IsUsage (words : List (List ℕ)) : Type 0 where
   operand_number : Breaks has_wrong_count words → IsUsage words
   bad_number : Breaks has_bad_number words → IsUsage words
 
--- the number of the first text, or the number that is meant where there is none
+-- the number of the first text, or the default where there is none
 abbrev pub number_or : ℕ → List (List ℕ) → ℕ
 number_or default [] = default
 number_or default (text ∷ texts) = decimal text
 
--- What the parts order: to run a job, with 4 workers and 16 shards unless others are given; to show a JDF file; to check a job;
+-- The command that the parts form: to run a job, with 4 workers and 16 shards unless others are given; to show a JDF file; to check a job;
 -- to run the made job.
-abbrev pub Means : Verb → List Part → Order → Type 0
-Means run ps (Run jdf tiles w s p) = (operands ps ≡ jdf ∷ tiles ∷ []) × IsUtf8 jdf × IsUtf8 tiles
+abbrev pub IsOrderOf : Verb → List Part → Order → Type 0
+IsOrderOf run ps (Run jdf tiles w s p) = (operands ps ≡ jdf ∷ tiles ∷ []) × IsUtf8 jdf × IsUtf8 tiles
     × (w ≡ number_or 4 (texts_of workers ps)) × (s ≡ number_or 16 (texts_of shards ps)) × (p ≡ list_any is_preload ps)
-Means show ps (Show jdf) = (operands ps ≡ jdf ∷ []) × IsUtf8 jdf
-Means check ps (Check jdf tiles) = (operands ps ≡ jdf ∷ tiles ∷ []) × IsUtf8 jdf × IsUtf8 tiles
-Means demo ps (Demo n) = (text : List ℕ) × (operands ps ≡ text ∷ []) × (n ≡ decimal text)
-Means _ ps _ = ⊥
+IsOrderOf show ps (Show jdf) = (operands ps ≡ jdf ∷ []) × IsUtf8 jdf
+IsOrderOf check ps (Check jdf tiles) = (operands ps ≡ jdf ∷ tiles ∷ []) × IsUtf8 jdf × IsUtf8 tiles
+IsOrderOf demo ps (Demo n) = (text : List ℕ) × (operands ps ≡ text ∷ []) × (n ≡ decimal text)
+IsOrderOf _ ps _ = ⊥
 
--- the arguments break no rule, and order this
+-- the arguments break no rule, and form this command
 pub record Orders (words : List (List ℕ)) (order : Order) : Type 0 where
   pub verb : Verb
   pub rest : List Part
   pub reads : read words ≡ Some (verb, rest)
-  pub means : Means verb rest order
-  pub keeps : IsUsage words → ⊥
+  pub asks : IsOrderOf verb rest order
+  pub breaks_no_rule : IsUsage words → ⊥
 
 -- arguments give one order at most
 abbrev pub OneOrder : Type 0
@@ -110,3 +111,7 @@ OneOrder = (words : List (List ℕ)) (a b : Order) → Orders words a → Orders
 -- and none where they break a rule
 abbrev pub NeverBoth : Type 0
 NeverBoth = (words : List (List ℕ)) (order : Order) → Orders words order → IsUsage words → ⊥
+
+-- and one where they break none: arguments form a command or break a rule
+abbrev pub OrderOrUsage : Type 0
+OrderOrUsage = (words : List (List ℕ)) → ((order : Order) × Orders words order) ⊎ IsUsage words

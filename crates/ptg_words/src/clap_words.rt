@@ -74,7 +74,7 @@ fn run_command<'a>(alloc: Global) -> Result<Command<'a>, AllocError>
     command.arg(flag(alloc, "preload"))
 }
 
-// Parses the words, the first of which is the verb.
+// Parses the words; the first one is the verb.
 fn parsed<'a>(command: Command<'a>, words: &'a [&'a str]) -> Result<ArgMatches<'a>, WordsRefusal>
     requires { is_simple_and_free (app_of command) ≡ true }
     ensures passes { IfOk result (λ m. (fault_of (app_of command.entry) (texts words.entry.now) ≡ [])

@@ -9,6 +9,3 @@ mod reading;
 pub use laws::words_give_one_order;
 pub use order::{Order, WordsRefusal};
 pub use reading::words;
-
-#[cfg(test)]
-mod tests;

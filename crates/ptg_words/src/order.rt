@@ -15,7 +15,7 @@ pub enum Order {
     Show(Text),
     /// Check the consistency of the job of this JDF file with this data file.
     Check(Text, Text),
-    /// Run the made job of this number of tiles a side.
+    /// Run the made job with this many rows of tiles.
     Demo(u32),
 }
 

@@ -1,4 +1,4 @@
-//! Parses the command line.
+//! The command that proper words form: the verb, its operands and its numbers.
 
 ghost use Rattle.std.specs.Prelude.{◌≡◌, IfOk, MatchOption, MatchResult, Err, Ok, true, false};
 ghost use Rattle.std.specs.List.{All};
@@ -14,7 +14,7 @@ use ptg_base::{OutOfMemory, Text, decimal};
 use std::alloc::Global;
 
 /// Parses the command line, without the program's name: `run JDF DATA [--workers N] [--shards K] [--preload]`, `show JDF`,
-/// `check JDF DATA` or `demo N`, where options stand anywhere after the verb. Usage exactly where one of the rules is broken.
+/// `check JDF DATA` or `demo N`, with options anywhere after the verb. Usage exactly where one of the rules is broken.
 pub fn words(alloc: Global, list: &[Text]) -> Result<Order, WordsRefusal>
     ensures found { IfOk result (λ order. Orders list.now order) }
     ensures usage { result ≡ Err WordsRefusal.Usage → IsUsage list.now }

@@ -2,7 +2,7 @@
 
 ghost use Rattle.std.specs.Prelude.{◌≤◌, length};
 
-use crate::{Space, SpaceFault, in_space, is_well_space, locals_of, space_size, steps_of};
+use crate::{Space, SpaceFault, in_space, is_well_space, locals_of, space_size};
 use ptg_base::{OutOfMemory, Seq};
 use std::alloc::Global;
 use std::process::Abort;
@@ -81,52 +81,6 @@ fn sized(rt: &impl Abort, spaces: &[ClassSpace; 1]) -> Result<u64, SpaceFault> {
 }
 
 #[test]
-fn values_of_ranges(rt: HostRuntime) -> Result<(), Fail> {
-    let most = i64::MAX;
-    let least = i64::MIN;
-    for (r, want) in [
-        (range(1, 4, 1), [1, 2, 3, 4].as_slice()),
-        (range(1, 5, -1), [].as_slice()),
-        (range(5, 1, -3), [5, 2].as_slice()),
-        (range(3, 3, -7), [3].as_slice()),
-        (range(least, most, most), [least, -1, most - 1].as_slice()),
-    ] {
-        let steps = steps_of(&r, &[]).ok().ok_or("no values")?;
-        let mut out = Vec::new(rt.alloc());
-        for v in steps.values() {
-            out.push(v)?;
-        }
-        assert_eq!(rt; out.as_slice(), want, "{r:?}");
-        assert_eq!(rt; steps.count(), want.len() as u128, "{r:?}");
-    }
-    Ok(())
-}
-
-#[test]
-fn counts_and_members_by_arithmetic(rt: HostRuntime) -> Result<(), Fail> {
-    let whole = steps_of(&range(i64::MIN, i64::MAX, 1), &[])
-        .ok()
-        .ok_or("whole")?;
-    assert_eq!(rt; whole.count(), 18446744073709551616);
-    assert!(rt; whole.has(i64::MIN) && whole.has(0) && whole.has(i64::MAX));
-    let down = steps_of(&range(5, -5, -3), &[]).ok().ok_or("down")?;
-    for (v, want) in [
-        (5, true),
-        (4, false),
-        (2, true),
-        (-4, true),
-        (-5, false),
-        (-7, false),
-        (8, false),
-    ] {
-        assert_eq!(rt; down.has(v), want, "{v}");
-    }
-    let none = steps_of(&range(5, 1, 1), &[]).ok().ok_or("none")?;
-    assert_eq!(rt; (none.count(), none.has(5), none.has(1)), (0, false, false));
-    Ok(())
-}
-
-#[test]
 fn tasks_of_the_triangle(rt: HostRuntime) -> Result<(), Fail> {
     let alloc = rt.alloc();
     let space = triangle(alloc)?;
@@ -159,22 +113,6 @@ fn faults_of_spaces(rt: HostRuntime) -> Result<(), Fail> {
             assert_eq!(rt; (class, outer.as_slice()), (0, [1].as_slice()));
         }
         _ => assert!(rt; false, "a value under k = 1"),
-    }
-    Ok(())
-}
-
-#[test]
-fn limits_of_tasks(rt: HostRuntime) -> Result<(), Fail> {
-    let alloc = rt.alloc();
-    let square = class(
-        vec![in alloc; from_zero_to(999), from_zero_to(999)]?,
-        &[0, 1],
-    );
-    assert_eq!(rt; sized(&rt, &[square]).ok(), Some(1000000));
-    let more = class(vec![in alloc; from_zero_to(1000000)]?, &[0]);
-    match sized(&rt, &[more]) {
-        Err(SpaceFault::TooManyTasks(class)) => assert_eq!(rt; class, 0),
-        _ => assert!(rt; false, "1,000,001 tasks"),
     }
     Ok(())
 }

@@ -1,4 +1,4 @@
--- What a step tells of an end, from what it tells of its tally.
+-- What a step shows of an end, from what it shows of its tally.
 use Rattle.std.proofs.Common.{◌≡◌, ℕ, List, [], ◌∷◌, ◌++◌, Option, Some, None, MatchOption, ap, subst}
 use Rattle.ptg_base.specs.Task.{Task}
 use Rattle.ready_deques.specs.declared.tally.Tally.{Tally}

@@ -1,4 +1,4 @@
--- A list of which the first elements are changed, as a loop by an index leaves it.
+-- A list whose first elements are changed, as a loop over an index leaves it.
 use Rattle.std.proofs.Common.{◌≡◌, ℕ, zero, suc, ◌+◌, ◌-◌, ◌<◌, ◌≤◌, List, [], ◌∷◌, ◌++◌, length, map, set, get_or, take, drop, replicate, Some, All, sym, refl, ap, subst, ◌∙◌, arith, add-one}
 use Rattle.std.proofs.lemmas.List.Elements.{All-head, All-tail, All-nil, All-cons, All-append, All-get_or}
 use Rattle.std.proofs.lemmas.Option.{get_or_from_slice_get, slice_get_within, slice_get-map}

@@ -1,4 +1,4 @@
-//! One worker's hold on the deques: where it pushes, pops and steals.
+//! One worker's ends of the deques: where it pushes, pops and steals.
 ghost use Rattle.std.specs.Prelude.{◌≡◌, ◌≢◌, ◌+◌, ◌<◌, ◌≤◌, [], ◌∷◌, length, ⊤, All, map, sum_by, slice_get, Some, IfErr, IfNone, MatchOption, MatchResult};
 ghost use Rattle.ptg_base.specs.Task.{Task};
 ghost use Rattle.ready_deques.specs.Ends.{IsNew};
@@ -13,7 +13,7 @@ use std::marker::Model;
 use std::sync::Wait;
 use std::thread::Threads;
 
-/// One worker's hold on the deques of ready tasks. Each worker has a deque of its own, where it pushes and pops at the back, and steals at the front of the others'.
+/// One worker's ends of the deques of ready tasks. Each worker has a deque of its own, where it pushes and pops at the back, and steals at the front of the others'.
 ///
 /// An id only steers: the right to run its task comes from the table of dependences.
 #[derive(Drop)]

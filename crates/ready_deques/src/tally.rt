@@ -1,4 +1,4 @@
-//! The rule of a deque of ready tasks, and what each step under it tells.
+//! The rule of a deque of ready tasks, and what each step under it shows.
 
 use crossbeam_deque::protocol::{Join, Lesson, Outcome, Protocol, Split};
 use ptg_base::TaskId;

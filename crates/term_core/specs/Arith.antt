@@ -22,15 +22,16 @@ truth false = pos 0
 abbrev pub holds : ℤ → Bool
 holds z = not (int_eq z (pos 0))
 
--- the whole number, where it has 64 bits
+-- the whole number, or Overflow where it is no number of 64 bits
 abbrev pub fitted : ℤ → Result ℤ ExprFault
 fitted z = if is_number z then Ok z else Err Overflow
 
--- the third, which is the quotient or the remainder of the first two, where the second is not 0 and the quotient has 64 bits
+-- z, the quotient or the remainder of a by b: Divide where b is 0, Overflow where the quotient is no number of 64 bits
 abbrev pub divided : ℤ → ℤ → ℤ → Result ℤ ExprFault
 divided a b z = if int_eq b (pos 0) then Err Divide else (if is_number (int_div a b) then Ok z else Err Overflow)
 
--- what an operator gives of two numbers: a quotient is cut toward 0, and a remainder has the sign of the dividend
+-- the value of an infix operator on two numbers: a quotient is cut toward 0, and a remainder has the sign of the dividend; the operands
+-- of `&&` and `||` are both evaluated here, and `decided` is where they are not
 abbrev pub arithmetic : BinOp → ℤ → ℤ → Result ℤ ExprFault
 arithmetic Add a b = fitted (a +ℤ b)
 arithmetic Sub a b = fitted (a -ℤ b)
@@ -46,7 +47,7 @@ arithmetic Ge a b = Ok (truth (int_le b a))
 arithmetic And a b = Ok (truth (holds a && holds b))
 arithmetic Or a b = Ok (truth (holds a || holds b))
 
--- what an operator before its operand gives
+-- the value of a prefix operator
 abbrev pub unary_value : UnOp → ℤ → Result ℤ ExprFault
 unary_value Neg a = fitted (neg_ℤ a)
 unary_value Not a = Ok (truth (not (holds a)))

@@ -8,10 +8,10 @@ use Rattle.term_core.specs.declared.body.Block.TheDeep.{deep-Stmt}
 use Rattle.term_core.specs.StatementList.{statement_count}
 use Rattle.term_core.specs.BlockStatementList.{statement_list}
 
-pub most_le-count : (ss : List Stmt) → max (most deep-Stmt ss) 0 ≤ statement_count (statement_list ss)
-most_le-count [] = omega arith
-most_le-count (stmt.Set n e ∷ ss) = omega (arith, most_le-count ss)
-most_le-count (stmt.Put flow at e ∷ ss) = omega (arith, most_le-count ss)
-most_le-count (stmt.If c first second ∷ ss) = omega (arith, most_le-count ss)
-most_le-count (stmt.For n lo hi turn ∷ ss) = omega (arith, most_le-count ss)
-most_le-count (stmt.Trap w ∷ ss) = omega (arith, most_le-count ss)
+pub depth_at_most_count : (ss : List Stmt) → max (most deep-Stmt ss) 0 ≤ statement_count (statement_list ss)
+depth_at_most_count [] = omega arith
+depth_at_most_count (stmt.Set n e ∷ ss) = omega (arith, depth_at_most_count ss)
+depth_at_most_count (stmt.Put flow at e ∷ ss) = omega (arith, depth_at_most_count ss)
+depth_at_most_count (stmt.If c first second ∷ ss) = omega (arith, depth_at_most_count ss)
+depth_at_most_count (stmt.For n lo hi turn ∷ ss) = omega (arith, depth_at_most_count ss)
+depth_at_most_count (stmt.Trap w ∷ ss) = omega (arith, depth_at_most_count ss)

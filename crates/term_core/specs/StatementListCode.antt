@@ -6,16 +6,16 @@ use Rattle.term_core.specs.TermCode.{ghost_of, one_term}
 use Rattle.term_core.specs.StatementList.{StatementList, Done, SetThen, PutThen, IfThen, ForThen, TrapThen}
 
 -- the tree as a tree of numbers
-pub ghost_of_statement_list : StatementList → Gv
-ghost_of_statement_list Done = gnum 0
-ghost_of_statement_list (SetThen a b c) = gcons (gnum 1) (gcons (gnum a) (gcons (ghost_of b) (ghost_of_statement_list c)))
-ghost_of_statement_list (PutThen a b c d) = gcons (gnum 2) (gcons (gnum a) (gcons (ghost_of b) (gcons (ghost_of c) (ghost_of_statement_list d))))
-ghost_of_statement_list (IfThen a b c d) = gcons (gnum 3) (gcons (ghost_of a) (gcons (ghost_of_statement_list b) (gcons (ghost_of_statement_list c) (ghost_of_statement_list d))))
-ghost_of_statement_list (ForThen a b c d e) = gcons (gnum 4) (gcons (gnum a) (gcons (ghost_of b) (gcons (ghost_of c) (gcons (ghost_of_statement_list d) (ghost_of_statement_list e)))))
-ghost_of_statement_list (TrapThen a b) = gcons (gnum 5) (gcons (gnum a) (ghost_of_statement_list b))
+pub code_of_statement_list : StatementList → Gv
+code_of_statement_list Done = gnum 0
+code_of_statement_list (SetThen a b c) = gcons (gnum 1) (gcons (gnum a) (gcons (ghost_of b) (code_of_statement_list c)))
+code_of_statement_list (PutThen a b c d) = gcons (gnum 2) (gcons (gnum a) (gcons (ghost_of b) (gcons (ghost_of c) (code_of_statement_list d))))
+code_of_statement_list (IfThen a b c d) = gcons (gnum 3) (gcons (ghost_of a) (gcons (code_of_statement_list b) (gcons (code_of_statement_list c) (code_of_statement_list d))))
+code_of_statement_list (ForThen a b c d e) = gcons (gnum 4) (gcons (gnum a) (gcons (ghost_of b) (gcons (ghost_of c) (gcons (code_of_statement_list d) (code_of_statement_list e)))))
+code_of_statement_list (TrapThen a b) = gcons (gnum 5) (gcons (gnum a) (code_of_statement_list b))
 
-pub one_statement_list : (x y : StatementList) → ghost_of_statement_list x ≡ ghost_of_statement_list y → x ≡ y
-unfolding ghost_of_statement_list
+pub one_statement_list : (x y : StatementList) → code_of_statement_list x ≡ code_of_statement_list y → x ≡ y
+unfolding code_of_statement_list
 one_statement_list Done Done same = refl
 one_statement_list Done (SetThen a' b' c') same = absurd cc
 one_statement_list Done (PutThen a' b' c' d') same = absurd cc
@@ -54,4 +54,4 @@ one_statement_list (TrapThen a b) (ForThen a' b' c' d' e') same = absurd cc
 one_statement_list (TrapThen a b) (TrapThen a' b') same = let ha : a ≡ a' = cc in let hb : b ≡ b' = one_statement_list b b' cc in cc
 
 abbrev pub statement_list_code : Coded StatementList
-statement_list_code = record { code = ghost_of_statement_list; inj = one_statement_list }
+statement_list_code = record { code = code_of_statement_list; inj = one_statement_list }

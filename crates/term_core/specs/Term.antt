@@ -1,4 +1,4 @@
--- Expressions as trees.
+-- Expressions as trees. Source: the JDF documentation, with the operators of C.
 use Rattle.std.specs.Prelude.{ℕ, ℤ}
 use Rattle.term_core.specs.declared.operator.UnOp.{UnOp}
 use Rattle.term_core.specs.declared.operator.BinOp.{BinOp}

@@ -21,7 +21,7 @@ are_well_made locals slots flows (ForThen n lo hi turn rest) =
     is_variable locals slots n && is_closed_with slots flows lo && is_closed_with slots flows hi && are_well_made locals slots flows turn && are_well_made locals slots flows rest
 are_well_made locals slots flows (TrapThen w rest) = are_well_made locals slots flows rest
 
--- a body for so many locals, of which there are at most 16, and so many flows, at most 8, with at most 256 variables of its own
+-- a body for so many locals (at most 16) and so many flows (at most 8), with at most 256 variables of its own
 pub record IsWellBody (locals flows : ℕ) (b : Body) : Type 0 where
   pub locals_at_most : locals ≤ 16
   pub flows_at_most : flows ≤ 8

@@ -46,9 +46,9 @@ impl Model for Block {
 
     ghost size = { statement_count };
 
-    ghost use Rattle.term_core.specs.BlockSize.{most_le-count};
+    ghost use Rattle.term_core.specs.BlockSize.{depth_at_most_count};
 
-    ghost size_decreases = { λ b h. most_le-count b.statements.items };
+    ghost size_decreases = { λ b h. depth_at_most_count b.statements.items };
 }
 
 impl Block {
@@ -75,38 +75,4 @@ impl Block {
 pub struct Body {
     pub statements: Block,
     pub slots: u16,
-}
-
-#[cfg(test)]
-mod tests {
-    use super::*;
-    use crate::fault::ExprFault;
-    use crate::trap::Trap;
-    use ptg_base::OutOfMemory;
-
-    #[test]
-    fn blocks_keep_their_statements(rt: HostRuntime) -> Result<(), OutOfMemory> {
-        let alloc = rt.alloc();
-        let mut inner = Seq::new(alloc);
-        inner.push(Stmt::Trap(7))?;
-        let mut outer = Seq::new(alloc);
-        outer.push(Stmt::Set(2, Expr::num(5)))?;
-        outer.push(Stmt::If(Expr::local(2), Block::of(inner), Block::of(Seq::new(alloc))))?;
-        let body = Body {
-            statements: Block::of(outer),
-            slots: 3,
-        };
-        let statements = body.statements.as_slice();
-        assert_eq!(rt; (statements.len(), body.slots), (2, 3));
-        if let Stmt::If(_, first, second) = &statements[1] {
-            assert_eq!(rt; (first.as_slice().len(), second.as_slice().len()), (1, 0));
-        }
-        Ok(())
-    }
-
-    #[test]
-    fn faults_become_traps_of_the_same_name(rt: HostRuntime) {
-        assert_eq!(rt; Trap::from(ExprFault::Overflow), Trap::Overflow);
-        assert_eq!(rt; Trap::from(ExprFault::Divide), Trap::Divide);
-    }
 }

@@ -5,7 +5,7 @@
 pub enum FlowKind {
     /// Takes a tile and passes it on unchanged.
     Read,
-    /// Makes a tile.
+    /// Starts on a new tile or an element's, and changes it.
     Write,
     /// Takes a tile and changes it.
     Rw,

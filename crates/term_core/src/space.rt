@@ -64,13 +64,3 @@ pub struct ClassSpace {
     pub defs: Seq<Def>,
     pub params: Params,
 }
-
-#[cfg(test)]
-mod tests {
-    use super::*;
-
-    #[test]
-    fn parameters_keep_their_order(rt: HostRuntime) {
-        assert_eq!(rt; Params::new(&[2, 0]).as_slice(), [2, 0].as_slice());
-    }
-}

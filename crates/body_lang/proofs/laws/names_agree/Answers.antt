@@ -1,6 +1,6 @@
 use Rattle.std.proofs.Common.{inl, inr, ◌∙◌}
 use Rattle.body_names.specs.TokenScan.{at_first}
-use Rattle.body_lang.proofs.Fronts.{none_or_whole, whatever_behind}
+use Rattle.body_lang.proofs.Fronts.{none_or_whole, whatever_after}
 use Rattle.body_lang.proofs.Nesting.{agrees}
 use Rattle.body_lang.proofs.laws.names_agree.Goals as goal
 
@@ -11,4 +11,4 @@ pub returns-clause-front : goal.returns-clause-front
 returns-clause-front c scope tokens tree n h = elim (none_or_whole scope at_first n tokens) [ inl u ↦ inl u | inr u ↦ inr (u ∙ agrees scope tokens tree h) ]
 
 pub returns-clause-next : goal.returns-clause-next
-returns-clause-next c scope front rest other n h = whatever_behind scope at_first n front rest other h
+returns-clause-next c scope front rest other n h = whatever_after scope at_first n front rest other h

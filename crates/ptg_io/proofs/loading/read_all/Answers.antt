@@ -4,11 +4,11 @@ use Rattle.ptg_io.proofs.loading.read_all.Goals as goal
 
 pub pieces-preserved : goal.pieces-preserved
 pieces-preserved g c =
-    let read = c.in_ok-read_on.ensures.read in
+    let read = c.in_ok-read_piece.ensures.read in
     record {
-      stays = c.read_on.ensures.stays ∙ c.pieces.invariant.stays;
-      grows = λ other. omega (arith, c.pieces.invariant.grows other, c.read_on.ensures.grows other);
-      bounded = c.in_ok-read_on.ensures.still_bounded;
+      stays = c.read_piece.ensures.stays ∙ c.pieces.invariant.stays;
+      grows = λ other. omega (arith, c.pieces.invariant.grows other, c.read_piece.ensures.grows other);
+      bounded = c.in_ok-read_piece.ensures.still_bounded;
       reads = one_more_read _ _ _ _ _ _ read.0 _ c.pieces.invariant.reads read.1 read.2;
-      so_far = c.in_ok-read_on.ensures.still;
+      so_far = c.in_ok-read_piece.ensures.still;
     }

@@ -3,7 +3,7 @@ use Rattle.ptg_io.specs.Sink.{appended}
 use Rattle.ptg_top.proofs.Ending.{exact_prints, complete_prints, usage_is_its_line, usage_is_no_order}
 use Rattle.ptg_top.proofs.program.ptg_main.Goals as goal
 
--- a verdict that went out whole is exact where its status is no fault's
+-- a verdict that was printed whole is exact where its status is no fault's
 pub returns-in-Ok-tell-clause-exact : goal.returns-in-Ok-tell-clause-exact
 returns-in-Ok-tell-clause-exact g c entries contents exact =
     exact_prints c.args.words.now entries (g.F.Files.contents c.args.files.now) (g.F.Files.faults c.args.files.now) (g.F.Files.faults c.judge.new.files)
@@ -22,7 +22,7 @@ pub returns-in-Ok-tell-clause-usage_line : goal.returns-in-Ok-tell-clause-usage_
 returns-in-Ok-tell-clause-usage_line g c usage =
     c.in-Ok-tell.ensures.ok ∙ ap (appended (g.O.Sink.bytes c.args.out.now)) (usage_is_its_line c.in-Ok.verdict (sym c.status.ensures ∙ usage))
 
--- and only to words that order nothing
+-- and only to arguments that form no command
 pub returns-in-Ok-tell-clause-usage_only : goal.returns-in-Ok-tell-clause-usage_only
 returns-in-Ok-tell-clause-usage_only g c usage =
     usage_is_no_order c.args.words.now (g.F.Files.contents c.args.files.now) (g.F.Files.faults c.args.files.now) (g.F.Files.faults c.judge.new.files)

@@ -1,9 +1,9 @@
 use Rattle.std.proofs.Common.{ap}
-use Rattle.ptg_top.specs.declared.verdict.Verdict.TheVariants as say
+use Rattle.ptg_top.specs.declared.verdict.Verdict.TheVariants as verdicts
 use Rattle.ptg_top.proofs.stages.tree.Goals as goal
 
--- the reader says that there is no tree
+-- the reader's refusal: there is no tree
 pub returns-in-Err-Fault : goal.returns-in-Err-Fault
 returns-in-Err-Fault c =
     let none = c.in-Err-Fault.ensures.refused c.in-Err-Fault.fault (cc) in
-    (ap say.Jdf none.0, none.1)
+    (ap verdicts.Jdf none.0, none.1)

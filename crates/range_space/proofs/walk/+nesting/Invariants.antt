@@ -9,7 +9,7 @@ decreases-first l = 2 * length l.defs.now
 abbrev pub decreases-first_among : goal.decreases-first_among
 decreases-first_among l = 2 * length l.inner.now + 1
 
--- no list goes on by a value that is left behind
+-- no list is continued by a value that was already taken
 abbrev pub invariant-first_among-loop-v : goal.invariant-first_among-loop-v
 invariant-first_among-loop-v l = record {
   can_next : (goal.iterator-first_among-loop-v).can_next l.v-iterator;

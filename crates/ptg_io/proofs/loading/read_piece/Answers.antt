@@ -1,7 +1,7 @@
 use Rattle.std.proofs.Common.{◌≡◌, ◌≤◌, ◌++◌, List, ℕ, length, take, sym, subst, ◌∙◌, arith}
 use Rattle.ptg_io.specs.Files.{IsPiece}
 use Rattle.ptg_io.proofs.Pieces.{whole_at_end, more_so_far}
-use Rattle.ptg_io.proofs.loading.read_on.Goals as goal
+use Rattle.ptg_io.proofs.loading.read_piece.Goals as goal
 
 pub returns-then-n-eq0-clause-end : goal.returns-then-n-eq0-clause-end
 returns-then-n-eq0-clause-end g c _ files contents =

@@ -1,0 +1,33 @@
+-- How much the tree of a text has at most, and what a second target stands with. A text with more is refused as it is read. The limits are this project's own choice.
+use Rattle.std.specs.Prelude.{ℕ, ◌≤◌, List, length, IsSome}
+use Rattle.std.specs.List.{AllByRecursion}
+use Rattle.jdf_tree.specs.declared.tree.DepTree.{DepTree}
+use Rattle.jdf_tree.specs.declared.tree.FlowTree.{FlowTree}
+use Rattle.jdf_tree.specs.declared.tree.ClassTree.{ClassTree}
+use Rattle.jdf_tree.specs.declared.tree.Jdf.{Jdf}
+use Rattle.jdf_tree.specs.Jdf.{IsJdf}
+
+-- A dependence with a target for where its guard does not hold has a guard.
+abbrev pub HasGuardForSecond : DepTree → Type 0
+HasGuardForSecond dep = IsSome dep.no → IsSome dep.guard
+
+-- a flow with at most 16 dependences
+pub record IsFlowWithinLimits (flow : FlowTree) : Type 0 where
+  pub count : length flow.deps ≤ 16
+  pub deps : AllByRecursion HasGuardForSecond flow.deps
+
+-- a class with at most 8 parameters, 16 definitions and 8 flows
+pub record IsClassWithinLimits (class : ClassTree) : Type 0 where
+  pub params : length class.params ≤ 8
+  pub defs : length class.defs ≤ 16
+  pub count : length class.flows ≤ 8
+  pub flows : AllByRecursion IsFlowWithinLimits class.flows
+
+-- a JDF with at most 64 classes
+pub record IsWithinLimits (jdf : Jdf) : Type 0 where
+  pub count : length jdf.classes ≤ 64
+  pub classes : AllByRecursion IsClassWithinLimits jdf.classes
+
+-- The law: the tree of each text is within the limits.
+abbrev pub TextsWithinLimits : Type 0
+TextsWithinLimits = (bytes : List ℕ) (jdf : Jdf) → IsJdf bytes jdf → IsWithinLimits jdf
