@@ -4,3 +4,5 @@ pub mod Datatypes
 pub mod Targets
 pub mod Rules
 pub mod Dependences
+pub mod PartsOfJob
+pub mod Laws

@@ -12,4 +12,9 @@ pub mod Ranges
 pub mod Spaces
 pub mod Within
 pub mod Closed
+pub mod NoFaults
+pub mod Distinct
+pub mod ClosedArguments
 pub mod WellSpaces
+pub mod AllThere
+pub mod Resolved

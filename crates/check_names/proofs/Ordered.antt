@@ -1,14 +1,14 @@
 -- Two faults of which neither comes before the other are one.
-use Rattle.std.proofs.Common.{◌≡◌, ℕ, ◌<◌, Bool, true, false, List, [], ◌∷◌, arith, refl, sym, ◌∙◌, ap, inl, inr}
-use Rattle.std.specs.Prelude.{Option, Some, nat_eq, nat_lt, slice_get, ◌&&◌, ◌||◌}
+use Rattle.std.proofs.Common.{◌≡◌, ℕ, Bool, true, false, List, [], ◌∷◌, arith, refl, sym, ◌∙◌, ap, inl, inr}
+use Rattle.std.specs.Prelude.{Some, nat_lt, slice_get}
 use Rattle.std.proofs.lemmas.Bool.{cases_order, ltb-false}
-use Rattle.check_names.specs.Alphabet.{Spot, JdfCode, JdfFault, TooLong, NotUtf8, Unclosed, TooManyTokens, Syntax, Truncated, BadNumber, ExprTooLong, TooManyClasses, TooManyParams, TooManyLocals, TooManyFlows, TooManyDeps, TooDeep, TooManyVars, NameTwice, LocalTwice, ParamUndefined, RangedLocal, UnknownName, WrongKind, NoSuchFlow, Arity, CtlMixed, WriteInput, NewSent, RangeInDataInput, RangeInPlace, Datatype, MixedTypes, TypeDiffers, ReadAssigned, NotAssignable, NotBuilt}
+use Rattle.check_names.specs.Alphabet.{JdfCode, JdfFault, TooLong, NotUtf8, Unclosed, TooManyTokens, Syntax, Truncated, BadNumber, ExprTooLong, TooManyClasses, TooManyParams, TooManyLocals, TooManyFlows, TooManyDeps, TooDeep, TooManyVars, NameTwice, LocalTwice, ParamUndefined, RangedLocal, UnknownName, WrongKind, NoSuchFlow, Arity, CtlMixed, WriteInput, NewSent, RangeInDataInput, RangeInPlace, Datatype, MixedTypes, TypeDiffers, ReadAssigned, NotAssignable}
 use Rattle.check_names.specs.Faults.{rank, is_before}
 use Rattle.check_names.proofs.Order.{lex, lex-less, lex-same}
 
 -- all codes, each at the index that is its rank
 abbrev codes_by_rank : List JdfCode
-codes_by_rank = TooLong ∷ NotUtf8 ∷ Unclosed ∷ TooManyTokens ∷ Syntax ∷ Truncated ∷ BadNumber ∷ ExprTooLong ∷ TooManyClasses ∷ TooManyParams ∷ TooManyLocals ∷ TooManyFlows ∷ TooManyDeps ∷ TooDeep ∷ TooManyVars ∷ NameTwice ∷ LocalTwice ∷ ParamUndefined ∷ RangedLocal ∷ UnknownName ∷ WrongKind ∷ NoSuchFlow ∷ Arity ∷ CtlMixed ∷ WriteInput ∷ NewSent ∷ RangeInDataInput ∷ RangeInPlace ∷ Datatype ∷ MixedTypes ∷ TypeDiffers ∷ ReadAssigned ∷ NotAssignable ∷ NotBuilt ∷ []
+codes_by_rank = TooLong ∷ NotUtf8 ∷ Unclosed ∷ TooManyTokens ∷ Syntax ∷ Truncated ∷ BadNumber ∷ ExprTooLong ∷ TooManyClasses ∷ TooManyParams ∷ TooManyLocals ∷ TooManyFlows ∷ TooManyDeps ∷ TooDeep ∷ TooManyVars ∷ NameTwice ∷ LocalTwice ∷ ParamUndefined ∷ RangedLocal ∷ UnknownName ∷ WrongKind ∷ NoSuchFlow ∷ Arity ∷ CtlMixed ∷ WriteInput ∷ NewSent ∷ RangeInDataInput ∷ RangeInPlace ∷ Datatype ∷ MixedTypes ∷ TypeDiffers ∷ ReadAssigned ∷ NotAssignable ∷ []
 
 at_rank : (c : JdfCode) → slice_get codes_by_rank (rank c) ≡ Some c
 at_rank TooLong = refl
@@ -44,7 +44,6 @@ at_rank MixedTypes = refl
 at_rank TypeDiffers = refl
 at_rank ReadAssigned = refl
 at_rank NotAssignable = refl
-at_rank NotBuilt = refl
 
 one_rank : (c d : JdfCode) → rank c ≡ rank d → c ≡ d
 one_rank c d e = let same : Some c ≡ Some d = sym (at_rank c) ∙ (ap (slice_get codes_by_rank) e ∙ at_rank d) in cc

@@ -12,10 +12,8 @@ use Rattle.term_core.specs.declared.space.Def.{Def}
 use Rattle.term_core.specs.declared.space.Def.TheVariants as def
 use Rattle.term_core.specs.declared.space.ClassSpace.{ClassSpace}
 use Rattle.jdf_tree.specs.declared.tree.ArgTree.TheVariants as tree
-use Rattle.jdf_lex.specs.declared.fault.JdfCode.{JdfCode}
-use Rattle.check_names.specs.Alphabet.{Spot, Word, DefTree, ArgTree, NameTwice, LocalTwice, RangedLocal}
+use Rattle.check_names.specs.Alphabet.{Word, DefTree, ArgTree, NameTwice, LocalTwice, RangedLocal}
 use Rattle.check_names.specs.Names.{Job, word_is, local_named}
-use Rattle.check_names.specs.Faults.{fault_if}
 use Rattle.check_names.specs.Repeats.{is_taken, repeats_after, repeats}
 use Rattle.check_names.specs.Returns.{both, each}
 use Rattle.check_names.specs.Expressions.{term_of}
@@ -25,48 +23,8 @@ use Rattle.check_names.proofs.Closed.{both_true, some_once, position_within, clo
 use Rattle.check_names.proofs.Parts.{append_assoc}
 use Rattle.check_names.proofs.Spaces.{space_from}
 use Rattle.check_names.proofs.GivenTwice.{taken_more}
-
--- ---- lists without faults
-
-first_nil : {A : Type 0} (xs ys : List A) → xs ++ ys ≡ [] → xs ≡ []
-first_nil [] ys e = refl
-first_nil (x ∷ xs) ys e = absurd cc
-
-rest_nil : {A : Type 0} (xs ys : List A) → xs ++ ys ≡ [] → ys ≡ []
-rest_nil [] ys e = e
-rest_nil (x ∷ xs) ys e = absurd cc
-
-holds_not : (b : Bool) (spot : Spot) (code : JdfCode) → fault_if b spot code ≡ [] → b ≡ false
-holds_not true spot code e = absurd cc
-holds_not false spot code e = refl
-
-true_or : (a b : Bool) → a ≡ true → (a || b) ≡ true
-true_or a b e = ap (λ c. c || b) e
-
-or_true : (a b : Bool) → b ≡ true → (a || b) ≡ true
-or_true true b e = refl
-or_true false b e = e
-
-neither : (a b : Bool) → (a || b) ≡ false → (a ≡ false) × (b ≡ false)
-neither true b e = absurd (false≢true (sym e))
-neither false b e = (refl, e)
-
-itself : (n : List ℕ) → bytes_eq n n ≡ true
-itself n = (bytes_decides n n).1 refl
-
--- ---- names given twice
-
--- where no name is given twice, no later one is one of those before
-names_after : {A : Type 0} (word : A → Word) (code : JdfCode) (before xs : List A) → repeats_after word code before xs ≡ [] → (n : List ℕ) → is_taken word before n ≡ true → is_taken word xs n ≡ false
-names_after word code before [] h n t = refl
-names_after {A} word code before (x ∷ xs) h n t =
-    let fresh = holds_not (is_taken word before (word x).text) (word x).spot code (first_nil _ _ h) in
-    let later = names_after word code (before ++ x ∷ []) xs (rest_nil _ _ h) n (taken_more word before x n ∙ true_or (is_taken word before n) (bytes_eq (word x).text n) t) in
-    go (bytes_eq (word x).text n) refl fresh later
-  where
-    go : (b : Bool) → bytes_eq (word x).text n ≡ b → is_taken word before (word x).text ≡ false → is_taken word xs n ≡ false → (b || is_taken word xs n) ≡ false
-    go true e fresh later = absurd (false≢true (sym fresh ∙ (ap (λ m. is_taken word before m) ((bytes_decides (word x).text n).0 e) ∙ t)))
-    go false e fresh later = later
+use Rattle.check_names.proofs.NoFaults.{first_nil, rest_nil, holds_not, true_or, or_true, neither, itself, parts_of}
+use Rattle.check_names.proofs.Distinct.{names_after}
 
 -- ---- where names are found
 
@@ -115,12 +73,7 @@ found_at before d rest h =
 
 -- ---- the definitions
 
-parts_of : {A B : Type 0} (f : A → B → B) (o : Option A) (p : Option B) (z : B) → both f o p ≡ Some z → (x : A) × (y : B) × (o ≡ Some x) × (p ≡ Some y) × (f x y ≡ z)
-parts_of f None p z e = absurd cc
-parts_of f (Some x) None z e = absurd cc
-parts_of f (Some x) (Some y) z e = (x, y, refl, refl, some_once (f x y) z e)
-
-definitions_length : (job : Job) (before defs : List DefTree) (ds : List Def) → definitions_of job before defs ≡ Some ds → length ds ≡ length defs
+pub definitions_length : (job : Job) (before defs : List DefTree) (ds : List Def) → definitions_of job before defs ≡ Some ds → length ds ≡ length defs
 definitions_length job before [] ds e = ap length (sym (some_once [] ds e))
 definitions_length job before (d ∷ defs) ds e =
     let p = parts_of (λ x xs. x ∷ xs) (definition_of job before d.value) (definitions_of job (before ++ d ∷ []) defs) ds e in
@@ -209,7 +162,7 @@ spans_among job params all before (d ∷ defs) n ds ps same whole r h q e =
         both_true (is_among n ps) (spans_are_params (suc n) xs ps)
         (among_some all d.name.text n params ps at (is_named (is_range d.value) (list_any (word_is d.name.text) params) (is_a_range job before d.value t k) ranged) q) more
 
-pair_of : (o : Option (List Def)) (q : Option (List ℕ)) (z : ClassSpace) → both (λ x y. record { defs = x; params = y }) o q ≡ Some z → (x : List Def) × (y : List ℕ) × (o ≡ Some x) × (q ≡ Some y) × (space_from x y ≡ z)
+pub pair_of : (o : Option (List Def)) (q : Option (List ℕ)) (z : ClassSpace) → both (λ x y. record { defs = x; params = y }) o q ≡ Some z → (x : List Def) × (y : List ℕ) × (o ≡ Some x) × (q ≡ Some y) × (space_from x y ≡ z)
 pair_of None q z f = absurd cc
 pair_of (Some x) None z f = absurd cc
 pair_of (Some x) (Some y) z f = (x, y, refl, refl, some_once (space_from x y) z f)

@@ -1,6 +1,6 @@
 -- Faults in the order of the text, and the first of several. That a text is refused with the first of all its faults, and which code comes first at one place, are this project's own choice.
 use Rattle.std.specs.Prelude.{ℕ, Bool, true, false, ◌&&◌, ◌||◌, nat_eq, nat_lt, List, [], ◌∷◌, Option, Some, None, if◌then◌else◌}
-use Rattle.check_names.specs.Alphabet.{Spot, JdfCode, JdfFault, TooLong, NotUtf8, Unclosed, TooManyTokens, Syntax, Truncated, BadNumber, ExprTooLong, TooManyClasses, TooManyParams, TooManyLocals, TooManyFlows, TooManyDeps, TooDeep, TooManyVars, NameTwice, LocalTwice, ParamUndefined, RangedLocal, UnknownName, WrongKind, NoSuchFlow, Arity, CtlMixed, WriteInput, NewSent, RangeInDataInput, RangeInPlace, Datatype, MixedTypes, TypeDiffers, ReadAssigned, NotAssignable, NotBuilt}
+use Rattle.check_names.specs.Alphabet.{Spot, JdfCode, JdfFault, TooLong, NotUtf8, Unclosed, TooManyTokens, Syntax, Truncated, BadNumber, ExprTooLong, TooManyClasses, TooManyParams, TooManyLocals, TooManyFlows, TooManyDeps, TooDeep, TooManyVars, NameTwice, LocalTwice, ParamUndefined, RangedLocal, UnknownName, WrongKind, NoSuchFlow, Arity, CtlMixed, WriteInput, NewSent, RangeInDataInput, RangeInPlace, Datatype, MixedTypes, TypeDiffers, ReadAssigned, NotAssignable}
 
 -- the codes in their order: where two fit one place, the first is given
 abbrev pub rank : JdfCode → ℕ
@@ -37,7 +37,6 @@ rank MixedTypes = 29
 rank TypeDiffers = 30
 rank ReadAssigned = 31
 rank NotAssignable = 32
-rank NotBuilt = 33
 
 -- whether a fault comes before another: its place does, or it has the same place and a code that does
 abbrev pub is_before : JdfFault → JdfFault → Bool

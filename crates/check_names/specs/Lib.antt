@@ -8,3 +8,4 @@ pub mod Repeats
 pub mod Expressions
 pub mod Arguments
 pub mod Definitions
+pub mod Laws

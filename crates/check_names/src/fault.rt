@@ -45,7 +45,6 @@ fn rank(code: JdfCode) -> u8
         JdfCode::TypeDiffers => 30,
         JdfCode::ReadAssigned => 31,
         JdfCode::NotAssignable => 32,
-        JdfCode::NotBuilt => 33,
     }
 }
 

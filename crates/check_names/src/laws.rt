@@ -8,6 +8,7 @@ ghost use Rattle.term_core.specs.declared.space.ClassSpace.{ClassSpace};
 ghost use Rattle.jdf_tree.specs.declared.expression.Word.{Word};
 ghost use Rattle.jdf_tree.specs.declared.tree.DefTree.{DefTree};
 ghost use Rattle.check_names.specs.Names.{Job};
+ghost use Rattle.check_names.specs.Laws.{NamesAreDistinct, ArgumentsAreClosed, IndicesAreClosed, OptionIsClosed, ArgumentsAreNoRanges, ArgumentsAreResolved, IndicesAreResolved, OptionIsResolved, SpaceIsResolved};
 ghost use Rattle.check_names.specs.Definitions.{space_faults, space_of};
 ghost use Rattle.check_names.specs.Faults.{is_before, earlier_of, first_fault};
 
@@ -23,4 +24,26 @@ pub fn the_first_fault_is_the_least()
 /// A law: where at most 16 definitions and the parameters of a class break no rule, the space that they are is well made.
 pub fn a_resolved_space_is_well_made()
     ensures { (job : Job) (params : List Word) (defs : List DefTree) (s : ClassSpace) → length defs ≤ 16 → space_faults job params defs ≡ [] → space_of job params defs ≡ Some s → IsWellSpace s }
+{}
+
+/// A law: words of which none is given twice are distinct names.
+pub fn names_given_once_are_distinct()
+    ensures { NamesAreDistinct }
+{}
+
+/// A law: arguments, indices and expressions that are resolved name only definitions that are seen; and where no argument is
+/// a range none is resolved to one.
+pub fn what_is_resolved_is_closed()
+    ensures arguments { ArgumentsAreClosed }
+    ensures indices { IndicesAreClosed }
+    ensures option { OptionIsClosed }
+    ensures ranges { ArgumentsAreNoRanges }
+{}
+
+/// A law: arguments, indices, expressions and spaces that break no rule are resolved.
+pub fn names_without_faults_are_resolved()
+    ensures arguments { ArgumentsAreResolved }
+    ensures indices { IndicesAreResolved }
+    ensures option { OptionIsResolved }
+    ensures space { SpaceIsResolved }
 {}

@@ -5,3 +5,13 @@ pub mod Heads
 pub mod ClassesRead
 pub mod Counts
 pub mod Unique
+pub mod BodyParts
+pub mod BodyKinds
+pub mod BodyLoops
+pub mod BodyWords
+pub mod WellBodies
+pub mod WellClasses
+pub mod WellPlans
+pub mod Plans
+pub mod Readings
+pub mod Resolved

@@ -14,7 +14,7 @@ use Rattle.check_names.specs.Faults.{first_fault}
 use Rattle.flow_check.specs.Bodies.{BodyResult, ReadsAs, ReadsBody}
 use Rattle.flow_check.specs.Check.{ReadBodies, classes_plan, faults_of, AreResolved, IsFirstFault, ArePartsOf, ReturnsParts}
 use Rattle.flow_check.specs.declared.parts.Parts.{Parts}
-use Rattle.flow_check.specs.Laws.{OneResolved, OneFirstFault, ResolvedOrFault}
+use Rattle.flow_check.specs.Laws.{OneResolved, OneFirstFault, ResolvedHasNoFault}
 
 abbrev from : (locals : List (List ℕ)) (ints : List (List ℕ × ℤ)) (colls : List (List ℕ)) (flows : List FlowName) → length locals ≤ 16 → length flows ≤ 8 → Scope
 from locals ints colls flows h k = record { locals = locals; ints = ints; colls = colls; flows = flows; locals_at_most = h; flows_at_most = k }
@@ -69,17 +69,17 @@ one_resolved job x y h k =
 pub one_first_fault : OneFirstFault
 one_first_fault job f g h k = some_once f g (sym h.first ∙ (ap (λ bs. first_fault (faults_of job bs)) (one_list job job.jdf.classes h.bodies k.bodies h.read k.read) ∙ k.first))
 
-pub resolved_or_fault : ResolvedOrFault
-resolved_or_fault job x f h k =
+pub resolved_has_no_fault : ResolvedHasNoFault
+resolved_has_no_fault job x f h k =
     none_some f (ap first_fault (sym h.resolved.no_fault) ∙ (ap (λ bs. first_fault (faults_of job bs)) (one_list job job.jdf.classes h.resolved.bodies k.bodies h.resolved.read k.read) ∙ k.first))
 
 pub only_parts : (job : Job) (r : Result Parts (Refusal JdfFault)) → ReturnsParts job r → (x : Parts) → ArePartsOf job x → (r ≡ Ok x) ⊎ (r ≡ Err OutOfMemory)
 only_parts job (Ok y) h x k = inl (ap (λ z. Ok z) (one_resolved job y x h k))
-only_parts job (Err (Fault f)) h x k = absurd (resolved_or_fault job x f k h)
+only_parts job (Err (Fault f)) h x k = absurd (resolved_has_no_fault job x f k h)
 only_parts job (Err OutOfMemory) h x k = inr refl
 
 pub only_fault : (job : Job) (r : Result Parts (Refusal JdfFault)) → ReturnsParts job r → (f : JdfFault) → IsFirstFault job f → (r ≡ Err (Fault f)) ⊎ (r ≡ Err OutOfMemory)
-only_fault job (Ok y) h f k = absurd (resolved_or_fault job y f h k)
+only_fault job (Ok y) h f k = absurd (resolved_has_no_fault job y f h k)
 only_fault job (Err (Fault g)) h f k = inl (ap (λ z. Err (Fault z)) (one_first_fault job g f h k))
 only_fault job (Err OutOfMemory) h f k = inr refl
 

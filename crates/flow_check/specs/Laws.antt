@@ -1,9 +1,17 @@
 -- What follows from the definitions of the parts of a plan and of the first fault.
-use Rattle.std.specs.Prelude.{◌≡◌}
-use Rattle.check_names.specs.Alphabet.{JdfFault}
+use Rattle.std.specs.Prelude.{◌≡◌, ◌⊎◌, []}
+use Rattle.std.specs.Option.{IsSome}
+use Rattle.jdf_tree.specs.TreeLimits.{IsClassWithinLimits, IsWithinLimits}
+use Rattle.coll_data.specs.WellMade as well_data
+use Rattle.plan_core.specs.WellMade.{IsWellMade}
+use Rattle.plan_core.specs.declared.plan.Plan.{Plan}
+use Rattle.check_names.specs.Alphabet.{JdfFault, ClassTree}
 use Rattle.check_names.specs.Names.{Job}
 use Rattle.flow_check.specs.declared.parts.Parts.{Parts}
+use Rattle.flow_check.specs.Bodies.{BodyResult, ReadsBody}
+use Rattle.flow_check.specs.Classes.{class_plan, class_faults}
 use Rattle.flow_check.specs.Check.{ArePartsOf, IsFirstFault}
+use Rattle.flow_check.specs.Plans.{IsPlan}
 
 -- A JDF and its data have the parts of one plan at most.
 abbrev pub OneResolved : Type 0
@@ -14,5 +22,37 @@ abbrev pub OneFirstFault : Type 0
 OneFirstFault = (job : Job) (f g : JdfFault) → IsFirstFault job f → IsFirstFault job g → f ≡ g
 
 -- What has the parts of a plan has no fault.
-abbrev pub ResolvedOrFault : Type 0
-ResolvedOrFault = (job : Job) (x : Parts) (f : JdfFault) → ArePartsOf job x → IsFirstFault job f → ⊥
+abbrev pub ResolvedHasNoFault : Type 0
+ResolvedHasNoFault = (job : Job) (x : Parts) (f : JdfFault) → ArePartsOf job x → IsFirstFault job f → ⊥
+
+-- The parts of a JDF within the limits and of data that are well made fit one another.
+abbrev pub PartsAreWellMade : Type 0
+PartsAreWellMade = (job : Job) (x : Parts) → IsWithinLimits job.jdf → well_data.IsWellMade job.given → ArePartsOf job x → IsWellMade x.classes x.spaces x.colls x.elems
+
+-- So a JDF and its data that have the parts of a plan have the plan.
+abbrev pub PartsMakeAPlan : Type 0
+PartsMakeAPlan = (job : Job) (x : Parts) → IsWithinLimits job.jdf → well_data.IsWellMade job.given → ArePartsOf job x → (p : Plan) × IsPlan job p
+
+-- A JDF and its data have one plan at most.
+abbrev pub OnePlan : Type 0
+OnePlan = (job : Job) (p q : Plan) → IsPlan job p → IsPlan job q → p ≡ q
+
+-- What has a plan has no fault.
+abbrev pub PlanHasNoFault : Type 0
+PlanHasNoFault = (job : Job) (p : Plan) (f : JdfFault) → IsPlan job p → IsFirstFault job f → ⊥
+
+-- The body of each class within the limits is read: its tokens are a body, or have a first fault.
+abbrev pub EachBodyIsRead : Type 0
+EachBodyIsRead = (job : Job) (class : ClassTree) → IsClassWithinLimits class → (b : BodyResult) × ReadsBody job class b
+
+-- A class that breaks no rule is resolved.
+abbrev pub ClassIsResolved : Type 0
+ClassIsResolved = (job : Job) (class : ClassTree) (b : BodyResult) → class_faults job class b ≡ [] → IsSome (class_plan job class b)
+
+-- A JDF and its data have a plan or a first fault.
+abbrev pub HasPlanOrFault : Job → Type 0
+HasPlanOrFault job = ((p : Plan) × IsPlan job p) ⊎ ((f : JdfFault) × IsFirstFault job f)
+
+-- Each JDF within the limits, with data that are well made, has one of both.
+abbrev pub EachHasPlanOrFault : Type 0
+EachHasPlanOrFault = (job : Job) → IsWithinLimits job.jdf → well_data.IsWellMade job.given → HasPlanOrFault job

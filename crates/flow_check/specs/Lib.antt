@@ -3,4 +3,5 @@ pub mod Bodies
 pub mod Jobs
 pub mod Classes
 pub mod Check
+pub mod Plans
 pub mod Laws

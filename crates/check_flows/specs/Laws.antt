@@ -1,0 +1,36 @@
+-- What follows from the definitions of elements and flows that are resolved.
+use Rattle.std.specs.Prelude.{◌≡◌, ℕ, suc, List, [], Some, length, IsTrue}
+use Rattle.std.specs.Option.{IsSome}
+use Rattle.term_core.specs.Term.{Term}
+use Rattle.term_core.specs.declared.space.ClassSpace.{ClassSpace}
+use Rattle.jdf_tree.specs.TreeLimits.{IsFlowWithinLimits}
+use Rattle.plan_core.specs.declared.class.ClassPlan.{ClassPlan}
+use Rattle.plan_core.specs.declared.flow.FlowPlan.{FlowPlan}
+use Rattle.plan_core.specs.declared.shape.Shape.{Shape}
+use Rattle.plan_core.specs.Flows.{is_flow}
+use Rattle.plan_core.specs.Targets.{is_element}
+use Rattle.check_names.specs.Alphabet.{Word, DefTree, FlowTree, ArgTree}
+use Rattle.check_names.specs.Names.{Job}
+use Rattle.check_flows.specs.Places.{element_faults, element_of}
+use Rattle.check_flows.specs.Dependences.{flow_faults, flow_plan}
+use Rattle.check_flows.specs.PartsOfJob.{HaveParts}
+
+-- Where a plan has the parts of a job, an element that breaks no rule is one of a collection of the plan.
+abbrev pub ElementsExist : Type 0
+ElementsExist =
+    (job : Job) (classes : List ClassPlan) (spaces : List ClassSpace) (colls : List Shape) → HaveParts job classes spaces colls → (seen : List DefTree) (w : Word) (args : List ArgTree) (x : ℕ × List Term)
+    → element_faults job seen w args ≡ [] → element_of job seen w args ≡ Some x → IsTrue (is_element colls (length seen) x.0 x.1)
+
+-- Where a plan has the parts of a job, a flow that breaks no rule is one that the plan may have.
+abbrev pub FlowsAreWellMade : Type 0
+FlowsAreWellMade =
+    (job : Job) (classes : List ClassPlan) (spaces : List ClassSpace) (colls : List Shape) → HaveParts job classes spaces colls → (seen : List DefTree) (flow : FlowTree) (p : FlowPlan)
+    → IsFlowWithinLimits flow → flow_faults job seen flow ≡ [] → flow_plan job seen flow ≡ Some p → IsTrue (is_flow classes spaces colls (suc (length job.given.types)) (length seen) p)
+
+-- An element that breaks no rule is resolved.
+abbrev pub ElementIsResolved : Type 0
+ElementIsResolved = (job : Job) (seen : List DefTree) (w : Word) (args : List ArgTree) → element_faults job seen w args ≡ [] → IsSome (element_of job seen w args)
+
+-- So is a flow.
+abbrev pub FlowIsResolved : Type 0
+FlowIsResolved = (job : Job) (seen : List DefTree) (flow : FlowTree) → flow_faults job seen flow ≡ [] → IsSome (flow_plan job seen flow)
