@@ -9,3 +9,5 @@ pub mod Passing
 pub mod Consistency
 pub mod NoFault
 pub mod OneFault
+pub mod FaultNames
+pub mod WordBits

@@ -1,5 +1,5 @@
 -- Sets of places by bits.
-use Rattle.std.proofs.Common.{◌≡◌, ◌≢◌, ◌↔◌, ℕ, zero, suc, ◌+◌, ◌*◌, ◌<◌, ◌≤◌, ℤ, pos, negsuc, ◌≤ℤ◌, ◌<ℤ◌, unsigned_abs, Bool, true, false, ◌==◌, List, [], ◌∷◌, ◌++◌, length, replicate, take, slice_index_or, slice_set, refl, ap, sym, ◌∙◌, subst, Option, Some, None, slice_get, IsSomeAnd, IsTrue, ◌⊎◌, inl, inr, eq-eqb, arith}
+use Rattle.std.proofs.Common.{◌≡◌, ◌≢◌, ◌↔◌, ℕ, zero, suc, ◌+◌, ◌*◌, ◌<◌, ◌≤◌, ℤ, pos, negsuc, ◌≤ℤ◌, ◌<ℤ◌, unsigned_abs, Bool, true, false, ◌==◌, List, [], ◌∷◌, ◌++◌, length, take, slice_index_or, slice_set, refl, ap, sym, ◌∙◌, subst, Option, Some, None, slice_get, IsSomeAnd, IsTrue, ◌⊎◌, inl, inr, eq-eqb, arith}
 use Rattle.std.proofs.lemmas.Bool.{false≢true, eqb-true}
 use Rattle.std.proofs.lemmas.Int.{ints}
 use Rattle.std.proofs.lemmas.List.{get_or-set_other, get_or-set_same}
@@ -193,11 +193,6 @@ pub take-one_more : {A : Type 0} (xs : List A) (i : ℕ) (x : A) → slice_get x
 take-one_more [] i x h = cc
 take-one_more (y ∷ xs) zero x h = let e : y ≡ x = cc in ap (λ z. z ∷ []) e
 take-one_more (y ∷ xs) (suc i) x h = ap (λ l. y ∷ l) (take-one_more xs i x h)
-
-pub replicated : (n k : ℕ) → IsTrue (slice_index_or (replicate n false) k false) → ⊥
-replicated zero k h = false≢true h
-replicated (suc n) zero h = false≢true h
-replicated (suc n) (suc k) h = replicated n k h
 
 pub take-all : {A : Type 0} (xs : List A) (n : ℕ) → length xs ≤ n → take n xs ≡ xs
 take-all [] zero h = refl

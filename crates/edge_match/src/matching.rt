@@ -105,7 +105,7 @@ fn check_plan(alloc: Global, plan: &Plan) -> Result<Totals, MatchRefusal>
 }
 
 /// The plan, as one that is consistent, with its counts; or its first fault, and the plan back. Takes time according to the numbers of tasks and edges,
-/// and a byte of memory for each place of a collection.
+/// and a bit of memory for each place of a collection.
 pub fn match_edges(alloc: Global, plan: Plan) -> Result<Matched, (MatchRefusal, Plan)>
     ensures found { IfOk result (λ m. (m ≡ plan) × IsConsistent plan) }
     ensures back { IfErr result (λ e. e.1 ≡ plan) }

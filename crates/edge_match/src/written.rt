@@ -6,6 +6,7 @@ ghost use Rattle.plan_core.specs.declared.shape.Shape.{Shape as ShapeValue};
 ghost use Rattle.plan_core.specs.Place.{HasPlace};
 ghost use Rattle.edge_match.specs.Written.{FitsShapes, IsWithin, bit_at, columns, is_written};
 
+use crate::bits::Bits;
 use plan_core::Shape;
 use ptg_base::{OutOfMemory, Place};
 use std::alloc::Global;
@@ -15,7 +16,7 @@ use std::alloc::Global;
 pub(crate) struct PlaceSet {
     rows: u32,
     cols: u32,
-    bits: Vec<bool>,
+    bits: Bits,
 }
 
 impl PlaceSet {
@@ -26,7 +27,7 @@ impl PlaceSet {
     {
         let cols = shape.cols.unwrap_or(1);
         let count = shape.rows as usize * cols as usize;
-        let bits = vec![in alloc; false; count]?;
+        let bits = Bits::new(alloc, count)?;
         Ok(PlaceSet {
             rows: shape.rows,
             cols,
@@ -61,8 +62,8 @@ impl PlaceSet {
         let Some(k) = self.index(i, j) else {
             return false;
         };
-        let old = self.bits[k];
-        self.bits[k] = true;
+        let old = self.bits.get(k);
+        self.bits.set(k);
         !old
     }
 }
