@@ -1,5 +1,5 @@
 -- What is found in well made data: the elements of a type, and the tile at a place.
-use Rattle.std.proofs.Common.{◌≡◌, ℕ, zero, suc, ◌-◌, ◌<◌, ◌↔◌, ℤ, List, [], ◌∷◌, length, map, Option, Some, None, IsSome, IfSome, Bor, slice_get, slice_index, option_map, option_copied, option_and_then, refl, sym, ap, ◌∙◌, subst, rules, arith}
+use Rattle.std.proofs.Common.{◌≡◌, ℕ, zero, suc, ◌-◌, ◌<◌, ◌↔◌, ℤ, List, ◌∷◌, length, map, Option, Some, None, IsSome, IfSome, Bor, slice_get, slice_index, option_map, option_copied, option_and_then, sym, ap, ◌∙◌, subst, rules, arith}
 use Rattle.std.proofs.lemmas.Option.{slice_get-map}
 use Rattle.ptg_base.specs.declared.place.Place.{Place}
 use Rattle.coll_data.specs.declared.coll.Coll.{Coll}

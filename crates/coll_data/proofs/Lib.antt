@@ -1,3 +1,4 @@
 pub mod Lists
 pub mod TileIndex
 pub mod Found
+pub mod Replaced

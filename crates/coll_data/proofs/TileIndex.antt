@@ -1,5 +1,5 @@
 -- Places have the indices below the number of tiles.
-use Rattle.std.proofs.Common.{◌≡◌, ℕ, zero, suc, ◌+◌, ◌*◌, ◌<◌, ◌≤◌, ◌↔◌, ℤ, pos, negsuc, ◌⊎◌, inl, inr, get_or, ◌≤ℤ◌, ◌<ℤ◌, nat_lt, Bool, true, false, List, [], ◌∷◌, length, Option, Some, None, IsSome, IfSome, slice_get, option_map, option_and_then, refl, sym, ap, ◌∙◌, subst, rules, arith}
+use Rattle.std.proofs.Common.{◌≡◌, ℕ, zero, suc, ◌+◌, ◌*◌, ◌<◌, ◌≤◌, ◌↔◌, ℤ, pos, negsuc, ◌⊎◌, inl, inr, get_or, nat_lt, Bool, true, false, List, [], length, Option, Some, None, IsSome, slice_get, option_and_then, refl, subst, rules, arith}
 use Rattle.std.proofs.lemmas.Int.{ints}
 use Rattle.std.proofs.lemmas.Nat.{row_fits}
 use Rattle.std.proofs.lemmas.Option.{slice_get-get_or}
@@ -74,4 +74,11 @@ tile_exists rows cols i j tiles e = elim (index_cases rows cols i j) [
   | inr n ↦
       let nothing : option_and_then (slice_get tiles) (tile_index rows cols i j) ≡ None = rw (n.0) refl in
       (λ s. absurd (none_of _ nothing s), λ w. absurd (n.1 w.0 w.1))
+]
+
+-- an index of a tile is below the number of tiles
+pub index_within : (rows : ℕ) (cols : Option ℕ) (i j : ℤ) (k : ℕ) → tile_index rows cols i j ≡ Some k → k < tile_count rows cols
+index_within rows cols i j k e = elim (index_cases rows cols i j) [
+  | inl p ↦ let is = p.is in let same : p.index ≡ k = cc in subst (λ n. n < tile_count rows cols) same p.within
+  | inr n ↦ let none = n.0 in absurd cc
 ]

@@ -1,3 +1,4 @@
 pub mod Data
 pub mod Tiles
 pub mod WellMade
+pub mod Replacing

@@ -1,7 +1,8 @@
 //! Collections of tiles.
 
-ghost use Rattle.std.specs.Prelude.{◌≡◌, ◌≤◌, pos, IfOk, replicate, option_copied, option_and_then, slice_get};
+ghost use Rattle.std.specs.Prelude.{◌≡◌, ◌≤◌, length, pos, IfOk, replicate, option_copied, option_and_then, slice_get};
 ghost use Rattle.coll_data.specs.Tiles.{tile_count, tile_index};
+ghost use Rattle.coll_data.specs.Replacing.{coll_with};
 
 use crate::index::{tile_count, tile_index};
 use ptg_base::{OutOfMemory, Seq, Text, Tile};
@@ -49,6 +50,18 @@ impl Coll {
         let (rows, cols) = self.shape;
         let index = tile_index(rows, cols, i, j)?;
         self.tiles.as_slice().get(index)
+    }
+
+    // Replaces the tile in this row and column, if there is one.
+    pub(crate) fn put(&mut self, i: i64, j: i64, tile: Tile)
+        requires limit { tile_count self.old.shape.0 self.old.shape.1 ≤ 65536 }
+        requires all_tiles { length self.old.tiles ≡ tile_count self.old.shape.0 self.old.shape.1 }
+        ensures { self.new ≡ coll_with self.old i j tile }
+    {
+        let (rows, cols) = self.shape;
+        if let Some(index) = tile_index(rows, cols, i, j) {
+            self.tiles.set(index, tile);
+        }
     }
 }
 

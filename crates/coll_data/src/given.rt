@@ -3,6 +3,7 @@
 ghost use Rattle.std.specs.Prelude.{◌≡◌, ◌≤◌, ◌↔◌, Some, IsTrue, IsSome, IfSome, length, option_copied, slice_get};
 ghost use Rattle.coll_data.specs.Data.{Data};
 ghost use Rattle.coll_data.specs.Tiles.{tile_at, HasPlace};
+ghost use Rattle.coll_data.specs.Replacing.{with_tile_at};
 ghost use Rattle.coll_data.specs.WellMade.{is_element_count, elements_by_type, IsTileOf, IsWellMade};
 
 use crate::coll::Coll;
@@ -108,5 +109,30 @@ impl Given {
             return None;
         }
         self.colls.get(n).tile(place.i, place.j)
+    }
+
+    /// The data with the tile at a place replaced. No other tile is copied or moved.
+    pub fn with_tile_at(self, place: &Place, tile: Tile) -> Given
+        requires exists { HasPlace self.colls place.now }
+        requires elements { IsTileOf self place.now.coll tile }
+        ensures { result ≡ with_tile_at self place.now tile }
+    {
+        let Given {
+            types,
+            elems,
+            ints,
+            colls,
+            rows_read,
+        } = self;
+        let mut colls = colls.into_vec();
+        let coll = &mut colls[place.coll as usize];
+        coll.put(place.i, place.j, tile);
+        Given {
+            types,
+            elems,
+            ints,
+            colls: Seq::of(colls),
+            rows_read,
+        }
     }
 }

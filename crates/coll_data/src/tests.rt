@@ -3,7 +3,7 @@
 ghost use Rattle.std.specs.Prelude.{◌≡◌, [], ◌∷◌, IfOk, length};
 
 use crate::{Coll, Given};
-use ptg_base::{OutOfMemory, Place, Seq, Text};
+use ptg_base::{OutOfMemory, Place, Seq, Text, Tile};
 use std::alloc::Global;
 use std::test::Fail;
 
@@ -73,5 +73,24 @@ fn tiles_are_at_their_places(rt: HostRuntime) -> Result<(), Fail> {
         };
         assert_eq!(rt; length, *elements);
     }
+    Ok(())
+}
+
+#[test]
+fn a_tile_is_replaced(rt: HostRuntime) -> Result<(), Fail> {
+    let alloc = rt.alloc();
+    let given = two_types(alloc)?;
+    let place = Place {
+        coll: 1,
+        i: 0,
+        j: 1,
+    };
+    let elements = given.tile(&place).ok_or("no tile")?.len();
+    let mut tile = Tile::zeros(alloc, elements)?;
+    assert!(rt; 1 < tile.len());
+    tile.set(1, 7);
+    let given = given.with_tile_at(&place, tile);
+    let replaced = given.tile(&place).ok_or("no tile")?;
+    assert_eq!(rt; replaced.as_slice(), [0, 7].as_slice());
     Ok(())
 }

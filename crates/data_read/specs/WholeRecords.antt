@@ -1,4 +1,4 @@
--- The data of a list of records, said of the list as a whole: the types, the integers and the collections in the order of their
+-- The data of a list of records, from the whole list at once: the types, the integers and the collections in the order of their
 -- records, and for each place of a collection the tile that a record of that place gives. Source: this project's own choice.
 use Rattle.std.specs.Prelude.{ℕ, ◌+◌, ◌*◌, ℤ, Bool, false, ◌&&◌, ◌||◌, ◌==◌, List, ◌∷◌, map, drop, codes, bytes_eq, slice_get, sum_by, Option, Some, None, option_map, option_and_then, if◌then◌else◌}
 use Rattle.std.specs.List.{filter_map, range_with_len}

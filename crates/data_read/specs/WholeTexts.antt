@@ -1,4 +1,4 @@
--- What all records of a text make of its data, said of the records as a whole.
+-- The data and the first fault of a text, from the whole list of its records.
 use Rattle.std.specs.Prelude.{◌≡◌, ◌⊎◌, ◌↔◌, ℕ, ◌+◌, List, [], ◌∷◌, ◌++◌, length, Some, None, Ok, Err}
 use Rattle.coll_data.specs.Data.{Data}
 use Rattle.coll_data.specs.declared.fault.DataCode.{DataCode}

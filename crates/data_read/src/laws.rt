@@ -1,4 +1,4 @@
-//! What the records of a text make of its data, said of the records as a whole.
+//! Laws of the data and the first fault of a text, from the whole list of its records.
 
 ghost use Rattle.data_read.specs.Codes.{FaultAtStartIsFirstCode, FaultIsFirstCode};
 ghost use Rattle.data_read.specs.WholeTexts.{DataAreByRecords, FaultIsFirst};

@@ -36,7 +36,7 @@ unfoldable pub ended_on : Plan → Data → Delivery → Task → Option Ended
 ended_on P G delivered t =
     option_map (λ (c : ClassPlan). body_meaning c.body (locals_of P t) (starting_tiles P G delivered t)) (slice_get P.classes t.class)
 
--- how many numbers the tile of a flow with this source has: as many as the type of the flow has elements. A flow whose source is `NULL` has no tile
+-- how many numbers the tile of a flow with this source has: as many as the type of the flow has elements. A flow whose source is `NULL` has no tile. In a consistent job only a WRITE flow is without a source, and it starts as new
 abbrev pub size_from : Plan → FlowPlan → Source → Option ℕ
 size_from P f (source.Task e) = Some (slice_index P.elems f.datatype)
 size_from P f (source.Place p) = Some (slice_index P.elems f.datatype)

@@ -15,7 +15,7 @@ abbrev pub is_index : Option ℕ → ℕ → Bool
 is_index None k = false
 is_index (Some i) k = i == k
 
--- whether a place is that of the tile with index k in the collection x, whose number is c
+-- whether p is the place of tile k of the collection x, whose number is c
 abbrev pub is_place_of : ℕ → Coll → ℕ → Place → Bool
 is_place_of c x k p = p.coll == c && is_index (tile_index x.shape.0 x.shape.1 p.i p.j) k
 
@@ -23,7 +23,7 @@ is_place_of c x k p = p.coll == c && is_index (tile_index x.shape.0 x.shape.1 p.
 abbrev pub written_tile : Plan → Data → WriteBack → Option (List ℤ)
 written_tile P G w = output_tile (ended P G w.from) w.flow
 
--- the tile that the first of these write-backs to a place brings; in a consistent job there is at most one, and it brings a tile
+-- the tile that the first of these write-backs to a place brings; `here` says of a place whether it is the one at hand. In a consistent job there is at most one, and it brings a tile
 abbrev pub written_to : Plan → Data → (Place → Bool) → List WriteBack → Option (List ℤ)
 written_to P G here [] = None
 written_to P G here (w ∷ ws) = if here w.place then written_tile P G w else written_to P G here ws

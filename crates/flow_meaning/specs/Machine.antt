@@ -33,7 +33,7 @@ same_tile (Some x) (Some y) = pointwise int_eq x y
 abbrev pub same_sent : Sent → Sent → Bool
 same_sent a b = same_item a.item b.item && same_tile a.tile b.tile
 
--- what has happened: the tasks that were claimed, and the items that were sent. An event adds to a list at its end; the order of a list matters to no law but that of the claims
+-- what has happened: the tasks that were claimed, and the items that were sent. An event adds to a list at its end. No law reads the order of a list, but the one that claims are a legal order
 pub record MachineState : Type 0 where
   pub claims : List Task
   pub sends : List Sent

@@ -55,6 +55,6 @@ abbrev pub written_by : Item → Option (List ℤ) → Option (WriteBack × Opti
 written_by (item.Edge e) tile = None
 written_by (item.Write w) tile = Some (w, tile)
 
--- the write-backs that were sent, each with its tile, in order of time
+-- the write-backs that were sent, each with its tile, in the order of the list
 abbrev pub written : MachineState → List (WriteBack × Option (List ℤ))
 written S = filter_map (λ (x : Sent). written_by x.item x.tile) S.sends

@@ -71,8 +71,8 @@ pub fn quiescent_states_are_at_rest()
 {}
 
 /// A law: in a quiescent sound state, the tasks that were claimed are those that run, each once; the items that were sent are
-/// those of the tasks that have outputs; the tasks that wait, those that trap and what was written back are those of the
-/// backward meaning, and so is the answer.
+/// those of the tasks that have outputs; the tasks that wait and those that trap are those of the backward meaning, and so is
+/// the answer.
 pub fn a_quiescent_state_has_the_meaning()
     ensures claims { (P : Plan) (G : Data) (S : MachineState) → IsConsistent P → IsSoundState P G S → IsQuiescent P G S → HasSameMembers S.claims (ran P G) }
     ensures sends { (P : Plan) (G : Data) (S : MachineState) (i : Item) → IsConsistent P → IsSoundState P G S → IsQuiescent P G S → IsTask P (sender i) → IsTrue (is_sent S i) ↔ (IsIn i (items P (sender i)) × IsTrue (has_outputs (ended P G (sender i)))) }

@@ -1,8 +1,8 @@
-use Rattle.std.proofs.Common.{◌≡◌, ℕ, ℤ, pos, List, [], ◌∷◌, Some, None, refl, lit≤}
+use Rattle.std.proofs.Common.{ℕ, pos, List, [], ◌∷◌, Some, None, refl, lit≤}
 use Rattle.std.specs.Prelude.{replicate}
 use Rattle.coll_data.specs.declared.coll.Coll.{Coll}
 use Rattle.coll_data.specs.Data.{Data}
-use Rattle.coll_data.specs.WellMade.{elements_by_type, IsWellColl, IsWellMade}
+use Rattle.coll_data.specs.WellMade.{IsWellColl, IsWellMade}
 use Rattle.coll_data.proofs.tests.two_types.Goals as goal
 
 abbrev line : List ℕ → Coll

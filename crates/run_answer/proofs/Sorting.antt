@@ -1,0 +1,179 @@
+-- A stable sort by tasks gives the rows in task order.
+use Rattle.std.proofs.Common.{◌≡◌, ℕ, suc, ◌+◌, ◌<◌, Bool, true, false, not, cond, List, [], ◌∷◌, length, get_or, refl, ap, sym, ◌∙◌, subst, ◌⊎◌, inl, inr, arith}
+use Rattle.std.proofs.lemmas.Bool.{false≢true, and_parts, and_from}
+use Rattle.std.proofs.lemmas.List.Sorted.{answers_always, ranks_by, sorted_far}
+use Rattle.std.specs.List.{filter}
+use Rattle.std.specs.List.Sorted.{IsSortedBy, IsSortedByClosure, IsStableBy, IsStableByClosure, ties}
+use Rattle.std.specs.Fn.{Called, ComparesAs}
+use Rattle.std.specs.declared.cmp.Ordering.{Ordering}
+use denote.Param.Members.{Mut}
+use denote.Ref.{Bor}
+use Rattle.std.specs.Cmp.{IsStrictWeakOrder}
+use Rattle.std.specs.Ordering.{is_lt}
+use Rattle.ptg_base.specs.Lists.{IsIn}
+use Rattle.ptg_base.specs.Task.{Task}
+use Rattle.ptg_base.specs.TaskOrder.{in_task_order, insert_by, task_before}
+use Rattle.ptg_base.specs.TaskComparing.{task_cmp}
+use Rattle.ptg_base.specs.TaskLaws.{task_before-cmp, task_cmp-total}
+
+by_test : {P : Type 0} (b : Bool) → (b ≡ true → P) → (b ≡ false → P) → P
+by_test true on_true on_false = on_true refl
+by_test false on_true on_false = on_false refl
+
+not_true : (b : Bool) → not b ≡ true → b ≡ false
+not_true true h = absurd (false≢true h)
+not_true false h = refl
+
+module _ {A : Type 0} (key : A → Task) where
+  -- whether the task of one row is before that of another
+  abbrev pub lt : A → A → Bool
+  lt x y = task_before (key x) (key y)
+
+  pub weak_order : IsStrictWeakOrder lt
+  weak_order =
+      let as_cmp : (λ (x y : A). is_lt (task_cmp (key x) (key y))) ≡ lt = λ i x y. task_before-cmp (key x) (key y) i in
+      subst (λ (l : A → A → Bool). IsStrictWeakOrder l) as_cmp (ranks_by task_cmp-total key)
+
+  not_self : (x : A) → lt x x ≡ false
+  not_self x = by_test (lt x x) (λ h. weak_order.one_way x x h) (λ h. h)
+
+  tie_from : (x y : A) → lt x y ≡ false → lt y x ≡ false → ties lt x y ≡ true
+  tie_from x y h k = and_from (not (lt x y)) (not (lt y x)) (ap not h) (ap not k)
+
+  tie_left : (x y : A) → ties lt x y ≡ true → lt x y ≡ false
+  tie_left x y h = not_true (lt x y) ((and_parts (not (lt x y)) (not (lt y x)) h).0)
+
+  tie_right : (x y : A) → ties lt x y ≡ true → lt y x ≡ false
+  tie_right x y h = not_true (lt y x) ((and_parts (not (lt x y)) (not (lt y x)) h).1)
+
+  -- no later row is before an earlier one
+  abbrev IsUp : List A → Type 0
+  IsUp [] = Unit {0}
+  IsUp (x ∷ xs) = ((y : A) → IsIn y xs → lt y x ≡ false) × IsUp xs
+
+  past : (x y : A) (ys : List A) → lt y x ≡ true → insert_by key x (y ∷ ys) ≡ y ∷ insert_by key x ys
+  past x y ys h = ap (λ b. cond b (y ∷ insert_by key x ys) (x ∷ y ∷ ys)) h
+
+  here : (x y : A) (ys : List A) → lt y x ≡ false → insert_by key x (y ∷ ys) ≡ x ∷ y ∷ ys
+  here x y ys h = ap (λ b. cond b (y ∷ insert_by key x ys) (x ∷ y ∷ ys)) h
+
+  -- an inserted row comes after none that ties with it
+  either_way : (x y : A) (l : List A) (a b : Bool) → (a ≡ true → b ≡ true → ⊥) → cond b (y ∷ cond a (x ∷ l) l) (cond a (x ∷ l) l) ≡ cond a (x ∷ cond b (y ∷ l) l) (cond b (y ∷ l) l)
+  either_way x y l true true apart = absurd (apart refl refl)
+  either_way x y l true false apart = refl
+  either_way x y l false true apart = refl
+  either_way x y l false false apart = refl
+
+  insert_kept : (w x : A) (l : List A) → filter (ties lt w) (insert_by key x l) ≡ filter (ties lt w) (x ∷ l)
+  insert_kept w x [] = refl
+  insert_kept w x (y ∷ ys) =
+      by_test (lt y x)
+      (λ h.
+      let apart : ties lt w x ≡ true → ties lt w y ≡ true → ⊥ = λ a b. false≢true (sym (weak_order.chain y w x (tie_right w y b) (tie_left w x a)) ∙ h) in
+      ap (filter (ties lt w)) (past x y ys h) ∙ ap (λ l. cond (ties lt w y) (y ∷ l) l) (insert_kept w x ys)
+      ∙ either_way x y (filter (ties lt w) ys) (ties lt w x) (ties lt w y) apart)
+      (λ h. ap (filter (ties lt w)) (here x y ys h))
+
+  order_kept : (w : A) (xs : List A) → filter (ties lt w) (in_task_order key xs) ≡ filter (ties lt w) xs
+  order_kept w [] = refl
+  order_kept w (x ∷ xs) = insert_kept w x (in_task_order key xs) ∙ ap (λ l. cond (ties lt w x) (x ∷ l) l) (order_kept w xs)
+
+  in_insert : (w x : A) (l : List A) → IsIn w (insert_by key x l) → (w ≡ x) ⊎ IsIn w l
+  in_insert w x [] i = i
+  in_insert w x (y ∷ ys) i =
+      by_test (lt y x)
+      (λ h. elim (subst (IsIn w) (past x y ys h) i) [ inl e ↦ inr (inl e) | inr t ↦ elim (in_insert w x ys t) [ inl e ↦ inl e | inr k ↦ inr (inr k) ] ])
+      (λ h. subst (IsIn w) (here x y ys h) i)
+
+  up_insert : (x : A) (l : List A) → IsUp l → IsUp (insert_by key x l)
+  up_insert x [] up = (λ y i. absurd i, tt)
+  up_insert x (y ∷ ys) up =
+      by_test (lt y x)
+      (λ h.
+      let first : (w : A) → IsIn w (insert_by key x ys) → lt w y ≡ false = λ w i. elim (in_insert w x ys i) [ inl e ↦ subst (λ v. lt v y ≡ false) (sym e) (weak_order.one_way y x h) | inr t ↦ up.0 w t ] in
+      let all : IsUp (y ∷ insert_by key x ys) = (first, up_insert x ys up.1) in
+      subst IsUp (sym (past x y ys h)) all)
+      (λ h.
+      let first : (w : A) → IsIn w (y ∷ ys) → lt w x ≡ false = λ w i. elim i [ inl e ↦ subst (λ v. lt v x ≡ false) (sym e) h | inr t ↦ weak_order.chain w y x (up.0 w t) h ] in
+      let all : IsUp (x ∷ y ∷ ys) = (first, up) in
+      subst IsUp (sym (here x y ys h)) all)
+
+  up_order : (xs : List A) → IsUp (in_task_order key xs)
+  up_order [] = tt
+  up_order (x ∷ xs) = up_insert x (in_task_order key xs) (up_order xs)
+
+  -- the first of those that pass is one of the list
+  head_in : (p : A → Bool) (y : A) (l xs : List A) → filter p xs ≡ y ∷ l → IsIn y xs
+  head_in p y l [] e = absurd cc
+  head_in p y l (x ∷ xs) e =
+      by_test (p x)
+      (λ h. let f = sym (ap (λ b. cond b (x ∷ filter p xs) (filter p xs)) h) ∙ e in let same : y ≡ x = cc in inl same)
+      (λ h. inr (head_in p y l xs (sym (ap (λ b. cond b (x ∷ filter p xs) (filter p xs)) h) ∙ e)))
+
+  kept_first : (p : A → Bool) (x : A) (xs : List A) → p x ≡ true → filter p (x ∷ xs) ≡ x ∷ filter p xs
+  kept_first p x xs h = ap (λ b. cond b (x ∷ filter p xs) (filter p xs)) h
+
+  none_of : (x : A) (l : List A) → [] ≡ x ∷ l → ⊥
+  none_of x l e = cc
+
+  -- what is left of equal lists without their first rows
+  rest_same : (b : Bool) (x : A) (ys zs : List A) → cond b (x ∷ ys) ys ≡ cond b (x ∷ zs) zs → ys ≡ zs
+  rest_same true x ys zs e = cc
+  rest_same false x ys zs e = e
+
+  self_tie : (x : A) → ties lt x x ≡ true
+  self_tie x = tie_from x x (not_self x) (not_self x)
+
+  -- the first of a list is before no row of a sorted list with the same ties
+  not_before : (y z : A) (ys zs : List A) → IsUp (z ∷ zs) → filter (ties lt y) (y ∷ ys) ≡ filter (ties lt y) (z ∷ zs) → lt y z ≡ false
+  not_before y z ys zs up e =
+      elim (head_in (ties lt y) y (filter (ties lt y) ys) (z ∷ zs) (sym e ∙ kept_first (ties lt y) y ys (self_tie y))) [
+        | inl same ↦ subst (λ v. lt v z ≡ false) (sym same) (not_self z)
+        | inr i ↦ up.0 y i
+      ]
+
+  -- two sorted lists with the same ties are one
+  same_lists : (ys zs : List A) → IsUp ys → IsUp zs → ((w : A) → filter (ties lt w) ys ≡ filter (ties lt w) zs) → ys ≡ zs
+  same_lists [] [] up also e = refl
+  same_lists [] (z ∷ zs) up also e = absurd (none_of z (filter (ties lt z) zs) (e z ∙ kept_first (ties lt z) z zs (self_tie z)))
+  same_lists (y ∷ ys) [] up also e = absurd (none_of y (filter (ties lt y) ys) (sym (e y) ∙ kept_first (ties lt y) y ys (self_tie y)))
+  same_lists (y ∷ ys) (z ∷ zs) up also e =
+      let tie : ties lt y z ≡ true = tie_from y z (not_before y z ys zs also (e y)) (not_before z y zs ys up (sym (e z))) in
+      let heads = sym (kept_first (ties lt y) y ys (self_tie y)) ∙ e y ∙ kept_first (ties lt y) z zs tie in
+      let same : y ≡ z = cc in
+      let rest : (w : A) → filter (ties lt w) ys ≡ filter (ties lt w) zs =
+      λ w. rest_same (ties lt w y) y (filter (ties lt w) ys) (filter (ties lt w) zs) (e w ∙ ap (λ v. cond (ties lt w v) (v ∷ filter (ties lt w) zs) (filter (ties lt w) zs)) (sym same)) in
+      ap (λ v. v ∷ ys) same ∙ ap (λ l. z ∷ l) (same_lists ys zs up.1 also.1 rest)
+
+  in_at : (y : A) (xs : List A) → IsIn y xs → (k : ℕ) × (k < length xs) × ((d : A) → get_or xs k d ≡ y)
+  in_at y [] i = absurd i
+  in_at y (x ∷ xs) i = elim i [
+    | inl e ↦ (0, omega arith, λ d. sym e)
+    | inr t ↦ let p = in_at y xs t in (suc p.0, omega (arith, p.1), λ d. p.2 d)
+  ]
+
+  sorted_rest : (x : A) (xs : List A) → IsSortedBy lt (x ∷ xs) → IsSortedBy lt xs
+  sorted_rest x xs h = λ k d from to.
+      let next : suc k + 1 ≡ suc (k + 1) = omega arith in
+      subst (λ n. lt (get_or (x ∷ xs) n d) (get_or xs k d) ≡ false) next (h (suc k) d (omega arith) (omega arith))
+
+  up_from : (xs : List A) → IsSortedBy lt xs → IsUp xs
+  up_from [] h = tt
+  up_from (x ∷ xs) h =
+      let first : (y : A) → IsIn y xs → lt y x ≡ false = λ y i.
+      let p = in_at y xs i in
+      let far = sorted_far lt weak_order (x ∷ xs) h 0 (suc p.0) x (omega arith) (omega (arith, p.1)) in
+      subst (λ v. lt v x ≡ false) (p.2 x) far in
+      (first, up_from xs (sorted_rest x xs h))
+
+  -- what a stable sort by the tasks of its rows makes of a list
+  pub sorted_is : (xs ys : List A) → IsSortedBy lt ys → IsStableBy lt xs ys → ys ≡ in_task_order key xs
+  sorted_is xs ys up stable = same_lists ys (in_task_order key xs) (up_from ys up) (up_order xs) (λ w. stable w ∙ sym (order_kept w xs))
+
+  -- the same of `sort_by`, where each call of its closure compares the tasks of the two rows
+  pub sorted_from_sort_by : {F : Type 0} {g : Mut F (Bor A × (Bor A × Unit {0})) Ordering} {f : F} (xs ys : List A) → IsSortedByClosure g f ys → IsStableByClosure g f xs ys →
+      ((f : F) (a : Bor A × (Bor A × Unit {0})) (r : Ordering) (f' : F) → Called g f a r f' → r ≡ task_cmp (key a.0.now) (key a.1.0.now)) → ys ≡ in_task_order key xs
+  sorted_from_sort_by {g = g} {f = f} xs ys up stable compares =
+      let always : ComparesAs g lt f =
+      answers_always g (λ a r. is_lt r ≡ lt a.0.now a.1.0.now) f (λ f a r f' k. ap is_lt (compares f a r f' k) ∙ task_before-cmp (key a.0.now) (key a.1.0.now)) in
+      sorted_is xs ys (up lt weak_order always) (stable lt weak_order always)

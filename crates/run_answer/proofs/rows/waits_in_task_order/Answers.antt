@@ -1,0 +1,9 @@
+use Rattle.std.proofs.Common.{rules, ◌∙◌}
+use Rattle.flow_meaning.specs.declared.outcome.WaitRow.{WaitRow}
+use Rattle.run_answer.proofs.Sorting.{sorted_from_sort_by}
+use Rattle.run_answer.proofs.rows.waits_in_task_order.Goals as goal
+
+pub returns : goal.returns
+returns c =
+    c.of.ensures
+    ∙ sorted_from_sort_by (λ (r : WaitRow). r.task) c.args.waits.items c.sort_by.new.self.items c.in_ok-sort_by.ensures.sorted c.in_ok-sort_by.ensures.stable (λ f a r g h. search rules)
