@@ -1,0 +1,275 @@
+-- When a run that fits its job may go on, and that it then fits still.
+use Rattle.std.proofs.Common.{◌≡◌, ℕ, ◌+◌, ◌<◌, ◌≤◌, Bool, true, false, is_some, List, [], ◌∷◌, ◌++◌, refl, ap, sym, ◌∙◌, subst, Option, Some, None, IsTrue, ◌↔◌, nat_eq, eq-eqb, inl, inr, arith}
+use Rattle.std.proofs.lemmas.Bool.{eqb-true, false≢true}
+use Rattle.std.specs.Prelude.{unwrap_or}
+use Rattle.std.specs.List.{filter_map}
+use Rattle.std.specs.Map.{keys_of, lookup, set_value}
+use Rattle.indexmap.specs.IndexMap.{insert_entry}
+use Rattle.indexmap.proofs.MapLemmas.{absent_from_lookup, insert_entry-absent}
+use Rattle.ptg_base.specs.Lists.{IsIn}
+use Rattle.ptg_base.specs.Task.{Task}
+use Rattle.ptg_base.specs.TaskComparing.{same_task}
+use Rattle.ptg_base.specs.TaskLaws.{same_task-decides}
+use Rattle.ptg_base.specs.declared.edge.Edge.{Edge}
+use Rattle.ptg_base.specs.declared.edge.WriteBack.{WriteBack}
+use Rattle.ptg_base.specs.declared.edge.Item.{Item}
+use Rattle.ptg_base.specs.declared.edge.Item.TheVariants as item
+use Rattle.plan_core.specs.declared.plan.Plan.{Plan}
+use Rattle.coll_data.specs.Data.{Data}
+use Rattle.range_space.proofs.Stepping.{by_test}
+use Rattle.dep_iter.specs.Tasks.{IsTask, all_tasks}
+use Rattle.dep_iter.specs.Edges.{goal, in_edges}
+use Rattle.dep_iter.specs.Items.{edge_of, item_flow, items, out_edges, write_of, write_backs}
+use Rattle.dep_iter.specs.Consistent.{IsConsistent}
+use Rattle.dep_iter.proofs.Joining.{map-append}
+use Rattle.dep_iter.proofs.Listing.{length-part, listed}
+use Rattle.flow_meaning.specs.Counting.{as_number, count}
+use Rattle.flow_meaning.specs.Ending.{Ended, has_outputs, output_tile}
+use Rattle.flow_meaning.specs.Backward.{ended}
+use Rattle.flow_meaning.specs.Machine.{Claim, MayClaim, Send, Sent, arrived, end_in, sender, state_after}
+use Rattle.flow_meaning.specs.Sound.{IsSoundState}
+use Rattle.flow_meaning.proofs.Counting.{count-at_most, weigh-push}
+use Rattle.flow_meaning.proofs.Events.{ends_so, event_sound, opening_sound}
+use Rattle.flow_meaning.proofs.Arriving.{arrives}
+use Rattle.flow_core.specs.RunState.{IsRunning, RunState, end_of, machine, mark_of, opening_run, with_claim, with_end, with_send}
+use Rattle.flow_core.specs.Fits.{Fits, MaySendNow}
+use Rattle.flow_core.specs.SentItems.{IsUnsent}
+use Rattle.flow_core.specs.Arrivals.{CountsArrivals, edges_to, is_edge_to, number_at}
+use Rattle.flow_core.specs.Possible.{GoesToWaiting}
+use Rattle.flow_core.proofs.Lookups.{apart, end_push, found_key, key_count, key_found, keys_set, none_before, set_other, set_same}
+use Rattle.flow_core.proofs.Arriving.{arrived_are}
+
+pub opening_fits : (P : Plan) (G : Data) → Fits P G opening_run
+opening_fits P G = record { sound = opening_sound P G; ends = λ t end h. absurd cc }
+
+pub claim_event : (P : Plan) (G : Data) (r : RunState) (t : Task) → machine (with_claim t r) ≡ state_after P G (machine r) (Claim t)
+claim_event P G r t = λ i. record { claims = map-append (λ (c : Task × Option Ended). c.0) r.claims ((t, None) ∷ []) i; sends = r.sends }
+
+pub end_event : (r : RunState) (t : Task) (end : Ended) → machine (with_end t end r) ≡ machine r
+end_event r t end = λ i. record { claims = keys_set (same_task t) r.claims (Some end) i; sends = r.sends }
+
+has_some : (o : Option Ended) → has_outputs o ≡ true → (end : Ended) × (o ≡ Some end)
+has_some None h = absurd (false≢true h)
+has_some (Some end) h = (end, refl)
+
+-- what is known of a task that has ended
+marked : (m : Option (Option Ended)) (end : Ended) → unwrap_or m None ≡ Some end → m ≡ Some (Some end)
+marked None end h = absurd cc
+marked (Some None) end h = absurd cc
+marked (Some (Some e)) end h = ap Some h
+
+module _ (P : Plan) (G : Data) (con : IsConsistent P) (r : RunState) (fits : Fits P G r) where
+  -- a running task is one of the job
+  pub running_task : (t : Task) → IsRunning r t → IsTask P t
+  running_task t h = (fits.sound.claimed_have_all t (found_key t r.claims None h)).task
+
+  -- a task that has ended has done so on the tiles that were sent to it
+  pub end_known : (t : Task) (end : Ended) → end_of r t ≡ Some end → end_in P G (machine r) t ≡ Some end
+  end_known t end h =
+      let claimed = found_key t r.claims (Some end) (marked (mark_of r t) end h) in
+      sym (ends_so P G con (machine r) fits.sound t (fits.sound.claimed_have_all t claimed)) ∙ fits.ends t end h
+
+  -- a running task ends as it does on the tiles that were sent to it
+  pub running_end : (t : Task) → IsRunning r t → ended P G t ≡ end_in P G (machine r) t
+  running_end t h = ends_so P G con (machine r) fits.sound t (fits.sound.claimed_have_all t (found_key t r.claims None h))
+
+  -- when a task may be claimed
+  pub claimable : (t : Task) → (IsTask P t × (mark_of r t ≡ None) × (edges_to t r.sends ≡ goal P t)) ↔ MayClaim P (machine r) t
+  claimable t = (
+    λ h. record { task = h.0; unclaimed = (key_count t r.claims).0 h.1; all_arrived = arrived_are P G con (machine r) fits.sound t h.0 ∙ h.2 },
+    λ may. (may.task, (key_count t r.claims).1 may.unclaimed, sym (arrived_are P G con (machine r) fits.sound t may.task) ∙ may.all_arrived),
+  )
+
+  -- the same, where the edges that were sent to it are counted
+  pub counted : (t : Task) → IsTask P t → mark_of r t ≡ None → (sent all : ℕ) → sent ≡ edges_to t r.sends → all ≡ goal P t → IsTrue (nat_eq sent all) ↔ MayClaim P (machine r) t
+  counted t job none sent all sent_is all_is = (
+    λ k. (claimable t).0 (job, none, sym sent_is ∙ eqb-true sent all k ∙ all_is),
+    λ may. eq-eqb sent all (sent_is ∙ ((claimable t).1 may).2 ∙ sym all_is),
+  )
+
+  pub claimed_already : (t : Task) → is_some (mark_of r t) ≡ true → IsTrue false ↔ MayClaim P (machine r) t
+  claimed_already t h = (λ k. absurd (false≢true k), λ may. ap is_some (sym ((claimable t).1 may).1) ∙ h)
+
+  pub claim_fits : (t : Task) → MayClaim P (machine r) t → Fits P G (with_claim t r)
+  claim_fits t may = record {
+    sound = subst (IsSoundState P G) (sym (claim_event P G r t)) (event_sound P G con (machine r) fits.sound (Claim t) may);
+    ends = λ u end h. fits.ends u end (sym (end_push u t r.claims) ∙ h);
+  }
+
+  pub end_fits : (t : Task) (end : Ended) → IsRunning r t → ended P G t ≡ Some end → Fits P G (with_end t end r)
+  end_fits t end running meant = record {
+    sound = subst (IsSoundState P G) (sym (end_event r t end)) fits.sound;
+    ends = λ u other h.
+        by_test (same_task t u)
+        (λ k.
+        let one : t ≡ u = (same_task-decides t u).0 k in
+        let here : lookup (same_task t) (set_value (same_task t) r.claims (Some end)) ≡ Some (Some end) = set_same (same_task t) r.claims None (Some end) running in
+        let there : end_of (with_end t end r) u ≡ Some end = subst (λ v. end_of (with_end t end r) v ≡ Some end) one (ap (λ m. unwrap_or m None) here) in
+        subst (λ v. ended P G v ≡ Some other) one (meant ∙ sym there ∙ subst (λ v. end_of (with_end t end r) u ≡ Some other) one h))
+        (λ k. fits.ends u other (sym (ap (λ m. unwrap_or m None) (set_other (same_task t) (same_task u) (apart t u k) r.claims (Some end))) ∙ h));
+  }
+
+  -- when an item may be sent
+  pub sendable : (i : Item) → ((has_outputs (end_of r (sender i)) ≡ true) × IsUnsent r.sends i × IsIn i (items P (sender i))) ↔ MaySendNow P G r i
+  sendable i = (
+    λ h.
+        let e = has_some (end_of r (sender i)) h.0 in
+        record {
+          may = record {
+            unsent = h.1;
+            claimed = found_key (sender i) r.claims (Some e.0) (marked (mark_of r (sender i)) e.0 e.1);
+            is_item = h.2;
+            outputs = ap has_outputs (end_known (sender i) e.0 e.1) ∙ sym (ap has_outputs e.1) ∙ h.0;
+          };
+          done = λ running. false≢true (sym (ap (λ m. has_outputs (unwrap_or m None)) running) ∙ h.0);
+        },
+    λ now.
+        let known = key_found (sender i) r.claims now.may.claimed in
+        (ended_well i now known.0 known.1, now.may.unsent, now.may.is_item),
+  )
+    where
+      ended_well : (i : Item) → MaySendNow P G r i → (m : Option Ended) → mark_of r (sender i) ≡ Some m → has_outputs (end_of r (sender i)) ≡ true
+      ended_well i now None h = absurd (now.done h)
+      ended_well i now (Some e) h =
+          let is : end_of r (sender i) ≡ Some e = ap (λ m. unwrap_or m None) h in
+          ap has_outputs is ∙ sym (ap has_outputs (end_known (sender i) e is)) ∙ now.may.outputs
+
+  pub unsendable : (i : Item) → has_outputs (end_of r (sender i)) ≡ false → IsTrue false ↔ MaySendNow P G r i
+  unsendable i h = (λ k. absurd (false≢true k), λ now. sym h ∙ ((sendable i).1 now).0)
+
+  pub sendable_by : (i : Item) (b : Bool) → has_outputs (end_of r (sender i)) ≡ true → IsUnsent r.sends i → IsTrue b ↔ IsIn i (items P (sender i)) → IsTrue b ↔ MaySendNow P G r i
+  sendable_by i b left unsent member = (λ k. (sendable i).0 (left, unsent, member.0 k), λ now. member.1 now.may.is_item)
+
+  -- it is sent with the tile that its task left
+  pub send_event : (i : Item) → MaySendNow P G r i → machine (with_send i r) ≡ state_after P G (machine r) (Send i)
+  send_event i now =
+      let known = has_some (end_of r (sender i)) ((sendable i).1 now).0 in
+      let same : end_of r (sender i) ≡ end_in P G (machine r) (sender i) = known.1 ∙ sym (end_known (sender i) known.0 known.1) in
+      λ j. record { claims = keys_of r.claims; sends = r.sends ++ record { item = i; tile = output_tile (same j) (item_flow i) } ∷ [] }
+
+  pub send_fits : (i : Item) → MaySendNow P G r i → Fits P G (with_send i r)
+  send_fits i now = record {
+    sound = subst (IsSoundState P G) (sym (send_event i now)) (event_sound P G con (machine r) fits.sound (Send i) now.may);
+    ends = fits.ends;
+  }
+
+  -- the task of an item that may be sent
+  pub sender_task : (i : Item) → has_outputs (end_of r (sender i)) ≡ true → IsTask P (sender i)
+  sender_task i h =
+      let e = has_some (end_of r (sender i)) h in
+      (fits.sound.claimed_have_all (sender i) (found_key (sender i) r.claims (Some e.0) (marked (mark_of r (sender i)) e.0 e.1))).task
+
+-- the edges among items, and the write-backs among them
+abbrev edge_in : Edge → Item → Edge
+edge_in d (item.Edge e) = e
+edge_in d (item.Write w) = d
+
+abbrev write_in : WriteBack → Item → WriteBack
+write_in v (item.Edge e) = v
+write_in v (item.Write w) = w
+
+pub edge_among : (is : List Item) (e : Edge) → IsIn (item.Edge e) is ↔ IsIn e (filter_map edge_of is)
+edge_among [] e = (λ h. h, λ h. h)
+edge_among (item.Edge d ∷ is) e =
+    let rest = edge_among is e in (
+      λ h. elim h [ inl q ↦ inl (ap (edge_in e) q) | inr t ↦ inr (rest.0 t) ],
+      λ h. elim h [ inl q ↦ inl (ap (λ (x : Edge). item.Edge x) q) | inr t ↦ inr (rest.1 t) ],
+    )
+edge_among (item.Write w ∷ is) e =
+    let rest = edge_among is e in
+    (λ h. elim h [ inl q ↦ absurd cc | inr t ↦ rest.0 t ], λ h. inr (rest.1 h))
+
+pub write_among : (is : List Item) (w : WriteBack) → IsIn (item.Write w) is ↔ IsIn w (filter_map write_of is)
+write_among [] w = (λ h. h, λ h. h)
+write_among (item.Write v ∷ is) w =
+    let rest = write_among is w in (
+      λ h. elim h [ inl q ↦ inl (ap (write_in w) q) | inr t ↦ inr (rest.0 t) ],
+      λ h. elim h [ inl q ↦ inl (ap (λ (x : WriteBack). item.Write x) q) | inr t ↦ inr (rest.1 t) ],
+    )
+write_among (item.Edge e ∷ is) w =
+    let rest = write_among is w in
+    (λ h. elim h [ inl q ↦ absurd cc | inr t ↦ rest.0 t ], λ h. inr (rest.1 h))
+
+module _ (P : Plan) (G : Data) (con : IsConsistent P) (r : RunState) (fits : Fits P G r) (e : Edge) (now : MaySendNow P G r (item.Edge e)) where
+  -- an edge that may be sent is not yet counted at its target
+  not_full : IsTask P e.to × (edges_to e.to r.sends < goal P e.to) × (arrived P (machine r) e.to < goal P e.to)
+  not_full =
+      let job = (fits.sound.claimed_have_all e.from now.may.claimed).task in
+      let target = (con.connected e.from job).to_tasks e ((edge_among (items P e.from) e).0 now.may.is_item) in
+      let one_more = arrives P G con (machine r) fits.sound e now.may in
+      let most : arrived P (state_after P G (machine r) (Send (item.Edge e))) e.to ≤ goal P e.to = count-at_most _ (in_edges P e.to) in
+      (target, omega (arith, one_more, most, arrived_are P G con (machine r) fits.sound e.to target), omega (arith, one_more, most))
+
+  -- its target is not claimed
+  pub target_unclaimed : mark_of r e.to ≡ None
+  target_unclaimed = by (mark_of r e.to) refl
+    where
+      by : (m : Option (Option Ended)) → mark_of r e.to ≡ m → m ≡ None
+      by None h = refl
+      by (Some x) h = let full = (fits.sound.claimed_have_all e.to (found_key e.to r.claims x h)).all_arrived in absurd (omega (arith, full, not_full.2))
+
+  -- and fewer edges have come to it than a job may have
+  pub target_count : edges_to e.to r.sends < 4000000
+  target_count =
+      let part = length-part (in_edges P) (all_tasks P) e.to ((listed P e.to).0 not_full.0) in
+      omega (arith, part, con.in_edges_at_most, not_full.1)
+
+-- an item that may be sent goes to a task that waits for it, if it is an edge
+pub goes_to_waiting : (P : Plan) (G : Data) → IsConsistent P → (r : RunState) → Fits P G r → (i : Item) → MaySendNow P G r i → GoesToWaiting r i
+goes_to_waiting P G con r fits (item.Edge e) now u h =
+    let same : u ≡ e.to = (same_task-decides u e.to).0 h in
+    let few : edges_to e.to r.sends ≤ 4000000 = let k = target_count P G con r fits e now in omega arith in
+    subst (λ t. (mark_of r t ≡ None) × (edges_to t r.sends ≤ 4000000)) (sym same) (target_unclaimed P G con r fits e now, few)
+goes_to_waiting P G con r fits (item.Write w) now u h = absurd (false≢true h)
+
+-- whether an item is one of its task, by whether it is among the edges or the write-backs
+pub edge_by : (P : Plan) (i : Item) (e : Edge) (b : Bool) → i ≡ item.Edge e → IsTrue b ↔ IsIn e (out_edges P e.from) → IsTrue b ↔ IsIn i (items P (sender i))
+edge_by P i e b is h =
+    let among = edge_among (items P e.from) e in
+    subst (λ j. IsTrue b ↔ IsIn j (items P (sender j))) (sym is) (λ k. among.1 (h.0 k), λ k. h.1 (among.0 k))
+
+pub write_by : (P : Plan) (i : Item) (w : WriteBack) (left : List WriteBack) (b : Bool) → i ≡ item.Write w → left ≡ write_backs P w.from → IsTrue b ↔ IsIn w left → IsTrue b ↔ IsIn i (items P (sender i))
+write_by P i w left b is all h =
+    let among = write_among (items P w.from) w in
+    let own = subst (λ l. IsTrue b ↔ IsIn w l) all h in
+    subst (λ j. IsTrue b ↔ IsIn j (items P (sender j))) (sym is) (λ k. among.1 (own.0 k), λ k. own.1 (among.0 k))
+
+-- the counts of a table after one more item is sent
+pub counts_push : (old new : List (Task × ℕ)) (claims : List (Task × Option Ended)) (sends : List Sent) (x : Sent) → CountsArrivals old claims sends
+    → ((u : Task) → number_at new u ≡ number_at old u + as_number (is_edge_to u x.item)) → CountsArrivals new claims (sends ++ x ∷ [])
+counts_push old new claims sends x counts more u none =
+    omega (arith, more u, counts u none, weigh-push (λ (y : Sent). as_number (is_edge_to u y.item)) sends x)
+
+-- the counts of a table after a claim, where the other tasks keep their numbers
+pub counts_claim : (old new : List (Task × ℕ)) (claims : List (Task × Option Ended)) (sends : List Sent) (t : Task) → CountsArrivals old claims sends
+    → ((u : Task) → same_task u t ≡ false → lookup (same_task u) new ≡ lookup (same_task u) old) → CountsArrivals new (claims ++ (t, None) ∷ []) sends
+counts_claim old new claims sends t counts others u none =
+    let before = none_before (same_task u) claims t None none in
+    ap (λ o. unwrap_or o 0) (others u before.1) ∙ counts u before.0
+
+-- the counts of a table after a task has ended
+pub counts_end : (table : List (Task × ℕ)) (claims : List (Task × Option Ended)) (sends : List Sent) (t : Task) (end : Ended) → CountsArrivals table claims sends
+    → CountsArrivals table (set_value (same_task t) claims (Some end)) sends
+counts_end table claims sends t end counts u none =
+    let zero = (key_count u (set_value (same_task t) claims (Some end))).0 none in
+    counts u ((key_count u claims).1 (sym (ap (count (same_task u)) (keys_set (same_task t) claims (Some end))) ∙ zero))
+
+-- the claims after a new task is entered, and the run then
+pub grown : (claims new : List (Task × Option Ended)) (sends : List Sent) (r : RunState) (t key : Task) → record { claims = claims; sends = sends } ≡ r → mark_of r t ≡ None → key ≡ t
+    → new ≡ insert_entry same_task claims key None → new ≡ claims ++ (t, None) ∷ []
+grown claims new sends r t key view none same e =
+    let here : lookup (same_task key) claims ≡ None = ap (λ k. lookup (same_task k) claims) same ∙ ap (λ (s : RunState). mark_of s t) view ∙ none in
+    e ∙ insert_entry-absent same_task key None claims (absent_from_lookup (same_task key) claims here) ∙ ap (λ k. claims ++ (k, None) ∷ []) same
+
+pub entered : (claims new : List (Task × Option Ended)) (sends : List Sent) (r : RunState) (t key : Task) → record { claims = claims; sends = sends } ≡ r → mark_of r t ≡ None → key ≡ t
+    → new ≡ insert_entry same_task claims key None → record { claims = new; sends = sends } ≡ with_claim t r
+entered claims new sends r t key view none same e =
+    let now : record { claims = new; sends = sends } ≡ with_claim t (record { claims = claims; sends = sends }) = λ i. record { claims = grown claims new sends r t key view none same e i; sends = sends } in
+    now ∙ ap (with_claim t) view
+
+-- the run after a task is marked with its end
+pub ended_run : (claims new : List (Task × Option Ended)) (sends then : List Sent) (r : RunState) (t : Task) (end : Ended) → record { claims = claims; sends = sends } ≡ r → new ≡ set_value (same_task t) claims (Some end) → then ≡ sends
+    → record { claims = new; sends = then } ≡ with_end t end r
+ended_run claims new sends then r t end view e s =
+    let now : record { claims = new; sends = then } ≡ with_end t end (record { claims = claims; sends = sends }) = λ i. record { claims = e i; sends = s i } in
+    now ∙ ap (with_end t end) view

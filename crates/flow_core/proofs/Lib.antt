@@ -1,0 +1,11 @@
+pub mod Lookups
+pub mod Arriving
+pub mod Fitting
+pub mod Starting
+pub mod Kept
+pub mod Taking
+pub mod Rows
+pub mod Writes
+pub mod RunningTasks
+pub mod OneThread
+pub mod Quiet

@@ -1,0 +1,219 @@
+-- What look-ups by key find in the lists of a run.
+use Rattle.std.proofs.Common.{◌≡◌, ℕ, ◌+◌, ℤ, Bool, true, false, not, cond, is_some, List, [], ◌∷◌, ◌++◌, refl, ap, sym, ◌∙◌, subst, Option, Some, None, IsTrue, ◌↔◌, Result, Ok, Err, OnOk, inl, inr, arith}
+use Rattle.std.proofs.lemmas.Bool.{false≢true, false_from_ne_true}
+use Rattle.std.specs.Prelude.{unwrap_or}
+use Rattle.std.specs.Option.{option_flatten}
+use Rattle.std.specs.Map.{keys_of, lookup, set_value}
+use Rattle.indexmap.specs.IndexMap.{insert_entry}
+use Rattle.indexmap.proofs.MapLemmas.{absent_from_lookup, insert_entry-absent}
+use Rattle.ptg_base.specs.Lists.{IsIn}
+use Rattle.ptg_base.specs.Task.{Task}
+use Rattle.ptg_base.specs.TaskComparing.{same_task}
+use Rattle.ptg_base.specs.TaskLaws.{same_task-decides}
+use Rattle.ptg_base.specs.declared.edge.Item.{Item}
+use Rattle.range_space.proofs.Stepping.{by_test}
+use Rattle.dep_iter.proofs.Joining.{map-append}
+use Rattle.flow_meaning.specs.Counting.{as_number, count}
+use Rattle.flow_meaning.specs.Comparing.{same_item}
+use Rattle.flow_meaning.specs.Ending.{Ended}
+use Rattle.flow_meaning.specs.Machine.{Sent, first_tile}
+use Rattle.flow_meaning.proofs.Comparing.{same_item-decides}
+use Rattle.flow_core.specs.SentItems.{IsUnsent, all_sent}
+use Rattle.flow_core.specs.Arrivals.{number_at}
+
+-- what an `OnOk` says of an `Ok`
+pub on_success : {T E P : Type 0} (r : Result T E) (x : T) → r ≡ Ok x → OnOk r P → P
+on_success {T} {E} {P} r x e h = subst (λ (s : Result T E). OnOk s P) e h
+
+-- what follows where an `OnOk` holds
+pub on_ok_map : {T E A B : Type 0} (r : Result T E) → (A → B) → OnOk r A → OnOk r B
+on_ok_map (Ok x) f h = f h
+on_ok_map (Err e) f h = h
+
+pub none_of : {A : Type 0} (o : Option A) → is_some o ≡ false → o ≡ None
+none_of None h = refl
+none_of (Some x) h = absurd (false≢true (sym h))
+
+-- tests that hold of the same are the same
+same_tests : {P : Type 0} (a b : Bool) → IsTrue a ↔ P → IsTrue b ↔ P → a ≡ b
+same_tests true true f g = refl
+same_tests true false f g = sym (g.1 (f.0 refl))
+same_tests false true f g = f.1 (g.0 refl)
+same_tests false false f g = refl
+
+pub sent_push : (es : List (Item × Option (List ℤ))) (i : Item) (tile : Option (List ℤ)) → all_sent (es ++ (i, tile) ∷ []) ≡ all_sent es ++ record { item = i; tile = tile } ∷ []
+sent_push es i tile = map-append (λ (e : Item × Option (List ℤ)). record { item = e.0; tile = e.1 }) es ((i, tile) ∷ [])
+
+module _ (eq : Item → Item → Bool) (decides : (a b : Item) → IsTrue (eq a b) ↔ (a ≡ b)) where
+  same : (a b : Item) → eq a b ≡ same_item a b
+  same a b = same_tests (eq a b) (same_item a b) (decides a b) (same_item-decides a b)
+
+  -- an item is not among those that were sent exactly where a look-up finds none
+  pub unsent_lookup : (i : Item) (es : List (Item × Option (List ℤ))) → (lookup (eq i) es ≡ None) ↔ IsUnsent (all_sent es) i
+  unsent_lookup i [] = (λ _. refl, λ _. refl)
+  unsent_lookup i (e ∷ es) =
+      by_test (eq i e.0)
+      (λ k.
+      let here : as_number (same_item i e.0) ≡ 1 = ap as_number (sym (same i e.0) ∙ k) in
+      let found : lookup (eq i) (e ∷ es) ≡ Some e.1 = ap (λ b. cond b (Some e.1) (lookup (eq i) es)) k in
+      (λ none. let no : Some e.1 ≡ None = sym found ∙ none in cc, λ zero. absurd (omega (arith, zero, here))))
+      (λ k.
+      let away : as_number (same_item i e.0) ≡ 0 = ap as_number (sym (same i e.0) ∙ k) in
+      let next : lookup (eq i) (e ∷ es) ≡ lookup (eq i) es = ap (λ b. cond b (Some e.1) (lookup (eq i) es)) k in
+      let rest = unsent_lookup i es in
+      (λ none. omega (arith, away, rest.0 (sym next ∙ none)), λ zero. next ∙ rest.1 (omega (arith, away, zero))))
+
+  -- the tile that a look-up finds is the one that was sent first with the item
+  pub tile_lookup : (i : Item) (es : List (Item × Option (List ℤ))) → option_flatten (lookup (eq i) es) ≡ first_tile i (all_sent es)
+  tile_lookup i [] = refl
+  tile_lookup i (e ∷ es) =
+      by_test (eq i e.0)
+      (λ k. ap (λ b. option_flatten (cond b (Some e.1) (lookup (eq i) es))) k ∙ sym (ap (λ b. cond b e.1 (first_tile i (all_sent es))) (sym (same i e.0) ∙ k)))
+      (λ k. ap (λ b. option_flatten (cond b (Some e.1) (lookup (eq i) es))) k ∙ tile_lookup i es ∙ sym (ap (λ b. cond b e.1 (first_tile i (all_sent es))) (sym (same i e.0) ∙ k)))
+
+  -- the same, for items that are seen as this list
+  pub unsent_by : (es : List (Item × Option (List ℤ))) (sends : List Sent) (i : Item) (b : Bool) → all_sent es ≡ sends → b ≡ is_some (lookup (eq i) es) → IsTrue (not b) ↔ IsUnsent sends i
+  unsent_by es sends i b view e = subst (λ l. IsTrue (not b) ↔ IsUnsent l i) view (by (lookup (eq i) es) refl)
+    where
+      by : (o : Option (Option (List ℤ))) → lookup (eq i) es ≡ o → IsTrue (not b) ↔ IsUnsent (all_sent es) i
+      by None h = (λ _. (unsent_lookup i es).0 h, λ _. ap not (e ∙ ap is_some h))
+      by (Some x) h = (λ k. absurd (false≢true (sym (ap not (e ∙ ap is_some h)) ∙ k)), λ u. let no : Some x ≡ None = sym h ∙ (unsent_lookup i es).1 u in cc)
+
+  pub tile_by : (es : List (Item × Option (List ℤ))) (sends : List Sent) (i : Item) (o : Option (Option (List ℤ))) → all_sent es ≡ sends → o ≡ lookup (eq i) es → option_flatten o ≡ first_tile i sends
+  tile_by es sends i o view h = ap option_flatten h ∙ tile_lookup i es ∙ ap (first_tile i) view
+
+  pub add_by : (es fs : List (Item × Option (List ℤ))) (sends : List Sent) (i : Item) (tile : Option (List ℤ)) → all_sent es ≡ sends → IsUnsent sends i
+      → fs ≡ insert_entry eq es i tile → all_sent fs ≡ sends ++ record { item = i; tile = tile } ∷ []
+  add_by es fs sends i tile view unsent e =
+      let none = (unsent_lookup i es).1 (subst (λ l. IsUnsent l i) (sym view) unsent) in
+      ap all_sent (e ∙ insert_entry-absent eq i tile es (absent_from_lookup (eq i) es none)) ∙ sent_push es i tile ∙ ap (λ l. l ++ record { item = i; tile = tile } ∷ []) view
+
+module _ {X : Type 0} where
+  -- a task is among the keys, or a look-up finds none
+  pub key_count : (t : Task) (es : List (Task × X)) → (lookup (same_task t) es ≡ None) ↔ (count (same_task t) (keys_of es) ≡ 0)
+  key_count t [] = (λ _. refl, λ _. refl)
+  key_count t (e ∷ es) =
+      by_test (same_task t e.0)
+      (λ k.
+      let found : lookup (same_task t) (e ∷ es) ≡ Some e.1 = ap (λ b. cond b (Some e.1) (lookup (same_task t) es)) k in
+      (λ none. let no : Some e.1 ≡ None = sym found ∙ none in cc, λ zero. absurd (omega (arith, zero, ap as_number k))))
+      (λ k.
+      let next : lookup (same_task t) (e ∷ es) ≡ lookup (same_task t) es = ap (λ b. cond b (Some e.1) (lookup (same_task t) es)) k in
+      let rest = key_count t es in
+      (λ none. omega (arith, ap as_number k, rest.0 (sym next ∙ none)), λ zero. next ∙ rest.1 (omega (arith, ap as_number k, zero))))
+
+  -- a task that a look-up finds is among the keys
+  pub found_key : (t : Task) (es : List (Task × X)) (x : X) → lookup (same_task t) es ≡ Some x → IsIn t (keys_of es)
+  found_key t [] x h = absurd cc
+  found_key t (e ∷ es) x h =
+      by_test (same_task t e.0)
+      (λ k. inl ((same_task-decides t e.0).0 k))
+      (λ k. inr (found_key t es x (sym (ap (λ b. cond b (Some e.1) (lookup (same_task t) es)) k) ∙ h)))
+
+  -- and a look-up finds each key
+  pub key_found : (t : Task) (es : List (Task × X)) → IsIn t (keys_of es) → (x : X) × (lookup (same_task t) es ≡ Some x)
+  key_found t [] i = absurd i
+  key_found t (e ∷ es) i =
+      by_test (same_task t e.0)
+      (λ k. (e.1, ap (λ b. cond b (Some e.1) (lookup (same_task t) es)) k))
+      (λ k. elim i [
+        | inl q ↦ absurd (false≢true (sym k ∙ (same_task-decides t e.0).1 q))
+        | inr later ↦ let p = key_found t es later in (p.0, ap (λ b. cond b (Some e.1) (lookup (same_task t) es)) k ∙ p.1)
+      ])
+
+  -- a look-up in a list with one more entry
+  pub lookup_push : (test : Task → Bool) (es : List (Task × X)) (t : Task) (x : X) → lookup test es ≡ None → lookup test (es ++ (t, x) ∷ []) ≡ cond (test t) (Some x) None
+  lookup_push test [] t x none = refl
+  lookup_push test (e ∷ es) t x none =
+      by_test (test e.0)
+      (λ k. let no : Some e.1 ≡ None = sym (ap (λ b. cond b (Some e.1) (lookup test es)) k) ∙ none in cc)
+      (λ k. ap (λ b. cond b (Some e.1) (lookup test (es ++ (t, x) ∷ []))) k ∙ lookup_push test es t x (sym (ap (λ b. cond b (Some e.1) (lookup test es)) k) ∙ none))
+
+  -- where a look-up finds nothing in the longer list, it found nothing before
+  pub none_before : (test : Task → Bool) (es : List (Task × X)) (t : Task) (x : X) → lookup test (es ++ (t, x) ∷ []) ≡ None → (lookup test es ≡ None) × (test t ≡ false)
+  none_before test [] t x none = (refl, by_test (test t) (λ k. let no : Some x ≡ None = sym (ap (λ b. cond b (Some x) None) k) ∙ none in cc) (λ k. k))
+  none_before test (e ∷ es) t x none =
+      by_test (test e.0)
+      (λ k. let no : Some e.1 ≡ None = sym (ap (λ b. cond b (Some e.1) (lookup test (es ++ (t, x) ∷ []))) k) ∙ none in cc)
+      (λ k.
+      let p = none_before test es t x (sym (ap (λ b. cond b (Some e.1) (lookup test (es ++ (t, x) ∷ []))) k) ∙ none) in
+      (ap (λ b. cond b (Some e.1) (lookup test es)) k ∙ p.0, p.1))
+
+  -- a write by key leaves the keys
+  pub keys_set : (test : Task → Bool) (es : List (Task × X)) (x : X) → keys_of (set_value test es x) ≡ keys_of es
+  keys_set test [] x = refl
+  keys_set test (e ∷ es) x =
+      by_test (test e.0)
+      (λ k. ap (λ b. keys_of (cond b ((e.0, x) ∷ es) (e ∷ set_value test es x))) k)
+      (λ k. ap (λ b. keys_of (cond b ((e.0, x) ∷ es) (e ∷ set_value test es x))) k ∙ ap (λ l. e.0 ∷ l) (keys_set test es x))
+
+  -- what a look-up finds after a write by another key
+  pub set_other : (test other : Task → Bool) → ((k : Task) → test k ≡ true → other k ≡ false) → (es : List (Task × X)) (x : X) → lookup other (set_value test es x) ≡ lookup other es
+  set_other test other apart [] x = refl
+  set_other test other apart (e ∷ es) x =
+      by_test (test e.0)
+      (λ k.
+      let none = apart e.0 k in
+      ap (λ b. lookup other (cond b ((e.0, x) ∷ es) (e ∷ set_value test es x))) k ∙ ap (λ b. cond b (Some x) (lookup other es)) none ∙ sym (ap (λ b. cond b (Some e.1) (lookup other es)) none))
+      (λ k. ap (λ b. lookup other (cond b ((e.0, x) ∷ es) (e ∷ set_value test es x))) k ∙ ap (λ o. cond (other e.0) (Some e.1) o) (set_other test other apart es x))
+
+  -- what a look-up finds after a write by its own key
+  pub set_same : (test : Task → Bool) (es : List (Task × X)) (old x : X) → lookup test es ≡ Some old → lookup test (set_value test es x) ≡ Some x
+  set_same test [] old x h = absurd cc
+  set_same test (e ∷ es) old x h =
+      by_test (test e.0)
+      (λ k. ap (λ b. lookup test (cond b ((e.0, x) ∷ es) (e ∷ set_value test es x))) k ∙ ap (λ b. cond b (Some x) (lookup test es)) k)
+      (λ k.
+      let rest = set_same test es old x (sym (ap (λ b. cond b (Some e.1) (lookup test es)) k) ∙ h) in
+      ap (λ b. lookup test (cond b ((e.0, x) ∷ es) (e ∷ set_value test es x))) k ∙ ap (λ b. cond b (Some e.1) (lookup test (set_value test es x))) k ∙ rest)
+
+abbrev no_end : Option Ended
+no_end = None
+
+-- a task that was just claimed has not ended, and the others are as they were
+pub end_push : (u t : Task) (es : List (Task × Option Ended)) → unwrap_or (lookup (same_task u) (es ++ (t, None) ∷ [])) None ≡ unwrap_or (lookup (same_task u) es) None
+end_push u t [] = by (same_task u t)
+  where
+    by : (b : Bool) → unwrap_or (cond b (Some no_end) None) no_end ≡ no_end
+    by true = refl
+    by false = refl
+end_push u t (e ∷ es) =
+    by_test (same_task u e.0)
+    (λ k. ap (λ b. unwrap_or (cond b (Some e.1) (lookup (same_task u) (es ++ (t, None) ∷ []))) None) k ∙ sym (ap (λ b. unwrap_or (cond b (Some e.1) (lookup (same_task u) es)) None) k))
+    (λ k. ap (λ b. unwrap_or (cond b (Some e.1) (lookup (same_task u) (es ++ (t, None) ∷ []))) None) k ∙ end_push u t es ∙ sym (ap (λ b. unwrap_or (cond b (Some e.1) (lookup (same_task u) es)) None) k))
+
+-- two different tasks pass no test of sameness together
+pub apart : (t u : Task) → same_task t u ≡ false → (k : Task) → same_task t k ≡ true → same_task u k ≡ false
+apart t u h k e =
+    false_from_ne_true (same_task u k) (λ q.
+    let one : t ≡ u = (same_task-decides t k).0 e ∙ sym ((same_task-decides u k).0 q) in
+    false≢true (sym h ∙ (same_task-decides t u).1 one))
+
+-- the numbers of a table after one is added to that of a task
+pub added : (old new : List (Task × ℕ)) (t key u : Task) (n : ℕ) → key ≡ t → n ≡ number_at old t → lookup (same_task u) new ≡ cond (same_task key u) (Some (n + 1)) (lookup (same_task u) old)
+    → number_at new u ≡ number_at old u + as_number (same_task u t)
+added old new t key u n same is up =
+    by_test (same_task u t)
+    (λ q.
+    let one : u ≡ t = (same_task-decides u t).0 q in
+    let hit : same_task key u ≡ true = (same_task-decides key u).1 (same ∙ sym one) in
+    let value : number_at new u ≡ n + 1 = ap (λ o. unwrap_or o 0) (up ∙ ap (λ b. cond b (Some (n + 1)) (lookup (same_task u) old)) hit) in
+    omega (arith, value, is, ap (number_at old) one, ap as_number q))
+    (λ q.
+    let miss : same_task key u ≡ false = false_from_ne_true (same_task key u) (λ h. false≢true (sym q ∙ (same_task-decides u t).1 (sym ((same_task-decides key u).0 h) ∙ same))) in
+    let value : number_at new u ≡ number_at old u = ap (λ o. unwrap_or o 0) (up ∙ ap (λ b. cond b (Some (n + 1)) (lookup (same_task u) old)) miss) in
+    omega (arith, value, ap as_number q))
+
+-- a write-back at the head of a list, and one behind it
+pub listed_first : {A : Type 0} (w other : A) (left rest : List A) → left ≡ other ∷ rest → other ≡ w → IsTrue true ↔ IsIn w left
+listed_first w other left rest e same = (λ _. subst (IsIn w) (sym e) (inl (sym same)), λ _. refl)
+
+pub listed_later : {A : Type 0} (b : Bool) (w other : A) (left rest : List A) → left ≡ other ∷ rest → (other ≡ w → ⊥) → IsTrue b ↔ IsIn w rest → IsTrue b ↔ IsIn w left
+listed_later b w other left rest e differs later = (
+  λ k. subst (IsIn w) (sym e) (inr (later.0 k)),
+  λ i. elim (subst (IsIn w) e i) [ inl q ↦ absurd (differs (sym q)) | inr t ↦ later.1 t ],
+)
+
+-- tasks are as different one way round as the other
+pub turned : (t u : Task) → same_task t u ≡ false → same_task u t ≡ false
+turned t u h = false_from_ne_true (same_task u t) (λ k. false≢true (sym h ∙ (same_task-decides t u).1 (sym ((same_task-decides u t).0 k))))

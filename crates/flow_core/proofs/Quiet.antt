@@ -1,0 +1,184 @@
+-- Searches for what may happen next, and what follows where nothing is found.
+use Rattle.std.proofs.Common.{◌≡◌, ℕ, suc, ◌<◌, ◌≤◌, Bool, true, false, not, cond, List, [], ◌∷◌, ◌++◌, drop, length, map, slice_get, refl, ap, sym, ◌∙◌, subst, Option, Some, None, Ok, Err, IsTrue, ◌↔◌, inl, inr, arith}
+use Rattle.std.proofs.lemmas.Bool.{false≢true}
+use Rattle.std.proofs.lemmas.List.{drop_all}
+use Rattle.std.specs.Prelude.{unwrap_or}
+use Rattle.std.specs.Map.{keys_of, lookup}
+use Rattle.ptg_base.specs.Lists.{IsIn}
+use Rattle.ptg_base.specs.Task.{Task}
+use Rattle.ptg_base.specs.TaskComparing.{same_task}
+use Rattle.ptg_base.specs.TaskLaws.{same_task-decides}
+use Rattle.ptg_base.specs.declared.edge.Edge.{Edge}
+use Rattle.ptg_base.specs.declared.edge.WriteBack.{WriteBack}
+use Rattle.ptg_base.specs.declared.edge.Item.{Item}
+use Rattle.ptg_base.specs.declared.edge.Item.TheVariants as item
+use Rattle.term_core.specs.declared.space.ClassSpace.{ClassSpace}
+use Rattle.plan_core.specs.declared.plan.Plan.{Plan}
+use Rattle.coll_data.specs.Data.{Data}
+use Rattle.range_space.specs.Tasks.{tasks}
+use Rattle.range_space.proofs.MemberLists.{IsIn-append_left, IsIn-append_right, IsIn-map, from_append, from_map}
+use Rattle.range_space.proofs.Stepping.{by_test}
+use Rattle.dep_iter.specs.Tasks.{IsTask, all_tasks, task, tasks_from}
+use Rattle.dep_iter.specs.Items.{items, out_edges, write_backs}
+use Rattle.dep_iter.specs.Consistent.{IsConsistent}
+use Rattle.dep_iter.proofs.Listing.{listed}
+use Rattle.flow_meaning.specs.Counting.{as_number, count}
+use Rattle.flow_meaning.specs.Ending.{Ended, has_outputs}
+use Rattle.flow_meaning.specs.Machine.{Claim, IsQuiescent, MayClaim, Send, Sent, is_sent, sender}
+use Rattle.flow_meaning.specs.Sound.{IsFinished}
+use Rattle.flow_meaning.proofs.Counting.{count-some}
+use Rattle.flow_meaning.proofs.Events.{unsent}
+use Rattle.flow_meaning.proofs.Rest.{item_sender, rests}
+use Rattle.flow_core.specs.RunState.{IsRunning, RunState, end_of, machine}
+use Rattle.flow_core.specs.Fits.{Fits}
+use Rattle.flow_core.specs.SentItems.{IsUnsent}
+use Rattle.flow_core.specs.Quiet.{HasOne, Owes}
+use Rattle.flow_core.proofs.Lookups.{key_found}
+use Rattle.flow_core.proofs.Fitting.{edge_among, sendable, write_among}
+use Rattle.flow_core.proofs.OneThread.{at_least_one, drop_at}
+
+-- how far a search has come: what is left is part of all, and if one of all is so, one of what is left is
+pub record IsSearched {A : Type 0} (Q : A → Type 0) (all left : List A) : Type 0 where
+  pub among : (x : A) → IsIn x left → IsIn x all
+  pub later : HasOne Q all → HasOne Q left
+
+module _ {A : Type 0} (Q : A → Type 0) where
+  pub search_begins : (all : List A) → IsSearched Q all all
+  search_begins all = record { among = λ x i. i; later = λ h. h }
+
+  pub search_goes_on : (all left : List A) (x : A) → IsSearched Q all (x ∷ left) → (Q x → ⊥) → IsSearched Q all left
+  search_goes_on all left x s not = record {
+    among = λ y i. s.among y (inr i);
+    later = λ h. let p = s.later h in elim (p.1) [ inl e ↦ absurd (not (subst Q e p.2)) | inr i ↦ (p.0, i, p.2) ];
+  }
+
+  pub search_finds : (all left : List A) (x : A) → IsSearched Q all (x ∷ left) → Q x → IsTrue true ↔ HasOne Q all
+  search_finds all left x s q = (λ h. (x, s.among x (inl refl), q), λ h. refl)
+
+  pub search_ends : (all : List A) → IsSearched Q all [] → IsTrue false ↔ HasOne Q all
+  search_ends all s = (λ h. absurd (false≢true h), λ h. absurd ((s.later h).1))
+
+  -- one of two lists
+  pub one_left : (xs ys : List A) → HasOne Q xs → IsTrue true ↔ HasOne Q (xs ++ ys)
+  one_left xs ys h = (λ k. (h.0, IsIn-append_left h.0 xs ys h.1, h.2), λ k. refl)
+
+  pub one_right : (xs ys : List A) (b : Bool) → (HasOne Q xs → ⊥) → IsTrue b ↔ HasOne Q ys → IsTrue b ↔ HasOne Q (xs ++ ys)
+  one_right xs ys b not exact = (
+    λ k. let p = exact.0 k in (p.0, IsIn-append_right p.0 xs ys p.1, p.2),
+    λ h. elim (from_append h.0 xs ys h.1) [ inl i ↦ absurd (not (h.0, i, h.2)) | inr i ↦ exact.1 (h.0, i, h.2) ],
+  )
+
+pub mapped : {A B : Type 0} (Q : B → Type 0) (f : A → B) (xs : List A) → HasOne (λ x. Q (f x)) xs ↔ HasOne Q (map f xs)
+mapped Q f xs = (
+  λ h. (f h.0, IsIn-map f xs h.0 h.1, h.2),
+  λ h. let p = from_map f xs h.0 h.1 in (p.0, p.1, subst Q p.2 h.2),
+)
+
+-- the tasks of a class, and those of the classes after it
+module _ (P : Plan) (Q : Task → Type 0) (class : ℕ) (ss : List ClassSpace) (e : drop class P.spaces ≡ ss) where
+  pub class_found : class < length P.spaces → ((s : ClassSpace) → slice_get P.spaces class ≡ Some s → IsTrue true ↔ HasOne (λ params. Q (task class params)) (tasks s)) → IsTrue true ↔ HasOne Q (tasks_from class ss)
+  class_found lt here =
+      let found = at_least_one P.spaces class lt in
+      let split : found.0 ∷ drop (suc class) P.spaces ≡ ss = sym (drop_at P.spaces class found.0 found.1) ∙ e in
+      let one = (mapped Q (task class) (tasks found.0)).0 ((here found.0 found.1).0 refl) in
+      subst (λ l. IsTrue true ↔ HasOne Q (tasks_from class l)) split (one_left Q (map (task class) (tasks found.0)) (tasks_from (suc class) (drop (suc class) P.spaces)) one)
+
+  pub class_passed : class < length P.spaces → ((s : ClassSpace) → slice_get P.spaces class ≡ Some s → IsTrue false ↔ HasOne (λ params. Q (task class params)) (tasks s)) →
+      (b : Bool) → ((rest : List ClassSpace) → drop (suc class) P.spaces ≡ rest → IsTrue b ↔ HasOne Q (tasks_from (suc class) rest)) → IsTrue b ↔ HasOne Q (tasks_from class ss)
+  class_passed lt here b later =
+      let found = at_least_one P.spaces class lt in
+      let split : found.0 ∷ drop (suc class) P.spaces ≡ ss = sym (drop_at P.spaces class found.0 found.1) ∙ e in
+      let not : HasOne Q (map (task class) (tasks found.0)) → ⊥ = λ h. false≢true ((here found.0 found.1).1 ((mapped Q (task class) (tasks found.0)).1 h)) in
+      subst (λ l. IsTrue b ↔ HasOne Q (tasks_from class l)) split
+      (one_right Q (map (task class) (tasks found.0)) (tasks_from (suc class) (drop (suc class) P.spaces)) b not (later (drop (suc class) P.spaces) refl))
+
+  pub none_left : length P.spaces ≤ class → IsTrue false ↔ HasOne Q (tasks_from class ss)
+  none_left ge = subst (λ l. IsTrue false ↔ HasOne Q (tasks_from class l)) (sym (drop_all class P.spaces ge) ∙ e) (λ h. absurd (false≢true h), λ h. absurd (h.1))
+
+-- an item of a task is unsent exactly if an edge or a write-back is
+module _ (P : Plan) (sends : List Sent) (t : Task) (end : Option Ended) where
+  pub no_outputs : has_outputs end ≡ false → IsTrue false ↔ Owes P sends (t, end)
+  no_outputs h = (λ k. absurd (false≢true k), λ o. absurd (false≢true (sym h ∙ o.0)))
+
+  pub edge_owed : has_outputs end ≡ true → HasOne (λ (e : Edge). IsUnsent sends (item.Edge e)) (out_edges P t) → IsTrue true ↔ Owes P sends (t, end)
+  edge_owed h one = (λ k. (h, (item.Edge one.0, (edge_among (items P t) one.0).1 one.1, one.2)), λ o. refl)
+
+  pub write_owed : has_outputs end ≡ true → (HasOne (λ (e : Edge). IsUnsent sends (item.Edge e)) (out_edges P t) → ⊥) → (b : Bool) → IsTrue b ↔ HasOne (λ (w : WriteBack). IsUnsent sends (item.Write w)) (write_backs P t) → IsTrue b ↔ Owes P sends (t, end)
+  write_owed h none b exact = (
+    λ k. let one = exact.0 k in (h, (item.Write one.0, (write_among (items P t) one.0).1 one.1, one.2)),
+    λ o. exact.1 (the_write o.1.0 o.1.1 o.1.2),
+  )
+    where
+      the_write : (i : Item) → IsIn i (items P t) → IsUnsent sends i → HasOne (λ (w : WriteBack). IsUnsent sends (item.Write w)) (write_backs P t)
+      the_write (item.Edge e) mine un = absurd (none (e, (edge_among (items P t) e).0 mine, un))
+      the_write (item.Write w) mine un = (w, (write_among (items P t) w).0 mine, un)
+
+-- an entry is found by its key, and a key that is there once finds its entry
+found_entry : (cs : List (Task × Option Ended)) (t : Task) (x : Option Ended) → lookup (same_task t) cs ≡ Some x → IsIn (t, x) cs
+found_entry [] t x h = absurd cc
+found_entry ((s, y) ∷ cs) t x h =
+    by_test (same_task t s)
+    (λ k.
+    let same : t ≡ s = (same_task-decides t s).0 k in
+    let value : Some y ≡ Some x = sym (ap (λ b. cond b (Some y) (lookup (same_task t) cs)) k) ∙ h in
+    let is : y ≡ x = cc in
+    inl (λ i. (same i, sym is i)))
+    (λ k. inr (found_entry cs t x (sym (ap (λ b. cond b (Some y) (lookup (same_task t) cs)) k) ∙ h)))
+
+entry_key : (cs : List (Task × Option Ended)) (c : Task × Option Ended) → IsIn c cs → IsIn c.0 (keys_of cs)
+entry_key [] c i = i
+entry_key (d ∷ cs) c i = elim i [ inl e ↦ inl (ap (λ (x : Task × Option Ended). x.0) e) | inr j ↦ inr (entry_key cs c j) ]
+
+entry_found : (cs : List (Task × Option Ended)) (c : Task × Option Ended) → ((t : Task) → count (same_task t) (keys_of cs) ≤ 1) → IsIn c cs → lookup (same_task c.0) cs ≡ Some c.1
+entry_found [] c once i = absurd i
+entry_found (d ∷ cs) c once i = elim i [
+  | inl e ↦
+      let k : same_task c.0 d.0 ≡ true = (same_task-decides c.0 d.0).1 (ap (λ (x : Task × Option Ended). x.0) e) in
+      ap (λ b. cond b (Some d.1) (lookup (same_task c.0) cs)) k ∙ ap (λ (x : Task × Option Ended). Some x.1) (sym e)
+  | inr j ↦
+      by_test (same_task c.0 d.0)
+      (λ k.
+      let more = count-some (same_task c.0) (keys_of cs) c.0 (entry_key cs c j) ((same_task-decides c.0 c.0).1 refl) in
+      let most = once c.0 in
+      absurd (omega (arith, ap as_number k)))
+      (λ k.
+      let fewer : (t : Task) → count (same_task t) (keys_of cs) ≤ 1 = λ t. let most = once t in omega arith in
+      ap (λ b. cond b (Some d.1) (lookup (same_task c.0) cs)) k ∙ entry_found cs c fewer j)
+]
+
+module _ (P : Plan) (G : Data) (con : IsConsistent P) (r : RunState) (fits : Fits P G r) (idle : (t : Task) → IsRunning r t → ⊥) where
+  -- where a task may be claimed, a claim is possible
+  pub not_quiet_ready : HasOne (MayClaim P (machine r)) (all_tasks P) → IsTrue false ↔ IsQuiescent P G (machine r)
+  not_quiet_ready one = (λ h. absurd (false≢true h), λ quiet. absurd (quiet (Claim one.0) one.2))
+
+  -- where an item is owed, a send is possible
+  owed_possible : HasOne (Owes P r.sends) r.claims → IsQuiescent P G (machine r) → ⊥
+  owed_possible one quiet =
+      let c = one.0 in
+      let i = one.2.1.0 in
+      let mine = one.2.1.1 in
+      let from : sender one.2.1.0 ≡ one.0.0 = item_sender P one.0.0 one.2.1.0 mine in
+      let end : end_of r one.0.0 ≡ one.0.1 = ap (λ m. unwrap_or m None) (entry_found r.claims one.0 fits.sound.claimed_once one.1) in
+      let outputs : has_outputs (end_of r (sender one.2.1.0)) ≡ true = ap (λ u. has_outputs (end_of r u)) from ∙ ap has_outputs end ∙ one.2.0 in
+      quiet (Send one.2.1.0) ((sendable P G con r fits one.2.1.0).0 (outputs, one.2.1.2, subst (λ u. IsIn one.2.1.0 (items P u)) (sym from) mine)).may
+
+  -- where neither is so, nothing is possible
+  all_quiet : (HasOne (MayClaim P (machine r)) (all_tasks P) → ⊥) → (HasOne (Owes P r.sends) r.claims → ⊥) → IsQuiescent P G (machine r)
+  all_quiet none_ready none_owed =
+      (rests P G con (machine r) fits.sound).1 (record {
+        none_ready = λ t m. none_ready (t, (listed P t).0 m.task, m);
+        all_finished = λ t i. let k = key_found t r.claims i in finished t k.0 k.1;
+      })
+    where
+      finished : (t : Task) (m : Option Ended) → lookup (same_task t) r.claims ≡ Some m → IsFinished P G (machine r) t
+      finished t None h = absurd (idle t h)
+      finished t (Some (Err cause)) h = inl (ap has_outputs (fits.ends t (Err cause) (ap (λ m. unwrap_or m None) h)))
+      finished t (Some (Ok tiles)) h = inr (λ i mine. by_test (is_sent (machine r) i) (λ s. s) (λ s. absurd (none_owed ((t, Some (Ok tiles)), found_entry r.claims t (Some (Ok tiles)) h, (refl, (i, mine, unsent (machine r) i s))))))
+
+  pub quiet_by : (b : Bool) → (HasOne (MayClaim P (machine r)) (all_tasks P) → ⊥) → IsTrue b ↔ HasOne (Owes P r.sends) r.claims → IsTrue (not b) ↔ IsQuiescent P G (machine r)
+  quiet_by true none_ready exact = (λ h. absurd (false≢true h), λ quiet. absurd (owed_possible (exact.0 refl) quiet))
+  quiet_by false none_ready exact = (λ h. all_quiet none_ready (λ one. false≢true (exact.1 one)), λ quiet. refl)
+
+-- a claimed task is one of the job
+pub entry_task : (P : Plan) (G : Data) (r : RunState) → Fits P G r → (c : Task × Option Ended) → IsIn c r.claims → IsTask P c.0
+entry_task P G r fits c i = (fits.sound.claimed_have_all c.0 (entry_key r.claims c i)).task

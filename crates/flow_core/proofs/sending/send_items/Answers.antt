@@ -1,0 +1,15 @@
+use Rattle.flow_core.proofs.OneThread.{done_then, done_with_these, items_parts, on_ok_then}
+use Rattle.flow_core.proofs.sending.send_items.Goals as goal
+
+pub send_writes-requires : goal.send_writes-requires
+send_writes-requires c = record {
+  task = c.requires.task;
+  fits = (c.requires.fits.0, c.in_ok-send_edges.ensures.done.fits c.requires.fits.0 c.requires.fits.1);
+  running = c.in_ok-send_edges.ensures.running;
+}
+
+pub returns-clause-done : goal.returns-clause-done
+returns-clause-done c =
+    on_ok_then c.send_writes.result
+    (λ d. done_with_these c.args.m.now _ _ _ c.args.runner.now.run c.send_writes.new.runner.run (items_parts c.args.m.now c.args.t.now)
+    (done_then c.args.m.now _ _ _ _ c.args.runner.now.run c.send_edges.new.runner.run c.send_writes.new.runner.run c.in_ok-send_edges.ensures.done d)) c.send_writes.ensures.done

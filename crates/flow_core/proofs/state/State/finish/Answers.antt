@@ -1,0 +1,90 @@
+use Rattle.std.proofs.Common.{◌≡◌, [], length, refl, ap, sym, subst, ◌∙◌, None, Some}
+use Rattle.std.specs.Map.{lookup, set_value}
+use Rattle.ptg_base.specs.TaskComparing.{same_task}
+use Rattle.ptg_base.specs.declared.edge.Edge.{Edge}
+use Rattle.ptg_base.specs.declared.edge.Item.TheVariants as item
+use Rattle.dep_iter.specs.Tasks.{IsTask, flows_of}
+use Rattle.flow_meaning.specs.Backward.{ended}
+use Rattle.flow_meaning.specs.Machine.{first_tile}
+use Rattle.flow_meaning.specs.Starting.{starting_tiles}
+use Rattle.flow_core.specs.Arrivals.{edges_to}
+use Rattle.flow_core.specs.Fits.{Fits}
+use Rattle.flow_core.specs.Inputs.{delivered_by, nothing_delivered}
+use Rattle.flow_core.specs.Kept.{AreKept}
+use Rattle.flow_core.specs.RunState.{RunState, mark_of}
+use Rattle.flow_core.proofs.Fitting.{counts_end, end_fits, ended_run, running_end, running_task}
+use Rattle.flow_core.proofs.Kept.{kept_end, kept_tile, unread}
+use Rattle.flow_core.proofs.Starting.{length-starting_tiles, ran}
+use Rattle.flow_core.proofs.state.State.finish.Goals as goal
+
+pub own_tiles-requires : goal.own_tiles-requires
+own_tiles-requires c =
+    subst (λ P. IsTask P c.args.t.now) (sym c.plan-plan.ensures.same)
+    (running_task c.args.m.now c.args.given.now c.plan-plan.ensures.consistent c.args.self.now c.requires.fits c.args.t.now c.requires.running)
+
+pub take_tiles-requires-clause-task : goal.take_tiles-requires-clause-task
+take_tiles-requires-clause-task c =
+    subst (λ P. IsTask P c.args.t.now) (sym c.plan-plan.ensures.same)
+    (running_task c.args.m.now c.args.given.now c.plan-plan.ensures.consistent c.args.self.now c.requires.fits c.args.t.now c.requires.running)
+
+pub take_tiles-requires-clause-places : goal.take_tiles-requires-clause-places
+take_tiles-requires-clause-places c = ap length c.in_ok-tiles.ensures ∙ length-starting_tiles c.plan-plan.result.now c.args.given.now nothing_delivered c.args.t.now
+
+pub run_task-end-requires-clause-task : goal.run_task-end-requires-clause-task
+run_task-end-requires-clause-task c =
+    subst (λ P. IsTask P c.args.t.now) (sym c.plan-plan.ensures.same)
+    (running_task c.args.m.now c.args.given.now c.plan-plan.ensures.consistent c.args.self.now c.requires.fits c.args.t.now c.requires.running)
+
+pub run_task-end-requires-clause-flows : goal.run_task-end-requires-clause-flows
+run_task-end-requires-clause-flows c = c.take_tiles.ensures.places ∙ ap length c.in_ok-tiles.ensures ∙ length-starting_tiles c.plan-plan.result.now c.args.given.now nothing_delivered c.args.t.now
+
+pub invariant_of-self : goal.invariant_of-self
+invariant_of-self c =
+    let t = c.args.t.now in
+    let claims = c.self.inside.claims.entries in
+    let sent = c.self.inside.sent in
+    let end = c.run_task-end.result in
+    let running : lookup (same_task t) claims ≡ Some None = ap (λ (s : RunState). mark_of s t) c.self.view_is ∙ c.requires.running in
+    let ends = kept_end claims t end running sent.kept c.take_tiles.new.sent.kept sent.sends c.self.invariant.tiles c.take_tiles.ensures.kept in
+    record {
+      counts = λ u none.
+          counts_end c.self.inside.arrived.entries claims sent.sends t end c.self.invariant.counts u (ap (lookup (same_task u)) (sym c.mark.ensures) ∙ none) ∙ ap (edges_to u) (sym c.take_tiles.ensures.sends);
+      tiles = subst (λ cs. AreKept cs c.take_tiles.new.sent.kept c.take_tiles.new.sent.sends) (sym c.mark.ensures)
+          (subst (AreKept (set_value (same_task t) claims (Some end)) c.take_tiles.new.sent.kept) (sym c.take_tiles.ensures.sends) ends);
+    }
+
+pub returns-clause-ok : goal.returns-clause-ok
+unfolding starting_tiles
+returns-clause-ok c =
+    let P = c.plan-plan.result.now in
+    let G = c.args.given.now in
+    let r = c.args.self.now in
+    let t = c.args.t.now in
+    let claims = c.self.inside.claims.entries in
+    let sent = c.self.inside.sent in
+    let con = c.plan-plan.ensures.consistent in
+    let running : lookup (same_task t) claims ≡ Some None = ap (λ (s : RunState). mark_of s t) c.self.view_is ∙ c.requires.running in
+    let tiles : c.take_tiles.new.tiles.items ≡ starting_tiles P G (delivered_by sent.kept) t = c.take_tiles.ensures.tiles G [] (flows_of P t) refl refl c.in_ok-tiles.ensures in
+    let same = λ (e : Edge) (to : e.to ≡ t). kept_tile claims sent.kept sent.sends (item.Edge e) c.self.invariant.tiles (unread claims t e running to) ∙ ap (λ (s : RunState). first_tile (item.Edge e) s.sends) c.self.view_is in
+    let end = ran c.args.m.now P G r (delivered_by sent.kept) t c.take_tiles.new.tiles.items c.run_task-end.result c.plan-plan.ensures.same same tiles c.run_task-end.ensures in
+    let meant : ended c.args.m.now G t ≡ Some c.run_task-end.result = running_end c.args.m.now G con r c.requires.fits t c.requires.running ∙ end in
+    let marked = ended_run claims c.mark.new.claims.entries sent.sends c.take_tiles.new.sent.sends r t c.run_task-end.result c.self.view_is c.mark.ensures c.take_tiles.ensures.sends in
+    record { end = c.run_task-end.result; as_meant = meant; marked = marked; trapped = c.trap_of-trap.ensures }
+
+pub returns-clause-fits : goal.returns-clause-fits
+unfolding starting_tiles
+returns-clause-fits c =
+    let P = c.plan-plan.result.now in
+    let G = c.args.given.now in
+    let r = c.args.self.now in
+    let t = c.args.t.now in
+    let claims = c.self.inside.claims.entries in
+    let sent = c.self.inside.sent in
+    let con = c.plan-plan.ensures.consistent in
+    let running : lookup (same_task t) claims ≡ Some None = ap (λ (s : RunState). mark_of s t) c.self.view_is ∙ c.requires.running in
+    let tiles : c.take_tiles.new.tiles.items ≡ starting_tiles P G (delivered_by sent.kept) t = c.take_tiles.ensures.tiles G [] (flows_of P t) refl refl c.in_ok-tiles.ensures in
+    let same = λ (e : Edge) (to : e.to ≡ t). kept_tile claims sent.kept sent.sends (item.Edge e) c.self.invariant.tiles (unread claims t e running to) ∙ ap (λ (s : RunState). first_tile (item.Edge e) s.sends) c.self.view_is in
+    let end = ran c.args.m.now P G r (delivered_by sent.kept) t c.take_tiles.new.tiles.items c.run_task-end.result c.plan-plan.ensures.same same tiles c.run_task-end.ensures in
+    let meant : ended c.args.m.now G t ≡ Some c.run_task-end.result = running_end c.args.m.now G con r c.requires.fits t c.requires.running ∙ end in
+    let marked = ended_run claims c.mark.new.claims.entries sent.sends c.take_tiles.new.sent.sends r t c.run_task-end.result c.self.view_is c.mark.ensures c.take_tiles.ensures.sends in
+    subst (Fits c.args.m.now G) (sym marked) (end_fits c.args.m.now G con r c.requires.fits t c.run_task-end.result c.requires.running meant)

@@ -1,0 +1,34 @@
+-- When a run is one of a job and its data, and what it may do next. Source: this project's own choice.
+use Rattle.std.specs.Prelude.{◌≡◌, Option, Some, None, Ok, Err}
+use Rattle.ptg_base.specs.Task.{Task}
+use Rattle.ptg_base.specs.declared.edge.Item.{Item}
+use Rattle.term_core.specs.declared.trap.Trap.{Trap}
+use Rattle.plan_core.specs.declared.plan.Plan.{Plan}
+use Rattle.coll_data.specs.Data.{Data}
+use Rattle.flow_meaning.specs.Ending.{Ended}
+use Rattle.flow_meaning.specs.Backward.{ended}
+use Rattle.flow_meaning.specs.Machine.{MaySend, sender}
+use Rattle.flow_meaning.specs.Sound.{IsSoundState}
+use Rattle.flow_core.specs.RunState.{RunState, IsRunning, end_of, machine, with_end}
+
+-- the run fits the job and its data: its state is sound, and each task that has ended has ended as the backward meaning says
+pub record Fits (P : Plan) (G : Data) (r : RunState) : Type 0 where
+  pub sound : IsSoundState P G (machine r)
+  pub ends : (t : Task) (end : Ended) → end_of r t ≡ Some end → ended P G t ≡ Some end
+
+-- an item may be sent now: the event machine allows it, and its task has ended
+pub record MaySendNow (P : Plan) (G : Data) (r : RunState) (i : Item) : Type 0 where
+  pub may : MaySend P G (machine r) i
+  pub done : IsRunning r (sender i) → ⊥
+
+-- why a task trapped, if it did
+abbrev pub trap_of : Ended → Option Trap
+trap_of (Ok tiles) = None
+trap_of (Err cause) = Some cause
+
+-- a task has ended as the backward meaning says, with this trap if it trapped; nothing else has changed
+pub record HasFinished (P : Plan) (G : Data) (t : Task) (old new : RunState) (trap : Option Trap) : Type 0 where
+  pub end : Ended
+  pub as_meant : ended P G t ≡ Some end
+  pub marked : new ≡ with_end t end old
+  pub trapped : trap ≡ trap_of end

@@ -1,0 +1,42 @@
+-- What a task starts on, where these items were sent. Source: DAGuE (Parallel Computing, 2012): a task runs on what its sources gave.
+use Rattle.std.specs.Prelude.{ℕ, List, Bool, length, nat_lt, Option, Some, None, if◌then◌else◌}
+use Rattle.std.specs.List.{list_all}
+use Rattle.ptg_base.specs.Task.{Task}
+use Rattle.ptg_base.specs.declared.edge.Edge.{Edge}
+use Rattle.ptg_base.specs.declared.edge.Item.TheVariants as item
+use Rattle.plan_core.specs.declared.flow.FlowPlan.{FlowPlan}
+use Rattle.plan_core.specs.declared.plan.Plan.{Plan}
+use Rattle.plan_core.specs.Kinds.{is_data}
+use Rattle.dep_iter.specs.declared.source.Source.{Source}
+use Rattle.dep_iter.specs.declared.source.Source.TheVariants as source
+use Rattle.dep_iter.specs.Edges.{data_source}
+use Rattle.flow_meaning.specs.Starting.{Delivery}
+use Rattle.flow_meaning.specs.Machine.{Sent, first_tile}
+
+-- what each edge delivers: the tile that was sent with it
+abbrev pub delivered_by : List Sent → Delivery
+delivered_by sends e = first_tile (item.Edge e) sends
+
+-- no edge delivers a tile
+abbrev pub nothing_delivered : Delivery
+nothing_delivered e = None
+
+-- the edge that a source is
+abbrev pub edge_of_source : Source → Option Edge
+edge_of_source (source.Task e) = Some e
+edge_of_source (source.Place p) = None
+edge_of_source source.New = None
+edge_of_source source.Null = None
+edge_of_source source.Nothing = None
+
+-- the edge that brings the tile of flow n of a task, if one does
+abbrev pub edge_into : Plan → Task → ℕ → FlowPlan → Option Edge
+edge_into P t n f = if is_data (Some f.kind) then edge_of_source (data_source P t n) else None
+
+-- whether the datatype of a flow is one of the plan's
+abbrev pub has_datatype : Plan → FlowPlan → Bool
+has_datatype P f = nat_lt f.datatype (length P.elems)
+
+-- whether that of each of these flows is
+abbrev pub have_datatypes : Plan → List FlowPlan → Bool
+have_datatypes P fs = list_all (has_datatype P) fs

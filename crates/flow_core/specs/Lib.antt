@@ -1,0 +1,11 @@
+pub mod RunState
+pub mod Fits
+pub mod Arrivals
+pub mod SentItems
+pub mod Kept
+pub mod Inputs
+pub mod Possible
+pub mod Rows
+pub mod OneThread
+pub mod Keeping
+pub mod Quiet

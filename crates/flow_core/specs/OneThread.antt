@@ -1,0 +1,50 @@
+-- How one thread runs a job: it runs one task after another, and between two of them claims each task that may be claimed and sends each item that may be sent. Source: this project's own choice.
+use Rattle.std.specs.Prelude.{◌≡◌, ◌⊎◌, ℕ, ℤ, List, [], ◌++◌, length, filter, is_none, is_some, IsTrue, Option, Some, Ok}
+use Rattle.std.specs.Map.{keys_of}
+use Rattle.ptg_base.specs.Lists.{IsIn}
+use Rattle.ptg_base.specs.Task.{Task}
+use Rattle.ptg_base.specs.declared.edge.Item.{Item}
+use Rattle.plan_core.specs.declared.plan.Plan.{Plan}
+use Rattle.coll_data.specs.Data.{Data}
+use Rattle.dep_iter.specs.Items.{items}
+use Rattle.flow_meaning.specs.Ending.{Ended}
+use Rattle.flow_meaning.specs.Machine.{MayClaim, is_sent}
+use Rattle.flow_core.specs.RunState.{RunState, end_of, machine}
+use Rattle.flow_core.specs.Fits.{Fits}
+
+-- the running tasks among claimed ones, and those of a run, in the order of the claims
+abbrev pub running_among : List (Task × Option Ended) → List Task
+running_among claims = keys_of (filter (λ (c : Task × Option Ended). is_none c.1) claims)
+
+abbrev pub running_tasks : RunState → List Task
+running_tasks r = running_among r.claims
+
+-- how many of the claimed tasks have ended, and how many of a run
+abbrev pub ended_among : List (Task × Option Ended) → ℕ
+ended_among claims = length (filter (λ (c : Task × Option Ended). is_some c.1) claims)
+
+abbrev pub ended_count : RunState → ℕ
+ended_count r = ended_among r.claims
+
+-- no task but these may be claimed
+abbrev pub MayClaimOnly : Plan → List Task → RunState → Type 0
+MayClaimOnly P ts r = (t : Task) → MayClaim P (machine r) t → IsIn t ts
+
+-- each item of a task that has ended without a trap was sent, or is one of these
+abbrev pub OwesOnly : Plan → List Item → RunState → Type 0
+OwesOnly P is r =
+    (t : Task) (tiles : List (Option (List ℤ))) → end_of r t ≡ Some (Ok tiles) → (i : Item) → IsIn i (items P t) → IsTrue (is_sent (machine r) i) ⊎ IsIn i is
+
+-- these tasks were claimed where they could be, and these items were sent; no task has ended meanwhile
+pub record HasDone (P : Plan) (ts : List Task) (is : List Item) (old new : RunState) : Type 0 where
+  pub claimed : (us : List Task) → MayClaimOnly P (ts ++ us) old → MayClaimOnly P us new
+  pub sent : (js : List Item) → OwesOnly P (is ++ js) old → OwesOnly P js new
+  pub ended : ended_count new ≡ ended_count old
+  pub fits : (G : Data) → Fits P G old → Fits P G new
+
+-- a run between two tasks: the running tasks are these, no task may be claimed, and nothing is owed
+pub record IsBetweenTasks (P : Plan) (G : Data) (r : RunState) (tasks : List Task) : Type 0 where
+  pub fits : Fits P G r
+  pub running : tasks ≡ running_tasks r
+  pub none_ready : MayClaimOnly P [] r
+  pub nothing_owed : OwesOnly P [] r

@@ -1,0 +1,17 @@
+-- What the steps of a send find and need. Source: this project's own choice.
+use Rattle.std.specs.Prelude.{◌≡◌, ◌≤◌, ℤ, List, IsTrue, Option, Some, None, Ok, Err}
+use Rattle.ptg_base.specs.Task.{Task}
+use Rattle.ptg_base.specs.declared.edge.Item.{Item}
+use Rattle.flow_meaning.specs.Ending.{Ended}
+use Rattle.flow_core.specs.RunState.{RunState, mark_of}
+use Rattle.flow_core.specs.Arrivals.{edges_to, is_edge_to}
+
+-- the tiles that a task left, if it has ended without a trap
+abbrev pub outputs_of : Option Ended → Option (List (Option (List ℤ)))
+outputs_of None = None
+outputs_of (Some (Ok tiles)) = Some tiles
+outputs_of (Some (Err cause)) = None
+
+-- the task that an item goes to, if it is an edge, is not claimed, and fewer edges have come to it than a job may have
+abbrev pub GoesToWaiting : RunState → Item → Type 0
+GoesToWaiting r i = (u : Task) → IsTrue (is_edge_to u i) → (mark_of r u ≡ None) × (edges_to u r.sends ≤ 4000000)

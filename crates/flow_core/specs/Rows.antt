@@ -1,0 +1,36 @@
+-- The parts of the answer as a run has them: its trapped tasks, its waiting tasks, and what was written back. Source: this project's own choice.
+use Rattle.std.specs.Prelude.{ℤ, List, map, filter, flat_map, filter_map, Option, Some, None}
+use Rattle.ptg_base.specs.Task.{Task}
+use Rattle.ptg_base.specs.declared.edge.WriteBack.{WriteBack}
+use Rattle.ptg_base.specs.declared.edge.Item.{Item}
+use Rattle.ptg_base.specs.declared.edge.Item.TheVariants as item
+use Rattle.plan_core.specs.declared.plan.Plan.{Plan}
+use Rattle.dep_iter.specs.Edges.{goal}
+use Rattle.flow_meaning.specs.declared.outcome.TrapRow.{TrapRow}
+use Rattle.flow_meaning.specs.declared.outcome.WaitRow.{WaitRow}
+use Rattle.flow_meaning.specs.Answer.{trap_rows}
+use Rattle.flow_meaning.specs.Ending.{Ended}
+use Rattle.flow_meaning.specs.Machine.{MachineState, Sent, arrived}
+use Rattle.flow_meaning.specs.Table.{is_waiting}
+
+-- the claimed tasks that have trapped, in the order of the claims
+abbrev pub claim_traps : List (Task × Option Ended) → List TrapRow
+claim_traps claims = flat_map (λ (c : Task × Option Ended). trap_rows c.0 c.1) claims
+
+-- the row of a task, if it waits
+abbrev pub wait_row : Plan → MachineState → Task → WaitRow
+wait_row P S t = record { task = t; arrived = arrived P S t; goal = goal P t }
+
+-- the rows of those of these tasks that wait
+abbrev pub waits_among : Plan → MachineState → List Task → List WaitRow
+waits_among P S ts = map (wait_row P S) (filter (is_waiting P S) ts)
+
+-- the write-back that was sent, with its tile
+abbrev pub write_with : Item → Option (List ℤ) → Option (WriteBack × List ℤ)
+write_with (item.Edge e) tile = None
+write_with (item.Write w) None = None
+write_with (item.Write w) (Some tile) = Some (w, tile)
+
+-- the write-backs that were sent, each with its tile, in the order of the sends
+abbrev pub writes_among : List Sent → List (WriteBack × List ℤ)
+writes_among sends = filter_map (λ (x : Sent). write_with x.item x.tile) sends

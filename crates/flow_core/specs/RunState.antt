@@ -1,0 +1,51 @@
+-- A run on one thread as contracts see it: the claimed tasks, each with how it ended once it has, and the items that were sent, each with its tile. Source: DAGuE (Parallel Computing, 2012): a task runs once all its dependences have come, and then satisfies those of its successors.
+use Rattle.std.specs.Prelude.{◌≡◌, List, [], ◌∷◌, ◌++◌, Option, Some, None, unwrap_or}
+use Rattle.std.specs.Map.{keys_of, lookup, set_value}
+use Rattle.ptg_base.specs.Task.{Task}
+use Rattle.ptg_base.specs.TaskComparing.{same_task}
+use Rattle.ptg_base.specs.declared.edge.Item.{Item}
+use Rattle.dep_iter.specs.Items.{item_flow}
+use Rattle.flow_meaning.specs.Ending.{Ended, output_tile}
+use Rattle.flow_meaning.specs.Machine.{MachineState, Sent, sender}
+
+pub record RunState : Type 0 where
+  -- the claimed tasks in the order of the claims, each with how it ended; one without an end is running
+  pub claims : List (Task × Option Ended)
+  -- the items that were sent, in the order of the sends
+  pub sends : List Sent
+
+-- nothing is claimed, and nothing is sent
+abbrev pub opening_run : RunState
+opening_run = record { claims = []; sends = [] }
+
+-- the state of the event machine that a run is in
+abbrev pub machine : RunState → MachineState
+machine r = record { claims = keys_of r.claims; sends = r.sends }
+
+-- what is known of a task: nothing if it is not claimed, else how it ended, if it has
+abbrev pub mark_of : RunState → Task → Option (Option Ended)
+mark_of r t = lookup (same_task t) r.claims
+
+-- the task was claimed, and has not ended
+abbrev pub IsRunning : RunState → Task → Type 0
+IsRunning r t = mark_of r t ≡ Some None
+
+-- how a task ended, if it has
+abbrev pub end_of : RunState → Task → Option Ended
+end_of r t = unwrap_or (mark_of r t) None
+
+-- the run after a task is claimed, which is running then
+abbrev pub with_claim : Task → RunState → RunState
+with_claim t r = record { claims = r.claims ++ (t, None) ∷ []; sends = r.sends }
+
+-- the run after a task has ended so
+abbrev pub with_end : Task → Ended → RunState → RunState
+with_end t end r = record { claims = set_value (same_task t) r.claims (Some end); sends = r.sends }
+
+-- what is sent with an item: the tile that its task left in the flow of the item
+abbrev pub send_of : RunState → Item → Sent
+send_of r i = record { item = i; tile = output_tile (end_of r (sender i)) (item_flow i) }
+
+-- the run after an item is sent
+abbrev pub with_send : Item → RunState → RunState
+with_send i r = record { claims = r.claims; sends = r.sends ++ send_of r i ∷ [] }

@@ -1,0 +1,44 @@
+//! How many edges have come to each task.
+
+ghost use Rattle.std.specs.Prelude.{◌≡◌, ◌+◌, ◌<◌, ◌≤◌, IsTrue};
+ghost use Rattle.indexmap.specs.IndexMap.{spare};
+ghost use Rattle.ptg_base.specs.Task.{Task};
+ghost use Rattle.ptg_base.specs.TaskComparing.{same_task};
+ghost use Rattle.flow_meaning.specs.Counting.{as_number};
+ghost use Rattle.flow_core.specs.Arrivals as arrivals;
+ghost use Rattle.flow_core.specs.Arrivals.{is_edge_to};
+
+use crate::possible::copy_of_task;
+use indexmap::IndexMap;
+use ptg_base::{Item, TaskId};
+
+// The number of a task, 0 if the table has none.
+pub(crate) fn number_at(table: &IndexMap<TaskId, u32>, t: &TaskId) -> u32
+    ensures { result ≡ arrivals.number_at table.now.entries t.now }
+{
+    match table.get(t) {
+        Some(n) => *n,
+        None => 0,
+    }
+}
+
+// Adds one to the number of a task.
+fn add_one(table: &mut IndexMap<TaskId, u32>, t: &TaskId)
+    requires room { 0 < spare table.old }
+    requires at_most { arrivals.number_at table.old.entries t.now ≤ 4000000 }
+    ensures { (u : Task) → arrivals.number_at table.new.entries u ≡ arrivals.number_at table.old.entries u + as_number (same_task u t.now) }
+{
+    let n = number_at(table, t);
+    let _old = table.insert(copy_of_task(t), n + 1).unwrap();
+}
+
+// Counts an item at the task that it goes to, if it is an edge.
+pub(crate) fn count_item(table: &mut IndexMap<TaskId, u32>, item: &Item)
+    requires room { 0 < spare table.old }
+    requires at_most { (u : Task) → IsTrue (is_edge_to u item.now) → arrivals.number_at table.old.entries u ≤ 4000000 }
+    ensures { (u : Task) → arrivals.number_at table.new.entries u ≡ arrivals.number_at table.old.entries u + as_number (is_edge_to u item.now) }
+{
+    if let Item::Edge(e) = item {
+        add_one(table, &e.to);
+    }
+}

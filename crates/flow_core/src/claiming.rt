@@ -1,0 +1,64 @@
+//! Claims of the tasks that may be claimed.
+
+ghost use Rattle.std.specs.Prelude.{◌≡◌, ◌∷◌, [], List, OnOk, Some, drop, map, slice_get, ◌<◌, length};
+ghost use Rattle.term_core.specs.declared.space.ClassSpace.{ClassSpace as ClassSpaceValue};
+ghost use Rattle.range_space.specs.Tasks as range;
+ghost use Rattle.coll_data.specs.Data.{Data};
+ghost use Rattle.dep_iter.specs.Tasks.{task, tasks_from};
+ghost use Rattle.flow_core.specs.Fits.{Fits};
+ghost use Rattle.flow_core.specs.OneThread.{HasDone, running_tasks};
+
+use crate::possible::copy_of_task;
+use crate::runner::Runner;
+use crate::spaces::space_of;
+use dep_iter::Matched;
+use ptg_base::{OutOfMemory, TaskId};
+use range_space::Space;
+
+// Claims a task if it may be claimed.
+pub(crate) fn claim_if_ready(
+    runner: &mut Runner,
+    m: &Matched,
+    t: &TaskId,
+) -> Result<(), OutOfMemory>
+    requires fits { (G : Data) × Fits m.now G runner.old.run }
+    requires running { runner.old.running.items ≡ running_tasks runner.old.run }
+    ensures done { OnOk result (HasDone m.now (t.now ∷ []) [] runner.old.run runner.new.run) }
+    ensures running { OnOk result (runner.new.running.items ≡ running_tasks runner.new.run) }
+{
+    if !runner.run.claim(m, t)? {
+        return Ok(());
+    }
+    runner.running.push(copy_of_task(t))?;
+    Ok(())
+}
+
+// Claims the tasks of a class that may be claimed.
+fn claim_class(runner: &mut Runner, m: &Matched, class: u32) -> Result<(), OutOfMemory>
+    requires class { class < length m.now.classes }
+    requires fits { (G : Data) × Fits m.now G runner.old.run }
+    requires running { runner.old.running.items ≡ running_tasks runner.old.run }
+    ensures done { OnOk result ((s : ClassSpaceValue) → slice_get m.now.spaces class ≡ Some s → HasDone m.now (map (task class) (range.tasks s)) [] runner.old.run runner.new.run) }
+    ensures running { OnOk result (runner.new.running.items ≡ running_tasks runner.new.run) }
+{
+    let space = space_of(m, class);
+    for params in Space::new(space) {
+        let t = TaskId::new(class, params.as_slice());
+        claim_if_ready(runner, m, &t)?;
+    }
+    Ok(())
+}
+
+// Claims the tasks of the classes from this number on that may be claimed.
+pub(crate) fn claim_classes(runner: &mut Runner, m: &Matched, class: u32) -> Result<(), OutOfMemory>
+    requires fits { (G : Data) × Fits m.now G runner.old.run }
+    requires running { runner.old.running.items ≡ running_tasks runner.old.run }
+    ensures done { OnOk result ((ss : List ClassSpaceValue) → drop class m.now.spaces ≡ ss → HasDone m.now (tasks_from class ss) [] runner.old.run runner.new.run) }
+    ensures running { OnOk result (runner.new.running.items ≡ running_tasks runner.new.run) }
+{
+    if class as usize >= m.plan().classes.len() {
+        return Ok(());
+    }
+    claim_class(runner, m, class)?;
+    claim_classes(runner, m, class + 1)
+}

@@ -1,0 +1,41 @@
+//! What was sent, as only proofs see it.
+
+ghost use Rattle.std.specs.Prelude.{◌≡◌, List, [], ◌∷◌, ◌++◌};
+ghost use Rattle.std.specs.Borrow.{ftrue};
+ghost use Rattle.flow_meaning.specs.Machine.{Sent};
+
+use ptg_base::{Item, Tile};
+use std::marker::Model;
+
+// An item, and the tile that goes with it.
+#[derive(Drop)]
+pub struct Shipment {
+    pub item: Item,
+    pub tile: Option<Tile>,
+}
+
+// The items that were sent, each with its tile, in the order of the sends. It takes no memory: only proofs see it.
+#[derive(Drop)]
+pub struct History {
+    pub ghost sends: { List Sent },
+}
+
+impl Model for History {
+    ghost also_owns = { λ _. ftrue };
+}
+
+impl History {
+    // Nothing was sent.
+    pub(crate) fn new() -> History
+        ensures { result.sends ≡ [] }
+    {
+        History {}
+    }
+
+    // What was sent before, and this.
+    pub(crate) fn with(_before: &History, _sent: &Shipment) -> History
+        ensures { result.sends ≡ _before.now.sends ++ record { item = _sent.now.item; tile = _sent.now.tile } ∷ [] }
+    {
+        History {}
+    }
+}

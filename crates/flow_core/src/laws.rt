@@ -1,0 +1,19 @@
+//! Laws of runs: each call is an event of the machine, or none.
+
+ghost use Rattle.std.specs.Prelude.{◌≡◌};
+ghost use Rattle.ptg_base.specs.Task.{Task};
+ghost use Rattle.ptg_base.specs.declared.edge.Item.{Item};
+ghost use Rattle.plan_core.specs.declared.plan.Plan.{Plan};
+ghost use Rattle.coll_data.specs.Data.{Data};
+ghost use Rattle.dep_iter.specs.Consistent.{IsConsistent};
+ghost use Rattle.flow_meaning.specs.Ending.{Ended};
+ghost use Rattle.flow_meaning.specs.Machine.{Claim, Send, MayClaim, state_after};
+ghost use Rattle.flow_core.specs.RunState.{RunState, IsRunning, machine, opening_run, with_claim, with_end, with_send};
+ghost use Rattle.flow_core.specs.Fits.{Fits, HasFinished, MaySendNow};
+
+/// A law: a claim and a send are the events of the machine; the end of a task is none.
+pub fn calls_are_events()
+    ensures claim { (P : Plan) (G : Data) (r : RunState) (t : Task) → machine (with_claim t r) ≡ state_after P G (machine r) (Claim t) }
+    ensures end { (r : RunState) (t : Task) (end : Ended) → machine (with_end t end r) ≡ machine r }
+    ensures send { (P : Plan) (G : Data) (r : RunState) (i : Item) → IsConsistent P → Fits P G r → MaySendNow P G r i → machine (with_send i r) ≡ state_after P G (machine r) (Send i) }
+{}

@@ -1,0 +1,21 @@
+//! A run on one thread: tasks are claimed, run and ended, and items are sent, as the event machine of the job says.
+#![tactic(auto)]
+
+mod arrivals;
+mod body;
+mod claiming;
+mod history;
+mod inputs;
+mod laws;
+mod one_thread;
+mod outputs;
+mod possible;
+mod runner;
+mod sending;
+mod sent_items;
+mod spaces;
+mod state;
+
+pub use laws::calls_are_events;
+pub use one_thread::run_one;
+pub use state::State;

@@ -1,0 +1,71 @@
+//! A job, run by one thread.
+
+ghost use Rattle.std.specs.Prelude.{◌≡◌, ◌∷◌, ◌++◌, ◌+◌, [], OnOk, IfOk};
+ghost use Rattle.plan_data.specs.Fit.{DataFit};
+ghost use Rattle.flow_meaning.specs.Answer as meaning;
+ghost use Rattle.flow_core.specs.Fits.{Fits};
+ghost use Rattle.flow_core.specs.OneThread.{IsBetweenTasks, MayClaimOnly, OwesOnly, ended_count, running_tasks};
+
+use crate::claiming::claim_classes;
+use crate::runner::Runner;
+use crate::sending::send_items;
+use crate::state::State;
+use coll_data::Given;
+use dep_iter::Matched;
+use flow_meaning::Outcome;
+use ptg_base::{OutOfMemory, TaskId};
+use std::alloc::Global;
+
+// Runs the task that was claimed last, sends what it has left, and claims the tasks that may be claimed then.
+fn run_one_task(
+    runner: &mut Runner,
+    m: &Matched,
+    given: &Given,
+    t: &TaskId,
+) -> Result<(), OutOfMemory>
+    requires fits { Fits m.now given.now runner.old.run }
+    requires running { runner.old.running.items ++ t.now ∷ [] ≡ running_tasks runner.old.run }
+    requires none_ready { MayClaimOnly m.now [] runner.old.run }
+    requires nothing_owed { OwesOnly m.now [] runner.old.run }
+    ensures between { OnOk result (IsBetweenTasks m.now given.now runner.new.run runner.new.running.items) }
+    ensures ended { OnOk result (ended_count runner.new.run ≡ ended_count runner.old.run + 1) }
+{
+    if runner.run.finish(m, given, t)?.is_some() {
+        return Ok(());
+    }
+    send_items(runner, m, t)
+}
+
+// Runs tasks until none is left.
+fn run_tasks(runner: &mut Runner, m: &Matched, given: &Given) -> Result<(), OutOfMemory>
+    requires { IsBetweenTasks m.now given.now runner.old.run runner.old.running.items }
+    ensures { OnOk result (IsBetweenTasks m.now given.now runner.new.run []) }
+{
+    while let Some(t) = runner.running.pop() {
+        run_one_task(runner, m, given, &t)?;
+    }
+    Ok(())
+}
+
+// A run in which every task without an edge into it is claimed.
+fn opened(alloc: Global, m: &Matched, given: &Given) -> Result<Runner, OutOfMemory>
+    ensures { IfOk result (λ runner. IsBetweenTasks m.now given.now runner.run runner.running.items) }
+{
+    let mut runner = Runner {
+        run: State::start(alloc),
+        running: Vec::new(alloc),
+    };
+    claim_classes(&mut runner, m, 0)?;
+    Ok(runner)
+}
+
+/// The answer of a job, run by one thread.
+pub fn run_one(alloc: Global, m: &Matched, given: Given) -> Result<Outcome, OutOfMemory>
+    requires { DataFit m.now.colls m.now.elems given }
+    ensures { IfOk result (λ outcome. outcome ≡ meaning.answer m.now given) }
+{
+    let mut runner = opened(alloc, m, &given)?;
+    run_tasks(&mut runner, m, &given)?;
+    let _ = m.plan();
+    runner.run.answer(m, given)
+}

@@ -1,0 +1,82 @@
+//! Sends of the items of a task that has ended.
+
+ghost use Rattle.std.specs.Prelude.{◌≡◌, ◌∷◌, ◌++◌, [], OnOk, map};
+ghost use Rattle.ptg_base.specs.declared.edge.Edge.{Edge as EdgeValue};
+ghost use Rattle.ptg_base.specs.declared.edge.WriteBack.{WriteBack as WriteBackValue};
+ghost use Rattle.ptg_base.specs.declared.edge.Item.TheVariants as item;
+ghost use Rattle.coll_data.specs.Data.{Data};
+ghost use Rattle.dep_iter.specs.Items as items;
+ghost use Rattle.dep_iter.specs.Tasks.{IsTask};
+ghost use Rattle.flow_core.specs.Fits.{Fits};
+ghost use Rattle.flow_core.specs.OneThread.{HasDone, running_tasks};
+
+use crate::claiming::claim_if_ready;
+use crate::possible::copy_of_task;
+use crate::runner::Runner;
+use dep_iter::{Matched, out_edges, write_backs};
+use ptg_base::{Edge, Item, OutOfMemory, TaskId, WriteBack};
+
+// Sends an edge, and claims the task that it goes to if it may be claimed then.
+fn send_edge(runner: &mut Runner, m: &Matched, edge: Edge) -> Result<(), OutOfMemory>
+    requires fits { (G : Data) × Fits m.now G runner.old.run }
+    requires running { runner.old.running.items ≡ running_tasks runner.old.run }
+    ensures done { OnOk result (HasDone m.now [] (item.Edge edge ∷ []) runner.old.run runner.new.run) }
+    ensures running { OnOk result (runner.new.running.items ≡ running_tasks runner.new.run) }
+{
+    let _ = m.plan();
+    let to = copy_of_task(&edge.to);
+    let _sent = runner.run.send(m, &Item::Edge(edge))?;
+    claim_if_ready(runner, m, &to)
+}
+
+// Sends the edges out of a task.
+fn send_edges(runner: &mut Runner, m: &Matched, t: &TaskId) -> Result<(), OutOfMemory>
+    requires task { IsTask m.now t.now }
+    requires fits { (G : Data) × Fits m.now G runner.old.run }
+    requires running { runner.old.running.items ≡ running_tasks runner.old.run }
+    ensures done { OnOk result (HasDone m.now [] (map (λ (e : EdgeValue). item.Edge e) (items.out_edges m.now t.now)) runner.old.run runner.new.run) }
+    ensures running { OnOk result (runner.new.running.items ≡ running_tasks runner.new.run) }
+{
+    for edge in out_edges(m.plan(), t) {
+        send_edge(runner, m, edge)?;
+    }
+    Ok(())
+}
+
+// Sends a write-back.
+fn send_write(runner: &mut Runner, m: &Matched, write: WriteBack) -> Result<(), OutOfMemory>
+    requires fits { (G : Data) × Fits m.now G runner.old.run }
+    requires running { runner.old.running.items ≡ running_tasks runner.old.run }
+    ensures done { OnOk result (HasDone m.now [] (item.Write write ∷ []) runner.old.run runner.new.run) }
+    ensures running { OnOk result (runner.new.running.items ≡ running_tasks runner.new.run) }
+{
+    let _ = m.plan();
+    let _sent = runner.run.send(m, &Item::Write(write))?;
+    Ok(())
+}
+
+// Sends the write-backs of a task.
+fn send_writes(runner: &mut Runner, m: &Matched, t: &TaskId) -> Result<(), OutOfMemory>
+    requires task { IsTask m.now t.now }
+    requires fits { (G : Data) × Fits m.now G runner.old.run }
+    requires running { runner.old.running.items ≡ running_tasks runner.old.run }
+    ensures done { OnOk result (HasDone m.now [] (map (λ (w : WriteBackValue). item.Write w) (items.write_backs m.now t.now)) runner.old.run runner.new.run) }
+    ensures running { OnOk result (runner.new.running.items ≡ running_tasks runner.new.run) }
+{
+    for write in write_backs(m.plan(), t) {
+        send_write(runner, m, write)?;
+    }
+    Ok(())
+}
+
+// Sends all items of a task, and claims the tasks that may be claimed then.
+pub(crate) fn send_items(runner: &mut Runner, m: &Matched, t: &TaskId) -> Result<(), OutOfMemory>
+    requires task { IsTask m.now t.now }
+    requires fits { (G : Data) × Fits m.now G runner.old.run }
+    requires running { runner.old.running.items ≡ running_tasks runner.old.run }
+    ensures done { OnOk result (HasDone m.now [] (items.items m.now t.now) runner.old.run runner.new.run) }
+    ensures running { OnOk result (runner.new.running.items ≡ running_tasks runner.new.run) }
+{
+    send_edges(runner, m, t)?;
+    send_writes(runner, m, t)
+}

@@ -1,0 +1,249 @@
+//! A run on one thread.
+
+ghost use Rattle.std.specs.Prelude.{◌≡◌, ◌↔◌, IsTrue, IfOk, OnOk, OnErr, Some, None, if◌then◌else◌};
+ghost use Rattle.std.specs.Option.{option_copied};
+ghost use Rattle.std.specs.Map.{lookup, set_value};
+ghost use Rattle.ptg_base.specs.TaskComparing.{same_task};
+ghost use Rattle.plan_core.specs.declared.plan.Plan.{Plan};
+ghost use Rattle.coll_data.specs.Data.{Data};
+ghost use Rattle.dep_iter.specs.Consistent.{IsConsistent};
+ghost use Rattle.flow_meaning.specs.Ending as ending;
+ghost use Rattle.flow_meaning.specs.Ending.{output_tile};
+ghost use Rattle.flow_meaning.specs.Machine as events;
+ghost use Rattle.flow_meaning.specs.Machine.{MayClaim};
+ghost use Rattle.dep_iter.specs.Items as items;
+ghost use Rattle.flow_core.specs.RunState.{IsRunning, end_of, machine, mark_of, opening_run, with_claim, with_send};
+ghost use Rattle.flow_core.specs.Fits.{Fits, HasFinished, MaySendNow};
+ghost use Rattle.flow_core.specs.Possible as possible;
+ghost use Rattle.flow_core.specs.Possible.{GoesToWaiting};
+ghost use Rattle.flow_core.specs.SentItems.{IsUnsent};
+
+mod answer;
+mod quiescent;
+
+use crate::arrivals::{count_item, number_at};
+use crate::body::{End, run_task};
+use crate::inputs::{Start, copy_if_any, own_tiles, take_tiles};
+use crate::outputs::{has_outputs, outputs_of, tile_at, trap_of};
+use crate::possible::{copy_of_item, copy_of_task, is_item, item_flow, sender};
+use crate::sent_items::SentItems;
+use coll_data::Given;
+use dep_iter::{Matched, is_task};
+use goal_count::goal;
+use indexmap::IndexMap;
+use ptg_base::{Item, OutOfMemory, Seq, TaskId, Tile};
+use std::alloc::Global;
+use std::marker::Model;
+use term_core::Trap;
+
+/// A run on one thread. Contracts see the claimed tasks, each with how it ended once it has, and the items that were sent, each
+/// with its tile.
+#[derive(Drop)]
+pub struct State {
+    alloc: Global,
+    // The claimed tasks in the order of the claims, each with how it ended; `None` while it runs.
+    claims: IndexMap<TaskId, Option<End>>,
+    sent: SentItems,
+    // How many edges were sent to each task that is not claimed, if one was.
+    arrived: IndexMap<TaskId, u32>,
+}
+
+impl Model for State {
+    ghost use Rattle.flow_core.specs.RunState.{RunState};
+    ghost use Rattle.flow_core.specs.Keeping.{Keeps};
+
+    ghost Value = { RunState };
+
+    ghost view = { λ s. record { claims = s.claims.entries; sends = s.sent.sends } };
+
+    ghost invariant = { λ s. Keeps s.claims.entries s.arrived.entries s.sent };
+}
+
+// Notes how a running task ended.
+fn mark(claims: &mut IndexMap<TaskId, Option<End>>, t: &TaskId, end: End)
+    requires { lookup (same_task t.now) claims.old.entries ≡ Some None }
+    ensures { claims.new.entries ≡ set_value (same_task t.now) claims.old.entries (Some end) }
+{
+    if let Some(mark) = claims.get_mut(t) {
+        *mark = Some(end);
+    }
+}
+
+impl State {
+    /// A run in which nothing is claimed and nothing is sent. It fits every job and its data.
+    pub fn start(alloc: Global) -> State
+        ensures state { result ≡ opening_run }
+        ensures fits { (P : Plan) (G : Data) → Fits P G result }
+    {
+        State {
+            alloc,
+            claims: IndexMap::new(alloc),
+            sent: SentItems::new(alloc),
+            arrived: IndexMap::new(alloc),
+        }
+    }
+
+    /// Claims a task, which runs from then on: true exactly if it is a task of the job, is not claimed, and all edges into it
+    /// were sent. Else nothing changes, nor does it without memory.
+    pub fn claim(&mut self, m: &Matched, t: &TaskId) -> Result<bool, OutOfMemory>
+        ensures exact { IfOk result (λ claimed. (G : Data) → Fits m.now G self.old → IsTrue claimed ↔ MayClaim m.now (machine self.old) t.now) }
+        ensures state { IfOk result (λ claimed. self.new ≡ (if claimed then with_claim t.now self.old else self.old)) }
+        ensures err { OnErr result (self.new ≡ self.old) }
+        ensures fits { (G : Data) → Fits m.now G self.old → Fits m.now G self.new }
+    {
+        if !self.may_claim(m, t) {
+            return Ok(false);
+        }
+        self.enter_task(t)?;
+        Ok(true)
+    }
+
+    // Whether a task may be claimed.
+    fn may_claim(&self, m: &Matched, t: &TaskId) -> bool
+        ensures exact { (G : Data) → Fits m.now G self.now → IsTrue result ↔ MayClaim m.now (machine self.now) t.now }
+        ensures unclaimed { IsTrue result → mark_of self.now t.now ≡ None }
+        ensures consistent { IsConsistent m.now }
+    {
+        if !is_task(m.plan(), t) {
+            return false;
+        }
+        if self.claims.contains_key(t) {
+            return false;
+        }
+        number_at(&self.arrived, t) == goal(m, t)
+    }
+
+    // Adds a task that is not claimed to the claims.
+    fn enter_task(&mut self, t: &TaskId) -> Result<(), OutOfMemory>
+        requires { mark_of self.old t.now ≡ None }
+        ensures ok { OnOk result (self.new ≡ with_claim t.now self.old) }
+        ensures err { OnErr result (self.new ≡ self.old) }
+    {
+        self.claims.insert(copy_of_task(t), None)?;
+        self.arrived.swap_remove(t);
+        Ok(())
+    }
+
+    /// Whether a task is claimed and has not ended.
+    pub fn is_running(&self, t: &TaskId) -> bool
+        ensures { IsTrue result ↔ IsRunning self.now t.now }
+    {
+        match self.claims.get(t) {
+            Some(end) => end.is_none(),
+            None => false,
+        }
+    }
+
+    /// Runs the body of a running task on the tiles that were sent to it, and notes how it ended: with a trap exactly if the
+    /// call gives its cause. Nothing else changes, and nothing at all without memory.
+    pub fn finish(
+        &mut self,
+        m: &Matched,
+        given: &Given,
+        t: &TaskId,
+    ) -> Result<Option<Trap>, OutOfMemory>
+        requires running { IsRunning self.old t.now }
+        requires fits { Fits m.now given.now self.old }
+        ensures ok { IfOk result (λ trap. HasFinished m.now given.now t.now self.old self.new trap) }
+        ensures err { OnErr result (self.new ≡ self.old) }
+        ensures fits { Fits m.now given.now self.new }
+    {
+        let plan = m.plan();
+        let start = Start {
+            plan,
+            given,
+            task: t,
+        };
+        let mut tiles = own_tiles(self.alloc, &start)?;
+        take_tiles(plan, t, 0, &mut self.sent, &mut tiles);
+        let end = run_task(plan, t, tiles);
+        let trap = trap_of(&end);
+        mark(&mut self.claims, t, end);
+        Ok(trap)
+    }
+
+    /// Sends an item with the tile that its task left: true exactly if it was not sent, and is an item of a task that has ended
+    /// without a trap. Else nothing changes, nor does it without memory.
+    pub fn send(&mut self, m: &Matched, item: &Item) -> Result<bool, OutOfMemory>
+        requires fits { (G : Data) × Fits m.now G self.old }
+        ensures exact { IfOk result (λ sent. (G : Data) → Fits m.now G self.old → IsTrue sent ↔ MaySendNow m.now G self.old item.now) }
+        ensures state { IfOk result (λ sent. self.new ≡ (if sent then with_send item.now self.old else self.old)) }
+        ensures err { OnErr result (self.new ≡ self.old) }
+        ensures fits { (G : Data) → Fits m.now G self.old → Fits m.now G self.new }
+    {
+        if !self.may_send(m, item) {
+            return Ok(false);
+        }
+        self.enter_item(item)?;
+        Ok(true)
+    }
+
+    // Whether an item may be sent.
+    fn may_send(&self, m: &Matched, item: &Item) -> bool
+        requires fits { (G : Data) × Fits m.now G self.now }
+        ensures exact { (G : Data) → Fits m.now G self.now → IsTrue result ↔ MaySendNow m.now G self.now item.now }
+        ensures unsent { IsTrue result → IsUnsent self.now.sends item.now }
+        ensures target { IsTrue result → GoesToWaiting self.now item.now }
+        ensures consistent { IsConsistent m.now }
+    {
+        let plan = m.plan();
+        if !self.has_outputs(sender(item)) {
+            return false;
+        }
+        if !self.is_unsent(item) {
+            return false;
+        }
+        is_item(plan, item)
+    }
+
+    // Whether a task has ended without a trap.
+    fn has_outputs(&self, t: &TaskId) -> bool
+        ensures { result ≡ ending.has_outputs (end_of self.now t.now) }
+    {
+        match self.claims.get(t) {
+            Some(end) => has_outputs(end),
+            None => false,
+        }
+    }
+
+    // Whether an item was not sent.
+    fn is_unsent(&self, item: &Item) -> bool
+        ensures { IsTrue result ↔ IsUnsent self.now.sends item.now }
+    {
+        self.sent.is_unsent(item)
+    }
+
+    // The tiles that a task left, if it has ended without a trap.
+    fn outputs(&self, t: &TaskId) -> Option<&Seq<Option<Tile>>>
+        ensures { option_copied result ≡ possible.outputs_of (end_of self.now t.now) }
+    {
+        match self.claims.get(t) {
+            Some(end) => outputs_of(end),
+            None => None,
+        }
+    }
+
+    // A copy of the tile that the task of an item left in the flow of the item.
+    fn output_copy(&self, item: &Item) -> Result<Option<Tile>, OutOfMemory>
+        ensures { IfOk result (λ tile. tile ≡ output_tile (end_of self.now (events.sender item.now)) (items.item_flow item.now)) }
+    {
+        match self.outputs(sender(item)) {
+            Some(tiles) => copy_if_any(self.alloc, tile_at(tiles, item_flow(item))),
+            None => Ok(None),
+        }
+    }
+
+    // Adds an item that was not sent, with the tile that its task left.
+    fn enter_item(&mut self, item: &Item) -> Result<(), OutOfMemory>
+        requires unsent { IsUnsent self.old.sends item.now }
+        requires target { GoesToWaiting self.old item.now }
+        ensures ok { OnOk result (self.new ≡ with_send item.now self.old) }
+        ensures err { OnErr result (self.new ≡ self.old) }
+    {
+        let tile = self.output_copy(item)?;
+        self.arrived.reserve(1)?;
+        self.sent.add(copy_of_item(item), tile)?;
+        count_item(&mut self.arrived, item);
+        Ok(())
+    }
+}

@@ -1,0 +1,169 @@
+//! The answer of a run in which nothing more can happen.
+
+ghost use Rattle.std.specs.Prelude.{◌≡◌, ◌<◌, ◌≤◌, ◌++◌, [], ◌∷◌, drop, length, map, IfOk, OnOk, List, slice_get, Some};
+ghost use Rattle.ptg_base.specs.Task.{Task};
+ghost use Rattle.ptg_base.specs.TaskOrder.{in_task_order};
+ghost use Rattle.term_core.specs.declared.space.ClassSpace.{ClassSpace as ClassSpaceValue};
+ghost use Rattle.range_space.specs.Tasks as range;
+ghost use Rattle.coll_data.specs.Data.{Data};
+ghost use Rattle.plan_data.specs.Fit.{DataFit};
+ghost use Rattle.dep_iter.specs.Tasks.{IsTask, task, tasks_from};
+ghost use Rattle.dep_iter.specs.Consistent.{IsConsistent};
+ghost use Rattle.flow_meaning.specs.declared.outcome.TrapRow.{TrapRow as TrapRowValue};
+ghost use Rattle.flow_meaning.specs.Answer as meaning;
+ghost use Rattle.flow_meaning.specs.Answer.{trap_rows};
+ghost use Rattle.flow_meaning.specs.Machine.{IsQuiescent};
+ghost use Rattle.flow_meaning.specs.StateAnswer.{state_data};
+ghost use Rattle.flow_meaning.specs.Table.{waiting_rows};
+ghost use Rattle.flow_core.specs.RunState.{IsRunning, machine};
+ghost use Rattle.flow_core.specs.Fits.{Fits};
+ghost use Rattle.flow_core.specs.Rows.{claim_traps, waits_among};
+
+use crate::arrivals::number_at;
+use crate::body::End;
+use crate::possible::copy_of_task;
+use crate::spaces::space_of;
+use crate::state::State;
+use coll_data::Given;
+use dep_iter::Matched;
+use flow_meaning::{Outcome, TrapRow, WaitRow, a_quiescent_state_has_the_meaning};
+use goal_count::goal;
+use ptg_base::{OutOfMemory, Seq, TaskId};
+use range_space::Space;
+use run_answer::{traps_in_task_order, waits_in_task_order, with_written};
+
+// Adds the row of a claimed task if it has trapped.
+fn push_trap(t: &TaskId, end: &Option<End>, rows: &mut Vec<TrapRow>) -> Result<(), OutOfMemory>
+    ensures { OnOk result (rows.new.items ≡ rows.old.items ++ trap_rows t.now end.now) }
+{
+    let Some(end) = end else {
+        return Ok(());
+    };
+    let Err(cause) = end else {
+        return Ok(());
+    };
+    rows.push(TrapRow {
+        task: copy_of_task(t),
+        cause: *cause,
+    })?;
+    Ok(())
+}
+
+impl State {
+    /// The answer of a run in which no task runs and nothing more can happen.
+    pub fn answer(self, m: &Matched, given: Given) -> Result<Outcome, OutOfMemory>
+        requires idle { (t : Task) → IsRunning self t → ⊥ }
+        requires fits { Fits m.now given self }
+        requires quiet { IsQuiescent m.now given (machine self) }
+        requires known { DataFit m.now.colls m.now.elems given }
+        ensures { IfOk result (λ outcome. outcome ≡ meaning.answer m.now given) }
+    {
+        a_quiescent_state_has_the_meaning();
+        let _ = m.plan();
+        let traps = self.traps()?;
+        if !traps.is_empty() {
+            return Ok(Outcome::Trapped(traps));
+        }
+        let ran = self.claims.len() as u64;
+        let all = m.tasks();
+        if ran == all {
+            return Ok(Outcome::Complete(all, self.final_data(m, given)?));
+        }
+        Ok(Outcome::Stalled(ran, all, self.waits(m)?))
+    }
+
+    // The rows of the tasks that have trapped, in task order.
+    fn traps(&self) -> Result<Seq<TrapRow>, OutOfMemory>
+        ensures { IfOk result (λ rows. rows ≡ in_task_order (λ (r : TrapRowValue). r.task) (claim_traps self.now.claims)) }
+    {
+        let mut rows = Vec::new(self.alloc);
+        for (t, end) in self.claims.iter() {
+            push_trap(t, end, &mut rows)?;
+        }
+        traps_in_task_order(rows)
+    }
+
+    // The rows of the tasks that wait, in task order.
+    fn waits(&self, m: &Matched) -> Result<Seq<WaitRow>, OutOfMemory>
+        requires { (G : Data) × Fits m.now G self.now }
+        ensures { IfOk result (λ rows. rows ≡ waiting_rows m.now (machine self.now)) }
+    {
+        let mut rows = Vec::new(self.alloc);
+        self.push_waits(m, 0, &mut rows)?;
+        waits_in_task_order(rows)
+    }
+
+    // Adds the rows of the tasks that wait, of the classes from this number on.
+    fn push_waits(
+        &self,
+        m: &Matched,
+        class: u32,
+        rows: &mut Vec<WaitRow>,
+    ) -> Result<(), OutOfMemory>
+        requires { (G : Data) × Fits m.now G self.now }
+        ensures { (ss : List ClassSpaceValue) → drop class m.now.spaces ≡ ss → OnOk result (rows.new.items ≡ rows.old.items ++ waits_among m.now (machine self.now) (tasks_from class ss)) }
+    {
+        if class as usize >= m.plan().classes.len() {
+            return Ok(());
+        }
+        self.push_waits_of(m, class, rows)?;
+        self.push_waits(m, class + 1, rows)
+    }
+
+    // Adds the rows of the tasks of a class that wait.
+    fn push_waits_of(
+        &self,
+        m: &Matched,
+        class: u32,
+        rows: &mut Vec<WaitRow>,
+    ) -> Result<(), OutOfMemory>
+        requires fits { (G : Data) × Fits m.now G self.now }
+        requires class { class < length m.now.classes }
+        requires consistent { IsConsistent m.now }
+        ensures { (s : ClassSpaceValue) → slice_get m.now.spaces class ≡ Some s → OnOk result (rows.new.items ≡ rows.old.items ++ waits_among m.now (machine self.now) (map (task class) (range.tasks s))) }
+    {
+        for params in Space::new(space_of(m, class)) {
+            let t = TaskId::new(class, params.as_slice());
+            self.push_wait(m, &t, rows)?;
+        }
+        Ok(())
+    }
+
+    // Adds the row of a task if it waits.
+    fn push_wait(&self, m: &Matched, t: &TaskId, rows: &mut Vec<WaitRow>) -> Result<(), OutOfMemory>
+        requires fits { (G : Data) × Fits m.now G self.now }
+        requires task { IsTask m.now t.now }
+        requires consistent { IsConsistent m.now }
+        ensures { OnOk result (rows.new.items ≡ rows.old.items ++ waits_among m.now (machine self.now) (t.now ∷ [])) }
+    {
+        if self.claims.contains_key(t) {
+            return Ok(());
+        }
+        let arrived = number_at(&self.arrived, t);
+        let goal = goal(m, t);
+        if arrived == 0 {
+            return Ok(());
+        }
+        if arrived >= goal {
+            return Ok(());
+        }
+        rows.push(WaitRow {
+            task: copy_of_task(t),
+            arrived,
+            goal,
+        })?;
+        Ok(())
+    }
+
+    // The data with each place replaced to which a tile was written back.
+    fn final_data(self, m: &Matched, given: Given) -> Result<Given, OutOfMemory>
+        requires fits { Fits m.now given self }
+        requires known { DataFit m.now.colls m.now.elems given }
+        ensures { IfOk result (λ end. end ≡ state_data given (machine self)) }
+    {
+        let _ = m.plan();
+        let _ = given.colls();
+        let written = self.sent.into_writes(self.alloc)?;
+        Ok(with_written(given, written))
+    }
+}

@@ -1,0 +1,123 @@
+//! Whether anything more can happen in a run.
+
+ghost use Rattle.std.specs.Prelude.{◌≡◌, ◌<◌, ◌≤◌, ◌↔◌, IsTrue, List, Some, drop, length, slice_get};
+ghost use Rattle.ptg_base.specs.Task.{Task};
+ghost use Rattle.ptg_base.specs.declared.edge.Edge.{Edge as EdgeValue};
+ghost use Rattle.ptg_base.specs.declared.edge.WriteBack.{WriteBack as WriteBackValue};
+ghost use Rattle.ptg_base.specs.declared.edge.Item.TheVariants as item;
+ghost use Rattle.term_core.specs.declared.space.ClassSpace.{ClassSpace as ClassSpaceValue};
+ghost use Rattle.range_space.specs.Tasks as range;
+ghost use Rattle.coll_data.specs.Data.{Data};
+ghost use Rattle.dep_iter.specs.Items as items;
+ghost use Rattle.dep_iter.specs.Tasks.{IsTask, task, tasks_from};
+ghost use Rattle.flow_meaning.specs.Machine.{IsQuiescent, MayClaim};
+ghost use Rattle.flow_core.specs.RunState.{IsRunning, machine};
+ghost use Rattle.flow_core.specs.Fits.{Fits};
+ghost use Rattle.flow_core.specs.Quiet.{HasOne, Owes};
+ghost use Rattle.flow_core.specs.SentItems.{IsUnsent};
+
+use crate::body::End;
+use crate::outputs::has_outputs;
+use crate::spaces::space_of;
+use crate::state::State;
+use dep_iter::{Matched, out_edges, write_backs};
+use ptg_base::{Item, TaskId};
+use range_space::Space;
+
+impl State {
+    /// Whether nothing more can happen in a run in which no task runs: no task may be claimed, and no item may be sent.
+    pub fn quiescent(&self, m: &Matched) -> bool
+        requires idle { (t : Task) → IsRunning self.now t → ⊥ }
+        requires fits { (G : Data) × Fits m.now G self.now }
+        ensures { (G : Data) → Fits m.now G self.now → IsTrue result ↔ IsQuiescent m.now G (machine self.now) }
+    {
+        let _ = m.plan();
+        if self.has_ready(m, 0) {
+            return false;
+        }
+        !self.has_owing(m)
+    }
+
+    // Whether a task may be claimed, of the classes from this number on.
+    fn has_ready(&self, m: &Matched, class: u32) -> bool
+        requires { (G : Data) × Fits m.now G self.now }
+        ensures { (ss : List ClassSpaceValue) → drop class m.now.spaces ≡ ss → IsTrue result ↔ HasOne (MayClaim m.now (machine self.now)) (tasks_from class ss) }
+    {
+        if class as usize >= m.plan().classes.len() {
+            return false;
+        }
+        if self.has_ready_of(m, class) {
+            return true;
+        }
+        self.has_ready(m, class + 1)
+    }
+
+    // Whether a task of a class may be claimed.
+    fn has_ready_of(&self, m: &Matched, class: u32) -> bool
+        requires fits { (G : Data) × Fits m.now G self.now }
+        requires class { class < length m.now.classes }
+        ensures { (s : ClassSpaceValue) → slice_get m.now.spaces class ≡ Some s → IsTrue result ↔ HasOne (λ params. MayClaim m.now (machine self.now) (task class params)) (range.tasks s) }
+    {
+        let space = space_of(m, class);
+        for params in Space::new(space) {
+            let t = TaskId::new(class, params.as_slice());
+            if self.may_claim(m, &t) {
+                return true;
+            }
+        }
+        false
+    }
+
+    // Whether an item of a task that has ended without a trap was not sent.
+    fn has_owing(&self, m: &Matched) -> bool
+        requires { (G : Data) × Fits m.now G self.now }
+        ensures { IsTrue result ↔ HasOne (Owes m.now self.now.sends) self.now.claims }
+    {
+        for (t, end) in self.claims.iter() {
+            if self.owes(m, t, end) {
+                return true;
+            }
+        }
+        false
+    }
+
+    // Whether a claimed task has ended without a trap, and an item of it was not sent.
+    fn owes(&self, m: &Matched, t: &TaskId, end: &Option<End>) -> bool
+        requires { IsTask m.now t.now }
+        ensures { IsTrue result ↔ Owes m.now self.now.sends (t.now, end.now) }
+    {
+        if !has_outputs(end) {
+            return false;
+        }
+        if self.owes_edge(m, t) {
+            return true;
+        }
+        self.owes_write(m, t)
+    }
+
+    // Whether an edge out of a task was not sent.
+    fn owes_edge(&self, m: &Matched, t: &TaskId) -> bool
+        requires { IsTask m.now t.now }
+        ensures { IsTrue result ↔ HasOne (λ (e : EdgeValue). IsUnsent self.now.sends (item.Edge e)) (items.out_edges m.now t.now) }
+    {
+        for edge in out_edges(m.plan(), t) {
+            if self.is_unsent(&Item::Edge(edge)) {
+                return true;
+            }
+        }
+        false
+    }
+
+    // Whether a write-back of a task was not sent.
+    fn owes_write(&self, m: &Matched, t: &TaskId) -> bool
+        requires { IsTask m.now t.now }
+        ensures { IsTrue result ↔ HasOne (λ (w : WriteBackValue). IsUnsent self.now.sends (item.Write w)) (items.write_backs m.now t.now) }
+    {
+        for write in write_backs(m.plan(), t) {
+            if self.is_unsent(&Item::Write(write)) {
+                return true;
+            }
+        }
+        false
+    }
+}
