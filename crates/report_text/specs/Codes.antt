@@ -42,7 +42,6 @@ jdf_code jdf.MixedTypes = codes "MixedTypes"
 jdf_code jdf.TypeDiffers = codes "TypeDiffers"
 jdf_code jdf.ReadAssigned = codes "ReadAssigned"
 jdf_code jdf.NotAssignable = codes "NotAssignable"
-jdf_code jdf.NotBuilt = codes "NotBuilt"
 
 -- the code of a refused data file
 abbrev pub data_code : DataCode → List ℕ

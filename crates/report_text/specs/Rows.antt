@@ -46,7 +46,7 @@ pub record IsTrapOf (plan : Plan) (row : TrapRow) : Type 0 where
   pub class : HasClass plan row.task
   pub word : HasWord (trap_words plan row.task.class) row.cause
 
--- so it is of each row of an answer
+-- each row of an answer has its class, and each trap its word
 abbrev pub HasRowsOf : Plan → Outcome → Type 0
 HasRowsOf plan (Complete count given) = Unit {0}
 HasRowsOf plan (Trapped rows) = All (IsTrapOf plan) rows

@@ -46,7 +46,7 @@ pub fn consistent<O: Sink>(tasks: u64, edges: u64, writes: u64, sink: &mut O) ->
     flush(sink, &mut out)
 }
 
-/// Puts the text of an answer.
+// Puts the text of an answer.
 fn put_outcome<O: Sink>(
     sink: &mut O,
     out: &mut Pieces,
@@ -60,7 +60,7 @@ fn put_outcome<O: Sink>(
     put_rows(sink, out, plan, outcome)
 }
 
-/// Puts what became of the job, with its counts.
+// Puts what became of the job, with its counts.
 fn put_first_line<O: Sink>(sink: &mut O, out: &mut Pieces, outcome: &Outcome) -> Result<(), Failed>
     ensures { Puts O.bytes O.faults result sink.old out.old sink.new out.new (first_line outcome.now) }
 {
@@ -76,7 +76,7 @@ fn put_first_line<O: Sink>(sink: &mut O, out: &mut Pieces, outcome: &Outcome) ->
     }
 }
 
-/// Puts the lines of the tiles, or of the tasks that trapped or wait.
+// Puts the lines of the tiles, or of the tasks that trapped or wait.
 fn put_rows<O: Sink>(
     sink: &mut O,
     out: &mut Pieces,

@@ -45,7 +45,6 @@ pub fn jdf_code(code: JdfCode) -> &'static [u8]
         JdfCode::TypeDiffers => b"TypeDiffers",
         JdfCode::ReadAssigned => b"ReadAssigned",
         JdfCode::NotAssignable => b"NotAssignable",
-        JdfCode::NotBuilt => b"NotBuilt",
     }
 }
 

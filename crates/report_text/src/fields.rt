@@ -9,7 +9,7 @@ use crate::numbers::{put_integer, put_number};
 use crate::pieces::{Pieces, put_byte, put_bytes};
 use ptg_io::{Failed, Sink};
 
-/// What stands in a line after its first word.
+/// A field of a line, after its first word: one field, or integers, a field each.
 #[derive(Clone, Copy)]
 pub enum Field<'a> {
     /// These bytes.
@@ -34,7 +34,7 @@ pub fn put_line<O: Sink>(
     put_byte(sink, out, b'\n')
 }
 
-/// Puts fields, a comma before each.
+// Puts fields, a comma before each.
 fn put_fields<O: Sink>(sink: &mut O, out: &mut Pieces, fields: &[Field]) -> Result<(), Failed>
     ensures { Puts O.bytes O.faults result sink.old out.old sink.new out.new
         (flat_map (λ field. with_commas (field_texts field)) fields.now) }
@@ -45,7 +45,7 @@ fn put_fields<O: Sink>(sink: &mut O, out: &mut Pieces, fields: &[Field]) -> Resu
     Ok(())
 }
 
-/// Puts the texts of a field, a comma before each.
+// Puts the texts of a field, a comma before each.
 fn put_field<O: Sink>(sink: &mut O, out: &mut Pieces, field: &Field) -> Result<(), Failed>
     ensures { Puts O.bytes O.faults result sink.old out.old sink.new out.new (with_commas (field_texts field.now)) }
 {
@@ -56,7 +56,7 @@ fn put_field<O: Sink>(sink: &mut O, out: &mut Pieces, field: &Field) -> Result<(
     }
 }
 
-/// Puts a word after a comma.
+// Puts a word after a comma.
 fn put_word_field<O: Sink>(sink: &mut O, out: &mut Pieces, word: &[u8]) -> Result<(), Failed>
     ensures { Puts O.bytes O.faults result sink.old out.old sink.new out.new (44 ∷ word.now) }
 {
@@ -64,7 +64,7 @@ fn put_word_field<O: Sink>(sink: &mut O, out: &mut Pieces, word: &[u8]) -> Resul
     put_bytes(sink, out, word)
 }
 
-/// Puts a number after a comma.
+// Puts a number after a comma.
 fn put_number_field<O: Sink>(sink: &mut O, out: &mut Pieces, n: u64) -> Result<(), Failed>
     ensures { Puts O.bytes O.faults result sink.old out.old sink.new out.new (44 ∷ decimal n) }
 {
@@ -72,7 +72,7 @@ fn put_number_field<O: Sink>(sink: &mut O, out: &mut Pieces, n: u64) -> Result<(
     put_number(sink, out, n)
 }
 
-/// Puts integers, a comma before each.
+// Puts integers, a comma before each.
 fn put_integers<O: Sink>(sink: &mut O, out: &mut Pieces, numbers: &[i64]) -> Result<(), Failed>
     ensures { Puts O.bytes O.faults result sink.old out.old sink.new out.new
         (flat_map (λ n. 44 ∷ signed_decimal n) numbers.now) }
@@ -83,7 +83,7 @@ fn put_integers<O: Sink>(sink: &mut O, out: &mut Pieces, numbers: &[i64]) -> Res
     Ok(())
 }
 
-/// Puts an integer after a comma.
+// Puts an integer after a comma.
 fn put_integer_field<O: Sink>(sink: &mut O, out: &mut Pieces, n: i64) -> Result<(), Failed>
     ensures { Puts O.bytes O.faults result sink.old out.old sink.new out.new (44 ∷ signed_decimal n) }
 {

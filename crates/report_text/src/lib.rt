@@ -4,6 +4,7 @@
 mod answer;
 mod codes;
 mod fields;
+mod laws;
 mod numbers;
 mod pieces;
 mod refusal_line;
@@ -11,4 +12,5 @@ mod rows;
 mod tiles;
 
 pub use answer::{consistent, report};
+pub use laws::answers_have_rows_of_their_plan;
 pub use refusal_line::{Line, refusal};

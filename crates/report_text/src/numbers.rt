@@ -1,3 +1,5 @@
+//! Numbers in decimal.
+
 ghost use Rattle.std.specs.Fmt.{decimal, signed_decimal};
 ghost use Rattle.report_text.specs.Puts.{Puts};
 

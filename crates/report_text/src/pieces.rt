@@ -1,10 +1,12 @@
+//! Bytes that are kept back until there are enough for a piece, and written then.
+
 ghost use Rattle.std.specs.Prelude.{◌≡◌, ◌∷◌, [], ◌++◌, ◌<◌, length, IsFalse, OnOk};
 ghost use Rattle.report_text.specs.Puts.{Puts};
 
 use ptg_io::{Failed, Sink, write_all};
 use std::marker::Model;
 
-/// How many bytes go out at once.
+// How many bytes go out at once.
 const PIECE: usize = 4096;
 
 /// The bytes that are kept back until there are enough for a piece, seen as the list of them.
@@ -24,7 +26,7 @@ impl Model for Pieces {
     ghost invariant = { λ p. p.count ≤ 4096 };
 }
 
-/// A buffer, with anything in it.
+// A buffer of zeros. Contracts see none of its bytes before one is put.
 fn any_buffer() -> [u8; PIECE] {
     [0; PIECE]
 }
@@ -76,7 +78,7 @@ pub fn flush<O: Sink>(sink: &mut O, out: &mut Pieces) -> Result<(), Failed>
     Ok(())
 }
 
-/// Writes what is kept back if there is no room for one more byte.
+// Writes what is kept back if there is no room for one more byte.
 fn make_room<O: Sink>(sink: &mut O, out: &mut Pieces) -> Result<(), Failed>
     ensures puts { Puts O.bytes O.faults result sink.old out.old sink.new out.new [] }
     ensures room { OnOk result (length out.new < 4096) }

@@ -14,16 +14,16 @@ use edge_match::MatchFault;
 use jdf_lex::JdfFault;
 use ptg_io::{Failed, Sink};
 
-/// Why a job was not run.
+/// A refusal, as it is printed.
 #[derive(Clone, Copy, Debug)]
 pub enum Line<'a> {
-    /// The words of the command line are no command.
+    /// The arguments form no valid command.
     Usage,
     /// The JDF is refused.
     Jdf(JdfFault),
     /// The data file is refused.
     Rows(DataFault),
-    /// The job is not consistent: its fault, the name of the fault's class, and that of its flow, if it is one's fault.
+    /// The job is not consistent: its fault, the name of the fault's class, and that of its flow, if the fault is at a flow.
     Match(&'a MatchFault, &'a [u8], &'a [u8]),
     /// The file with this name could not be read.
     Unread(&'a [u8]),
@@ -43,7 +43,7 @@ pub fn refusal<O: Sink>(line: &Line, sink: &mut O) -> Result<(), Failed>
     flush(sink, &mut out)
 }
 
-/// Puts the text of a refusal.
+// Puts the text of a refusal.
 fn put_refusal<O: Sink>(sink: &mut O, out: &mut Pieces, line: &Line) -> Result<(), Failed>
     ensures { Puts O.bytes O.faults result sink.old out.old sink.new out.new (refusal_text line.now) }
 {
@@ -67,7 +67,7 @@ fn put_refusal<O: Sink>(sink: &mut O, out: &mut Pieces, line: &Line) -> Result<(
     }
 }
 
-/// Puts the line of a job that is not consistent.
+// Puts the line of a job that is not consistent.
 fn put_inconsistent<'a, O: Sink>(
     sink: &mut O,
     out: &mut Pieces,
@@ -86,7 +86,7 @@ fn put_inconsistent<'a, O: Sink>(
     put_line(sink, out, b"inconsistent", &fields)
 }
 
-/// The flow of a fault: its name, or `-` where the fault is of no flow.
+// The flow of a fault: its name, or `-` where the fault is at no flow.
 fn flow_text(flow: Option<u8>, name: &[u8]) -> &[u8]
     ensures { result.now ≡ flow_text flow name.now }
 {

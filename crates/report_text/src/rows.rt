@@ -30,7 +30,7 @@ pub fn put_traps<O: Sink>(
     Ok(())
 }
 
-/// Puts the line of a task that trapped.
+// Puts the line of a task that trapped.
 fn put_trap<'a, O: Sink>(
     sink: &mut O,
     out: &mut Pieces,
@@ -47,7 +47,7 @@ fn put_trap<'a, O: Sink>(
     put_line(sink, out, b"trap", &[name, params, cause])
 }
 
-/// The text of a cause, in a class with these trap words.
+// The text of a cause, in a class with these trap words.
 fn cause_text(words: &[Text], trap: Trap) -> &[u8]
     requires { HasWord words.now trap }
     ensures { result.now ≡ cause_text words.now trap }
@@ -78,7 +78,7 @@ pub fn put_waits<O: Sink>(
     Ok(())
 }
 
-/// Puts the line of a task that waits.
+// Puts the line of a task that waits.
 fn put_wait<'a, O: Sink>(
     sink: &mut O,
     out: &mut Pieces,

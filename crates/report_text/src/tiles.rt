@@ -22,7 +22,7 @@ pub fn put_colls<O: Sink>(sink: &mut O, out: &mut Pieces, colls: &[Coll]) -> Res
     Ok(())
 }
 
-/// Puts the lines of the tiles of a collection, in their order.
+// Puts the lines of the tiles of a collection, in their order.
 fn put_coll<O: Sink>(sink: &mut O, out: &mut Pieces, coll: &Coll) -> Result<(), Failed>
     requires { IsWhole coll.now }
     ensures { Puts O.bytes O.faults result sink.old out.old sink.new out.new (coll_lines coll.now) }
@@ -34,7 +34,7 @@ fn put_coll<O: Sink>(sink: &mut O, out: &mut Pieces, coll: &Coll) -> Result<(), 
     Ok(())
 }
 
-/// Puts the line of the tile that has `n` tiles of its collection before it.
+// Puts the line of the tile that has `n` tiles of its collection before it.
 fn put_tile<'a, O: Sink>(
     sink: &mut O,
     out: &mut Pieces,
