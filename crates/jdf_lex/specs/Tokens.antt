@@ -3,7 +3,7 @@
 use Rattle.std.specs.Prelude.{◌≡◌, ℕ, ◌+◌, ◌≤◌, ◌⊎◌, Bool, true, false, not, ◌==◌, List, [], ◌∷◌, ◌++◌, length, count_by, Some, IsTrue, IsFalse}
 use Rattle.std.specs.List.{suffix_len}
 use Rattle.jdf_lex.specs.declared.fault.JdfCode.{JdfCode}
-use Rattle.jdf_lex.specs.declared.fault.JdfCode.TheVariants.{Unclosed, TooManyTokens, NotBuilt}
+use Rattle.jdf_lex.specs.declared.fault.JdfCode.TheVariants.{Unclosed, TooManyTokens}
 use Rattle.jdf_lex.specs.declared.fault.JdfFault.{JdfFault}
 use Rattle.jdf_lex.specs.declared.lexical_unit.LexicalUnit.{LexicalUnit}
 use Rattle.jdf_lex.specs.declared.lexical_unit.LexicalUnit.TheVariants.{Blank, LineComment, BlockComment, TokenOf}
@@ -120,7 +120,3 @@ NotBoth = (text : List ℕ) → HasTokens text → HasFault text → ⊥
 -- A text has at most one first token fault.
 abbrev pub OneTokenFault : Type 0
 OneTokenFault = (text : List ℕ) (fault other : JdfFault) → IsTokenFault text fault → IsTokenFault text other → fault ≡ other
-
--- The fault of a text that has a form that is not supported yet; its spot is the first one.
-abbrev pub not_built : JdfFault
-not_built = record { spot = record { line = 1; column = 1 }; code = NotBuilt }

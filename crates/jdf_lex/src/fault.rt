@@ -72,8 +72,6 @@ pub enum JdfCode {
     ReadAssigned,
     /// A body assigns to a global, a local or a loop variable.
     NotAssignable,
-    /// The text has a form that is not supported yet.
-    NotBuilt,
 }
 
 /// A fault of a text: where, and why.

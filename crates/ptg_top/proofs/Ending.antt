@@ -1,27 +1,24 @@
 -- A verdict that was printed whole.
-use Rattle.std.proofs.Common.{◌≡◌, ℕ, List, Some, subst, refl, ap, ◌∙◌, inl}
+use Rattle.std.proofs.Common.{◌≡◌, ℕ, List, Some, subst, sym, ap, ◌∙◌, inl, inr}
 use Rattle.std.specs.Prelude.{Option, ◌⊎◌}
 use Rattle.ptg_io.specs.Faults.{Rose}
 use Rattle.ptg_io.specs.Sink.{appended}
+use Rattle.flow_meaning.specs.declared.outcome.Outcome.TheVariants as outcome
+use Rattle.job_stages.specs.declared.verdict.JobVerdict.TheVariants as jobs
 use Rattle.ptg_top.specs.declared.status.Status.{Status}
 use Rattle.ptg_top.specs.declared.status.Status.TheVariants as status
-use Rattle.core_first.specs.declared.outcome.Outcome.TheVariants as outcome
 use Rattle.ptg_top.specs.declared.verdict.Verdict.{Verdict}
 use Rattle.ptg_top.specs.declared.verdict.Verdict.TheVariants as verdicts
-use Rattle.ptg_top.specs.Stages.{Entries}
-use Rattle.ptg_top.specs.Meaning.{Denotes, IsNoOrder}
-use Rattle.ptg_top.specs.Reports.{IsVerdictOnWords}
-use Rattle.ptg_top.specs.Headline.{text_of, status_of, usage_line, IsExact, Prints}
+use Rattle.ptg_top.specs.JobFiles.{Entries}
+use Rattle.ptg_top.specs.Meaning.{Denotes, IsNoOrder, MayBeUnread}
+use Rattle.ptg_top.specs.Reports.{IsOfTexts, IsVerdictOnWords}
+use Rattle.ptg_top.specs.Headline.{text_of, status_of, unread_line, usage_line, IsExact, Prints}
 
 -- arguments and files denote the verdict, unless it is a read fault
 denoted : (words : List (List ℕ)) (files : Entries) (contents : Option Entries) (old new : List ℕ → ℕ) (v : Verdict) → IsVerdictOnWords words contents old new v → contents ≡ Some files → ((name : List ℕ) → v ≡ verdicts.Unread name → Rose (old name) (new name) → ⊥) → Denotes words files v
-denoted words files contents old new verdicts.Usage h t read = inl h
-denoted words files contents old new (verdicts.Unread name) h t read = absurd (read name refl h.0)
-denoted words files contents old new (verdicts.Jdf fault) h t read = h.0 files t
-denoted words files contents old new (verdicts.Data fault) h t read = h.0 files t
-denoted words files contents old new (verdicts.Match fault) h t read = h.0 files t
-denoted words files contents old new (verdicts.Spelling text) h t read = h.0 files t
-denoted words files contents old new (verdicts.Answer P outcome) h t read = h.0 files t
+denoted words files contents old new v (inl h) t read = inl h
+denoted words files contents old new v (inr (request, asked, inl (name, rose, may, e))) t read = absurd (read name e rose)
+denoted words files contents old new v (inr (request, asked, inr (of, known))) t read = inr (request, asked, known files t)
 
 pub exact_prints : (words : List (List ℕ)) (files : Entries) (contents : Option Entries) (old new : List ℕ → ℕ) (before after : Option (List ℕ)) (v : Verdict) (s : Status)
     → IsVerdictOnWords words contents old new v → contents ≡ Some files → after ≡ appended before (text_of v) → s ≡ status_of v → IsExact s → Prints words files before after s
@@ -39,26 +36,55 @@ pub complete_prints : (words : List (List ℕ)) (files : Entries) (contents : Op
 complete_prints words files contents old new before after v s h t text ends none =
     inl (record { verdict = v; denoted = denoted words files contents old new v h t (λ name e rose. none name rose); text = text; ends = ends })
 
--- the status of usage comes with its line alone
-pub usage_is_its_line : (v : Verdict) → status_of v ≡ status.Usage → text_of v ≡ usage_line
-usage_is_its_line verdicts.Usage e = refl
-usage_is_its_line (verdicts.Unread name) e = absurd cc
-usage_is_its_line (verdicts.Jdf fault) e = absurd cc
-usage_is_its_line (verdicts.Data fault) e = absurd cc
-usage_is_its_line (verdicts.Match fault) e = absurd cc
-usage_is_its_line (verdicts.Spelling text) e = absurd cc
-usage_is_its_line (verdicts.Answer P (outcome.Complete count given)) e = absurd cc
-usage_is_its_line (verdicts.Answer P (outcome.Trapped rows)) e = absurd cc
-usage_is_its_line (verdicts.Answer P (outcome.Stalled ran total rows)) e = absurd cc
+-- ---- the status of a verdict on texts is neither that of usage nor that of a failed read or write
 
--- and only to arguments that form no command
-pub usage_is_no_order : (words : List (List ℕ)) (contents : Option Entries) (old new : List ℕ → ℕ) (v : Verdict) → IsVerdictOnWords words contents old new v → status_of v ≡ status.Usage → IsNoOrder words
-usage_is_no_order words contents old new verdicts.Usage h e = h
-usage_is_no_order words contents old new (verdicts.Unread name) h e = absurd cc
-usage_is_no_order words contents old new (verdicts.Jdf fault) h e = absurd cc
-usage_is_no_order words contents old new (verdicts.Data fault) h e = absurd cc
-usage_is_no_order words contents old new (verdicts.Match fault) h e = absurd cc
-usage_is_no_order words contents old new (verdicts.Spelling text) h e = absurd cc
-usage_is_no_order words contents old new (verdicts.Answer P (outcome.Complete count given)) h e = absurd cc
-usage_is_no_order words contents old new (verdicts.Answer P (outcome.Trapped rows)) h e = absurd cc
-usage_is_no_order words contents old new (verdicts.Answer P (outcome.Stalled ran total rows)) h e = absurd cc
+abbrev IsOfText : Status → Type 0
+IsOfText s = (s ≡ status.Usage → ⊥) × (s ≡ status.ReadFault → ⊥) × (s ≡ status.WriteFault → ⊥)
+
+of_texts : (v : Verdict) → IsOfTexts v → IsOfText (status_of v)
+of_texts verdicts.Usage h = absurd h
+of_texts (verdicts.Unread name) h = absurd h
+of_texts (verdicts.Job (jobs.Jdf fault)) h = (λ e. absurd cc, λ e. absurd cc, λ e. absurd cc)
+of_texts (verdicts.Job (jobs.Data fault)) h = (λ e. absurd cc, λ e. absurd cc, λ e. absurd cc)
+of_texts (verdicts.Job (jobs.Inconsistent P fault)) h = (λ e. absurd cc, λ e. absurd cc, λ e. absurd cc)
+of_texts (verdicts.Job (jobs.Consistent P given)) h = (λ e. absurd cc, λ e. absurd cc, λ e. absurd cc)
+of_texts (verdicts.Job (jobs.Answered P (outcome.Complete count given))) h = (λ e. absurd cc, λ e. absurd cc, λ e. absurd cc)
+of_texts (verdicts.Job (jobs.Answered P (outcome.Trapped rows))) h = (λ e. absurd cc, λ e. absurd cc, λ e. absurd cc)
+of_texts (verdicts.Job (jobs.Answered P (outcome.Stalled ran total rows))) h = (λ e. absurd cc, λ e. absurd cc, λ e. absurd cc)
+of_texts (verdicts.Spelling text) h = (λ e. absurd cc, λ e. absurd cc, λ e. absurd cc)
+
+not_usage : ◌≡◌ {A = Status} status.ReadFault status.Usage → ⊥
+not_usage e = absurd cc
+
+not_read_fault : ◌≡◌ {A = Status} status.Usage status.ReadFault → ⊥
+not_read_fault e = absurd cc
+
+module _ (words : List (List ℕ)) (contents : Option Entries) (old new : List ℕ → ℕ) (v : Verdict) where
+  -- the status of usage comes with its line alone, and only to arguments that form no command
+  pub usage_is_its_line : IsVerdictOnWords words contents old new v → status_of v ≡ status.Usage → text_of v ≡ usage_line
+  usage_is_its_line (inl h) e = ap text_of h.1
+  usage_is_its_line (inr (request, asked, inl (name, rose, may, d))) e = absurd (not_usage (sym (ap status_of d) ∙ e))
+  usage_is_its_line (inr (request, asked, inr (of, known))) e = absurd ((of_texts v of).0 e)
+
+  pub usage_is_no_order : IsVerdictOnWords words contents old new v → status_of v ≡ status.Usage → IsNoOrder words
+  usage_is_no_order (inl h) e = h.0
+  usage_is_no_order (inr (request, asked, inl (name, rose, may, d))) e = absurd (not_usage (sym (ap status_of d) ∙ e))
+  usage_is_no_order (inr (request, asked, inr (of, known))) e = absurd ((of_texts v of).0 e)
+
+  -- arguments that form no command have no other verdict
+  pub no_order_is_usage : IsVerdictOnWords words contents old new v → IsNoOrder words → status_of v ≡ status.Usage
+  no_order_is_usage (inl h) none = ap status_of h.1
+  no_order_is_usage (inr (request, asked, h)) none = absurd (none request asked)
+
+  -- the status of a read fault comes with the name of a file of which a read failed
+  pub read_fault_names : IsVerdictOnWords words contents old new v → status_of v ≡ status.ReadFault
+      → (name : List ℕ) × Rose (old name) (new name) × MayBeUnread words contents name × (text_of v ≡ unread_line name)
+  read_fault_names (inl h) e = absurd (not_read_fault (sym (ap status_of h.1) ∙ e))
+  read_fault_names (inr (request, asked, inl (name, rose, may, d))) e = (name, rose, (request, asked, may), ap text_of d)
+  read_fault_names (inr (request, asked, inr (of, known))) e = absurd ((of_texts v of).1 e)
+
+  -- no verdict has the status of a write fault
+  pub no_write_fault : IsVerdictOnWords words contents old new v → status_of v ≡ status.WriteFault → ⊥
+  no_write_fault (inl h) e = let d : ◌≡◌ {A = Status} status.Usage status.WriteFault = sym (ap status_of h.1) ∙ e in absurd cc
+  no_write_fault (inr (request, asked, inl (name, rose, may, d))) e = let f : ◌≡◌ {A = Status} status.ReadFault status.WriteFault = sym (ap status_of d) ∙ e in absurd cc
+  no_write_fault (inr (request, asked, inr (of, known))) e = (of_texts v of).2 e

@@ -1,5 +1,6 @@
-pub mod Stopping
-pub mod Leading
+pub mod Requested
+pub mod Checked
+pub mod Carried
+pub mod JobTexts
 pub mod Ending
 pub mod Once
-pub mod Shown

@@ -1,19 +1,16 @@
 -- What is printed for a verdict, and what a run of the program promises. Source: this project's own choice of lines and statuses.
 use Rattle.std.specs.Prelude.{◌≡◌, ℕ, List, [], ◌∷◌, Option, codes}
 use Rattle.ptg_io.specs.Sink.{appended}
-use Rattle.core_first.specs.declared.outcome.Outcome.{Outcome}
-use Rattle.core_first.specs.declared.outcome.Outcome.TheVariants as outcome
-use Rattle.report_first.specs.Printed.{line, outcome_text}
-use Rattle.report_first.specs.Refusal.{refusal_text}
-use Rattle.report_first.specs.declared.refusal_line.Line.TheVariants as line_of
-use Rattle.report_first.specs.Puts.{HasPrefix}
+use Rattle.report_text.specs.Field.{line}
+use Rattle.report_text.specs.Puts.{HasPrefix}
 use Rattle.ptg_top.specs.declared.status.Status.{Status}
 use Rattle.ptg_top.specs.declared.status.Status.TheVariants.{Complete, Usage, JdfRefused, DataRefused, Inconsistent, Trapped, Stalled, ReadFault, WriteFault, OutOfMemory}
 use Rattle.ptg_top.specs.declared.verdict.Verdict.{Verdict}
 use Rattle.ptg_top.specs.declared.verdict.Verdict.TheVariants as verdicts
-use Rattle.ptg_top.specs.Stages.{Entries}
+use Rattle.ptg_top.specs.JobFiles.{Entries}
 use Rattle.ptg_top.specs.Meaning.{Denotes}
 use Rattle.ptg_top.specs.Reports.{IsVerdictOnWords}
+use Rattle.ptg_top.specs.JobText.{job_text, status_of_job}
 
 -- the line that names a file which could not be read
 abbrev pub unread_line : List ℕ → List ℕ
@@ -25,28 +22,17 @@ usage_line = line (codes "usage" ∷ [])
 
 -- what is printed for a verdict
 abbrev pub text_of : Verdict → List ℕ
-text_of verdicts.Usage = refusal_text line_of.Usage
+text_of verdicts.Usage = usage_line
 text_of (verdicts.Unread name) = unread_line name
-text_of (verdicts.Jdf fault) = refusal_text (line_of.Jdf fault)
-text_of (verdicts.Data fault) = refusal_text (line_of.Rows fault)
-text_of (verdicts.Match fault) = refusal_text line_of.Match
+text_of (verdicts.Job job) = job_text job
 text_of (verdicts.Spelling text) = text
-text_of (verdicts.Answer P answer) = outcome_text P answer
-
-abbrev pub status_of_outcome : Outcome → Status
-status_of_outcome (outcome.Complete count given) = Complete
-status_of_outcome (outcome.Trapped rows) = Trapped
-status_of_outcome (outcome.Stalled ran total rows) = Stalled
 
 -- and its status
 abbrev pub status_of : Verdict → Status
 status_of verdicts.Usage = Usage
 status_of (verdicts.Unread name) = ReadFault
-status_of (verdicts.Jdf fault) = JdfRefused
-status_of (verdicts.Data fault) = DataRefused
-status_of (verdicts.Match fault) = Inconsistent
+status_of (verdicts.Job job) = status_of_job job
 status_of (verdicts.Spelling text) = Complete
-status_of (verdicts.Answer P answer) = status_of_outcome answer
 
 -- the statuses of a verdict, where no failed read or write and no want of memory took its place
 abbrev pub IsExact : Status → Type 0

@@ -1,7 +1,8 @@
 pub mod Requests
-pub mod Stages
+pub mod JobFiles
 pub mod Meaning
 pub mod Steps
 pub mod Reports
+pub mod JobText
 pub mod Headline
 pub mod Codes

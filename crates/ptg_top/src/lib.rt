@@ -1,12 +1,16 @@
 //! The whole program, over files and a sink that it is handed.
 #![tactic(auto)]
 
+mod checking;
+mod job_telling;
 mod judge;
 mod laws;
+mod names;
 mod program;
+mod reading;
 mod request;
+mod running;
 mod showing;
-mod stages;
 mod status;
 mod telling;
 mod verdict;

@@ -3,7 +3,7 @@
 ghost use Rattle.std.specs.Prelude.{◌≡◌, ◌⊎◌, ◌≤◌, ℕ, List, Some};
 ghost use Rattle.ptg_io.specs.Faults.{Rose};
 ghost use Rattle.ptg_io.specs.Sink.{appended};
-ghost use Rattle.ptg_top.specs.Stages.{Entries};
+ghost use Rattle.ptg_top.specs.JobFiles.{Entries};
 ghost use Rattle.ptg_top.specs.Meaning.{IsNoOrder, MayBeUnread};
 ghost use Rattle.ptg_top.specs.Headline.{IsExact, Prints, IsCut, unread_line, usage_line};
 
@@ -18,7 +18,10 @@ use std::alloc::Global;
 ///
 /// Whatever the JDF and the data, `run JDF DATA` prints exactly the answer of the sequential dataflow meaning, with its
 /// status: the refusal, the final collections, all trapped tasks, or a stall with its waiting discovered tasks. Only a
-/// counted fault of reading or writing, or want of memory, takes its place.
+/// counted fault of reading or writing, or want of memory, takes its place. The same holds for `show JDF`, which
+/// prints the canonical spelling or the refusal, and for `check JDF DATA`, which prints how many tasks, edges and write-backs a
+/// consistent job has, or the first refusal of the one order: the JDF's text, the data's text, a global that the data lack, names
+/// and kinds, consistency.
 pub fn ptg_main<F: Files, O: Sink>(
     alloc: Global,
     words: &[Text],

@@ -13,9 +13,11 @@ pub enum Request {
     Run(Text, Text),
     /// Print the canonical spelling of this JDF file.
     Show(Text),
+    /// Check the job of this JDF file on this data file.
+    Check(Text, Text),
 }
 
-/// What a command asks for: nothing where it is `check`, `demo`, or a run whose memory is to be taken before.
+/// What a command asks for: nothing where it is `demo`, or a run whose memory is to be taken before.
 pub fn request_of(order: Order) -> Option<Request>
     ensures { result ≡ request_of order }
 {
@@ -28,7 +30,7 @@ pub fn request_of(order: Order) -> Option<Request>
             }
         }
         Order::Show(jdf) => Some(Request::Show(jdf)),
-        Order::Check(_, _) => None,
+        Order::Check(jdf, tiles) => Some(Request::Check(jdf, tiles)),
         Order::Demo(_) => None,
     }
 }

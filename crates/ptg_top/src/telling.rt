@@ -3,18 +3,20 @@
 ghost use Rattle.std.specs.Prelude.{◌≡◌, ◌≤◌, OnOk, OnErr};
 ghost use Rattle.ptg_io.specs.Faults.{Rose};
 ghost use Rattle.ptg_io.specs.Sink.{appended};
-ghost use Rattle.report_first.specs.Puts.{HasPrefix};
-ghost use Rattle.ptg_top.specs.Headline.{text_of, status_of, status_of_outcome};
+ghost use Rattle.report_text.specs.Puts.{HasPrefix};
+ghost use Rattle.ptg_top.specs.JobFiles.{HasFittingJob};
+ghost use Rattle.ptg_top.specs.Headline.{text_of, status_of};
 
+use crate::job_telling::{status_of_job, tell_job};
 use crate::status::Status;
 use crate::verdict::Verdict;
-use core_first::Outcome;
 use ptg_base::Text;
 use ptg_io::{Failed, Sink, write_all};
-use report_first::{Line, refusal, report};
+use report_text::{Line, refusal};
 
 /// Prints a verdict. On `Err` a prefix of its text was written.
 pub fn tell<O: Sink>(verdict: &Verdict, out: &mut O) -> Result<(), Failed>
+    requires { HasFittingJob verdict.now }
     ensures ok { OnOk result (O.bytes out.new ≡ appended (O.bytes out.old) (text_of verdict.now)) }
     ensures prefix { OnErr result (HasPrefix (O.bytes out.old) (O.bytes out.new) (text_of verdict.now)) }
     ensures grows { O.faults out.old ≤ O.faults out.new }
@@ -23,11 +25,8 @@ pub fn tell<O: Sink>(verdict: &Verdict, out: &mut O) -> Result<(), Failed>
     match verdict {
         Verdict::Usage => refusal(&Line::Usage, out),
         Verdict::Unread(name) => refusal(&Line::Unread(name.bytes()), out),
-        Verdict::Jdf(fault) => refusal(&Line::Jdf(*fault), out),
-        Verdict::Data(fault) => refusal(&Line::Rows(*fault), out),
-        Verdict::Match(_) => refusal(&Line::Match, out),
+        Verdict::Job(job) => tell_job(job, out),
         Verdict::Spelling(text) => spell(text, out),
-        Verdict::Answer(matched, outcome) => report(matched.plan(), outcome, out),
     }
 }
 
@@ -48,20 +47,7 @@ pub fn status(verdict: &Verdict) -> Status
     match verdict {
         Verdict::Usage => Status::Usage,
         Verdict::Unread(_) => Status::ReadFault,
-        Verdict::Jdf(_) => Status::JdfRefused,
-        Verdict::Data(_) => Status::DataRefused,
-        Verdict::Match(_) => Status::Inconsistent,
+        Verdict::Job(job) => status_of_job(job),
         Verdict::Spelling(_) => Status::Complete,
-        Verdict::Answer(_, outcome) => status_of_outcome(outcome),
-    }
-}
-
-fn status_of_outcome(outcome: &Outcome) -> Status
-    ensures { result ≡ status_of_outcome outcome.now }
-{
-    match outcome {
-        Outcome::Complete(_, _) => Status::Complete,
-        Outcome::Trapped(_) => Status::Trapped,
-        Outcome::Stalled(_, _, _) => Status::Stalled,
     }
 }

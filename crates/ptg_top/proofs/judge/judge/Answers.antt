@@ -1,6 +1,7 @@
-use Rattle.std.proofs.Common.{◌≡◌, ◌∙◌, Some, sym, rules}
-use Rattle.ptg_top.specs.Requests.{Requests, request_of}
-use Rattle.ptg_top.proofs.Leading.{request_texts}
+use Rattle.std.proofs.Common.{◌≡◌, Some, rules}
+use Rattle.ptg_top.specs.Requests.{request_of}
+use Rattle.ptg_top.proofs.Requested.{request_texts}
+use Rattle.ptg_top.proofs.Carried.{asked_ends}
 use Rattle.ptg_top.proofs.judge.judge.Goals as goal
 
 -- the names in the request are UTF-8
@@ -13,4 +14,5 @@ carry_out-requires g c =
 pub returns-in-Some-clause-judged : goal.returns-in-Some-clause-judged
 returns-in-Some-clause-judged g c =
     let asks : request_of c.in-Ok.order ≡ Some c.in-Some.request = search rules in
-    c.carry_out.ensures.judged c.args.list.now (record { order = c.in-Ok.order; formed = c.in-Ok.ensures.found; asks = asks })
+    asked_ends c.args.list.now (g.F.Files.contents c.args.files.now) (g.F.Files.faults c.args.files.now) (g.F.Files.faults c.carry_out.new.files)
+    c.in-Some.request c.carry_out.result (record { order = c.in-Ok.order; formed = c.in-Ok.ensures.found; asks = asks }) c.carry_out.ensures.judged

@@ -1,4 +1,0 @@
-pub mod Element
-pub mod Meaning
-pub mod Trap
-pub mod WellMade

@@ -1,9 +1,0 @@
-use Rattle.std.proofs.Common.{◌≡◌, ℕ, List, take}
-use Rattle.std.specs.Prelude.{position}
-use Rattle.check_first.specs.Names.{int_is}
-use Rattle.check_first.specs.Keys.{found}
-use Rattle.check_first.proofs.keys.ints_by_name.Given as goal
-
--- the table has the first places among those that were gone through
-abbrev pub invariant-loop-place : goal.invariant-loop-place
-invariant-loop-place l = (n : List ℕ) → found l.table n ≡ position (int_is n) (take l.place l.ints)

@@ -1,5 +1,0 @@
-pub mod Frames
-pub mod Keys
-pub mod Names
-pub mod Planned
-pub mod Resolves

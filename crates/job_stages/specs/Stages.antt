@@ -1,0 +1,27 @@
+-- The stages that the text of a JDF and the text of its data reach: a job, the values of all its globals, a plan. Source: this
+-- project's own choice, over the definitions of the stages.
+use Rattle.std.specs.Prelude.{◌≡◌, ℕ, List, true, false}
+use Rattle.jdf_tree.specs.Jdf.{IsJdf}
+use Rattle.check_names.specs.Names.{Job}
+use Rattle.flow_check.specs.Given.{is_missing}
+use Rattle.flow_check.specs.Plans.{IsPlan}
+use Rattle.plan_core.specs.declared.plan.Plan.{Plan}
+use Rattle.job_stages.specs.DataText.{IsData}
+
+-- The first text is that of the job's JDF, and the second one spells its data.
+pub record HasJob (jdf_text data_text : List ℕ) (job : Job) : Type 0 where
+  pub tree : IsJdf jdf_text job.jdf
+  pub spelled : IsData data_text job.given
+
+-- some global of the JDF is neither an integer nor a collection of the data
+abbrev pub IsLacking : Job → Type 0
+IsLacking job = is_missing job.jdf job.given ≡ true
+
+-- the data give each global of the JDF
+abbrev pub HasGlobals : Job → Type 0
+HasGlobals job = is_missing job.jdf job.given ≡ false
+
+-- The data give each global, and with all names resolved this is the plan.
+pub record HasPlan (job : Job) (P : Plan) : Type 0 where
+  pub globals : HasGlobals job
+  pub plan : IsPlan job P

@@ -1,0 +1,89 @@
+//! The verdict on the text of a JDF and the text of its data.
+
+ghost use Rattle.std.specs.Prelude.{◌≡◌, ℕ, List, IfOk};
+ghost use Rattle.check_names.specs.Names.{Job};
+ghost use Rattle.jdf_tree.specs.Jdf.{IsJdf};
+ghost use Rattle.jdf_tree.specs.TreeLimits.{IsWithinLimits};
+ghost use Rattle.plan_data.specs.Fit.{DataFit};
+ghost use Rattle.job_stages.specs.Answered.{IsOfItsPlan};
+ghost use Rattle.job_stages.specs.Stages.{HasPlan};
+ghost use Rattle.job_stages.specs.Verdict.{JobDenotes, TextsDenote};
+ghost use Rattle.job_stages.specs.declared.verdict.JobVerdict.{JobVerdict as Verdict};
+
+use crate::data_text::{given_of, missing_name};
+use crate::jdf_text::tree_of;
+use crate::laws::one_verdict;
+use crate::verdict::JobVerdict;
+use coll_data::{DataRefusal, Given};
+use edge_match::{MatchRefusal, match_edges};
+use flow_check::{check, missing};
+use jdf_lex::JdfRefusal;
+use jdf_tree::Jdf;
+use plan_core::Plan;
+use ptg_base::OutOfMemory;
+use std::alloc::Global;
+
+/// The verdict on the text of a JDF and the text of its data.
+pub fn judge_texts(
+    alloc: Global,
+    jdf_text: &[u8],
+    data_text: &[u8],
+) -> Result<JobVerdict, OutOfMemory>
+    // What is answered the two texts denote.
+    ensures found { IfOk result (TextsDenote jdf_text.now data_text.now) }
+    // What they denote is answered, unless memory runs out.
+    ensures only { (v : Verdict) → TextsDenote jdf_text.now data_text.now v → IfOk result (λ w. w ≡ v) }
+    // And it may be run.
+    ensures fit { IfOk result IsOfItsPlan }
+{
+    one_verdict();
+    match tree_of(alloc, jdf_text) {
+        Ok(tree) => judge_data(alloc, &tree, data_text),
+        Err(JdfRefusal::Fault(fault)) => Ok(JobVerdict::Jdf(fault)),
+        Err(JdfRefusal::OutOfMemory) => Err(OutOfMemory),
+    }
+}
+
+/// The verdict on a JDF and the text of its data, for each text that the JDF was read from.
+pub fn judge_data(alloc: Global, jdf: &Jdf, data_text: &[u8]) -> Result<JobVerdict, OutOfMemory>
+    requires { IsWithinLimits jdf.now }
+    ensures found { (text : List ℕ) → IsJdf text jdf.now → IfOk result (TextsDenote text data_text.now) }
+    ensures fit { IfOk result IsOfItsPlan }
+{
+    match given_of(alloc, data_text) {
+        Ok(given) => judge_job(alloc, jdf, given),
+        Err(DataRefusal::Fault(fault)) => Ok(JobVerdict::Data(fault)),
+        Err(DataRefusal::OutOfMemory) => Err(OutOfMemory),
+    }
+}
+
+// The verdict on a JDF with its data.
+fn judge_job(alloc: Global, jdf: &Jdf, given: Given) -> Result<JobVerdict, OutOfMemory>
+    requires { IsWithinLimits jdf.now }
+    ensures found { IfOk result (JobDenotes (record { jdf = jdf.now; given = given })) }
+    ensures fit { IfOk result IsOfItsPlan }
+{
+    if missing(alloc, jdf, &given)? {
+        return Ok(JobVerdict::Data(missing_name(&given)?));
+    }
+    match check(alloc, jdf, &given) {
+        Ok(plan) => judge_plan(alloc, plan, given),
+        Err(JdfRefusal::Fault(fault)) => Ok(JobVerdict::Jdf(fault)),
+        Err(JdfRefusal::OutOfMemory) => Err(OutOfMemory),
+    }
+}
+
+// The verdict on the plan of a JDF with its data.
+fn judge_plan(alloc: Global, plan: Plan, given: Given) -> Result<JobVerdict, OutOfMemory>
+    requires { DataFit plan.colls plan.elems given }
+    ensures found { (job : Job) → HasPlan job plan → given ≡ job.given → IfOk result (JobDenotes job) }
+    ensures fit { IfOk result IsOfItsPlan }
+{
+    match match_edges(alloc, plan) {
+        Ok(matched) => Ok(JobVerdict::Consistent(matched, given)),
+        Err((refusal, plan)) => match refusal {
+            MatchRefusal::Fault(fault) => Ok(JobVerdict::Inconsistent(plan, fault)),
+            MatchRefusal::OutOfMemory => Err(OutOfMemory),
+        },
+    }
+}

@@ -1,0 +1,18 @@
+//! What the text of a JDF and the text of its data come to: a refusal, a plan that is not consistent, or a consistent plan.
+#![tactic(auto)]
+
+mod answering;
+mod data_text;
+mod jdf_text;
+mod judging;
+mod laws;
+#[cfg(test)]
+mod tests;
+mod verdict;
+
+pub use answering::answer_of;
+pub use data_text::{data_too_long, given_of};
+pub use jdf_text::{jdf_too_long, tree_of};
+pub use judging::{judge_data, judge_texts};
+pub use laws::{one_verdict, the_data_fit_the_plan, the_jdf_is_judged_alone};
+pub use verdict::JobVerdict;

@@ -1,0 +1,23 @@
+//! The verdict on a job.
+
+use coll_data::{DataFault, Given};
+use dep_iter::Matched;
+use edge_match::MatchFault;
+use flow_meaning::Outcome;
+use jdf_lex::JdfFault;
+use plan_core::Plan;
+
+/// What the text of a JDF and the text of its data come to.
+#[derive(Debug, Drop)]
+pub enum JobVerdict {
+    /// The JDF has this fault.
+    Jdf(JdfFault),
+    /// The data have this fault.
+    Data(DataFault),
+    /// The plan, which has the names of its classes and flows, is not consistent: this is its first fault.
+    Inconsistent(Plan, MatchFault),
+    /// The plan is consistent; these are its data.
+    Consistent(Matched, Given),
+    /// The plan is consistent, and this is its answer on its data.
+    Answered(Matched, Outcome),
+}

@@ -1,0 +1,125 @@
+-- The check of a job's two files: how its steps make the verdict that the files denote, and that there is one.
+use Rattle.std.proofs.Common.{◌≡◌, ℕ, ◌<◌, ◌≤◌, List, length, Some, Result, Ok, Err, refl, sym, ◌∙◌, ap, subst, inl, inr, arith}
+use Rattle.std.specs.Prelude.{Option, None, IfOk}
+use Rattle.ptg_base.specs.declared.memory.OutOfMemory.{OutOfMemory}
+use Rattle.ptg_io.specs.Faults.{Rose}
+use Rattle.ptg_io.specs.Files.{file_of, IsLonger}
+use Rattle.jdf_lex.specs.declared.fault.JdfFault.{JdfFault}
+use Rattle.jdf_lex.specs.declared.fault.JdfCode.TheVariants as jdf_codes
+use Rattle.jdf_tree.specs.declared.tree.Jdf.{Jdf}
+use Rattle.jdf_tree.specs.Jdf.{IsJdf}
+use Rattle.jdf_tree.specs.Fault.{IsJdfFault, first_spot}
+use Rattle.coll_data.specs.declared.fault.DataFault.{DataFault}
+use Rattle.jdf_read.proofs.Once.{not_both}
+use Rattle.job_stages.specs.declared.verdict.JobVerdict.{JobVerdict}
+use Rattle.job_stages.specs.declared.verdict.JobVerdict.TheVariants as jobs
+use Rattle.job_stages.specs.DataText.{too_long}
+use Rattle.job_stages.specs.Verdict.{TextsDenote}
+use Rattle.job_stages.proofs.Once.{jdf_text_once, texts_once}
+use Rattle.ptg_top.specs.declared.request.Request.TheVariants.{Check}
+use Rattle.ptg_top.specs.declared.verdict.Verdict.{Verdict}
+use Rattle.ptg_top.specs.declared.verdict.Verdict.TheVariants as verdicts
+use Rattle.ptg_top.specs.JobFiles.{Entries, RefusesText, ContentsDenote, FilesDenote}
+use Rattle.ptg_top.specs.Steps.{CheckOfDataEndsWith, CheckOfTextEndsWith}
+use Rattle.ptg_top.specs.Reports.{IsOfTexts, IsVerdictOnRequest}
+
+-- if a count rose after b >= a, it rose since a
+pub rose_since : (a b c : ℕ) → a ≤ b → Rose b c → Rose a c
+rose_since a b c le (inl lt) = inl (omega arith)
+rose_since a b c le (inr top) = inr top
+
+-- the first fault of a text, too long or not
+pub fault_refuses : (text : List ℕ) (fault : JdfFault) → IsJdfFault text fault → RefusesText text (verdicts.Job (jobs.Jdf fault))
+fault_refuses text fault h = (jobs.Jdf fault, (fault, h, refl), refl)
+
+-- the same of a fault that is this one
+pub same_fault_refuses : (text : List ℕ) (f g : JdfFault) → g ≡ f → IsJdfFault text f → RefusesText text (verdicts.Job (jobs.Jdf g))
+same_fault_refuses text f g e h = fault_refuses text g (subst (IsJdfFault text) (sym e) h)
+
+pub long_refuses : (text : List ℕ) (fault : JdfFault) → fault ≡ record { spot = first_spot; code = jdf_codes.TooLong } → 16777216 < length text → RefusesText text (verdicts.Job (jobs.Jdf fault))
+long_refuses text fault e long = fault_refuses text fault (inl (record { long = long; fault_is = e }))
+
+-- a verdict on a job is one on texts
+pub job_is_of_texts : (v : Verdict) (job : JobVerdict) → v ≡ verdicts.Job job → IsOfTexts v
+job_is_of_texts v job e = subst IsOfTexts (sym e) tt
+
+module _ (contents : Option Entries) (old new : ℕ) (text tiles : List ℕ) where
+  -- a data file that was loaded
+  pub data_ends : (data_text : List ℕ) (job : JobVerdict) → ((files : Entries) → contents ≡ Some files → file_of files tiles ≡ Some data_text) → TextsDenote text data_text job
+      → CheckOfDataEndsWith contents old new text tiles (verdicts.Job job)
+  data_ends data_text job there h = inr (job, refl, λ files t. (data_text, there files t, h))
+
+  -- a data file that is too long
+  pub long_data_ends : (J : Jdf) (fault : DataFault) → IsJdf text J → fault ≡ too_long → ((files : Entries) → contents ≡ Some files → IsLonger files tiles 16777216)
+      → CheckOfDataEndsWith contents old new text tiles (verdicts.Job (jobs.Data fault))
+  long_data_ends J fault tree e long =
+      inr (
+        jobs.Data fault,
+        refl,
+        λ files t.
+            let at = long files t in
+            (at.0, at.1, inr (inl (J, fault, tree, inl (record { long = at.2; fault_is = e }), refl))),
+      )
+
+  -- a JDF's text that is that of a tree
+  pub tree_ends : (J : Jdf) (r : Result Verdict OutOfMemory) → IsJdf text J → IfOk r (CheckOfDataEndsWith contents old new text tiles) → IfOk r (CheckOfTextEndsWith contents old new text tiles)
+  tree_ends J (Ok v) tree h = inr (J, tree, h)
+  tree_ends J (Err x) tree h = tt
+
+-- a fault of the JDF's text is denoted whatever the data file is, and whether it is there or not
+refused_whatever : (jdf tiles text : List ℕ) (other : Option (List ℕ)) (v : Verdict) → RefusesText text v → ContentsDenote jdf tiles (Some text) other v
+refused_whatever jdf tiles text None v h = inl h
+refused_whatever jdf tiles text (Some data_text) v h = (h.0, inl h.1, h.2)
+
+-- what the contents of a JDF file that is there denote, the files denote
+files_denote : (files : Entries) (jdf tiles text : List ℕ) (v : Verdict) → file_of files jdf ≡ Some text → ContentsDenote jdf tiles (Some text) (file_of files tiles) v → FilesDenote files jdf tiles v
+files_denote files jdf tiles text v there h = subst (λ (o : Option (List ℕ)). ContentsDenote jdf tiles o (file_of files tiles) v) (sym there) h
+
+module _ (contents : Option Entries) (old new : List ℕ → ℕ) (jdf tiles : List ℕ) where
+  -- the check of the JDF's text, which was read, is the check of the files
+  text_ends : (mid : ℕ) (text : List ℕ) (v : Verdict) → old tiles ≤ mid → ((files : Entries) → contents ≡ Some files → file_of files jdf ≡ Some text)
+      → CheckOfTextEndsWith contents mid (new tiles) text tiles v → IsVerdictOnRequest contents old new (Check jdf tiles) v
+  text_ends mid text v le there (inl h) =
+      inr (job_is_of_texts v h.0 h.2, λ files t. files_denote files jdf tiles text v (there files t) (refused_whatever jdf tiles text (file_of files tiles) v h))
+  text_ends mid text v le there (inr (J, tree, inl (e, rose))) =
+      inl (tiles, rose_since (old tiles) mid (new tiles) le rose, inr (refl, λ files t. (J, (text, there files t, tree))), e)
+  text_ends mid text v le there (inr (J, tree, inr (job, e, known))) =
+      inr (
+        job_is_of_texts v job e,
+        λ files t.
+            let at = known files t in
+            files_denote files jdf tiles text v (there files t) (subst (λ (o : Option (List ℕ)). ContentsDenote jdf tiles (Some text) o v) (sym at.1) (job, at.2, e)),
+      )
+
+  pub text_result_ends : (mid : ℕ) (text : List ℕ) (r : Result Verdict OutOfMemory) → old tiles ≤ mid → ((files : Entries) → contents ≡ Some files → file_of files jdf ≡ Some text)
+      → IfOk r (CheckOfTextEndsWith contents mid (new tiles) text tiles) → IfOk r (IsVerdictOnRequest contents old new (Check jdf tiles))
+  text_result_ends mid text (Ok v) le there h = text_ends mid text v le there h
+  text_result_ends mid text (Err x) le there h = tt
+
+  -- a JDF file that is too long
+  pub long_ends : (fault : JdfFault) → fault ≡ record { spot = first_spot; code = jdf_codes.TooLong } → ((files : Entries) → contents ≡ Some files → IsLonger files jdf 16777216)
+      → IsVerdictOnRequest contents old new (Check jdf tiles) (verdicts.Job (jobs.Jdf fault))
+  long_ends fault e long =
+      inr (
+        tt,
+        λ files t.
+            let at = long files t in
+            let v : Verdict = verdicts.Job (jobs.Jdf fault) in
+            files_denote files jdf tiles at.0 v at.1 (refused_whatever jdf tiles at.0 (file_of files tiles) v (long_refuses at.0 fault e at.2)),
+      )
+
+-- ---- two files denote one verdict at most
+pub refused_once : (text : List ℕ) (v w : Verdict) → RefusesText text v → RefusesText text w → v ≡ w
+refused_once text v w (job, h, e) (other, k, d) = e ∙ (ap verdicts.Job (jdf_text_once text job other h k) ∙ sym d)
+
+pub refused_or_read : (text : List ℕ) (v : Verdict) (J : Jdf) → RefusesText text v → IsJdf text J → ⊥
+refused_or_read text v J (job, (f, first, is), e) tree = not_both text J f tree first
+
+pub contents_once : (jdf tiles : List ℕ) (a b : Option (List ℕ)) (v w : Verdict) → ContentsDenote jdf tiles a b v → ContentsDenote jdf tiles a b w → v ≡ w
+contents_once jdf tiles None b v w h k = h ∙ sym k
+contents_once jdf tiles (Some text) None v w (inl h) (inl k) = refused_once text v w h k
+contents_once jdf tiles (Some text) None v w (inl h) (inr (J, tree, d)) = absurd (refused_or_read text v J h tree)
+contents_once jdf tiles (Some text) None v w (inr (J, tree, d)) (inl h) = absurd (refused_or_read text w J h tree)
+contents_once jdf tiles (Some text) None v w (inr h) (inr k) = h.2 ∙ sym k.2
+contents_once jdf tiles (Some text) (Some data_text) v w (job, h, e) (other, k, d) =
+    e ∙ (ap verdicts.Job (texts_once text data_text job other h k) ∙ sym d)

@@ -1,0 +1,88 @@
+//! The check of a job's two files.
+
+ghost use Rattle.std.specs.Prelude.{◌≡◌, ◌≤◌, ℕ, List, IfOk};
+ghost use Rattle.std.specs.Str.{IsUtf8};
+ghost use Rattle.jdf_tree.specs.Jdf.{IsJdf};
+ghost use Rattle.jdf_tree.specs.TreeLimits.{IsWithinLimits};
+ghost use Rattle.ptg_top.specs.declared.request.Request.TheVariants as asked;
+ghost use Rattle.ptg_top.specs.JobFiles.{HasFittingJob};
+ghost use Rattle.ptg_top.specs.Steps.{CheckOfDataEndsWith, CheckOfTextEndsWith};
+ghost use Rattle.ptg_top.specs.Reports.{IsVerdictOnRequest};
+
+use crate::reading::{name_of, unread};
+use crate::verdict::Verdict;
+use jdf_lex::JdfRefusal;
+use jdf_tree::Jdf;
+use job_stages::{JobVerdict, data_too_long, jdf_too_long, judge_data, tree_of};
+use ptg_base::{OutOfMemory, Text};
+use ptg_io::{Files, LoadFault, load};
+use std::alloc::Global;
+
+/// The verdict of `check` on a JDF file and a data file. The data file is read only once the JDF's text was found to be that of a
+/// tree.
+pub fn check<F: Files>(
+    alloc: Global,
+    jdf: &Text,
+    tiles: &Text,
+    files: &mut F,
+) -> Result<Verdict, OutOfMemory>
+    requires jdf_text { IsUtf8 jdf.now }
+    requires tiles_text { IsUtf8 tiles.now }
+    ensures stays { F.contents files.new ≡ F.contents files.old }
+    ensures grows { (other : List ℕ) → F.faults files.old other ≤ F.faults files.new other }
+    ensures verdict { IfOk result (IsVerdictOnRequest (F.contents files.old) (F.faults files.old) (F.faults files.new) (asked.Check jdf.now tiles.now)) }
+    ensures fit { IfOk result HasFittingJob }
+{
+    match load(alloc, files, name_of(jdf)) {
+        Ok(text) => check_text(alloc, text.as_slice(), tiles, files),
+        Err(LoadFault::TooLong) => Ok(Verdict::Job(JobVerdict::Jdf(jdf_too_long()))),
+        Err(LoadFault::Failed) => unread(alloc, jdf),
+        Err(LoadFault::OutOfMemory) => Err(OutOfMemory),
+    }
+}
+
+// The verdict on the text of a JDF and a data file.
+fn check_text<F: Files>(
+    alloc: Global,
+    text: &[u8],
+    tiles: &Text,
+    files: &mut F,
+) -> Result<Verdict, OutOfMemory>
+    requires { IsUtf8 tiles.now }
+    ensures stays { F.contents files.new ≡ F.contents files.old }
+    ensures grows { (other : List ℕ) → F.faults files.old other ≤ F.faults files.new other }
+    ensures verdict { IfOk result (CheckOfTextEndsWith (F.contents files.old) (F.faults files.old tiles.now) (F.faults files.new tiles.now) text.now tiles.now) }
+    ensures fit { IfOk result HasFittingJob }
+{
+    match tree_of(alloc, text) {
+        Ok(tree) => check_data(alloc, &tree, tiles, files),
+        Err(JdfRefusal::Fault(fault)) => Ok(Verdict::Job(JobVerdict::Jdf(fault))),
+        Err(JdfRefusal::OutOfMemory) => Err(OutOfMemory),
+    }
+}
+
+// The verdict on a JDF and a data file.
+fn check_data<F: Files>(
+    alloc: Global,
+    tree: &Jdf,
+    tiles: &Text,
+    files: &mut F,
+) -> Result<Verdict, OutOfMemory>
+    requires name { IsUtf8 tiles.now }
+    requires within { IsWithinLimits tree.now }
+    ensures stays { F.contents files.new ≡ F.contents files.old }
+    ensures grows { (other : List ℕ) → F.faults files.old other ≤ F.faults files.new other }
+    ensures verdict { (text : List ℕ) → IsJdf text tree.now
+        → IfOk result (CheckOfDataEndsWith (F.contents files.old) (F.faults files.old tiles.now) (F.faults files.new tiles.now) text tiles.now) }
+    ensures fit { IfOk result HasFittingJob }
+{
+    match load(alloc, files, name_of(tiles)) {
+        Ok(text) => {
+            let job = judge_data(alloc, tree, text.as_slice())?;
+            Ok(Verdict::Job(job))
+        }
+        Err(LoadFault::TooLong) => Ok(Verdict::Job(JobVerdict::Data(data_too_long()))),
+        Err(LoadFault::Failed) => unread(alloc, tiles),
+        Err(LoadFault::OutOfMemory) => Err(OutOfMemory),
+    }
+}

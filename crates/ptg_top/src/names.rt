@@ -1,0 +1,33 @@
+//! The names of the class and the flow of an inconsistency.
+
+ghost use Rattle.std.specs.Prelude.{◌≡◌};
+ghost use Rattle.report_text.specs.Rows.{class_name};
+ghost use Rattle.ptg_top.specs.JobText.{flow_name};
+
+use plan_core::Plan;
+
+/// The name of the class with this number.
+pub fn class_name(plan: &Plan, class: u32) -> &[u8]
+    ensures { result.now ≡ class_name plan.now class }
+{
+    match plan.classes.as_slice().get(class as usize) {
+        Some(class) => class.name.bytes(),
+        None => b"",
+    }
+}
+
+/// The name of the flow with this number of the class with this number; none where there is no number.
+pub fn flow_name(plan: &Plan, class: u32, flow: Option<u8>) -> &[u8]
+    ensures { result.now ≡ flow_name plan.now class flow }
+{
+    let Some(flow) = flow else {
+        return b"";
+    };
+    let Some(class) = plan.classes.as_slice().get(class as usize) else {
+        return b"";
+    };
+    match class.flows.as_slice().get(flow as usize) {
+        Some(flow) => flow.name.bytes(),
+        None => b"",
+    }
+}

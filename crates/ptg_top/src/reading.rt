@@ -1,0 +1,28 @@
+//! The names of files.
+
+ghost use Rattle.std.specs.Prelude.{◌≡◌, IfOk};
+ghost use Rattle.std.specs.Str.{IsUtf8};
+ghost use Rattle.ptg_top.specs.declared.verdict.Verdict.TheVariants as verdicts;
+
+use crate::verdict::Verdict;
+use ptg_base::{OutOfMemory, Text};
+use std::alloc::Global;
+
+/// The name of a file as text.
+pub fn name_of(word: &Text) -> &str
+    requires { IsUtf8 word.now }
+    ensures { result.now ≡ word.now }
+{
+    match std::str::from_utf8(word.bytes()) {
+        Ok(name) => name,
+        Err(_) => unreachable!(),
+    }
+}
+
+/// The verdict where the file of this name could not be read.
+pub fn unread(alloc: Global, name: &Text) -> Result<Verdict, OutOfMemory>
+    ensures { IfOk result (λ v. v ≡ verdicts.Unread name.now) }
+{
+    let name = Text::of(alloc, name.bytes())?;
+    Ok(Verdict::Unread(name))
+}

@@ -1,4 +1,0 @@
-pub mod Puts
-pub mod Field
-pub mod Printed
-pub mod Refusal
