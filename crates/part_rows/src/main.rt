@@ -4,11 +4,9 @@
 
 mod bodies;
 mod data;
-mod jobs;
 mod scope;
 mod tokens;
 
-use ptg_base::Text;
 use ptg_io::File;
 use row_files::{Call, Order, Printed, Why, all_as_wanted};
 use std::alloc::Global;
@@ -31,7 +29,6 @@ impl Call for Parts {
             return Err(Why("no word that says what is called"));
         };
         match (word.bytes(), words) {
-            (b"check", [jdf, data]) => jobs::check(alloc, named(files, jdf)?, named(files, data)?),
             (b"read-tokens", []) => tokens::read(alloc, only(files)?),
             (b"read-syntax", []) => bodies::read_syntax(alloc, only(files)?),
             (b"read-body", []) => bodies::read_names(alloc, only(files)?),
@@ -48,14 +45,4 @@ fn only(files: &[File]) -> Result<&[u8], Why> {
         [file] => Ok(file.bytes()),
         _ => Err(Why("not one file")),
     }
-}
-
-// The bytes of the file of this name.
-fn named<'a>(files: &'a [File], name: &Text) -> Result<&'a [u8], Why> {
-    for file in files {
-        if file.name() == name.bytes() {
-            return Ok(file.bytes());
-        }
-    }
-    Err(Why("no file of this name"))
 }

@@ -2,7 +2,7 @@
 use crate::bodies::body;
 use crate::count::{Count, Failure};
 use crate::data_files::{ints, long_tiles, short_tiles};
-use crate::edges::{edges, star_edges};
+use crate::edges::{edges, job, star_edges};
 use crate::names::names;
 use crate::spaces::space;
 use crate::texts::tokens_of_text;
@@ -25,6 +25,8 @@ pub enum Case {
     Ints,
     /// A body with so many names, read under as many globals.
     Names,
+    /// The plan of a job of the shape of a tiled Cholesky factorization, of so many rows of tiles, made from its texts.
+    Job,
     /// The edges of a job of the shape of a tiled Cholesky factorization, of so many rows of tiles, walked in both directions.
     Edges,
     /// A broadcast to so many tasks and a gather from them, walked, and each edge asked for on its other side.
@@ -42,6 +44,7 @@ impl Case {
             "short_tiles" => Some(Case::ShortTiles),
             "ints" => Some(Case::Ints),
             "names" => Some(Case::Names),
+            "job" => Some(Case::Job),
             "edges" => Some(Case::Edges),
             "star" => Some(Case::Star),
             _ => None,
@@ -59,6 +62,7 @@ pub fn measure(alloc: Global, case: Case, size: u32) -> Result<Vec<Count>, Failu
         Case::ShortTiles => short_tiles(alloc, size),
         Case::Ints => ints(alloc, size),
         Case::Names => names(alloc, size),
+        Case::Job => job(alloc, size),
         Case::Edges => edges(alloc, size),
         Case::Star => star_edges(alloc, size),
     }

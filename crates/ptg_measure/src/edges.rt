@@ -2,9 +2,8 @@
 ghost use Rattle.std.specs.Prelude.{◌<◌, length};
 ghost use Rattle.dep_iter.specs.Tasks.{IsTask};
 
-use crate::cholesky::cholesky;
 use crate::count::{Count, Failure};
-use crate::star::star;
+use crate::jobs::{cholesky, star};
 use dep_iter::{has_in_edge, has_out_edge, in_edges, is_task, out_edges};
 use plan_core::Plan;
 use ptg_base::TaskId;
@@ -63,13 +62,10 @@ impl Walked {
 /// The edges of a job of the shape of a tiled Cholesky factorization with so many rows of tiles: those into each task and those out
 /// of each.
 pub fn edges(alloc: Global, size: u32) -> Result<Vec<Count>, Failure> {
-    if size > 256 {
-        return Err(Failure::TooLarge);
-    }
     let plan = cholesky(alloc, size)?;
     let mut walked = Walked::none();
-    for class in 0..4 {
-        walked.add_class(&plan, class)?;
+    for class in 0..plan.classes.len() {
+        walked.add_class(&plan, class as u32)?;
     }
     Ok(vec![in alloc;
         Count::of("tasks", walked.tasks),
@@ -102,6 +98,12 @@ fn sent(plan: &Plan, task: &TaskId) -> u64
         }
     }
     count
+}
+
+/// The plan of such a job alone, made from its texts: how many classes it has.
+pub fn job(alloc: Global, size: u32) -> Result<Vec<Count>, Failure> {
+    let plan = cholesky(alloc, size)?;
+    Ok(vec![in alloc; Count::of("classes", plan.classes.len() as u64)]?)
 }
 
 /// One task with an edge to and an edge from each of so many others: how many of them the others have too.

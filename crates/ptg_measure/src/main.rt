@@ -3,14 +3,12 @@
 
 mod bodies;
 mod case;
-mod cholesky;
 mod count;
 mod data_files;
 mod edges;
+mod jobs;
 mod names;
-mod pieces;
 mod spaces;
-mod star;
 mod texts;
 
 use crate::case::{Case, measure};
@@ -20,7 +18,7 @@ use std::process::ExitCode;
 use std::{env, io};
 
 const USAGE: &str =
-    "usage: ptg_measure (space|body|tokens|long_tiles|short_tiles|ints|names|edges|star SIZE)..";
+    "usage: ptg_measure (space|body|tokens|long_tiles|short_tiles|ints|names|job|edges|star SIZE)..";
 
 // The case and the size that two words name.
 fn wanted(case: &String, size: &String) -> Option<(Case, u32)> {

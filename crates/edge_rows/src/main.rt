@@ -1,0 +1,49 @@
+//! Rows of edges: each is a job with what its tasks start from, wait for and send, written down in a file. The words name
+//! the files. Prints the rows that came out otherwise.
+#![tactic(auto)]
+
+mod names;
+mod tasks;
+
+use job_stages::{JobVerdict, judge_texts};
+use ptg_base::Text;
+use ptg_io::File;
+use row_files::{Call, Order, Printed, Why, all_as_wanted};
+use std::alloc::Global;
+use std::process::ExitCode;
+
+fn main(rt: HostRuntime) -> ExitCode {
+    match all_as_wanted(&rt, &Edges) {
+        Ok(true) => ExitCode::SUCCESS,
+        _ => ExitCode::FAILURE,
+    }
+}
+
+// The one call: `edges JDF DATA`.
+struct Edges;
+
+impl Call for Edges {
+    fn printed(&self, alloc: Global, order: Order) -> Result<Printed, Why> {
+        let files = order.files.as_slice();
+        let [word, jdf, table] = order.words.as_slice() else {
+            return Err(Why("not three words"));
+        };
+        if word.bytes() != b"edges".as_slice() {
+            return Err(Why("a word that calls nothing"));
+        }
+        match judge_texts(alloc, named(files, jdf)?, named(files, table)?)? {
+            JobVerdict::Consistent(matched, _) => tasks::shown(alloc, &matched),
+            _ => Err(Why("a job that is not consistent")),
+        }
+    }
+}
+
+// The bytes of the file of this name.
+fn named<'a>(files: &'a [File], name: &Text) -> Result<&'a [u8], Why> {
+    for file in files {
+        if file.name() == name.bytes() {
+            return Ok(file.bytes());
+        }
+    }
+    Err(Why("no file of this name"))
+}

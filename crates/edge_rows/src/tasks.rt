@@ -1,0 +1,145 @@
+//! What the tasks of a job start from, wait for and send, as text.
+
+ghost use Rattle.std.specs.Prelude.{◌<◌, ◌≤◌, length};
+ghost use Rattle.dep_iter.specs.Tasks.{IsTask};
+
+use crate::names::{add_flow, add_place, add_task};
+use dep_iter::{
+    Matched, Source, affinity, data_source, flows_of, in_edges, is_task, out_edges, priority,
+    write_backs,
+};
+use goal_count::goal;
+use plan_core::Plan;
+use ptg_base::TaskId;
+use range_space::Space;
+use row_files::{Printed, Why};
+use std::alloc::Global;
+use term_core::FlowKind;
+
+/// The tasks of a job in walk order, each with its goal, its priority and the place of its affinity, and below it a line for each source of
+/// a data flow that is no task, for each edge into it, for each edge out of it, and for each write-back.
+pub fn shown(alloc: Global, matched: &Matched) -> Result<Printed, Why> {
+    let mut text = String::new(alloc);
+    let count = matched.plan().classes.len();
+    for class in 0..count {
+        add_class(&mut text, matched, class as u32)?;
+    }
+    Ok(Printed {
+        text: text.into_bytes(),
+        status: 0,
+    })
+}
+
+fn add_class(text: &mut String, matched: &Matched, class: u32) -> Result<(), Why>
+    requires { class < length matched.now.classes }
+{
+    let plan = matched.plan();
+    let space = plan.space(class);
+    if space.defs.len() > 16 {
+        return Err(Why("a class of too many definitions"));
+    }
+    for params in Space::new(space) {
+        let task = TaskId::new(class, params.as_slice());
+        if !is_task(plan, &task) {
+            return Err(Why("a walk that came to no task"));
+        }
+        add_head(text, matched, &task)?;
+        add_sources(text, plan, &task)?;
+        add_ins(text, plan, &task)?;
+        add_outs(text, plan, &task)?;
+        add_writes(text, plan, &task)?;
+    }
+    Ok(())
+}
+
+// The task with its hints and its goal.
+fn add_head(text: &mut String, matched: &Matched, task: &TaskId) -> Result<(), Why>
+    requires { IsTask matched.now task.now }
+{
+    let plan = matched.plan();
+    add_task(text, plan, task)?;
+    write!(text, " goal {}", goal(matched, task))?;
+    write!(text, " priority {} at ", priority(plan, task))?;
+    add_place(text, plan, &affinity(plan, task))?;
+    text.push('\n')?;
+    Ok(())
+}
+
+// A line for each data flow whose source is no task.
+fn add_sources(text: &mut String, plan: &Plan, task: &TaskId) -> Result<(), Why>
+    requires { IsTask plan.now task.now }
+{
+    for number in 0..8 {
+        add_source(text, plan, task, number)?;
+    }
+    Ok(())
+}
+
+fn add_source(text: &mut String, plan: &Plan, task: &TaskId, number: u8) -> Result<(), Why>
+    requires { IsTask plan.now task.now }
+{
+    let Some(flow) = flows_of(plan, task).get(number as usize) else {
+        return Ok(());
+    };
+    if flow.kind == FlowKind::Ctl {
+        return Ok(());
+    }
+    let source = data_source(plan, task, number);
+    if let Source::Task(_) = source {
+        return Ok(());
+    }
+    text.push_str("  ")?;
+    add_flow(text, plan, task.class(), number)?;
+    text.push_str(" <- ")?;
+    match source {
+        Source::Place(place) => add_place(text, plan, &place)?,
+        Source::New => text.push_str("NEW")?,
+        Source::Null => text.push_str("NULL")?,
+        _ => text.push_str("nothing")?,
+    }
+    text.push('\n')?;
+    Ok(())
+}
+
+fn add_ins(text: &mut String, plan: &Plan, task: &TaskId) -> Result<(), Why>
+    requires { IsTask plan.now task.now }
+{
+    for edge in in_edges(plan, task) {
+        text.push_str("  ")?;
+        add_flow(text, plan, edge.to.class(), edge.in_flow)?;
+        text.push_str(" <- ")?;
+        add_flow(text, plan, edge.from.class(), edge.out_flow)?;
+        text.push(' ')?;
+        add_task(text, plan, &edge.from)?;
+        text.push('\n')?;
+    }
+    Ok(())
+}
+
+fn add_outs(text: &mut String, plan: &Plan, task: &TaskId) -> Result<(), Why>
+    requires { IsTask plan.now task.now }
+{
+    for edge in out_edges(plan, task) {
+        text.push_str("  ")?;
+        add_flow(text, plan, edge.from.class(), edge.out_flow)?;
+        text.push_str(" -> ")?;
+        add_flow(text, plan, edge.to.class(), edge.in_flow)?;
+        text.push(' ')?;
+        add_task(text, plan, &edge.to)?;
+        text.push('\n')?;
+    }
+    Ok(())
+}
+
+fn add_writes(text: &mut String, plan: &Plan, task: &TaskId) -> Result<(), Why>
+    requires { IsTask plan.now task.now }
+{
+    for write in write_backs(plan, task) {
+        text.push_str("  ")?;
+        add_flow(text, plan, task.class(), write.flow)?;
+        text.push_str(" -> ")?;
+        add_place(text, plan, &write.place)?;
+        text.push('\n')?;
+    }
+    Ok(())
+}
