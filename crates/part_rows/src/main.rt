@@ -1,5 +1,5 @@
-//! Rows of parts that the program does not use yet: each is a call of such a part with what it must give, written down in
-//! a file. The words name the files. Prints the rows that came out otherwise.
+//! Rows of parts whose results no verb prints: each is a call of such a part with what it must give, written down in a
+//! file. The words name the files. Prints the rows that came out otherwise.
 #![tactic(auto)]
 
 mod bodies;
