@@ -9,7 +9,7 @@ use ptg_base::{OutOfMemory, Seq, Text, Tile};
 use std::alloc::Global;
 
 /// A collection of tiles in one or two dimensions.
-#[derive(Debug, Drop)]
+#[derive(Debug)]
 pub struct Coll {
     /// The number of rows, and of columns where there are two dimensions.
     pub shape: (u32, Option<u32>),
@@ -18,6 +18,12 @@ pub struct Coll {
     pub datatype: u32,
     /// Its tiles, row by row.
     pub tiles: Seq<Tile>,
+}
+
+impl Drop for Coll {
+    fn drop(self) {
+        let Coll { shape: _shape, name: _name, datatype: _datatype, tiles: _tiles } = self;
+    }
 }
 
 impl Coll {

@@ -11,16 +11,28 @@ use std::marker::Model;
 use term_core::{BinOp, UnOp};
 
 /// A name in the text, with its spot.
-#[derive(Debug, Drop)]
+#[derive(Debug)]
 pub struct Word {
     pub text: Text,
     pub spot: Spot,
 }
 
+impl Drop for Word {
+    fn drop(self) {
+        let Word { text: _text, spot: _spot } = self;
+    }
+}
+
 /// An expression in the text. Contracts see the tree, not its boxes. Parentheses are not kept.
-#[derive(Debug, Drop)]
+#[derive(Debug)]
 pub struct ExprTree {
     pub(crate) node: ExprNode,
+}
+
+impl Drop for ExprTree {
+    fn drop(self) {
+        let ExprTree { node: _node } = self;
+    }
 }
 
 /// One operation of an expression, and its operands.
@@ -84,7 +96,7 @@ impl ExprTree {
         ensures { IfOk result (λ e. e ≡ Elem flow at) }
     {
         Ok(ExprTree {
-            node: ExprNode::Elem(flow, Box::new(alloc, at.node)?),
+            node: ExprNode::Elem(flow, Box::new(alloc, at.into_node())?),
         })
     }
 
@@ -93,7 +105,7 @@ impl ExprTree {
         ensures { IfOk result (λ e. e ≡ Unary op a spot) }
     {
         Ok(ExprTree {
-            node: ExprNode::Unary(op, Box::new(alloc, a.node)?, spot),
+            node: ExprNode::Unary(op, Box::new(alloc, a.into_node())?, spot),
         })
     }
 
@@ -107,7 +119,11 @@ impl ExprTree {
         ensures { IfOk result (λ e. e ≡ Binary op a b) }
     {
         Ok(ExprTree {
-            node: ExprNode::Binary(op, Box::new(alloc, a.node)?, Box::new(alloc, b.node)?),
+            node: ExprNode::Binary(
+                op,
+                Box::new(alloc, a.into_node())?,
+                Box::new(alloc, b.into_node())?,
+            ),
         })
     }
 
@@ -122,11 +138,19 @@ impl ExprTree {
     {
         Ok(ExprTree {
             node: ExprNode::Choose(
-                Box::new(alloc, c.node)?,
-                Box::new(alloc, a.node)?,
-                Box::new(alloc, b.node)?,
+                Box::new(alloc, c.into_node())?,
+                Box::new(alloc, a.into_node())?,
+                Box::new(alloc, b.into_node())?,
             ),
         })
+    }
+
+    // The operation at the root, taken out.
+    fn into_node(self) -> ExprNode
+        ensures { expression_of result ≡ self }
+    {
+        let ExprTree { node } = self;
+        node
     }
 
     /// The operation at the root, for callers that walk the tree.

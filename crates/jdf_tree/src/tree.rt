@@ -35,7 +35,7 @@ pub enum TargetTree {
 }
 
 /// A dependence. Its target is `yes` if it has no guard or the guard holds, and else `no`.
-#[derive(Debug, Drop)]
+#[derive(Debug)]
 pub struct DepTree {
     /// Is the arrow `<-`, and not `->`?
     pub inward: bool,
@@ -46,16 +46,34 @@ pub struct DepTree {
     pub datatype: Option<Word>,
 }
 
+impl Drop for DepTree {
+    fn drop(self) {
+        let DepTree {
+            inward: _inward,
+            guard: _guard,
+            yes: _yes,
+            no: _no,
+            datatype: _datatype,
+        } = self;
+    }
+}
+
 /// A flow of a class, with its dependences in the order of the text.
-#[derive(Debug, Drop)]
+#[derive(Debug)]
 pub struct FlowTree {
     pub kind: FlowKind,
     pub name: Word,
     pub deps: Seq<DepTree>,
 }
 
+impl Drop for FlowTree {
+    fn drop(self) {
+        let FlowTree { kind: _kind, name: _name, deps: _deps } = self;
+    }
+}
+
 /// A class of tasks. Its body is kept as its tokens.
-#[derive(Debug, Drop)]
+#[derive(Debug)]
 pub struct ClassTree {
     pub name: Word,
     pub params: Seq<Word>,
@@ -69,9 +87,31 @@ pub struct ClassTree {
     pub finish: Spot,
 }
 
+impl Drop for ClassTree {
+    fn drop(self) {
+        let ClassTree {
+            name: _name,
+            params: _params,
+            defs: _defs,
+            affinity: _affinity,
+            affinity_args: _affinity_args,
+            flows: _flows,
+            priority: _priority,
+            body: _body,
+            finish: _finish,
+        } = self;
+    }
+}
+
 /// A JDF text: its globals and its classes in the order of the text. Extern blocks, options and properties are not kept.
-#[derive(Debug, Drop)]
+#[derive(Debug)]
 pub struct Jdf {
     pub globals: Seq<Word>,
     pub classes: Seq<ClassTree>,
+}
+
+impl Drop for Jdf {
+    fn drop(self) {
+        let Jdf { globals: _globals, classes: _classes } = self;
+    }
 }

@@ -5,7 +5,7 @@ use ptg_base::{Seq, Text};
 use term_core::{Body, Expr};
 
 /// A class of tasks. Its locals are numbered as the definitions of its space.
-#[derive(Debug, Drop)]
+#[derive(Debug)]
 pub struct ClassPlan {
     pub name: Text,
     /// Where its tasks would best run: the number of a collection, and an index for each of its dimensions.
@@ -17,4 +17,17 @@ pub struct ClassPlan {
     pub body: Body,
     /// The words of the body's traps, by number.
     pub trap_words: Seq<Text>,
+}
+
+impl Drop for ClassPlan {
+    fn drop(self) {
+        let ClassPlan {
+            name: _name,
+            affinity: _affinity,
+            flows: _flows,
+            priority: _priority,
+            body: _body,
+            trap_words: _trap_words,
+        } = self;
+    }
 }

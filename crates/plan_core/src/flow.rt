@@ -5,15 +5,21 @@ use ptg_base::{Seq, Text};
 use term_core::{Expr, FlowKind};
 
 /// A dependence on `yes` where it has no guard or the guard is not 0, else on `no`.
-#[derive(Debug, Drop)]
+#[derive(Debug)]
 pub struct DepPlan {
     pub guard: Option<Expr>,
     pub yes: Target,
     pub no: Option<Target>,
 }
 
+impl Drop for DepPlan {
+    fn drop(self) {
+        let DepPlan { guard: _guard, yes: _yes, no: _no } = self;
+    }
+}
+
 /// A flow of a class.
-#[derive(Debug, Drop)]
+#[derive(Debug)]
 pub struct FlowPlan {
     pub name: Text,
     pub kind: FlowKind,
@@ -23,4 +29,16 @@ pub struct FlowPlan {
     pub ins: Seq<DepPlan>,
     /// Its out dependences, in the text's order.
     pub outs: Seq<DepPlan>,
+}
+
+impl Drop for FlowPlan {
+    fn drop(self) {
+        let FlowPlan {
+            name: _name,
+            kind: _kind,
+            datatype: _datatype,
+            ins: _ins,
+            outs: _outs,
+        } = self;
+    }
 }

@@ -11,7 +11,7 @@ use ptg_base::{Place, Seq};
 use term_core::ClassSpace;
 
 /// A job with all its names resolved, for the data that it was resolved with.
-#[derive(Debug, Drop)]
+#[derive(Debug)]
 pub struct Plan {
     /// The classes, in the text's order.
     pub classes: Seq<ClassPlan>,
@@ -23,6 +23,12 @@ pub struct Plan {
     pub elems: Seq<u32>,
     /// Every number names something that exists, each target has as many arguments as it needs, and flows, targets, datatypes and bodies fit one another.
     pub ghost well_made: { IsWellMade classes spaces colls elems },
+}
+
+impl Drop for Plan {
+    fn drop(self) {
+        let Plan { classes: _classes, spaces: _spaces, colls: _colls, elems: _elems } = self;
+    }
 }
 
 impl Plan {

@@ -7,9 +7,15 @@ use std::alloc::Global;
 use std::marker::Model;
 
 /// A sequence of values. Contracts see it as a list.
-#[derive(Debug, Drop)]
+#[derive(Debug)]
 pub struct Seq<T> {
     items: Vec<T>,
+}
+
+impl<T: Drop> Drop for Seq<T> {
+    fn drop(self) {
+        let Seq { items: _items } = self;
+    }
 }
 
 impl<T> Model for Seq<T> {
@@ -41,7 +47,8 @@ impl<T> Seq<T> {
     pub fn into_vec(self) -> Vec<T>
         ensures { result.items ≡ self }
     {
-        self.items
+        let Seq { items } = self;
+        items
     }
 
     /// The values as a slice.

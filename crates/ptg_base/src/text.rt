@@ -15,9 +15,15 @@ use std::hash::{Hash, Hasher};
 use std::marker::Model;
 
 /// An owned text. Contracts see it as the list of its bytes; texts are ordered by their bytes.
-#[derive(Debug, Drop)]
+#[derive(Debug)]
 pub struct Text {
     bytes: Vec<u8>,
+}
+
+impl Drop for Text {
+    fn drop(self) {
+        let Text { bytes: _bytes } = self;
+    }
 }
 
 impl Model for Text {

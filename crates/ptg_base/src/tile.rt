@@ -7,9 +7,15 @@ use std::alloc::Global;
 use std::marker::Model;
 
 /// A tile: a list of fewer than 2 ^ 32 numbers whose length never changes.
-#[derive(Debug, Drop)]
+#[derive(Debug)]
 pub struct Tile {
     cells: Vec<i64>,
+}
+
+impl Drop for Tile {
+    fn drop(self) {
+        let Tile { cells: _cells } = self;
+    }
 }
 
 impl Model for Tile {

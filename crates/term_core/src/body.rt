@@ -71,8 +71,14 @@ impl Block {
 
 /// What a task does to its tiles: statements over numbered slots. The first slots hold the task's locals, the others the
 /// body's own variables.
-#[derive(Debug, Drop)]
+#[derive(Debug)]
 pub struct Body {
     pub statements: Block,
     pub slots: u16,
+}
+
+impl Drop for Body {
+    fn drop(self) {
+        let Body { statements: _statements, slots: _slots } = self;
+    }
 }

@@ -10,9 +10,15 @@ use std::alloc::Global;
 use std::marker::Model;
 
 /// An expression over the locals of a task. Contracts see its tree, not its boxes.
-#[derive(Debug, Drop)]
+#[derive(Debug)]
 pub struct Expr {
     pub(crate) node: Node,
+}
+
+impl Drop for Expr {
+    fn drop(self) {
+        let Expr { node: _node } = self;
+    }
 }
 
 /// A node of an expression: an operation and its operands.
@@ -65,7 +71,7 @@ impl Expr {
         ensures { IfOk result (λ e. e ≡ Elem flow at) }
     {
         Ok(Expr {
-            node: Node::Elem(flow, Box::new(alloc, at.node)?),
+            node: Node::Elem(flow, Box::new(alloc, at.into_node())?),
         })
     }
 
@@ -74,7 +80,7 @@ impl Expr {
         ensures { IfOk result (λ e. e ≡ Unary op a) }
     {
         Ok(Expr {
-            node: Node::Unary(op, Box::new(alloc, a.node)?),
+            node: Node::Unary(op, Box::new(alloc, a.into_node())?),
         })
     }
 
@@ -83,7 +89,7 @@ impl Expr {
         ensures { IfOk result (λ e. e ≡ Binary op a b) }
     {
         Ok(Expr {
-            node: Node::Binary(op, Box::new(alloc, a.node)?, Box::new(alloc, b.node)?),
+            node: Node::Binary(op, Box::new(alloc, a.into_node())?, Box::new(alloc, b.into_node())?),
         })
     }
 
@@ -93,11 +99,19 @@ impl Expr {
     {
         Ok(Expr {
             node: Node::Choose(
-                Box::new(alloc, c.node)?,
-                Box::new(alloc, a.node)?,
-                Box::new(alloc, b.node)?,
+                Box::new(alloc, c.into_node())?,
+                Box::new(alloc, a.into_node())?,
+                Box::new(alloc, b.into_node())?,
             ),
         })
+    }
+
+    // The root of the tree, taken out.
+    fn into_node(self) -> Node
+        ensures { term_of result ≡ self }
+    {
+        let Expr { node } = self;
+        node
     }
 
     /// The root of the tree.

@@ -59,8 +59,14 @@ impl Params {
 }
 
 /// The definitions of a class in the order of their nesting, and which of them are its parameters.
-#[derive(Debug, Drop)]
+#[derive(Debug)]
 pub struct ClassSpace {
     pub defs: Seq<Def>,
     pub params: Params,
+}
+
+impl Drop for ClassSpace {
+    fn drop(self) {
+        let ClassSpace { defs: _defs, params: _params } = self;
+    }
 }
