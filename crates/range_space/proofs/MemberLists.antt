@@ -145,6 +145,21 @@ pub given_if_ranged : (d : Def) (ds : List Def) (ps : List ℕ) (vs : List ℤ) 
 given_if_ranged (Span r) ds ps vs n e h = IsSome-param_value ps vs n e (and_left (is_among n ps) (spans_are_params (suc n) ds ps) h)
 given_if_ranged (Value t) ds ps vs n e h = tt
 
+-- what extends locals by more extends them by the next one alone, if that one is known
+module _ (d : Def) (ds : List Def) (ps : List ℕ) (vs : List ℤ) (n : ℕ) (outer full : List ℤ) (v : ℤ) (only : (u : ℤ) → IsIn u (or_empty (def_values d outer)) → AgreesWith (param_value ps vs n) u → v ≡ u) where
+  next_of : (locals : List ℤ) → full ≡ outer ++ locals → AreLocals (d ∷ ds) outer locals → AllAgree ps vs n locals → IsCompletion ds ps vs (suc n) (outer ++ v ∷ []) full
+  next_of [] e a g = absurd a
+  next_of (u ∷ locals) e a g =
+      subst (λ z. IsCompletion ds ps vs (suc n) (outer ++ z ∷ []) full) (sym (only u a.0 g.0)) (record {
+        locals = locals;
+        extends = e ∙ sym (append_assoc outer (u ∷ []) locals);
+        are_locals = a.1;
+        all_agree = g.1;
+      })
+
+  pub next_extends : IsCompletion (d ∷ ds) ps vs n outer full → IsCompletion ds ps vs (suc n) (outer ++ v ∷ []) full
+  next_extends w = next_of w.locals w.extends w.are_locals w.all_agree
+
 module _ (s : ClassSpace) (well : IsWellSpace s) (vs : List ℤ) (arity : length s.params ≡ length vs) where
   pub locals_whole : (now : List ℤ) → IsCompletion s.defs s.params vs 0 [] now → IsIn now (all_locals s)
   locals_whole now w = rw w.extends (full_from_locals s.defs [] w.locals w.are_locals)
@@ -158,11 +173,21 @@ module _ (s : ClassSpace) (well : IsWellSpace s) (vs : List ℤ) (arity : length
   pub task_whole : (now : List ℤ) → IsCompletion s.defs s.params vs 0 [] now → IsIn vs (tasks s)
   task_whole now w = rw (sym (params_whole now w)) (IsIn-map (params_of s.params) (all_locals s) now (locals_whole now w))
 
-  pub none_whole : HasNoCompletion s.defs s.params vs 0 [] → IsIn vs (tasks s) → ⊥
-  none_whole none t =
+  pub whole_of_task : IsIn vs (tasks s) → (now : List ℤ) × IsCompletion s.defs s.params vs 0 [] now
+  whole_of_task t =
       let m = from_map (params_of s.params) (all_locals s) vs t in
       let q = locals_from_full s.defs [] m.0 m.1 in
-      none q.0 q.2 (all_agree s.params vs 0 q.0 (λ i h. rw (zero-add, sym q.1) (agreement_from_params s.params vs m.0 (sym m.2) i)))
+      (q.0, record {
+        locals = q.0;
+        extends = refl;
+        are_locals = q.2;
+        all_agree = all_agree s.params vs 0 q.0 (λ i h. rw (zero-add, sym q.1) (agreement_from_params s.params vs m.0 (sym m.2) i));
+      })
+
+  pub none_whole : HasNoCompletion s.defs s.params vs 0 [] → IsIn vs (tasks s) → ⊥
+  none_whole none t =
+      let w = (whole_of_task t).1 in
+      none w.locals w.are_locals w.all_agree
 
 pub arity_of_task : (s : ClassSpace) (vs : List ℤ) → IsIn vs (tasks s) → length s.params ≡ length vs
 arity_of_task s vs t =

@@ -1,18 +1,18 @@
 //! Whether a class has a task, and its locals.
 
-ghost use Rattle.std.specs.Prelude.{◌≡◌, ◌+◌, ◌≤◌, ◌↔◌, [], ◌∷◌, Some, Ok, length, IsTrue};
+ghost use Rattle.std.specs.Prelude.{◌≡◌, ◌+◌, ◌≤◌, ◌↔◌, ℤ, List, [], ◌∷◌, Some, None, Ok, length, IsTrue};
 ghost use Rattle.std.specs.Bool.{OnTrue, OnFalse};
 ghost use Rattle.ptg_base.specs.Lists.{IsIn};
 ghost use Rattle.term_core.specs.WellSpace.{IsWellSpace, spans_are_params};
 ghost use Rattle.range_space.specs.Tasks.{tasks, def_values, or_empty};
 ghost use Rattle.range_space.specs.Locals.{IsLocalsOf};
-ghost use Rattle.range_space.specs.Completion.{param_value, IsOnlyAgreeing, IsGivenIfRanged, IsCompletion, HasNoCompletion};
+ghost use Rattle.range_space.specs.Completion.{param_value, AgreesWith, IsOnlyAgreeing, IsGivenIfRanged, IsCompletion, HasNoCompletion};
 ghost use Rattle.range_space.specs.Fault.{number, range_values};
 ghost use Rattle.term_core.specs.Value.{and_then};
 
 use crate::numbers::Numbers;
 use crate::steps::{number, steps_of};
-use term_core::{ClassSpace, Def, Expr, Range};
+use term_core::{ClassSpace, Def, Expr, Range, eval};
 
 // The value given to the definition with this number, if it is that of a parameter.
 fn param_value(params: &[u8], values: &[i64], definition: usize) -> Option<i64>
@@ -83,6 +83,45 @@ fn complete(defs: &[Def], params: &[u8], values: &[i64], locals: &mut Numbers<16
     }
 }
 
+// The value of a definition for which none is given: that of its expression.
+fn derived_value(def: &Def, env: &[i64]) -> i64
+    requires { IsGivenIfRanged def.now None }
+    ensures { (v : ℤ) → IsIn v (or_empty (def_values def.now env.now)) → result ≡ v }
+{
+    match def {
+        Def::Span(_) => 0,
+        Def::Value(e) => eval(e, env).unwrap_or(0),
+    }
+}
+
+// The local of a definition of a task: the given value, which is not tested again, else that of its expression.
+fn known_local(def: &Def, given: Option<i64>, env: &[i64]) -> i64
+    requires { IsGivenIfRanged def.now given }
+    ensures { (v : ℤ) → IsIn v (or_empty (def_values def.now env.now)) → AgreesWith given v → result ≡ v }
+{
+    match given {
+        Some(v) => v,
+        None => derived_value(def, env),
+    }
+}
+
+// Extends these locals to the full list in which the parameters have these values, if there is one.
+fn fill(defs: &[Def], params: &[u8], values: &[i64], locals: &mut Numbers<16>)
+    requires defs_at_most { length locals.old + length defs.now ≤ 16 }
+    requires arity { length params.now ≡ length values.now }
+    requires spans { IsTrue (spans_are_params (length locals.old) defs.now params.now) }
+    ensures { (full : List ℤ) → IsCompletion defs.now params.now values.now (length locals.old) locals.old full → locals.new ≡ full }
+{
+    let Some((def, inner)) = defs.split_first() else {
+        return;
+    };
+    let env = locals.as_slice();
+    let given = param_value(params, values, env.len());
+    let v = known_local(def, given, env);
+    locals.push(v);
+    fill(inner, params, values, locals)
+}
+
 /// Whether the class has a task with these parameters. Takes one pass over the definitions.
 pub fn in_space(space: &ClassSpace, params: &[i64]) -> bool
     requires well { IsWellSpace space.now }
@@ -98,14 +137,14 @@ pub fn in_space(space: &ClassSpace, params: &[i64]) -> bool
     )
 }
 
-/// The locals of the task with these parameters.
+/// The locals of the task with these parameters. No range is evaluated, since the values of the parameters are known to be its own.
 pub fn locals_of(space: &ClassSpace, params: &[i64]) -> Numbers<16>
     requires well { IsWellSpace space.now }
     requires task { IsIn params.now (tasks space.now) }
     ensures { IsLocalsOf space.now params.now result }
 {
     let mut locals = Numbers::new();
-    let _ = complete(
+    fill(
         space.defs.as_slice(),
         space.params.as_slice(),
         params,
