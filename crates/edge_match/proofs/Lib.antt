@@ -9,5 +9,6 @@ pub mod Passing
 pub mod Consistency
 pub mod NoFault
 pub mod OneFault
+pub mod Either
 pub mod FaultNames
 pub mod WordBits

@@ -1,6 +1,6 @@
 //! Laws of the marks and of the first fault.
 
-ghost use Rattle.std.specs.Prelude.{◌≡◌, ◌<◌, ◌≤◌, ℕ, ℤ, List, Some, length, map, slice_get};
+ghost use Rattle.std.specs.Prelude.{◌≡◌, ◌⊎◌, ◌<◌, ◌≤◌, ℕ, ℤ, List, Some, length, map, slice_get};
 ghost use Rattle.std.specs.List.{AllByRecursion};
 ghost use Rattle.ptg_base.specs.declared.edge.WriteBack.{WriteBack};
 ghost use Rattle.term_core.specs.declared.space.ClassSpace.{ClassSpace};
@@ -34,6 +34,11 @@ pub fn a_plan_has_one_first_fault()
 /// A law: a consistent plan has no fault.
 pub fn a_consistent_plan_has_no_fault()
     ensures { (P : Plan) (f : MatchFault) → IsConsistent P → IsFirstFault P f → ⊥ }
+{}
+
+/// A law: each plan is consistent or has a first fault.
+pub fn a_plan_is_consistent_or_has_a_first_fault()
+    ensures { (P : Plan) → IsConsistent P ⊎ ((f : MatchFault) × IsFirstFault P f) }
 {}
 
 /// A law: the class of a first fault exists, and so does its flow, if it has one. After the walk through the spaces its
