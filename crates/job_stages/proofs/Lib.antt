@@ -1,2 +1,4 @@
 pub mod Once
 pub mod Judged
+pub mod WellData
+pub mod Always
