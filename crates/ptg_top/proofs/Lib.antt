@@ -4,3 +4,4 @@ pub mod Carried
 pub mod JobTexts
 pub mod Ending
 pub mod Once
+pub mod Always

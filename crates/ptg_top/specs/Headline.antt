@@ -60,6 +60,11 @@ OneOutput =
     (words : List (List ℕ)) (files : Entries) (before after other : Option (List ℕ)) (status another : Status)
     → Prints words files before after status → Prints words files before other another → (after ≡ other) × (status ≡ another)
 
+-- and whatever they are, something is printed for them, with a status
+abbrev pub SomeOutput : Type 0
+SomeOutput =
+    (words : List (List ℕ)) (files : Entries) (before : Option (List ℕ)) → (after : Option (List ℕ)) × (status : Status) × Prints words files before after status
+
 -- a failed write cut the text of a verdict short: the one that the arguments and the files denote, or the name of a file that could
 -- not be read
 pub record IsCut (words : List (List ℕ)) (contents : Option Entries) (old new : List ℕ → ℕ) (before after : Option (List ℕ)) : Type 0 where

@@ -41,6 +41,10 @@ Denotes words files v =
 abbrev pub OneMeaning : Type 0
 OneMeaning = (words : List (List ℕ)) (files : Entries) (v w : Verdict) → Denotes words files v → Denotes words files w → v ≡ w
 
+-- and they denote one, whatever they are
+abbrev pub SomeMeaning : Type 0
+SomeMeaning = (words : List (List ℕ)) (files : Entries) → (v : Verdict) × Denotes words files v
+
 -- this is the JDF file, or it is the data file and the JDF is the text of a tree, where the contents are known
 abbrev pub IsUnreadOf : Option Entries → List ℕ → List ℕ → List ℕ → Type 0
 IsUnreadOf contents jdf tiles name =

@@ -1,10 +1,20 @@
 //! Laws of the meaning of a command.
 
-ghost use Rattle.ptg_top.specs.Meaning.{OneMeaning};
-ghost use Rattle.ptg_top.specs.Headline.{OneOutput};
+ghost use Rattle.ptg_top.specs.Meaning.{OneMeaning, SomeMeaning};
+ghost use Rattle.ptg_top.specs.Headline.{OneOutput, SomeOutput};
+
+use ptg_words::words_give_one_order;
 
 /// A law: arguments and files denote one verdict at most, and so determine what is printed.
 pub fn one_meaning()
     ensures meaning { OneMeaning }
     ensures output { OneOutput }
 {}
+
+/// A law: all arguments and files denote a verdict, and so something is printed for them: no input is without a meaning.
+pub fn some_meaning()
+    ensures meaning { SomeMeaning }
+    ensures output { SomeOutput }
+{
+    words_give_one_order();
+}

@@ -15,7 +15,7 @@ mod status;
 mod telling;
 mod verdict;
 
-pub use laws::one_meaning;
+pub use laws::{one_meaning, some_meaning};
 pub use program::ptg_main;
 pub use status::Status;
 pub use verdict::Verdict;

@@ -1,0 +1,78 @@
+-- Arguments and files denote a verdict.
+use Rattle.std.proofs.Common.{◌≡◌, ℕ, List, Some, refl, sym, ◌∙◌, ap, ◌⊎◌, inl, inr}
+use Rattle.std.specs.Prelude.{Option, None}
+use Rattle.ptg_io.specs.Files.{file_of}
+use Rattle.ptg_io.specs.Sink.{appended}
+use Rattle.ptg_words.specs.declared.order.Order.{Order}
+use Rattle.ptg_words.specs.Words.{Orders, OrderOrUsage}
+use Rattle.ptg_words.proofs.OneOrder.{one_order}
+use Rattle.jdf_print.specs.Spelling.{spelling}
+use Rattle.jdf_read.proofs.Either.{tree_or_fault}
+use Rattle.job_stages.specs.declared.verdict.JobVerdict.TheVariants as jobs
+use Rattle.job_stages.proofs.Always.{texts_some}
+use Rattle.ptg_top.specs.declared.request.Request.{Request}
+use Rattle.ptg_top.specs.declared.request.Request.TheVariants.{Run, Show, Check}
+use Rattle.ptg_top.specs.declared.verdict.Verdict.{Verdict}
+use Rattle.ptg_top.specs.declared.verdict.Verdict.TheVariants as verdicts
+use Rattle.ptg_top.specs.Requests.{Requests, request_of}
+use Rattle.ptg_top.specs.JobFiles.{Entries, ContentsDenote, with_answer}
+use Rattle.ptg_top.specs.Meaning.{ContentShows, IsNoOrder, RequestDenotes, Shows, SomeMeaning}
+use Rattle.ptg_top.specs.Headline.{text_of, status_of, SomeOutput}
+use Rattle.ptg_top.proofs.Checked.{fault_refuses}
+
+-- ---- what is asked
+
+-- an order that is not carried out yet asks for nothing, and arguments form no other
+not_asked : (words : List (List ℕ)) (o : Order) → Orders words o → request_of o ≡ None → IsNoOrder words
+not_asked words o formed none request asked = other (sym none ∙ (ap request_of (one_order words o asked.order formed asked.formed) ∙ asked.asks))
+  where
+    other : ◌≡◌ {A = Option Request} None (Some request) → ⊥
+    other e = cc
+
+by_order : (words : List (List ℕ)) (o : Order) → Orders words o → (r : Option Request) → request_of o ≡ r → ((request : Request) × Requests words request) ⊎ IsNoOrder words
+by_order words o formed None e = inr (not_asked words o formed e)
+by_order words o formed (Some request) e = inl (request, record { order = o; formed = formed; asks = e })
+
+asked_or_none : OrderOrUsage → (words : List (List ℕ)) → ((request : Request) × Requests words request) ⊎ IsNoOrder words
+asked_or_none either words = elim (either words) [
+  | inl o ↦ by_order words o.0 o.1 (request_of o.0) refl
+  | inr usage ↦ inr (λ request asked. asked.formed.breaks_no_rule usage)
+]
+
+-- ---- what the files denote
+
+shows_some : (text : List ℕ) → (v : Verdict) × Shows text v
+shows_some text = elim (tree_or_fault text) [
+  | inl tree ↦ (verdicts.Spelling (spelling tree.0), inr (tree.0, tree.1, refl))
+  | inr w ↦ (verdicts.Job (jobs.Jdf w.0), inl (fault_refuses text w.0 w.1))
+]
+
+content_shows_some : (name : List ℕ) (content : Option (List ℕ)) → (v : Verdict) × ContentShows name content v
+content_shows_some name None = (verdicts.Unread name, refl)
+content_shows_some name (Some text) = shows_some text
+
+contents_some : (jdf tiles : List ℕ) (a b : Option (List ℕ)) → (v : Verdict) × ContentsDenote jdf tiles a b v
+contents_some jdf tiles None b = (verdicts.Unread jdf, refl)
+contents_some jdf tiles (Some text) None = elim (tree_or_fault text) [
+  | inl tree ↦ (verdicts.Unread tiles, inr (tree.0, tree.1, refl))
+  | inr w ↦ (verdicts.Job (jobs.Jdf w.0), inl (fault_refuses text w.0 w.1))
+]
+contents_some jdf tiles (Some text) (Some data_text) = let job = texts_some text data_text in (verdicts.Job job.0, (job.0, job.1, refl))
+
+request_some : (files : Entries) (request : Request) → (v : Verdict) × RequestDenotes files request v
+request_some files (Run jdf tiles) = let checked = contents_some jdf tiles (file_of files jdf) (file_of files tiles) in (with_answer checked.0, (checked.0, checked.1, refl))
+request_some files (Show jdf) = content_shows_some jdf (file_of files jdf)
+request_some files (Check jdf tiles) = contents_some jdf tiles (file_of files jdf) (file_of files tiles)
+
+-- ---- arguments and files
+
+pub some_meaning : OrderOrUsage → SomeMeaning
+some_meaning either words files = elim (asked_or_none either words) [
+  | inl asked ↦ let found = request_some files asked.0 in (found.0, inr (asked.0, asked.1, found.1))
+  | inr none ↦ (verdicts.Usage, inl (none, refl))
+]
+
+pub some_output : OrderOrUsage → SomeOutput
+some_output either words files before =
+    let found = some_meaning either words files in
+    (appended before (text_of found.0), status_of found.0, record { verdict = found.0; denoted = found.1; text = refl; ends = refl })
