@@ -1,9 +1,6 @@
 -- Each plan is consistent or has a first fault: each check passes or does not.
-use Rattle.std.proofs.Common.{◌≡◌, ◌↔◌, ℕ, ◌+◌, ◌<◌, ◌≤◌, ℤ, pos, ◌≤ℤ◌, ◌<ℤ◌, Bool, true, false, nat_eq, int_eq, IsTrue, List, [], ◌∷◌, length, refl, ap, subst, Option, Some, None, slice_get, IsSomeAnd, ◌⊎◌, inl, inr, arith}
-use Rattle.std.proofs.lemmas.Bool.{cases_lt, false≢true}
-use Rattle.std.proofs.lemmas.Int.{by_lt_z, ints}
-use Rattle.std.specs.Cmp.{unsigned_Decides, signed_Decides}
-use Rattle.ptg_base.specs.Lists.{IsIn}
+use Rattle.std.proofs.Common.{◌≡◌, ℕ, ◌+◌, ◌<◌, ◌≤◌, ℤ, pos, List, [], ◌∷◌, length, refl, ap, subst, Option, Some, None, slice_get, ◌⊎◌, inl, inr, arith}
+use Rattle.std.proofs.lemmas.Bool.{cases_lt}
 use Rattle.ptg_base.specs.Task.{Task}
 use Rattle.ptg_base.specs.TaskComparing.{same_task}
 use Rattle.ptg_base.specs.TaskLaws.{same_task-decides}
@@ -32,68 +29,7 @@ use Rattle.edge_match.specs.Faults.{fault_at, space_fault}
 use Rattle.edge_match.specs.Marks.{AllPass, Before, Check, CountsIn, CountsItem, HasIn, HasInput, HasOut, HasSource, HasTile, HasValues, IsNewEdge, IsNewPlace, IsOfJob, IsPlace, Mark, Passes, add, marks, nothing}
 use Rattle.edge_match.specs.FirstFault.{IsFirstFailure, IsFirstFault, code_of, flow_at}
 use Rattle.edge_match.proofs.Consistency.{passes_consistent}
-
--- ---- what holds or does not
-
-abbrev pub IsDecided : Type 0 → Type 0
-IsDecided A = A ⊎ (A → ⊥)
-
-by_test : {A : Type 0} (b : Bool) → IsTrue b ↔ A → IsDecided A
-by_test true h = inl (h.0 refl)
-by_test false h = inr (λ a. false≢true (h.1 a))
-
-decided_like : {A B : Type 0} → (A → B) → (B → A) → IsDecided A → IsDecided B
-decided_like to from (inl a) = inl (to a)
-decided_like to from (inr none) = inr (λ b. none (from b))
-
-decided_both : {A B : Type 0} → IsDecided A → IsDecided B → IsDecided (A × B)
-decided_both (inl a) (inl b) = inl (a, b)
-decided_both (inl a) (inr none) = inr (λ p. none p.1)
-decided_both (inr none) k = inr (λ p. none p.0)
-
-decided_if : {A B : Type 0} → IsDecided A → IsDecided B → IsDecided (A → B)
-decided_if h (inl b) = inl (λ a. b)
-decided_if (inl a) (inr none) = inr (λ f. none (f a))
-decided_if (inr never) (inr none) = inl (λ a. absurd (never a))
-
-decided_not : {A : Type 0} → IsDecided A → IsDecided (A → ⊥)
-decided_not h = decided_if h (inr (λ none. none))
-
-decided_some : {A : Type 0} (P : A → Type 0) → ((a : A) → IsDecided (P a)) → (o : Option A) → IsDecided (IsSomeAnd o P)
-decided_some P each None = inr (λ h. h)
-decided_some P each (Some a) = each a
-
-decided_in : {A : Type 0} → ((x y : A) → IsDecided (x ≡ y)) → (x : A) (xs : List A) → IsDecided (IsIn x xs)
-decided_in same x [] = inr (λ h. h)
-decided_in same x (y ∷ ys) = elim (same x y) [
-  | inl e ↦ inl (inl e)
-  | inr differ ↦ elim (decided_in same x ys) [
-    | inl h ↦ inl (inr h)
-    | inr none ↦ inr (λ h. elim h [ inl e ↦ differ e | inr k ↦ none k ])
-  ]
-]
-
-decided_true : (b : Bool) → IsDecided (IsTrue b)
-decided_true b = by_test b (λ h. h, λ h. h)
-
-decided_none : {A : Type 0} (o : Option A) → IsDecided (o ≡ None)
-decided_none None = inl refl
-decided_none (Some a) = inr (λ e. absurd cc)
-
-decided_below : (m n : ℕ) → IsDecided (m < n)
-decided_below m n = elim (cases_lt m n) [ inl h ↦ inl h | inr h ↦ inr (λ k. omega arith) ]
-
-decided_at_most : (a b : ℤ) → IsDecided (a ≤ℤ b)
-decided_at_most a b = by_lt_z b a (λ h. inr (λ k. omega (arith, ints))) (λ h. inl h)
-
-decided_less : (a b : ℤ) → IsDecided (a <ℤ b)
-decided_less a b = by_lt_z a b (λ h. inl h) (λ h. inr (λ k. omega (arith, ints)))
-
-same_number : (a b : ℕ) → IsDecided (a ≡ b)
-same_number a b = by_test (nat_eq a b) (unsigned_Decides a b)
-
-same_integer : (a b : ℤ) → IsDecided (a ≡ b)
-same_integer a b = by_test (int_eq a b) (signed_Decides a b)
+use Rattle.edge_match.proofs.Decided.{IsDecided, by_test, decided_at_most, decided_below, decided_both, decided_if, decided_in, decided_less, decided_like, decided_none, decided_not, decided_some, decided_true, same_integer, same_number}
 
 -- ---- tasks, edges and places
 
@@ -184,11 +120,12 @@ pass_or_failure P b (m ∷ ms) = elim (decided_check P b m.check) [
 
 -- ---- the walk through the spaces
 
-one_walked : (t p : ℕ) (c : ℕ) → t < 1000000 → p ≤ 16000000 → IsWalked t p (t + 1) p (walk.Task c ∷ [])
-one_walked t p c h k = record { unstopped = record { all_have_values = tt; tasks_at_most = omega arith; prefixes_at_most = omega arith }; all_tasks = omega arith; all_prefixes = omega arith }
+-- a visit that does not stop the walk
+task_walked : (t p c : ℕ) → t < 1000000 → p ≤ 16000000 → IsWalked t p (t + 1) p (walk.Task c ∷ [])
+task_walked t p c h k = record { unstopped = record { all_have_values = tt; tasks_at_most = omega arith; prefixes_at_most = omega arith }; all_tasks = omega arith; all_prefixes = omega arith }
 
-one_prefix : (t p : ℕ) (c : ℕ) → t ≤ 1000000 → p < 16000000 → IsWalked t p t (p + 1) (Prefix c ∷ [])
-one_prefix t p c h k = record { unstopped = record { all_have_values = tt; tasks_at_most = omega arith; prefixes_at_most = omega arith }; all_tasks = omega arith; all_prefixes = omega arith }
+prefix_walked : (t p c : ℕ) → t ≤ 1000000 → p < 16000000 → IsWalked t p t (p + 1) (Prefix c ∷ [])
+prefix_walked t p c h k = record { unstopped = record { all_have_values = tt; tasks_at_most = omega arith; prefixes_at_most = omega arith }; all_tasks = omega arith; all_prefixes = omega arith }
 
 -- nothing stops the walk, or it has a first fault
 unstopped_or_fault : (t p : ℕ) (vs : List Visit) → t ≤ 1000000 → p ≤ 16000000 → walk.IsUnstopped t p vs ⊎ ((f : SpaceFault) × walk.IsFirstFault t p vs f)
@@ -201,7 +138,7 @@ unstopped_or_fault t p (walk.Task c ∷ vs) h k = elim (cases_lt t 1000000) [
         let a = u.tasks_at_most in
         let b = u.prefixes_at_most in
         inl (record { all_have_values = u.all_have_values; tasks_at_most = omega arith; prefixes_at_most = omega arith })
-    | inr w ↦ inr (w.0, fault_after t p (t + 1) p (walk.Task c ∷ []) vs w.0 (one_walked t p c l k) w.1)
+    | inr w ↦ inr (w.0, fault_after t p (t + 1) p (walk.Task c ∷ []) vs w.0 (task_walked t p c l k) w.1)
   ]
   | inr l ↦ inr (TooManyTasks c, fault_before t p (walk.Task c ∷ []) vs (TooManyTasks c) (stops_at_once t p (walk.Task c) (TooManyTasks c) h k (omega arith, refl)))
 ]
@@ -211,13 +148,14 @@ unstopped_or_fault t p (Prefix c ∷ vs) h k = elim (cases_lt p 16000000) [
         let a = u.tasks_at_most in
         let b = u.prefixes_at_most in
         inl (record { all_have_values = u.all_have_values; tasks_at_most = omega arith; prefixes_at_most = omega arith })
-    | inr w ↦ inr (w.0, fault_after t p t (p + 1) (Prefix c ∷ []) vs w.0 (one_prefix t p c h l) w.1)
+    | inr w ↦ inr (w.0, fault_after t p t (p + 1) (Prefix c ∷ []) vs w.0 (prefix_walked t p c h l) w.1)
   ]
   | inr l ↦ inr (TooManyTasks c, fault_before t p (Prefix c ∷ []) vs (TooManyTasks c) (stops_at_once t p (Prefix c) (TooManyTasks c) h k (omega arith, refl)))
 ]
 
 -- ---- plans
 
+-- a plan with an unstopped walk whose marks pass
 unstopped_is_consistent : (P : Plan) → walk.IsUnstopped 0 0 (walk_all 0 P.spaces) → AllPass P nothing (marks P) → IsConsistent P
 unstopped_is_consistent P u all =
     let tasks = u.tasks_at_most in

@@ -9,6 +9,7 @@ pub mod Passing
 pub mod Consistency
 pub mod NoFault
 pub mod OneFault
+pub mod Decided
 pub mod Either
 pub mod FaultNames
 pub mod WordBits
