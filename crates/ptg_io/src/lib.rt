@@ -7,6 +7,8 @@ mod loading;
 mod memory_files;
 mod memory_sink;
 mod sink;
+#[cfg(test)]
+mod tests;
 mod writing;
 
 pub use file::File;
