@@ -2,3 +2,4 @@ pub mod Once
 pub mod Judged
 pub mod WellData
 pub mod Always
+mod Tried

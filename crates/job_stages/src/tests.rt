@@ -1,4 +1,7 @@
-//! The verdict on small texts.
+//! The verdict on small texts, and runs step by step.
+
+mod orders;
+mod stepwise;
 
 use crate::{JobVerdict, answer_of, judge_texts};
 use flow_meaning::Outcome;

@@ -1,0 +1,158 @@
+//! A broadcast, claimed and sent in other orders than the program's.
+
+use crate::tests::stepwise::{Step, Stepwise};
+use flow_meaning::Outcome;
+use ptg_base::{OutOfMemory, Place};
+use std::test::Fail;
+
+// Src(0) sends one tile to three tasks Sink(i). Each writes ten times its number and i back to its own place.
+const JDF: &[u8] = b"D
+
+Src(z)
+z = 0 .. 0
+: D(0)
+READ A <- D(0)
+     -> X Sink(0 .. 2)
+BODY
+END
+
+Sink(i)
+i = 0 .. 2
+: D(i)
+RW X <- A Src(0)
+     -> D(i)
+BODY
+X[0] = X[0] * 10 + i;
+END
+";
+
+// The tile that is sent has the number 5.
+const DATA: &[u8] = b"elems,1
+coll,D,3
+tile,D,0,5
+";
+
+// The numbers of D's three tiles, if nothing more can happen and all four tasks ran.
+fn end(run: Stepwise) -> Result<Option<[i64; 3]>, OutOfMemory> {
+    let Some(Outcome::Complete(4, given)) = run.answer()? else {
+        return Ok(None);
+    };
+    let mut numbers = [0; 3];
+    for i in 0..3 {
+        let place = Place {
+            coll: 0,
+            i: i as i64,
+            j: 0,
+        };
+        let Some(tile) = given.tile(&place) else {
+            return Ok(None);
+        };
+        let Some(number) = tile.as_slice().first() else {
+            return Ok(None);
+        };
+        numbers[i] = *number;
+    }
+    Ok(Some(numbers))
+}
+
+// The edges are sent last to first, and readers are claimed and run between the sends.
+const BETWEEN: &[(Step, bool)] = &[
+    (Step::Claim(0, 0), true),
+    (Step::Finish(0, 0), true),
+    (Step::Edge(2), true),
+    (Step::Claim(1, 2), true),
+    (Step::Edge(1), true),
+    (Step::Finish(1, 2), true),
+    (Step::Write(2, 2), true),
+    (Step::Edge(0), true),
+    (Step::Claim(1, 0), true),
+    (Step::Claim(1, 1), true),
+    (Step::Finish(1, 0), true),
+    (Step::Finish(1, 1), true),
+    (Step::Write(0, 0), true),
+    (Step::Write(1, 1), true),
+];
+
+// All edges are sent first; the readers are claimed last to first, and end in another order.
+const AFTER: &[(Step, bool)] = &[
+    (Step::Claim(0, 0), true),
+    (Step::Finish(0, 0), true),
+    (Step::Edge(0), true),
+    (Step::Edge(1), true),
+    (Step::Edge(2), true),
+    (Step::Claim(1, 2), true),
+    (Step::Claim(1, 1), true),
+    (Step::Claim(1, 0), true),
+    (Step::Finish(1, 1), true),
+    (Step::Finish(1, 0), true),
+    (Step::Finish(1, 2), true),
+    (Step::Write(1, 1), true),
+    (Step::Write(2, 2), true),
+    (Step::Write(0, 0), true),
+];
+
+// With calls that are not allowed, each before or after one that would be.
+const REFUSED: &[(Step, bool)] = &[
+    // An edge has not come; there is no such task; the sender is not claimed.
+    (Step::Claim(1, 0), false),
+    (Step::Claim(1, 3), false),
+    (Step::Claim(2, 0), false),
+    (Step::Edge(0), false),
+    (Step::Runs(1, 0), false),
+    (Step::Runs(0, 0), false),
+    (Step::IsOver, false),
+    // A claim of a claimed task, and a send of a running one.
+    (Step::Claim(0, 0), true),
+    (Step::Claim(0, 0), false),
+    (Step::Edge(0), false),
+    (Step::Runs(0, 0), true),
+    (Step::Finish(0, 0), true),
+    (Step::Runs(0, 0), false),
+    (Step::Claim(0, 0), false),
+    // An edge that the job does not have, one that was sent, and claims where the edge was not sent or the task is claimed.
+    (Step::Edge(3), false),
+    (Step::Edge(1), true),
+    (Step::Edge(1), false),
+    (Step::Claim(1, 0), false),
+    (Step::IsOver, false),
+    (Step::Claim(1, 1), true),
+    (Step::Claim(1, 1), false),
+    (Step::Edge(1), false),
+    // The same of write-backs.
+    (Step::Write(0, 0), false),
+    (Step::Write(1, 1), false),
+    (Step::Runs(1, 1), true),
+    (Step::Finish(1, 1), true),
+    (Step::Write(1, 0), false),
+    (Step::Write(1, 1), true),
+    (Step::Write(1, 1), false),
+    (Step::IsOver, false),
+    // What was refused is allowed in its turn, up to the last step.
+    (Step::Edge(0), true),
+    (Step::Edge(2), true),
+    (Step::Claim(1, 0), true),
+    (Step::Claim(1, 2), true),
+    (Step::Finish(1, 2), true),
+    (Step::Finish(1, 0), true),
+    (Step::Write(0, 0), true),
+    (Step::IsOver, false),
+    (Step::Write(2, 2), true),
+    (Step::IsOver, true),
+    // Nothing is left.
+    (Step::Claim(1, 2), false),
+    (Step::Write(2, 2), false),
+    (Step::IsOver, true),
+];
+
+// Each order ends with ten times 5 and the number of the reader, at each place.
+#[test]
+fn orders_end_alike(rt: HostRuntime) -> Result<(), Fail> {
+    for steps in [BETWEEN, AFTER, REFUSED] {
+        let Some(mut run) = Stepwise::start(rt.alloc(), JDF, DATA)? else {
+            panic!(rt; "the job is not consistent");
+        };
+        assert_eq!(rt; run.first_other(steps)?, None);
+        assert_eq!(rt; end(run)?, Some([50, 51, 52]));
+    }
+    Ok(())
+}
