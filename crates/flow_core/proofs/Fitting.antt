@@ -35,7 +35,7 @@ use Rattle.flow_core.specs.RunState.{IsRunning, RunState, end_of, machine, mark_
 use Rattle.flow_core.specs.Fits.{Fits, MaySendNow}
 use Rattle.flow_core.specs.SentItems.{IsUnsent}
 use Rattle.flow_core.specs.Arrivals.{CountsArrivals, edges_to, is_edge_to, number_at}
-use Rattle.flow_core.specs.Possible.{GoesToWaiting}
+use Rattle.flow_core.specs.Possible.{GoesToWaiting, IsDue}
 use Rattle.flow_core.proofs.Lookups.{apart, end_push, found_key, key_count, key_found, keys_set, none_before, set_other, set_same}
 use Rattle.flow_core.proofs.Arriving.{arrived_are}
 
@@ -134,11 +134,12 @@ module _ (P : Plan) (G : Data) (con : IsConsistent P) (r : RunState) (fits : Fit
           let is : end_of r (sender i) ≡ Some e = ap (λ m. unwrap_or m None) h in
           ap has_outputs is ∙ sym (ap has_outputs (end_known (sender i) e is)) ∙ now.may.outputs
 
-  pub unsendable : (i : Item) → has_outputs (end_of r (sender i)) ≡ false → IsTrue false ↔ MaySendNow P G r i
-  unsendable i h = (λ k. absurd (false≢true k), λ now. sym h ∙ ((sendable i).1 now).0)
+  -- an item that may be sent is due, and one that is due may be sent if it was not
+  pub due_before : (i : Item) → MaySendNow P G r i → IsDue P r i
+  due_before i now = record { outputs = ((sendable i).1 now).0; is_item = now.may.is_item }
 
-  pub sendable_by : (i : Item) (b : Bool) → has_outputs (end_of r (sender i)) ≡ true → IsUnsent r.sends i → IsTrue b ↔ IsIn i (items P (sender i)) → IsTrue b ↔ MaySendNow P G r i
-  sendable_by i b left unsent member = (λ k. (sendable i).0 (left, unsent, member.0 k), λ now. member.1 now.may.is_item)
+  pub due_now : (i : Item) → IsDue P r i → IsUnsent r.sends i → MaySendNow P G r i
+  due_now i due unsent = (sendable i).0 (due.outputs, unsent, due.is_item)
 
   -- it is sent with the tile that its task left
   pub send_event : (i : Item) → MaySendNow P G r i → machine (with_send i r) ≡ state_after P G (machine r) (Send i)

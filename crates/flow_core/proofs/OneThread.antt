@@ -1,5 +1,5 @@
 -- What a thread does between two tasks, and where it ends.
-use Rattle.std.proofs.Common.{◌≡◌, ℕ, zero, suc, drop, slice_get, ◌+◌, ◌<◌, ◌≤◌, ℤ, Bool, true, false, cond, is_some, List, [], ◌∷◌, ◌++◌, length, map, refl, ap, sym, ◌∙◌, subst, ◌⊎◌, Option, Some, None, Result, Ok, Err, OnOk, IsTrue, ◌↔◌, ◌≢◌, inl, inr, arith, append_assoc, length-append, ltb-true, lt-ltb}
+use Rattle.std.proofs.Common.{◌≡◌, ℕ, zero, suc, drop, slice_get, ◌+◌, ◌<◌, ◌≤◌, ℤ, Bool, true, false, cond, is_some, List, [], ◌∷◌, ◌++◌, length, map, refl, ap, sym, ◌∙◌, subst, ◌⊎◌, Option, Some, None, Result, Ok, Err, OnOk, IsSomeAnd, IsTrue, ◌↔◌, ◌≢◌, inl, inr, arith, append_assoc, length-append, ltb-true, lt-ltb}
 use Rattle.std.proofs.lemmas.Bool.{false≢true}
 use Rattle.std.proofs.lemmas.List.{append-nil, drop_all}
 use Rattle.std.specs.Prelude.{unwrap_or}
@@ -15,7 +15,7 @@ use Rattle.ptg_base.specs.declared.edge.Item.TheVariants as item
 use Rattle.term_core.specs.declared.trap.Trap.{Trap}
 use Rattle.plan_core.specs.declared.plan.Plan.{Plan}
 use Rattle.coll_data.specs.Data.{Data}
-use Rattle.range_space.proofs.MemberLists.{IsIn-append_left, IsIn-append_right, IsIn-map, from_append}
+use Rattle.range_space.proofs.MemberLists.{IsIn-append_left, IsIn-append_right, IsIn-map, from_append, from_map}
 use Rattle.range_space.proofs.Stepping.{by_test}
 use Rattle.term_core.specs.declared.space.ClassSpace.{ClassSpace}
 use Rattle.range_space.specs.Tasks.{tasks}
@@ -36,14 +36,15 @@ use Rattle.flow_meaning.proofs.Events.{unsent}
 use Rattle.flow_meaning.proofs.Rest.{item_sender, rests}
 use Rattle.flow_core.specs.RunState.{IsRunning, RunState, end_of, machine, opening_run, send_of, with_claim, with_end, with_send}
 use Rattle.flow_core.specs.Fits.{Fits, HasFinished, MaySendNow, trap_of}
+use Rattle.flow_core.specs.Possible.{IsDue}
 use Rattle.flow_core.specs.OneThread.{HasDone, IsBetweenTasks, MayClaimOnly, OwesOnly, ended_count, running_tasks}
 use Rattle.flow_core.proofs.Lookups.{apart, end_push, found_key, key_found, set_other, set_same}
-use Rattle.flow_core.proofs.Fitting.{edge_among, end_event, send_event, sendable, write_among}
+use Rattle.flow_core.proofs.Fitting.{edge_among, end_event, send_event, sendable, sender_task, write_among}
 use Rattle.flow_core.proofs.RunningTasks.{claims_at_most, counted_among, ended_push, ended_set, last_in, marked_running, running_mark, running_set}
 
 -- nothing is done
 pub nothing_done : (P : Plan) (r : RunState) → HasDone P [] [] r r
-nothing_done P r = record { claimed = λ us h. h; sent = λ js h. h; ended = refl; fits = λ G h. h }
+nothing_done P r = record { claimed = λ us h. h; sent = λ js h. h; ended = refl; ends = λ t. refl; fits = λ G h. h }
 
 -- one thing is done after another
 pub done_then : (P : Plan) (ts us : List Task) (is js : List Item) (a b c : RunState) → HasDone P ts is a b → HasDone P us js b c → HasDone P (ts ++ us) (is ++ js) a c
@@ -51,6 +52,7 @@ done_then P ts us is js a b c d e = record {
   claimed = λ vs h. e.claimed vs (d.claimed (us ++ vs) (subst (λ l. MayClaimOnly P l a) (append_assoc ts us vs) h));
   sent = λ ks h. e.sent ks (d.sent (js ++ ks) (subst (λ l. OwesOnly P l a) (append_assoc is js ks) h));
   ended = e.ended ∙ d.ended;
+  ends = λ t. e.ends t ∙ d.ends t;
   fits = λ G h. e.fits G (d.fits G h);
 }
 
@@ -63,6 +65,7 @@ done_with_these P ts is js a b among d = record {
     | inr k ↦ elim (from_append i is ks k) [ inl x ↦ inr (IsIn-append_left i js ks (among i x)) | inr y ↦ inr (IsIn-append_right i js ks y) ]
   ]);
   ended = d.ended;
+  ends = d.ends;
   fits = d.fits;
 }
 
@@ -85,6 +88,7 @@ module _ (P : Plan) (r : RunState) (t : Task) where
     claimed = λ us h u m. elim (h u (claimable_before u m)) [ inl same ↦ absurd (not_claimed_again u m same) | inr i ↦ i ];
     sent = λ js h u tiles end i mine. h u tiles (sym (end_push u t r.claims) ∙ end) i mine;
     ended = ended_push r.claims t;
+    ends = λ u. end_push u t r.claims;
     fits = fits;
   }
 
@@ -94,6 +98,7 @@ module _ (P : Plan) (r : RunState) (t : Task) where
     claimed = λ us h u m. elim (h u m) [ inl same ↦ absurd (not (subst (MayClaim P (machine r)) same m)) | inr i ↦ i ];
     sent = λ js h. h;
     ended = refl;
+    ends = λ u. refl;
     fits = λ G h. h;
   }
 
@@ -118,6 +123,10 @@ sends_it r i = lt-ltb 0 (send_count (machine (with_send i r)) i) (omega (arith, 
 same_ended : (r : RunState) (i : Item) (b : Bool) → ended_count (cond b (with_send i r) r) ≡ ended_count r
 same_ended r i true = refl
 same_ended r i false = refl
+
+same_ends : (r : RunState) (i : Item) (b : Bool) (t : Task) → end_of (cond b (with_send i r) r) t ≡ end_of r t
+same_ends r i true t = refl
+same_ends r i false t = refl
 
 pub same_running : (r : RunState) (i : Item) (b : Bool) → running_tasks (cond b (with_send i r) r) ≡ running_tasks r
 same_running r i true = refl
@@ -164,6 +173,7 @@ module _ (P : Plan) (G : Data) (con : IsConsistent P) (r : RunState) (fits : Fit
     claimed = λ us h. d.claimed us (subst (MayClaimOnly P (e.to ∷ us)) (sym is) (target_ready b exact us h));
     sent = λ js h. d.sent js (subst (OwesOnly P js) (sym is) (owed_sent P G con r fits (item.Edge e) b exact js h));
     ended = d.ended ∙ ap ended_count is ∙ same_ended r (item.Edge e) b;
+    ends = λ u. d.ends u ∙ ap (λ (x : RunState). end_of x u) is ∙ same_ends r (item.Edge e) b u;
     fits = λ H h. d.fits H (keeps H h);
   }
 
@@ -182,6 +192,7 @@ module _ (P : Plan) (G : Data) (con : IsConsistent P) (r : RunState) (fits : Fit
     claimed = none_ready_more b exact;
     sent = owed_sent P G con r fits (item.Write w) b exact;
     ended = same_ended r (item.Write w) b;
+    ends = same_ends r (item.Write w) b;
     fits = λ H h. subst (Fits P H) is (keeps H h);
   })
 
@@ -200,7 +211,13 @@ pub record HasEnded (P : Plan) (G : Data) (t : Task) (tasks : List Task) (old ne
   pub none_ready : MayClaimOnly P [] new
   pub owes : OwesOnly P (items P t) new
   pub trapped : trap ≢ None → OwesOnly P [] new
+  pub outputs : is_some trap ≡ false → has_outputs (end_of new t) ≡ true
   pub ended : ended_count new ≡ ended_count old + 1
+
+-- a task that has not trapped has outputs
+left_outputs : (end : Ended) (trap : Option Trap) → trap ≡ trap_of end → is_some trap ≡ false → has_outputs (Some end) ≡ true
+left_outputs (Ok tiles) trap is none = refl
+left_outputs (Err cause) trap is none = absurd (false≢true (sym none ∙ ap is_some is))
 
 module _ (P : Plan) (G : Data) (r : RunState) (fits : Fits P G r) (t : Task) (running : List Task) (last : running ++ t ∷ [] ≡ running_tasks r) where
   -- it is running
@@ -226,6 +243,7 @@ module _ (P : Plan) (G : Data) (r : RunState) (fits : Fits P G r) (t : Task) (ru
       none_ready = λ u m. none_ready u (subst (λ S. MayClaim P S u) (end_event r t end) m);
       owes = λ u tiles e i mine. elim (owes_its u tiles e i mine) [ inl s ↦ inl s | inr p ↦ inr (subst (λ v. IsIn i (items P v)) p.0 mine) ];
       trapped = λ some u tiles e i mine. elim (owes_its u tiles e i mine) [ inl s ↦ inl s | inr p ↦ absurd (some (is ∙ ap trap_of p.1)) ];
+      outputs = λ none. ap has_outputs (ap (λ m. unwrap_or m None) (set_same (same_task t) r.claims None (Some end) last_runs)) ∙ left_outputs end trap is none;
       ended = ended_set r.claims t end last_runs;
     }
 
@@ -346,3 +364,40 @@ between_sent P G t running old new trap e fits last now d is = record {
 -- no task is running where there are none
 pub idle : (r : RunState) → [] ≡ running_tasks r → (t : Task) → IsRunning r t → ⊥
 idle r none t h = subst (IsIn t) (sym none) (marked_running r.claims t h)
+
+-- what is left of the edges of a task is due, and what is left of its write-backs
+module _ (P : Plan) (t : Task) (a b : RunState) (outputs : has_outputs (end_of a t) ≡ true) where
+  due : (i : Item) → IsIn i (items P t) → ((u : Task) → end_of b u ≡ end_of a u) → IsDue P b i
+  due i mine ends =
+      let from : sender i ≡ t = item_sender P t i mine in
+      record { outputs = ap (λ u. has_outputs (end_of b u)) from ∙ ap has_outputs (ends t) ∙ outputs; is_item = subst (λ u. IsIn i (items P u)) (sym from) mine }
+
+  pub edge_due : (all left : List Edge) (e : Edge) → all ≡ out_edges P t → IsSoFar P [] [] (map (λ (x : Edge). item.Edge x) all) (map (λ (x : Edge). item.Edge x) (e ∷ left)) a b → IsDue P b (item.Edge e)
+  edge_due all left e is w =
+      let among : IsIn (item.Edge e) (map (λ (x : Edge). item.Edge x) all) = subst (IsIn (item.Edge e)) (sym w.split_items) (IsIn-append_right (item.Edge e) w.sent (map (λ (x : Edge). item.Edge x) (e ∷ left)) (inl refl)) in
+      let there = from_map (λ (x : Edge). item.Edge x) all (item.Edge e) among in
+      let mine = (edge_among (items P t) there.0).1 (subst (IsIn there.0) is there.1) in
+      due (item.Edge e) (subst (λ i. IsIn i (items P t)) (sym there.2) mine) w.done.ends
+
+  pub write_due : (all left : List WriteBack) (e : WriteBack) → all ≡ write_backs P t → IsSoFar P [] [] (map (λ (x : WriteBack). item.Write x) all) (map (λ (x : WriteBack). item.Write x) (e ∷ left)) a b → IsDue P b (item.Write e)
+  write_due all left e is w =
+      let among : IsIn (item.Write e) (map (λ (x : WriteBack). item.Write x) all) = subst (IsIn (item.Write e)) (sym w.split_items) (IsIn-append_right (item.Write e) w.sent (map (λ (x : WriteBack). item.Write x) (e ∷ left)) (inl refl)) in
+      let there = from_map (λ (x : WriteBack). item.Write x) all (item.Write e) among in
+      let mine = (write_among (items P t) there.0).1 (subst (IsIn there.0) is there.1) in
+      due (item.Write e) (subst (λ i. IsIn i (items P t)) (sym there.2) mine) w.done.ends
+
+-- the tasks of a class are tasks of the job, and so are those of them that are left
+pub job_task : (P : Plan) (class : ℕ) (s : ClassSpace) → slice_get P.spaces class ≡ Some s → (all : List (List ℤ)) (params : List ℤ) → all ≡ tasks s → IsIn params all → IsTask P (task class params)
+job_task P class s here all params is i = subst (λ o. IsSomeAnd o (λ (x : ClassSpace). IsIn params (tasks x))) (sym here) (subst (IsIn params) is i)
+
+pub class_task : (P : Plan) (class : ℕ) (s : ClassSpace) → slice_get P.spaces class ≡ Some s → (all left : List (List ℤ)) (params : List ℤ) (a b : RunState) → all ≡ tasks s
+    → IsSoFar P (map (task class) all) (map (task class) (params ∷ left)) [] [] a b → IsTask P (task class params)
+class_task P class s here all left params a b is w =
+    let among : IsIn (task class params) (map (task class) all) = subst (IsIn (task class params)) (sym w.split) (IsIn-append_right (task class params) w.tasks (map (task class) (params ∷ left)) (inl refl)) in
+    let there = from_map (task class) all (task class params) among in
+    subst (IsTask P) (sym there.2) (job_task P class s here all there.0 is there.1)
+
+-- an edge that is due goes to a task of the job
+pub due_target : (P : Plan) (G : Data) → IsConsistent P → (r : RunState) → Fits P G r → (e : Edge) → IsDue P r (item.Edge e) → IsTask P e.to
+due_target P G con r fits e d =
+    (con.connected e.from (sender_task P G con r fits (item.Edge e) d.outputs)).to_tasks e ((edge_among (items P e.from) e).0 d.is_item)

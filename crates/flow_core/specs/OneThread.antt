@@ -35,11 +35,12 @@ abbrev pub OwesOnly : Plan → List Item → RunState → Type 0
 OwesOnly P is r =
     (t : Task) (tiles : List (Option (List ℤ))) → end_of r t ≡ Some (Ok tiles) → (i : Item) → IsIn i (items P t) → IsTrue (is_sent (machine r) i) ⊎ IsIn i is
 
--- these tasks were claimed where they could be, and these items were sent; no task has ended meanwhile
+-- these tasks were claimed where they could be, and these items were sent; no task has ended meanwhile, and what has ended is as it was
 pub record HasDone (P : Plan) (ts : List Task) (is : List Item) (old new : RunState) : Type 0 where
   pub claimed : (us : List Task) → MayClaimOnly P (ts ++ us) old → MayClaimOnly P us new
   pub sent : (js : List Item) → OwesOnly P (is ++ js) old → OwesOnly P js new
   pub ended : ended_count new ≡ ended_count old
+  pub ends : (t : Task) → end_of new t ≡ end_of old t
   pub fits : (G : Data) → Fits P G old → Fits P G new
 
 -- a run between two tasks: the running tasks are these, no task may be claimed, and nothing is owed

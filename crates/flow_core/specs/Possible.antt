@@ -1,9 +1,13 @@
 -- What the steps of a send find and need. Source: this project's own choice.
 use Rattle.std.specs.Prelude.{◌≡◌, ◌≤◌, ℤ, List, IsTrue, Option, Some, None, Ok, Err}
+use Rattle.ptg_base.specs.Lists.{IsIn}
 use Rattle.ptg_base.specs.Task.{Task}
 use Rattle.ptg_base.specs.declared.edge.Item.{Item}
-use Rattle.flow_meaning.specs.Ending.{Ended}
-use Rattle.flow_core.specs.RunState.{RunState, mark_of}
+use Rattle.plan_core.specs.declared.plan.Plan.{Plan}
+use Rattle.dep_iter.specs.Items.{items}
+use Rattle.flow_meaning.specs.Ending.{Ended, has_outputs}
+use Rattle.flow_meaning.specs.Machine.{sender}
+use Rattle.flow_core.specs.RunState.{RunState, end_of, mark_of}
 use Rattle.flow_core.specs.Arrivals.{edges_to, is_edge_to}
 
 -- the tiles that a task left, if it has ended without a trap
@@ -15,3 +19,8 @@ outputs_of (Some (Err cause)) = None
 -- the task that an item goes to, if it is an edge, is not claimed, and fewer edges have come to it than a job may have
 abbrev pub GoesToWaiting : RunState → Item → Type 0
 GoesToWaiting r i = (u : Task) → IsTrue (is_edge_to u i) → (mark_of r u ≡ None) × (edges_to u r.sends ≤ 4000000)
+
+-- an item is due: it is one of a task that has ended without a trap
+pub record IsDue (P : Plan) (r : RunState) (i : Item) : Type 0 where
+  pub outputs : IsTrue (has_outputs (end_of r (sender i)))
+  pub is_item : IsIn i (items P (sender i))

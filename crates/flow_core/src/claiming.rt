@@ -4,7 +4,7 @@ ghost use Rattle.std.specs.Prelude.{◌≡◌, ◌∷◌, [], List, OnOk, Some, 
 ghost use Rattle.term_core.specs.declared.space.ClassSpace.{ClassSpace as ClassSpaceValue};
 ghost use Rattle.range_space.specs.Tasks as range;
 ghost use Rattle.coll_data.specs.Data.{Data};
-ghost use Rattle.dep_iter.specs.Tasks.{task, tasks_from};
+ghost use Rattle.dep_iter.specs.Tasks.{IsTask, task, tasks_from};
 ghost use Rattle.flow_core.specs.Fits.{Fits};
 ghost use Rattle.flow_core.specs.OneThread.{HasDone, running_tasks};
 
@@ -15,18 +15,19 @@ use dep_iter::Matched;
 use ptg_base::{OutOfMemory, TaskId};
 use range_space::Space;
 
-// Claims a task if it may be claimed.
+// Claims a task of the job if it may be claimed.
 pub(crate) fn claim_if_ready(
     runner: &mut Runner,
     m: &Matched,
     t: &TaskId,
 ) -> Result<(), OutOfMemory>
+    requires task { IsTask m.now t.now }
     requires fits { (G : Data) × Fits m.now G runner.old.run }
     requires running { runner.old.running.items ≡ running_tasks runner.old.run }
     ensures done { OnOk result (HasDone m.now (t.now ∷ []) [] runner.old.run runner.new.run) }
     ensures running { OnOk result (runner.new.running.items ≡ running_tasks runner.new.run) }
 {
-    if !runner.run.claim(m, t)? {
+    if !runner.run.claim_task(m, t)? {
         return Ok(());
     }
     runner.running.push(copy_of_task(t))?;

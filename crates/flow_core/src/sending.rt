@@ -1,13 +1,16 @@
 //! Sends of the items of a task that has ended.
 
-ghost use Rattle.std.specs.Prelude.{◌≡◌, ◌∷◌, ◌++◌, [], OnOk, map};
+ghost use Rattle.std.specs.Prelude.{◌≡◌, ◌∷◌, ◌++◌, [], IsTrue, OnOk, map};
 ghost use Rattle.ptg_base.specs.declared.edge.Edge.{Edge as EdgeValue};
 ghost use Rattle.ptg_base.specs.declared.edge.WriteBack.{WriteBack as WriteBackValue};
 ghost use Rattle.ptg_base.specs.declared.edge.Item.TheVariants as item;
 ghost use Rattle.coll_data.specs.Data.{Data};
 ghost use Rattle.dep_iter.specs.Items as items;
 ghost use Rattle.dep_iter.specs.Tasks.{IsTask};
+ghost use Rattle.flow_meaning.specs.Ending.{has_outputs};
+ghost use Rattle.flow_core.specs.RunState.{end_of};
 ghost use Rattle.flow_core.specs.Fits.{Fits};
+ghost use Rattle.flow_core.specs.Possible.{IsDue};
 ghost use Rattle.flow_core.specs.OneThread.{HasDone, running_tasks};
 
 use crate::claiming::claim_if_ready;
@@ -16,8 +19,9 @@ use crate::runner::Runner;
 use dep_iter::{Matched, out_edges, write_backs};
 use ptg_base::{Edge, Item, OutOfMemory, TaskId, WriteBack};
 
-// Sends an edge, and claims the task that it goes to if it may be claimed then.
+// Sends an edge of a task that has ended without a trap, and claims the task that it goes to if it may be claimed then.
 fn send_edge(runner: &mut Runner, m: &Matched, edge: Edge) -> Result<(), OutOfMemory>
+    requires due { IsDue m.now runner.old.run (item.Edge edge) }
     requires fits { (G : Data) × Fits m.now G runner.old.run }
     requires running { runner.old.running.items ≡ running_tasks runner.old.run }
     ensures done { OnOk result (HasDone m.now [] (item.Edge edge ∷ []) runner.old.run runner.new.run) }
@@ -25,13 +29,14 @@ fn send_edge(runner: &mut Runner, m: &Matched, edge: Edge) -> Result<(), OutOfMe
 {
     let _ = m.plan();
     let to = copy_of_task(&edge.to);
-    let _sent = runner.run.send(m, &Item::Edge(edge))?;
+    let _sent = runner.run.send_due(m, &Item::Edge(edge))?;
     claim_if_ready(runner, m, &to)
 }
 
-// Sends the edges out of a task.
+// Sends the edges out of a task that has ended without a trap.
 fn send_edges(runner: &mut Runner, m: &Matched, t: &TaskId) -> Result<(), OutOfMemory>
     requires task { IsTask m.now t.now }
+    requires outputs { IsTrue (has_outputs (end_of runner.old.run t.now)) }
     requires fits { (G : Data) × Fits m.now G runner.old.run }
     requires running { runner.old.running.items ≡ running_tasks runner.old.run }
     ensures done { OnOk result (HasDone m.now [] (map (λ (e : EdgeValue). item.Edge e) (items.out_edges m.now t.now)) runner.old.run runner.new.run) }
@@ -43,21 +48,23 @@ fn send_edges(runner: &mut Runner, m: &Matched, t: &TaskId) -> Result<(), OutOfM
     Ok(())
 }
 
-// Sends a write-back.
+// Sends a write-back of a task that has ended without a trap.
 fn send_write(runner: &mut Runner, m: &Matched, write: WriteBack) -> Result<(), OutOfMemory>
+    requires due { IsDue m.now runner.old.run (item.Write write) }
     requires fits { (G : Data) × Fits m.now G runner.old.run }
     requires running { runner.old.running.items ≡ running_tasks runner.old.run }
     ensures done { OnOk result (HasDone m.now [] (item.Write write ∷ []) runner.old.run runner.new.run) }
     ensures running { OnOk result (runner.new.running.items ≡ running_tasks runner.new.run) }
 {
     let _ = m.plan();
-    let _sent = runner.run.send(m, &Item::Write(write))?;
+    let _sent = runner.run.send_due(m, &Item::Write(write))?;
     Ok(())
 }
 
-// Sends the write-backs of a task.
+// Sends the write-backs of a task that has ended without a trap.
 fn send_writes(runner: &mut Runner, m: &Matched, t: &TaskId) -> Result<(), OutOfMemory>
     requires task { IsTask m.now t.now }
+    requires outputs { IsTrue (has_outputs (end_of runner.old.run t.now)) }
     requires fits { (G : Data) × Fits m.now G runner.old.run }
     requires running { runner.old.running.items ≡ running_tasks runner.old.run }
     ensures done { OnOk result (HasDone m.now [] (map (λ (w : WriteBackValue). item.Write w) (items.write_backs m.now t.now)) runner.old.run runner.new.run) }
@@ -69,9 +76,10 @@ fn send_writes(runner: &mut Runner, m: &Matched, t: &TaskId) -> Result<(), OutOf
     Ok(())
 }
 
-// Sends all items of a task, and claims the tasks that may be claimed then.
+// Sends all items of a task that has ended without a trap, and claims the tasks that may be claimed then.
 pub(crate) fn send_items(runner: &mut Runner, m: &Matched, t: &TaskId) -> Result<(), OutOfMemory>
     requires task { IsTask m.now t.now }
+    requires outputs { IsTrue (has_outputs (end_of runner.old.run t.now)) }
     requires fits { (G : Data) × Fits m.now G runner.old.run }
     requires running { runner.old.running.items ≡ running_tasks runner.old.run }
     ensures done { OnOk result (HasDone m.now [] (items.items m.now t.now) runner.old.run runner.new.run) }

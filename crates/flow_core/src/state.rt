@@ -12,10 +12,11 @@ ghost use Rattle.flow_meaning.specs.Ending.{output_tile};
 ghost use Rattle.flow_meaning.specs.Machine as events;
 ghost use Rattle.flow_meaning.specs.Machine.{MayClaim};
 ghost use Rattle.dep_iter.specs.Items as items;
+ghost use Rattle.dep_iter.specs.Tasks.{IsTask};
 ghost use Rattle.flow_core.specs.RunState.{IsRunning, end_of, machine, mark_of, opening_run, with_claim, with_send};
 ghost use Rattle.flow_core.specs.Fits.{Fits, HasFinished, MaySendNow};
 ghost use Rattle.flow_core.specs.Possible as possible;
-ghost use Rattle.flow_core.specs.Possible.{GoesToWaiting};
+ghost use Rattle.flow_core.specs.Possible.{GoesToWaiting, IsDue};
 ghost use Rattle.flow_core.specs.SentItems.{IsUnsent};
 
 mod answer;
@@ -91,22 +92,35 @@ impl State {
         ensures err { OnErr result (self.new ≡ self.old) }
         ensures fits { (G : Data) → Fits m.now G self.old → Fits m.now G self.new }
     {
-        if !self.may_claim(m, t) {
+        if !is_task(m.plan(), t) {
+            return Ok(false);
+        }
+        self.claim_task(m, t)
+    }
+
+    // Claims a task of the job if it may be claimed.
+    pub(crate) fn claim_task(&mut self, m: &Matched, t: &TaskId) -> Result<bool, OutOfMemory>
+        requires task { IsTask m.now t.now }
+        ensures exact { IfOk result (λ claimed. (G : Data) → Fits m.now G self.old → IsTrue claimed ↔ MayClaim m.now (machine self.old) t.now) }
+        ensures state { IfOk result (λ claimed. self.new ≡ (if claimed then with_claim t.now self.old else self.old)) }
+        ensures err { OnErr result (self.new ≡ self.old) }
+        ensures fits { (G : Data) → Fits m.now G self.old → Fits m.now G self.new }
+    {
+        if !self.is_ready(m, t) {
             return Ok(false);
         }
         self.enter_task(t)?;
         Ok(true)
     }
 
-    // Whether a task may be claimed.
-    fn may_claim(&self, m: &Matched, t: &TaskId) -> bool
+    // Whether a task of the job may be claimed.
+    fn is_ready(&self, m: &Matched, t: &TaskId) -> bool
+        requires task { IsTask m.now t.now }
         ensures exact { (G : Data) → Fits m.now G self.now → IsTrue result ↔ MayClaim m.now (machine self.now) t.now }
         ensures unclaimed { IsTrue result → mark_of self.now t.now ≡ None }
         ensures consistent { IsConsistent m.now }
     {
-        if !is_task(m.plan(), t) {
-            return false;
-        }
+        let _ = m.plan();
         if self.claims.contains_key(t) {
             return false;
         }
@@ -171,29 +185,40 @@ impl State {
         ensures err { OnErr result (self.new ≡ self.old) }
         ensures fits { (G : Data) → Fits m.now G self.old → Fits m.now G self.new }
     {
-        if !self.may_send(m, item) {
+        if !self.is_due(m, item) {
             return Ok(false);
         }
-        self.enter_item(item)?;
-        Ok(true)
+        self.send_due(m, item)
     }
 
-    // Whether an item may be sent.
-    fn may_send(&self, m: &Matched, item: &Item) -> bool
+    // Whether an item is due.
+    fn is_due(&self, m: &Matched, item: &Item) -> bool
         requires fits { (G : Data) × Fits m.now G self.now }
-        ensures exact { (G : Data) → Fits m.now G self.now → IsTrue result ↔ MaySendNow m.now G self.now item.now }
-        ensures unsent { IsTrue result → IsUnsent self.now.sends item.now }
-        ensures target { IsTrue result → GoesToWaiting self.now item.now }
+        ensures due { IsTrue result ↔ IsDue m.now self.now item.now }
         ensures consistent { IsConsistent m.now }
     {
         let plan = m.plan();
         if !self.has_outputs(sender(item)) {
             return false;
         }
-        if !self.is_unsent(item) {
-            return false;
-        }
         is_item(plan, item)
+    }
+
+    // Sends an item that is due, with the tile that its task left, unless it was sent.
+    pub(crate) fn send_due(&mut self, m: &Matched, item: &Item) -> Result<bool, OutOfMemory>
+        requires fits { (G : Data) × Fits m.now G self.old }
+        requires due { IsDue m.now self.old item.now }
+        ensures exact { IfOk result (λ sent. (G : Data) → Fits m.now G self.old → IsTrue sent ↔ MaySendNow m.now G self.old item.now) }
+        ensures state { IfOk result (λ sent. self.new ≡ (if sent then with_send item.now self.old else self.old)) }
+        ensures err { OnErr result (self.new ≡ self.old) }
+        ensures fits { (G : Data) → Fits m.now G self.old → Fits m.now G self.new }
+    {
+        let _ = m.plan();
+        if !self.is_unsent(item) {
+            return Ok(false);
+        }
+        self.enter_item(item)?;
+        Ok(true)
     }
 
     // Whether a task has ended without a trap.

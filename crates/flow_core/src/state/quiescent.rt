@@ -61,7 +61,7 @@ impl State {
         let space = space_of(m, class);
         for params in Space::new(space) {
             let t = TaskId::new(class, params.as_slice());
-            if self.may_claim(m, &t) {
+            if self.is_ready(m, &t) {
                 return true;
             }
         }

@@ -1,8 +1,8 @@
-use Rattle.std.proofs.Common.{◌≡◌, [], ◌∷◌, map, ap, ◌∙◌, subst}
+use Rattle.std.proofs.Common.{◌≡◌, [], ◌∷◌, map, ap, sym, ◌∙◌, subst}
 use Rattle.range_space.specs.Tasks.{tasks}
-use Rattle.dep_iter.specs.Tasks.{task}
+use Rattle.dep_iter.specs.Tasks.{IsTask, task}
 use Rattle.flow_core.specs.OneThread.{HasDone}
-use Rattle.flow_core.proofs.OneThread.{IsSoFar, all_done, nothing_yet, one_more}
+use Rattle.flow_core.proofs.OneThread.{IsSoFar, all_done, class_task, nothing_yet, one_more}
 use Rattle.flow_core.proofs.claiming.claim_class.Goals as goal
 
 pub loop-params-init : goal.loop-params-init
@@ -10,6 +10,10 @@ loop-params-init c = record { can_next = tt; is_finite = tt; so_far = nothing_ye
 
 pub claim_if_ready-requires : goal.claim_if_ready-requires
 claim_if_ready-requires c = record {
+  task = subst (IsTask c.args.m.now) (sym (c.new-t.ensures ∙ ap (task c.args.class) c.as_slice.ensures.same))
+      (class_task c.args.m.now c.args.class c.space_of-space.result.now c.space_of-space.ensures.space c.into_iter-params-iterator.result c.next.new.self c.in-Some.params c.args.runner.now.run c.loop-params.runner.run
+      (c.into_iter-params-iterator.ensures.into_iter_gives ∙ c.new-params-items.ensures)
+      (subst (λ l. IsSoFar c.args.m.now (map (task c.args.class) c.into_iter-params-iterator.result) (map (task c.args.class) l) [] [] c.args.runner.now.run c.loop-params.runner.run) c.in-Some.ensures.steps c.loop-params.invariant.so_far));
   fits = (c.requires.fits.0, c.loop-params.invariant.so_far.done.fits c.requires.fits.0 c.requires.fits.1);
   running = c.loop-params.invariant.running;
 }

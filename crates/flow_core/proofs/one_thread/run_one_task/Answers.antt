@@ -1,4 +1,4 @@
-use Rattle.std.proofs.Common.{◌∙◌}
+use Rattle.std.proofs.Common.{◌∙◌, sym}
 use Rattle.flow_core.proofs.OneThread.{between_sent, between_trapped, has_ended, last_runs, last_task, on_both_then, on_ok_then}
 use Rattle.flow_core.proofs.one_thread.run_one_task.Goals as goal
 
@@ -21,6 +21,7 @@ send_items-requires c =
     let e = has_ended c.args.m.now c.args.given.now c.args.runner.now.run c.finish.new.self c.requires.fits c.args.t.now c.args.runner.now.running.items c.requires.running c.requires.none_ready c.requires.nothing_owed c.in_ok-finish.field-0 c.in_ok-finish.ensures.ok in
     record {
       task = last_task c.args.m.now c.args.given.now c.args.runner.now.run c.requires.fits c.args.t.now c.args.runner.now.running.items c.requires.running;
+      outputs = e.outputs (sym c.if-is_some.ensures);
       fits = (c.args.given.now, c.in_ok-finish.ensures.fits);
       running = e.running;
     }

@@ -1,9 +1,12 @@
+use Rattle.std.proofs.Common.{ap, ◌∙◌}
+use Rattle.flow_meaning.specs.Ending.{has_outputs}
 use Rattle.flow_core.proofs.OneThread.{done_then, done_with_these, items_parts, on_ok_then}
 use Rattle.flow_core.proofs.sending.send_items.Goals as goal
 
 pub send_writes-requires : goal.send_writes-requires
 send_writes-requires c = record {
   task = c.requires.task;
+  outputs = ap has_outputs (c.in_ok-send_edges.ensures.done.ends c.args.t.now) ∙ c.requires.outputs;
   fits = (c.requires.fits.0, c.in_ok-send_edges.ensures.done.fits c.requires.fits.0 c.requires.fits.1);
   running = c.in_ok-send_edges.ensures.running;
 }

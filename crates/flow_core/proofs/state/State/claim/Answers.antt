@@ -1,9 +1,6 @@
-use Rattle.std.proofs.Common.{sym, subst, refl}
-use Rattle.flow_core.specs.Fits.{Fits}
-use Rattle.flow_core.proofs.Fitting.{claim_fits}
+use Rattle.std.proofs.Common.{refl, subst}
+use Rattle.dep_iter.specs.Tasks.{IsTask}
 use Rattle.flow_core.proofs.state.State.claim.Goals as goal
 
-pub returns-clause-fits : goal.returns-clause-fits
-returns-clause-fits c = λ G fits.
-    subst (Fits c.args.m.now G) (sym c.in_ok-enter_task.ensures.ok)
-    (claim_fits c.args.m.now G c.may_claim.ensures.consistent c.args.self.now fits c.args.t.now ((c.if-not-may_claim.ensures.exact G fits).0 refl))
+pub claim_task-requires : goal.claim_task-requires
+claim_task-requires c = record { task = subst (λ P. IsTask P c.args.t.now) c.plan.ensures.same (c.if-not-is_task.ensures.0 refl) }

@@ -1,9 +1,11 @@
-use Rattle.std.proofs.Common.{sym, subst, refl}
-use Rattle.flow_core.specs.Fits.{Fits}
-use Rattle.flow_core.proofs.Fitting.{send_fits}
+use Rattle.std.proofs.Common.{refl}
+use Rattle.std.proofs.lemmas.Bool.{false≢true}
+use Rattle.flow_core.proofs.Fitting.{due_before}
 use Rattle.flow_core.proofs.state.State.send.Goals as goal
 
-pub returns-clause-fits : goal.returns-clause-fits
-returns-clause-fits c = λ G fits.
-    subst (Fits c.args.m.now G) (sym c.in_ok-enter_item.ensures.ok)
-    (send_fits c.args.m.now G c.may_send.ensures.consistent c.args.self.now fits c.args.item.now ((c.if-not-may_send.ensures.exact G fits).0 refl))
+pub returns-then-not-is_due-clause-exact : goal.returns-then-not-is_due-clause-exact
+returns-then-not-is_due-clause-exact c = λ G fits.
+    (λ k. absurd (false≢true k), λ now. c.if-not-is_due.ensures.due.1 (due_before c.args.m.now G c.if-not-is_due.ensures.consistent c.args.self.now fits c.args.item.now now))
+
+pub send_due-requires-clause-due : goal.send_due-requires-clause-due
+send_due-requires-clause-due c = c.if-not-is_due.ensures.due.0 refl
