@@ -1,0 +1,123 @@
+//! Deques of ready tasks: on one thread, and with three thieves.
+ghost use Rattle.std.specs.Prelude.{◌≢◌, ◌<◌, length};
+
+use crate::count::Count;
+use crate::tasks::task;
+use ptg_base::OutOfMemory;
+use ready_deques::{Hands, Stolen, make};
+use std::alloc::Global;
+use std::sync::Wait;
+use std::sync::atomic::{AtomicU64, Ordering};
+use std::thread;
+use std::thread::Threads;
+
+// How many ids are pushed before they are popped.
+const BURST: u32 = 1000;
+
+// How many workers there are where three of them steal.
+const WORKERS: u32 = 4;
+
+/// So many ids are pushed to one deque and popped, in bursts.
+pub fn deque(alloc: Global, size: u32) -> Result<Vec<Count>, OutOfMemory> {
+    let mut team = make(alloc, 1)?;
+    let taken = match team.first_mut() {
+        Some(hands) => push_and_pop(hands, size, BURST),
+        None => 0,
+    };
+    Ok(vec![in alloc; Count::of("taken", taken)]?)
+}
+
+/// So many ids are pushed to one deque, and then all are popped.
+pub fn deep_deque(alloc: Global, size: u32) -> Result<Vec<Count>, OutOfMemory> {
+    let mut team = make(alloc, 1)?;
+    let taken = match team.first_mut() {
+        Some(hands) => push_and_pop(hands, size, size),
+        None => 0,
+    };
+    Ok(vec![in alloc; Count::of("taken", taken)]?)
+}
+
+// Pushes the ids of numbers up to this one, in bursts that are popped until none is left. How many were popped, or came back.
+fn push_and_pop(hands: &mut Hands, size: u32, burst: u32) -> u64 {
+    let mut taken: u64 = 0;
+    let mut pushed: u32 = 0;
+    for number in 0..size {
+        if hands.push(task(number)).is_err() {
+            taken = taken.wrapping_add(1);
+        }
+        pushed = pushed.wrapping_add(1);
+        if pushed >= burst {
+            taken = taken.wrapping_add(pop_all(hands, pushed));
+            pushed = 0;
+        }
+    }
+    taken.wrapping_add(pop_all(hands, pushed))
+}
+
+// Pops so many ids, or fewer where none is left.
+fn pop_all(hands: &mut Hands, most: u32) -> u64 {
+    let mut taken: u64 = 0;
+    for _ in 0..most {
+        if hands.pop().is_none() {
+            return taken;
+        }
+        taken = taken.wrapping_add(1);
+    }
+    taken
+}
+
+// One worker's hands, and how many ids it took.
+#[derive(Drop)]
+struct Seat {
+    hands: Hands,
+    taken: u64,
+}
+
+/// So many ids are pushed by one worker and popped, in bursts, while three others steal from it.
+pub fn thieves<R: Threads + Wait + Sync>(
+    rt: &R,
+    alloc: Global,
+    size: u32,
+) -> Result<Vec<Count>, OutOfMemory> {
+    let mut seats = Vec::new(alloc);
+    for hands in make(alloc, WORKERS)? {
+        seats.push(Seat { hands, taken: 0 })?;
+    }
+    let done = AtomicU64::new(0);
+    thread::for_each_mut(rt, seats.as_mut_slice(), WORKERS as usize, &|_, seat| {
+        take_part(rt, seat, size, &done)
+    });
+    let mut taken: u64 = 0;
+    for seat in &seats {
+        taken = taken.wrapping_add(seat.taken);
+    }
+    Ok(vec![in alloc; Count::of("taken", taken)]?)
+}
+
+// Worker 0 pushes and pops, and then says that it is done. The others steal from it until then.
+fn take_part<R: Threads + Wait + Sync>(rt: &R, seat: &mut Seat, size: u32, done: &AtomicU64) {
+    if seat.hands.number() == 0 {
+        seat.taken = push_and_pop(&mut seat.hands, size, BURST);
+        done.store(1, Ordering::SeqCst);
+    } else if seat.hands.workers() > 0 {
+        seat.taken = steal_all(rt, &mut seat.hands, done);
+    }
+}
+
+// Steals from worker 0 until it is done and its deque was found empty.
+fn steal_all<R: Threads + Wait + Sync>(rt: &R, hands: &mut Hands, done: &AtomicU64) -> u64
+    requires { (0 < length hands.old.deques) × (0 ≢ hands.old.number) }
+{
+    let mut taken: u64 = 0;
+    for _ in rt.forever() {
+        match hands.steal(rt, 0) {
+            Stolen::Task(_) => taken = taken.wrapping_add(1),
+            Stolen::Empty => {
+                if done.load(Ordering::SeqCst) == 1 {
+                    return taken;
+                }
+            }
+        }
+    }
+    unreachable!()
+}

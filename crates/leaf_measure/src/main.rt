@@ -1,0 +1,62 @@
+//! Measures the leaves of the runtime: the words name cases and their sizes, and what was counted is printed, a line each.
+#![tactic(auto)]
+
+mod case;
+mod count;
+mod deques;
+mod shards;
+mod tasks;
+
+use crate::case::{Case, measure};
+use crate::count::Count;
+use ptg_base::OutOfMemory;
+use std::alloc::Global;
+use std::process::ExitCode;
+use std::sync::Wait;
+use std::thread::Threads;
+use std::{env, io};
+
+const USAGE: &str = "usage: leaf_measure (ready|best|by_task|first_edges|last_edges|fired|deque|deep_deque|thieves SIZE)..";
+
+// The case and the size that two words name.
+fn wanted(case: &String, size: &String) -> Option<(Case, u32)> {
+    Some((Case::of(case.as_str())?, size.as_str().parse().ok()?))
+}
+
+// What is counted by the case and the size that two words name, if they name any.
+fn counts<R: Threads + Wait + Sync>(
+    rt: &R,
+    alloc: Global,
+    case: &String,
+    size: &String,
+) -> Option<Result<Vec<Count>, OutOfMemory>> {
+    let (case, size) = wanted(case, size)?;
+    Some(measure(rt, alloc, case, size))
+}
+
+fn main(rt: HostRuntime) -> io::Result<ExitCode> {
+    let words: Vec<String> = env::args(&rt)?.collect(rt.alloc())?;
+    let words = words.as_slice();
+    if words.len() % 2 == 0 {
+        println!(rt; "{USAGE}")?;
+        return Ok(ExitCode::FAILURE);
+    }
+    for number in 0..words.len() / 2 {
+        match counts(&rt, rt.alloc(), &words[2 * number + 1], &words[2 * number + 2]) {
+            Some(Ok(counts)) => {
+                for count in counts.as_slice() {
+                    println!(rt; "{count}")?;
+                }
+            }
+            Some(Err(_)) => {
+                println!(rt; "out of memory")?;
+                return Ok(ExitCode::FAILURE);
+            }
+            None => {
+                println!(rt; "{USAGE}")?;
+                return Ok(ExitCode::FAILURE);
+            }
+        }
+    }
+    Ok(ExitCode::SUCCESS)
+}

@@ -1,0 +1,149 @@
+//! Entries of one shard: ready tasks and edges come, and tasks are taken.
+ghost use Rattle.std.specs.Prelude.{◌≡◌, OnOk};
+ghost use Rattle.dep_shard.specs.Content.{IsTileOf};
+ghost use Rattle.leaf_measure.specs.Tasks.{task_of, HasNoneFrom, WaitFrom};
+
+use crate::count::Count;
+use crate::tasks::{priority, task};
+use dep_shard::{Arrived, Shard};
+use ptg_base::{Edge, OutOfMemory, TaskId, Tile};
+use std::alloc::Global;
+
+// How many tasks a shard lets run and end.
+const MOST_TASKS: u64 = 1000000;
+
+// How many numbers a tile has.
+const NUMBERS: u32 = 4;
+
+/// So many ready tasks are added.
+pub fn ready(alloc: Global, size: u32) -> Result<Vec<Count>, OutOfMemory> {
+    let mut shard = Shard::new(alloc, &[])?;
+    add_ready(&mut shard, size)?;
+    Ok(vec![in alloc; Count::of("entries", shard.len() as u64)]?)
+}
+
+/// So many ready tasks are added, and taken from the best to the last.
+pub fn best(alloc: Global, size: u32) -> Result<Vec<Count>, OutOfMemory> {
+    let mut shard = Shard::new(alloc, &[])?;
+    add_ready(&mut shard, size)?;
+    let taken = take_best(&mut shard, size);
+    Ok(vec![in alloc; Count::of("taken", taken), Count::of("entries", shard.len() as u64)]?)
+}
+
+/// So many ready tasks are added, and taken by their numbers.
+pub fn by_task(alloc: Global, size: u32) -> Result<Vec<Count>, OutOfMemory> {
+    let mut shard = Shard::new(alloc, &[])?;
+    add_ready(&mut shard, size)?;
+    let taken = take_by_task(&mut shard, size);
+    Ok(vec![in alloc; Count::of("taken", taken), Count::of("entries", shard.len() as u64)]?)
+}
+
+/// The first of two edges comes to each of so many tasks.
+pub fn first_edges(alloc: Global, size: u32) -> Result<Vec<Count>, OutOfMemory> {
+    let mut shard = Shard::new(alloc, &[NUMBERS])?;
+    let tile = Tile::zeros(alloc, NUMBERS)?;
+    send_first(&mut shard, size, &tile)?;
+    Ok(vec![in alloc; Count::of("entries", shard.len() as u64)]?)
+}
+
+/// Both of two edges come to each of so many tasks.
+pub fn last_edges(alloc: Global, size: u32) -> Result<Vec<Count>, OutOfMemory> {
+    let mut shard = Shard::new(alloc, &[NUMBERS])?;
+    let tile = Tile::zeros(alloc, NUMBERS)?;
+    send_first(&mut shard, size, &tile)?;
+    let fired = send_last(&mut shard, size, &tile)?;
+    Ok(vec![in alloc; Count::of("fired", fired), Count::of("entries", shard.len() as u64)]?)
+}
+
+/// Both of two edges come to each of so many tasks, which are taken from the best to the last.
+pub fn fired(alloc: Global, size: u32) -> Result<Vec<Count>, OutOfMemory> {
+    let mut shard = Shard::new(alloc, &[NUMBERS])?;
+    let tile = Tile::zeros(alloc, NUMBERS)?;
+    send_first(&mut shard, size, &tile)?;
+    let fired = send_last(&mut shard, size, &tile)?;
+    let taken = take_best(&mut shard, size);
+    Ok(vec![in alloc; Count::of("fired", fired), Count::of("taken", taken), Count::of("entries", shard.len() as u64)]?)
+}
+
+fn add_ready(shard: &mut Shard, size: u32) -> Result<(), OutOfMemory>
+    requires { HasNoneFrom 0 shard.old }
+{
+    for number in 0..size {
+        shard.add_ready(&task(number), priority(number))?;
+    }
+    Ok(())
+}
+
+// An edge into a flow of the task of this number.
+fn edge_to(number: u32, flow: u8) -> Edge
+    ensures to { result.to ≡ task_of number }
+    ensures flow { result.in_flow ≡ flow }
+{
+    Edge {
+        from: task(number / 2),
+        out_flow: 0,
+        to: task(number),
+        in_flow: flow,
+    }
+}
+
+fn send_first(shard: &mut Shard, size: u32, tile: &Tile) -> Result<(), OutOfMemory>
+    requires new { HasNoneFrom 0 shard.old }
+    requires tile { IsTileOf shard.old.elems 0 tile.now }
+    ensures waits { OnOk result (WaitFrom 0 size shard.new) }
+    ensures elems { shard.new.elems ≡ shard.old.elems }
+{
+    for number in 0..size {
+        let _waits = shard.arrive(&edge_to(number, 0), 2, priority(number), 0, Some(tile))?;
+    }
+    Ok(())
+}
+
+fn send_last(shard: &mut Shard, size: u32, tile: &Tile) -> Result<u64, OutOfMemory>
+    requires waits { WaitFrom 0 size shard.old }
+    requires tile { IsTileOf shard.old.elems 0 tile.now }
+{
+    let mut fired: u64 = 0;
+    for number in 0..size {
+        let arrived = shard.arrive(&edge_to(number, 1), 2, priority(number), 0, Some(tile))?;
+        if arrived == Arrived::Fired {
+            fired = fired.wrapping_add(1);
+        }
+    }
+    Ok(fired)
+}
+
+// A ready task is taken and ends. Whether it was ready.
+fn run(shard: &mut Shard, task: &TaskId) -> bool {
+    if shard.running() >= MOST_TASKS || shard.ended() >= MOST_TASKS {
+        return false;
+    }
+    if shard.take_ready(task).is_none() {
+        return false;
+    }
+    shard.end();
+    true
+}
+
+fn take_best(shard: &mut Shard, size: u32) -> u64 {
+    let mut taken: u64 = 0;
+    for _ in 0..size {
+        let Some(best) = shard.best_ready() else {
+            return taken;
+        };
+        if run(shard, &best) {
+            taken = taken.wrapping_add(1);
+        }
+    }
+    taken
+}
+
+fn take_by_task(shard: &mut Shard, size: u32) -> u64 {
+    let mut taken: u64 = 0;
+    for number in 0..size {
+        if run(shard, &task(number)) {
+            taken = taken.wrapping_add(1);
+        }
+    }
+    taken
+}
