@@ -84,9 +84,12 @@ pub fn thieves<R: Threads + Wait + Sync>(
         seats.push(Seat { hands, taken: 0 })?;
     }
     let done = AtomicU64::new(0);
-    thread::for_each_mut(rt, seats.as_mut_slice(), WORKERS as usize, &|_, seat| {
-        take_part(rt, seat, size, &done)
-    });
+    thread::for_each_mut(
+        rt,
+        seats.as_mut_slice(),
+        WORKERS as usize,
+        &|_, seat| { take_part(rt, seat, size, &done) },
+    );
     let mut taken: u64 = 0;
     for seat in &seats {
         taken = taken.wrapping_add(seat.taken);

@@ -16,7 +16,8 @@ use std::sync::Wait;
 use std::thread::Threads;
 use std::{env, io};
 
-const USAGE: &str = "usage: leaf_measure (ready|best|by_task|first_edges|last_edges|fired|deque|deep_deque|thieves SIZE)..";
+const USAGE: &str =
+    "usage: leaf_measure (ready|best|by_task|first_edges|last_edges|fired|deque|deep_deque|thieves SIZE)..";
 
 // The case and the size that two words name.
 fn wanted(case: &String, size: &String) -> Option<(Case, u32)> {
@@ -42,7 +43,12 @@ fn main(rt: HostRuntime) -> io::Result<ExitCode> {
         return Ok(ExitCode::FAILURE);
     }
     for number in 0..words.len() / 2 {
-        match counts(&rt, rt.alloc(), &words[2 * number + 1], &words[2 * number + 2]) {
+        match counts(
+            &rt,
+            rt.alloc(),
+            &words[2 * number + 1],
+            &words[2 * number + 2],
+        ) {
             Some(Ok(counts)) => {
                 for count in counts.as_slice() {
                     println!(rt; "{count}")?;

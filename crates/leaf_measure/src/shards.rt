@@ -27,7 +27,10 @@ pub fn best(alloc: Global, size: u32) -> Result<Vec<Count>, OutOfMemory> {
     let mut shard = Shard::new(alloc, &[])?;
     add_ready(&mut shard, size)?;
     let taken = take_best(&mut shard, size);
-    Ok(vec![in alloc; Count::of("taken", taken), Count::of("entries", shard.len() as u64)]?)
+    Ok(vec![in alloc;
+        Count::of("taken", taken),
+        Count::of("entries", shard.len() as u64),
+    ]?)
 }
 
 /// So many ready tasks are added, and taken by their numbers.
@@ -35,7 +38,10 @@ pub fn by_task(alloc: Global, size: u32) -> Result<Vec<Count>, OutOfMemory> {
     let mut shard = Shard::new(alloc, &[])?;
     add_ready(&mut shard, size)?;
     let taken = take_by_task(&mut shard, size);
-    Ok(vec![in alloc; Count::of("taken", taken), Count::of("entries", shard.len() as u64)]?)
+    Ok(vec![in alloc;
+        Count::of("taken", taken),
+        Count::of("entries", shard.len() as u64),
+    ]?)
 }
 
 /// The first of two edges comes to each of so many tasks.
@@ -52,7 +58,10 @@ pub fn last_edges(alloc: Global, size: u32) -> Result<Vec<Count>, OutOfMemory> {
     let tile = Tile::zeros(alloc, NUMBERS)?;
     send_first(&mut shard, size, &tile)?;
     let fired = send_last(&mut shard, size, &tile)?;
-    Ok(vec![in alloc; Count::of("fired", fired), Count::of("entries", shard.len() as u64)]?)
+    Ok(vec![in alloc;
+        Count::of("fired", fired),
+        Count::of("entries", shard.len() as u64),
+    ]?)
 }
 
 /// Both of two edges come to each of so many tasks, which are taken from the best to the last.
@@ -62,7 +71,11 @@ pub fn fired(alloc: Global, size: u32) -> Result<Vec<Count>, OutOfMemory> {
     send_first(&mut shard, size, &tile)?;
     let fired = send_last(&mut shard, size, &tile)?;
     let taken = take_best(&mut shard, size);
-    Ok(vec![in alloc; Count::of("fired", fired), Count::of("taken", taken), Count::of("entries", shard.len() as u64)]?)
+    Ok(vec![in alloc;
+        Count::of("fired", fired),
+        Count::of("taken", taken),
+        Count::of("entries", shard.len() as u64),
+    ]?)
 }
 
 fn add_ready(shard: &mut Shard, size: u32) -> Result<(), OutOfMemory>

@@ -1,4 +1,3 @@
-use Rattle.std.proofs.Common.{◌≡◌}
 use Rattle.ready_deques.specs.Hands.{SameWorker}
 use Rattle.leaf_measure.proofs.deques.steal_all.Given as goal
 
