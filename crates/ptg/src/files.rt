@@ -10,7 +10,7 @@ use std::{fs, rt};
 
 /// The files of the system. Their contents are not known to contracts.
 ///
-/// The file read last stays open with a copy of its name. Where there is no memory for that copy, the read fails and is counted.
+/// The file read last stays open with a copy of its name. Where there is no memory for that copy, the next read opens it anew.
 #[derive(Drop)]
 pub struct OsFiles<'a, R: rt::Files> {
     system: &'a R,
@@ -24,7 +24,8 @@ pub struct OsFiles<'a, R: rt::Files> {
 // An open file, and the offset up to which it was read.
 #[derive(Drop)]
 struct Opened<F> {
-    name: Text,
+    // None where there was no memory for it.
+    name: Option<Text>,
     offset: u64,
     file: F,
 }
@@ -94,7 +95,10 @@ fn opened_at<R: rt::Files>(
 }
 
 fn is_at<F>(opened: &Opened<F>, name: &str, from: u64) -> bool {
-    opened.offset == from && opened.name.bytes() == name.as_bytes()
+    match &opened.name {
+        Some(text) => opened.offset == from && text.bytes() == name.as_bytes(),
+        None => false,
+    }
 }
 
 fn open_at<R: rt::Files>(
@@ -103,13 +107,12 @@ fn open_at<R: rt::Files>(
     name: &str,
     from: u64,
 ) -> Option<Opened<R::File>> {
-    let text = Text::of(alloc, name.as_bytes()).ok()?;
     let mut file = fs::open(system, name).ok()?;
     if from > 0 {
         file.seek(SeekFrom::Start(from)).ok()?;
     }
     Some(Opened {
-        name: text,
+        name: Text::of(alloc, name.as_bytes()).ok(),
         offset: from,
         file,
     })
