@@ -35,7 +35,8 @@ use Rattle.flow_core.specs.RunState.{IsRunning, RunState, end_of, machine, mark_
 use Rattle.flow_core.specs.Fits.{Fits, MaySendNow}
 use Rattle.flow_core.specs.SentItems.{IsUnsent}
 use Rattle.flow_core.specs.Arrivals.{CountsArrivals, edges_to, is_edge_to, number_at}
-use Rattle.flow_core.specs.Possible.{GoesToWaiting, IsDue}
+use Rattle.flow_core.specs.Possible.{GoesToWaiting, IsDue, goes_to_claimed}
+use Rattle.flow_core.specs.Kept.{is_read}
 use Rattle.flow_core.proofs.Lookups.{apart, end_push, found_key, key_count, key_found, keys_set, none_before, set_other, set_same}
 use Rattle.flow_core.proofs.Arriving.{arrived_are}
 
@@ -222,6 +223,22 @@ goes_to_waiting P G con r fits (item.Edge e) now u h =
     let few : edges_to e.to r.sends ≤ 4000000 = let k = target_count P G con r fits e now in omega arith in
     subst (λ t. (mark_of r t ≡ None) × (edges_to t r.sends ≤ 4000000)) (sym same) (target_unclaimed P G con r fits e now, few)
 goes_to_waiting P G con r fits (item.Write w) now u h = absurd (false≢true h)
+
+-- an item that is due and goes to a claimed task was sent
+pub claimed_sent : (P : Plan) (G : Data) → IsConsistent P → (r : RunState) → Fits P G r → (i : Item) → IsDue P r i → goes_to_claimed r i ≡ true → IsUnsent r.sends i → ⊥
+claimed_sent P G con r fits (item.Edge e) due there un =
+    let none = target_unclaimed P G con r fits e (due_now P G con r fits (item.Edge e) due un) in
+    false≢true (sym (ap is_some none) ∙ there)
+claimed_sent P G con r fits (item.Write w) due there un = false≢true there
+
+-- an item that goes to no claimed task was not read
+pub unclaimed_unread : (r : RunState) (i : Item) → goes_to_claimed r i ≡ false → is_read r.claims i ≡ false
+unclaimed_unread r (item.Edge e) h = by (mark_of r e.to) h
+  where
+    by : (m : Option (Option Ended)) → is_some m ≡ false → is_some (unwrap_or m None) ≡ false
+    by None k = refl
+    by (Some x) k = absurd (false≢true (sym k))
+unclaimed_unread r (item.Write w) h = refl
 
 -- whether an item is one of its task, by whether it is among the edges or the write-backs
 pub edge_by : (P : Plan) (i : Item) (e : Edge) (b : Bool) → i ≡ item.Edge e → IsTrue b ↔ IsIn e (out_edges P e.from) → IsTrue b ↔ IsIn i (items P (sender i))

@@ -1,8 +1,9 @@
 -- What follows of the tiles that a run keeps.
-use Rattle.std.proofs.Common.{◌≡◌, ℤ, Bool, true, false, cond, is_some, List, [], ◌∷◌, ◌++◌, refl, ap, sym, ◌∙◌, subst, Option, Some, None, IsTrue, ◌↔◌, arith}
-use Rattle.std.proofs.lemmas.Bool.{false≢true, false_from_ne_true}
+use Rattle.std.proofs.Common.{◌≡◌, ℤ, Bool, true, false, not, cond, is_some, List, [], ◌∷◌, ◌++◌, refl, ap, sym, ◌∙◌, subst, Option, Some, None, IsTrue, ◌↔◌, arith}
+use Rattle.std.proofs.lemmas.Bool.{false≢true}
 use Rattle.std.specs.Prelude.{unwrap_or}
 use Rattle.std.specs.List.{cons_option}
+use Rattle.std.specs.Option.{option_flatten}
 use Rattle.std.specs.Map.{lookup, set_value}
 use Rattle.ptg_base.specs.Task.{Task}
 use Rattle.ptg_base.specs.TaskComparing.{same_task}
@@ -12,62 +13,138 @@ use Rattle.ptg_base.specs.declared.edge.WriteBack.{WriteBack}
 use Rattle.ptg_base.specs.declared.edge.Item.{Item}
 use Rattle.ptg_base.specs.declared.edge.Item.TheVariants as item
 use Rattle.range_space.proofs.Stepping.{by_test}
-use Rattle.flow_meaning.specs.Counting.{as_number, count}
+use Rattle.flow_meaning.specs.Counting.{as_number}
 use Rattle.flow_meaning.specs.Comparing.{same_item}
 use Rattle.flow_meaning.specs.Ending.{Ended}
 use Rattle.flow_meaning.specs.Machine.{Sent, first_tile}
-use Rattle.flow_meaning.proofs.Comparing.{same_item-decides}
 use Rattle.flow_core.specs.Arrivals.{is_edge_to}
-use Rattle.flow_core.specs.Kept.{AreKept, TakesOnlyTo, is_read, without_tile}
+use Rattle.flow_core.specs.Kept.{AreKept, SentAndKept, TakesOnlyTo, is_read, is_write, kept_with, sent_as, with_sent, written}
 use Rattle.flow_core.specs.Rows.{write_with, writes_among}
-use Rattle.flow_core.specs.SentItems.{all_sent}
-use Rattle.flow_core.proofs.Lookups.{apart, end_push, set_other, set_same}
+use Rattle.flow_core.specs.SentItems.{IsUnsent, all_sent}
+use Rattle.flow_core.proofs.Lookups.{apart, end_push, same, set_other, set_same}
 
--- the same items are kept as were sent
-pub same_unsent : (claims : List (Task × Option Ended)) (kept sends : List Sent) (i : Item) → AreKept claims kept sends → count (λ (x : Sent). same_item i x.item) kept ≡ count (λ (x : Sent). same_item i x.item) sends
-same_unsent claims [] [] i h = refl
-same_unsent claims [] (x ∷ xs) i h = absurd h
-same_unsent claims (k ∷ ks) [] i h = absurd h
-same_unsent claims (k ∷ ks) (x ∷ xs) i h = omega (arith, ap (λ j. as_number (same_item i j)) h.0, same_unsent claims ks xs i h.2)
-
--- an item that was not read has its tile
-pub kept_tile : (claims : List (Task × Option Ended)) (kept sends : List Sent) (i : Item) → AreKept claims kept sends → is_read claims i ≡ false → first_tile i kept ≡ first_tile i sends
-kept_tile claims [] [] i h unread = refl
-kept_tile claims [] (x ∷ xs) i h unread = absurd h
-kept_tile claims (k ∷ ks) [] i h unread = absurd h
-kept_tile claims (k ∷ ks) (x ∷ xs) i h unread =
-    let rest = kept_tile claims ks xs i h.2 unread in
+-- an item was not sent where it is not found
+pub unsent_as : (i : Item) (xs : List Sent) → (sent_as i xs ≡ None) ↔ IsUnsent xs i
+unsent_as i [] = (λ _. refl, λ _. refl)
+unsent_as i (x ∷ xs) =
     by_test (same_item i x.item)
-    (λ q.
-    let one : i ≡ x.item = (same_item-decides i x.item).0 q in
-    let tile : k.tile ≡ x.tile = h.1 (ap (is_read claims) (sym one) ∙ unread) in
-    ap (λ j. cond (same_item i j) k.tile (first_tile i ks)) h.0 ∙ ap (λ b. cond b k.tile (first_tile i ks)) q ∙ tile ∙ sym (ap (λ b. cond b x.tile (first_tile i xs)) q))
-    (λ q. ap (λ j. cond (same_item i j) k.tile (first_tile i ks)) h.0 ∙ ap (λ b. cond b k.tile (first_tile i ks)) q ∙ rest ∙ sym (ap (λ b. cond b x.tile (first_tile i xs)) q))
+    (λ k.
+    let found : sent_as i (x ∷ xs) ≡ Some x.tile = ap (λ b. cond b (Some x.tile) (sent_as i xs)) k in
+    (λ none. let no : Some x.tile ≡ None = sym found ∙ none in cc, λ zero. absurd (omega (arith, zero, ap as_number k))))
+    (λ k.
+    let next : sent_as i (x ∷ xs) ≡ sent_as i xs = ap (λ b. cond b (Some x.tile) (sent_as i xs)) k in
+    let rest = unsent_as i xs in
+    (λ none. omega (arith, ap as_number k, rest.0 (sym next ∙ none)), λ zero. next ∙ rest.1 (omega (arith, ap as_number k, zero))))
 
-pub kept_push : (claims : List (Task × Option Ended)) (kept sends : List Sent) (x : Sent) → AreKept claims kept sends → AreKept claims (kept ++ x ∷ []) (sends ++ x ∷ [])
-kept_push claims [] [] x h = (refl, (λ _. refl), tt)
-kept_push claims [] (y ∷ ys) x h = absurd h
-kept_push claims (k ∷ ks) [] x h = absurd h
-kept_push claims (k ∷ ks) (y ∷ ys) x h = (h.0, h.1, kept_push claims ks ys x h.2)
+-- the tile that was first sent with an item
+pub tile_as : (i : Item) (xs : List Sent) → option_flatten (sent_as i xs) ≡ first_tile i xs
+tile_as i [] = refl
+tile_as i (x ∷ xs) =
+    by_test (same_item i x.item)
+    (λ k. ap (λ b. option_flatten (cond b (Some x.tile) (sent_as i xs))) k ∙ sym (ap (λ b. cond b x.tile (first_tile i xs)) k))
+    (λ k. ap (λ b. option_flatten (cond b (Some x.tile) (sent_as i xs))) k ∙ tile_as i xs ∙ sym (ap (λ b. cond b x.tile (first_tile i xs)) k))
 
--- where more was read, less is asked
-kept_weaker : (old new : List (Task × Option Ended)) → ((i : Item) → is_read new i ≡ false → is_read old i ≡ false) → (kept sends : List Sent) → AreKept old kept sends → AreKept new kept sends
-kept_weaker old new more [] [] h = tt
-kept_weaker old new more [] (x ∷ xs) h = absurd h
-kept_weaker old new more (k ∷ ks) [] h = absurd h
-kept_weaker old new more (k ∷ ks) (x ∷ xs) h = (h.0, (λ u. h.1 (more x.item u)), kept_weaker old new more ks xs h.2)
+-- a look-up by key finds what was sent with an item
+pub found_as : (eq : Item → Item → Bool) → ((a b : Item) → IsTrue (eq a b) ↔ (a ≡ b)) → (i : Item) (es : List (Item × Option (List ℤ))) → lookup (eq i) es ≡ sent_as i (all_sent es)
+found_as eq decides i [] = refl
+found_as eq decides i (e ∷ es) =
+    ap (λ b. cond b (Some e.1) (lookup (eq i) es)) (same eq decides i e.0) ∙ ap (λ o. cond (same_item i e.0) (Some e.1) o) (found_as eq decides i es)
 
-pub kept_claim : (claims : List (Task × Option Ended)) (t : Task) (kept sends : List Sent) → AreKept claims kept sends → AreKept (claims ++ (t, None) ∷ []) kept sends
-kept_claim claims t kept sends h = kept_weaker claims (claims ++ (t, None) ∷ []) same kept sends h
+-- what is found of an item after one more is sent
+abbrev or_else : Option (Option (List ℤ)) → Option (Option (List ℤ)) → Option (Option (List ℤ))
+or_else None o = o
+or_else (Some x) o = Some x
+
+as_push : (i : Item) (xs : List Sent) (x : Sent) → sent_as i (xs ++ x ∷ []) ≡ or_else (sent_as i xs) (cond (same_item i x.item) (Some x.tile) None)
+as_push i [] x = refl
+as_push i (y ∷ ys) x =
+    by_test (same_item i y.item)
+    (λ k. ap (λ b. cond b (Some y.tile) (sent_as i (ys ++ x ∷ []))) k ∙ sym (ap (λ b. or_else (cond b (Some y.tile) (sent_as i ys)) (cond (same_item i x.item) (Some x.tile) None)) k))
+    (λ k. ap (λ b. cond b (Some y.tile) (sent_as i (ys ++ x ∷ []))) k ∙ as_push i ys x ∙ sym (ap (λ b. or_else (cond b (Some y.tile) (sent_as i ys)) (cond (same_item i x.item) (Some x.tile) None)) k))
+
+or_none : (o : Option (Option (List ℤ))) → or_else o None ≡ o
+or_none None = refl
+or_none (Some x) = refl
+
+both_push : (i : Item) (xs ys : List Sent) (x : Sent) → sent_as i xs ≡ sent_as i ys → sent_as i (xs ++ x ∷ []) ≡ sent_as i (ys ++ x ∷ [])
+both_push i xs ys x e = as_push i xs x ∙ ap (λ o. or_else o (cond (same_item i x.item) (Some x.tile) None)) e ∙ sym (as_push i ys x)
+
+other_push : (i : Item) (xs : List Sent) (x : Sent) → same_item i x.item ≡ false → sent_as i (xs ++ x ∷ []) ≡ sent_as i xs
+other_push i xs x k = as_push i xs x ∙ ap (λ b. or_else (sent_as i xs) (cond b (Some x.tile) None)) k ∙ or_none (sent_as i xs)
+
+-- the write-backs after one more item is sent
+written_push : (xs : List Sent) (x : Sent) (b : Bool) → is_write x.item ≡ b → written (xs ++ x ∷ []) ≡ cond b (written xs ++ x ∷ []) (written xs)
+written_push [] x true k = ap (λ b. cond b (x ∷ []) []) k
+written_push [] x false k = ap (λ b. cond b (x ∷ []) []) k
+written_push (y ∷ ys) x b k = by (is_write y.item) b (written_push ys x b k)
   where
-    same : (i : Item) → is_read (claims ++ (t, None) ∷ []) i ≡ false → is_read claims i ≡ false
-    same (item.Edge e) u = ap is_some (sym (end_push e.to t claims)) ∙ u
-    same (item.Write w) u = refl
+    by : (w b : Bool) → written (ys ++ x ∷ []) ≡ cond b (written ys ++ x ∷ []) (written ys)
+        → cond w (y ∷ written (ys ++ x ∷ [])) (written (ys ++ x ∷ [])) ≡ cond b (cond w (y ∷ written ys) (written ys) ++ x ∷ []) (cond w (y ∷ written ys) (written ys))
+    by true true e = ap (λ l. y ∷ l) e
+    by true false e = ap (λ l. y ∷ l) e
+    by false true e = e
+    by false false e = e
 
--- the end of a running task, which reads the edges to it
-read_before : (claims : List (Task × Option Ended)) (t : Task) (end : Ended) → lookup (same_task t) claims ≡ Some None → (i : Item) → is_read (set_value (same_task t) claims (Some end)) i ≡ false → (is_edge_to t i ≡ false) × (is_read claims i ≡ false)
-read_before claims t end running (item.Write w) u = (refl, refl)
-read_before claims t end running (item.Edge e) u =
+-- a write-back is found among the write-backs as among all items
+written_as : (w : WriteBack) (xs : List Sent) → sent_as (item.Write w) (written xs) ≡ sent_as (item.Write w) xs
+written_as w [] = refl
+written_as w (x ∷ xs) = by (written_as w xs) x.item refl
+  where
+    by : sent_as (item.Write w) (written xs) ≡ sent_as (item.Write w) xs → (i : Item) → x.item ≡ i → sent_as (item.Write w) (written (x ∷ xs)) ≡ sent_as (item.Write w) (x ∷ xs)
+    by rest (item.Edge e) q =
+        ap (λ i. sent_as (item.Write w) (cond (is_write i) (x ∷ written xs) (written xs))) q ∙ rest
+        ∙ sym (ap (λ i. cond (same_item (item.Write w) i) (Some x.tile) (sent_as (item.Write w) xs)) q)
+    by rest (item.Write v) q =
+        ap (λ i. sent_as (item.Write w) (cond (is_write i) (x ∷ written xs) (written xs))) q ∙ ap (λ o. cond (same_item (item.Write w) x.item) (Some x.tile) o) rest
+
+pub writes_of_written : (xs : List Sent) → writes_among (written xs) ≡ writes_among xs
+writes_of_written [] = refl
+writes_of_written (x ∷ xs) = by (writes_of_written xs) x.item refl
+  where
+    by : writes_among (written xs) ≡ writes_among xs → (i : Item) → x.item ≡ i → writes_among (written (x ∷ xs)) ≡ writes_among (x ∷ xs)
+    by rest (item.Edge e) q =
+        ap (λ i. writes_among (cond (is_write i) (x ∷ written xs) (written xs))) q ∙ rest ∙ sym (ap (λ i. cons_option (write_with i x.tile) (writes_among xs)) q)
+    by rest (item.Write w) q =
+        ap (λ i. writes_among (cond (is_write i) (x ∷ written xs) (written xs))) q ∙ ap (cons_option (write_with x.item x.tile)) rest
+
+-- what is kept of an item that was not read is what was sent with it
+pub kept_as : (claims : List (Task × Option Ended)) (s : SentAndKept) → AreKept claims s → (i : Item) → is_read claims i ≡ false → sent_as i (kept_with i s) ≡ sent_as i s.sends
+kept_as claims s h (item.Edge e) unread = h.edges e unread
+kept_as claims s h (item.Write w) unread = ap (sent_as (item.Write w)) h.writes ∙ written_as w s.sends
+
+pub kept_tile : (claims : List (Task × Option Ended)) (s : SentAndKept) → AreKept claims s → (e : Edge) → is_read claims (item.Edge e) ≡ false → first_tile (item.Edge e) s.edges ≡ first_tile (item.Edge e) s.sends
+kept_tile claims s h e unread = sym (tile_as (item.Edge e) s.edges) ∙ ap option_flatten (h.edges e unread) ∙ tile_as (item.Edge e) s.sends
+
+-- an item is unsent exactly if it is not kept, unless it was read
+pub unkept : (claims : List (Task × Option Ended)) (s : SentAndKept) → AreKept claims s → (i : Item) → is_read claims i ≡ false → (b : Bool) → b ≡ is_some (sent_as i (kept_with i s)) → IsTrue (not b) ↔ IsUnsent s.sends i
+unkept claims s h i unread b is = by (sent_as i s.sends) refl
+  where
+    some : b ≡ is_some (sent_as i s.sends)
+    some = is ∙ ap is_some (kept_as claims s h i unread)
+
+    by : (o : Option (Option (List ℤ))) → sent_as i s.sends ≡ o → IsTrue (not b) ↔ IsUnsent s.sends i
+    by None k = (λ _. (unsent_as i s.sends).0 k, λ _. ap not (some ∙ ap is_some k))
+    by (Some x) k = (λ t. absurd (false≢true (sym (ap not (some ∙ ap is_some k)) ∙ t)), λ u. let no : Some x ≡ None = sym k ∙ (unsent_as i s.sends).1 u in cc)
+
+-- after one more item is sent
+pub kept_push : (claims : List (Task × Option Ended)) (s : SentAndKept) (x : Sent) → AreKept claims s → AreKept claims (with_sent s x)
+kept_push claims s x h = record { edges = λ e unread. edges e unread x.item refl; writes = writes (is_write x.item) refl }
+  where
+    edges : (e : Edge) → is_read claims (item.Edge e) ≡ false → (i : Item) → x.item ≡ i → sent_as (item.Edge e) (cond (is_write x.item) s.edges (s.edges ++ x ∷ [])) ≡ sent_as (item.Edge e) (s.sends ++ x ∷ [])
+    edges e unread (item.Edge d) q = ap (λ i. sent_as (item.Edge e) (cond (is_write i) s.edges (s.edges ++ x ∷ []))) q ∙ both_push (item.Edge e) s.edges s.sends x (h.edges e unread)
+    edges e unread (item.Write w) q =
+        ap (λ i. sent_as (item.Edge e) (cond (is_write i) s.edges (s.edges ++ x ∷ []))) q ∙ h.edges e unread ∙ sym (other_push (item.Edge e) s.sends x (ap (same_item (item.Edge e)) q))
+
+    writes : (b : Bool) → is_write x.item ≡ b → cond (is_write x.item) (s.writes ++ x ∷ []) s.writes ≡ written (s.sends ++ x ∷ [])
+    writes b k = ap (λ w. cond w (s.writes ++ x ∷ []) s.writes) k ∙ ap (λ l. cond b (l ++ x ∷ []) l) h.writes ∙ sym (written_push s.sends x b k)
+
+-- after a claim
+pub kept_claim : (claims : List (Task × Option Ended)) (t : Task) (s : SentAndKept) → AreKept claims s → AreKept (claims ++ (t, None) ∷ []) s
+kept_claim claims t s h = record { edges = λ e unread. h.edges e (ap is_some (sym (end_push e.to t claims)) ∙ unread); writes = h.writes }
+
+-- after the end of a running task, which reads the edges to it
+read_before : (claims : List (Task × Option Ended)) (t : Task) (end : Ended) → lookup (same_task t) claims ≡ Some None → (e : Edge) → is_read (set_value (same_task t) claims (Some end)) (item.Edge e) ≡ false → (same_task t e.to ≡ false) × (is_read claims (item.Edge e) ≡ false)
+read_before claims t end running e u =
     by_test (same_task t e.to)
     (λ k.
     let one : t ≡ e.to = (same_task-decides t e.to).0 k in
@@ -76,99 +153,39 @@ read_before claims t end running (item.Edge e) u =
     absurd (false≢true (sym u ∙ read)))
     (λ k. (k, ap (λ m. is_some (unwrap_or m None)) (sym (set_other (same_task t) (same_task e.to) (apart t e.to k) claims (Some end))) ∙ u))
 
-kept_taken : (old new : List (Task × Option Ended)) (t : Task) → ((i : Item) → is_read new i ≡ false → (is_edge_to t i ≡ false) × (is_read old i ≡ false)) → (os ks sends : List Sent) → AreKept old os sends → TakesOnlyTo t os ks → AreKept new ks sends
-kept_taken old new t more [] [] [] h takes = tt
-kept_taken old new t more [] [] (x ∷ xs) h takes = absurd h
-kept_taken old new t more [] (k ∷ ks) sends h takes = absurd takes
-kept_taken old new t more (o ∷ os) [] sends h takes = absurd takes
-kept_taken old new t more (o ∷ os) (k ∷ ks) [] h takes = absurd h
-kept_taken old new t more (o ∷ os) (k ∷ ks) (x ∷ xs) h takes = (
-  takes.0 ∙ h.0,
-  (λ u. let p = more x.item u in takes.1 (ap (is_edge_to t) h.0 ∙ p.0) ∙ h.1 p.1),
-  kept_taken old new t more os ks xs h.2 takes.2,
-)
-
-pub kept_end : (claims : List (Task × Option Ended)) (t : Task) (end : Ended) → lookup (same_task t) claims ≡ Some None → (os ks sends : List Sent) → AreKept claims os sends → TakesOnlyTo t os ks → AreKept (set_value (same_task t) claims (Some end)) ks sends
-kept_end claims t end running os ks sends h takes = kept_taken claims (set_value (same_task t) claims (Some end)) t (read_before claims t end running) os ks sends h takes
-
--- write-backs are never read
-pub kept_writes : (claims : List (Task × Option Ended)) (kept sends : List Sent) → AreKept claims kept sends → writes_among kept ≡ writes_among sends
-kept_writes claims [] [] h = refl
-kept_writes claims [] (x ∷ xs) h = absurd h
-kept_writes claims (k ∷ ks) [] h = absurd h
-kept_writes claims (k ∷ ks) (x ∷ xs) h = head k x h.0 h.1 (writes_among ks) ∙ ap (cons_option (write_with x.item x.tile)) (kept_writes claims ks xs h.2)
-  where
-    with_item : (k x : Sent) (i : Item) → x.item ≡ i → k.item ≡ x.item → (is_read claims x.item ≡ false → k.tile ≡ x.tile) → write_with k.item k.tile ≡ write_with x.item x.tile
-    with_item k x (item.Edge e) q s t = ap (λ j. write_with j k.tile) (s ∙ q) ∙ sym (ap (λ j. write_with j x.tile) q)
-    with_item k x (item.Write w) q s t = λ z. write_with (s z) (t (ap (is_read claims) q) z)
-
-    head : (k x : Sent) → k.item ≡ x.item → (is_read claims x.item ≡ false → k.tile ≡ x.tile) → (rest : List (WriteBack × List ℤ)) → cons_option (write_with k.item k.tile) rest ≡ cons_option (write_with x.item x.tile) rest
-    head k x s t rest = ap (λ o. cons_option o rest) (with_item k x x.item refl s t)
+pub kept_end : (claims : List (Task × Option Ended)) (t : Task) (end : Ended) → lookup (same_task t) claims ≡ Some None → (s n : SentAndKept) → AreKept claims s → TakesOnlyTo t s.edges n.edges → n.sends ≡ s.sends → n.writes ≡ s.writes
+    → AreKept (set_value (same_task t) claims (Some end)) n
+kept_end claims t end running s n h takes sends writes = record {
+  edges = λ e unread. let p = read_before claims t end running e unread in takes e p.0 ∙ h.edges e p.1 ∙ ap (sent_as (item.Edge e)) (sym sends);
+  writes = writes ∙ h.writes ∙ ap written (sym sends);
+}
 
 -- taking nothing, and taking the tile of an edge to the task
 pub takes_none : (t : Task) (kept : List Sent) → TakesOnlyTo t kept kept
-takes_none t [] = tt
-takes_none t (k ∷ ks) = (refl, (λ _. refl), takes_none t ks)
+takes_none t kept e other = refl
 
 pub takes_then : (t : Task) (a b c : List Sent) → TakesOnlyTo t a b → TakesOnlyTo t b c → TakesOnlyTo t a c
-takes_then t [] [] [] h k = tt
-takes_then t [] [] (z ∷ zs) h k = absurd k
-takes_then t [] (y ∷ ys) c h k = absurd h
-takes_then t (x ∷ xs) [] c h k = absurd h
-takes_then t (x ∷ xs) (y ∷ ys) [] h k = absurd k
-takes_then t (x ∷ xs) (y ∷ ys) (z ∷ zs) h k = (k.0 ∙ h.0, (λ u. k.1 (ap (is_edge_to t) h.0 ∙ u) ∙ h.1 u), takes_then t xs ys zs h.2 k.2)
+takes_then t a b c h k e other = k e other ∙ h e other
 
-pub takes_one : (t : Task) (e : Edge) → e.to ≡ t → (kept : List Sent) → TakesOnlyTo t kept (without_tile (item.Edge e) kept)
-takes_one t e to [] = tt
-takes_one t e to (k ∷ ks) =
-    by_test (same_item (item.Edge e) k.item)
-    (λ q.
-    let one : item.Edge e ≡ k.item = (same_item-decides (item.Edge e) k.item).0 q in
-    let into : is_edge_to t k.item ≡ true = ap (is_edge_to t) (sym one) ∙ (same_task-decides t e.to).1 (sym to) in
-    subst (TakesOnlyTo t (k ∷ ks)) (sym (ap (λ b. cond b (record { item = k.item; tile = None } ∷ ks) (k ∷ without_tile (item.Edge e) ks)) q)) (refl, (λ u. absurd (false≢true (sym u ∙ into))), takes_none t ks))
-    (λ q. subst (TakesOnlyTo t (k ∷ ks)) (sym (ap (λ b. cond b (record { item = k.item; tile = None } ∷ ks) (k ∷ without_tile (item.Edge e) ks)) q)) (refl, (λ _. refl), takes_one t e to ks))
+pub takes_one : (t : Task) (d : Edge) → d.to ≡ t → (old new : List Sent) → ((j : Item) → (item.Edge d ≡ j → ⊥) → sent_as j new ≡ sent_as j old) → TakesOnlyTo t old new
+takes_one t d to old new others e other =
+    others (item.Edge e) (λ q. false≢true (sym other ∙ (same_task-decides t e.to).1 (sym to ∙ ap (λ (x : Edge). x.to) (inside d e q))))
+  where
+    edge_in : Edge → Item → Edge
+    edge_in a (item.Edge b) = b
+    edge_in a (item.Write w) = a
 
--- other items keep their tiles
-pub other_tile : (i j : Item) → (i ≡ j → ⊥) → (kept : List Sent) → first_tile j (without_tile i kept) ≡ first_tile j kept
-other_tile i j differs [] = refl
-other_tile i j differs (k ∷ ks) =
-    by_test (same_item i k.item)
-    (λ q.
-    let one : i ≡ k.item = (same_item-decides i k.item).0 q in
-    let miss : same_item j k.item ≡ false = false_from_ne_true (same_item j k.item) (λ h. differs (one ∙ sym ((same_item-decides j k.item).0 h))) in
-    ap (λ b. first_tile j (cond b (record { item = k.item; tile = None } ∷ ks) (k ∷ without_tile i ks))) q
-    ∙ ap (λ b. cond b None (first_tile j ks)) miss ∙ sym (ap (λ b. cond b k.tile (first_tile j ks)) miss))
-    (λ q.
-    ap (λ b. first_tile j (cond b (record { item = k.item; tile = None } ∷ ks) (k ∷ without_tile i ks))) q ∙ ap (λ o. cond (same_item j k.item) k.tile o) (other_tile i j differs ks))
+    inside : (d e : Edge) → item.Edge d ≡ item.Edge e → d ≡ e
+    inside d e q = ap (edge_in d) q
 
-module _ (eq : Item → Item → Bool) (decides : (a b : Item) → IsTrue (eq a b) ↔ (a ≡ b)) where
-  -- a write of nothing by key takes the tile
-  pub taken : (es : List (Item × Option (List ℤ))) (i : Item) → all_sent (set_value (eq i) es None) ≡ without_tile i (all_sent es)
-  taken [] i = refl
-  taken (e ∷ es) i =
-      by_test (eq i e.0)
-      (λ k.
-      let same : same_item i e.0 ≡ true = (same_item-decides i e.0).1 ((decides i e.0).0 k) in
-      ap (λ b. all_sent (cond b ((e.0, None) ∷ es) (e ∷ set_value (eq i) es None))) k ∙ sym (ap (λ b. cond b (record { item = e.0; tile = None } ∷ all_sent es) (record { item = e.0; tile = e.1 } ∷ without_tile i (all_sent es))) same))
-      (λ k.
-      let other : same_item i e.0 ≡ false = false_from_ne_true (same_item i e.0) (λ h. false≢true (sym k ∙ (decides i e.0).1 ((same_item-decides i e.0).0 h))) in
-      ap (λ b. all_sent (cond b ((e.0, None) ∷ es) (e ∷ set_value (eq i) es None))) k ∙ ap (λ l. record { item = e.0; tile = e.1 } ∷ l) (taken es i)
-      ∙ sym (ap (λ b. cond b (record { item = e.0; tile = None } ∷ all_sent es) (record { item = e.0; tile = e.1 } ∷ without_tile i (all_sent es))) other))
+-- other edges keep their tiles
+pub other_tile : (i j : Item) (old new : List Sent) → sent_as j new ≡ sent_as j old → first_tile j new ≡ first_tile j old
+other_tile i j old new h = sym (tile_as j new) ∙ ap option_flatten h ∙ tile_as j old
 
-  pub taken_by : (es new : List (Item × Option (List ℤ))) (i : Item) (v : Option (List ℤ)) → new ≡ set_value (eq i) es v → v ≡ None → all_sent new ≡ without_tile i (all_sent es)
-  taken_by es new i v e none = ap all_sent (e ∙ ap (set_value (eq i) es) none) ∙ taken es i
-
-  -- a key that is not there has no tile
-  pub untaken : (es : List (Item × Option (List ℤ))) (i : Item) → lookup (eq i) es ≡ None → all_sent es ≡ without_tile i (all_sent es)
-  untaken [] i none = refl
-  untaken (e ∷ es) i none =
-      by_test (eq i e.0)
-      (λ k. let no : Some e.1 ≡ None = sym (ap (λ b. cond b (Some e.1) (lookup (eq i) es)) k) ∙ none in cc)
-      (λ k.
-      let other : same_item i e.0 ≡ false = false_from_ne_true (same_item i e.0) (λ h. false≢true (sym k ∙ (decides i e.0).1 ((same_item-decides i e.0).0 h))) in
-      let rest = untaken es i (sym (ap (λ b. cond b (Some e.1) (lookup (eq i) es)) k) ∙ none) in
-      ap (λ l. record { item = e.0; tile = e.1 } ∷ l) rest ∙ sym (ap (λ b. cond b (record { item = e.0; tile = None } ∷ all_sent es) (record { item = e.0; tile = e.1 } ∷ without_tile i (all_sent es))) other))
-
--- an edge to a running task was not read
+-- an edge to a running task was not read, nor an item that goes to no claimed task
 pub unread : (claims : List (Task × Option Ended)) (t : Task) (e : Edge) → lookup (same_task t) claims ≡ Some None → e.to ≡ t → is_read claims (item.Edge e) ≡ false
 unread claims t e running to = ap (λ s. is_some (unwrap_or (lookup (same_task s) claims) None)) to ∙ ap (λ m. is_some (unwrap_or m None)) running
+
+pub unread_waiting : (claims : List (Task × Option Ended)) (i : Item) → ((u : Task) → IsTrue (is_edge_to u i) → lookup (same_task u) claims ≡ None) → is_read claims i ≡ false
+unread_waiting claims (item.Edge e) none = ap (λ m. is_some (unwrap_or m None)) (none e.to ((same_task-decides e.to e.to).1 refl))
+unread_waiting claims (item.Write w) none = refl

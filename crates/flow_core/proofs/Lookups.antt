@@ -1,8 +1,7 @@
 -- What look-ups by key find in the lists of a run.
-use Rattle.std.proofs.Common.{◌≡◌, ℕ, ◌+◌, ℤ, Bool, true, false, not, cond, is_some, List, [], ◌∷◌, ◌++◌, refl, ap, sym, ◌∙◌, subst, Option, Some, None, IsTrue, ◌↔◌, Result, Ok, Err, OnOk, inl, inr, arith}
+use Rattle.std.proofs.Common.{◌≡◌, ℕ, ◌+◌, ℤ, Bool, true, false, cond, is_some, List, [], ◌∷◌, ◌++◌, refl, ap, sym, ◌∙◌, subst, Option, Some, None, IsTrue, ◌↔◌, Result, Ok, Err, OnOk, inl, inr, arith}
 use Rattle.std.proofs.lemmas.Bool.{false≢true, false_from_ne_true}
 use Rattle.std.specs.Prelude.{unwrap_or}
-use Rattle.std.specs.Option.{option_flatten}
 use Rattle.std.specs.Map.{keys_of, lookup, set_value}
 use Rattle.indexmap.specs.IndexMap.{insert_entry}
 use Rattle.indexmap.proofs.MapLemmas.{absent_from_lookup, insert_entry-absent}
@@ -16,9 +15,8 @@ use Rattle.dep_iter.proofs.Joining.{map-append}
 use Rattle.flow_meaning.specs.Counting.{as_number, count}
 use Rattle.flow_meaning.specs.Comparing.{same_item}
 use Rattle.flow_meaning.specs.Ending.{Ended}
-use Rattle.flow_meaning.specs.Machine.{Sent, first_tile}
 use Rattle.flow_meaning.proofs.Comparing.{same_item-decides}
-use Rattle.flow_core.specs.SentItems.{IsUnsent, all_sent}
+use Rattle.flow_core.specs.SentItems.{all_sent}
 use Rattle.flow_core.specs.Arrivals.{number_at}
 
 -- what an `OnOk` says of an `Ok`
@@ -45,48 +43,12 @@ pub sent_push : (es : List (Item × Option (List ℤ))) (i : Item) (tile : Optio
 sent_push es i tile = map-append (λ (e : Item × Option (List ℤ)). record { item = e.0; tile = e.1 }) es ((i, tile) ∷ [])
 
 module _ (eq : Item → Item → Bool) (decides : (a b : Item) → IsTrue (eq a b) ↔ (a ≡ b)) where
-  same : (a b : Item) → eq a b ≡ same_item a b
+  pub same : (a b : Item) → eq a b ≡ same_item a b
   same a b = same_tests (eq a b) (same_item a b) (decides a b) (same_item-decides a b)
 
-  -- an item is not among those that were sent exactly where a look-up finds none
-  pub unsent_lookup : (i : Item) (es : List (Item × Option (List ℤ))) → (lookup (eq i) es ≡ None) ↔ IsUnsent (all_sent es) i
-  unsent_lookup i [] = (λ _. refl, λ _. refl)
-  unsent_lookup i (e ∷ es) =
-      by_test (eq i e.0)
-      (λ k.
-      let here : as_number (same_item i e.0) ≡ 1 = ap as_number (sym (same i e.0) ∙ k) in
-      let found : lookup (eq i) (e ∷ es) ≡ Some e.1 = ap (λ b. cond b (Some e.1) (lookup (eq i) es)) k in
-      (λ none. let no : Some e.1 ≡ None = sym found ∙ none in cc, λ zero. absurd (omega (arith, zero, here))))
-      (λ k.
-      let away : as_number (same_item i e.0) ≡ 0 = ap as_number (sym (same i e.0) ∙ k) in
-      let next : lookup (eq i) (e ∷ es) ≡ lookup (eq i) es = ap (λ b. cond b (Some e.1) (lookup (eq i) es)) k in
-      let rest = unsent_lookup i es in
-      (λ none. omega (arith, away, rest.0 (sym next ∙ none)), λ zero. next ∙ rest.1 (omega (arith, away, zero))))
-
-  -- the tile that a look-up finds is the one that was sent first with the item
-  pub tile_lookup : (i : Item) (es : List (Item × Option (List ℤ))) → option_flatten (lookup (eq i) es) ≡ first_tile i (all_sent es)
-  tile_lookup i [] = refl
-  tile_lookup i (e ∷ es) =
-      by_test (eq i e.0)
-      (λ k. ap (λ b. option_flatten (cond b (Some e.1) (lookup (eq i) es))) k ∙ sym (ap (λ b. cond b e.1 (first_tile i (all_sent es))) (sym (same i e.0) ∙ k)))
-      (λ k. ap (λ b. option_flatten (cond b (Some e.1) (lookup (eq i) es))) k ∙ tile_lookup i es ∙ sym (ap (λ b. cond b e.1 (first_tile i (all_sent es))) (sym (same i e.0) ∙ k)))
-
-  -- the same, for items that are seen as this list
-  pub unsent_by : (es : List (Item × Option (List ℤ))) (sends : List Sent) (i : Item) (b : Bool) → all_sent es ≡ sends → b ≡ is_some (lookup (eq i) es) → IsTrue (not b) ↔ IsUnsent sends i
-  unsent_by es sends i b view e = subst (λ l. IsTrue (not b) ↔ IsUnsent l i) view (by (lookup (eq i) es) refl)
-    where
-      by : (o : Option (Option (List ℤ))) → lookup (eq i) es ≡ o → IsTrue (not b) ↔ IsUnsent (all_sent es) i
-      by None h = (λ _. (unsent_lookup i es).0 h, λ _. ap not (e ∙ ap is_some h))
-      by (Some x) h = (λ k. absurd (false≢true (sym (ap not (e ∙ ap is_some h)) ∙ k)), λ u. let no : Some x ≡ None = sym h ∙ (unsent_lookup i es).1 u in cc)
-
-  pub tile_by : (es : List (Item × Option (List ℤ))) (sends : List Sent) (i : Item) (o : Option (Option (List ℤ))) → all_sent es ≡ sends → o ≡ lookup (eq i) es → option_flatten o ≡ first_tile i sends
-  tile_by es sends i o view h = ap option_flatten h ∙ tile_lookup i es ∙ ap (first_tile i) view
-
-  pub add_by : (es fs : List (Item × Option (List ℤ))) (sends : List Sent) (i : Item) (tile : Option (List ℤ)) → all_sent es ≡ sends → IsUnsent sends i
-      → fs ≡ insert_entry eq es i tile → all_sent fs ≡ sends ++ record { item = i; tile = tile } ∷ []
-  add_by es fs sends i tile view unsent e =
-      let none = (unsent_lookup i es).1 (subst (λ l. IsUnsent l i) (sym view) unsent) in
-      ap all_sent (e ∙ insert_entry-absent eq i tile es (absent_from_lookup (eq i) es none)) ∙ sent_push es i tile ∙ ap (λ l. l ++ record { item = i; tile = tile } ∷ []) view
+  -- a table with one more item
+  pub add_by : (es fs : List (Item × Option (List ℤ))) (i : Item) (tile : Option (List ℤ)) → lookup (eq i) es ≡ None → fs ≡ insert_entry eq es i tile → all_sent fs ≡ all_sent es ++ record { item = i; tile = tile } ∷ []
+  add_by es fs i tile none e = ap all_sent (e ∙ insert_entry-absent eq i tile es (absent_from_lookup (eq i) es none)) ∙ sent_push es i tile
 
 module _ {X : Type 0} where
   -- a task is among the keys, or a look-up finds none

@@ -367,7 +367,7 @@ idle r none t h = subst (IsIn t) (sym none) (marked_running r.claims t h)
 
 -- what is left of the edges of a task is due, and what is left of its write-backs
 module _ (P : Plan) (t : Task) (a b : RunState) (outputs : has_outputs (end_of a t) ≡ true) where
-  due : (i : Item) → IsIn i (items P t) → ((u : Task) → end_of b u ≡ end_of a u) → IsDue P b i
+  pub due : (i : Item) → IsIn i (items P t) → ((u : Task) → end_of b u ≡ end_of a u) → IsDue P b i
   due i mine ends =
       let from : sender i ≡ t = item_sender P t i mine in
       record { outputs = ap (λ u. has_outputs (end_of b u)) from ∙ ap has_outputs (ends t) ∙ outputs; is_item = subst (λ u. IsIn i (items P u)) (sym from) mine }

@@ -182,3 +182,7 @@ module _ (P : Plan) (G : Data) (con : IsConsistent P) (r : RunState) (fits : Fit
 -- a claimed task is one of the job
 pub entry_task : (P : Plan) (G : Data) (r : RunState) → Fits P G r → (c : Task × Option Ended) → IsIn c r.claims → IsTask P c.0
 entry_task P G r fits c i = (fits.sound.claimed_have_all c.0 (entry_key r.claims c i)).task
+
+-- and has ended as its entry says
+pub entry_end : (P : Plan) (G : Data) (r : RunState) → Fits P G r → (c : Task × Option Ended) → IsIn c r.claims → end_of r c.0 ≡ c.1
+entry_end P G r fits c i = ap (λ m. unwrap_or m None) (entry_found r.claims c fits.sound.claimed_once i)

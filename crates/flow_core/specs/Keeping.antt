@@ -5,7 +5,7 @@ use Rattle.flow_meaning.specs.Ending.{Ended}
 use Rattle.flow_core.specs.Arrivals.{CountsArrivals}
 use Rattle.flow_core.specs.Kept.{AreKept, SentAndKept}
 
--- the table counts the edges that came to unclaimed tasks, and each tile is kept until it is read
+-- the table counts the edges that came to unclaimed tasks, and each item is kept until it is read
 pub record Keeps (claims : List (Task × Option Ended)) (table : List (Task × ℕ)) (sent : SentAndKept) : Type 0 where
   pub counts : CountsArrivals table claims sent.sends
-  pub tiles : AreKept claims sent.kept sent.sends
+  pub tiles : AreKept claims sent

@@ -1,40 +1,56 @@
--- Which tiles a run still keeps of those that were sent: a tile goes once the task that reads it has run. Source: this project's own choice.
-use Rattle.std.specs.Prelude.{◌≡◌, Bool, false, List, [], ◌∷◌, Option, None, is_some, unwrap_or, if◌then◌else◌}
+-- Which tiles a run still keeps of those that were sent: that of an edge goes once its task has read it. Source: this project's own choice.
+use Rattle.std.specs.Prelude.{◌≡◌, ℤ, Bool, true, false, List, [], ◌∷◌, ◌++◌, filter, Option, Some, None, is_some, unwrap_or, if◌then◌else◌}
 use Rattle.std.specs.Map.{lookup}
 use Rattle.ptg_base.specs.Task.{Task}
 use Rattle.ptg_base.specs.TaskComparing.{same_task}
+use Rattle.ptg_base.specs.declared.edge.Edge.{Edge}
 use Rattle.ptg_base.specs.declared.edge.Item.{Item}
 use Rattle.ptg_base.specs.declared.edge.Item.TheVariants as item
 use Rattle.flow_meaning.specs.Comparing.{same_item}
 use Rattle.flow_meaning.specs.Ending.{Ended}
 use Rattle.flow_meaning.specs.Machine.{Sent}
-use Rattle.flow_core.specs.Arrivals.{is_edge_to}
 
--- the items that were sent, each with the tile that was sent with it, and with the one that is kept of it
+-- the items that were sent, each with its tile; the edges among them that are kept, in any order; and the write-backs, in the order of the sends
 pub record SentAndKept : Type 0 where
   pub sends : List Sent
-  pub kept : List Sent
+  pub edges : List Sent
+  pub writes : List Sent
+
+abbrev pub is_write : Item → Bool
+is_write (item.Edge e) = false
+is_write (item.Write w) = true
+
+-- the write-backs among what was sent
+abbrev pub written : List Sent → List Sent
+written sends = filter (λ (x : Sent). is_write x.item) sends
+
+-- what was first sent with an item, if it was sent: its tile, or none
+abbrev pub sent_as : Item → List Sent → Option (Option (List ℤ))
+sent_as i [] = None
+sent_as i (x ∷ xs) = if same_item i x.item then Some x.tile else sent_as i xs
+
+-- the items among which an item is kept
+abbrev pub kept_with : Item → SentAndKept → List Sent
+kept_with i s = if is_write i then s.writes else s.edges
+
+-- the same with one more item
+abbrev pub with_sent : SentAndKept → Sent → SentAndKept
+with_sent s x = record {
+  sends = s.sends ++ x ∷ [];
+  edges = if is_write x.item then s.edges else s.edges ++ x ∷ [];
+  writes = if is_write x.item then s.writes ++ x ∷ [] else s.writes;
+}
 
 -- whether an item is an edge whose task has ended
 abbrev pub is_read : List (Task × Option Ended) → Item → Bool
 is_read claims (item.Edge e) = is_some (unwrap_or (lookup (same_task e.to) claims) None)
 is_read claims (item.Write w) = false
 
--- the tile of each item is kept, but for those that were read
-abbrev pub AreKept : List (Task × Option Ended) → List Sent → List Sent → Type 0
-AreKept claims [] [] = Unit {0}
-AreKept claims [] (x ∷ xs) = ⊥
-AreKept claims (k ∷ ks) [] = ⊥
-AreKept claims (k ∷ ks) (x ∷ xs) = (k.item ≡ x.item) × (is_read claims x.item ≡ false → k.tile ≡ x.tile) × AreKept claims ks xs
+-- each edge that was not read is kept as it was sent, and each write-back
+pub record AreKept (claims : List (Task × Option Ended)) (s : SentAndKept) : Type 0 where
+  pub edges : (e : Edge) → is_read claims (item.Edge e) ≡ false → sent_as (item.Edge e) s.edges ≡ sent_as (item.Edge e) s.sends
+  pub writes : s.writes ≡ written s.sends
 
--- the items after the tile of one of them is taken
-abbrev pub without_tile : Item → List Sent → List Sent
-without_tile i [] = []
-without_tile i (k ∷ ks) = if same_item i k.item then record { item = k.item; tile = None } ∷ ks else k ∷ without_tile i ks
-
--- the same items, and the same tiles but for those of edges to the task
+-- the same edges are kept, but for edges to the task
 abbrev pub TakesOnlyTo : Task → List Sent → List Sent → Type 0
-TakesOnlyTo t [] [] = Unit {0}
-TakesOnlyTo t [] (k ∷ ks) = ⊥
-TakesOnlyTo t (o ∷ os) [] = ⊥
-TakesOnlyTo t (o ∷ os) (k ∷ ks) = (k.item ≡ o.item) × (is_edge_to t o.item ≡ false → k.tile ≡ o.tile) × TakesOnlyTo t os ks
+TakesOnlyTo t old new = (e : Edge) → same_task t e.to ≡ false → sent_as (item.Edge e) new ≡ sent_as (item.Edge e) old

@@ -184,10 +184,11 @@ fn take_tile(
     requires task { IsTask plan.now t.now }
     requires flow { number < length (tasks.flows_of plan.now t.now) }
     requires places { length tiles.old.items ≡ length (tasks.flows_of plan.now t.now) }
-    ensures tiles { (G : Data) (before : List (Option (List ℤ))) (f : FlowValue) (rest : List FlowValue) → slice_get (tasks.flows_of plan.now t.now) number ≡ Some f → length before ≡ number → tiles.old.items ≡ before ++ starting.tiles_from plan.now G nothing_delivered t.now number (f ∷ rest) → tiles.new.items ≡ (before ++ starting.starting_tile plan.now G (delivered_by sent.old.kept) t.now number f ∷ []) ++ starting.tiles_from plan.now G nothing_delivered t.now (number + 1) rest }
-    ensures others { (e : EdgeValue) → e.in_flow ≢ number → delivered_by sent.new.kept e ≡ delivered_by sent.old.kept e }
+    ensures tiles { (G : Data) (before : List (Option (List ℤ))) (f : FlowValue) (rest : List FlowValue) → slice_get (tasks.flows_of plan.now t.now) number ≡ Some f → length before ≡ number → tiles.old.items ≡ before ++ starting.tiles_from plan.now G nothing_delivered t.now number (f ∷ rest) → tiles.new.items ≡ (before ++ starting.starting_tile plan.now G (delivered_by sent.old.edges) t.now number f ∷ []) ++ starting.tiles_from plan.now G nothing_delivered t.now (number + 1) rest }
+    ensures others { (e : EdgeValue) → e.in_flow ≢ number → delivered_by sent.new.edges e ≡ delivered_by sent.old.edges e }
     ensures sends { sent.new.sends ≡ sent.old.sends }
-    ensures kept { TakesOnlyTo t.now sent.old.kept sent.new.kept }
+    ensures writes { sent.new.writes ≡ sent.old.writes }
+    ensures kept { TakesOnlyTo t.now sent.old.edges sent.new.edges }
     ensures places { length tiles.new.items ≡ length tiles.old.items }
 {
     let at = number as usize;
@@ -209,9 +210,10 @@ pub(crate) fn take_tiles(
 )
     requires task { IsTask plan.now t.now }
     requires places { length tiles.old.items ≡ length (tasks.flows_of plan.now t.now) }
-    ensures tiles { (G : Data) (before : List (Option (List ℤ))) (fs : List FlowValue) → drop number (tasks.flows_of plan.now t.now) ≡ fs → length before ≡ number → tiles.old.items ≡ before ++ starting.tiles_from plan.now G nothing_delivered t.now number fs → tiles.new.items ≡ before ++ starting.tiles_from plan.now G (delivered_by sent.old.kept) t.now number fs }
+    ensures tiles { (G : Data) (before : List (Option (List ℤ))) (fs : List FlowValue) → drop number (tasks.flows_of plan.now t.now) ≡ fs → length before ≡ number → tiles.old.items ≡ before ++ starting.tiles_from plan.now G nothing_delivered t.now number fs → tiles.new.items ≡ before ++ starting.tiles_from plan.now G (delivered_by sent.old.edges) t.now number fs }
     ensures sends { sent.new.sends ≡ sent.old.sends }
-    ensures kept { TakesOnlyTo t.now sent.old.kept sent.new.kept }
+    ensures writes { sent.new.writes ≡ sent.old.writes }
+    ensures kept { TakesOnlyTo t.now sent.old.edges sent.new.edges }
     ensures places { length tiles.new.items ≡ length tiles.old.items }
 {
     if number as usize >= flows_of(plan, t).len() {

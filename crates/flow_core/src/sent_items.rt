@@ -1,9 +1,11 @@
 //! The items that were sent, and the tiles that are kept of them.
 
-ghost use Rattle.std.specs.Prelude.{◌≡◌, [], ◌∷◌, ◌++◌, ◌↔◌, IfOk, OnOk, OnErr, IsTrue, option_to_list};
+ghost use Rattle.std.specs.Prelude.{◌≡◌, [], ◌∷◌, ◌++◌, IfOk, OnOk, OnErr, None, is_some, option_to_list};
+ghost use Rattle.ptg_base.specs.declared.edge.Item.{Item as ItemValue};
 ghost use Rattle.flow_meaning.specs.Machine.{first_tile};
-ghost use Rattle.flow_core.specs.SentItems.{IsUnsent};
-ghost use Rattle.flow_core.specs.Kept.{without_tile};
+ghost use Rattle.flow_core.specs.SentItems.{all_sent};
+ghost use Rattle.flow_core.specs.Kept as kept;
+ghost use Rattle.flow_core.specs.Kept.{kept_with, sent_as, with_sent};
 ghost use Rattle.flow_core.specs.Rows.{write_with, writes_among};
 
 use crate::history::{History, Shipment};
@@ -12,11 +14,13 @@ use ptg_base::{Item, OutOfMemory, Tile, WriteBack, items_compare_field_by_field}
 use std::alloc::Global;
 use std::marker::Model;
 
-// The items that were sent, each with its tile while that is kept: none with an edge of a CTL flow. Contracts see what was sent, and what is
-// kept of it, in the order of the sends.
+// The items that were sent. An edge is kept with its tile until it is taken, and a write-back to the end. Contracts see what was sent, and
+// what is kept of it.
 #[derive(Drop)]
 pub struct SentItems {
-    tiles: IndexMap<Item, Option<Tile>>,
+    edges: IndexMap<Item, Option<Tile>>,
+    // In the order of the sends.
+    writes: IndexMap<Item, Option<Tile>>,
     history: History,
 }
 
@@ -27,7 +31,7 @@ impl Model for SentItems {
 
     ghost use Rattle.flow_core.specs.SentItems.{all_sent};
 
-    ghost view = { λ s. record { sends = s.history.sends; kept = all_sent s.tiles.entries } };
+    ghost view = { λ s. record { sends = s.history.sends; edges = all_sent s.edges.entries; writes = all_sent s.writes.entries } };
 }
 
 // Adds an item with its tile, if it is a write-back and has one.
@@ -48,59 +52,93 @@ fn push_write(
     Ok(())
 }
 
+// Whether an item is a write-back.
+fn is_write(item: &Item) -> bool
+    ensures { result ≡ kept.is_write item.now }
+{
+    match item {
+        Item::Edge(_) => false,
+        Item::Write(_) => true,
+    }
+}
+
+// Adds an item that the table has not, with its tile.
+fn enter(
+    table: &mut IndexMap<Item, Option<Tile>>,
+    item: Item,
+    tile: Option<Tile>,
+) -> Result<(), OutOfMemory>
+    requires { sent_as item (all_sent table.old.entries) ≡ None }
+    ensures ok { OnOk result (all_sent table.new.entries ≡ all_sent table.old.entries ++ record { item = item; tile = tile } ∷ []) }
+    ensures err { OnErr result (table.new.entries ≡ table.old.entries) }
+{
+    items_compare_field_by_field();
+    table.insert(item, tile)?;
+    Ok(())
+}
+
 impl SentItems {
     // No items.
     pub(crate) fn new(alloc: Global) -> SentItems
-        ensures { result ≡ record { sends = []; kept = [] } }
+        ensures { result ≡ record { sends = []; edges = []; writes = [] } }
     {
         SentItems {
-            tiles: IndexMap::new(alloc),
+            edges: IndexMap::new(alloc),
+            writes: IndexMap::new(alloc),
             history: History::new(),
         }
     }
 
-    // Whether the item is not kept.
-    pub(crate) fn is_unsent(&self, item: &Item) -> bool
-        ensures { IsTrue result ↔ IsUnsent self.now.kept item.now }
+    // Whether the item is kept.
+    pub(crate) fn is_kept(&self, item: &Item) -> bool
+        ensures { result ≡ is_some (sent_as item.now (kept_with item.now self.now)) }
     {
         items_compare_field_by_field();
-        !self.tiles.contains_key(item)
+        if is_write(item) {
+            return self.writes.contains_key(item);
+        }
+        self.edges.contains_key(item)
     }
 
-    // Takes the tile of the item, if it is kept.
+    // Takes an edge with its tile out of those that are kept.
     pub(crate) fn take(&mut self, item: &Item) -> Option<Tile>
-        ensures tile { result ≡ first_tile item.now self.old.kept }
-        ensures kept { self.new.kept ≡ without_tile item.now self.old.kept }
+        ensures tile { result ≡ first_tile item.now self.old.edges }
+        ensures others { (other : ItemValue) → (item.now ≡ other → ⊥) → sent_as other self.new.edges ≡ sent_as other self.old.edges }
         ensures sends { self.new.sends ≡ self.old.sends }
+        ensures writes { self.new.writes ≡ self.old.writes }
     {
         items_compare_field_by_field();
-        let Some(tile) = self.tiles.get_mut(item) else {
+        let Some(tile) = self.edges.swap_remove(item) else {
             return None;
         };
-        tile.take()
+        tile
     }
 
     // Adds an item with its tile. An `Err` changes nothing.
     pub(crate) fn add(&mut self, item: Item, tile: Option<Tile>) -> Result<(), OutOfMemory>
-        requires { IsUnsent self.old.kept item }
-        ensures ok { OnOk result (self.new ≡ record { sends = self.old.sends ++ record { item = item; tile = tile } ∷ []; kept = self.old.kept ++ record { item = item; tile = tile } ∷ [] }) }
+        requires { sent_as item (kept_with item self.old) ≡ None }
+        ensures ok { OnOk result (self.new ≡ with_sent self.old (record { item = item; tile = tile })) }
         ensures err { OnErr result (self.new ≡ self.old) }
     {
-        items_compare_field_by_field();
-        self.tiles.reserve(1)?;
         let shipment = Shipment { item, tile };
-        self.history = History::with(&self.history, &shipment);
+        let history = History::with(&self.history, &shipment);
         let Shipment { item, tile } = shipment;
-        let _none = self.tiles.insert(item, tile).unwrap();
+        if is_write(&item) {
+            enter(&mut self.writes, item, tile)?;
+            self.history = history;
+            return Ok(());
+        }
+        enter(&mut self.edges, item, tile)?;
+        self.history = history;
         Ok(())
     }
 
-    // The write-backs that are kept, each with its tile, in the order of the sends.
+    // The write-backs, each with its tile, in the order of the sends.
     pub(crate) fn into_writes(self, alloc: Global) -> Result<Vec<(WriteBack, Tile)>, OutOfMemory>
-        ensures { IfOk result (λ writes. writes.items ≡ writes_among self.kept) }
+        ensures { IfOk result (λ writes. writes.items ≡ writes_among self.writes) }
     {
         let mut writes = Vec::new(alloc);
-        for (item, tile) in self.tiles {
+        for (item, tile) in self.writes {
             push_write(item, tile, &mut writes)?;
         }
         Ok(writes)

@@ -214,7 +214,7 @@ impl State {
         ensures fits { (G : Data) → Fits m.now G self.old → Fits m.now G self.new }
     {
         let _ = m.plan();
-        if !self.is_unsent(item) {
+        if !self.is_unsent(m, item) {
             return Ok(false);
         }
         self.enter_item(item)?;
@@ -231,11 +231,27 @@ impl State {
         }
     }
 
-    // Whether an item was not sent.
-    fn is_unsent(&self, item: &Item) -> bool
+    // Whether an item that is due was not sent. All edges into a claimed task were sent.
+    fn is_unsent(&self, m: &Matched, item: &Item) -> bool
+        requires fits { (G : Data) × Fits m.now G self.now }
+        requires due { IsDue m.now self.now item.now }
         ensures { IsTrue result ↔ IsUnsent self.now.sends item.now }
     {
-        self.sent.is_unsent(item)
+        let _ = m.plan();
+        if self.goes_to_claimed(item) {
+            return false;
+        }
+        !self.sent.is_kept(item)
+    }
+
+    // Whether an item is an edge to a claimed task.
+    fn goes_to_claimed(&self, item: &Item) -> bool
+        ensures { result ≡ possible.goes_to_claimed self.now item.now }
+    {
+        match item {
+            Item::Edge(e) => self.claims.contains_key(&e.to),
+            Item::Write(_) => false,
+        }
     }
 
     // The tiles that a task left, if it has ended without a trap.

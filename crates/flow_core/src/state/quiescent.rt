@@ -11,7 +11,8 @@ ghost use Rattle.coll_data.specs.Data.{Data};
 ghost use Rattle.dep_iter.specs.Items as items;
 ghost use Rattle.dep_iter.specs.Tasks.{IsTask, task, tasks_from};
 ghost use Rattle.flow_meaning.specs.Machine.{IsQuiescent, MayClaim};
-ghost use Rattle.flow_core.specs.RunState.{IsRunning, machine};
+ghost use Rattle.flow_meaning.specs.Ending as ending;
+ghost use Rattle.flow_core.specs.RunState.{IsRunning, end_of, machine};
 ghost use Rattle.flow_core.specs.Fits.{Fits};
 ghost use Rattle.flow_core.specs.Quiet.{HasOne, Owes};
 ghost use Rattle.flow_core.specs.SentItems.{IsUnsent};
@@ -83,7 +84,9 @@ impl State {
 
     // Whether a claimed task has ended without a trap, and an item of it was not sent.
     fn owes(&self, m: &Matched, t: &TaskId, end: &Option<End>) -> bool
-        requires { IsTask m.now t.now }
+        requires task { IsTask m.now t.now }
+        requires end { end_of self.now t.now ≡ end.now }
+        requires fits { (G : Data) × Fits m.now G self.now }
         ensures { IsTrue result ↔ Owes m.now self.now.sends (t.now, end.now) }
     {
         if !has_outputs(end) {
@@ -95,26 +98,30 @@ impl State {
         self.owes_write(m, t)
     }
 
-    // Whether an edge out of a task was not sent.
+    // Whether an edge out of a task that has ended without a trap was not sent.
     fn owes_edge(&self, m: &Matched, t: &TaskId) -> bool
-        requires { IsTask m.now t.now }
+        requires task { IsTask m.now t.now }
+        requires outputs { IsTrue (ending.has_outputs (end_of self.now t.now)) }
+        requires fits { (G : Data) × Fits m.now G self.now }
         ensures { IsTrue result ↔ HasOne (λ (e : EdgeValue). IsUnsent self.now.sends (item.Edge e)) (items.out_edges m.now t.now) }
     {
         for edge in out_edges(m.plan(), t) {
-            if self.is_unsent(&Item::Edge(edge)) {
+            if self.is_unsent(m, &Item::Edge(edge)) {
                 return true;
             }
         }
         false
     }
 
-    // Whether a write-back of a task was not sent.
+    // Whether a write-back of a task that has ended without a trap was not sent.
     fn owes_write(&self, m: &Matched, t: &TaskId) -> bool
-        requires { IsTask m.now t.now }
+        requires task { IsTask m.now t.now }
+        requires outputs { IsTrue (ending.has_outputs (end_of self.now t.now)) }
+        requires fits { (G : Data) × Fits m.now G self.now }
         ensures { IsTrue result ↔ HasOne (λ (w : WriteBackValue). IsUnsent self.now.sends (item.Write w)) (items.write_backs m.now t.now) }
     {
         for write in write_backs(m.plan(), t) {
-            if self.is_unsent(&Item::Write(write)) {
+            if self.is_unsent(m, &Item::Write(write)) {
                 return true;
             }
         }

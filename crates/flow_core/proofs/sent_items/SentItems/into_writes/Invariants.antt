@@ -5,4 +5,4 @@ use Rattle.flow_core.proofs.sent_items.SentItems.into_writes.Given as goal
 
 -- what is found and what is left
 abbrev pub invariant-loop-item : goal.invariant-loop-item
-invariant-loop-item l = l.writes.items ++ writes_among (all_sent l.item-iterator) ≡ writes_among l.fn.self.kept
+invariant-loop-item l = l.writes.items ++ writes_among (all_sent l.item-iterator) ≡ writes_among l.fn.self.writes

@@ -1,27 +1,30 @@
-use Rattle.std.proofs.Common.{◌≡◌, ap, sym, ◌∙◌, None, Some}
-use Rattle.flow_core.specs.Kept.{SentAndKept, without_tile}
-use Rattle.flow_core.specs.SentItems.{all_sent}
-use Rattle.flow_core.proofs.Kept.{taken_by, untaken}
-use Rattle.flow_core.proofs.Lookups.{tile_by}
+use Rattle.std.proofs.Common.{ap, sym, ◌∙◌}
+use Rattle.std.proofs.lemmas.Bool.{false_from_ne_true}
+use Rattle.std.specs.Option.{option_flatten}
+use Rattle.flow_core.specs.Kept.{SentAndKept, sent_as}
+use Rattle.flow_core.proofs.Kept.{found_as, tile_as}
 use Rattle.flow_core.proofs.sent_items.SentItems.take.Goals as goal
 
 pub returns-clause-tile : goal.returns-clause-tile
 returns-clause-tile c =
-    c.take.ensures.value ∙ tile_by _ c.items_compare_field_by_field.ensures.items.same c.self.inside.tiles.entries c.args.self.now.kept c.args.item.now (Some c.in-Some.tile.now)
-    (ap (λ (s : SentAndKept). s.kept) c.self.view_is) c.in-Some.ensures.value
-
-pub returns-clause-kept : goal.returns-clause-kept
-returns-clause-kept c =
-    taken_by _ c.items_compare_field_by_field.ensures.items.same c.self.inside.tiles.entries _ c.args.item.now c.take.new.self (c.get_mut.follows.holds c.take.new.self).0 c.take.ensures.after
-    ∙ ap (λ (s : SentAndKept). without_tile c.args.item.now s.kept) c.self.view_is
+    let i = c.args.item.now in
+    let es = c.self.inside.edges.entries in
+    ap option_flatten (c.in-Some.ensures.value ∙ found_as _ c.items_compare_field_by_field.ensures.items.same i es ∙ ap (λ (s : SentAndKept). sent_as i s.edges) c.self.view_is) ∙ tile_as i c.args.self.now.edges
 
 pub returns-in_default-clause-tile : goal.returns-in_default-clause-tile
 returns-in_default-clause-tile c =
-    tile_by _ c.items_compare_field_by_field.ensures.items.same c.self.inside.tiles.entries c.args.self.now.kept c.args.item.now None
-    (ap (λ (s : SentAndKept). s.kept) c.self.view_is) c.in_default.ensures.value
+    let i = c.args.item.now in
+    let es = c.self.inside.edges.entries in
+    ap option_flatten (c.in_default.ensures.value ∙ found_as _ c.items_compare_field_by_field.ensures.items.same i es ∙ ap (λ (s : SentAndKept). sent_as i s.edges) c.self.view_is) ∙ tile_as i c.args.self.now.edges
 
-pub returns-in_default-clause-kept : goal.returns-in_default-clause-kept
-returns-in_default-clause-kept c =
-    let same : c.get_mut.follows.lender-at-none.entries ≡ c.self.inside.tiles.entries = cc (c.get_mut.follows.holds-at-none) in
-    ap all_sent same ∙ untaken _ c.items_compare_field_by_field.ensures.items.same c.self.inside.tiles.entries c.args.item.now (sym c.in_default.ensures.value)
-    ∙ ap (λ (s : SentAndKept). without_tile c.args.item.now s.kept) c.self.view_is
+pub returns-clause-others : goal.returns-clause-others
+returns-clause-others c = λ j differs.
+    let decides = c.items_compare_field_by_field.ensures.items.same in
+    let miss = false_from_ne_true _ (λ k. differs ((decides c.args.item.now j).0 k)) in
+    sym (found_as _ decides j c.swap_remove.new.self.entries) ∙ c.swap_remove.ensures.updates.2 j miss ∙ found_as _ decides j c.self.inside.edges.entries ∙ ap (λ (s : SentAndKept). sent_as j s.edges) c.self.view_is
+
+pub returns-in_default-clause-others : goal.returns-in_default-clause-others
+returns-in_default-clause-others c = λ j differs.
+    let decides = c.items_compare_field_by_field.ensures.items.same in
+    let miss = false_from_ne_true _ (λ k. differs ((decides c.args.item.now j).0 k)) in
+    sym (found_as _ decides j c.swap_remove.new.self.entries) ∙ c.swap_remove.ensures.updates.2 j miss ∙ found_as _ decides j c.self.inside.edges.entries ∙ ap (λ (s : SentAndKept). sent_as j s.edges) c.self.view_is

@@ -18,5 +18,5 @@ invariant_of-self-2 c =
     let now = grown claims c.insert.new.self.entries sent.sends c.args.self.now t c.copy_of_task.result c.self.view_is c.requires c.copy_of_task.ensures c.in_ok-insert.ensures.entries in
     subst (λ cs. Keeps cs c.swap_remove.new.self.entries sent) (sym now) (record {
       counts = counts_claim c.self.inside.arrived.entries c.swap_remove.new.self.entries claims sent.sends t c.self.invariant.counts (λ u apart. c.swap_remove.ensures.updates.2 u (turned u t apart));
-      tiles = kept_claim claims t sent.kept sent.sends c.self.invariant.tiles;
+      tiles = kept_claim claims t sent c.self.invariant.tiles;
     })

@@ -1,5 +1,5 @@
 use Rattle.std.proofs.Common.{◌≡◌, [], length, refl, ap, sym, subst, ◌∙◌, None, Some}
-use Rattle.std.specs.Map.{lookup, set_value}
+use Rattle.std.specs.Map.{lookup}
 use Rattle.ptg_base.specs.TaskComparing.{same_task}
 use Rattle.ptg_base.specs.declared.edge.Edge.{Edge}
 use Rattle.ptg_base.specs.declared.edge.Item.TheVariants as item
@@ -45,12 +45,11 @@ invariant_of-self c =
     let sent = c.self.inside.sent in
     let end = c.run_task-end.result in
     let running : lookup (same_task t) claims ≡ Some None = ap (λ (s : RunState). mark_of s t) c.self.view_is ∙ c.requires.running in
-    let ends = kept_end claims t end running sent.kept c.take_tiles.new.sent.kept sent.sends c.self.invariant.tiles c.take_tiles.ensures.kept in
+    let ends = kept_end claims t end running sent c.take_tiles.new.sent c.self.invariant.tiles c.take_tiles.ensures.kept c.take_tiles.ensures.sends c.take_tiles.ensures.writes in
     record {
       counts = λ u none.
           counts_end c.self.inside.arrived.entries claims sent.sends t end c.self.invariant.counts u (ap (lookup (same_task u)) (sym c.mark.ensures) ∙ none) ∙ ap (edges_to u) (sym c.take_tiles.ensures.sends);
-      tiles = subst (λ cs. AreKept cs c.take_tiles.new.sent.kept c.take_tiles.new.sent.sends) (sym c.mark.ensures)
-          (subst (AreKept (set_value (same_task t) claims (Some end)) c.take_tiles.new.sent.kept) (sym c.take_tiles.ensures.sends) ends);
+      tiles = subst (λ cs. AreKept cs c.take_tiles.new.sent) (sym c.mark.ensures) ends;
     }
 
 pub returns-clause-ok : goal.returns-clause-ok
@@ -64,9 +63,9 @@ returns-clause-ok c =
     let sent = c.self.inside.sent in
     let con = c.plan-plan.ensures.consistent in
     let running : lookup (same_task t) claims ≡ Some None = ap (λ (s : RunState). mark_of s t) c.self.view_is ∙ c.requires.running in
-    let tiles : c.take_tiles.new.tiles.items ≡ starting_tiles P G (delivered_by sent.kept) t = c.take_tiles.ensures.tiles G [] (flows_of P t) refl refl c.in_ok-tiles.ensures in
-    let same = λ (e : Edge) (to : e.to ≡ t). kept_tile claims sent.kept sent.sends (item.Edge e) c.self.invariant.tiles (unread claims t e running to) ∙ ap (λ (s : RunState). first_tile (item.Edge e) s.sends) c.self.view_is in
-    let end = ran c.args.m.now P G r (delivered_by sent.kept) t c.take_tiles.new.tiles.items c.run_task-end.result c.plan-plan.ensures.same same tiles c.run_task-end.ensures in
+    let tiles : c.take_tiles.new.tiles.items ≡ starting_tiles P G (delivered_by sent.edges) t = c.take_tiles.ensures.tiles G [] (flows_of P t) refl refl c.in_ok-tiles.ensures in
+    let same = λ (e : Edge) (to : e.to ≡ t). kept_tile claims sent c.self.invariant.tiles e (unread claims t e running to) ∙ ap (λ (s : RunState). first_tile (item.Edge e) s.sends) c.self.view_is in
+    let end = ran c.args.m.now P G r (delivered_by sent.edges) t c.take_tiles.new.tiles.items c.run_task-end.result c.plan-plan.ensures.same same tiles c.run_task-end.ensures in
     let meant : ended c.args.m.now G t ≡ Some c.run_task-end.result = running_end c.args.m.now G con r c.requires.fits t c.requires.running ∙ end in
     let marked = ended_run claims c.mark.new.claims.entries sent.sends c.take_tiles.new.sent.sends r t c.run_task-end.result c.self.view_is c.mark.ensures c.take_tiles.ensures.sends in
     record { end = c.run_task-end.result; as_meant = meant; marked = marked; trapped = c.trap_of-trap.ensures }
@@ -82,9 +81,9 @@ returns-clause-fits c =
     let sent = c.self.inside.sent in
     let con = c.plan-plan.ensures.consistent in
     let running : lookup (same_task t) claims ≡ Some None = ap (λ (s : RunState). mark_of s t) c.self.view_is ∙ c.requires.running in
-    let tiles : c.take_tiles.new.tiles.items ≡ starting_tiles P G (delivered_by sent.kept) t = c.take_tiles.ensures.tiles G [] (flows_of P t) refl refl c.in_ok-tiles.ensures in
-    let same = λ (e : Edge) (to : e.to ≡ t). kept_tile claims sent.kept sent.sends (item.Edge e) c.self.invariant.tiles (unread claims t e running to) ∙ ap (λ (s : RunState). first_tile (item.Edge e) s.sends) c.self.view_is in
-    let end = ran c.args.m.now P G r (delivered_by sent.kept) t c.take_tiles.new.tiles.items c.run_task-end.result c.plan-plan.ensures.same same tiles c.run_task-end.ensures in
+    let tiles : c.take_tiles.new.tiles.items ≡ starting_tiles P G (delivered_by sent.edges) t = c.take_tiles.ensures.tiles G [] (flows_of P t) refl refl c.in_ok-tiles.ensures in
+    let same = λ (e : Edge) (to : e.to ≡ t). kept_tile claims sent c.self.invariant.tiles e (unread claims t e running to) ∙ ap (λ (s : RunState). first_tile (item.Edge e) s.sends) c.self.view_is in
+    let end = ran c.args.m.now P G r (delivered_by sent.edges) t c.take_tiles.new.tiles.items c.run_task-end.result c.plan-plan.ensures.same same tiles c.run_task-end.ensures in
     let meant : ended c.args.m.now G t ≡ Some c.run_task-end.result = running_end c.args.m.now G con r c.requires.fits t c.requires.running ∙ end in
     let marked = ended_run claims c.mark.new.claims.entries sent.sends c.take_tiles.new.sent.sends r t c.run_task-end.result c.self.view_is c.mark.ensures c.take_tiles.ensures.sends in
     subst (Fits c.args.m.now G) (sym marked) (end_fits c.args.m.now G con r c.requires.fits t c.run_task-end.result c.requires.running meant)
