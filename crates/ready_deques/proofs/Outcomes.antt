@@ -1,9 +1,9 @@
 -- What a step shows of an end, from what it shows of its tally.
-use Rattle.std.proofs.Common.{◌≡◌, ℕ, List, [], ◌∷◌, ◌++◌, Option, Some, None, MatchOption, ap, subst}
+use Rattle.std.proofs.Common.{◌≡◌, [], ◌∷◌, ◌++◌, Option, Some, None, MatchOption}
 use Rattle.ptg_base.specs.Task.{Task}
 use Rattle.ready_deques.specs.declared.tally.Tally.{Tally}
-use Rattle.ready_deques.specs.Rule.{tally, AtOneMoment, HeldAtMost}
-use Rattle.ready_deques.specs.Ends.{DequeId, Owner, Thief}
+use Rattle.ready_deques.specs.Rule.{tally, AtOneMoment}
+use Rattle.ready_deques.specs.Ends.{DequeId, Owner}
 
 abbrev pub owner_of : DequeId → Tally → Owner
 owner_of d t = record { deque = d; parts = t.parts; pushed = t.pushed; taken = t.taken }

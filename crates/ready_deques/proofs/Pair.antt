@@ -1,5 +1,5 @@
 -- The hands of a team of two are all of its hands, before and after they push and take.
-use Rattle.std.proofs.Common.{◌≡◌, ◌≢◌, ℕ, suc, zero, ◌<◌, Some, List, [], ◌∷◌, ◌++◌, All, length, length-append, ap, sym, ◌∙◌, refl, arith}
+use Rattle.std.proofs.Common.{◌≡◌, ◌≢◌, suc, zero, Some, List, [], ◌∷◌, ◌++◌, All, length, length-append, ap, sym, ◌∙◌, refl, arith}
 use Rattle.std.specs.Prelude.{slice_get}
 use Rattle.ready_deques.specs.Ends.{DequeId}
 use Rattle.ready_deques.specs.Hands.{Account, AreFresh, AreTheOthers, SameWorker, fresh}

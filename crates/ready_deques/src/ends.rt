@@ -17,7 +17,7 @@ use std::sync::Wait;
 // The ids that a deque has room for from the start.
 const ROOM: usize = 16;
 
-/// The end of a deque where its worker pushes and pops.
+// The end of a deque where its worker pushes and pops.
 #[derive(Drop)]
 pub(crate) struct OwnerEnd {
     worker: Worker<TaskId, Global, Tally, DequeRule>,
@@ -42,7 +42,7 @@ impl Model for OwnerEnd {
 }
 
 impl OwnerEnd {
-    /// An empty deque.
+    // An empty deque.
     pub(crate) fn new(alloc: Global) -> Result<OwnerEnd, OutOfMemory>
         ensures { IfOk result (IsNew 0) }
     {
@@ -51,7 +51,7 @@ impl OwnerEnd {
         })
     }
 
-    /// An end of the same deque for another worker, with one part.
+    // An end of the same deque for another worker, with one part.
     pub(crate) fn thief(&mut self) -> Result<ThiefEnd, OutOfMemory>
         requires { 1 < self.old.parts }
         ensures ok { IfOk result (λ thief. (thief ≡ new_thief self.old) × (self.new ≡ less 1 self.old)) }
@@ -62,7 +62,7 @@ impl OwnerEnd {
         Ok(ThiefEnd { stealer, pass })
     }
 
-    /// Adds at the back. The id comes back only where at least 16 were pushed before.
+    // Adds at the back. The id comes back only where at least 16 were pushed before.
     pub(crate) fn push(&mut self, id: TaskId) -> Result<(), TaskId>
         ensures pushed { MatchResult result (λ _. self.new ≡ record self.old { pushed = self.old.pushed ++ id ∷ [] }) (λ back. (back ≡ id) × (self.new ≡ self.old)) }
         ensures refused { IfErr result (λ _. 16 ≤ length self.old.pushed) }
@@ -70,14 +70,14 @@ impl OwnerEnd {
         self.worker.push_as::<Pushed>(id)
     }
 
-    /// Takes at the back. None only where the deque was empty at one moment.
+    // Takes at the back. None only where the deque was empty at one moment.
     pub(crate) fn pop(&mut self) -> Option<TaskId>
         ensures { MatchOption result ((self.new ≡ self.old) × AtOneMoment [] self.old.pushed self.old.taken) (λ id. self.new ≡ record self.old { taken = self.old.taken ++ id ∷ [] }) }
     {
         self.worker.pop_as::<Popped>()
     }
 
-    /// Takes over a thief's end of this deque, with its part and what it took.
+    // Takes over a thief's end of this deque, with its part and what it took.
     pub(crate) fn absorb(&mut self, thief: ThiefEnd)
         requires { thief.deque ≡ self.old.deque }
         ensures { self.new ≡ record self.old { parts = self.old.parts + 1; taken = self.old.taken ++ thief.taken } }
@@ -86,7 +86,7 @@ impl OwnerEnd {
         self.worker.absorb::<Shares>(pass);
     }
 
-    /// Who has all parts knows of every id that was taken: none was taken more often than it was pushed.
+    // Who has all parts knows of every id that was taken: none was taken more often than it was pushed.
     pub(crate) fn audit(&mut self)
         requires { self.old.parts ≡ 65 }
         ensures same { self.new ≡ self.old }
@@ -96,7 +96,7 @@ impl OwnerEnd {
     }
 }
 
-/// The end of a deque where another worker takes.
+// The end of a deque where another worker takes.
 #[derive(Drop)]
 pub(crate) struct ThiefEnd {
     stealer: Stealer<TaskId, Global, Tally, DequeRule>,
@@ -117,7 +117,7 @@ impl Model for ThiefEnd {
 }
 
 impl ThiefEnd {
-    /// Takes at the front. `Empty` only where the deque held one id at most at one moment. It tries again where another one was first.
+    // Takes at the front. `Empty` only where the deque held one id at most at one moment. It tries again where another one was first.
     pub(crate) fn take<R: Wait>(&mut self, rt: &R) -> Stolen
         ensures { MatchStolen result (λ id. self.new ≡ record self.old { taken = self.old.taken ++ id ∷ [] }) ((self.new ≡ self.old) × HeldAtMost 1 [] self.old.taken) }
     {

@@ -1,10 +1,11 @@
-//! What a steal answers.
+//! The answer of a steal.
 
 use ptg_base::TaskId;
 
 /// What a steal answers.
 #[derive(Debug, Drop)]
 pub enum Stolen {
+    /// The id that was at the front.
     Task(TaskId),
     /// There was nothing to steal, or only an id that its worker may have been popping.
     Empty,

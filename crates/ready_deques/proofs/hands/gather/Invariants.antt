@@ -1,4 +1,4 @@
-use Rattle.std.proofs.Common.{◌≡◌, ◌≢◌, ℕ, ◌+◌, All, Some, length, sum_by}
+use Rattle.std.proofs.Common.{◌≡◌, ◌≢◌, ◌+◌, All, Some, length, sum_by}
 use Rattle.std.specs.Prelude.{slice_get}
 use Rattle.ptg_base.specs.Task.{Task}
 use Rattle.ready_deques.specs.Hands.{Account, taken_from}

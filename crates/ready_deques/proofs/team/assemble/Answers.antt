@@ -1,7 +1,7 @@
-use Rattle.std.proofs.Common.{rules, ◌≡◌, ℕ, suc, ◌+◌, ◌<◌, List, [], ◌∷◌, ◌++◌, length, length-append, map, drop, All, Vec, Global, ap, sym, subst, ◌∙◌, arith}
+use Rattle.std.proofs.Common.{rules, ◌≡◌, suc, ◌+◌, length, length-append, map, drop, All, Vec, Global, ap, sym, subst, ◌∙◌, arith}
 use Rattle.std.specs.Prelude.{slice_get}
 use Rattle.ready_deques.specs.Ends.{Owner, Thief, new_thief}
-use Rattle.ready_deques.specs.Hands.{AreFresh, fresh}
+use Rattle.ready_deques.specs.Hands.{fresh}
 use Rattle.ready_deques.proofs.Rows.{next, all_but_last, deque_at, deques_of_row, untaken_row, each_more, IsUntaken}
 use Rattle.ready_deques.proofs.team.assemble.Goals as goal
 

@@ -1,6 +1,6 @@
-use Rattle.std.proofs.Common.{rules, ◌≡◌, ◌+◌, ◌≤◌, length, map, All, Vec, Global, sym, subst, ap, ◌∙◌, arith}
+use Rattle.std.proofs.Common.{◌≡◌, ◌≤◌, length, map, All, Vec, Global, sym, subst, ap, ◌∙◌, arith}
 use Rattle.std.proofs.lemmas.List.{length-map}
-use Rattle.ready_deques.specs.Ends.{Owner, Thief, IsNew, less, new_thief}
+use Rattle.ready_deques.specs.Ends.{Thief, IsNew, less, new_thief}
 use Rattle.ready_deques.proofs.Rows.{given_away, new_thief-less}
 use Rattle.ready_deques.proofs.team.make.Goals as goal
 

@@ -1,4 +1,4 @@
-use Rattle.std.proofs.Common.{◌≡◌, ◌<◌, length, arith}
+use Rattle.std.proofs.Common.{◌<◌, length, arith}
 use Rattle.ready_deques.proofs.Rows.{one_more}
 use Rattle.ready_deques.proofs.team.thieves.Goals as goal
 

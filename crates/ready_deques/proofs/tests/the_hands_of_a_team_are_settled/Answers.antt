@@ -1,4 +1,4 @@
-use Rattle.std.proofs.Common.{◌≡◌, [], ◌∷◌, sym, subst}
+use Rattle.std.proofs.Common.{sym, subst}
 use Rattle.ready_deques.specs.Hands.{AreTheOthers, SameWorker}
 use Rattle.ready_deques.proofs.Pair.{stay_others, same_still}
 use Rattle.ready_deques.proofs.tests.the_hands_of_a_team_are_settled.Goals as goal

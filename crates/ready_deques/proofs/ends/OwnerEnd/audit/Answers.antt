@@ -1,6 +1,5 @@
-use Rattle.std.proofs.Common.{◌≡◌, ◌≤◌, ap, ◌∙◌, arith}
+use Rattle.std.proofs.Common.{ap, ◌∙◌, arith}
 use Rattle.ready_deques.specs.Ends.{Owner}
-use Rattle.ready_deques.specs.Rule.{times}
 use Rattle.ready_deques.proofs.Keeps.{learns}
 use Rattle.ready_deques.proofs.ends.OwnerEnd.audit.Goals as goal
 

@@ -1,4 +1,4 @@
-use Rattle.std.proofs.Common.{◌<◌, rules}
+use Rattle.std.proofs.Common.{rules}
 use Rattle.ready_deques.proofs.Keeps.{forks}
 use Rattle.ready_deques.proofs.ends.OwnerEnd.thief.Goals as goal
 

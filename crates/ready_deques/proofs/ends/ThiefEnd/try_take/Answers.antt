@@ -1,4 +1,4 @@
-use Rattle.std.proofs.Common.{◌<◌, sym, arith, rules}
+use Rattle.std.proofs.Common.{rules}
 use Rattle.ready_deques.proofs.Keeps.{takes, finds_one}
 use Rattle.ready_deques.proofs.ends.ThiefEnd.try_take.Goals as goal
 

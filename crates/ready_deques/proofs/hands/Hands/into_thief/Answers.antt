@@ -1,4 +1,3 @@
-use Rattle.std.proofs.Common.{◌≡◌}
 use Rattle.ready_deques.proofs.Settled.{thief_deque, has_thief}
 use Rattle.ready_deques.proofs.hands.Hands.into_thief.Goals as goal
 

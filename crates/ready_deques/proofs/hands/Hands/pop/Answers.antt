@@ -1,4 +1,4 @@
-use Rattle.std.proofs.Common.{◌≡◌, []}
+use Rattle.std.proofs.Common.{[]}
 use Rattle.ready_deques.specs.Rule.{AtOneMoment}
 use Rattle.ready_deques.proofs.Accounts.{popped, popped_empty}
 use Rattle.ready_deques.proofs.hands.Hands.pop.Goals as goal

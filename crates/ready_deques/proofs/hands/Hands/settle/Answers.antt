@@ -1,4 +1,4 @@
-use Rattle.std.proofs.Common.{◌≡◌, ap, ◌∙◌}
+use Rattle.std.proofs.Common.{ap, ◌∙◌}
 use Rattle.ready_deques.specs.Ends.{Owner}
 use Rattle.ready_deques.proofs.Settled.{settled}
 use Rattle.ready_deques.proofs.hands.Hands.settle.Goals as goal

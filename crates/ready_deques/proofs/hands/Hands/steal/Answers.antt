@@ -1,4 +1,4 @@
-use Rattle.std.proofs.Common.{◌≡◌, [], ap, ◌∙◌}
+use Rattle.std.proofs.Common.{[], ap, ◌∙◌}
 use Rattle.ready_deques.specs.Hands.{Account}
 use Rattle.ready_deques.specs.Rule.{HeldAtMost}
 use Rattle.ready_deques.proofs.Accounts.{stolen, stolen_empty, keeps_deque, same_deques, another, stay}
