@@ -22,7 +22,12 @@ pub struct Coll {
 
 impl Drop for Coll {
     fn drop(self) {
-        let Coll { shape: _shape, name: _name, datatype: _datatype, tiles: _tiles } = self;
+        let Coll {
+            shape: _shape,
+            name: _name,
+            datatype: _datatype,
+            tiles: _tiles,
+        } = self;
     }
 }
 

@@ -19,7 +19,10 @@ pub struct Word {
 
 impl Drop for Word {
     fn drop(self) {
-        let Word { text: _text, spot: _spot } = self;
+        let Word {
+            text: _text,
+            spot: _spot,
+        } = self;
     }
 }
 

@@ -68,7 +68,11 @@ pub struct FlowTree {
 
 impl Drop for FlowTree {
     fn drop(self) {
-        let FlowTree { kind: _kind, name: _name, deps: _deps } = self;
+        let FlowTree {
+            kind: _kind,
+            name: _name,
+            deps: _deps,
+        } = self;
     }
 }
 
@@ -112,6 +116,9 @@ pub struct Jdf {
 
 impl Drop for Jdf {
     fn drop(self) {
-        let Jdf { globals: _globals, classes: _classes } = self;
+        let Jdf {
+            globals: _globals,
+            classes: _classes,
+        } = self;
     }
 }

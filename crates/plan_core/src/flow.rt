@@ -14,7 +14,11 @@ pub struct DepPlan {
 
 impl Drop for DepPlan {
     fn drop(self) {
-        let DepPlan { guard: _guard, yes: _yes, no: _no } = self;
+        let DepPlan {
+            guard: _guard,
+            yes: _yes,
+            no: _no,
+        } = self;
     }
 }
 

@@ -27,7 +27,12 @@ pub struct Plan {
 
 impl Drop for Plan {
     fn drop(self) {
-        let Plan { classes: _classes, spaces: _spaces, colls: _colls, elems: _elems } = self;
+        let Plan {
+            classes: _classes,
+            spaces: _spaces,
+            colls: _colls,
+            elems: _elems,
+        } = self;
     }
 }
 

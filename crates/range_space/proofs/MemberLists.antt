@@ -176,13 +176,15 @@ module _ (s : ClassSpace) (well : IsWellSpace s) (vs : List ℤ) (arity : length
   pub whole_of_task : IsIn vs (tasks s) → (now : List ℤ) × IsCompletion s.defs s.params vs 0 [] now
   whole_of_task t =
       let m = from_map (params_of s.params) (all_locals s) vs t in
-      let q = locals_from_full s.defs [] m.0 m.1 in
-      (q.0, record {
-        locals = q.0;
-        extends = refl;
-        are_locals = q.2;
-        all_agree = all_agree s.params vs 0 q.0 (λ i h. rw (zero-add, sym q.1) (agreement_from_params s.params vs m.0 (sym m.2) i));
-      })
+      let q = locals_from_full s.defs [] m.0 m.1 in (
+        q.0,
+        record {
+          locals = q.0;
+          extends = refl;
+          are_locals = q.2;
+          all_agree = all_agree s.params vs 0 q.0 (λ i h. rw (zero-add, sym q.1) (agreement_from_params s.params vs m.0 (sym m.2) i));
+        },
+      )
 
   pub none_whole : HasNoCompletion s.defs s.params vs 0 [] → IsIn vs (tasks s) → ⊥
   none_whole none t =

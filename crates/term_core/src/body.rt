@@ -79,6 +79,9 @@ pub struct Body {
 
 impl Drop for Body {
     fn drop(self) {
-        let Body { statements: _statements, slots: _slots } = self;
+        let Body {
+            statements: _statements,
+            slots: _slots,
+        } = self;
     }
 }

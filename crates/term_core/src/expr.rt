@@ -89,7 +89,11 @@ impl Expr {
         ensures { IfOk result (λ e. e ≡ Binary op a b) }
     {
         Ok(Expr {
-            node: Node::Binary(op, Box::new(alloc, a.into_node())?, Box::new(alloc, b.into_node())?),
+            node: Node::Binary(
+                op,
+                Box::new(alloc, a.into_node())?,
+                Box::new(alloc, b.into_node())?,
+            ),
         })
     }
 

@@ -67,6 +67,9 @@ pub struct ClassSpace {
 
 impl Drop for ClassSpace {
     fn drop(self) {
-        let ClassSpace { defs: _defs, params: _params } = self;
+        let ClassSpace {
+            defs: _defs,
+            params: _params,
+        } = self;
     }
 }
