@@ -1,5 +1,6 @@
 -- The tiles that come by edges, put to those that a task starts on.
-use Rattle.std.proofs.Common.{◌≡◌, ℕ, zero, suc, ◌+◌, ◌≤◌, ℤ, cond, List, [], ◌∷◌, ◌++◌, length, drop, refl, ap, sym, ◌∙◌, append_assoc, add-one, Option, Some, None, slice_get, slice_set, arith}
+use Rattle.std.proofs.Common.{◌≡◌, ℕ, zero, suc, ◌+◌, ◌≤◌, ℤ, Bool, true, false, cond, List, [], ◌∷◌, ◌++◌, length, drop, refl, ap, sym, ◌∙◌, append_assoc, add-one, Option, Some, None, slice_get, slice_set, arith}
+use Rattle.std.specs.Prelude.{option_map}
 use Rattle.std.specs.Option.{option_map_or}
 use Rattle.ptg_base.specs.Task.{Task}
 use Rattle.ptg_base.specs.declared.edge.Edge.{Edge}
@@ -18,7 +19,7 @@ use Rattle.dep_iter.specs.Tasks.{flows_of, locals_of}
 use Rattle.dep_iter.specs.Active.{flow_ins}
 use Rattle.dep_iter.specs.Edges.{data_source, source_among, source_at}
 use Rattle.flow_meaning.specs.Starting.{Delivery, starting_tile, tile_from, tiles_from}
-use Rattle.flow_core.specs.Inputs.{edge_into, edge_of_source, nothing_delivered}
+use Rattle.flow_core.specs.Inputs.{edge_into, edge_of_source, edges_from, nothing_delivered, source_of}
 use Rattle.flow_core.proofs.Rows.{drop_at}
 
 -- the edge that is the source of a flow goes to that flow of the task
@@ -126,3 +127,49 @@ same_edge_item d e q = ap inside q
     inside : Item → Edge
     inside (item.Edge x) = x
     inside (item.Write w) = d
+
+-- what a flow starts on follows from its source, and so does the edge that brings it
+pub tile_of_source : (P : Plan) (G : Data) (d : Delivery) (t : Task) (n : ℕ) (f : FlowPlan) → tile_from P G d f (source_of P t n f) ≡ starting_tile P G d t n f
+tile_of_source P G d t n f = by (is_data (Some f.kind))
+  where
+    by : (b : Bool) → tile_from P G d f (cond b (data_source P t n) source.Null) ≡ cond b (tile_from P G d f (data_source P t n)) None
+    by true = refl
+    by false = refl
+
+pub edge_of_its_source : (P : Plan) (t : Task) (n : ℕ) (f : FlowPlan) → edge_of_source (source_of P t n f) ≡ edge_into P t n f
+edge_of_its_source P t n f = by (is_data (Some f.kind))
+  where
+    by : (b : Bool) → edge_of_source (cond b (data_source P t n) source.Null) ≡ cond b (edge_of_source (data_source P t n)) None
+    by true = refl
+    by false = refl
+
+-- an edge that is seen as an item
+pub no_item : (o : Option Edge) → option_map (λ e. item.Edge e) o ≡ None → o ≡ None
+no_item None h = refl
+no_item (Some e) h = absurd cc
+
+pub an_item : (o : Option Edge) (i : Item) → option_map (λ e. item.Edge e) o ≡ Some i → (e : Edge) × (o ≡ Some e) × (item.Edge e ≡ i)
+an_item None i h = absurd cc
+an_item (Some e) i h = (e, refl, cc)
+
+-- the first of the edges to these flows, and the others
+pub record HasFirst (P : Plan) (t : Task) (n : ℕ) (fs : List FlowPlan) (x : Option Item) (xs : List (Option Item)) : Type 0 where
+  pub flow : FlowPlan
+  pub others : List FlowPlan
+  pub split : fs ≡ flow ∷ others
+  pub first : x ≡ option_map (λ e. item.Edge e) (edge_into P t n flow)
+  pub rest : xs ≡ edges_from P t (n + 1) others
+
+pub first_edge : (P : Plan) (t : Task) (n : ℕ) (fs : List FlowPlan) (x : Option Item) (xs : List (Option Item)) → x ∷ xs ≡ edges_from P t n fs → HasFirst P t n fs x xs
+first_edge P t n [] x xs h = absurd cc
+first_edge P t n (f ∷ fs) x xs h =
+    let rest : xs ≡ edges_from P t (suc n) fs = cc in
+    record { flow = f; others = fs; split = refl; first = cc; rest = rest ∙ ap (λ k. edges_from P t k fs) (sym (add-one n)) }
+
+pub no_edges : (P : Plan) (t : Task) (n : ℕ) (fs : List FlowPlan) (xs : List (Option Item)) → length xs ≡ 0 → xs ≡ edges_from P t n fs → fs ≡ []
+no_edges P t n [] xs none h = refl
+no_edges P t n (f ∷ fs) xs none h = absurd (omega (arith, ap length h, none))
+
+pub length-edges_from : (P : Plan) (t : Task) (n : ℕ) (fs : List FlowPlan) → length (edges_from P t n fs) ≡ length fs
+length-edges_from P t n [] = refl
+length-edges_from P t n (f ∷ fs) = ap suc (length-edges_from P t (suc n) fs)

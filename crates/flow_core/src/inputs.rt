@@ -1,12 +1,15 @@
 //! The tiles that a task starts on.
 
-ghost use Rattle.std.specs.Prelude.{◌≡◌, ◌≢◌, ℤ, ◌+◌, ◌<◌, ◌≤◌, [], ◌∷◌, ◌++◌, drop, length, slice_get, slice_set, IfOk, OnOk, IsTrue, List, Option, Some};
+ghost use Rattle.std.specs.Prelude.{◌≡◌, ◌≢◌, ℤ, ◌+◌, ◌<◌, ◌≤◌, [], ◌∷◌, ◌++◌, length, option_map, slice_set, IfOk, OnOk, IsTrue, List, Option, Some};
 ghost use Rattle.std.specs.Option.{option_copied};
 ghost use Rattle.plan_core.specs.Kinds as kinds;
 ghost use Rattle.dep_iter.specs.Tasks.{IsTask};
-ghost use Rattle.dep_iter.specs.declared.source.Source.{Source as SourceValue};
 ghost use Rattle.flow_meaning.specs.Starting as starting;
-ghost use Rattle.flow_core.specs.Inputs.{delivered_by, edge_into, edge_of_source, has_datatype, have_datatypes, nothing_delivered};
+ghost use Rattle.flow_core.specs.Inputs as inputs;
+ghost use Rattle.flow_core.specs.Inputs.{delivered_by, edge_into, edge_of_source, edges_from, has_datatype, have_datatypes, nothing_delivered};
+ghost use Rattle.ptg_base.specs.Task.{Task};
+ghost use Rattle.ptg_base.specs.declared.edge.Item.TheVariants as item;
+ghost use Rattle.plan_core.specs.declared.plan.Plan.{Plan as PlanValue};
 ghost use Rattle.flow_core.specs.Kept.{TakesOnlyTo};
 ghost use Rattle.coll_data.specs.Data.{Data};
 ghost use Rattle.ptg_base.specs.declared.edge.Edge.{Edge as EdgeValue};
@@ -17,7 +20,7 @@ use crate::sent_items::SentItems;
 use coll_data::Given;
 use dep_iter::{Source, data_source, flows_of};
 use plan_core::{FlowPlan, Plan};
-use ptg_base::{Edge, Item, OutOfMemory, TaskId, Tile};
+use ptg_base::{Item, OutOfMemory, TaskId, Tile};
 use std::alloc::Global;
 use term_core::FlowKind;
 
@@ -77,76 +80,37 @@ fn tile_from(
     alloc: Global,
     start: &Start,
     flow: &FlowPlan,
-    source: Source,
+    source: &Source,
 ) -> Result<Option<Tile>, OutOfMemory>
     requires { IsTrue (has_datatype start.now.plan.now flow.now) }
-    ensures { IfOk result (λ tile. tile ≡ starting.tile_from start.now.plan.now start.now.given.now nothing_delivered flow.now source) }
+    ensures { IfOk result (λ tile. tile ≡ starting.tile_from start.now.plan.now start.now.given.now nothing_delivered flow.now source.now) }
 {
     match source {
         Source::Task(_) => Ok(None),
-        Source::Place(place) => copy_if_any(alloc, start.given.tile(&place)),
+        Source::Place(place) => copy_if_any(alloc, start.given.tile(place)),
         Source::New => Ok(Some(new_tile(alloc, start.plan, flow)?)),
         Source::Null => Ok(None),
         Source::Nothing => unsourced_tile(alloc, start.plan, flow),
     }
 }
 
-// The tile that a flow of a task starts on, unless it comes by an edge.
-fn starting_tile(
-    alloc: Global,
-    start: &Start,
-    number: u8,
-    flow: &FlowPlan,
-) -> Result<Option<Tile>, OutOfMemory>
-    requires task { IsTask start.now.plan.now start.now.task.now }
-    requires datatype { IsTrue (has_datatype start.now.plan.now flow.now) }
-    ensures { IfOk result (λ tile. tile ≡ starting.starting_tile start.now.plan.now start.now.given.now nothing_delivered start.now.task.now number flow.now) }
+// The source of a flow of a task; a CTL flow has none.
+fn source_of(start: &Start, number: u8, flow: &FlowPlan) -> Source
+    requires { IsTask start.now.plan.now start.now.task.now }
+    ensures { result ≡ inputs.source_of start.now.plan.now start.now.task.now number flow.now }
 {
     if !is_data(flow.kind) {
-        return Ok(None);
+        return Source::Null;
     }
-    let source = data_source(start.plan, start.task, number);
-    tile_from(alloc, start, flow, source)
-}
-
-// Adds the tile that each of these flows starts on, which are numbered from `number` on. One that comes by an edge is left out.
-fn push_tiles(
-    alloc: Global,
-    start: &Start,
-    number: u8,
-    flows: &[FlowPlan],
-    tiles: &mut Vec<Option<Tile>>,
-) -> Result<(), OutOfMemory>
-    requires task { IsTask start.now.plan.now start.now.task.now }
-    requires at_most { number + length flows.now ≤ 8 }
-    requires datatypes { IsTrue (have_datatypes start.now.plan.now flows.now) }
-    ensures { OnOk result (tiles.new.items ≡ tiles.old.items ++ starting.tiles_from start.now.plan.now start.now.given.now nothing_delivered start.now.task.now number flows.now) }
-{
-    let Some((flow, others)) = flows.split_first() else {
-        return Ok(());
-    };
-    let tile = starting_tile(alloc, start, number, flow)?;
-    tiles.push(tile)?;
-    push_tiles(alloc, start, number + 1, others, tiles)
-}
-
-// The tiles that a task starts on, but for those that come by edges: one place for each of its flows, in order.
-pub(crate) fn own_tiles(alloc: Global, start: &Start) -> Result<Vec<Option<Tile>>, OutOfMemory>
-    requires { IsTask start.now.plan.now start.now.task.now }
-    ensures { IfOk result (λ tiles. tiles.items ≡ starting.starting_tiles start.now.plan.now start.now.given.now nothing_delivered start.now.task.now) }
-{
-    let mut tiles = Vec::new(alloc);
-    let flows = flows_of(start.plan, start.task);
-    push_tiles(alloc, start, 0, flows, &mut tiles)?;
-    Ok(tiles)
+    data_source(start.plan, start.task, number)
 }
 
 // The edge that a source is.
-fn edge_of(source: Source) -> Option<Edge>
-    ensures { result ≡ edge_of_source source }
+fn edge_of(source: Source) -> Option<Item>
+    ensures { result ≡ option_map (λ e. item.Edge e) (edge_of_source source) }
 {
     match source {
-        Source::Task(edge) => Some(edge),
+        Source::Task(edge) => Some(Item::Edge(edge)),
         Source::Place(_) => None,
         Source::New => None,
         Source::Null => None,
@@ -154,15 +118,51 @@ fn edge_of(source: Source) -> Option<Edge>
     }
 }
 
-// The edge that brings the tile of a flow of a task, if one does.
-fn edge_to(plan: &Plan, t: &TaskId, number: u8, flow: &FlowPlan) -> Option<Edge>
-    requires { IsTask plan.now t.now }
-    ensures { result ≡ edge_into plan.now t.now number flow.now }
+// What a task starts on, one place for each of its flows: the tiles that come by no edge, and the edges that bring the others.
+#[derive(Drop)]
+pub(crate) struct Inputs {
+    pub(crate) tiles: Vec<Option<Tile>>,
+    pub(crate) edges: Vec<Option<Item>>,
+}
+
+// Adds what each of these flows starts on, which are numbered from `number` on.
+fn push_inputs(
+    alloc: Global,
+    start: &Start,
+    number: u8,
+    flows: &[FlowPlan],
+    inputs: &mut Inputs,
+) -> Result<(), OutOfMemory>
+    requires task { IsTask start.now.plan.now start.now.task.now }
+    requires at_most { number + length flows.now ≤ 8 }
+    requires datatypes { IsTrue (have_datatypes start.now.plan.now flows.now) }
+    ensures tiles { OnOk result (inputs.new.tiles.items ≡ inputs.old.tiles.items ++ starting.tiles_from start.now.plan.now start.now.given.now nothing_delivered start.now.task.now number flows.now) }
+    ensures edges { OnOk result (inputs.new.edges.items ≡ inputs.old.edges.items ++ edges_from start.now.plan.now start.now.task.now number flows.now) }
 {
-    if !is_data(flow.kind) {
-        return None;
-    }
-    edge_of(data_source(plan, t, number))
+    let Some((flow, others)) = flows.split_first() else {
+        return Ok(());
+    };
+    let source = source_of(start, number, flow);
+    let tile = tile_from(alloc, start, flow, &source)?;
+    inputs.tiles.push(tile)?;
+    inputs.edges.push(edge_of(source))?;
+    push_inputs(alloc, start, number + 1, others, inputs)
+}
+
+// What a task starts on. Where each of its flows comes from is asked once.
+pub(crate) fn inputs_of(alloc: Global, start: &Start) -> Result<Inputs, OutOfMemory>
+    requires { IsTask start.now.plan.now start.now.task.now }
+    ensures tiles { IfOk result (λ found. found.tiles.items ≡ starting.starting_tiles start.now.plan.now start.now.given.now nothing_delivered start.now.task.now) }
+    ensures edges { IfOk result (λ found. found.edges.items ≡ edges_from start.now.plan.now start.now.task.now 0 (tasks.flows_of start.now.plan.now start.now.task.now)) }
+    ensures at_most { IfOk result (λ found. length found.edges.items ≤ 8) }
+{
+    let mut found = Inputs {
+        tiles: Vec::new(alloc),
+        edges: Vec::new(alloc),
+    };
+    let flows = flows_of(start.plan, start.task);
+    push_inputs(alloc, start, 0, flows, &mut found)?;
+    Ok(found)
 }
 
 // Sets the tile of a flow.
@@ -173,52 +173,41 @@ fn set_tile(tiles: &mut Vec<Option<Tile>>, at: usize, tile: Option<Tile>)
     tiles[at] = tile;
 }
 
-// Takes the tile of a flow of a task, if it comes by an edge.
-fn take_tile(
-    plan: &Plan,
-    t: &TaskId,
-    number: u8,
-    sent: &mut SentItems,
-    tiles: &mut Vec<Option<Tile>>,
-)
-    requires task { IsTask plan.now t.now }
-    requires flow { number < length (tasks.flows_of plan.now t.now) }
-    requires places { length tiles.old.items ≡ length (tasks.flows_of plan.now t.now) }
-    ensures tiles { (G : Data) (before : List (Option (List ℤ))) (f : FlowValue) (rest : List FlowValue) → slice_get (tasks.flows_of plan.now t.now) number ≡ Some f → length before ≡ number → tiles.old.items ≡ before ++ starting.tiles_from plan.now G nothing_delivered t.now number (f ∷ rest) → tiles.new.items ≡ (before ++ starting.starting_tile plan.now G (delivered_by sent.old.edges) t.now number f ∷ []) ++ starting.tiles_from plan.now G nothing_delivered t.now (number + 1) rest }
-    ensures others { (e : EdgeValue) → e.in_flow ≢ number → delivered_by sent.new.edges e ≡ delivered_by sent.old.edges e }
+// Takes the tile of a flow, if it comes by an edge.
+fn take_tile(edge: &Option<Item>, number: u8, sent: &mut SentItems, tiles: &mut Vec<Option<Tile>>)
+    requires places { number < length tiles.old.items }
+    ensures tiles { (P : PlanValue) (G : Data) (t : Task) (before : List (Option (List ℤ))) (f : FlowValue) (rest : List FlowValue) → edge.now ≡ option_map (λ e. item.Edge e) (edge_into P t number f) → length before ≡ number → tiles.old.items ≡ before ++ starting.tiles_from P G nothing_delivered t number (f ∷ rest) → tiles.new.items ≡ (before ++ starting.starting_tile P G (delivered_by sent.old.edges) t number f ∷ []) ++ starting.tiles_from P G nothing_delivered t (number + 1) rest }
+    ensures others { (P : PlanValue) (t : Task) (f : FlowValue) → edge.now ≡ option_map (λ e. item.Edge e) (edge_into P t number f) → (e : EdgeValue) → e.in_flow ≢ number → delivered_by sent.new.edges e ≡ delivered_by sent.old.edges e }
+    ensures kept { (P : PlanValue) (t : Task) (f : FlowValue) → edge.now ≡ option_map (λ e. item.Edge e) (edge_into P t number f) → TakesOnlyTo t sent.old.edges sent.new.edges }
     ensures sends { sent.new.sends ≡ sent.old.sends }
     ensures writes { sent.new.writes ≡ sent.old.writes }
-    ensures kept { TakesOnlyTo t.now sent.old.edges sent.new.edges }
     ensures places { length tiles.new.items ≡ length tiles.old.items }
 {
-    let at = number as usize;
-    let flow = &flows_of(plan, t)[at];
-    let edge = match edge_to(plan, t, number, flow) {
+    let edge = match edge {
         Some(edge) => edge,
         None => return,
     };
-    set_tile(tiles, at, sent.take(&Item::Edge(edge)));
+    set_tile(tiles, number as usize, sent.take(edge));
 }
 
-// Takes the tiles that come by edges, for the flows of a task from `number` on.
+// Takes the tiles that come by these edges, for the flows of a task from `number` on.
 pub(crate) fn take_tiles(
-    plan: &Plan,
-    t: &TaskId,
+    edges: &[Option<Item>],
     number: u8,
     sent: &mut SentItems,
     tiles: &mut Vec<Option<Tile>>,
 )
-    requires task { IsTask plan.now t.now }
-    requires places { length tiles.old.items ≡ length (tasks.flows_of plan.now t.now) }
-    ensures tiles { (G : Data) (before : List (Option (List ℤ))) (fs : List FlowValue) → drop number (tasks.flows_of plan.now t.now) ≡ fs → length before ≡ number → tiles.old.items ≡ before ++ starting.tiles_from plan.now G nothing_delivered t.now number fs → tiles.new.items ≡ before ++ starting.tiles_from plan.now G (delivered_by sent.old.edges) t.now number fs }
+    requires at_most { number + length edges.now ≤ 8 }
+    requires places { number + length edges.now ≤ length tiles.old.items }
+    ensures tiles { (P : PlanValue) (G : Data) (t : Task) (before : List (Option (List ℤ))) (fs : List FlowValue) → edges.now ≡ edges_from P t number fs → length before ≡ number → tiles.old.items ≡ before ++ starting.tiles_from P G nothing_delivered t number fs → tiles.new.items ≡ before ++ starting.tiles_from P G (delivered_by sent.old.edges) t number fs }
+    ensures kept { (P : PlanValue) (t : Task) (fs : List FlowValue) → edges.now ≡ edges_from P t number fs → TakesOnlyTo t sent.old.edges sent.new.edges }
     ensures sends { sent.new.sends ≡ sent.old.sends }
     ensures writes { sent.new.writes ≡ sent.old.writes }
-    ensures kept { TakesOnlyTo t.now sent.old.edges sent.new.edges }
     ensures places { length tiles.new.items ≡ length tiles.old.items }
 {
-    if number as usize >= flows_of(plan, t).len() {
+    let Some((edge, others)) = edges.split_first() else {
         return;
-    }
-    take_tile(plan, t, number, sent, tiles);
-    take_tiles(plan, t, number + 1, sent, tiles)
+    };
+    take_tile(edge, number, sent, tiles);
+    take_tiles(others, number + 1, sent, tiles)
 }

@@ -24,7 +24,7 @@ mod quiescent;
 
 use crate::arrivals::{count_item, number_at};
 use crate::body::{End, run_task};
-use crate::inputs::{Start, copy_if_any, own_tiles, take_tiles};
+use crate::inputs::{Start, copy_if_any, inputs_of, take_tiles};
 use crate::outputs::{has_outputs, outputs_of, tile_at, trap_of};
 use crate::possible::{copy_of_item, copy_of_task, is_item, item_flow, sender};
 use crate::sent_items::SentItems;
@@ -168,8 +168,9 @@ impl State {
             given,
             task: t,
         };
-        let mut tiles = own_tiles(self.alloc, &start)?;
-        take_tiles(plan, t, 0, &mut self.sent, &mut tiles);
+        let found = inputs_of(self.alloc, &start)?;
+        let mut tiles = found.tiles;
+        take_tiles(found.edges.as_slice(), 0, &mut self.sent, &mut tiles);
         let end = run_task(plan, t, tiles);
         let trap = trap_of(&end);
         mark(&mut self.claims, t, end);

@@ -1,4 +1,4 @@
-use Rattle.std.proofs.Common.{◌≡◌, [], length, refl, ap, sym, subst, ◌∙◌, None, Some}
+use Rattle.std.proofs.Common.{◌≡◌, [], length, refl, ap, sym, subst, ◌∙◌, None, Some, arith}
 use Rattle.std.specs.Map.{lookup}
 use Rattle.ptg_base.specs.TaskComparing.{same_task}
 use Rattle.ptg_base.specs.declared.edge.Edge.{Edge}
@@ -15,20 +15,24 @@ use Rattle.flow_core.specs.RunState.{RunState, mark_of}
 use Rattle.flow_core.proofs.Fitting.{counts_end, end_fits, ended_run, running_end, running_task}
 use Rattle.flow_core.proofs.Kept.{kept_end, kept_tile, unread}
 use Rattle.flow_core.proofs.Starting.{length-starting_tiles, ran}
+use Rattle.flow_core.proofs.Taking.{length-edges_from}
 use Rattle.flow_core.proofs.state.State.finish.Goals as goal
 
-pub own_tiles-requires : goal.own_tiles-requires
-own_tiles-requires c =
+pub inputs_of-requires : goal.inputs_of-requires
+inputs_of-requires c =
     subst (λ P. IsTask P c.args.t.now) (sym c.plan-plan.ensures.same)
     (running_task c.args.m.now c.args.given.now c.plan-plan.ensures.consistent c.args.self.now c.requires.fits c.args.t.now c.requires.running)
 
-pub take_tiles-requires-clause-task : goal.take_tiles-requires-clause-task
-take_tiles-requires-clause-task c =
-    subst (λ P. IsTask P c.args.t.now) (sym c.plan-plan.ensures.same)
-    (running_task c.args.m.now c.args.given.now c.plan-plan.ensures.consistent c.args.self.now c.requires.fits c.args.t.now c.requires.running)
-
-pub take_tiles-requires-clause-places : goal.take_tiles-requires-clause-places
-take_tiles-requires-clause-places c = ap length c.in_ok-tiles.ensures ∙ length-starting_tiles c.plan-plan.result.now c.args.given.now nothing_delivered c.args.t.now
+pub take_tiles-requires : goal.take_tiles-requires
+take_tiles-requires c =
+    let P = c.plan-plan.result.now in
+    let t = c.args.t.now in
+    let edges = c.as_slice.ensures.value ∙ c.in_ok-found.ensures.edges in
+    let tiles = ap length c.in_ok-found.ensures.tiles ∙ length-starting_tiles P c.args.given.now nothing_delivered t in
+    record {
+      at_most = omega (arith, ap length c.as_slice.ensures.value, c.in_ok-found.ensures.at_most);
+      places = omega (arith, ap length edges, length-edges_from P t 0 (flows_of P t), tiles);
+    }
 
 pub run_task-end-requires-clause-task : goal.run_task-end-requires-clause-task
 run_task-end-requires-clause-task c =
@@ -36,7 +40,7 @@ run_task-end-requires-clause-task c =
     (running_task c.args.m.now c.args.given.now c.plan-plan.ensures.consistent c.args.self.now c.requires.fits c.args.t.now c.requires.running)
 
 pub run_task-end-requires-clause-flows : goal.run_task-end-requires-clause-flows
-run_task-end-requires-clause-flows c = c.take_tiles.ensures.places ∙ ap length c.in_ok-tiles.ensures ∙ length-starting_tiles c.plan-plan.result.now c.args.given.now nothing_delivered c.args.t.now
+run_task-end-requires-clause-flows c = c.take_tiles.ensures.places ∙ ap length c.in_ok-found.ensures.tiles ∙ length-starting_tiles c.plan-plan.result.now c.args.given.now nothing_delivered c.args.t.now
 
 pub invariant_of-self : goal.invariant_of-self
 invariant_of-self c =
@@ -44,8 +48,10 @@ invariant_of-self c =
     let claims = c.self.inside.claims.entries in
     let sent = c.self.inside.sent in
     let end = c.run_task-end.result in
+    let P = c.plan-plan.result.now in
+    let edges = c.as_slice.ensures.value ∙ c.in_ok-found.ensures.edges in
     let running : lookup (same_task t) claims ≡ Some None = ap (λ (s : RunState). mark_of s t) c.self.view_is ∙ c.requires.running in
-    let ends = kept_end claims t end running sent c.take_tiles.new.sent c.self.invariant.tiles c.take_tiles.ensures.kept c.take_tiles.ensures.sends c.take_tiles.ensures.writes in
+    let ends = kept_end claims t end running sent c.take_tiles.new.sent c.self.invariant.tiles (c.take_tiles.ensures.kept P t (flows_of P t) edges) c.take_tiles.ensures.sends c.take_tiles.ensures.writes in
     record {
       counts = λ u none.
           counts_end c.self.inside.arrived.entries claims sent.sends t end c.self.invariant.counts u (ap (lookup (same_task u)) (sym c.mark.ensures) ∙ none) ∙ ap (edges_to u) (sym c.take_tiles.ensures.sends);
@@ -63,7 +69,8 @@ returns-clause-ok c =
     let sent = c.self.inside.sent in
     let con = c.plan-plan.ensures.consistent in
     let running : lookup (same_task t) claims ≡ Some None = ap (λ (s : RunState). mark_of s t) c.self.view_is ∙ c.requires.running in
-    let tiles : c.take_tiles.new.tiles.items ≡ starting_tiles P G (delivered_by sent.edges) t = c.take_tiles.ensures.tiles G [] (flows_of P t) refl refl c.in_ok-tiles.ensures in
+    let edges = c.as_slice.ensures.value ∙ c.in_ok-found.ensures.edges in
+    let tiles : c.take_tiles.new.tiles.items ≡ starting_tiles P G (delivered_by sent.edges) t = c.take_tiles.ensures.tiles P G t [] (flows_of P t) edges refl c.in_ok-found.ensures.tiles in
     let same = λ (e : Edge) (to : e.to ≡ t). kept_tile claims sent c.self.invariant.tiles e (unread claims t e running to) ∙ ap (λ (s : RunState). first_tile (item.Edge e) s.sends) c.self.view_is in
     let end = ran c.args.m.now P G r (delivered_by sent.edges) t c.take_tiles.new.tiles.items c.run_task-end.result c.plan-plan.ensures.same same tiles c.run_task-end.ensures in
     let meant : ended c.args.m.now G t ≡ Some c.run_task-end.result = running_end c.args.m.now G con r c.requires.fits t c.requires.running ∙ end in
@@ -81,7 +88,8 @@ returns-clause-fits c =
     let sent = c.self.inside.sent in
     let con = c.plan-plan.ensures.consistent in
     let running : lookup (same_task t) claims ≡ Some None = ap (λ (s : RunState). mark_of s t) c.self.view_is ∙ c.requires.running in
-    let tiles : c.take_tiles.new.tiles.items ≡ starting_tiles P G (delivered_by sent.edges) t = c.take_tiles.ensures.tiles G [] (flows_of P t) refl refl c.in_ok-tiles.ensures in
+    let edges = c.as_slice.ensures.value ∙ c.in_ok-found.ensures.edges in
+    let tiles : c.take_tiles.new.tiles.items ≡ starting_tiles P G (delivered_by sent.edges) t = c.take_tiles.ensures.tiles P G t [] (flows_of P t) edges refl c.in_ok-found.ensures.tiles in
     let same = λ (e : Edge) (to : e.to ≡ t). kept_tile claims sent c.self.invariant.tiles e (unread claims t e running to) ∙ ap (λ (s : RunState). first_tile (item.Edge e) s.sends) c.self.view_is in
     let end = ran c.args.m.now P G r (delivered_by sent.edges) t c.take_tiles.new.tiles.items c.run_task-end.result c.plan-plan.ensures.same same tiles c.run_task-end.ensures in
     let meant : ended c.args.m.now G t ≡ Some c.run_task-end.result = running_end c.args.m.now G con r c.requires.fits t c.requires.running ∙ end in
