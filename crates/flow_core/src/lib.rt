@@ -16,6 +16,6 @@ mod sent_items;
 mod spaces;
 mod state;
 
-pub use laws::calls_are_events;
+pub use laws::{calls_are_events, items_of_ctl_flows_carry_no_tile};
 pub use one_thread::run_one;
 pub use state::State;
