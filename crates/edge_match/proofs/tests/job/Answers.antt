@@ -96,5 +96,5 @@ small a x d r h k =
 
 pub new-requires : goal.new-requires
 new-requires c =
-    rw (c.classes.view_is, c.spaces.view_is, c.in_ok-classes.ensures, c.in_ok-ring.ensures, c.in_ok-tile.ensures, c.in_ok-on_all.ensures, c.in_ok-on_all-2.ensures, c.in_ok-on_tile.ensures, c.in_ok-on_tile-2.ensures, c.in_ok-spaces.ensures, c.in_ok-three_tasks.ensures, c.in_ok-three_tasks-2.ensures, c.in_ok-colls.ensures, c.in_ok-one.ensures)
+    rw (c.in_ok-classes.ensures, c.in_ok-ring.ensures, c.in_ok-tile.ensures, c.in_ok-on_all.ensures, c.in_ok-on_all-2.ensures, c.in_ok-on_tile.ensures, c.in_ok-on_tile-2.ensures, c.in_ok-spaces.ensures, c.in_ok-three_tasks.ensures, c.in_ok-three_tasks-2.ensures, c.in_ok-colls.ensures, c.in_ok-one.ensures)
     (small _ _ _ c.args.rows c.requires.some c.requires.at_most)

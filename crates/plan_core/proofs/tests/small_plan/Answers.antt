@@ -82,4 +82,4 @@ small a x d m =
 
 pub new-requires-3 : goal.new-requires-3
 new-requires-3 c =
-    rw (c.classes.view_is, c.spaces.view_is, c.in_ok-classes.ensures, c.in_ok-source.ensures, c.in_ok-sink.ensures, c.in_ok-on_task.ensures, c.in_ok-on_task-2.ensures, c.new.ensures, c.new-2.ensures, c.in_ok-spaces.ensures, c.in_ok-one_task.ensures, c.in_ok-one_task-2.ensures, c.in_ok-colls.ensures, c.in_ok-two.ensures) (small _ _ _ _)
+    rw (c.in_ok-classes.ensures, c.in_ok-source.ensures, c.in_ok-sink.ensures, c.in_ok-on_task.ensures, c.in_ok-on_task-2.ensures, c.new.ensures, c.new-2.ensures, c.in_ok-spaces.ensures, c.in_ok-one_task.ensures, c.in_ok-one_task-2.ensures, c.in_ok-colls.ensures, c.in_ok-two.ensures) (small _ _ _ _)
