@@ -1,5 +1,6 @@
-//! The verdict on small texts, and runs step by step.
+//! The verdict on small texts, runs step by step, and what one thread answers.
 
+mod one_thread;
 mod orders;
 mod stepwise;
 
