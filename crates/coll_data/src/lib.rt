@@ -10,6 +10,3 @@ pub use coll::Coll;
 pub use fault::{DataCode, DataFault, DataRefusal};
 pub use given::Given;
 pub use index::{tile_count, tile_index};
-
-#[cfg(test)]
-mod tests;

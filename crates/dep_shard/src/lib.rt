@@ -11,6 +11,3 @@ mod tile_list;
 pub use arrivals::Arrivals;
 pub use entry::Entry;
 pub use shard::{Arrived, Shard};
-
-#[cfg(test)]
-mod tests;

@@ -19,8 +19,6 @@ mod refusing;
 mod sending;
 mod task_at;
 mod tasks;
-#[cfg(test)]
-mod tests;
 mod totals;
 mod written;
 

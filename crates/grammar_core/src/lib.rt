@@ -4,8 +4,6 @@
 mod code;
 mod fault;
 mod laws;
-#[cfg(test)]
-mod tests;
 mod token;
 
 pub use code::Code;

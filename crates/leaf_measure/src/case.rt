@@ -1,7 +1,7 @@
 //! The cases that can be measured.
 use crate::count::Count;
 use crate::deques::{deep_deque, deque, thieves};
-use crate::shards::{best, by_task, fired, first_edges, last_edges, ready};
+use crate::shards::{best, by_task, fired, first_edges, last_edges, ready, trapped, written};
 use ptg_base::OutOfMemory;
 use std::alloc::Global;
 use std::sync::Wait;
@@ -22,6 +22,10 @@ pub enum Case {
     LastEdges,
     /// The same, and all tasks taken from the best to the last.
     Fired,
+    /// So many ready tasks that are taken and trap.
+    Trapped,
+    /// So many tiles written back.
+    Written,
     /// So many ids pushed to one deque and popped, in bursts.
     Deque,
     /// So many ids pushed to one deque, and then popped.
@@ -40,6 +44,8 @@ impl Case {
             "first_edges" => Some(Case::FirstEdges),
             "last_edges" => Some(Case::LastEdges),
             "fired" => Some(Case::Fired),
+            "trapped" => Some(Case::Trapped),
+            "written" => Some(Case::Written),
             "deque" => Some(Case::Deque),
             "deep_deque" => Some(Case::DeepDeque),
             "thieves" => Some(Case::Thieves),
@@ -62,6 +68,8 @@ pub fn measure<R: Threads + Wait + Sync>(
         Case::FirstEdges => first_edges(alloc, size),
         Case::LastEdges => last_edges(alloc, size),
         Case::Fired => fired(alloc, size),
+        Case::Trapped => trapped(alloc, size),
+        Case::Written => written(alloc, size),
         Case::Deque => deque(alloc, size),
         Case::DeepDeque => deep_deque(alloc, size),
         Case::Thieves => thieves(rt, alloc, size),

@@ -6,8 +6,9 @@ ghost use Rattle.leaf_measure.specs.Tasks.{task_of, HasNoneFrom, WaitFrom};
 use crate::count::Count;
 use crate::tasks::{priority, task};
 use dep_shard::{Arrived, Shard};
-use ptg_base::{Edge, OutOfMemory, TaskId, Tile};
+use ptg_base::{Edge, OutOfMemory, Place, TaskId, Tile, WriteBack};
 use std::alloc::Global;
+use term_core::Trap;
 
 // How many tasks a shard lets run and end.
 const MOST_TASKS: u64 = 1000000;
@@ -76,6 +77,27 @@ pub fn fired(alloc: Global, size: u32) -> Result<Vec<Count>, OutOfMemory> {
         Count::of("taken", taken),
         Count::of("entries", shard.len() as u64),
     ]?)
+}
+
+/// So many ready tasks are added, taken by their numbers, and trap.
+pub fn trapped(alloc: Global, size: u32) -> Result<Vec<Count>, OutOfMemory> {
+    let mut shard = Shard::new(alloc, &[])?;
+    shard.reserve(u64::from(size), &[], 0, u64::from(size))?;
+    add_ready(&mut shard, size)?;
+    trap_by_task(&mut shard, size)?;
+    Ok(vec![in alloc;
+        Count::of("trapped", count_trapped(&shard, size)),
+        Count::of("ended", shard.ended()),
+    ]?)
+}
+
+/// So many tiles are written back.
+pub fn written(alloc: Global, size: u32) -> Result<Vec<Count>, OutOfMemory> {
+    let mut shard = Shard::new(alloc, &[NUMBERS])?;
+    let tile = Tile::zeros(alloc, NUMBERS)?;
+    shard.reserve(0, &[u64::from(size)], u64::from(size), 0)?;
+    write_back(&mut shard, size, &tile)?;
+    Ok(vec![in alloc; Count::of("written", count_written(&shard, size))]?)
 }
 
 fn add_ready(shard: &mut Shard, size: u32) -> Result<(), OutOfMemory>
@@ -159,4 +181,62 @@ fn take_by_task(shard: &mut Shard, size: u32) -> u64 {
         }
     }
     taken
+}
+
+// A ready task is taken and traps.
+fn trap(shard: &mut Shard, task: &TaskId) -> Result<(), OutOfMemory> {
+    if shard.running() >= MOST_TASKS || shard.ended() >= MOST_TASKS {
+        return Ok(());
+    }
+    if shard.take_ready(task).is_none() {
+        return Ok(());
+    }
+    shard.trap(task, Trap::Divide)
+}
+
+fn trap_by_task(shard: &mut Shard, size: u32) -> Result<(), OutOfMemory> {
+    for number in 0..size {
+        trap(shard, &task(number))?;
+    }
+    Ok(())
+}
+
+// How many of the first tasks that trapped are in the list.
+fn count_trapped(shard: &Shard, size: u32) -> u64 {
+    let mut count: u64 = 0;
+    for number in 0..size {
+        if shard.trapped(number as usize).is_some() {
+            count = count.wrapping_add(1);
+        }
+    }
+    count
+}
+
+fn write_back(shard: &mut Shard, size: u32, tile: &Tile) -> Result<(), OutOfMemory>
+    requires tile { IsTileOf shard.old.elems 0 tile.now }
+{
+    for number in 0..size {
+        let write = WriteBack {
+            from: task(number),
+            flow: 0,
+            place: Place {
+                coll: 0,
+                i: i64::from(number),
+                j: 0,
+            },
+        };
+        shard.write(&write, 0, tile)?;
+    }
+    Ok(())
+}
+
+// How many of the first write-backs are in the list.
+fn count_written(shard: &Shard, size: u32) -> u64 {
+    let mut count: u64 = 0;
+    for number in 0..size {
+        if shard.written(number as usize).is_some() {
+            count = count.wrapping_add(1);
+        }
+    }
+    count
 }

@@ -3,8 +3,6 @@
 
 mod set;
 mod table;
-#[cfg(test)]
-mod tests;
 
 pub use set::NameSet;
 pub use table::NameTable;

@@ -12,6 +12,3 @@ pub use flow::{DepPlan, FlowPlan};
 pub use plan::Plan;
 pub use shape::Shape;
 pub use target::{Arg, Target};
-
-#[cfg(test)]
-mod tests;

@@ -1,13 +1,7 @@
 //! The program: the words, files and standard output of its process, handed to `ptg_main`.
 #![tactic(auto)]
 
-mod files;
-mod sink;
-mod words;
-
-use crate::files::OsFiles;
-use crate::sink::OsSink;
-use crate::words::words;
+use ptg_os::{OsFiles, OsSink, words};
 use ptg_top::{Status, ptg_main};
 use std::io;
 use std::process::ExitCode;
@@ -22,6 +16,3 @@ fn main(rt: HostRuntime) -> ExitCode {
     let status = ptg_main(alloc, words.as_slice(), &mut files, &mut out);
     ExitCode::from(status.code())
 }
-
-#[cfg(test)]
-mod tests;

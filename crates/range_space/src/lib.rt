@@ -8,8 +8,6 @@ mod numbers;
 mod size;
 mod steps;
 mod tasks;
-#[cfg(test)]
-mod tests;
 mod values;
 mod walk;
 mod well;

@@ -4,6 +4,3 @@
 mod pool;
 
 pub use pool::TilePool;
-
-#[cfg(test)]
-mod tests;
