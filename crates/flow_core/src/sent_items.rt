@@ -2,6 +2,7 @@
 
 ghost use Rattle.std.specs.Prelude.{◌≡◌, [], ◌∷◌, ◌++◌, IfOk, OnOk, OnErr, None, is_some, option_to_list};
 ghost use Rattle.ptg_base.specs.declared.edge.Item.{Item as ItemValue};
+ghost use Rattle.ptg_base.specs.declared.edge.Item.TheVariants as item;
 ghost use Rattle.flow_meaning.specs.Machine.{first_tile};
 ghost use Rattle.flow_core.specs.SentItems.{all_sent};
 ghost use Rattle.flow_core.specs.Kept as kept;
@@ -34,6 +35,21 @@ impl Model for SentItems {
     ghost view = { λ s. record { sends = s.history.sends; edges = all_sent s.edges.entries; writes = all_sent s.writes.entries } };
 }
 
+// Adds a write-back with its tile, if it has one.
+fn push_write_back(
+    write: WriteBack,
+    tile: Option<Tile>,
+    writes: &mut Vec<(WriteBack, Tile)>,
+) -> Result<(), OutOfMemory>
+    ensures { OnOk result (writes.new.items ≡ writes.old.items ++ option_to_list (write_with (item.Write write) tile)) }
+{
+    let Some(tile) = tile else {
+        return Ok(());
+    };
+    writes.push((write, tile))?;
+    Ok(())
+}
+
 // Adds an item with its tile, if it is a write-back and has one.
 fn push_write(
     item: Item,
@@ -42,14 +58,10 @@ fn push_write(
 ) -> Result<(), OutOfMemory>
     ensures { OnOk result (writes.new.items ≡ writes.old.items ++ option_to_list (write_with item tile)) }
 {
-    let Item::Write(write) = item else {
-        return Ok(());
-    };
-    let Some(tile) = tile else {
-        return Ok(());
-    };
-    writes.push((write, tile))?;
-    Ok(())
+    match item {
+        Item::Edge(_) => Ok(()),
+        Item::Write(write) => push_write_back(write, tile, writes),
+    }
 }
 
 // Whether an item is a write-back.

@@ -31,22 +31,37 @@ use goal_count::goal;
 use ptg_base::{OutOfMemory, Seq, TaskId};
 use range_space::Space;
 use run_answer::{traps_in_task_order, waits_in_task_order, with_written};
+use term_core::Trap;
+
+// Adds the row of a task that has this cause of a trap.
+fn push_trap_row(t: &TaskId, cause: Trap, rows: &mut Vec<TrapRow>) -> Result<(), OutOfMemory>
+    ensures { OnOk result (rows.new.items ≡ rows.old.items ++ record { task = t.now; cause = cause } ∷ []) }
+{
+    rows.push(TrapRow {
+        task: copy_of_task(t),
+        cause,
+    })?;
+    Ok(())
+}
+
+// Adds the row of a task that ended so, if it trapped.
+fn push_trap_of_end(t: &TaskId, end: &End, rows: &mut Vec<TrapRow>) -> Result<(), OutOfMemory>
+    ensures { OnOk result (rows.new.items ≡ rows.old.items ++ trap_rows t.now (Some end.now)) }
+{
+    match end {
+        Ok(_) => Ok(()),
+        Err(cause) => push_trap_row(t, *cause, rows),
+    }
+}
 
 // Adds the row of a claimed task if it has trapped.
 fn push_trap(t: &TaskId, end: &Option<End>, rows: &mut Vec<TrapRow>) -> Result<(), OutOfMemory>
     ensures { OnOk result (rows.new.items ≡ rows.old.items ++ trap_rows t.now end.now) }
 {
-    let Some(end) = end else {
-        return Ok(());
-    };
-    let Err(cause) = end else {
-        return Ok(());
-    };
-    rows.push(TrapRow {
-        task: copy_of_task(t),
-        cause: *cause,
-    })?;
-    Ok(())
+    match end {
+        Some(end) => push_trap_of_end(t, end, rows),
+        None => Ok(()),
+    }
 }
 
 impl State {
