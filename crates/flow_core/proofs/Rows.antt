@@ -163,21 +163,7 @@ answer_trapped P G S rows are some = by rows some ∙ ap (state_answer_by P G S)
     by [] some = absurd (some refl)
     by (row ∷ rows) some = refl
 
-pub answer_complete : (P : Plan) (G : Data) (S : MachineState) (rows : List TrapRow) (all : ℕ) (end : Data) → rows ≡ state_traps P G S → rows ≡ [] → length S.claims ≡ length (all_tasks P) → all ≡ length (all_tasks P) → end ≡ state_data G S
-    → Complete all end ≡ state_answer P G S
+-- the answer where no task has trapped
+pub answer_untrapped : (P : Plan) (G : Data) (S : MachineState) (rows : List TrapRow) → rows ≡ state_traps P G S → rows ≡ [] → state_answer_by P G S [] ≡ state_answer P G S
 unfolding state_answer
-answer_complete P G S rows all end are none every all_is end_is =
-    (λ i. Complete (all_is i) (end_is i))
-    ∙ sym (ap (λ b. cond b (Complete (length (all_tasks P)) (state_data G S)) (Stalled (length S.claims) (length (all_tasks P)) (waiting_rows P S))) (eq-eqb (length S.claims) (length (all_tasks P)) every))
-    ∙ ap (state_answer_by P G S) (sym none ∙ are)
-
-pub answer_stalled : (P : Plan) (G : Data) (S : MachineState) (rows : List TrapRow) (ran all : ℕ) (waits : List WaitRow) → rows ≡ state_traps P G S → rows ≡ [] → (ran ≡ all → ⊥) → ran ≡ length S.claims → all ≡ length (all_tasks P) → waits ≡ waiting_rows P S
-    → Stalled ran all waits ≡ state_answer P G S
-unfolding state_answer
-answer_stalled P G S rows ran all waits are none fewer ran_is all_is waits_are =
-    (λ i. Stalled (ran_is i) (all_is i) (waits_are i))
-    ∙ sym (ap (λ b. cond b (Complete (length (all_tasks P)) (state_data G S)) (Stalled (length S.claims) (length (all_tasks P)) (waiting_rows P S))) unequal)
-    ∙ ap (state_answer_by P G S) (sym none ∙ are)
-  where
-    unequal : (length S.claims == length (all_tasks P)) ≡ false
-    unequal = false_from_ne_true (length S.claims == length (all_tasks P)) (λ k. fewer (ran_is ∙ eqb-true (length S.claims) (length (all_tasks P)) k ∙ sym all_is))
+answer_untrapped P G S rows are none = ap (state_answer_by P G S) (sym none ∙ are)

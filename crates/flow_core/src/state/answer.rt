@@ -1,19 +1,20 @@
 //! The answer of a run in which nothing more can happen.
 
-ghost use Rattle.std.specs.Prelude.{◌≡◌, ◌<◌, ◌≤◌, ◌++◌, [], ◌∷◌, drop, length, map, IfOk, OnOk, List, slice_get, Some};
+ghost use Rattle.std.specs.Prelude.{◌≡◌, ◌<◌, ◌≤◌, ◌++◌, [], ◌∷◌, drop, length, map, IfOk, OnOk, List, slice_get, Some, unwrap_or};
 ghost use Rattle.ptg_base.specs.Task.{Task};
 ghost use Rattle.ptg_base.specs.TaskOrder.{in_task_order};
 ghost use Rattle.term_core.specs.declared.space.ClassSpace.{ClassSpace as ClassSpaceValue};
 ghost use Rattle.range_space.specs.Tasks as range;
 ghost use Rattle.coll_data.specs.Data.{Data};
 ghost use Rattle.plan_data.specs.Fit.{DataFit};
-ghost use Rattle.dep_iter.specs.Tasks.{IsTask, task, tasks_from};
+ghost use Rattle.dep_iter.specs.Tasks.{IsTask, all_tasks, task, tasks_from};
 ghost use Rattle.dep_iter.specs.Consistent.{IsConsistent};
 ghost use Rattle.flow_meaning.specs.declared.outcome.TrapRow.{TrapRow as TrapRowValue};
+ghost use Rattle.flow_meaning.specs.declared.outcome.Outcome.TheVariants.{Complete};
 ghost use Rattle.flow_meaning.specs.Answer as meaning;
 ghost use Rattle.flow_meaning.specs.Answer.{trap_rows};
 ghost use Rattle.flow_meaning.specs.Machine.{IsQuiescent};
-ghost use Rattle.flow_meaning.specs.StateAnswer.{state_data};
+ghost use Rattle.flow_meaning.specs.StateAnswer.{state_answer, state_answer_by, state_data};
 ghost use Rattle.flow_meaning.specs.Table.{waiting_rows};
 ghost use Rattle.flow_core.specs.RunState.{IsRunning, machine};
 ghost use Rattle.flow_core.specs.Fits.{Fits};
@@ -75,16 +76,47 @@ impl State {
     {
         a_quiescent_state_has_the_meaning();
         let _ = m.plan();
+        match self.incomplete(m)? {
+            Some(outcome) => Ok(outcome),
+            None => self.complete(m, given),
+        }
+    }
+
+    // The answer of a run that is not complete: its traps, or its stall. `None` where all tasks ran without a trap.
+    fn incomplete(&self, m: &Matched) -> Result<Option<Outcome>, OutOfMemory>
+        requires idle { (t : Task) → IsRunning self.now t → ⊥ }
+        requires fits { (G : Data) × Fits m.now G self.now }
+        requires consistent { IsConsistent m.now }
+        ensures { IfOk result (λ found. (G : Data) → Fits m.now G self.now → unwrap_or found (Complete (length (all_tasks m.now)) (state_data G (machine self.now))) ≡ state_answer m.now G (machine self.now)) }
+    {
         let traps = self.traps()?;
         if !traps.is_empty() {
-            return Ok(Outcome::Trapped(traps));
+            return Ok(Some(Outcome::Trapped(traps)));
         }
+        self.stall(m)
+    }
+
+    // The answer of a run without traps that has stalled. `None` where all tasks ran.
+    fn stall(&self, m: &Matched) -> Result<Option<Outcome>, OutOfMemory>
+        requires { (G : Data) × Fits m.now G self.now }
+        ensures { IfOk result (λ found. (G : Data) → unwrap_or found (Complete (length (all_tasks m.now)) (state_data G (machine self.now))) ≡ state_answer_by m.now G (machine self.now) []) }
+    {
         let ran = self.claims.len() as u64;
         let all = m.tasks();
         if ran == all {
-            return Ok(Outcome::Complete(all, self.final_data(m, given)?));
+            return Ok(None);
         }
-        Ok(Outcome::Stalled(ran, all, self.waits(m)?))
+        Ok(Some(Outcome::Stalled(ran, all, self.waits(m)?)))
+    }
+
+    // The answer of a run in which all tasks ran without a trap.
+    fn complete(self, m: &Matched, given: Given) -> Result<Outcome, OutOfMemory>
+        requires fits { Fits m.now given self }
+        requires known { DataFit m.now.colls m.now.elems given }
+        ensures { IfOk result (λ outcome. outcome ≡ Complete (length (all_tasks m.now)) (state_data given (machine self))) }
+    {
+        let all = m.tasks();
+        Ok(Outcome::Complete(all, self.final_data(m, given)?))
     }
 
     // The rows of the tasks that have trapped, in task order.
