@@ -1,6 +1,6 @@
 -- The rows of a run: its trapped tasks and its waiting tasks are those of the event machine.
 use Rattle.std.proofs.Common.{◌≡◌, ℕ, zero, suc, ◌<◌, ◌≤◌, Bool, true, false, ◌&&◌, ◌==◌, nat_lt, cond, is_some, List, [], ◌∷◌, ◌++◌, length, map, drop, refl, ap, sym, ◌∙◌, append_assoc, Option, Some, None, slice_get, eq-eqb, ◌⊎◌, inl, inr, arith}
-use Rattle.std.proofs.lemmas.Bool.{eqb-true, false_from_ne_true, false≢true, le-ltb, lt-ltb}
+use Rattle.std.proofs.lemmas.Bool.{eqb-true, false≢true, le-ltb, lt-ltb}
 use Rattle.std.proofs.lemmas.List.{append-nil}
 use Rattle.std.specs.Prelude.{unwrap_or}
 use Rattle.std.specs.List.{filter, flat_map}
@@ -20,12 +20,12 @@ use Rattle.dep_iter.specs.Edges.{goal}
 use Rattle.dep_iter.specs.Consistent.{IsConsistent}
 use Rattle.flow_meaning.specs.declared.outcome.TrapRow.{TrapRow}
 use Rattle.flow_meaning.specs.declared.outcome.WaitRow.{WaitRow}
-use Rattle.flow_meaning.specs.declared.outcome.Outcome.TheVariants.{Complete, Stalled, Trapped}
+use Rattle.flow_meaning.specs.declared.outcome.Outcome.TheVariants.{Trapped}
 use Rattle.flow_meaning.specs.Answer.{trap_rows}
 use Rattle.flow_meaning.specs.Counting.{as_number, count}
 use Rattle.flow_meaning.specs.Ending.{Ended}
 use Rattle.flow_meaning.specs.Machine.{MachineState, arrived, claim_count, end_in}
-use Rattle.flow_meaning.specs.StateAnswer.{state_answer, state_answer_by, state_data, state_traps}
+use Rattle.flow_meaning.specs.StateAnswer.{state_answer, state_answer_by, state_traps}
 use Rattle.flow_meaning.specs.Table.{is_waiting, waiting_rows, waiting_tasks}
 use Rattle.flow_meaning.proofs.Counting.{count-some}
 use Rattle.flow_core.specs.RunState.{IsRunning, RunState, end_of, machine, mark_of}

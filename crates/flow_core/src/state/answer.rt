@@ -10,6 +10,7 @@ ghost use Rattle.plan_data.specs.Fit.{DataFit};
 ghost use Rattle.dep_iter.specs.Tasks.{IsTask, all_tasks, task, tasks_from};
 ghost use Rattle.dep_iter.specs.Consistent.{IsConsistent};
 ghost use Rattle.flow_meaning.specs.declared.outcome.TrapRow.{TrapRow as TrapRowValue};
+ghost use Rattle.flow_meaning.specs.declared.outcome.Outcome.{Outcome as OutcomeValue};
 ghost use Rattle.flow_meaning.specs.declared.outcome.Outcome.TheVariants.{Complete};
 ghost use Rattle.flow_meaning.specs.Answer as meaning;
 ghost use Rattle.flow_meaning.specs.Answer.{trap_rows};
@@ -76,9 +77,36 @@ impl State {
     {
         a_quiescent_state_has_the_meaning();
         let _ = m.plan();
-        match self.incomplete(m)? {
-            Some(outcome) => Ok(outcome),
-            None => self.complete(m, given),
+        let found = self.incomplete(m);
+        self.complete_unless(m, given, found)
+    }
+
+    // Gives up a run and its data, with this answer.
+    fn ended_with(
+        self,
+        given: Given,
+        outcome: Result<Outcome, OutOfMemory>,
+    ) -> Result<Outcome, OutOfMemory>
+        ensures { result ≡ outcome }
+    {
+        outcome
+    }
+
+    // The answer that was found of a run that is not complete, or else that of a complete one.
+    fn complete_unless(
+        self,
+        m: &Matched,
+        given: Given,
+        found: Result<Option<Outcome>, OutOfMemory>,
+    ) -> Result<Outcome, OutOfMemory>
+        requires fits { Fits m.now given self }
+        requires known { DataFit m.now.colls m.now.elems given }
+        ensures { (all : OutcomeValue) → IfOk found (λ o. unwrap_or o (Complete (length (all_tasks m.now)) (state_data given (machine self))) ≡ all) → IfOk result (λ outcome. outcome ≡ all) }
+    {
+        match found {
+            Ok(None) => self.complete(m, given),
+            Ok(Some(outcome)) => self.ended_with(given, Ok(outcome)),
+            Err(error) => self.ended_with(given, Err(error)),
         }
     }
 
