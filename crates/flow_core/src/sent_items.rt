@@ -64,6 +64,20 @@ fn push_write(
     }
 }
 
+// The write-backs of a table, each with its tile if it has one, in the order of the table.
+fn write_backs_of(
+    table: IndexMap<Item, Option<Tile>>,
+    alloc: Global,
+) -> Result<Vec<(WriteBack, Tile)>, OutOfMemory>
+    ensures { IfOk result (λ writes. writes.items ≡ writes_among (all_sent table.entries)) }
+{
+    let mut writes = Vec::new(alloc);
+    for (item, tile) in table {
+        push_write(item, tile, &mut writes)?;
+    }
+    Ok(writes)
+}
+
 // Whether an item is a write-back.
 fn is_write(item: &Item) -> bool
     ensures { result ≡ kept.is_write item.now }
@@ -149,10 +163,6 @@ impl SentItems {
     pub(crate) fn into_writes(self, alloc: Global) -> Result<Vec<(WriteBack, Tile)>, OutOfMemory>
         ensures { IfOk result (λ writes. writes.items ≡ writes_among self.writes) }
     {
-        let mut writes = Vec::new(alloc);
-        for (item, tile) in self.writes {
-            push_write(item, tile, &mut writes)?;
-        }
-        Ok(writes)
+        write_backs_of(self.writes, alloc)
     }
 }

@@ -19,7 +19,7 @@ ghost use Rattle.flow_meaning.specs.StateAnswer.{state_answer, state_answer_by, 
 ghost use Rattle.flow_meaning.specs.Table.{waiting_rows};
 ghost use Rattle.flow_core.specs.RunState.{IsRunning, machine};
 ghost use Rattle.flow_core.specs.Fits.{Fits};
-ghost use Rattle.flow_core.specs.Rows.{claim_traps, waits_among};
+ghost use Rattle.flow_core.specs.Rows.{claim_traps, waits_among, writes_among};
 
 use crate::arrivals::number_at;
 use crate::body::End;
@@ -30,7 +30,7 @@ use coll_data::Given;
 use dep_iter::Matched;
 use flow_meaning::{Outcome, TrapRow, WaitRow, a_quiescent_state_has_the_meaning};
 use goal_count::goal;
-use ptg_base::{OutOfMemory, Seq, TaskId};
+use ptg_base::{OutOfMemory, Seq, TaskId, Tile, WriteBack};
 use range_space::Space;
 use run_answer::{traps_in_task_order, waits_in_task_order, with_written};
 use term_core::Trap;
@@ -238,7 +238,14 @@ impl State {
     {
         let _ = m.plan();
         let _ = given.colls();
-        let written = self.sent.into_writes(self.alloc)?;
+        let written = self.into_writes()?;
         Ok(with_written(given, written))
+    }
+
+    // The write-backs that were sent, each with its tile, in the order of the sends.
+    fn into_writes(self) -> Result<Vec<(WriteBack, Tile)>, OutOfMemory>
+        ensures { IfOk result (λ writes. writes.items ≡ writes_among self.sends) }
+    {
+        self.sent.into_writes(self.alloc)
     }
 }
