@@ -1,6 +1,6 @@
 -- The rows of a run: its trapped tasks and its waiting tasks are those of the event machine.
 use Rattle.std.proofs.Common.{◌≡◌, ℕ, zero, suc, ◌<◌, ◌≤◌, Bool, true, false, ◌&&◌, ◌==◌, nat_lt, cond, is_some, List, [], ◌∷◌, ◌++◌, length, map, drop, refl, ap, sym, ◌∙◌, append_assoc, Option, Some, None, slice_get, eq-eqb, ◌⊎◌, inl, inr, arith}
-use Rattle.std.proofs.lemmas.Bool.{eqb-true, false_from_ne_true, false≢true, le-ltb, lt-ltb}
+use Rattle.std.proofs.lemmas.Bool.{eqb-true, false≢true, le-ltb, lt-ltb}
 use Rattle.std.proofs.lemmas.List.{append-nil}
 use Rattle.std.specs.Prelude.{unwrap_or}
 use Rattle.std.specs.List.{filter, flat_map}
@@ -20,12 +20,12 @@ use Rattle.dep_iter.specs.Edges.{goal}
 use Rattle.dep_iter.specs.Consistent.{IsConsistent}
 use Rattle.flow_meaning.specs.declared.outcome.TrapRow.{TrapRow}
 use Rattle.flow_meaning.specs.declared.outcome.WaitRow.{WaitRow}
-use Rattle.flow_meaning.specs.declared.outcome.Outcome.TheVariants.{Complete, Stalled, Trapped}
+use Rattle.flow_meaning.specs.declared.outcome.Outcome.TheVariants.{Trapped}
 use Rattle.flow_meaning.specs.Answer.{trap_rows}
 use Rattle.flow_meaning.specs.Counting.{as_number, count}
 use Rattle.flow_meaning.specs.Ending.{Ended}
 use Rattle.flow_meaning.specs.Machine.{MachineState, arrived, claim_count, end_in}
-use Rattle.flow_meaning.specs.StateAnswer.{state_answer, state_answer_by, state_data, state_traps}
+use Rattle.flow_meaning.specs.StateAnswer.{state_answer, state_answer_by, state_traps}
 use Rattle.flow_meaning.specs.Table.{is_waiting, waiting_rows, waiting_tasks}
 use Rattle.flow_meaning.proofs.Counting.{count-some}
 use Rattle.flow_core.specs.RunState.{IsRunning, RunState, end_of, machine, mark_of}
@@ -163,21 +163,7 @@ answer_trapped P G S rows are some = by rows some ∙ ap (state_answer_by P G S)
     by [] some = absurd (some refl)
     by (row ∷ rows) some = refl
 
-pub answer_complete : (P : Plan) (G : Data) (S : MachineState) (rows : List TrapRow) (all : ℕ) (end : Data) → rows ≡ state_traps P G S → rows ≡ [] → length S.claims ≡ length (all_tasks P) → all ≡ length (all_tasks P) → end ≡ state_data G S
-    → Complete all end ≡ state_answer P G S
+-- the answer where no task has trapped
+pub answer_untrapped : (P : Plan) (G : Data) (S : MachineState) (rows : List TrapRow) → rows ≡ state_traps P G S → rows ≡ [] → state_answer_by P G S [] ≡ state_answer P G S
 unfolding state_answer
-answer_complete P G S rows all end are none every all_is end_is =
-    (λ i. Complete (all_is i) (end_is i))
-    ∙ sym (ap (λ b. cond b (Complete (length (all_tasks P)) (state_data G S)) (Stalled (length S.claims) (length (all_tasks P)) (waiting_rows P S))) (eq-eqb (length S.claims) (length (all_tasks P)) every))
-    ∙ ap (state_answer_by P G S) (sym none ∙ are)
-
-pub answer_stalled : (P : Plan) (G : Data) (S : MachineState) (rows : List TrapRow) (ran all : ℕ) (waits : List WaitRow) → rows ≡ state_traps P G S → rows ≡ [] → (ran ≡ all → ⊥) → ran ≡ length S.claims → all ≡ length (all_tasks P) → waits ≡ waiting_rows P S
-    → Stalled ran all waits ≡ state_answer P G S
-unfolding state_answer
-answer_stalled P G S rows ran all waits are none fewer ran_is all_is waits_are =
-    (λ i. Stalled (ran_is i) (all_is i) (waits_are i))
-    ∙ sym (ap (λ b. cond b (Complete (length (all_tasks P)) (state_data G S)) (Stalled (length S.claims) (length (all_tasks P)) (waiting_rows P S))) unequal)
-    ∙ ap (state_answer_by P G S) (sym none ∙ are)
-  where
-    unequal : (length S.claims == length (all_tasks P)) ≡ false
-    unequal = false_from_ne_true (length S.claims == length (all_tasks P)) (λ k. fewer (ran_is ∙ eqb-true (length S.claims) (length (all_tasks P)) k ∙ sym all_is))
+answer_untrapped P G S rows are none = ap (state_answer_by P G S) (sym none ∙ are)

@@ -2,6 +2,7 @@
 
 ghost use Rattle.std.specs.Prelude.{◌≡◌, [], ◌∷◌, ◌++◌, IfOk, OnOk, OnErr, None, is_some, option_to_list};
 ghost use Rattle.ptg_base.specs.declared.edge.Item.{Item as ItemValue};
+ghost use Rattle.ptg_base.specs.declared.edge.Item.TheVariants as item;
 ghost use Rattle.flow_meaning.specs.Machine.{first_tile};
 ghost use Rattle.flow_core.specs.SentItems.{all_sent};
 ghost use Rattle.flow_core.specs.Kept as kept;
@@ -34,6 +35,21 @@ impl Model for SentItems {
     ghost view = { λ s. record { sends = s.history.sends; edges = all_sent s.edges.entries; writes = all_sent s.writes.entries } };
 }
 
+// Adds a write-back with its tile, if it has one.
+fn push_write_back(
+    write: WriteBack,
+    tile: Option<Tile>,
+    writes: &mut Vec<(WriteBack, Tile)>,
+) -> Result<(), OutOfMemory>
+    ensures { OnOk result (writes.new.items ≡ writes.old.items ++ option_to_list (write_with (item.Write write) tile)) }
+{
+    let Some(tile) = tile else {
+        return Ok(());
+    };
+    writes.push((write, tile))?;
+    Ok(())
+}
+
 // Adds an item with its tile, if it is a write-back and has one.
 fn push_write(
     item: Item,
@@ -42,14 +58,24 @@ fn push_write(
 ) -> Result<(), OutOfMemory>
     ensures { OnOk result (writes.new.items ≡ writes.old.items ++ option_to_list (write_with item tile)) }
 {
-    let Item::Write(write) = item else {
-        return Ok(());
-    };
-    let Some(tile) = tile else {
-        return Ok(());
-    };
-    writes.push((write, tile))?;
-    Ok(())
+    match item {
+        Item::Edge(_) => Ok(()),
+        Item::Write(write) => push_write_back(write, tile, writes),
+    }
+}
+
+// The write-backs of a table, each with its tile if it has one, in the order of the table.
+fn write_backs_of(
+    table: IndexMap<Item, Option<Tile>>,
+    alloc: Global,
+) -> Result<Vec<(WriteBack, Tile)>, OutOfMemory>
+    ensures { IfOk result (λ writes. writes.items ≡ writes_among (all_sent table.entries)) }
+{
+    let mut writes = Vec::new(alloc);
+    for (item, tile) in table {
+        push_write(item, tile, &mut writes)?;
+    }
+    Ok(writes)
 }
 
 // Whether an item is a write-back.
@@ -137,10 +163,6 @@ impl SentItems {
     pub(crate) fn into_writes(self, alloc: Global) -> Result<Vec<(WriteBack, Tile)>, OutOfMemory>
         ensures { IfOk result (λ writes. writes.items ≡ writes_among self.writes) }
     {
-        let mut writes = Vec::new(alloc);
-        for (item, tile) in self.writes {
-            push_write(item, tile, &mut writes)?;
-        }
-        Ok(writes)
+        write_backs_of(self.writes, alloc)
     }
 }

@@ -1,23 +1,25 @@
 //! The answer of a run in which nothing more can happen.
 
-ghost use Rattle.std.specs.Prelude.{◌≡◌, ◌<◌, ◌≤◌, ◌++◌, [], ◌∷◌, drop, length, map, IfOk, OnOk, List, slice_get, Some};
+ghost use Rattle.std.specs.Prelude.{◌≡◌, ◌<◌, ◌≤◌, ◌++◌, [], ◌∷◌, drop, length, map, IfOk, OnOk, List, slice_get, Some, unwrap_or};
 ghost use Rattle.ptg_base.specs.Task.{Task};
 ghost use Rattle.ptg_base.specs.TaskOrder.{in_task_order};
 ghost use Rattle.term_core.specs.declared.space.ClassSpace.{ClassSpace as ClassSpaceValue};
 ghost use Rattle.range_space.specs.Tasks as range;
 ghost use Rattle.coll_data.specs.Data.{Data};
 ghost use Rattle.plan_data.specs.Fit.{DataFit};
-ghost use Rattle.dep_iter.specs.Tasks.{IsTask, task, tasks_from};
+ghost use Rattle.dep_iter.specs.Tasks.{IsTask, all_tasks, task, tasks_from};
 ghost use Rattle.dep_iter.specs.Consistent.{IsConsistent};
 ghost use Rattle.flow_meaning.specs.declared.outcome.TrapRow.{TrapRow as TrapRowValue};
+ghost use Rattle.flow_meaning.specs.declared.outcome.Outcome.{Outcome as OutcomeValue};
+ghost use Rattle.flow_meaning.specs.declared.outcome.Outcome.TheVariants.{Complete};
 ghost use Rattle.flow_meaning.specs.Answer as meaning;
 ghost use Rattle.flow_meaning.specs.Answer.{trap_rows};
 ghost use Rattle.flow_meaning.specs.Machine.{IsQuiescent};
-ghost use Rattle.flow_meaning.specs.StateAnswer.{state_data};
+ghost use Rattle.flow_meaning.specs.StateAnswer.{state_answer, state_answer_by, state_data};
 ghost use Rattle.flow_meaning.specs.Table.{waiting_rows};
 ghost use Rattle.flow_core.specs.RunState.{IsRunning, machine};
 ghost use Rattle.flow_core.specs.Fits.{Fits};
-ghost use Rattle.flow_core.specs.Rows.{claim_traps, waits_among};
+ghost use Rattle.flow_core.specs.Rows.{claim_traps, waits_among, writes_among};
 
 use crate::arrivals::number_at;
 use crate::body::End;
@@ -28,25 +30,40 @@ use coll_data::Given;
 use dep_iter::Matched;
 use flow_meaning::{Outcome, TrapRow, WaitRow, a_quiescent_state_has_the_meaning};
 use goal_count::goal;
-use ptg_base::{OutOfMemory, Seq, TaskId};
+use ptg_base::{OutOfMemory, Seq, TaskId, Tile, WriteBack};
 use range_space::Space;
 use run_answer::{traps_in_task_order, waits_in_task_order, with_written};
+use term_core::Trap;
+
+// Adds the row of a task that has this cause of a trap.
+fn push_trap_row(t: &TaskId, cause: Trap, rows: &mut Vec<TrapRow>) -> Result<(), OutOfMemory>
+    ensures { OnOk result (rows.new.items ≡ rows.old.items ++ record { task = t.now; cause = cause } ∷ []) }
+{
+    rows.push(TrapRow {
+        task: copy_of_task(t),
+        cause,
+    })?;
+    Ok(())
+}
+
+// Adds the row of a task that ended so, if it trapped.
+fn push_trap_of_end(t: &TaskId, end: &End, rows: &mut Vec<TrapRow>) -> Result<(), OutOfMemory>
+    ensures { OnOk result (rows.new.items ≡ rows.old.items ++ trap_rows t.now (Some end.now)) }
+{
+    match end {
+        Ok(_) => Ok(()),
+        Err(cause) => push_trap_row(t, *cause, rows),
+    }
+}
 
 // Adds the row of a claimed task if it has trapped.
 fn push_trap(t: &TaskId, end: &Option<End>, rows: &mut Vec<TrapRow>) -> Result<(), OutOfMemory>
     ensures { OnOk result (rows.new.items ≡ rows.old.items ++ trap_rows t.now end.now) }
 {
-    let Some(end) = end else {
-        return Ok(());
-    };
-    let Err(cause) = end else {
-        return Ok(());
-    };
-    rows.push(TrapRow {
-        task: copy_of_task(t),
-        cause: *cause,
-    })?;
-    Ok(())
+    match end {
+        Some(end) => push_trap_of_end(t, end, rows),
+        None => Ok(()),
+    }
 }
 
 impl State {
@@ -60,16 +77,74 @@ impl State {
     {
         a_quiescent_state_has_the_meaning();
         let _ = m.plan();
+        let found = self.incomplete(m);
+        self.complete_unless(m, given, found)
+    }
+
+    // Gives up a run and its data, with this answer.
+    fn ended_with(
+        self,
+        given: Given,
+        outcome: Result<Outcome, OutOfMemory>,
+    ) -> Result<Outcome, OutOfMemory>
+        ensures { result ≡ outcome }
+    {
+        outcome
+    }
+
+    // The answer that was found of a run that is not complete, or else that of a complete one.
+    fn complete_unless(
+        self,
+        m: &Matched,
+        given: Given,
+        found: Result<Option<Outcome>, OutOfMemory>,
+    ) -> Result<Outcome, OutOfMemory>
+        requires fits { Fits m.now given self }
+        requires known { DataFit m.now.colls m.now.elems given }
+        ensures { (all : OutcomeValue) → IfOk found (λ o. unwrap_or o (Complete (length (all_tasks m.now)) (state_data given (machine self))) ≡ all) → IfOk result (λ outcome. outcome ≡ all) }
+    {
+        match found {
+            Ok(None) => self.complete(m, given),
+            Ok(Some(outcome)) => self.ended_with(given, Ok(outcome)),
+            Err(error) => self.ended_with(given, Err(error)),
+        }
+    }
+
+    // The answer of a run that is not complete: its traps, or its stall. `None` where all tasks ran without a trap.
+    fn incomplete(&self, m: &Matched) -> Result<Option<Outcome>, OutOfMemory>
+        requires idle { (t : Task) → IsRunning self.now t → ⊥ }
+        requires fits { (G : Data) × Fits m.now G self.now }
+        requires consistent { IsConsistent m.now }
+        ensures { IfOk result (λ found. (G : Data) → Fits m.now G self.now → unwrap_or found (Complete (length (all_tasks m.now)) (state_data G (machine self.now))) ≡ state_answer m.now G (machine self.now)) }
+    {
         let traps = self.traps()?;
         if !traps.is_empty() {
-            return Ok(Outcome::Trapped(traps));
+            return Ok(Some(Outcome::Trapped(traps)));
         }
+        self.stall(m)
+    }
+
+    // The answer of a run without traps that has stalled. `None` where all tasks ran.
+    fn stall(&self, m: &Matched) -> Result<Option<Outcome>, OutOfMemory>
+        requires { (G : Data) × Fits m.now G self.now }
+        ensures { IfOk result (λ found. (G : Data) → unwrap_or found (Complete (length (all_tasks m.now)) (state_data G (machine self.now))) ≡ state_answer_by m.now G (machine self.now) []) }
+    {
         let ran = self.claims.len() as u64;
         let all = m.tasks();
         if ran == all {
-            return Ok(Outcome::Complete(all, self.final_data(m, given)?));
+            return Ok(None);
         }
-        Ok(Outcome::Stalled(ran, all, self.waits(m)?))
+        Ok(Some(Outcome::Stalled(ran, all, self.waits(m)?)))
+    }
+
+    // The answer of a run in which all tasks ran without a trap.
+    fn complete(self, m: &Matched, given: Given) -> Result<Outcome, OutOfMemory>
+        requires fits { Fits m.now given self }
+        requires known { DataFit m.now.colls m.now.elems given }
+        ensures { IfOk result (λ outcome. outcome ≡ Complete (length (all_tasks m.now)) (state_data given (machine self))) }
+    {
+        let all = m.tasks();
+        Ok(Outcome::Complete(all, self.final_data(m, given)?))
     }
 
     // The rows of the tasks that have trapped, in task order.
@@ -163,7 +238,14 @@ impl State {
     {
         let _ = m.plan();
         let _ = given.colls();
-        let written = self.sent.into_writes(self.alloc)?;
+        let written = self.into_writes()?;
         Ok(with_written(given, written))
+    }
+
+    // The write-backs that were sent, each with its tile, in the order of the sends.
+    fn into_writes(self) -> Result<Vec<(WriteBack, Tile)>, OutOfMemory>
+        ensures { IfOk result (λ writes. writes.items ≡ writes_among self.sends) }
+    {
+        self.sent.into_writes(self.alloc)
     }
 }
