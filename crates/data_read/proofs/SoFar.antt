@@ -13,7 +13,7 @@ use Rattle.ptg_base.specs.declared.refusal.Refusal.{Refusal}
 use Rattle.ptg_base.specs.declared.refusal.Refusal.TheVariants.{Fault, OutOfMemory}
 use Rattle.data_read.specs.Growing.{ReturnsRefusal, refusal_at}
 use Rattle.data_read.specs.Rows.{HasRows, NextRow}
-use Rattle.data_read.proofs.Choices.{by_result}
+use Rattle.data_read.proofs.Choices.{by_result, no_value}
 use Rattle.data_read.proofs.Soundness.{IsSound, well_made}
 use Rattle.data_read.proofs.SoundRecords.{begun_sound}
 use Rattle.data_read.proofs.SoundTiles.{later_sound}
@@ -46,7 +46,7 @@ all_sound [] row d after sound is = subst IsSound (let same : d ≡ after = cc i
 all_sound (fields ∷ rows) row d after sound is =
     by_result (later_record d fields)
     (λ next h. let is = rw h at is in all_sound rows (row + 1) next after (later_sound d next fields sound h) is)
-    (λ code h. absurd (let s = rw h at is in cc))
+    (λ code h. let s = rw h at is in no_value s)
 
 as_fault : (n : ℕ) (row : ℕ) (code : DataCode) (r : Result Draft DataFault) → r ≡ Err (record { row = row; code = code }) → as_data n r ≡ Err (record { row = row; code = code })
 as_fault n row code r e = rw e refl
