@@ -1,10 +1,12 @@
 //! Expressions with their names resolved.
 
-ghost use Rattle.std.specs.Prelude.{◌≡◌};
+ghost use Rattle.std.specs.Prelude.{◌≡◌, Ok};
+ghost use Rattle.term_core.specs.Term.{Term, Binary, Choose};
+ghost use Rattle.term_core.specs.Value.{and_then};
 ghost use Rattle.jdf_tree.specs.NodeExpression.{expression_of};
 ghost use Rattle.body_names.specs.Returns.{Returns};
 ghost use Rattle.body_names.specs.Meanings.{meaning_of};
-ghost use Rattle.body_names.specs.Expressions.{value_of, slot_of, term_of};
+ghost use Rattle.body_names.specs.Expressions.{Resolved, value_of, slot_of, term_of};
 
 use crate::flow::{fault_at, read_flow};
 use crate::lookup::meaning_of;
@@ -13,7 +15,8 @@ use crate::scope::{Context, Scope};
 use crate::variable::Variable;
 use jdf_lex::{JdfCode, JdfRefusal};
 use jdf_tree::{ExprNode, ExprTree, Word};
-use term_core::Expr;
+use std::alloc::Global;
+use term_core::{BinOp, Expr};
 
 /// The term of a name in an expression.
 pub(crate) fn value_of(word: &Word, meaning: Meaning) -> Result<Expr, JdfRefusal>
@@ -72,14 +75,41 @@ fn node_term(context: &Context, seen: &[Variable], node: &ExprNode) -> Result<Ex
         }
         ExprNode::Binary(operator, a, b) => {
             let a = node_term(context, seen, a)?;
-            let b = node_term(context, seen, b)?;
-            Ok(Expr::binary(context.alloc, *operator, a, b)?)
+            let b = node_term(context, seen, b);
+            binary(context.alloc, *operator, a, b)
         }
         ExprNode::Choose(c, a, b) => {
             let c = node_term(context, seen, c)?;
-            let a = node_term(context, seen, a)?;
-            let b = node_term(context, seen, b)?;
-            Ok(Expr::choose(context.alloc, c, a, b)?)
+            let a = node_term(context, seen, a);
+            let b = node_term(context, seen, b);
+            choose(context.alloc, c, a, b)
         }
     }
+}
+
+// An operator between two terms, where the second one has no fault.
+#[tactic(auto, using(crate::proofs::Refusals::refuses_before))]
+fn binary(
+    alloc: Global,
+    operator: BinOp,
+    a: Expr,
+    b: Result<Expr, JdfRefusal>,
+) -> Result<Expr, JdfRefusal>
+    ensures { (second : Resolved Term) → Returns (λ e. e) b second → Returns (λ e. e) result (and_then second (λ y. Ok (Binary operator a y))) }
+{
+    Ok(Expr::binary(alloc, operator, a, b?)?)
+}
+
+// `c ? a : b`, where a and then b has no fault.
+#[tactic(auto, using(crate::proofs::Refusals::refuses_before))]
+fn choose(
+    alloc: Global,
+    c: Expr,
+    a: Result<Expr, JdfRefusal>,
+    b: Result<Expr, JdfRefusal>,
+) -> Result<Expr, JdfRefusal>
+    ensures { (first second : Resolved Term) → Returns (λ e. e) a first → Returns (λ e. e) b second → Returns (λ e. e) result (and_then first (λ y. and_then second (λ z. Ok (Choose c y z)))) }
+{
+    let a = a?;
+    Ok(Expr::choose(alloc, c, a, b?)?)
 }

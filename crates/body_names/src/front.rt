@@ -3,7 +3,7 @@
 ghost use Rattle.std.specs.Prelude.{◌≡◌, ◌≤◌, length, IfOk};
 ghost use Rattle.body_names.specs.Returns.{Returns};
 ghost use Rattle.body_names.specs.Bindings.{bindings_of};
-ghost use Rattle.body_names.specs.TokenScan.{judged_as, judged, front_fault};
+ghost use Rattle.body_names.specs.TokenScan.{judged_as, judged, judged_among, front_fault};
 ghost use Rattle.body_names.specs.Scanner.{scan_of};
 
 use crate::bindings::fresh_in;
@@ -81,10 +81,23 @@ pub fn front_fault(
     requires { count ≤ length tokens.now }
     ensures { Returns (λ _. tt) result (front_fault scope.now tokens.now count) }
 {
-    let mut scanner = Scanner::new(alloc);
+    judge_all(alloc, scope, &mut Scanner::new(alloc), tokens, count)
+}
+
+// The first fault of a name among the first `count` of some tokens, where a scanner is at the first of them; or none.
+fn judge_all(
+    alloc: Global,
+    scope: &Scope,
+    scanner: &mut Scanner,
+    tokens: &[Token],
+    count: usize,
+) -> Result<(), JdfRefusal>
+    requires { count ≤ length tokens.now }
+    ensures { Returns (λ _. tt) result (judged_among scope.now (scan_of scanner.old) count tokens.now) }
+{
     for index in 0..count {
-        judge(alloc, scope, &scanner, &tokens[index..])?;
-        pass(alloc, &mut scanner, &tokens[index])?;
+        judge(alloc, scope, scanner, &tokens[index..])?;
+        pass(alloc, scanner, &tokens[index])?;
     }
     Ok(())
 }

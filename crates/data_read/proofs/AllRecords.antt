@@ -9,7 +9,7 @@ use Rattle.data_read.specs.Reading.{all_records, as_data, data_of, later_records
 use Rattle.data_read.specs.WholeRecords.{Row, data_of_records}
 use Rattle.data_read.specs.WholeTexts.{NoneFits, AreByRecords}
 use Rattle.data_read.proofs.FirstCodes.{no_code, no_fault}
-use Rattle.data_read.proofs.Choices.{by_result}
+use Rattle.data_read.proofs.Choices.{by_result, no_value}
 use Rattle.data_read.proofs.OneMore.{AreOrdered, one_more}
 
 none_ordered : (elems : ℕ) → AreOrdered elems []
@@ -58,7 +58,7 @@ walked elems rows (r ∷ rest) n d ordered is =
       is = later.is ∙ ap (data_of_records elems) (append_assoc rows (r ∷ []) rest);
       fit = first_fits elems rows rest r next h later.fit;
     })
-    (λ code h. absurd (let s = rw h at is in cc))
+    (λ code h. let s = rw h at is in no_value s)
 
 walk : (elems : ℕ) (rows rest : List Row) (n : ℕ) → AreOrdered elems rows → RestFits elems rows rest → later_records n (data_of_records elems rows) rest ≡ Ok (data_of_records elems (rows ++ rest))
 walk elems rows [] n ordered fit = ap (λ (b : List Row). Ok (data_of_records elems b)) (sym (append-nil rows))
@@ -88,7 +88,7 @@ are_read first rows d is =
     (λ elems h.
     let all = walked elems [] rows 2 d (none_ordered elems) (rw h at is) in
     record { elems = elems; is_first = h; none_fits = λ before after row cut. let fit = all.fit before after row cut in no_fault (data_of_records elems before) fit.0 row fit.1; is = all.is })
-    (λ code h. absurd (let s = rw h at is in cc))
+    (λ code h. let s = rw h at is in no_value s)
 
 pub read_all : (first : Row) (rows : List Row) (elems : ℕ) → first_record first ≡ Ok elems → NoneFits elems rows → all_records (first ∷ rows) ≡ Ok (data_of_records elems rows)
 read_all first rows elems is none =

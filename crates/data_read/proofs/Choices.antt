@@ -16,3 +16,7 @@ by_option (Some a) if_none if_some = if_some a refl
 pub by_result : {A E P : Type 0} (r : Result A E) → ((a : A) → r ≡ Ok a → P) → ((e : E) → r ≡ Err e → P) → P
 by_result (Ok a) if_ok if_err = if_ok a refl
 by_result (Err e) if_ok if_err = if_err e refl
+
+-- a fault is no value
+pub no_value : {A E P : Type 0} {e : E} {a : A} → ◌≡◌ {A = Result A E} (Err e) (Ok a) → P
+no_value {A} {E} {P} {e} {a} is = absurd (let none : ◌≡◌ {A = Result A E} (Err e) (Ok a) = is in cc)

@@ -10,7 +10,7 @@ use Rattle.data_read.specs.WholeRecords.{Row, data_of_records}
 use Rattle.data_read.specs.WholeTexts.{HasFaultAfter, HasNoRecord, IsFirstFault}
 use Rattle.data_read.proofs.FirstCodes.{code_is_fault, code_is_fault_at_start, fault_at_start_has_code, fault_has_code}
 use Rattle.data_read.proofs.AllRecords.{are_read, read_all}
-use Rattle.data_read.proofs.Choices.{by_result}
+use Rattle.data_read.proofs.Choices.{by_result, no_value}
 
 same_fault : {A : Type 0} (a b : DataFault) → ◌≡◌ {A = Result A DataFault} (Err a) (Err b) → a ≡ b
 same_fault a b e = cc
@@ -111,7 +111,7 @@ later_is_fault row d draft (r ∷ before) after fields code is has =
     let more = later_is_fault (row + 1) next draft before after fields code (rw h at is) has in
     ap (λ x. then_at row x (λ b. later_records (row + 1) b (before ++ fields ∷ after))) h ∙ more
     ∙ ap (λ n. Err (record { row = n; code = code })) (let n : row + 1 + length before ≡ row + length (r ∷ before) = omega arith in n))
-    (λ code h. absurd (let s = rw h at is in cc))
+    (λ code h. let s = rw h at is in no_value s)
 
 rows_are_fault : (before after : List Row) (row : Row) (code : DataCode) → HasFaultAfter before row code → all_records (before ++ row ∷ after) ≡ Err (record { row = length before + 1; code = code })
 rows_are_fault [] after row code has = ap (λ r. then_at 1 r (λ e. later_records 2 (begun e) after)) (code_is_fault_at_start row code has)
@@ -122,7 +122,7 @@ rows_are_fault (first ∷ before) after row code has =
     let more = later_is_fault 2 (begun elements) (data_of_records has.0 before) before after row code (rw h at is) (code_is_fault (data_of_records has.0 before) row code has.3) in
     ap (λ x. then_at 1 x (λ e. later_records 2 (begun e) (before ++ row ∷ after))) h ∙ more
     ∙ ap (λ n. Err (record { row = n; code = code })) (let n : 2 + length before ≡ length (first ∷ before) + 1 = omega arith in n))
-    (λ code h. absurd (let s = rw h at is in cc))
+    (λ code h. let s = rw h at is in no_value s)
 
 as_fault : (n : ℕ) (r : Result Draft DataFault) (fault : DataFault) → r ≡ Err fault → as_data n r ≡ Err fault
 as_fault n r fault e = rw e refl

@@ -15,7 +15,7 @@ use Rattle.data_read.specs.Fields.{field, is_name, whole}
 use Rattle.data_read.specs.Draft.{Draft, coll_index, coll_named, is_new, opened, type_among, type_named, with_coll, with_int, with_tile, with_type}
 use Rattle.data_read.specs.Records.{coll_of, coll_record, collof_record, column, columns, element_count, first_value, free_index, int_record, later_record, new_tile, numbers, shape_of, sized, tile_record, type_record}
 use Rattle.data_read.specs.WholeRecords.{Heading, Row, all_types, begins, data_of_records, declares, elements_of, heading_at, heading_in, headings_of, index_in, int_in, ints_of, name_at, shape_in, type_in, type_name_in, types_of, with_tiles}
-use Rattle.data_read.proofs.Choices.{by_test, by_option, by_result}
+use Rattle.data_read.proofs.Choices.{by_test, by_option, by_result, no_value}
 use Rattle.data_read.proofs.Soundness.{all_push, all_weaker}
 use Rattle.data_read.proofs.SoundRecords.{no_draft, same_draft, same_size}
 use Rattle.data_read.proofs.SoundTiles.{coll_is_there}
@@ -90,12 +90,12 @@ pub type_more : (elems : ℕ) (rows : List Row) (row : Row) (e : Draft) → AreO
 type_more elems rows row e ordered word is =
     let d = data_of_records elems rows in
     by_test (length row == 2)
-    (λ h. absurd (let s = rw h at is in cc))
+    (λ h. let s = rw h at is in no_value s)
     (λ h. let is = rw h at is in
     by_test (length row == 3)
     (λ h. let is = rw h at is in
     by_option (element_count (field row 2))
-    (λ h. absurd (let s = rw h at is in cc))
+    (λ h. let s = rw h at is in no_value s)
     (λ n hn. let is = rw hn at is in
     by_test (is_name (field row 1))
     (λ h. let is = rw h at is in
@@ -104,10 +104,10 @@ type_more elems rows row e ordered word is =
     by_test (nat_lt (length (types_of rows)) 15)
     (λ h. let is = rw h at is in
     subst (IsOneMore elems rows row) (same_draft (with_type d (field row 1) n) e is) (type_made elems rows row n ordered word hn))
-    (λ h. absurd (let s = rw h at is in cc)))
-    (λ k h. absurd (let s = rw h at is in cc)))
-    (λ h. absurd (let s = rw h at is in cc))))
-    (λ h. absurd (let s = rw h at is in cc)))
+    (λ h. let s = rw h at is in no_value s))
+    (λ k h. let s = rw h at is in no_value s))
+    (λ h. let s = rw h at is in no_value s)))
+    (λ h. let s = rw h at is in no_value s))
 
 -- ---- records that add no type
 
@@ -166,12 +166,12 @@ int_more elems rows row e ordered word is =
     by_test (is_new d (field row 1))
     (λ h. let is = rw h at is in
     by_option (whole (field row 2))
-    (λ h. absurd (let s = rw h at is in cc))
+    (λ h. let s = rw h at is in no_value s)
     (λ z hz. let is = rw hz at is in
     subst (IsOneMore elems rows row) (same_draft (with_int d (field row 1) z) e is) (int_made elems rows row z ordered word hz)))
-    (λ h. absurd (let s = rw h at is in cc)))
-    (λ h. absurd (let s = rw h at is in cc)))
-    (λ h. absurd (let s = rw h at is in cc))
+    (λ h. let s = rw h at is in no_value s))
+    (λ h. let s = rw h at is in no_value s))
+    (λ h. let s = rw h at is in no_value s)
 
 -- ---- collections
 
@@ -233,21 +233,21 @@ record IsAsked (d : Draft) (type : List ℕ) (row : Row) (at : ℕ) (size : Size
 asked : (d : Draft) (type : List ℕ) (row : Row) (at : ℕ) (size : Sized) → sized d type row at ≡ Ok size → IsAsked d type row at size
 asked d type row at size is =
     by_option (type_named d type)
-    (λ h. absurd (let s = rw h at is in cc))
+    (λ h. let s = rw h at is in no_value s)
     (λ known hk. let is = rw hk at is in
     by_option (whole (field row at))
-    (λ h. absurd (let s = rw h at is in cc))
+    (λ h. let s = rw h at is in no_value s)
     (λ rs hr. let is = rw hr at is in
     by_option (columns row (at + 1))
-    (λ h. absurd (let s = rw h at is in cc))
+    (λ h. let s = rw h at is in no_value s)
     (λ cs hc. let is = rw hc at is in
     by_option (shape_of rs cs)
-    (λ h. absurd (let s = rw h at is in cc))
+    (λ h. let s = rw h at is in no_value s)
     (λ shape hs. let is = rw hs at is in
     by_test (nat_le (d.elements + tile_count shape.0 shape.1 * known.1) 16777216)
     (λ h. let is = rw h at is in
     record { known = known; shape = shape; is_type = hk; is_shape = rw (hr, hc) hs; made = sym (same_size (record { shape = shape; datatype = known.0; elements = known.1 }) size is) })
-    (λ h. absurd (let s = rw h at is in cc))))))
+    (λ h. let s = rw h at is in no_value s)))))
 
 coll_of_more : (elems : ℕ) (rows : List Row) (row : Row) (e : Draft) → AreOrdered elems rows → begins (codes "elems") row ≡ false → begins (codes "int") row ≡ false → begins (codes "tile") row ≡ false
     → declares row ≡ true → coll_of (data_of_records elems rows) (type_name_in row) row (name_at row) ≡ Ok e → IsOneMore elems rows row e
@@ -264,9 +264,9 @@ coll_of_more elems rows row e ordered other no_int t word is =
     let made = coll_made elems rows row parts.known parts.shape ordered other no_int t word parts.is_type parts.is_shape (new_name d name new) in
     let same = ap (λ (s : Sized). with_coll d name s.shape s.datatype s.elements) (sym parts.made) ∙ same_draft (with_coll d name size.shape size.datatype size.elements) e is in
     subst (IsOneMore elems rows row) same made)
-    (λ code h. absurd (let s = rw h at is in cc)))
-    (λ h. absurd (let s = rw h at is in cc)))
-    (λ h. absurd (let s = rw h at is in cc))
+    (λ code h. let s = rw h at is in no_value s))
+    (λ h. let s = rw h at is in no_value s))
+    (λ h. let s = rw h at is in no_value s)
 
 pub coll_more : (elems : ℕ) (rows : List Row) (row : Row) (e : Draft) → AreOrdered elems rows → begins (codes "coll") row ≡ true → coll_record (data_of_records elems rows) row ≡ Ok e → IsOneMore elems rows row e
 coll_more elems rows row e ordered word is =
@@ -276,7 +276,7 @@ coll_more elems rows row e ordered word is =
     by_test ((length row == 3) || (length row == 4))
     (λ h. let is = rw h at is in
     coll_of_more elems rows row e ordered other no_int t (or_left (begins (codes "coll") row) (begins (codes "collof") row) word) (rw word is))
-    (λ h. absurd (let s = rw h at is in cc))
+    (λ h. let s = rw h at is in no_value s)
 
 pub collof_more : (elems : ℕ) (rows : List Row) (row : Row) (e : Draft) → AreOrdered elems rows → begins (codes "collof") row ≡ true → collof_record (data_of_records elems rows) row ≡ Ok e → IsOneMore elems rows row e
 collof_more elems rows row e ordered word is =
@@ -291,7 +291,7 @@ collof_more elems rows row e ordered word is =
     let at : name_at row ≡ 2 = rw c refl in
     let same : coll_of d (type_name_in row) row (name_at row) ≡ coll_of d (field row 1) row 2 = (λ i. coll_of d (type i) row (at i)) in
     coll_of_more elems rows row e ordered other no_int t (or_right (begins (codes "coll") row) (begins (codes "collof") row) word) (same ∙ is))
-    (λ h. absurd (let s = rw h at is in cc))
+    (λ h. let s = rw h at is in no_value s)
 
 -- ---- tiles
 
@@ -328,17 +328,17 @@ same_tile a b e = cc
 is_free : (coll : GrowingColl) (i j : ℤ) (index : ℕ) → free_index coll i j ≡ Ok index → IsFree coll i j index
 is_free coll i j index is =
     by_option (tile_index coll.shape.0 coll.shape.1 i j)
-    (λ h. absurd (let s = rw h at is in cc))
+    (λ h. let s = rw h at is in no_value s)
     (λ n hn. let is = rw hn at is in
     by_option (slice_get coll.tiles n)
-    (λ h. absurd (let s = rw h at is in cc))
+    (λ h. let s = rw h at is in no_value s)
     (λ tile ht. let is = rw ht at is in
     by_option tile
     (λ none. let is = rw none at is in
     let same = same_index n index is in
     let at_n : IsFree coll i j n = record { is = hn; free = ht ∙ ap (λ (o : Option (List ℤ)). Some o) none } in
     subst (IsFree coll i j) same at_n)
-    (λ given some. absurd (let s = rw some at is in cc))))
+    (λ given some. let s = rw some at is in no_value s)))
 
 is_new_tile : (row : Row) (coll : GrowingColl) (tile : ℕ × List ℤ) → begins (codes "tile") row ≡ true → new_tile row coll ≡ Ok tile → IsNewTile row coll tile
 is_new_tile row coll tile word is =
@@ -346,13 +346,13 @@ is_new_tile row coll tile word is =
     by_test (nat_le 1 (length row - first) && nat_le (length row - first) coll.elements)
     (λ ht. let is = rw ht at is in
     by_option (whole (field row 2))
-    (λ h. absurd (let s = rw h at is in cc))
+    (λ h. let s = rw h at is in no_value s)
     (λ i hi. let is = rw hi at is in
     by_option (column coll.shape.1 row)
-    (λ h. absurd (let s = rw h at is in cc))
+    (λ h. let s = rw h at is in no_value s)
     (λ j hj. let is = rw hj at is in
     by_option (numbers (drop first row))
-    (λ h. absurd (let s = rw h at is in cc))
+    (λ h. let s = rw h at is in no_value s)
     (λ values hv. let is = rw hv at is in
     by_result (free_index coll i j)
     (λ index hn. let is = rw hn at is in
@@ -364,8 +364,8 @@ is_new_tile row coll tile word is =
       gives = record { word = word; place = here; all = hv; free = place.free };
       made = sym (same_tile (index, opened coll.elements values) tile is);
     })
-    (λ code hn. absurd (let s = rw hn at is in cc))))))
-    (λ h. absurd (let s = rw h at is in cc))
+    (λ code hn. let s = rw hn at is in no_value s)))))
+    (λ h. let s = rw h at is in no_value s)
 
 tile_made : (elems : ℕ) (rows : List Row) (row : Row) (at : ℕ) (coll : GrowingColl) (index : ℕ) (values : List ℤ) → AreOrdered elems rows → Gives row coll index values
     → coll_index (field row 1) (map (with_tiles rows) (headings_of elems rows)) ≡ Some at → slice_get (map (with_tiles rows) (headings_of elems rows)) at ≡ Some coll
@@ -397,7 +397,7 @@ tile_more elems rows row e ordered word is =
     by_test (is_name (field row 1))
     (λ h. let is = rw h at is in
     by_option (coll_named d (field row 1))
-    (λ h. absurd (let s = rw h at is in cc))
+    (λ h. let s = rw h at is in no_value s)
     (λ known hk. let is = rw hk at is in
     by_result (new_tile row known.1)
     (λ tile ht. let is = rw ht at is in
@@ -405,9 +405,9 @@ tile_more elems rows row e ordered word is =
     let made = tile_made elems rows row known.0 known.1 parts.index parts.values ordered parts.gives (index_is d (field row 1) known hk) (coll_is_there d (field row 1) known hk) in
     let same = ap (λ (t : ℕ × List ℤ). with_tile d known.0 known.1 t.0 t.1) (sym parts.made) ∙ same_draft (with_tile d known.0 known.1 tile.0 tile.1) e is in
     subst (IsOneMore elems rows row) same made)
-    (λ code h. absurd (let s = rw h at is in cc))))
-    (λ h. absurd (let s = rw h at is in cc)))
-    (λ h. absurd (let s = rw h at is in cc))
+    (λ code h. let s = rw h at is in no_value s)))
+    (λ h. let s = rw h at is in no_value s))
+    (λ h. let s = rw h at is in no_value s)
 
 -- ---- any record
 

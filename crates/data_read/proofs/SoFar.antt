@@ -8,11 +8,12 @@ use Rattle.coll_data.specs.declared.fault.DataCode.TheVariants.{NoElems}
 use Rattle.coll_data.specs.declared.fault.DataFault.{DataFault}
 use Rattle.data_read.specs.Draft.{Draft, begun, data_after}
 use Rattle.data_read.specs.Records.{first_record, later_record}
-use Rattle.data_read.specs.Reading.{all_records, as_data, data_of, later_records, records_of, then_at}
+use Rattle.data_read.specs.Reading.{all_records, as_data, later_records, then_at}
 use Rattle.ptg_base.specs.declared.refusal.Refusal.{Refusal}
 use Rattle.ptg_base.specs.declared.refusal.Refusal.TheVariants.{Fault, OutOfMemory}
 use Rattle.data_read.specs.Growing.{ReturnsRefusal, refusal_at}
 use Rattle.data_read.specs.Rows.{HasRows, NextRow}
+use Rattle.data_read.proofs.Choices.{by_result, no_value}
 use Rattle.data_read.proofs.Soundness.{IsSound, well_made}
 use Rattle.data_read.proofs.SoundRecords.{begun_sound}
 use Rattle.data_read.proofs.SoundTiles.{later_sound}
@@ -23,13 +24,13 @@ Rows = List (List (List ℕ))
 abbrev SliceReader : Type 0
 SliceReader = Reader (Bor (List ℕ))
 
--- the record of this row is the next one, and those that are left make of this draft what all records make
-pub record ReadSoFar (text : List ℕ) (row : ℕ) (d : Draft) (reader : SliceReader) : Type 0 where
-  pub rows : Rows
-  pub has : HasRows reader rows
-  pub rest : all_records (records_of text) ≡ later_records row d rows
-  pub count : length (records_of text) + 1 ≡ row + length rows
-  pub sound : IsSound d
+-- of these records, which are added to this draft from row 2 on, that of this row is the next one, and those that are left make
+-- of the draft so far what all of them make
+pub record AddedSoFar (rows : Rows) (first : Draft) (row : ℕ) (d : Draft) (reader : SliceReader) : Type 0 where
+  pub left : Rows
+  pub has : HasRows reader left
+  pub rest : later_records 2 first rows ≡ later_records row d left
+  pub count : length rows + 2 ≡ row + length left
 
 one_more : (rows : Rows) (fields : List (List ℕ)) (reader : SliceReader) (found : Bool) → NextRow rows found fields reader → found ≡ true → (rest : Rows) × (rows ≡ fields ∷ rest) × HasRows reader rest
 one_more rows fields reader true next e = next
@@ -39,66 +40,81 @@ no_more : (rows : Rows) (fields : List (List ℕ)) (reader : SliceReader) (found
 no_more rows fields reader true next e = absurd cc
 no_more rows fields reader false next e = next
 
+-- records that are added to sound data leave them sound
+all_sound : (rows : Rows) (row : ℕ) (d after : Draft) → IsSound d → later_records row d rows ≡ Ok after → IsSound after
+all_sound [] row d after sound is = subst IsSound (let same : d ≡ after = cc in same) sound
+all_sound (fields ∷ rows) row d after sound is =
+    by_result (later_record d fields)
+    (λ next h. let is = rw h at is in all_sound rows (row + 1) next after (later_sound d next fields sound h) is)
+    (λ code h. let s = rw h at is in no_value s)
+
 as_fault : (n : ℕ) (row : ℕ) (code : DataCode) (r : Result Draft DataFault) → r ≡ Err (record { row = row; code = code }) → as_data n r ≡ Err (record { row = row; code = code })
 as_fault n row code r e = rw e refl
 
 -- ---- the first record
 
-pub no_record : (text : List ℕ) (fields : List (List ℕ)) (reader : SliceReader) (found : Bool) → NextRow (records_of text) found fields reader → found ≡ false → data_of text ≡ Err (record { row = 1; code = NoElems })
-no_record text fields reader found next e = as_fault (length (records_of text)) 1 NoElems (all_records (records_of text)) (ap all_records (no_more (records_of text) fields reader found next e))
+pub no_record : (rows : Rows) (fields : List (List ℕ)) (reader : SliceReader) (found : Bool) → NextRow rows found fields reader → found ≡ false → as_data (length rows) (all_records rows) ≡ Err (record { row = 1; code = NoElems })
+no_record rows fields reader found next e = as_fault (length rows) 1 NoElems (all_records rows) (ap all_records (no_more rows fields reader found next e))
 
-pub first_fault : (text : List ℕ) (fields : List (List ℕ)) (reader : SliceReader) (found : Bool) (code : DataCode) → NextRow (records_of text) found fields reader → found ≡ true → first_record fields ≡ Err code → data_of text ≡ Err (record { row = 1; code = code })
-first_fault text fields reader found code next e is =
-    let more = one_more (records_of text) fields reader found next e in
-    as_fault (length (records_of text)) 1 code (all_records (records_of text)) (ap all_records more.1 ∙ ap (λ r. then_at 1 r (λ elements. later_records 2 (begun elements) more.0)) is)
+module _ (rows : Rows) (fields : List (List ℕ)) (reader : SliceReader) (found : Bool) (next : NextRow rows found fields reader) (e : found ≡ true) where
+  pub first_fault : (code : DataCode) → first_record fields ≡ Err code → as_data (length rows) (all_records rows) ≡ Err (record { row = 1; code = code })
+  first_fault code is =
+      let more = one_more rows fields reader found next e in
+      as_fault (length rows) 1 code (all_records rows) (ap all_records more.1 ∙ ap (λ r. then_at 1 r (λ elements. later_records 2 (begun elements) more.0)) is)
 
-pub started : (text : List ℕ) (fields : List (List ℕ)) (reader : SliceReader) (found : Bool) (elems : ℕ) (d : Draft) → NextRow (records_of text) found fields reader → found ≡ true → first_record fields ≡ Ok elems → d ≡ begun elems → ReadSoFar text 2 d reader
-started text fields reader found elems d next e is begins =
-    let more = one_more (records_of text) fields reader found next e in
-    let size : length (records_of text) ≡ length (fields ∷ more.0) = ap length more.1 in
-    subst (λ (b : Draft). ReadSoFar text 2 b reader) (sym begins)
-    (record {
-      rows = more.0;
-      has = more.2;
-      rest = ap all_records more.1 ∙ ap (λ r. then_at 1 r (λ elements. later_records 2 (begun elements) more.0)) is;
-      count = omega arith;
-      sound = begun_sound fields elems is;
-    })
+  later_of : (elems : ℕ) (d : Draft) → first_record fields ≡ Ok elems → d ≡ begun elems → (left : Rows) → rows ≡ fields ∷ left → all_records rows ≡ later_records 2 d left
+  later_of elems d is begins left more =
+      ap all_records more ∙ ap (λ r. then_at 1 r (λ elements. later_records 2 (begun elements) left)) is ∙ ap (λ (b : Draft). later_records 2 b left) (sym begins)
+
+  -- the records after the first, by what adding them returned
+  module _ (elems : ℕ) (d : Draft) (is : first_record fields ≡ Ok elems) (begins : d ≡ begun elems) where
+    pub later_left : (left : Rows) × (rows ≡ fields ∷ left) × HasRows reader left
+    later_left = one_more rows fields reader found next e
+
+    pub whole_at_end : (after : Draft) (count : ℕ) → later_records 2 d later_left.0 ≡ Ok after → IsWellMade (data_after count after)
+    whole_at_end after count ends =
+        well_made after count (all_sound later_left.0 2 d after (subst IsSound (sym begins) (begun_sound fields elems is)) ends)
+
+    pub at_end : (after : Draft) (count : ℕ) → later_records 2 d later_left.0 ≡ Ok after → count ≡ length later_left.0 + 1 → as_data (length rows) (all_records rows) ≡ Ok (data_after count after)
+    at_end after count ends number =
+        let size : length rows ≡ length later_left.0 + 1 = ap length later_left.1 ∙ omega arith in
+        ap (as_data (length rows)) (later_of elems d is begins later_left.0 later_left.1 ∙ ends) ∙ ap (λ k. Ok (data_after k after)) (size ∙ sym number)
+
+    pub refused_later : (refusal : Refusal DataFault) → ReturnsRefusal refusal (later_records 2 d later_left.0) → ReturnsRefusal refusal (as_data (length rows) (all_records rows))
+    refused_later OutOfMemory ends = tt
+    refused_later (Fault fault) ends = ap (as_data (length rows)) (later_of elems d is begins later_left.0 later_left.1 ∙ ends)
 
 -- ---- a later record
 
-module _ (text : List ℕ) (row : ℕ) (d : Draft) (old : SliceReader) (far : ReadSoFar text row d old) (fields : List (List ℕ)) (reader : SliceReader) (found : Bool)
-    (next : NextRow far.rows found fields reader) where
-  pub at_end : found ≡ false → data_of text ≡ Ok (data_after (row - 1) d)
-  at_end e =
-      let none = no_more far.rows fields reader found next e in
-      let size : length far.rows ≡ 0 = ap length none in
+pub begins : (rows : Rows) (first : Draft) (reader : SliceReader) → HasRows reader rows → AddedSoFar rows first 2 first reader
+begins rows first reader has = record { left = rows; has = has; rest = refl; count = omega arith }
+
+module _ (rows : Rows) (first : Draft) (row : ℕ) (d : Draft) (old : SliceReader) (far : AddedSoFar rows first row d old) (fields : List (List ℕ)) (reader : SliceReader) (found : Bool)
+    (next : NextRow far.left found fields reader) where
+  pub all_added : found ≡ false → (later_records 2 first rows ≡ Ok d) × (row - 1 ≡ length rows + 1)
+  all_added e =
+      let none = no_more far.left fields reader found next e in
+      let size : length far.left ≡ 0 = ap length none in
       let count = far.count in
-      let n : length (records_of text) ≡ row - 1 = omega arith in
-      ap (as_data (length (records_of text))) (far.rest ∙ ap (later_records row d) none) ∙ ap (λ k. Ok (data_after k d)) n
+      (far.rest ∙ ap (later_records row d) none, omega arith)
 
-  pub whole_at_end : IsWellMade (data_after (row - 1) d)
-  whole_at_end = well_made d (row - 1) far.sound
-
-  later_fault : (code : DataCode) → found ≡ true → later_record d fields ≡ Err code → data_of text ≡ Err (record { row = row; code = code })
+  later_fault : (code : DataCode) → found ≡ true → later_record d fields ≡ Err code → later_records 2 first rows ≡ Err (record { row = row; code = code })
   later_fault code e is =
-      let more = one_more far.rows fields reader found next e in
-      as_fault (length (records_of text)) row code (all_records (records_of text))
-      (far.rest ∙ ap (later_records row d) more.1 ∙ ap (λ r. then_at row r (λ b. later_records (row + 1) b more.0)) is)
+      let more = one_more far.left fields reader found next e in
+      far.rest ∙ ap (later_records row d) more.1 ∙ ap (λ r. then_at row r (λ b. later_records (row + 1) b more.0)) is
 
-  pub later_refusal : (refusal : Refusal DataCode) → found ≡ true → ReturnsRefusal refusal (later_record d fields) → ReturnsRefusal (refusal_at row refusal) (data_of text)
+  pub later_refusal : (refusal : Refusal DataCode) → found ≡ true → ReturnsRefusal refusal (later_record d fields) → ReturnsRefusal (refusal_at row refusal) (later_records 2 first rows)
   later_refusal OutOfMemory e is = tt
   later_refusal (Fault code) e is = later_fault code e is
 
-  pub went_on : (after : Draft) → found ≡ true → later_record d fields ≡ Ok after → ReadSoFar text (row + 1) after reader
+  pub went_on : (after : Draft) → found ≡ true → later_record d fields ≡ Ok after → AddedSoFar rows first (row + 1) after reader
   went_on after e is =
-      let more = one_more far.rows fields reader found next e in
-      let size : length far.rows ≡ length (fields ∷ more.0) = ap length more.1 in
+      let more = one_more far.left fields reader found next e in
+      let size : length far.left ≡ length (fields ∷ more.0) = ap length more.1 in
       let count = far.count in
       record {
-        rows = more.0;
+        left = more.0;
         has = more.2;
         rest = far.rest ∙ ap (later_records row d) more.1 ∙ ap (λ r. then_at row r (λ b. later_records (row + 1) b more.0)) is;
         count = omega arith;
-        sound = later_sound d after fields far.sound is;
       }

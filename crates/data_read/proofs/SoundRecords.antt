@@ -14,7 +14,7 @@ use Rattle.data_read.specs.declared.growing.Sized.{Sized}
 use Rattle.data_read.specs.Fields.{field, is_name, whole}
 use Rattle.data_read.specs.Draft.{Draft, begun, is_new, type_among, type_named, with_coll, with_type}
 use Rattle.data_read.specs.Records.{as_element_count, columns, coll_of, coll_record, collof_record, element_count, first_record, int_record, shape_of, side, sized, type_record}
-use Rattle.data_read.proofs.Choices.{chosen, by_test, by_option, by_result}
+use Rattle.data_read.proofs.Choices.{chosen, by_test, by_option, by_result, no_value}
 use Rattle.data_read.proofs.Soundness.{HasLength, IsSound, IsSoundColl, all_push, all_replicate, all_true_push, all_weaker, at_push, counts_of, elements_in}
 
 -- ---- the first record
@@ -43,12 +43,12 @@ begun_sound fields elems is =
     by_test (length fields == 2)
     (λ h. let is = rw h at is in
     by_option (element_count (field fields 1))
-    (λ h. absurd (let s = rw h at is in cc))
+    (λ h. let s = rw h at is in no_value s)
     (λ n hn. let is = rw hn at is in
     let same : n ≡ elems = same_count _ _ is in
     subst (λ k. IsSound (begun k)) same (first_sound n (count_found (whole (field fields 1)) n hn))))
-    (λ h. absurd (let s = rw h at is in cc)))
-    (λ h. absurd (let s = rw h at is in cc))
+    (λ h. let s = rw h at is in no_value s))
+    (λ h. let s = rw h at is in no_value s)
 
 -- ---- types
 
@@ -84,12 +84,12 @@ same_draft a b e = cc
 pub type_sound : (d e : Draft) (fields : List (List ℕ)) → IsSound d → type_record d fields ≡ Ok e → IsSound e
 type_sound d e fields sound is =
     by_test (length fields == 2)
-    (λ h. absurd (let s = rw h at is in cc))
+    (λ h. let s = rw h at is in no_value s)
     (λ h. let is = rw h at is in
     by_test (length fields == 3)
     (λ h. let is = rw h at is in
     by_option (element_count (field fields 2))
-    (λ h. absurd (let s = rw h at is in cc))
+    (λ h. let s = rw h at is in no_value s)
     (λ n hn. let is = rw hn at is in
     by_test (is_name (field fields 1))
     (λ h. let is = rw h at is in
@@ -98,10 +98,10 @@ type_sound d e fields sound is =
     by_test (nat_lt (length d.types) 15)
     (λ hr. let is = rw hr at is in
     subst IsSound (same_draft _ _ is) (with_type_sound d (field fields 1) n sound (count_found (whole (field fields 2)) n hn) (ltb-true (length d.types) 15 hr)))
-    (λ h. absurd (let s = rw h at is in cc)))
-    (λ k hk. absurd (let s = rw hk at is in cc)))
-    (λ h. absurd (let s = rw h at is in cc))))
-    (λ h. absurd (let s = rw h at is in cc)))
+    (λ h. let s = rw h at is in no_value s))
+    (λ k hk. let s = rw hk at is in no_value s))
+    (λ h. let s = rw h at is in no_value s)))
+    (λ h. let s = rw h at is in no_value s))
 
 -- ---- integers
 
@@ -114,12 +114,12 @@ int_sound d e fields sound is =
     by_test (is_new d (field fields 1))
     (λ h. let is = rw h at is in
     by_option (whole (field fields 2))
-    (λ h. absurd (let s = rw h at is in cc))
+    (λ h. let s = rw h at is in no_value s)
     (λ v hv. let is = rw hv at is in
     subst IsSound (same_draft _ _ is) (record { types_at_most = sound.types_at_most; counts = sound.counts; colls = sound.colls; total = sound.total; at_most = sound.at_most })))
-    (λ h. absurd (let s = rw h at is in cc)))
-    (λ h. absurd (let s = rw h at is in cc)))
-    (λ h. absurd (let s = rw h at is in cc))
+    (λ h. let s = rw h at is in no_value s))
+    (λ h. let s = rw h at is in no_value s))
+    (λ h. let s = rw h at is in no_value s)
 
 -- ---- collections
 
@@ -224,16 +224,16 @@ same_size a b e = cc
 sized_is : (d : Draft) (type : List ℕ) (fields : List (List ℕ)) (at : ℕ) (size : Sized) → sized d type fields at ≡ Ok size → IsSizeOf d size
 sized_is d type fields at size is =
     by_option (type_named d type)
-    (λ h. absurd (let s = rw h at is in cc))
+    (λ h. let s = rw h at is in no_value s)
     (λ known hk. let is = rw hk at is in
     by_option (whole (field fields at))
-    (λ h. absurd (let s = rw h at is in cc))
+    (λ h. let s = rw h at is in no_value s)
     (λ rows hr. let is = rw hr at is in
     by_option (columns fields (at + 1))
-    (λ h. absurd (let s = rw h at is in cc))
+    (λ h. let s = rw h at is in no_value s)
     (λ cols hc. let is = rw hc at is in
     by_option (shape_of rows cols)
-    (λ h. absurd (let s = rw h at is in cc))
+    (λ h. let s = rw h at is in no_value s)
     (λ shape hs. let is = rw hs at is in
     by_test (nat_le (d.elements + tile_count shape.0 shape.1 * known.1) 16777216)
     (λ h. let is = rw h at is in
@@ -249,7 +249,7 @@ sized_is d type fields at size is =
       tiles = shape_has rows cols shape hs;
       room = leb-true (d.elements + tile_count shape.0 shape.1 * known.1) 16777216 h;
     }))
-    (λ h. absurd (let s = rw h at is in cc))))))
+    (λ h. let s = rw h at is in no_value s)))))
 
 coll_of_sound : (d e : Draft) (type : List ℕ) (fields : List (List ℕ)) (at : ℕ) → IsSound d → coll_of d type fields at ≡ Ok e → IsSound e
 coll_of_sound d e type fields at sound is =
@@ -261,23 +261,23 @@ coll_of_sound d e type fields at sound is =
     (λ size hs. let is = rw hs at is in
     let parts = sized_is d type fields (at + 1) size hs in
     subst IsSound (same_draft _ _ is) (with_coll_sound d (field fields at) size.shape size.datatype size.elements sound parts.within parts.is parts.tiles.some parts.tiles.few parts.room))
-    (λ code hs. absurd (let s = rw hs at is in cc)))
-    (λ h. absurd (let s = rw h at is in cc)))
-    (λ h. absurd (let s = rw h at is in cc))
+    (λ code hs. let s = rw hs at is in no_value s))
+    (λ h. let s = rw h at is in no_value s))
+    (λ h. let s = rw h at is in no_value s)
 
 pub coll_sound : (d e : Draft) (fields : List (List ℕ)) → IsSound d → coll_record d fields ≡ Ok e → IsSound e
 coll_sound d e fields sound is =
     by_test ((length fields == 3) || (length fields == 4))
     (λ h. let is = rw h at is in
     coll_of_sound d e (codes "DEFAULT") fields 1 sound is)
-    (λ h. absurd (let s = rw h at is in cc))
+    (λ h. let s = rw h at is in no_value s)
 
 pub collof_sound : (d e : Draft) (fields : List (List ℕ)) → IsSound d → collof_record d fields ≡ Ok e → IsSound e
 collof_sound d e fields sound is =
     by_test ((length fields == 4) || (length fields == 5))
     (λ h. let is = rw h at is in
     coll_of_sound d e (field fields 1) fields 2 sound is)
-    (λ h. absurd (let s = rw h at is in cc))
+    (λ h. let s = rw h at is in no_value s)
 
 -- a fault is no draft
 pub no_draft : (code : DataCode) (e : Draft) → ◌≡◌ {A = Result Draft DataCode} (Err code) (Ok e) → ⊥

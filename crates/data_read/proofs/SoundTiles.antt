@@ -11,7 +11,7 @@ use Rattle.data_read.specs.declared.growing.GrowingColl.{GrowingColl}
 use Rattle.data_read.specs.Fields.{field, is_name, whole}
 use Rattle.data_read.specs.Draft.{Draft, coll_index, coll_named, with_tile}
 use Rattle.data_read.specs.Records.{column, first_value, free_index, later_record, new_tile, numbers, tile_record}
-use Rattle.data_read.proofs.Choices.{by_test, by_option, by_result}
+use Rattle.data_read.proofs.Choices.{by_test, by_option, by_result, no_value}
 use Rattle.data_read.proofs.Values.{length_opened, numbers_length}
 use Rattle.data_read.proofs.Soundness.{HasLength, IsSound, IsSoundColl, all_at, all_set, counts_of, elements_in}
 use Rattle.data_read.proofs.SoundRecords.{both_true, coll_sound, collof_sound, int_sound, no_draft, same_draft, type_sound}
@@ -27,21 +27,21 @@ tile_length fields coll tile is =
     by_test (nat_le 1 (length fields - first) && nat_le (length fields - first) coll.elements)
     (λ ht. let is = rw ht at is in
     by_option (whole (field fields 2))
-    (λ h. absurd (let s = rw h at is in cc))
+    (λ h. let s = rw h at is in no_value s)
     (λ i hi. let is = rw hi at is in
     by_option (column coll.shape.1 fields)
-    (λ h. absurd (let s = rw h at is in cc))
+    (λ h. let s = rw h at is in no_value s)
     (λ j hj. let is = rw hj at is in
     by_option (numbers (drop first fields))
-    (λ h. absurd (let s = rw h at is in cc))
+    (λ h. let s = rw h at is in no_value s)
     (λ values hv. let is = rw hv at is in
     by_result (free_index coll i j)
     (λ index hn. let is = rw hn at is in
     let few = leb-true (length fields - first) coll.elements (both_true (nat_le 1 (length fields - first)) (nat_le (length fields - first) coll.elements) ht).1 in
     let size : length values ≡ length fields - first = numbers_length (drop first fields) values hv ∙ length-drop first fields in
     ap (λ (t : ℕ × List ℤ). length t.1) (sym (same_tile _ _ is)) ∙ length_opened coll.elements values (omega arith))
-    (λ code hn. absurd (let s = rw hn at is in cc))))))
-    (λ h. absurd (let s = rw h at is in cc))
+    (λ code hn. let s = rw hn at is in no_value s)))))
+    (λ h. let s = rw h at is in no_value s)
 
 with_tile_sound : (d : Draft) (at : ℕ) (coll : GrowingColl) (index : ℕ) (tile : List ℤ) → IsSound d → slice_get d.colls at ≡ Some coll → length tile ≡ coll.elements → IsSound (with_tile d at coll index tile)
 with_tile_sound d at coll index tile sound got size =
@@ -89,14 +89,14 @@ tile_sound d e fields sound is =
     by_test (is_name (field fields 1))
     (λ h. let is = rw h at is in
     by_option (coll_named d (field fields 1))
-    (λ h. absurd (let s = rw h at is in cc))
+    (λ h. let s = rw h at is in no_value s)
     (λ known hk. let is = rw hk at is in
     by_result (new_tile fields known.1)
     (λ tile ht. let is = rw ht at is in
     subst IsSound (same_draft _ _ is) (with_tile_sound d known.0 known.1 tile.0 tile.1 sound (coll_is_there d (field fields 1) known hk) (tile_length fields known.1 tile ht)))
-    (λ code ht. absurd (let s = rw ht at is in cc))))
-    (λ h. absurd (let s = rw h at is in cc)))
-    (λ h. absurd (let s = rw h at is in cc))
+    (λ code ht. let s = rw ht at is in no_value s)))
+    (λ h. let s = rw h at is in no_value s))
+    (λ h. let s = rw h at is in no_value s)
 
 -- ---- any record
 

@@ -1,17 +1,20 @@
 //! The data that a text spells.
 
-ghost use Rattle.std.specs.Prelude.{◌≡◌, ◌≤◌, ◌⊎◌, Ok, Err, IfOk, length};
+ghost use Rattle.std.specs.Prelude.{◌≡◌, ◌≤◌, ◌⊎◌, ◌+◌, ℕ, List, Ok, Err, IfOk, length};
+ghost use Rattle.std.specs.Result.{MatchResult};
 ghost use Rattle.coll_data.specs.Data.{Data};
 ghost use Rattle.coll_data.specs.declared.fault.DataFault.{DataFault};
 ghost use Rattle.ptg_base.specs.declared.refusal.Refusal.TheVariants.{Fault, OutOfMemory};
-ghost use Rattle.data_read.specs.Growing.{Returns, refusal_at};
-ghost use Rattle.data_read.specs.Reading.{data_of};
+ghost use Rattle.data_read.specs.Growing.{draft_of, IsKeyed, Returns, ReturnsRefusal, refusal_at};
+ghost use Rattle.data_read.specs.Reading.{all_records, as_data, data_of, later_records};
+ghost use Rattle.data_read.specs.Rows.{HasRows};
 
 use crate::finish::finish;
+use crate::growing::Growing;
 use crate::record::{add_record, start};
 use crate::rows::{next_row, reader_of};
 use coll_data::{DataCode, DataFault, DataRefusal, Given};
-use csv::ByteRecord;
+use csv::{ByteRecord, Reader};
 use ptg_base::Refusal;
 use std::alloc::Global;
 
@@ -20,18 +23,44 @@ fn read(alloc: Global, bytes: &[u8]) -> Result<Given, DataRefusal>
 {
     let mut reader = reader_of(alloc, bytes);
     let mut row = ByteRecord::new(alloc);
-    if !next_row(&mut reader, &mut row)? {
+    read_rows(alloc, &mut reader, &mut row)
+}
+
+// The data of the records of a reader that is at its first one.
+fn read_rows(
+    alloc: Global,
+    reader: &mut Reader<&[u8]>,
+    row: &mut ByteRecord,
+) -> Result<Given, DataRefusal>
+    requires { (rows : List (List (List ℕ))) × HasRows reader.old rows }
+    ensures { (rows : List (List (List ℕ))) → HasRows reader.old rows → Returns result (as_data (length rows) (all_records rows)) }
+{
+    if !next_row(reader, row)? {
         return Err(refused(1, DataCode::NoElems));
     }
-    let mut all = match start(alloc, &row) {
+    let mut all = match start(alloc, row) {
         Ok(all) => all,
         Err(code) => return Err(refused(1, code)),
     };
+    let count = add_later_rows(alloc, reader, row, &mut all)?;
+    Ok(finish(alloc, all, count)?)
+}
+
+// Adds the records after the first, and returns how many records there are in all.
+fn add_later_rows(
+    alloc: Global,
+    reader: &mut Reader<&[u8]>,
+    row: &mut ByteRecord,
+    all: &mut Growing,
+) -> Result<u64, DataRefusal>
+    requires { IsKeyed all.old }
+    ensures { (rows : List (List (List ℕ))) → HasRows reader.old rows → MatchResult result (λ count. (later_records 2 (draft_of all.old) rows ≡ Ok (draft_of all.new)) × (count ≡ length rows + 1)) (λ refusal. ReturnsRefusal refusal (later_records 2 (draft_of all.old) rows)) }
+{
     for number in 2..u64::MAX {
-        if !next_row(&mut reader, &mut row)? {
-            return Ok(finish(alloc, all, number - 1)?);
+        if !next_row(reader, row)? {
+            return Ok(number - 1);
         }
-        match add_record(alloc, &mut all, &row) {
+        match add_record(alloc, all, row) {
             Ok(_) => {}
             Err(refusal) => return Err(refused_at(number, refusal)),
         }

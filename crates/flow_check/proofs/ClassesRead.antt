@@ -54,21 +54,24 @@ plan_more job (y ∷ classes) (x ∷ bodies) c b h =
     go (Some u) (Some v) None = refl
     go (Some u) (Some v) (Some w) = refl
 
--- what is returned after the next class
-pub next_class : (job : Job) (classes : List ClassTree) (i : ℕ) (c : ClassTree) (r s : Result Plans (Refusal JdfFault)) (q : Result (ClassPlan × ClassSpace) (Refusal JdfFault)) → i < length classes → c ≡ get_or classes i c
+-- what is returned after one class more
+pub one_class : (job : Job) (classes : List ClassTree) (c : ClassTree) (r s : Result Plans (Refusal JdfFault)) (q : Result (ClassPlan × ClassSpace) (Refusal JdfFault))
     → ((p : Option Plans) (o : Option (ClassPlan × ClassSpace)) (fs gs : List JdfFault) → ReturnsChecked {A = Plans} r p fs → ReturnsChecked {A = ClassPlan × ClassSpace} q o gs → ReturnsChecked {A = Plans} s (both with_plan p o) (fs ++ gs))
-    → AreRead job (take i classes) r → IsClassRead job c q → AreRead job (take (i + 1) classes) s
-next_class job classes i c r s q lt at step h k =
+    → AreRead job classes r → IsClassRead job c q → AreRead job (classes ++ c ∷ []) s
+one_class job classes c r s q step h k = record {
+  bodies = h.bodies ++ k.body ∷ [];
+  read = read_more job classes h.bodies c k.body h.read k.read;
+  checked =
+      subst (λ o. ReturnsChecked {A = Plans} s o (classes_faults job (classes ++ c ∷ []) (h.bodies ++ k.body ∷ []))) (sym (plan_more job classes h.bodies c k.body h.read))
+      (subst (λ l. ReturnsChecked {A = Plans} s (both with_plan (classes_plan job classes h.bodies) (class_plan job c k.body)) l) (sym (faults_more job classes h.bodies c k.body h.read))
+      (step (classes_plan job classes h.bodies) (class_plan job c k.body) (classes_faults job classes h.bodies) (class_faults job c k.body) h.checked k.checked));
+}
+
+-- the same, where that class is the next one of a list
+pub next_class : (job : Job) (classes : List ClassTree) (i : ℕ) (c : ClassTree) (s : Result Plans (Refusal JdfFault)) → i < length classes → c ≡ get_or classes i c → AreRead job (take i classes ++ c ∷ []) s → AreRead job (take (i + 1) classes) s
+next_class job classes i c s lt at read =
     let more : take i classes ++ c ∷ [] ≡ take (i + 1) classes = ap (λ y. take i classes ++ y ∷ []) at ∙ sym (take_more classes i c lt) in
-    subst (λ l. AreRead job l s) more
-    (record {
-      bodies = h.bodies ++ k.body ∷ [];
-      read = read_more job (take i classes) h.bodies c k.body h.read k.read;
-      checked =
-          subst (λ o. ReturnsChecked {A = Plans} s o (classes_faults job (take i classes ++ c ∷ []) (h.bodies ++ k.body ∷ []))) (sym (plan_more job (take i classes) h.bodies c k.body h.read))
-          (subst (λ l. ReturnsChecked {A = Plans} s (both with_plan (classes_plan job (take i classes) h.bodies) (class_plan job c k.body)) l) (sym (faults_more job (take i classes) h.bodies c k.body h.read))
-          (step (classes_plan job (take i classes) h.bodies) (class_plan job c k.body) (classes_faults job (take i classes) h.bodies) (class_faults job c k.body) h.checked k.checked));
-    })
+    subst (λ l. AreRead job l s) more read
 
 -- with the rules about the names of globals and classes it is what is returned for the whole text
 pub resolved : (job : Job) (r s : Result Plans (Refusal JdfFault)) (gs : List JdfFault) → AreRead job job.jdf.classes r

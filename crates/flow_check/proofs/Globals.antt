@@ -2,11 +2,23 @@
 use Rattle.std.proofs.Common.{◌≡◌, ℕ, ℤ, ◌+◌, ◌<◌, Bool, true, false, cond, not, List, [], ◌∷◌, ◌++◌, length, take, get_or, Some, None, is_some, if◌then◌else◌, bytes_eq, refl, sym, ◌∙◌, ap}
 use Rattle.std.specs.Option.{option_or}
 use Rattle.std.specs.List.{position}
-use Rattle.name_table.specs.Names.{value_named}
+use Rattle.name_table.specs.Names.{has_name, value_named}
 use Rattle.coll_data.specs.declared.coll.Coll.{Coll}
 use Rattle.check_names.specs.Names.{coll_is}
 use Rattle.flow_check.specs.Bodies.{with_value}
 use Rattle.flow_check.proofs.Tables.{if_named, bytes_sym, table_step, table_skip, value_more, position_more}
+
+-- a choice by a test, the other way round
+pub by_not : {A : Type 0} (b : Bool) (x y : A) → (if b then x else y) ≡ (if not b then y else x)
+by_not true x y = refl
+by_not false x y = refl
+
+-- what adding a name leaves
+pub added_name : (names u : List (List ℕ)) (name x : List ℕ) (new : Bool) → new ≡ not (has_name names name) → u ≡ (if new then names ++ name ∷ [] else names) → name ≡ x
+    → u ≡ (if has_name names x then names else names ++ x ∷ [])
+added_name names u name x new e s n =
+    s ∙ (ap (λ b. if b then names ++ name ∷ [] else names) e
+    ∙ (ap (λ m. if not (has_name names m) then names ++ m ∷ [] else names) n ∙ sym (by_not (has_name names x) names (names ++ x ∷ []))))
 
 -- what adding a name and its value leaves
 pub added_value : {V : Type 0} (table u : List (List ℕ × V)) (name : List ℕ) (x : List ℕ × V) (new : Bool) → new ≡ not (is_some (value_named table name)) → u ≡ (if new then table ++ (name, x.1) ∷ [] else table) → name ≡ x.0
@@ -28,11 +40,7 @@ pub ints_step : (declared : List ℕ → Bool) (xs : List (List ℕ × ℤ)) (i 
     → (n : List ℕ) → value_named after n ≡ cond (declared n) (value_named (take (i + 1) xs) n) None
 ints_step declared xs i d table after lt at given tables s n =
     table_step declared (value_named (take i xs)) (value_named (take (i + 1) xs)) table after d.0 d.1 (not (is_some (value_named table d.0))) tables (ints_more xs i d lt at) given
-    refl (s ∙ go (is_some (value_named table d.0))) n
-  where
-    go : (b : Bool) → (if b then table else table ++ d ∷ []) ≡ (if not b then table ++ d ∷ [] else table)
-    go true = refl
-    go false = refl
+    refl (s ∙ by_not (is_some (value_named table d.0)) table (table ++ d ∷ [])) n
 
 pub ints_skip : (declared : List ℕ → Bool) (xs : List (List ℕ × ℤ)) (i : ℕ) (d : List ℕ × ℤ) (table : List (List ℕ × ℤ)) → i < length xs → d ≡ get_or xs i d → declared d.0 ≡ false
     → ((n : List ℕ) → value_named table n ≡ cond (declared n) (value_named (take i xs) n) None)
@@ -46,13 +54,13 @@ numbers_more xs i d lt at n =
     ∙ (ap (λ (y : Coll). option_or (position (coll_is n) (take i xs)) (cond (bytes_eq y.name n) (Some i) None)) (sym at)
     ∙ ap (λ b. option_or (position (coll_is n) (take i xs)) (cond b (Some i) None)) (bytes_sym d.name n))
 
-pub numbers_step : (declared : List ℕ → Bool) (xs : List Coll) (i : ℕ) (d : Coll) (table after : List (List ℕ × ℕ)) (name : List ℕ) (new : Bool) → i < length xs → d ≡ get_or xs i d → name ≡ d.name → declared d.name ≡ true
+pub numbers_step : (declared : List ℕ → Bool) (xs : List Coll) (i : ℕ) (d : Coll) (table after : List (List ℕ × ℕ)) → i < length xs → d ≡ get_or xs i d → declared d.name ≡ true
     → ((n : List ℕ) → value_named table n ≡ cond (declared n) (position (coll_is n) (take i xs)) None)
-    → new ≡ not (is_some (value_named table name)) → after ≡ (if new then table ++ (name, i) ∷ [] else table)
+    → after ≡ with_value table (d.name, i)
     → (n : List ℕ) → value_named after n ≡ cond (declared n) (position (coll_is n) (take (i + 1) xs)) None
-numbers_step declared xs i d table after name new lt at named given tables e s n =
-    table_step declared (λ m. position (coll_is m) (take i xs)) (λ m. position (coll_is m) (take (i + 1) xs)) table after d.name i new tables (numbers_more xs i d lt at) given
-    (e ∙ ap (λ m. not (is_some (value_named table m))) named) (s ∙ ap (λ m. if new then table ++ (m, i) ∷ [] else table) named) n
+numbers_step declared xs i d table after lt at given tables s n =
+    table_step declared (λ m. position (coll_is m) (take i xs)) (λ m. position (coll_is m) (take (i + 1) xs)) table after d.name i (not (is_some (value_named table d.name))) tables
+    (numbers_more xs i d lt at) given refl (s ∙ by_not (is_some (value_named table d.name)) table (table ++ (d.name, i) ∷ [])) n
 
 pub numbers_skip : (declared : List ℕ → Bool) (xs : List Coll) (i : ℕ) (d : Coll) (table : List (List ℕ × ℕ)) → i < length xs → d ≡ get_or xs i d → declared d.name ≡ false
     → ((n : List ℕ) → value_named table n ≡ cond (declared n) (position (coll_is n) (take i xs)) None)

@@ -37,9 +37,16 @@ fn given_names(alloc: Global, given: &Given) -> Result<NameSet, OutOfMemory>
     ensures { IfOk result (λ names. (n : List ℕ) → has_name names n ≡ is_given given.now n) }
 {
     let mut names = NameSet::new(alloc);
-    add_ints(alloc, &mut names, given.ints())?;
-    add_colls(alloc, &mut names, given.colls())?;
+    add_given(alloc, &mut names, given)?;
     Ok(names)
+}
+
+// Adds the names of all integers and collections of the data.
+fn add_given(alloc: Global, names: &mut NameSet, given: &Given) -> Result<(), OutOfMemory>
+    ensures { OnOk result ((n : List ℕ) → has_name names.new n ≡ (has_name names.old n || is_given given.now n)) }
+{
+    add_ints(alloc, names, given.ints())?;
+    add_colls(alloc, names, given.colls())
 }
 
 // Do the data, which have these names, lack a global?

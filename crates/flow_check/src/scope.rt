@@ -1,6 +1,6 @@
 //! What the names in a body may mean.
 
-ghost use Rattle.std.specs.Prelude.{◌≡◌, ◌≤◌, ◌^◌, ℕ, List, None, IfOk, OnOk, length, position, if◌then◌else◌};
+ghost use Rattle.std.specs.Prelude.{◌≡◌, ◌≤◌, ◌^◌, ◌++◌, ◌∷◌, [], ℕ, List, None, IfOk, OnOk, length, position, if◌then◌else◌};
 ghost use Rattle.std.specs.List.{list_any};
 ghost use Rattle.name_table.specs.Names.{has_name, value_named};
 ghost use Rattle.check_names.specs.Limits.{IsShortClass};
@@ -30,9 +30,18 @@ pub(crate) fn declared_names(alloc: Global, globals: &[Word]) -> Result<NameSet,
 {
     let mut names = NameSet::new(alloc);
     for global in globals {
-        names.add(Text::of(alloc, global.text.bytes())?)?;
+        add_name(alloc, &mut names, &global.text)?;
     }
     Ok(names)
+}
+
+// Adds a name, unless the set has it.
+#[tactic(auto, using(crate::proofs::Globals::added_name))]
+fn add_name(alloc: Global, names: &mut NameSet, name: &Text) -> Result<(), OutOfMemory>
+    ensures { OnOk result (names.new ≡ (if has_name names.old name.now then names.old else names.old ++ name.now ∷ [])) }
+{
+    names.add(Text::of(alloc, name.bytes())?)?;
+    Ok(())
 }
 
 // Adds an integer of the data, unless the table has its name.
@@ -71,10 +80,24 @@ pub(crate) fn colls_among(declared: &Declared, colls: &[Coll]) -> Result<NameSet
     let mut names = NameSet::new(declared.alloc);
     for coll in colls {
         if declared.names.contains(&coll.name) {
-            names.add(Text::of(declared.alloc, coll.name.bytes())?)?;
+            add_name(declared.alloc, &mut names, &coll.name)?;
         }
     }
     Ok(names)
+}
+
+// Adds the number of a name, unless the table has one.
+#[tactic(auto, using(crate::proofs::Globals::added_value))]
+fn add_number(
+    alloc: Global,
+    table: &mut NameTable<u32>,
+    name: &Text,
+    number: u32,
+) -> Result<(), OutOfMemory>
+    ensures { OnOk result (table.new ≡ with_value table.old (name.now, number)) }
+{
+    table.add(Text::of(alloc, name.bytes())?, number)?;
+    Ok(())
 }
 
 /// The numbers of those of some collections of the data that are declared as globals, by name.
@@ -90,7 +113,7 @@ pub(crate) fn numbers_among(
     for i in 0..colls.len() {
         let coll = &colls[i];
         if declared.names.contains(&coll.name) {
-            table.add(Text::of(declared.alloc, coll.name.bytes())?, i as u32)?;
+            add_number(declared.alloc, &mut table, &coll.name, i as u32)?;
         }
     }
     Ok(table)

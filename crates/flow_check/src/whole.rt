@@ -1,6 +1,6 @@
 //! All names of a JDF with its data.
 
-ghost use Rattle.std.specs.Prelude.{◌≡◌, ◌≤◌, ◌^◌, [], ◌∷◌, ◌++◌, List, Option, Some, IfOk, length};
+ghost use Rattle.std.specs.Prelude.{◌≡◌, ◌≤◌, ◌^◌, [], ◌∷◌, ◌++◌, List, Option, Some, IfOk, OnOk, length};
 ghost use Rattle.std.specs.List.{AllByRecursion};
 ghost use Rattle.jdf_lex.specs.declared.fault.JdfFault.{JdfFault};
 ghost use Rattle.plan_core.specs.declared.class.ClassPlan.{ClassPlan};
@@ -71,10 +71,40 @@ fn each_class(
     ensures { IfOk result (λ r. AreRead (job_of context.now) classes.now r) }
 {
     let mut scope = scope;
+    read_classes(context, &mut scope, classes)
+}
+
+// The results for some classes, and for one more with its names resolved.
+fn and_class(
+    context: &Context,
+    scope: &mut Scope,
+    results: ClassesResult,
+    one: &ClassTree,
+) -> Result<ClassesResult, OutOfMemory>
+    requires context { IsContext context.now }
+    requires globals { HasGlobals (job_of context.now) scope.old }
+    requires short { IsShortClass one.now }
+    ensures read { IfOk result (λ r. (classes : List ClassTree) → AreRead (job_of context.now) classes results → AreRead (job_of context.now) (classes ++ one.now ∷ []) r) }
+    ensures globals { OnOk result (HasGlobals (job_of context.now) scope.new) }
+{
+    let read = class_read(context, one, scope)?;
+    Ok(with_class(results, read))
+}
+
+// Some classes with all names resolved, and their spaces; the scope changes from class to class.
+fn read_classes(
+    context: &Context,
+    scope: &mut Scope,
+    classes: &[ClassTree],
+) -> Result<ClassesResult, OutOfMemory>
+    requires context { IsContext context.now }
+    requires globals { HasGlobals (job_of context.now) scope.old }
+    requires short { AllByRecursion IsShortClass classes.now }
+    ensures { IfOk result (λ r. AreRead (job_of context.now) classes.now r) }
+{
     let mut results = Ok((Seq::new(context.alloc), Seq::new(context.alloc)));
     for one in classes {
-        let read = class_read(context, one, &mut scope)?;
-        results = with_class(results, read);
+        results = and_class(context, scope, results, one)?;
     }
     Ok(results)
 }
@@ -103,15 +133,23 @@ fn all_classes(declared: &Declared) -> Result<ClassesResult, OutOfMemory>
     requires short { IsShort declared.now.jdf.now }
     ensures { IfOk result (λ r. AreRead (job_with declared.now) declared.now.jdf.now.classes r) }
 {
-    let ints = declared.given.ints();
-    let colls = declared.given.colls();
-    let globals = globals_of(declared, ints, colls)?;
-    let scope = global_scope(declared, ints, colls)?;
+    let globals = globals_of(declared, declared.given.ints(), declared.given.colls())?;
+    classes_with(declared, &globals)
+}
+
+// The same, by the values and numbers of the globals.
+fn classes_with(declared: &Declared, globals: &Globals) -> Result<ClassesResult, OutOfMemory>
+    requires declared { AreDeclared (job_with declared.now) declared.now.names.now }
+    requires globals { AreGlobals (job_with declared.now) globals.now }
+    requires short { IsShort declared.now.jdf.now }
+    ensures { IfOk result (λ r. AreRead (job_with declared.now) declared.now.jdf.now.classes r) }
+{
+    let scope = global_scope(declared, declared.given.ints(), declared.given.colls())?;
     let context = Context {
         alloc: declared.alloc,
         jdf: declared.jdf,
         given: declared.given,
-        globals: &globals,
+        globals,
         seen: &[],
     };
     each_class(&context, scope, declared.jdf.classes.as_slice())
@@ -132,15 +170,26 @@ pub(crate) fn resolved(alloc: Global, jdf: &Jdf, given: &Given) -> Result<Classe
     requires { IsShort jdf.now }
     ensures { ReturnsResolved (record { jdf = jdf.now; given = given.now }) result }
 {
-    let globals = jdf.globals.as_slice();
-    let declared_names = declared_names(alloc, globals)?;
+    let declared_names = declared_names(alloc, jdf.globals.as_slice())?;
     let declared = Declared {
         alloc,
         jdf,
         given,
         names: &declared_names,
     };
-    let classes = all_classes(&declared)?;
+    resolved_with(&declared)
+}
+
+// The same, with the names of the globals by key.
+fn resolved_with(declared: &Declared) -> Result<Classes, JdfRefusal>
+    requires declared { AreDeclared (job_with declared.now) declared.now.names.now }
+    requires short { IsShort declared.now.jdf.now }
+    ensures { ReturnsResolved (job_with declared.now) result }
+{
+    let alloc = declared.alloc;
+    let jdf = declared.jdf;
+    let classes = all_classes(declared)?;
+    let globals = jdf.globals.as_slice();
     let rules = names(alloc, globals, jdf.classes.as_slice());
     and_rules(classes, rules)
 }

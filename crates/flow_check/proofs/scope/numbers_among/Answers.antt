@@ -4,7 +4,7 @@ use Rattle.check_names.specs.Names.{is_declared}
 use Rattle.flow_check.specs.Jobs.{job_with}
 use Rattle.flow_check.proofs.Globals.{numbers_step, numbers_skip}
 use Rattle.flow_check.proofs.scope.numbers_among.Goals as goal
-use Rattle.flow_check.proofs.scope.numbers_among.Goals.{then-contains+in_ok-of+in_ok-add, else-contains}
+use Rattle.flow_check.proofs.scope.numbers_among.Goals.{then-contains+in_ok-add_number, else-contains}
 
 pub loop-i-preserved : goal.loop-i-preserved
 loop-i-preserved c n =
@@ -13,11 +13,10 @@ loop-i-preserved c n =
     let i = c.loop-i.i in
     let d = c.index-colls-i.result in
     elim c.if-contains.branch [
-      | then-contains+in_ok-of+in_ok-add w ↦
-          let named = w.in_ok-of.ensures ∙ w.bytes.ensures in
+      | then-contains+in_ok-add_number w ↦
           let passes = sym (c.requires.declared d.name) ∙ (sym c.contains.ensures ∙ w.if-contains.true) in
-          ap (λ t. value_named t n) w.table-is ∙ numbers_step (is_declared job) xs i d c.loop-i.table w.add.new.self w.in_ok-of.field-0 w.in_ok-add.field-0 c.loop-i-test.true c.index-colls-i.is named passes
-          c.loop-i.invariant w.in_ok-add.ensures.added w.in_ok-add.ensures.entries n
+          ap (λ t. value_named t n) w.table-is ∙ numbers_step (is_declared job) xs i d c.loop-i.table w.add_number.new.table c.loop-i-test.true c.index-colls-i.is passes
+          c.loop-i.invariant w.in_ok-add_number.ensures n
       | else-contains w ↦
           let fails = sym (c.requires.declared d.name) ∙ (sym c.contains.ensures ∙ w.if-contains.false) in
           ap (λ t. value_named t n) w.table-is ∙ numbers_skip (is_declared job) xs i d c.loop-i.table c.loop-i-test.true c.index-colls-i.is fails c.loop-i.invariant n

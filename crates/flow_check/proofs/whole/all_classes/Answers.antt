@@ -4,5 +4,5 @@ use Rattle.flow_check.proofs.whole.all_classes.Goals as goal
 
 pub globals_of-requires-clause-at_most : goal.globals_of-requires-clause-at_most
 globals_of-requires-clause-at_most c =
-    let same : length c.colls-colls.result.now ≡ length c.args.declared.now.given.now.colls = ap length c.colls-colls.ensures.colls in
-    omega (arith, same, colls_at_most c.args.declared.now.given.now c.colls-colls.ensures.well_made)
+    let same : length c.colls.result.now ≡ length c.args.declared.now.given.now.colls = ap length c.colls.ensures.colls in
+    omega (arith, same, colls_at_most c.args.declared.now.given.now c.colls.ensures.well_made)

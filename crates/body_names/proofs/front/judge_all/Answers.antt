@@ -1,4 +1,4 @@
-use Rattle.std.proofs.Common.{◌≡◌, ◌<◌, ◌≤◌, List, length, drop, Ok, ap, sym, ◌∙◌, subst, arith}
+use Rattle.std.proofs.Common.{◌≡◌, ◌<◌, List, length, drop, Ok, ap, sym, ◌∙◌, subst, arith}
 use Rattle.std.proofs.lemmas.List.{take_rest}
 use Rattle.std.proofs.lemmas.Result.{err_from_is_err_and}
 use Rattle.grammar_core.specs.declared.token.Token.{Token}
@@ -6,7 +6,7 @@ use Rattle.body_names.specs.Returns.{ReturnsRefusal}
 use Rattle.body_names.specs.TokenScan.{judged}
 use Rattle.body_names.specs.Scanner.{scan_of}
 use Rattle.body_names.proofs.Fronts.{goes_on, fails}
-use Rattle.body_names.proofs.front.front_fault.Goals as goal
+use Rattle.body_names.proofs.front.judge_all.Goals as goal
 
 pub returns-in_err-judge : goal.returns-in_err-judge
 returns-in_err-judge c =

@@ -1,17 +1,19 @@
-use Rattle.std.proofs.Common.{arith, subst}
+use Rattle.std.proofs.Common.{arith, subst, take}
 use Rattle.std.proofs.lemmas.List.{take_all}
 use Rattle.check_names.specs.Contexts.{job_of}
 use Rattle.flow_check.specs.Check.{AreRead}
 use Rattle.flow_check.proofs.ClassesRead.{next_class}
-use Rattle.flow_check.proofs.whole.each_class.Goals as goal
+use Rattle.flow_check.proofs.whole.read_classes.Goals as goal
 
 pub loop-one-preserved : goal.loop-one-preserved
 loop-one-preserved c =
+    let job = job_of c.args.context.now in
+    let classes = c.args.classes.now in
     record {
-      globals = c.in_ok-read.ensures.globals;
+      globals = c.in_ok-results.ensures.globals;
       read =
-          next_class (job_of c.args.context.now) c.args.classes.now c.loop-one.one-index c.one-item.result c.loop-one.results c.with_class-results.result c.in_ok-read.read
-          c.loop-one-test.true c.one-item.is c.with_class-results.ensures c.loop-one.invariant.read c.in_ok-read.ensures.read;
+          next_class job classes c.loop-one.one-index c.one-item.result c.in_ok-results.results c.loop-one-test.true c.one-item.is
+          (c.in_ok-results.ensures.read (take c.loop-one.one-index classes) c.loop-one.invariant.read);
     }
 
 pub returns : goal.returns
