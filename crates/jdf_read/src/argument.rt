@@ -46,8 +46,7 @@ fn next_argument(alloc: Global, tokens: &[Token]) -> Result<(ArgTree, &[Token]),
     ensures { Returns (λ x. (x.0, x.1.now)) result (reading productions next_argument tokens.now) }
 {
     let (_, rest) = expect(tokens, Terminal::Comma)?;
-    let (next, rest) = argument(alloc, rest)?;
-    Ok((next, rest))
+    argument(alloc, rest)
 }
 
 // `argument ("," argument)*`
@@ -87,8 +86,7 @@ fn maybe_arguments(alloc: Global, tokens: &[Token]) -> Result<(Seq<ArgTree>, &[T
     if !is_argument_next(tokens) {
         return Ok((Seq::new(alloc), tokens));
     }
-    let (list, rest) = arguments(alloc, tokens)?;
-    Ok((list, rest))
+    arguments(alloc, tokens)
 }
 
 /// `"(" arguments? ")"`

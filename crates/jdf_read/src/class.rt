@@ -73,8 +73,7 @@ fn class(alloc: Global, tokens: &[Token]) -> Result<(ClassTree, &[Token]), ReadR
     ensures { Returns (λ x. (x.0, x.1.now)) result (reading productions class tokens.now) }
 {
     let ((name, params), rest) = signature(alloc, tokens)?;
-    let (class, rest) = class_rest(alloc, name, params, rest)?;
-    Ok((class, rest))
+    class_rest(alloc, name, params, rest)
 }
 
 /// Is an extern block or an option line next?

@@ -33,8 +33,7 @@ fn next_parameter(alloc: Global, tokens: &[Token]) -> Result<(Word, &[Token]), R
     ensures { Returns (λ x. (x.0, x.1.now)) result (reading productions next_parameter tokens.now) }
 {
     let (_, rest) = expect(tokens, Terminal::Comma)?;
-    let (next, rest) = name(alloc, Part::Class, rest)?;
-    Ok((next, rest))
+    name(alloc, Part::Class, rest)
 }
 
 // `name ("," name)*`
@@ -84,8 +83,7 @@ fn maybe_parameters(alloc: Global, tokens: &[Token]) -> Result<(Seq<Word>, &[Tok
     if !is_name_next(Part::Class, tokens) {
         return Ok((Seq::new(alloc), tokens));
     }
-    let (list, rest) = parameters(alloc, tokens)?;
-    Ok((list, rest))
+    parameters(alloc, tokens)
 }
 
 // `"(" parameters? ")"`
