@@ -122,7 +122,6 @@ fn maybe_datatype(alloc: Global, tokens: &[Token]) -> Result<(Option<Word>, &[To
 }
 
 // `arrow targets datatype?`
-#[tactic(auto, using(crate::proofs::Begins::dependence_reads))]
 fn dependence(alloc: Global, tokens: &[Token]) -> Result<(DepTree, &[Token]), ReadRefusal>
     ensures { Returns (λ x. (x.0, x.1.now)) result (reading productions dependence tokens.now) }
 {

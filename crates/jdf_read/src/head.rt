@@ -132,7 +132,6 @@ pub(crate) fn past_properties(tokens: &[Token]) -> Result<&[Token], ReadRefusal>
 }
 
 /// `name "(" parameters? ")" properties?`: the name and the parameters.
-#[tactic(auto, using(crate::proofs::Parts::signature_reads))]
 pub(crate) fn signature(
     alloc: Global,
     tokens: &[Token],

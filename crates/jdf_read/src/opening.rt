@@ -27,7 +27,6 @@ fn is_class_next(tokens: &[Token]) -> bool
 }
 
 // A part that is skipped, or a global and its properties.
-#[tactic(auto, using(crate::proofs::Openings::leading_reads))]
 fn leading(alloc: Global, tokens: &[Token]) -> Result<(Option<Word>, &[Token]), ReadRefusal>
     ensures { Returns (λ x. (x.0, x.1.now)) result (reading productions leading tokens.now) }
 {
