@@ -50,7 +50,6 @@ fn next_argument(alloc: Global, tokens: &[Token]) -> Result<(ArgTree, &[Token]),
 }
 
 // `argument ("," argument)*`
-#[tactic(auto, using(crate::proofs::Listed::arguments_listed, crate::proofs::Listed::arguments_after_first, crate::proofs::Listed::arguments_fail, jdf_tree::proofs::Lists::rest_goes_on, jdf_tree::proofs::Lists::rest_fails, jdf_tree::proofs::Lists::rest_ends))]
 fn arguments(alloc: Global, tokens: &[Token]) -> Result<(Seq<ArgTree>, &[Token]), ReadRefusal>
     ensures { Returns (λ x. (x.0, x.1.now)) result (reading productions arguments tokens.now) }
 {

@@ -141,7 +141,6 @@ fn dependence(alloc: Global, tokens: &[Token]) -> Result<(DepTree, &[Token]), Re
 }
 
 /// The dependences of a flow.
-#[tactic(auto, using(crate::proofs::Listed::dependences_listed, crate::proofs::Listed::dependences_begin, jdf_tree::proofs::Lists::counted_goes_on, jdf_tree::proofs::Lists::counted_fails, jdf_tree::proofs::Lists::counted_is_full, jdf_tree::proofs::Lists::counted_ends))]
 pub(crate) fn dependences(
     alloc: Global,
     tokens: &[Token],

@@ -37,7 +37,6 @@ fn next_parameter(alloc: Global, tokens: &[Token]) -> Result<(Word, &[Token]), R
 }
 
 // `name ("," name)*`
-#[tactic(auto, using(crate::proofs::Listed::parameters_listed, crate::proofs::Listed::parameters_after_first, crate::proofs::Listed::parameters_fail, jdf_tree::proofs::Lists::rest_goes_on, jdf_tree::proofs::Lists::rest_fails, jdf_tree::proofs::Lists::rest_ends))]
 fn names(alloc: Global, tokens: &[Token]) -> Result<(Seq<Word>, &[Token]), ReadRefusal>
     ensures { Returns (λ x. (x.0, x.1.now)) result (reading productions (listed (name Class)) tokens.now) }
 {
@@ -156,7 +155,6 @@ fn definition(alloc: Global, tokens: &[Token]) -> Result<(DefTree, &[Token]), Re
 }
 
 /// The definitions of a class.
-#[tactic(auto, using(crate::proofs::Listed::definitions_listed, crate::proofs::Listed::definitions_begin, jdf_tree::proofs::Lists::counted_goes_on, jdf_tree::proofs::Lists::counted_fails, jdf_tree::proofs::Lists::counted_is_full, jdf_tree::proofs::Lists::counted_ends))]
 pub(crate) fn definitions(
     alloc: Global,
     tokens: &[Token],

@@ -9,7 +9,7 @@ use Rattle.grammar_core.specs.Returns.{ReadRefusal, Fails, fault_with}
 use Rattle.jdf_tree.specs.Grammar.{productions, class_and_skips, classes}
 use Rattle.jdf_tree.proofs.Lists.{list_moves, counted_goes_on, counted_fails, counted_is_full, counted_ends, longer}
 use Rattle.jdf_read.proofs.Listed.{classes_listed, classes_fail}
-use Rattle.jdf_read.proofs.ClassCount.{room, another_within, first_within}
+use Rattle.jdf_read.proofs.Counts.{room, another_within, first_within}
 use Rattle.jdf_read.proofs.class.classes.Goals as goal
 
 pub more-smaller : goal.more-smaller

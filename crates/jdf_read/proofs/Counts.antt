@@ -1,4 +1,4 @@
--- How many classes were read: one at least, and no more than 64.
+-- How many elements of a list were read, where there is a limit.
 use Rattle.std.proofs.Common.{◌≡◌, ℕ, suc, ◌<◌, ◌≤◌, ◌-◌, List, [], ◌∷◌, ◌++◌, length, Ok, refl, ap, ◌∙◌, arith}
 use Rattle.grammar_core.specs.declared.token.Token.{Token}
 use Rattle.grammar_core.specs.Reading.{reading}
@@ -38,3 +38,13 @@ another_within n m len is not_full at_most some up = record { room = omega arith
 
 pub room : (len n : ℕ) → len ≡ n → (len ≡ 64 → ⊥) → n ≤ 64 → n - 1 < 63
 room len n is not_full at_most = omega arith
+
+-- another element has room in a list that may have `most`
+pub room_left : (most n len : ℕ) → len ≡ n → (len ≡ most → ⊥) → n ≤ most → n < most
+room_left most n len is not_full at_most = omega arith
+
+pub still_within : (most n m : ℕ) → n < most → m ≡ suc n → m ≤ most
+still_within most n m room up = omega arith
+
+pub none_within : (most : ℕ) → 0 ≤ most
+none_within most = omega arith
