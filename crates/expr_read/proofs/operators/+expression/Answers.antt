@@ -1,6 +1,6 @@
 use Rattle.std.proofs.Common.{sym, refl, ◌∙◌, arith, rules}
 use Rattle.std.proofs.lemmas.Result.{err_from_is_err_and}
-use Rattle.grammar_core.specs.Reading.{reading}
+use Rattle.grammar_core.specs.Reading.{FaultFromEnd, Read, reading}
 use Rattle.grammar_core.specs.Returns.{Fails}
 use Rattle.grammar_core.proofs.Loops.{fails_before}
 use Rattle.jdf_alphabet.specs.declared.terminal.Terminal.TheVariants as terminal
@@ -10,7 +10,7 @@ use Rattle.jdf_tree.specs.ExpressionGrammar.{parens, index, reference, disjuncti
 use Rattle.jdf_tree.specs.Grammar.{productions}
 use Rattle.expr_read.specs.Ranks.{operand_of, operators_of, of_rank}
 use Rattle.expr_read.proofs.Named.{expr_is}
-use Rattle.expr_read.proofs.Loops.{token_shrinks, reading_shrinks, operator_shrinks, loop_goes_on, loop_fails, ranked_is, tail_ends, unary_reads, element_reads, expr_reads}
+use Rattle.expr_read.proofs.Loops.{token_shrinks, reading_shrinks, operator_shrinks, loop_goes_on, loop_fails, ranked_is, tail_ends, fails_with, unary_reads, element_reads, expr_reads}
 use Rattle.expr_read.proofs.operators.+expression.Goals as goal
 
 pub ranked-returns-in_err-right : goal.ranked-returns-in_err-right
@@ -113,3 +113,63 @@ branches-expression-requires-2 t c =
     let yes = reading_shrinks (expr c.args.part) _ _ _ c.in_ok-yes.ensures in
     let colon = token_shrinks (is terminal.Colon) _ _ _ c.in_ok-rest-2.ensures in
     (omega (arith, mark, yes, colon), tt)
+
+pub parens-returns-in_err-open : goal.parens-returns-in_err-open
+unfolding parens
+parens-returns-in_err-open t c =
+    let fails : Fails c.in_err-open.field-0.0 (reading productions (parens c.args.part) c.args.tokens.now) = fails_with _ _ _ c.in_err-open.ensures (λ d is. rw is refl) in
+    search rules
+
+pub parens-returns-in_err-inside : goal.parens-returns-in_err-inside
+unfolding parens
+parens-returns-in_err-inside t c =
+    let fails : Fails c.in_err-inside.field-0.0 (reading productions (parens c.args.part) c.args.tokens.now) = fails_with _ _ _ c.in_err-inside.ensures (λ d is. rw (c.in_ok-open.ensures, expr_is, is) refl) in
+    search rules
+
+pub parens-returns-in_err-rest : goal.parens-returns-in_err-rest
+unfolding parens
+parens-returns-in_err-rest t c =
+    let fails : Fails c.in_err-rest.field-0.0 (reading productions (parens c.args.part) c.args.tokens.now) = fails_with _ _ _ c.in_err-rest.ensures (λ d is. rw (c.in_ok-open.ensures, expr_is, c.in_ok-inside.ensures, is) refl) in
+    search rules
+
+pub index-returns-in_err-rest : goal.index-returns-in_err-rest
+unfolding index
+index-returns-in_err-rest t c =
+    let fails : Fails c.in_err-rest.field-0.0 (reading productions index c.args.tokens.now) = fails_with _ _ _ c.in_err-rest.ensures (λ d is. rw is refl) in
+    search rules
+
+pub index-returns-in_err-inside : goal.index-returns-in_err-inside
+unfolding index
+index-returns-in_err-inside t c =
+    let fails : Fails c.in_err-inside.field-0.0 (reading productions index c.args.tokens.now) = fails_with _ _ _ c.in_err-inside.ensures (λ d is. rw (c.in_ok-rest.ensures, expr_is, is) refl) in
+    search rules
+
+pub index-returns-in_err-rest-2 : goal.index-returns-in_err-rest-2
+unfolding index
+index-returns-in_err-rest-2 t c =
+    let fails : Fails c.in_err-rest-2.field-0.0 (reading productions index c.args.tokens.now) = fails_with _ _ _ c.in_err-rest-2.ensures (λ d is. rw (c.in_ok-rest.ensures, expr_is, c.in_ok-inside.ensures, is) refl) in
+    search rules
+
+pub branches-returns-in_err-rest : goal.branches-returns-in_err-rest
+unfolding branches
+branches-returns-in_err-rest t c =
+    let fails : Fails c.in_err-rest.field-0.0 (reading productions (branches c.args.part) c.args.tokens.now) = fails_with _ _ _ c.in_err-rest.ensures (λ d is. rw is refl) in
+    search rules
+
+pub branches-returns-in_err-yes : goal.branches-returns-in_err-yes
+unfolding branches
+branches-returns-in_err-yes t c =
+    let fails : Fails c.in_err-yes.field-0.0 (reading productions (branches c.args.part) c.args.tokens.now) = fails_with _ _ _ c.in_err-yes.ensures (λ d is. rw (c.in_ok-rest.ensures, expr_is, is) refl) in
+    search rules
+
+pub branches-returns-in_err-rest-2 : goal.branches-returns-in_err-rest-2
+unfolding branches
+branches-returns-in_err-rest-2 t c =
+    let fails : Fails c.in_err-rest-2.field-0.0 (reading productions (branches c.args.part) c.args.tokens.now) = fails_with _ _ _ c.in_err-rest-2.ensures (λ d is. rw (c.in_ok-rest.ensures, expr_is, c.in_ok-yes.ensures, is) refl) in
+    search rules
+
+pub branches-returns-in_err-no : goal.branches-returns-in_err-no
+unfolding branches
+branches-returns-in_err-no t c =
+    let fails : Fails c.in_err-no.field-0.0 (reading productions (branches c.args.part) c.args.tokens.now) = fails_with _ _ _ c.in_err-no.ensures (λ d is. rw (c.in_ok-rest.ensures, expr_is, c.in_ok-yes.ensures, c.in_ok-rest-2.ensures, expr_is, is) refl) in
+    search rules
