@@ -1,6 +1,6 @@
 use Rattle.std.proofs.Common.{sym, refl, ◌∙◌, arith, rules}
 use Rattle.std.proofs.lemmas.Result.{err_from_is_err_and}
-use Rattle.grammar_core.specs.Reading.{FaultFromEnd, Read, reading}
+use Rattle.grammar_core.specs.Reading.{reading}
 use Rattle.grammar_core.specs.Returns.{Fails}
 use Rattle.grammar_core.proofs.Loops.{fails_before}
 use Rattle.jdf_alphabet.specs.declared.terminal.Terminal.TheVariants as terminal

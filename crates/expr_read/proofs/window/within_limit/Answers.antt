@@ -1,4 +1,4 @@
-use Rattle.std.proofs.Common.{◌<◌, ◌≤◌, length, arith}
+use Rattle.std.proofs.Common.{◌≤◌, length}
 use Rattle.jdf_alphabet.specs.Counted.{expression_limit}
 use Rattle.expr_read.proofs.InWindow.{short, slice}
 use Rattle.expr_read.proofs.window.within_limit.Goals as goal

@@ -1,4 +1,4 @@
-use Rattle.std.proofs.Common.{◌≡◌, ◌<◌, ◌-◌, suc, length, true, sym, ap, ◌∙◌, subst, arith, rules}
+use Rattle.std.proofs.Common.{◌≡◌, ◌-◌, length, true, sym, ap, ◌∙◌, subst, arith, rules}
 use Rattle.jdf_alphabet.specs.Codes.{TooManyClasses}
 use Rattle.jdf_alphabet.specs.Sets.{starts}
 use Rattle.jdf_tree.specs.declared.part.Part.TheVariants.{Class}
