@@ -1,8 +1,8 @@
 -- An expression of at most 128 tokens is within the limit, whatever they are.
-use Rattle.std.proofs.Common.{◌≡◌, ℕ, zero, suc, ◌-◌, ◌+◌, ◌≤◌, ◌<◌, Bool, min, true, false, List, [], ◌∷◌, ◌++◌, length, take, drop, get_or, append_assoc, Ok, Err, refl, sym, ap, ◌∙◌, arith}
+use Rattle.std.proofs.Common.{◌≡◌, ℕ, zero, suc, ◌-◌, ◌+◌, ◌≤◌, ◌<◌, Bool, min, true, false, List, [], ◌∷◌, ◌++◌, length, take, drop, get_or, append_assoc, Ok, refl, sym, ap, ◌∙◌, arith}
 use Rattle.std.specs.Prelude.{◌==◌}
 use Rattle.std.proofs.lemmas.Bool.{le-ltb}
-use Rattle.std.proofs.lemmas.List.{length-append, drop_at, take-append-drop, length-take-le, take_rest}
+use Rattle.std.proofs.lemmas.List.{length-append, take-append-drop, length-take-le, take_rest}
 use Rattle.grammar_core.specs.declared.token.Token.{Token}
 use Rattle.jdf_alphabet.specs.Codes.{ExprTooLong}
 use Rattle.jdf_alphabet.specs.Counted.{expression_limit, is_counted}

@@ -1,5 +1,5 @@
 -- Reading operands and operators as the loop of the code does, and which production the next token decides for.
-use Rattle.std.proofs.Common.{◌≡◌, ℕ, zero, suc, ◌<◌, ◌≤◌, Bool, true, false, cond, List, [], ◌∷◌, length, Ok, Err, refl, sym, ap, ◌∙◌, subst}
+use Rattle.std.proofs.Common.{◌≡◌, ℕ, zero, suc, ◌<◌, ◌≤◌, Bool, true, false, cond, List, [], ◌∷◌, length, Ok, Err, refl, sym, ap, ◌∙◌, subst, Result}
 use Rattle.grammar_core.specs.declared.token.Spot.{Spot}
 use Rattle.grammar_core.specs.declared.token.Token.{Token}
 use Rattle.term_core.specs.declared.operator.BinOp.{BinOp}
@@ -8,7 +8,8 @@ use Rattle.jdf_alphabet.specs.declared.terminal.Terminal.TheVariants as terminal
 use Rattle.jdf_alphabet.specs.Terminals.{is, set}
 use Rattle.grammar_core.specs.Production.{Production, seq, map, star}
 use Rattle.jdf_alphabet.specs.Sets.{one_of, starts, token_at}
-use Rattle.grammar_core.specs.Reading.{◌>>=◌, Read, many_at, nonterminal_at, reading}
+use Rattle.grammar_core.specs.Reading.{FaultFromEnd, ◌>>=◌, Read, many_at, nonterminal_at, reading}
+use Rattle.ptg_base.specs.declared.refusal.Refusal.TheVariants as errors
 use Rattle.grammar_core.specs.Returns.{ReadRefusal, Fails}
 use Rattle.grammar_core.proofs.Fuel.{nonterminal_shrinks, run_shrinks, many_is}
 use Rattle.grammar_core.proofs.Loops as loops
@@ -118,3 +119,10 @@ element_reads s = loops.followed_reads productions (name Body) index named s
 pub expr_reads : (part : Part) (s : List Token) → reading productions (expr part) s ≡ (reading productions (disjunction part) s >>= λ a. cond (starts (is terminal.Question) a.1) (reading productions (branches part) a.1 >>= applied (λ (x : ExprWithSpot × ExprWithSpot). with_spot a.0.spot (Choose a.0.tree x.0.tree x.1.tree))) (Ok (a.0, a.1)))
 unfolding expr branches
 expr_reads part s = loops.followed_reads productions (disjunction part) (branches part) chosen s
+
+-- ---- refusals
+
+-- a part fails, and the whole with the same fault
+pub fails_with : {A B : Type 0} (e : ReadRefusal) (part : Result A FaultFromEnd) (whole : Result B FaultFromEnd) → Fails e part → ((d : FaultFromEnd) → part ≡ Err d → whole ≡ Err d) → Fails e whole
+fails_with errors.OutOfMemory part whole f same = tt
+fails_with (errors.Fault x) part whole f same = same (x.left, x.code) f

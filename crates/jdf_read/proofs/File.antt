@@ -12,10 +12,7 @@ use Rattle.grammar_core.specs.declared.token.Spot.{Spot}
 use Rattle.grammar_core.specs.declared.token.Token.{Token}
 use Rattle.jdf_lex.specs.Tokens.{IsLexed, IsTokenFault, spot_after}
 use Rattle.grammar_core.specs.declared.code.Code.{Code}
-use Rattle.grammar_core.specs.declared.code.Code.TheVariants.{Syntax}
-use Rattle.ptg_base.specs.declared.refusal.Refusal.TheVariants as errors
-use Rattle.grammar_core.specs.Returns.{ReadRefusal, Fails}
-use Rattle.grammar_core.specs.Reading.{FaultFromEnd, whole}
+use Rattle.grammar_core.specs.Reading.{whole}
 use Rattle.jdf_tree.specs.declared.tree.Jdf.{Jdf}
 use Rattle.jdf_tree.specs.Jdf.{IsJdf}
 use Rattle.jdf_tree.specs.Fault.{first_spot, code_at_token, IsJdfFault}

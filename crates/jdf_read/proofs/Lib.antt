@@ -1,4 +1,5 @@
 pub mod Begins
+pub mod Counts
 pub mod File
 pub mod Either
 pub mod Limits

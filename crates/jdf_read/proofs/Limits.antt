@@ -1,15 +1,13 @@
 -- Whole texts of the grammar are read exactly.
-use Rattle.std.proofs.Common.{◌≡◌, ℕ, Bool, true, false, List, Ok, Err, refl, ◌≤◌, arith}
-use Rattle.std.specs.Prelude.{◌&&◌, length, ◌-◌, None}
+use Rattle.std.proofs.Common.{◌≡◌, ℕ, List, Ok, Err, ◌≤◌, arith}
+use Rattle.std.specs.Prelude.{length, ◌-◌, None}
 use Rattle.grammar_core.specs.declared.token.Token.{Token}
 use Rattle.grammar_core.specs.declared.code.Code.{Code}
 use Rattle.grammar_core.specs.declared.code.Code.TheVariants.{Syntax}
 use Rattle.grammar_core.specs.Production.{IsText, IsFirstFault}
-use Rattle.grammar_core.specs.Predictive.{is_fine, are_names}
 use Rattle.grammar_core.specs.Reading.{whole}
 use Rattle.grammar_core.proofs.Whole.{text_found, text_only, fault_is, one_fault}
 use Rattle.jdf_tree.specs.declared.tree.Jdf.{Jdf}
-use Rattle.jdf_tree.specs.Nonterminal.{Nonterminal, an_opening}
 use Rattle.jdf_tree.specs.Grammar.{productions, file, claims}
 use Rattle.jdf_tree.proofs.Fine.{productions_fine}
 use Rattle.jdf_tree.proofs.Limits.{productions_limits, opening_limits}

@@ -46,12 +46,10 @@ fn next_argument(alloc: Global, tokens: &[Token]) -> Result<(ArgTree, &[Token]),
     ensures { Returns (λ x. (x.0, x.1.now)) result (reading productions next_argument tokens.now) }
 {
     let (_, rest) = expect(tokens, Terminal::Comma)?;
-    let (next, rest) = argument(alloc, rest)?;
-    Ok((next, rest))
+    argument(alloc, rest)
 }
 
 // `argument ("," argument)*`
-#[tactic(auto, using(crate::proofs::Listed::arguments_listed, crate::proofs::Listed::arguments_after_first, crate::proofs::Listed::arguments_fail, jdf_tree::proofs::Lists::rest_goes_on, jdf_tree::proofs::Lists::rest_fails, jdf_tree::proofs::Lists::rest_ends))]
 fn arguments(alloc: Global, tokens: &[Token]) -> Result<(Seq<ArgTree>, &[Token]), ReadRefusal>
     ensures { Returns (λ x. (x.0, x.1.now)) result (reading productions arguments tokens.now) }
 {
@@ -87,8 +85,7 @@ fn maybe_arguments(alloc: Global, tokens: &[Token]) -> Result<(Seq<ArgTree>, &[T
     if !is_argument_next(tokens) {
         return Ok((Seq::new(alloc), tokens));
     }
-    let (list, rest) = arguments(alloc, tokens)?;
-    Ok((list, rest))
+    arguments(alloc, tokens)
 }
 
 /// `"(" arguments? ")"`

@@ -84,7 +84,6 @@ fn body_tokens(alloc: Global, tokens: &[Token]) -> Result<(Seq<Token>, &[Token])
 }
 
 /// `BODY properties? tokens? END`: the tokens, and the spot of `END`.
-#[tactic(auto, using(crate::proofs::Parts::body_reads))]
 pub(crate) fn body(
     alloc: Global,
     tokens: &[Token],

@@ -73,8 +73,7 @@ fn class(alloc: Global, tokens: &[Token]) -> Result<(ClassTree, &[Token]), ReadR
     ensures { Returns (λ x. (x.0, x.1.now)) result (reading productions class tokens.now) }
 {
     let ((name, params), rest) = signature(alloc, tokens)?;
-    let (class, rest) = class_rest(alloc, name, params, rest)?;
-    Ok((class, rest))
+    class_rest(alloc, name, params, rest)
 }
 
 /// Is an extern block or an option line next?
@@ -112,7 +111,6 @@ fn past_skips(tokens: &[Token]) -> Result<&[Token], ReadRefusal>
 }
 
 // `class skip*`
-#[tactic(auto, using(crate::proofs::Skips::class_and_skips_reads))]
 fn class_and_skips(alloc: Global, tokens: &[Token]) -> Result<(ClassTree, &[Token]), ReadRefusal>
     ensures { Returns (λ x. (x.0, x.1.now)) result (reading productions class_and_skips tokens.now) }
 {
@@ -122,7 +120,6 @@ fn class_and_skips(alloc: Global, tokens: &[Token]) -> Result<(ClassTree, &[Toke
 }
 
 /// The classes of a text, without what is skipped after each.
-#[tactic(auto, using(crate::proofs::Listed::classes_listed, crate::proofs::Listed::classes_after_first, crate::proofs::Listed::classes_fail, jdf_tree::proofs::Lists::counted_fails, jdf_tree::proofs::Lists::counted_is_full, jdf_tree::proofs::Lists::counted_ends))]
 pub(crate) fn classes(
     alloc: Global,
     tokens: &[Token],

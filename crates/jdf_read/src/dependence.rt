@@ -122,7 +122,6 @@ fn maybe_datatype(alloc: Global, tokens: &[Token]) -> Result<(Option<Word>, &[To
 }
 
 // `arrow targets datatype?`
-#[tactic(auto, using(crate::proofs::Begins::dependence_reads))]
 fn dependence(alloc: Global, tokens: &[Token]) -> Result<(DepTree, &[Token]), ReadRefusal>
     ensures { Returns (λ x. (x.0, x.1.now)) result (reading productions dependence tokens.now) }
 {
@@ -142,7 +141,6 @@ fn dependence(alloc: Global, tokens: &[Token]) -> Result<(DepTree, &[Token]), Re
 }
 
 /// The dependences of a flow.
-#[tactic(auto, using(crate::proofs::Listed::dependences_listed, crate::proofs::Listed::dependences_begin, jdf_tree::proofs::Lists::counted_goes_on, jdf_tree::proofs::Lists::counted_fails, jdf_tree::proofs::Lists::counted_is_full, jdf_tree::proofs::Lists::counted_ends))]
 pub(crate) fn dependences(
     alloc: Global,
     tokens: &[Token],

@@ -68,7 +68,6 @@ fn flow(alloc: Global, tokens: &[Token]) -> Result<(FlowTree, &[Token]), ReadRef
 }
 
 /// The flows of a class.
-#[tactic(auto, using(crate::proofs::Listed::flows_listed, crate::proofs::Listed::flows_begin, jdf_tree::proofs::Lists::counted_goes_on, jdf_tree::proofs::Lists::counted_fails, jdf_tree::proofs::Lists::counted_is_full, jdf_tree::proofs::Lists::counted_ends))]
 pub(crate) fn flows(
     alloc: Global,
     tokens: &[Token],

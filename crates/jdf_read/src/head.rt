@@ -33,12 +33,10 @@ fn next_parameter(alloc: Global, tokens: &[Token]) -> Result<(Word, &[Token]), R
     ensures { Returns (λ x. (x.0, x.1.now)) result (reading productions next_parameter tokens.now) }
 {
     let (_, rest) = expect(tokens, Terminal::Comma)?;
-    let (next, rest) = name(alloc, Part::Class, rest)?;
-    Ok((next, rest))
+    name(alloc, Part::Class, rest)
 }
 
 // `name ("," name)*`
-#[tactic(auto, using(crate::proofs::Listed::parameters_listed, crate::proofs::Listed::parameters_after_first, crate::proofs::Listed::parameters_fail, jdf_tree::proofs::Lists::rest_goes_on, jdf_tree::proofs::Lists::rest_fails, jdf_tree::proofs::Lists::rest_ends))]
 fn names(alloc: Global, tokens: &[Token]) -> Result<(Seq<Word>, &[Token]), ReadRefusal>
     ensures { Returns (λ x. (x.0, x.1.now)) result (reading productions (listed (name Class)) tokens.now) }
 {
@@ -84,8 +82,7 @@ fn maybe_parameters(alloc: Global, tokens: &[Token]) -> Result<(Seq<Word>, &[Tok
     if !is_name_next(Part::Class, tokens) {
         return Ok((Seq::new(alloc), tokens));
     }
-    let (list, rest) = parameters(alloc, tokens)?;
-    Ok((list, rest))
+    parameters(alloc, tokens)
 }
 
 // `"(" parameters? ")"`
@@ -134,7 +131,6 @@ pub(crate) fn past_properties(tokens: &[Token]) -> Result<&[Token], ReadRefusal>
 }
 
 /// `name "(" parameters? ")" properties?`: the name and the parameters.
-#[tactic(auto, using(crate::proofs::Parts::signature_reads))]
 pub(crate) fn signature(
     alloc: Global,
     tokens: &[Token],
@@ -159,7 +155,6 @@ fn definition(alloc: Global, tokens: &[Token]) -> Result<(DefTree, &[Token]), Re
 }
 
 /// The definitions of a class.
-#[tactic(auto, using(crate::proofs::Listed::definitions_listed, crate::proofs::Listed::definitions_begin, jdf_tree::proofs::Lists::counted_goes_on, jdf_tree::proofs::Lists::counted_fails, jdf_tree::proofs::Lists::counted_is_full, jdf_tree::proofs::Lists::counted_ends))]
 pub(crate) fn definitions(
     alloc: Global,
     tokens: &[Token],

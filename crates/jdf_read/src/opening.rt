@@ -27,7 +27,6 @@ fn is_class_next(tokens: &[Token]) -> bool
 }
 
 // A part that is skipped, or a global and its properties.
-#[tactic(auto, using(crate::proofs::Openings::leading_reads))]
 fn leading(alloc: Global, tokens: &[Token]) -> Result<(Option<Word>, &[Token]), ReadRefusal>
     ensures { Returns (λ x. (x.0, x.1.now)) result (reading productions leading tokens.now) }
 {
@@ -41,7 +40,6 @@ fn leading(alloc: Global, tokens: &[Token]) -> Result<(Option<Word>, &[Token]), 
 }
 
 /// A text: globals and skipped parts, and the classes.
-#[tactic(auto, using(crate::proofs::Openings::opening_begins, crate::proofs::Openings::opening_fails, crate::proofs::Openings::opening_ends, crate::proofs::Openings::opening_stops, crate::proofs::Openings::skipped_goes_on, crate::proofs::Openings::global_goes_on))]
 pub(crate) fn opening(alloc: Global, tokens: &[Token]) -> Result<(Jdf, &[Token]), ReadRefusal>
     ensures { Returns (λ x. (x.0, x.1.now)) result (reading productions opening tokens.now) }
 {
