@@ -10,7 +10,7 @@ use term_core::Trap;
 const MOST_SLOTS: usize = 272;
 
 /// Room for the slots of a body while it runs, and the units that it has left. It takes no memory.
-#[derive(Debug, Drop)]
+#[derive(Drop)]
 pub struct Scratch {
     // Only the first `used` are slots of the body that runs.
     slots: [i64; MOST_SLOTS],

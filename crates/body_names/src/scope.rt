@@ -8,7 +8,7 @@ use std::alloc::Global;
 use term_core::FlowKind;
 
 /// A flow of a class.
-#[derive(Debug, Drop)]
+#[derive(Drop)]
 pub struct FlowName {
     pub name: Text,
     pub kind: FlowKind,

@@ -5,7 +5,7 @@ use name_table::NameSet;
 use ptg_base::Text;
 
 /// A variable that a body declares.
-#[derive(Debug, Drop)]
+#[derive(Drop)]
 pub struct Variable {
     pub name: Text,
     /// The number of its slot.

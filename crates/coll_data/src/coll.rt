@@ -9,7 +9,6 @@ use ptg_base::{OutOfMemory, Seq, Text, Tile};
 use std::alloc::Global;
 
 /// A collection of tiles in one or two dimensions.
-#[derive(Debug)]
 pub struct Coll {
     /// The number of rows, and of columns where there are two dimensions.
     pub shape: (u32, Option<u32>),

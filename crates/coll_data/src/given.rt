@@ -14,7 +14,6 @@ use std::marker::Model;
 ///
 /// There are at most 16 types, with 1 to 4,096 elements each, and at most 65,536 tiles a collection, with 16,777,216 elements
 /// in all. Each collection has a tile for each place, and each tile as many numbers as its type has elements.
-#[derive(Debug)]
 pub struct Given {
     types: Seq<(Text, u32)>,
     elems: u32,

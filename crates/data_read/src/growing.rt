@@ -18,7 +18,7 @@ pub(crate) struct GrowingColl {
 }
 
 /// What a collection is asked to be.
-#[derive(Clone, Copy, Debug)]
+#[derive(Clone, Copy)]
 pub(crate) struct Sized {
     pub(crate) shape: (u32, Option<u32>),
     pub(crate) datatype: u32,
@@ -26,7 +26,7 @@ pub(crate) struct Sized {
 }
 
 /// What a name stands for.
-#[derive(Clone, Copy, Debug, Drop)]
+#[derive(Clone, Copy, Drop)]
 pub(crate) enum Known {
     Integer,
     /// The collection of this number.

@@ -17,7 +17,7 @@ use range_space::Numbers;
 use std::marker::Model;
 
 /// The combinations of values of arguments that are not yet given, the first argument outermost. It takes no memory.
-#[derive(Debug, Drop)]
+#[derive(Drop)]
 pub struct Combinations {
     spans: ArrayVec<Progression, 8>,
     at: Numbers<8>,

@@ -19,7 +19,7 @@ pub(crate) fn copy_of(t: &TaskId) -> TaskId
 }
 
 /// An iterator over the edges into a task. Contracts see it as the list of those not yet given. It takes no memory.
-#[derive(Debug, Drop)]
+#[derive(Drop)]
 pub struct InEdges<'a> {
     task: TaskId,
     links: Links<'a>,
@@ -65,7 +65,7 @@ impl Iterator for InEdges<'_> {
 }
 
 /// An iterator over the edges out of a task. Contracts see it as the list of those not yet given. It takes no memory.
-#[derive(Debug, Drop)]
+#[derive(Drop)]
 pub struct OutEdges<'a> {
     task: TaskId,
     links: Links<'a>,

@@ -3,7 +3,7 @@
 use ptg_base::TaskId;
 
 /// An edge of a task as seen from the task: the flow of the task, and the flow of the task at the other end.
-#[derive(Debug, Drop)]
+#[derive(Drop)]
 pub struct Link {
     /// The number of the flow of the task whose edge it is.
     pub near: u8,

@@ -19,7 +19,7 @@ use range_space::Numbers;
 use std::marker::Model;
 
 /// The links of one target that are not yet given.
-#[derive(Debug, Drop)]
+#[derive(Drop)]
 pub(crate) struct TargetLinks {
     near: u8,
     class: u32,
@@ -111,7 +111,7 @@ fn next_link<'a>(
 }
 
 /// The links of a task that are not yet given, of its in dependences or of its out dependences. It takes no memory.
-#[derive(Debug, Drop)]
+#[derive(Drop)]
 pub(crate) struct Links<'a> {
     plan: &'a Plan,
     inward: bool,

@@ -9,7 +9,7 @@ use plan_core::Plan;
 use std::marker::Model;
 
 /// A plan that is consistent, with its counts. Contracts see it as the plan; it stores no edge.
-#[derive(Debug, Drop)]
+#[derive(Drop)]
 pub struct Matched {
     plan: Plan,
     tasks: u64,

@@ -12,7 +12,7 @@ use plan_core::{DepPlan, FlowPlan, Target};
 use term_core::FlowKind;
 
 /// Where a walk over the active targets of a task stands.
-#[derive(Clone, Copy, Debug)]
+#[derive(Clone, Copy)]
 pub struct Position<'a> {
     /// The number of the flow at hand.
     pub flow: u8,

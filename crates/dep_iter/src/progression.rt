@@ -4,7 +4,7 @@ ghost use Rattle.std.specs.Prelude.{◌≡◌, ◌+ℤ◌, MatchOption, true, fa
 ghost use Rattle.range_space.specs.Values.{is_within};
 
 /// The numbers `lo`, `lo + step` and so on while they are within `hi`; none where the step is 0.
-#[derive(Clone, Copy, Debug, Default)]
+#[derive(Clone, Copy, Default)]
 pub struct Progression {
     pub lo: i64,
     pub hi: i64,

@@ -3,7 +3,7 @@
 use ptg_base::{Edge, Place};
 
 /// Where the tile of a data flow of a task comes from.
-#[derive(Debug, Drop)]
+#[derive(Drop)]
 pub enum Source {
     /// A flow of a task, by this edge.
     Task(Edge),

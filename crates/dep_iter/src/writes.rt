@@ -17,7 +17,7 @@ use range_space::Numbers;
 use std::marker::Model;
 
 /// An iterator over the write-backs of a task. Contracts see it as the list of those not yet given. It takes no memory.
-#[derive(Debug, Drop)]
+#[derive(Drop)]
 pub struct WriteBacks<'a> {
     task: TaskId,
     env: Numbers<16>,

@@ -9,7 +9,7 @@ use std::marker::Model;
 /// The tiles that came to a task by edges, each with the number of its flow.
 ///
 /// Contracts see them as a list in order of flow number, in which no flow is twice. A flow number is below 8.
-#[derive(Debug, Drop)]
+#[derive(Drop)]
 pub struct Arrivals {
     tiles: [Option<Tile>; 8],
 }

@@ -14,7 +14,7 @@ use plan_core::{FlowPlan, Plan};
 use ptg_base::TaskId;
 
 /// A flow of a task of a plan, with the task's locals.
-#[derive(Debug, Drop)]
+#[derive(Drop)]
 pub(crate) struct FlowAt<'a> {
     pub(crate) phase: Phase,
     pub(crate) plan: &'a Plan,

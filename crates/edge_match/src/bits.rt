@@ -7,7 +7,7 @@ use std::alloc::Global;
 use std::marker::Model;
 
 /// A fixed number of truth values, one to a bit. Contracts see their `items`, as they see those of a `Vec<bool>`.
-#[derive(Debug, Drop)]
+#[derive(Drop)]
 pub(crate) struct Bits {
     count: usize,
     words: Vec<u64>,

@@ -5,7 +5,7 @@ ghost use Rattle.std.specs.Prelude.{◌≤◌};
 use crate::written::Written;
 
 /// How many edges into tasks and items were counted, how many of those edges carry a tile, and which places are written.
-#[derive(Debug, Drop)]
+#[derive(Drop)]
 pub(crate) struct Counted {
     pub(crate) ins: u64,
     pub(crate) data_edges: u64,

@@ -10,7 +10,7 @@ use ptg_base::{Place, TaskId};
 use term_core::{Expr, eval};
 
 /// A dependence by its number, and the flow of a class that its target names.
-#[derive(Clone, Copy, Debug)]
+#[derive(Clone, Copy)]
 pub(crate) struct Named {
     pub(crate) dependence: usize,
     pub(crate) class: u32,

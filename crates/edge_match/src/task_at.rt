@@ -8,7 +8,7 @@ use plan_core::Plan;
 use ptg_base::TaskId;
 
 /// A task of a plan, with its locals.
-#[derive(Debug, Drop)]
+#[derive(Drop)]
 pub(crate) struct TaskAt<'a> {
     pub(crate) phase: Phase,
     pub(crate) plan: &'a Plan,

@@ -1,7 +1,7 @@
 //! The counts of a plan.
 
 /// How many tasks, edges, edges that carry a tile and write-backs a plan has.
-#[derive(Clone, Copy, Debug)]
+#[derive(Clone, Copy)]
 pub(crate) struct Totals {
     pub(crate) tasks: u64,
     pub(crate) edges: u64,

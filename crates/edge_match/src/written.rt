@@ -12,7 +12,7 @@ use ptg_base::{OutOfMemory, Place};
 use std::alloc::Global;
 
 /// The places of a collection that are written, by rows.
-#[derive(Debug, Drop)]
+#[derive(Drop)]
 pub(crate) struct PlaceSet {
     rows: u32,
     cols: u32,
@@ -69,7 +69,7 @@ impl PlaceSet {
 }
 
 /// The places that are written, by the number of their collection.
-#[derive(Debug, Drop)]
+#[derive(Drop)]
 pub(crate) struct Written {
     sets: Vec<PlaceSet>,
 }

@@ -3,7 +3,7 @@
 use jdf_tree::Part;
 
 /// The precedence of infix operators, the tightest first.
-#[derive(Clone, Copy, Debug)]
+#[derive(Clone, Copy)]
 pub(crate) enum Rank {
     /// `*`, `/` and `%`
     Product,
@@ -20,7 +20,7 @@ pub(crate) enum Rank {
 }
 
 /// The kinds of outermost expressions.
-#[derive(Clone, Copy, Debug)]
+#[derive(Clone, Copy)]
 pub(crate) enum Outermost {
     /// Any expression.
     Expression(Part),

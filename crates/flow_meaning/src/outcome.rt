@@ -5,14 +5,14 @@ use ptg_base::{Seq, TaskId};
 use term_core::Trap;
 
 /// A task that trapped, and why.
-#[derive(Debug, Drop)]
+#[derive(Drop)]
 pub struct TrapRow {
     pub task: TaskId,
     pub cause: Trap,
 }
 
 /// A task that waits: how many of the edges into it have come, and how many there are.
-#[derive(Debug, Drop)]
+#[derive(Drop)]
 pub struct WaitRow {
     pub task: TaskId,
     pub arrived: u32,
@@ -20,7 +20,7 @@ pub struct WaitRow {
 }
 
 /// The answer of a job.
-#[derive(Debug, Drop)]
+#[derive(Drop)]
 pub enum Outcome {
     /// All tasks ran: how many, and the data with what they wrote back.
     Complete(u64, Given),

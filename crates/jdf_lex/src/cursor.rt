@@ -6,7 +6,7 @@ ghost use Rattle.jdf_lex.specs.Reading.{IsCursorIn};
 use grammar_core::Spot;
 
 /// A position in a text: the index of its byte, and its spot.
-#[derive(Clone, Copy, Debug)]
+#[derive(Clone, Copy)]
 pub struct Cursor {
     pub index: usize,
     pub spot: Spot,

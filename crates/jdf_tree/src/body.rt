@@ -9,7 +9,7 @@ use std::marker::Model;
 
 /// A statement in the text of a body.
 #[cycle(block_tree)]
-#[derive(Debug, Drop)]
+#[derive(Drop)]
 pub enum StmtTree {
     /// `int x = e;`
     Declare(Word, ExprTree),
@@ -29,7 +29,7 @@ pub enum StmtTree {
 ///
 /// Dropping a block recurses as deep as blocks nest, however many statements it has.
 #[cycle(block_tree)]
-#[derive(Debug, Drop)]
+#[derive(Drop)]
 pub struct BlockTree {
     statements: Vec<StmtTree>,
 }

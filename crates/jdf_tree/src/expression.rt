@@ -11,7 +11,6 @@ use std::marker::Model;
 use term_core::{BinOp, UnOp};
 
 /// A name in the text, with its spot.
-#[derive(Debug)]
 pub struct Word {
     pub text: Text,
     pub spot: Spot,
@@ -27,7 +26,6 @@ impl Drop for Word {
 }
 
 /// An expression in the text. Contracts see the tree, not its boxes. Parentheses are not kept.
-#[derive(Debug)]
 pub struct ExprTree {
     pub(crate) node: ExprNode,
 }
@@ -39,7 +37,7 @@ impl Drop for ExprTree {
 }
 
 /// One operation of an expression, and its operands.
-#[derive(Debug, Drop)]
+#[derive(Drop)]
 pub enum ExprNode {
     /// A number, and its spot.
     Num(i64, Spot),
@@ -56,7 +54,7 @@ pub enum ExprNode {
 }
 
 /// An expression, and the spot of its first token, which may be a parenthesis.
-#[derive(Debug, Drop)]
+#[derive(Drop)]
 pub struct ExprWithSpot {
     pub spot: Spot,
     pub tree: ExprTree,

@@ -6,7 +6,7 @@ use ptg_base::Seq;
 use term_core::FlowKind;
 
 /// An argument of a list, or the value of a definition: an expression or a range.
-#[derive(Debug, Drop)]
+#[derive(Drop)]
 pub enum ArgTree {
     /// One value.
     One(ExprTree),
@@ -15,14 +15,14 @@ pub enum ArgTree {
 }
 
 /// A definition of a class, `name = value`.
-#[derive(Debug, Drop)]
+#[derive(Drop)]
 pub struct DefTree {
     pub name: Word,
     pub value: ArgTree,
 }
 
 /// The target of a dependence: where it leads to, or comes from.
-#[derive(Debug, Drop)]
+#[derive(Drop)]
 pub enum TargetTree {
     /// A flow of a task: the flow, the class and the arguments.
     Task(Word, Word, Seq<ArgTree>),
@@ -35,7 +35,6 @@ pub enum TargetTree {
 }
 
 /// A dependence. Its target is `yes` if it has no guard or the guard holds, and else `no`.
-#[derive(Debug)]
 pub struct DepTree {
     /// Is the arrow `<-`, and not `->`?
     pub inward: bool,
@@ -59,7 +58,6 @@ impl Drop for DepTree {
 }
 
 /// A flow of a class, with its dependences in the order of the text.
-#[derive(Debug)]
 pub struct FlowTree {
     pub kind: FlowKind,
     pub name: Word,
@@ -77,7 +75,6 @@ impl Drop for FlowTree {
 }
 
 /// A class of tasks. Its body is kept as its tokens.
-#[derive(Debug)]
 pub struct ClassTree {
     pub name: Word,
     pub params: Seq<Word>,
@@ -108,7 +105,6 @@ impl Drop for ClassTree {
 }
 
 /// A JDF text: its globals and its classes in the order of the text. Extern blocks, options and properties are not kept.
-#[derive(Debug)]
 pub struct Jdf {
     pub globals: Seq<Word>,
     pub classes: Seq<ClassTree>,

@@ -8,7 +8,7 @@ use jdf_lex::JdfFault;
 use plan_core::Plan;
 
 /// What the text of a JDF and the text of its data come to.
-#[derive(Debug, Drop)]
+#[derive(Drop)]
 pub enum JobVerdict {
     /// The JDF has this fault.
     Jdf(JdfFault),

@@ -2,7 +2,7 @@
 use std::fmt;
 
 /// A number with the name of what was counted.
-#[derive(Clone, Copy, Debug, Drop)]
+#[derive(Clone, Copy, Drop)]
 pub struct Count {
     pub name: &'static str,
     pub value: u64,

@@ -5,7 +5,6 @@ use ptg_base::{Seq, Text};
 use term_core::{Body, Expr};
 
 /// A class of tasks. Its locals are numbered as the definitions of its space.
-#[derive(Debug)]
 pub struct ClassPlan {
     pub name: Text,
     /// Where its tasks would best run: the number of a collection, and an index for each of its dimensions.

@@ -5,7 +5,6 @@ use ptg_base::{Seq, Text};
 use term_core::{Expr, FlowKind};
 
 /// A dependence on `yes` where it has no guard or the guard is not 0, else on `no`.
-#[derive(Debug)]
 pub struct DepPlan {
     pub guard: Option<Expr>,
     pub yes: Target,
@@ -23,7 +22,6 @@ impl Drop for DepPlan {
 }
 
 /// A flow of a class.
-#[derive(Debug)]
 pub struct FlowPlan {
     pub name: Text,
     pub kind: FlowKind,

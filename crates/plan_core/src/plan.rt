@@ -11,7 +11,6 @@ use ptg_base::{Place, Seq};
 use term_core::ClassSpace;
 
 /// A job with all its names resolved, for the data that it was resolved with.
-#[derive(Debug)]
 pub struct Plan {
     /// The classes, in the text's order.
     pub classes: Seq<ClassPlan>,

@@ -4,7 +4,7 @@ use ptg_base::Seq;
 use term_core::{Expr, Range};
 
 /// An argument of a task target.
-#[derive(Debug, Drop)]
+#[derive(Drop)]
 pub enum Arg {
     /// The value of a parameter.
     One(Expr),
@@ -13,7 +13,7 @@ pub enum Arg {
 }
 
 /// The other end of a dependence.
-#[derive(Debug, Drop)]
+#[derive(Drop)]
 pub enum Target {
     /// The numbers of a class and of a flow of it, and an argument for each parameter of the class.
     Task(u32, u8, Seq<Arg>),

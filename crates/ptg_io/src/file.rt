@@ -6,7 +6,7 @@ use ptg_base::{Seq, Text};
 use std::marker::Model;
 
 /// A file in memory, seen as its name and its bytes.
-#[derive(Debug, Drop)]
+#[derive(Drop)]
 pub struct File {
     label: Text,
     content: Seq<u8>,

@@ -12,7 +12,7 @@ use std::alloc::Global;
 use std::marker::Model;
 
 /// Files in memory. They give as much as fits into the buffer; the reads with chosen numbers fail.
-#[derive(Debug, Drop)]
+#[derive(Drop)]
 pub struct MemFiles {
     all: Seq<File>,
     failed: Seq<u64>,

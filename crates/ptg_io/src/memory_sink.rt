@@ -11,7 +11,7 @@ use std::alloc::Global;
 use std::marker::Model;
 
 /// A sink in memory. It takes each piece whole; the writes with chosen numbers fail.
-#[derive(Debug, Drop)]
+#[derive(Drop)]
 pub struct MemSink {
     content: Seq<u8>,
     failed: u64,

@@ -7,7 +7,7 @@ use std::fmt;
 use term_core::Trap;
 
 /// A number with the name of what was counted.
-#[derive(Debug, Drop)]
+#[derive(Drop)]
 pub struct Count {
     pub name: &'static str,
     pub value: i64,

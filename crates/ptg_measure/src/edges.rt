@@ -11,7 +11,7 @@ use range_space::Space;
 use std::alloc::Global;
 
 // How many edges were walked.
-#[derive(Clone, Copy, Debug, Drop)]
+#[derive(Clone, Copy, Drop)]
 struct Walked {
     tasks: u64,
     ins: u64,

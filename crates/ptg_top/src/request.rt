@@ -7,7 +7,7 @@ use ptg_base::Text;
 use ptg_words::Order;
 
 /// What a command asks for, where that is carried out so far.
-#[derive(Debug, Drop)]
+#[derive(Drop)]
 pub enum Request {
     /// Run the job of this JDF file on this data file.
     Run(Text, Text),

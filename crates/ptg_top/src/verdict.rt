@@ -4,7 +4,7 @@ use job_stages::JobVerdict;
 use ptg_base::Text;
 
 /// What a run comes to, before it is printed.
-#[derive(Debug, Drop)]
+#[derive(Drop)]
 pub enum Verdict {
     /// The arguments form no command.
     Usage,

@@ -7,7 +7,7 @@ use ptg_base::Text;
 use std::alloc::{AllocError, AllocFailed};
 
 /// A command of the program.
-#[derive(Debug, Drop)]
+#[derive(Drop)]
 pub enum Order {
     /// Run the job of this JDF file on this data file, with these numbers of workers and of shards, and with all memory taken before the run or not.
     Run(Text, Text, u32, u32, bool),

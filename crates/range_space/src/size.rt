@@ -19,7 +19,7 @@ const MOST_TASKS: u64 = 1_000_000;
 const MOST_PREFIXES: u64 = 16_000_000;
 
 // How many tasks and prefixes a walk has visited.
-#[derive(Debug, Drop)]
+#[derive(Drop)]
 struct Counts {
     tasks: u64,
     prefixes: u64,

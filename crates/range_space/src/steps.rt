@@ -10,7 +10,7 @@ use crate::values::Values;
 use term_core::{Expr, Range, eval};
 
 /// The numbers `lo`, `lo + step` and so on while they are within `hi`.
-#[derive(Clone, Copy, Debug)]
+#[derive(Clone, Copy)]
 pub struct Steps {
     pub lo: i64,
     pub hi: i64,

@@ -11,7 +11,7 @@ use term_core::{ClassSpace, local};
 
 /// An iterator over the tasks of a class, each by its parameters, in walk order. Contracts see it as the list of those not yet given.
 /// Where a definition has no value there is no task.
-#[derive(Debug, Drop)]
+#[derive(Drop)]
 pub struct Space<'a> {
     space: &'a ClassSpace,
     locals: Numbers<16>,

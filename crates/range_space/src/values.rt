@@ -8,7 +8,7 @@ use crate::steps::is_within;
 use std::marker::Model;
 
 /// An iterator over the values of a range. Contracts see it as the list of those not yet given.
-#[derive(Debug, Drop)]
+#[derive(Drop)]
 pub struct Values {
     at: Option<i64>,
     hi: i64,

@@ -3,7 +3,7 @@
 use ptg_base::TaskId;
 
 /// What a steal answers.
-#[derive(Debug, Drop)]
+#[derive(Drop)]
 pub enum Stolen {
     /// The id that was at the front.
     Task(TaskId),

@@ -15,7 +15,7 @@ use jdf_lex::JdfFault;
 use ptg_io::{Failed, Sink};
 
 /// A refusal, as it is printed.
-#[derive(Clone, Copy, Debug)]
+#[derive(Clone, Copy)]
 pub enum Line<'a> {
     /// The arguments form no valid command.
     Usage,

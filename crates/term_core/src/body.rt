@@ -9,7 +9,7 @@ use std::marker::Model;
 
 /// A statement of a body.
 #[cycle(block)]
-#[derive(Debug, Drop)]
+#[derive(Drop)]
 pub enum Stmt {
     /// `x = e;`: the number of the variable's slot, and its value.
     Set(u16, Expr),
@@ -27,7 +27,7 @@ pub enum Stmt {
 ///
 /// Dropping a block recurses as deep as blocks nest, however many statements it has.
 #[cycle(block)]
-#[derive(Debug, Drop)]
+#[derive(Drop)]
 pub struct Block {
     statements: Vec<Stmt>,
 }
@@ -71,7 +71,6 @@ impl Block {
 
 /// What a task does to its tiles: statements over numbered slots. The first slots hold the task's locals, the others the
 /// body's own variables.
-#[derive(Debug)]
 pub struct Body {
     pub statements: Block,
     pub slots: u16,

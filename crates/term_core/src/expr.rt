@@ -10,7 +10,6 @@ use std::alloc::Global;
 use std::marker::Model;
 
 /// An expression over the locals of a task. Contracts see its tree, not its boxes.
-#[derive(Debug)]
 pub struct Expr {
     pub(crate) node: Node,
 }
@@ -22,7 +21,7 @@ impl Drop for Expr {
 }
 
 /// A node of an expression: an operation and its operands.
-#[derive(Debug, Drop)]
+#[derive(Drop)]
 pub enum Node {
     /// A number.
     Num(i64),

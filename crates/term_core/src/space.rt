@@ -8,7 +8,7 @@ use ptg_base::Seq;
 use std::marker::Model;
 
 /// The numbers from `lo` to `hi` by `step`, or by 1 where no step is written.
-#[derive(Debug, Drop)]
+#[derive(Drop)]
 pub struct Range {
     pub lo: Expr,
     pub hi: Expr,
@@ -16,7 +16,7 @@ pub struct Range {
 }
 
 /// The definition of a local of a class.
-#[derive(Debug, Drop)]
+#[derive(Drop)]
 pub enum Def {
     /// Each value of a range.
     Span(Range),
@@ -25,7 +25,7 @@ pub enum Def {
 }
 
 /// For each parameter, in order, the number of its definition; at most eight. It takes no memory.
-#[derive(Debug, Drop)]
+#[derive(Drop)]
 pub struct Params {
     numbers: ArrayVec<u8, 8>,
 }
@@ -59,7 +59,6 @@ impl Params {
 }
 
 /// The definitions of a class in the order of their nesting, and which of them are its parameters.
-#[derive(Debug)]
 pub struct ClassSpace {
     pub defs: Seq<Def>,
     pub params: Params,
