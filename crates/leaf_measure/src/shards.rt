@@ -185,7 +185,7 @@ fn take_by_task(shard: &mut Shard, size: u32) -> u64 {
 
 // A ready task is taken and traps.
 fn trap(shard: &mut Shard, task: &TaskId) -> Result<(), OutOfMemory> {
-    if shard.running() >= MOST_TASKS || shard.ended() >= MOST_TASKS {
+    if shard.ended() >= MOST_TASKS || shard.running() >= MOST_TASKS {
         return Ok(());
     }
     if shard.take_ready(task).is_none() {
