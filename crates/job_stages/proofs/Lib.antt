@@ -2,4 +2,3 @@ pub mod Once
 pub mod Judged
 pub mod WellData
 pub mod Always
-mod Tried

@@ -6,8 +6,6 @@ mod data_text;
 mod jdf_text;
 mod judging;
 mod laws;
-#[cfg(test)]
-mod tests;
 mod verdict;
 
 pub use answering::answer_of;

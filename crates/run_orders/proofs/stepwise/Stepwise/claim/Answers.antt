@@ -1,6 +1,6 @@
 use Rattle.std.proofs.Common.{ap, ◌∙◌, ◌++◌, ◌∷◌, []}
-use Rattle.job_stages.proofs.Tried.{after_claim}
-use Rattle.job_stages.proofs.tests.stepwise.Stepwise.claim.Goals as goal
+use Rattle.run_orders.proofs.Tried.{after_claim}
+use Rattle.run_orders.proofs.stepwise.Stepwise.claim.Goals as goal
 
 pub invariant_of-self-2 : goal.invariant_of-self-2
 invariant_of-self-2 c =

@@ -1,5 +1,5 @@
-use Rattle.job_stages.proofs.Tried.{after_end}
-use Rattle.job_stages.proofs.tests.stepwise.Stepwise.finish.Goals as goal
+use Rattle.run_orders.proofs.Tried.{after_end}
+use Rattle.run_orders.proofs.stepwise.Stepwise.finish.Goals as goal
 
 pub invariant_of-self-2 : goal.invariant_of-self-2
 invariant_of-self-2 c =

@@ -5,33 +5,33 @@ ghost use Rattle.ptg_base.specs.Lists.{IsIn};
 ghost use Rattle.ptg_base.specs.Task.{Task};
 ghost use Rattle.flow_core.specs.RunState.{IsRunning};
 
-use crate::{JobVerdict, judge_texts};
 use coll_data::Given;
 use dep_iter::Matched;
 use flow_core::State;
 use flow_meaning::Outcome;
+use job_stages::{JobVerdict, judge_texts};
 use ptg_base::{Edge, Item, OutOfMemory, Place, TaskId, WriteBack};
 use std::alloc::Global;
 use std::marker::Model;
 
-// What is asked of a run. A task is its class and its parameter; all edges and write-backs are of flow 0.
+/// What is asked of a run. A task is its class and its parameter; all edges and write-backs are of flow 0.
 #[derive(Clone, Copy)]
 pub enum Step {
-    // Claim a task.
+    /// Claim a task.
     Claim(u32, i64),
-    // Run the body of a task.
+    /// Run the body of a task.
     Finish(u32, i64),
-    // Send the edge from the task of class 0 to the one of class 1 with this parameter.
+    /// Send the edge from the task of class 0 to the one of class 1 with this parameter.
     Edge(i64),
-    // Send a write-back of the task of class 1 with this parameter, to a place of collection 0.
+    /// Send a write-back of the task of class 1 with this parameter, to a place of collection 0.
     Write(i64, i64),
-    // Is the task running?
+    /// Is the task running?
     Runs(u32, i64),
-    // Can nothing more happen?
+    /// Can nothing more happen?
     IsOver,
 }
 
-// A run of a job on its data, seen as the run. Each running task is among those that were tried to claim.
+/// A run of a job on its data, seen as the run. Each running task is among those that were tried to claim.
 #[derive(Drop)]
 pub struct Stepwise {
     job: Matched,
@@ -95,7 +95,7 @@ fn none_runs(run: &State, tasks: &[TaskId]) -> bool
 }
 
 impl Stepwise {
-    // The run of the job of these texts, before anything has happened in it; nothing if the job is not consistent.
+    /// The run of the job of these texts, before anything has happened in it; nothing if the job is not consistent.
     pub fn start(alloc: Global, jdf: &[u8], data: &[u8]) -> Result<Option<Stepwise>, OutOfMemory> {
         match judge_texts(alloc, jdf, data)? {
             JobVerdict::Consistent(job, given) => Ok(Some(Stepwise {
@@ -120,7 +120,7 @@ impl Stepwise {
         }
     }
 
-    // The first of these steps that is not answered as here.
+    /// The first of these steps that is not answered as here.
     pub fn first_other(&mut self, steps: &[(Step, bool)]) -> Result<Option<usize>, OutOfMemory> {
         for (n, (step, answer)) in steps.iter().enumerate() {
             if self.take(*step)? != *answer {
@@ -147,7 +147,7 @@ impl Stepwise {
         none_runs(&self.run, self.tried.as_slice()) && self.run.quiescent(&self.job)
     }
 
-    // The answer, once nothing more can happen.
+    /// The answer, once nothing more can happen.
     pub fn answer(self) -> Result<Option<Outcome>, OutOfMemory> {
         let Stepwise {
             job,

@@ -1,5 +1,5 @@
-use Rattle.job_stages.proofs.Tried.{after_send}
-use Rattle.job_stages.proofs.tests.stepwise.Stepwise.take.Goals as goal
+use Rattle.run_orders.proofs.Tried.{after_send}
+use Rattle.run_orders.proofs.stepwise.Stepwise.take.Goals as goal
 
 pub invariant_of-self : goal.invariant_of-self
 invariant_of-self c =

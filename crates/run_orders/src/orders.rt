@@ -1,9 +1,9 @@
 //! A broadcast, claimed and sent in other orders than the program's.
 
-use crate::tests::stepwise::{Step, Stepwise};
+use crate::stepwise::{Step, Stepwise};
 use flow_meaning::Outcome;
 use ptg_base::{OutOfMemory, Place};
-use std::test::Fail;
+use std::alloc::Global;
 
 // Src(0) sends one tile to three tasks Sink(i). Each writes ten times its number and i back to its own place.
 const JDF: &[u8] = b"D
@@ -33,7 +33,7 @@ tile,D,0,5
 ";
 
 // The numbers of D's three tiles, if nothing more can happen and all four tasks ran.
-fn end(run: Stepwise) -> Result<Option<[i64; 3]>, OutOfMemory> {
+fn numbers(run: Stepwise) -> Result<Option<[i64; 3]>, OutOfMemory> {
     let Some(Outcome::Complete(4, given)) = run.answer()? else {
         return Ok(None);
     };
@@ -55,8 +55,8 @@ fn end(run: Stepwise) -> Result<Option<[i64; 3]>, OutOfMemory> {
     Ok(Some(numbers))
 }
 
-// The edges are sent last to first, and readers are claimed and run between the sends.
-const BETWEEN: &[(Step, bool)] = &[
+/// The edges are sent last to first, and readers are claimed and run between the sends.
+pub const BETWEEN: &[(Step, bool)] = &[
     (Step::Claim(0, 0), true),
     (Step::Finish(0, 0), true),
     (Step::Edge(2), true),
@@ -73,8 +73,8 @@ const BETWEEN: &[(Step, bool)] = &[
     (Step::Write(1, 1), true),
 ];
 
-// All edges are sent first; the readers are claimed last to first, and end in another order.
-const AFTER: &[(Step, bool)] = &[
+/// All edges are sent first; the readers are claimed last to first, and end in another order.
+pub const AFTER: &[(Step, bool)] = &[
     (Step::Claim(0, 0), true),
     (Step::Finish(0, 0), true),
     (Step::Edge(0), true),
@@ -91,8 +91,8 @@ const AFTER: &[(Step, bool)] = &[
     (Step::Write(0, 0), true),
 ];
 
-// With calls that are not allowed, each before or after one that would be.
-const REFUSED: &[(Step, bool)] = &[
+/// With calls that are not allowed, each before or after one that would be.
+pub const REFUSED: &[(Step, bool)] = &[
     // An edge has not come; there is no such task; the sender is not claimed.
     (Step::Claim(1, 0), false),
     (Step::Claim(1, 3), false),
@@ -144,15 +144,29 @@ const REFUSED: &[(Step, bool)] = &[
     (Step::IsOver, true),
 ];
 
-// Each order ends with ten times 5 and the number of the reader, at each place.
-#[test]
-fn orders_end_alike(rt: HostRuntime) -> Result<(), Fail> {
-    for steps in [BETWEEN, AFTER, REFUSED] {
-        let Some(mut run) = Stepwise::start(rt.alloc(), JDF, DATA)? else {
-            panic!(rt; "the job is not consistent");
-        };
-        assert_eq!(rt; run.first_other(steps)?, None);
-        assert_eq!(rt; end(run)?, Some([50, 51, 52]));
+/// How the broadcast ended in one order of steps.
+#[derive(Clone, Copy)]
+pub enum End {
+    /// All tasks ran, and these are the numbers of the three places.
+    Numbers([i64; 3]),
+    /// The step with this number, counted from 0, was not answered as it should be.
+    Otherwise(usize),
+    /// Not all tasks ran.
+    NotComplete,
+    /// The job is not consistent.
+    NoJob,
+}
+
+/// The broadcast in one order of steps.
+pub fn end_of(alloc: Global, steps: &[(Step, bool)]) -> Result<End, OutOfMemory> {
+    let Some(mut run) = Stepwise::start(alloc, JDF, DATA)? else {
+        return Ok(End::NoJob);
+    };
+    if let Some(number) = run.first_other(steps)? {
+        return Ok(End::Otherwise(number));
     }
-    Ok(())
+    match numbers(run)? {
+        Some(numbers) => Ok(End::Numbers(numbers)),
+        None => Ok(End::NotComplete),
+    }
 }
