@@ -1,5 +1,5 @@
-//! Entries of one shard: ready tasks and edges come, and tasks are taken.
-ghost use Rattle.std.specs.Prelude.{◌≡◌, OnOk};
+//! One shard: ready tasks and edges come, tasks are taken and end or trap, and tiles are written back.
+ghost use Rattle.std.specs.Prelude.{◌≡◌, ◌<◌, OnOk, IsTrue};
 ghost use Rattle.dep_shard.specs.Content.{IsTileOf};
 ghost use Rattle.leaf_measure.specs.Tasks.{task_of, HasNoneFrom, WaitFrom};
 
@@ -148,12 +148,20 @@ fn send_last(shard: &mut Shard, size: u32, tile: &Tile) -> Result<u64, OutOfMemo
     Ok(fired)
 }
 
-// A ready task is taken and ends. Whether it was ready.
-fn run(shard: &mut Shard, task: &TaskId) -> bool {
+// A ready task is taken, unless as many run or have ended as may. Whether it was.
+fn take(shard: &mut Shard, task: &TaskId) -> bool
+    ensures running { IsTrue result → 0 < shard.new.running }
+    ensures ended { IsTrue result → shard.new.ended < 1000000 }
+{
     if shard.running() >= MOST_TASKS || shard.ended() >= MOST_TASKS {
         return false;
     }
-    if shard.take_ready(task).is_none() {
+    shard.take_ready(task).is_some()
+}
+
+// A ready task is taken and ends. Whether it was ready.
+fn run(shard: &mut Shard, task: &TaskId) -> bool {
+    if !take(shard, task) {
         return false;
     }
     shard.end();
@@ -185,10 +193,7 @@ fn take_by_task(shard: &mut Shard, size: u32) -> u64 {
 
 // A ready task is taken and traps.
 fn trap(shard: &mut Shard, task: &TaskId) -> Result<(), OutOfMemory> {
-    if shard.ended() >= MOST_TASKS || shard.running() >= MOST_TASKS {
-        return Ok(());
-    }
-    if shard.take_ready(task).is_none() {
+    if !take(shard, task) {
         return Ok(());
     }
     shard.trap(task, Trap::Divide)
