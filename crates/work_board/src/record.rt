@@ -1,0 +1,43 @@
+//! What contracts see of a pass.
+
+ghost use Rattle.std.specs.Prelude.{Bool, List, ℕ};
+ghost use Rattle.ptg_base.specs.Task.{Task};
+ghost use Rattle.dep_shard.specs.Content.{Content};
+ghost use Rattle.flow_meaning.specs.Machine.{Sent};
+ghost use Rattle.work_board.specs.Word.{Word};
+
+use std::marker::Model;
+
+/// What a pass has done and what it holds, for contracts alone: no value of it is made.
+pub struct PassRecord {
+    /// Its names, each with the number of passes that were split off under it. It has one name until passes are joined.
+    pub ghost names: { List (List ℕ × ℕ) },
+    /// The tasks that it claimed.
+    pub ghost claims: { List Task },
+    /// The items that it sent, each with its tile.
+    pub ghost sends: { List Sent },
+    /// The tasks that it runs: at most one until passes are joined.
+    pub ghost running: { List Task },
+    /// The shards whose turns it holds, each with what the shard had when the turn was taken.
+    pub ghost turns: { List (ℕ × Content) },
+    /// The shard whose turn it took last, with what that shard had then. It has none before its first turn.
+    pub ghost last: { List (ℕ × Content) },
+    /// Whether it has seen quiet.
+    pub ghost quiet: { Bool },
+    /// Whether it raised the halt word.
+    pub ghost halts: { Bool },
+    /// The word that it looked at last, and the number that it found there.
+    pub ghost look: { Word × ℕ },
+    /// How many looks it has made.
+    pub ghost looks: { ℕ },
+    /// Its part of the live word that stands for no task: what it has yet to lower the word by.
+    pub ghost credit: { ℕ },
+    /// The stamps of its claims, each with its task.
+    pub ghost stamps: { List (Task × ℕ) },
+}
+
+impl Model for PassRecord {
+    ghost use Rattle.std.specs.Borrow.{ftrue};
+
+    ghost also_owns = { λ _. ftrue };
+}
