@@ -1,18 +1,28 @@
 //! Whether a body may be run: the condition of `run_body`.
 
-ghost use Rattle.std.specs.Prelude.{◌≡◌, ◌↔◌, IsTrue};
-ghost use Rattle.term_core.specs.NodeTerm.{term_of};
+ghost use Rattle.std.specs.Prelude.{◌≡◌, ◌↔◌, ℕ, IsTrue};
+ghost use Rattle.term_core.specs.NodeTerm.{leaf_term, term_of};
 ghost use Rattle.term_core.specs.Value.{is_closed_with};
 ghost use Rattle.term_core.specs.WellBody.{is_variable, are_well_made, IsWellBody};
 ghost use Rattle.body_eval.specs.WellStatement.{is_well_made};
 
-use term_core::{Block, Body, Expr, Node, Stmt};
+use term_core::{Block, Body, Expr, Leaf, Node, Stmt};
 
 // Does an expression name only the first so many slots and flows?
 fn closed(slots: usize, flows: usize, e: &Expr) -> bool
     ensures { result ≡ is_closed_with slots flows e.now }
 {
     closed_node(slots, flows, e.node())
+}
+
+// Is an operand a number, or a local in one of the first so many slots? It names no flow.
+fn closed_leaf(slots: usize, leaf: Leaf) -> bool
+    ensures { (flows : ℕ) → result ≡ is_closed_with slots flows (leaf_term leaf) }
+{
+    match leaf {
+        Leaf::Num(_) => true,
+        Leaf::Local(number) => (number as usize) < slots,
+    }
 }
 
 fn closed_node(slots: usize, flows: usize, node: &Node) -> bool
@@ -24,6 +34,7 @@ fn closed_node(slots: usize, flows: usize, node: &Node) -> bool
         Node::Elem(flow, at) => (*flow as usize) < flows && closed_node(slots, flows, at),
         Node::Unary(_, a) => closed_node(slots, flows, a),
         Node::Binary(_, a, b) => closed_node(slots, flows, a) && closed_node(slots, flows, b),
+        Node::Flat(_, a, b) => closed_leaf(slots, *a) && closed_leaf(slots, *b),
         Node::Choose(c, a, b) => {
             closed_node(slots, flows, c)
                 && closed_node(slots, flows, a)

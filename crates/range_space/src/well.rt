@@ -2,11 +2,21 @@
 
 ghost use Rattle.std.specs.Prelude.{◌≡◌, ◌+◌, ◌<◌, ◌≤◌, ◌↔◌, ◌==◌, ◌&&◌, nat_lt, length, IsTrue};
 ghost use Rattle.std.specs.List.{list_all, list_any};
-ghost use Rattle.term_core.specs.NodeTerm.{term_of};
+ghost use Rattle.term_core.specs.NodeTerm.{leaf_term, term_of};
 ghost use Rattle.term_core.specs.Value.{is_closed};
 ghost use Rattle.term_core.specs.WellSpace.{is_closed_step, is_closed_def, are_closed, is_among, spans_are_params, are_different, IsWellSpace};
 
-use term_core::{ClassSpace, Def, Expr, Node, Range};
+use term_core::{ClassSpace, Def, Expr, Leaf, Node, Range};
+
+// Whether an operand is a number, or the local of one of the first so many definitions.
+fn is_closed_leaf(before: usize, leaf: Leaf) -> bool
+    ensures { result ≡ is_closed before (leaf_term leaf) }
+{
+    match leaf {
+        Leaf::Num(_) => true,
+        Leaf::Local(number) => (number as usize) < before,
+    }
+}
 
 // Whether an expression names only so many definitions, the first ones, and no element of a tile.
 fn is_closed(before: usize, node: &Node) -> bool
@@ -18,6 +28,7 @@ fn is_closed(before: usize, node: &Node) -> bool
         Node::Elem(_, _) => false,
         Node::Unary(_, a) => is_closed(before, a),
         Node::Binary(_, a, b) => is_closed(before, a) && is_closed(before, b),
+        Node::Flat(_, a, b) => is_closed_leaf(before, *a) && is_closed_leaf(before, *b),
         Node::Choose(c, a, b) => is_closed(before, c)
             && is_closed(before, a)
             && is_closed(before, b),

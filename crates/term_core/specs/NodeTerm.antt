@@ -1,7 +1,19 @@
 -- The tree of an expression, without its boxes.
+use Rattle.std.specs.Prelude.{ℤ, pos, List, slice_index_or}
+use Rattle.term_core.specs.declared.expr.Leaf.{Leaf}
+use Rattle.term_core.specs.declared.expr.Leaf.TheVariants as leaf
 use Rattle.term_core.specs.declared.expr.Node.{Node}
 use Rattle.term_core.specs.declared.expr.Node.TheVariants as node
 use Rattle.term_core.specs.Term.{Term, Num, Local, Elem, Unary, Binary, Choose}
+
+abbrev pub leaf_term : Leaf → Term
+leaf_term (leaf.Num z) = Num z
+leaf_term (leaf.Local n) = Local n
+
+-- the value of a leaf
+abbrev pub leaf_number : Leaf → List ℤ → ℤ
+leaf_number (leaf.Num z) env = z
+leaf_number (leaf.Local n) env = slice_index_or env n (pos 0)
 
 abbrev pub term_of : Node → Term
 term_of (node.Num z) = Num z
@@ -9,4 +21,5 @@ term_of (node.Local n) = Local n
 term_of (node.Elem' f p a) = Elem f (term_of a)
 term_of (node.Unary' o p a) = Unary o (term_of a)
 term_of (node.Binary' o p a q b) = Binary o (term_of a) (term_of b)
+term_of (node.Flat o a b) = Binary o (leaf_term a) (leaf_term b)
 term_of (node.Choose' p a q b r c) = Choose (term_of a) (term_of b) (term_of c)

@@ -64,6 +64,7 @@ fn number(condition: bool) -> i64
 }
 
 /// The value of a binary operation on two numbers, or its fault.
+#[inline(always)]
 pub fn arith(op: BinOp, a: i64, b: i64) -> Result<i64, ExprFault>
     ensures { result ≡ arithmetic op a b }
 {
@@ -98,6 +99,7 @@ pub fn unary(op: UnOp, a: i64) -> Result<i64, ExprFault>
 }
 
 /// The value of a binary operation, where its left operand decides it: `&&` of 0, `||` of a number that holds.
+#[inline(always)]
 pub fn decide(op: BinOp, a: i64) -> Option<i64>
     ensures { result ≡ decided op a }
 {

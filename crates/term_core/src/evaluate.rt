@@ -1,15 +1,17 @@
 //! The value of an expression: one evaluator, over a way to read elements.
 
 ghost use Rattle.std.specs.Prelude.{◌≡◌, ℕ, ℤ, pos, slice_index_or, Result, Ok};
-ghost use Rattle.term_core.specs.NodeTerm.{term_of};
-ghost use Rattle.term_core.specs.Value.{map_fault, value, value_with};
+ghost use Rattle.term_core.specs.NodeTerm.{term_of, leaf_number};
+ghost use Rattle.term_core.specs.Value.{binary_with, map_fault, value, value_with};
 ghost use Rattle.term_core.specs.declared.fault.ExprFault.{ExprFault};
 
 use crate::arithmetic::{arith, decide, unary};
-use crate::expr::{Expr, Node};
+use crate::expr::{Expr, Leaf, Node};
 use crate::fault::ExprFault;
+use crate::operator::BinOp;
 
 /// The local of this number, or 0 where there is none.
+#[inline(always)]
 pub fn local(env: &[i64], number: u16) -> i64
     ensures { result ≡ slice_index_or env.now number (pos 0) }
 {
@@ -38,10 +40,38 @@ pub trait ReadElement {
 }
 
 /// The value of an expression whose elements are read so, or its first fault in the order of evaluation.
+#[inline(always)]
 pub fn eval_with<R: ReadElement>(e: &Expr, env: &[i64], elements: &R) -> Result<i64, R::Fault>
     ensures { result ≡ value_with R.fault_of (R.element_of elements.now) env.now e.now }
 {
-    node_value(&e.node, env, elements)
+    match &e.node {
+        Node::Num(z) => Ok(*z),
+        Node::Local(number) => Ok(local(env, *number)),
+        Node::Flat(op, a, b) => flat_value::<R>(*op, leaf_value(*a, env), leaf_value(*b, env)),
+        _ => node_value(&e.node, env, elements),
+    }
+}
+
+// The value of a leaf.
+#[inline(always)]
+fn leaf_value(leaf: Leaf, env: &[i64]) -> i64
+    ensures { result ≡ leaf_number leaf env.now }
+{
+    match leaf {
+        Leaf::Num(z) => z,
+        Leaf::Local(number) => local(env, number),
+    }
+}
+
+// The value of a binary operation on two numbers.
+#[inline(always)]
+fn flat_value<R: ReadElement>(op: BinOp, x: i64, y: i64) -> Result<i64, R::Fault>
+    ensures { result ≡ binary_with R.fault_of op (Ok x) (Ok y) }
+{
+    if let Some(z) = decide(op, x) {
+        return Ok(z);
+    }
+    with_fault::<R>(arith(op, x, y))
 }
 
 fn node_value<R: ReadElement>(node: &Node, env: &[i64], elements: &R) -> Result<i64, R::Fault>
@@ -66,6 +96,7 @@ fn node_value<R: ReadElement>(node: &Node, env: &[i64], elements: &R) -> Result<
             let y = node_value(b, env, elements)?;
             with_fault::<R>(arith(*op, x, y))
         }
+        Node::Flat(op, a, b) => flat_value::<R>(*op, leaf_value(*a, env), leaf_value(*b, env)),
         Node::Choose(c, a, b) => {
             let x = node_value(c, env, elements)?;
             if x == 0 {
@@ -107,6 +138,7 @@ impl ReadElement for NoElements {
 }
 
 /// The value of an expression that has no element, or its first fault.
+#[inline(always)]
 pub fn eval(e: &Expr, env: &[i64]) -> Result<i64, ExprFault>
     ensures { result ≡ value e.now env.now }
 {

@@ -1,8 +1,8 @@
 //! Expressions.
 
-ghost use Rattle.std.specs.Prelude.{◌≡◌, IfOk};
+ghost use Rattle.std.specs.Prelude.{◌≡◌, IfOk, IfSome};
 ghost use Rattle.term_core.specs.Term.{Num, Local, Elem, Unary, Binary, Choose};
-ghost use Rattle.term_core.specs.NodeTerm.{term_of};
+ghost use Rattle.term_core.specs.NodeTerm.{term_of, leaf_term};
 
 use crate::operator::{BinOp, UnOp};
 use ptg_base::OutOfMemory;
@@ -20,6 +20,13 @@ impl Drop for Expr {
     }
 }
 
+/// An operand that is a number or a local.
+#[derive(Clone, Copy, Drop)]
+pub enum Leaf {
+    Num(i64),
+    Local(u16),
+}
+
 /// A node of an expression: an operation and its operands.
 #[derive(Drop)]
 pub enum Node {
@@ -31,6 +38,8 @@ pub enum Node {
     Elem(u8, Box<Node>),
     Unary(UnOp, Box<Node>),
     Binary(BinOp, Box<Node>, Box<Node>),
+    /// A binary operation on two leaves.
+    Flat(BinOp, Leaf, Leaf),
     /// `c ? a : b`
     Choose(Box<Node>, Box<Node>, Box<Node>),
 }
@@ -46,6 +55,29 @@ impl Model for Expr {
     ghost use Rattle.term_core.specs.NodeTerm.{term_of};
 
     ghost view = { λ e. term_of e.node };
+}
+
+// The leaf that a node is.
+fn leaf_of(node: &Node) -> Option<Leaf>
+    ensures { IfSome result (λ l. term_of node.now ≡ leaf_term l) }
+{
+    match node {
+        Node::Num(z) => Some(Leaf::Num(*z)),
+        Node::Local(number) => Some(Leaf::Local(*number)),
+        _ => None,
+    }
+}
+
+// A binary operation, without boxes where its operands are leaves.
+fn binary_node(alloc: Global, op: BinOp, a: Node, b: Node) -> Result<Node, OutOfMemory>
+    ensures { IfOk result (λ n. term_of n ≡ Binary op (term_of a) (term_of b)) }
+{
+    if let Some(x) = leaf_of(&a) {
+        if let Some(y) = leaf_of(&b) {
+            return Ok(Node::Flat(op, x, y));
+        }
+    }
+    Ok(Node::Binary(op, Box::new(alloc, a)?, Box::new(alloc, b)?))
 }
 
 impl Expr {
@@ -88,11 +120,7 @@ impl Expr {
         ensures { IfOk result (λ e. e ≡ Binary op a b) }
     {
         Ok(Expr {
-            node: Node::Binary(
-                op,
-                Box::new(alloc, a.into_node())?,
-                Box::new(alloc, b.into_node())?,
-            ),
+            node: binary_node(alloc, op, a.into_node(), b.into_node())?,
         })
     }
 
