@@ -14,7 +14,6 @@ use Rattle.plan_core.specs.declared.flow.FlowPlan.{FlowPlan}
 use Rattle.plan_core.specs.declared.plan.Plan.{Plan}
 use Rattle.plan_core.specs.Kinds.{is_data, kind_of}
 use Rattle.plan_core.specs.Place.{HasPlace}
-use Rattle.dep_iter.specs.declared.source.Source.{Source}
 use Rattle.dep_iter.specs.declared.source.Source.TheVariants as source
 use Rattle.dep_iter.specs.Tasks.{all_tasks, flows_of, IsTask}
 use Rattle.dep_iter.specs.Edges.{data_source, in_edges}
