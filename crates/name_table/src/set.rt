@@ -3,7 +3,7 @@
 ghost use Rattle.std.specs.Prelude.{◌≡◌, ◌<◌, [], ◌∷◌, ◌++◌, length, not, is_some, if◌then◌else◌, IfSome, IfOk, OnErr};
 ghost use Rattle.name_table.specs.Names.{has_name, index_named};
 
-use indexmap::IndexSet;
+use crate::table::NameTable;
 use ptg_base::{OutOfMemory, Seq, Text};
 use std::alloc::Global;
 use std::marker::Model;
@@ -11,15 +11,16 @@ use std::marker::Model;
 /// A set of names, seen as the list of them in the order in which they were added. Each name is in it once.
 #[derive(Drop)]
 pub struct NameSet {
-    names: IndexSet<Text>,
+    names: NameTable<()>,
 }
 
 impl Model for NameSet {
     ghost use Rattle.std.specs.Prelude.{List, ℕ};
+    ghost use Rattle.std.specs.Map.{keys_of};
 
     ghost Value = { List (List ℕ) };
 
-    ghost view = { λ s. s.names.keys };
+    ghost view = { λ s. keys_of s.names };
 }
 
 impl NameSet {
@@ -28,7 +29,7 @@ impl NameSet {
         ensures { result ≡ [] }
     {
         NameSet {
-            names: IndexSet::new(alloc),
+            names: NameTable::new(alloc),
         }
     }
 
@@ -43,7 +44,7 @@ impl NameSet {
     pub fn contains(&self, name: &Text) -> bool
         ensures { result ≡ has_name self.now name.now }
     {
-        self.names.contains(name)
+        self.names.get(name).is_some()
     }
 
     /// The number of the name, counted from 0, where the set has it.
@@ -52,7 +53,7 @@ impl NameSet {
         ensures found { is_some result ≡ has_name self.now name.now }
         ensures within { IfSome result (λ i. i < length self.now) }
     {
-        self.names.get_index_of(name)
+        self.names.number_of(name)
     }
 
     /// Adds a name, where the set does not have it yet: was it new? An `Err` changes nothing.
@@ -61,7 +62,7 @@ impl NameSet {
         ensures names { IfOk result (λ new. self.new ≡ (if new then self.old ++ name ∷ [] else self.old)) }
         ensures err { OnErr result (self.new ≡ self.old) }
     {
-        Ok(self.names.insert(name)?)
+        self.names.add(name, ())
     }
 
     /// The names alone, in their order.
@@ -69,7 +70,7 @@ impl NameSet {
         ensures { IfOk result (λ names. names ≡ self) }
     {
         let mut names = Seq::new(alloc);
-        for name in self.names {
+        for (name, _value) in self.names.into_pairs(alloc)?.into_vec() {
             names.push(name)?;
         }
         Ok(names)
