@@ -3,6 +3,7 @@
 
 mod argument;
 mod combining;
+mod counts;
 mod edges;
 mod guard;
 mod hints;
@@ -23,6 +24,7 @@ mod writes;
 
 pub use argument::arg_steps;
 pub use combining::Combinations;
+pub use counts::Counts;
 pub use edges::{InEdges, OutEdges, in_edges, in_edges_under, out_edges, out_edges_under};
 pub use guard::held_target;
 pub use hints::{affinity, affinity_under, place_number, priority, priority_under};
