@@ -9,7 +9,7 @@ use Rattle.range_space.proofs.Stepping.{by_test}
 use Rattle.plan_core.specs.declared.plan.Plan.{Plan}
 use Rattle.coll_data.specs.Data.{Data}
 use Rattle.dep_iter.specs.Consistent.{IsConsistent}
-use Rattle.dep_iter.specs.Tasks.{all_tasks}
+use Rattle.dep_iter.specs.Tasks.{IsTask, all_tasks}
 use Rattle.dep_iter.proofs.Listing.{listed}
 use Rattle.flow_meaning.specs.Counting.{as_number}
 use Rattle.flow_meaning.specs.Comparing.{same_item}
@@ -101,3 +101,10 @@ at_most (x ∷ xs) ys once among =
 -- no more tasks are claimed than there are
 pub claims_at_most : (P : Plan) (G : Data) (S : MachineState) → IsSoundState P G S → length S.claims ≤ length (all_tasks P)
 claims_at_most P G S sound = at_most S.claims (all_tasks P) (distinct_once S.claims sound.claimed_once) (λ t i. (listed P t).0 (sound.claimed_have_all t i).task)
+
+-- and fewer, where one is not claimed
+pub claims_below : (P : Plan) (G : Data) (S : MachineState) → IsSoundState P G S → (t : Task) → IsTask P t → claim_count S t ≡ 0 → length S.claims < length (all_tasks P)
+claims_below P G S sound t job free =
+    let more = at_most (t ∷ S.claims) (all_tasks P) ((λ i. absurd (omega (arith, free, member_claim S t i))), distinct_once S.claims sound.claimed_once)
+    (λ u i. elim i [ inl same ↦ subst (λ v. IsIn v (all_tasks P)) (sym same) ((listed P t).0 job) | inr claimed ↦ (listed P u).0 (sound.claimed_have_all u claimed).task ]) in
+    omega (arith, more)
