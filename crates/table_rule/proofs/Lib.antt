@@ -1,0 +1,5 @@
+pub mod Weighing
+pub mod Passes
+pub mod Naming
+pub mod Turning
+pub mod Living

@@ -1,0 +1,5 @@
+//! The rule of the shared dependency table, and that each kind of step keeps it.
+#![tactic(auto)]
+
+pub mod job;
+pub mod law;
