@@ -1,0 +1,12 @@
+pub mod Listing
+pub mod TableEntries
+pub mod Destinations
+pub mod Carrying
+pub mod Delivering
+pub mod Entries
+pub mod Claims
+pub mod Sends
+pub mod Ends
+pub mod Due
+pub mod Reserving
+pub mod SendReserving
