@@ -3,3 +3,9 @@ pub mod Passes
 pub mod Naming
 pub mod Turning
 pub mod Living
+pub mod Moving
+pub mod Looking
+pub mod WordSteps
+pub mod Stamping
+pub mod Splitting
+pub mod Giving

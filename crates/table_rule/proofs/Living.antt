@@ -90,6 +90,15 @@ module _ (P : Plan) (R R' : Moment) (live stamp : ℕ) (vs : List PassRecord) (i
     drawn = r.drawn;
   }
 
+-- a filtered list is as long as many pass the test
+pub filter_count : {A : Type 0} (p : A → Bool) (xs : List A) → length (filter p xs) ≡ count p xs
+filter_count p [] = refl
+filter_count p (x ∷ xs) = by (p x) (filter_count p xs)
+  where
+    by : (b : Bool) → length (filter p xs) ≡ count p xs → length (cond b (x ∷ filter p xs) (filter p xs)) ≡ as_number b + count p xs
+    by true e = omega (arith, e)
+    by false e = omega (arith, e)
+
 -- a task is claimed at most once, so the claimed tasks are at most all tasks, and those that are ready besides
 module _ (P : Plan) (G : Data) (S : MachineState) (sound : IsSoundState P G S) where
   one_task : (a b : Task) → same_task a b ≡ true → a ≡ b
@@ -118,14 +127,6 @@ module _ (P : Plan) (G : Data) (S : MachineState) (sound : IsSoundState P G S) w
   ready_and_claimed =
       let one_each : length S.claims ≤ weigh (λ t. as_number (not (is_unclaimed S t))) S.claims = omega (arith, weigh-one S.claims, weigh-le (λ _. 1) (λ t. as_number (not (is_unclaimed S t))) S.claims (λ t i. omega (arith, unclaimed_not t i))) in
       omega (arith, one_each, claims_among_tasks (λ t. as_number (not (is_unclaimed S t))), filter_count (is_ready P S) (all_tasks P), weigh-plus (λ t. as_number (is_ready P S t)) (λ t. as_number (not (is_unclaimed S t))) (all_tasks P), weigh-le (λ t. as_number (is_ready P S t) + as_number (not (is_unclaimed S t))) (λ _. 1) (all_tasks P) (λ t i. claimed_apart t), weigh-one (all_tasks P))
-    where
-      filter_count : {A : Type 0} (p : A → Bool) (xs : List A) → length (filter p xs) ≡ count p xs
-      filter_count p [] = refl
-      filter_count p (x ∷ xs) = by (p x) (filter_count p xs)
-        where
-          by : (b : Bool) → length (filter p xs) ≡ count p xs → length (cond b (x ∷ filter p xs) (filter p xs)) ≡ as_number b + count p xs
-          by true e = omega (arith, e)
-          by false e = omega (arith, e)
 
 -- the turns that are held are at most as many as there are shards
 module _ (words : List ℕ) (slots : List (mathlib.Core.Option.Option Content)) (vs : List PassRecord) (r : AreTurns words slots vs) where

@@ -167,3 +167,7 @@ module _ (vs : List PassRecord) (id : ℕ) (v : PassRecord) (r : AreNames vs) (m
   -- no other pass has a name
   pub nameless : (i : ℕ) (u : PassRecord) → i ≢ id → get_elem? vs i ≡ some u → u.names ≡ []
   nameless i u ne e = no_names i u u.names ne e refl
+
+pub named_not_empty : (l : List Name) → 0 < length l → l ≡ [] → ⊥
+named_not_empty [] h e = absurd (omega arith)
+named_not_empty (x ∷ xs) h e = cc

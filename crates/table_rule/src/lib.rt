@@ -3,3 +3,4 @@
 
 pub mod job;
 pub mod law;
+pub mod steps;
