@@ -69,7 +69,7 @@ nothing_from P t n (f ∷ fs) = ap (λ x. x ++ delivered_to P (λ _. None) t (su
     one true source.Nothing = refl
     one false s = refl
 
-nothing_comes : (P : Plan) (t : Task) → delivered_tiles P (λ _. None) t ≡ []
+pub nothing_comes : (P : Plan) (t : Task) → delivered_tiles P (λ _. None) t ≡ []
 unfolding delivered_tiles
 nothing_comes P t = nothing_from P t 0 (flows_of P t)
 

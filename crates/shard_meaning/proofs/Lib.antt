@@ -10,3 +10,11 @@ pub mod Ends
 pub mod Due
 pub mod Reserving
 pub mod SendReserving
+pub mod SoundMoments
+pub mod Holding
+pub mod Targets
+pub mod Writing
+pub mod Calming
+pub mod Openings
+pub mod ReadyCount
+pub mod Reordered

@@ -44,7 +44,7 @@ module _ (P : Plan) (of : Placement) (k : ℕ) where
       kept_by R R (record { unclaimed = λ t e. e; sent = λ i e. e; to_end = λ t e. e }) y z (λ t free e. ap (λ l. is_none (entry_in l t)) (sym same) ∙ e) uses h
 
   -- an event elsewhere
-  reserve-away : (R T : Moment) → IsDueBefore R T → (y : Content) → HasReserve P of k R y → HasReserve P of k T y
+  pub reserve-away : (R T : Moment) → IsDueBefore R T → (y : Content) → HasReserve P of k R y → HasReserve P of k T y
   reserve-away R T before y h = kept_by R T before y y (λ t free e. e) (no_use y) h
 
   pub reserve-claim_away : (R : Moment) (t : Task) → MayClaim P R.state t → (y : Content) → HasReserve P of k R y → HasReserve P of k (with_claim R t) y
