@@ -9,3 +9,6 @@ pub mod WordSteps
 pub mod Stamping
 pub mod Splitting
 pub mod Giving
+pub mod Claiming
+pub mod Ending
+pub mod Sending

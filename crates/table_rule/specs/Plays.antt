@@ -1,11 +1,15 @@
 -- What each kind of step tells the pass that makes it. Source: this project's own choice.
-use Rattle.std.specs.Prelude.{◌≡◌, ◌≢◌, ℕ, ◌<◌, true, List, [], ◌∷◌, length, Option, Some, None}
+use Rattle.std.specs.Prelude.{◌≡◌, ◌≢◌, ℕ, ◌+◌, ◌<◌, ◌==◌, Bool, true, List, [], ◌∷◌, length, Option, Some, None}
 use mathlib.Core.Option.{some}
 use lib.ListN.{get_elem?}
 use Rattle.atomic_table.specs.Table.{Me, Step, rest}
 use Rattle.ptg_base.specs.Task.{Task}
+use Rattle.ptg_base.specs.declared.edge.Edge.{Edge}
+use Rattle.plan_core.specs.declared.plan.Plan.{Plan}
+use Rattle.dep_iter.specs.Edges.{goal}
+use Rattle.dep_iter.specs.Hints.{priority}
 use Rattle.dep_shard.specs.Arrivals.{FlowTile}
-use Rattle.dep_shard.specs.Content.{Content}
+use Rattle.dep_shard.specs.Content.{Content, entry_before}
 use Rattle.flow_meaning.specs.Machine.{Sent}
 use Rattle.work_board.specs.Claims.{MayStart}
 use Rattle.work_board.specs.Word.{Halt, Live, Turn}
@@ -43,6 +47,10 @@ pub record WasSeen (j : Job) (k : ℕ) (v : PassRecord) (y : Content) : Type 0 w
   pub id : ℕ
   pub mine : get_elem? table.views id ≡ some v
   pub home : get_elem? table.homes k ≡ some (some y)
+
+-- whether an edge is the last one that its target waits for, by the entry that the shard has of it
+abbrev pub fires : Plan → Content → Edge → Bool
+fires P y e = ((entry_before y e.to (goal P e.to) (priority P e.to)).arrived + 1) == (entry_before y e.to (goal P e.to) (priority P e.to)).goal
 
 -- what is told of a job, where one is named
 abbrev pub Tells : Option Job → (Job → Type 0) → Type 0
