@@ -1,0 +1,14 @@
+pub mod Weighing
+pub mod Passes
+pub mod Naming
+pub mod Turning
+pub mod Living
+pub mod Moving
+pub mod Looking
+pub mod WordSteps
+pub mod Stamping
+pub mod Splitting
+pub mod Giving
+pub mod Claiming
+pub mod Ending
+pub mod Sending

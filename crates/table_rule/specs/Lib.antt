@@ -1,0 +1,12 @@
+pub mod Words
+pub mod Placing
+pub mod Records
+pub mod Names
+pub mod Owning
+pub mod Turns
+pub mod Quiet
+pub mod Live
+pub mod Rule
+pub mod Changes
+pub mod Plays
+pub mod Events

@@ -1,0 +1,55 @@
+-- The live word and the stamps. Source: this project's own choice.
+use Rattle.std.specs.Prelude.{◌≡◌, ℕ, ◌+◌, ◌<◌, ◌≤◌, ◌==◌, List, length}
+use Rattle.ptg_base.specs.Lists.{IsIn}
+use Rattle.ptg_base.specs.Task.{Task}
+use Rattle.ptg_base.specs.TaskComparing.{same_task}
+use Rattle.ptg_base.specs.declared.edge.Edge.{Edge}
+use Rattle.plan_core.specs.declared.plan.Plan.{Plan}
+use Rattle.dep_iter.specs.Edges.{in_edges}
+use Rattle.flow_meaning.specs.Counting.{count, weigh}
+use Rattle.flow_meaning.specs.Machine.{Sent, sender}
+use Rattle.flow_meaning.specs.Table.{ready_tasks}
+use Rattle.shard_meaning.specs.Moment.{Moment}
+use Rattle.work_board.specs.declared.record.PassRecord.{PassRecord}
+use Rattle.table_rule.specs.Records.{Each}
+
+-- the stamp of a task
+abbrev pub Stamp : Type 0
+Stamp = Task × ℕ
+
+-- how often a pass has claimed a task, runs it, and drew a stamp for it
+abbrev pub own_claims : PassRecord → Task → ℕ
+own_claims v t = count (same_task t) v.claims
+
+abbrev pub own_runs : PassRecord → Task → ℕ
+own_runs v t = count (same_task t) v.running
+
+abbrev pub own_stamps : PassRecord → Task → ℕ
+own_stamps v t = count (λ (x : Stamp). same_task t x.0) v.stamps
+
+pub record OwnsLives (v : PassRecord) : Type 0 where
+  -- the credit is at most the number of its claims that it runs no more and of the turns that it holds
+  pub credit : v.credit + length v.running ≤ length v.claims + length v.turns
+  -- the stamps are those of its claims, and only for a task that it runs may one be missing
+  pub stamps : (t : Task) → own_stamps v t ≤ own_claims v t
+  pub stamped : (t : Task) → own_claims v t ≤ own_stamps v t + own_runs v t
+
+-- the stamps that were drawn, whoever drew them
+pub record AreStamps (P : Plan) (R : Moment) (stamps : List Stamp) (word : ℕ) : Type 0 where
+  -- the stamp word is their number
+  pub drawn : length stamps ≡ word
+  -- they differ, and are below the stamp word
+  pub differ : (s : ℕ) → count (λ (x : Stamp). x.1 == s) stamps ≤ 1
+  pub below : (t : Task) (s : ℕ) → IsIn (t, s) stamps → s < word
+  -- the stamp of a task is above those of its sources
+  pub above_sources : (e : Edge) (s r : ℕ) → IsIn e (in_edges P e.to) → IsIn (e.from, s) stamps → IsIn (e.to, r) stamps → s < r
+  -- a task that has sent an item has a stamp
+  pub senders : (x : Sent) → IsIn x R.state.sends → (s : ℕ) × IsIn (sender x.item, s) stamps
+
+pub record AreLive (P : Plan) (R : Moment) (live_word stamp_word : ℕ) (vs : List PassRecord) : Type 0 where
+  -- the live word counts the ready tasks, the running ones and the credits
+  pub live : live_word ≡ length (ready_tasks P R.state) + length R.running + weigh (λ (v : PassRecord). v.credit) vs
+  pub each : Each OwnsLives vs
+  pub stamps : List Stamp
+  pub theirs : (f : Stamp → ℕ) → weigh f stamps ≡ weigh (λ (v : PassRecord). weigh f v.stamps) vs
+  pub drawn : AreStamps P R stamps stamp_word

@@ -1,0 +1,100 @@
+-- What each kind of step tells the pass that makes it. Source: this project's own choice.
+use Rattle.std.specs.Prelude.{◌≡◌, ◌≢◌, ℕ, ◌+◌, ◌<◌, ◌==◌, Bool, true, List, [], ◌∷◌, length, Option, Some, None}
+use mathlib.Core.Option.{some}
+use lib.ListN.{get_elem?}
+use Rattle.atomic_table.specs.Table.{Me, Step, rest}
+use Rattle.ptg_base.specs.Task.{Task}
+use Rattle.ptg_base.specs.declared.edge.Edge.{Edge}
+use Rattle.plan_core.specs.declared.plan.Plan.{Plan}
+use Rattle.dep_iter.specs.Edges.{goal}
+use Rattle.dep_iter.specs.Hints.{priority}
+use Rattle.dep_shard.specs.Arrivals.{FlowTile}
+use Rattle.dep_shard.specs.Content.{Content, entry_before}
+use Rattle.flow_meaning.specs.Machine.{Sent}
+use Rattle.work_board.specs.Claims.{MayStart}
+use Rattle.work_board.specs.Word.{Halt, Live, Turn}
+use Rattle.work_board.specs.declared.record.PassRecord.{PassRecord}
+use Rattle.table_rule.specs.declared.job.Job.{Job}
+use Rattle.table_rule.specs.Changes.{turn_left, with_credit, with_halt, with_look, with_own_claim, with_own_end, with_own_send, with_quiet, with_stamp, with_turn, without_credit}
+use Rattle.table_rule.specs.Rule.{Rule, Table}
+
+-- a pass as its seat has it: its record, and the shards whose turns it holds, as they are now
+abbrev pub Seated : Type 0
+Seated = Me Content PassRecord
+
+-- the pass has a name, so it was not joined away
+abbrev pub HasName : PassRecord → Type 0
+HasName v = 0 < length v.names
+
+-- the pass holds one turn, that of the shard k, which had y₀ when it was taken and has y now, and it has this credit
+pub record HasTurn (m : Seated) (k : ℕ) (y₀ y : Content) (credits : ℕ) : Type 0 where
+  pub slot : m.1 ≡ (k, y) ∷ []
+  pub turn : m.0.turns ≡ (k, y₀) ∷ []
+  pub named : HasName m.0
+  pub credit : m.0.credit ≡ credits
+
+-- the table met its rule, with this record of a pass
+pub record WasPass (j : Job) (v : PassRecord) : Type 0 where
+  pub table : Table
+  pub rule : Rule j table
+  pub id : ℕ
+  pub mine : get_elem? table.views id ≡ some v
+
+-- the table met its rule, with this record of a pass and with this content of the shard k, which was at rest
+pub record WasSeen (j : Job) (k : ℕ) (v : PassRecord) (y : Content) : Type 0 where
+  pub table : Table
+  pub rule : Rule j table
+  pub id : ℕ
+  pub mine : get_elem? table.views id ≡ some v
+  pub home : get_elem? table.homes k ≡ some (some y)
+
+-- whether an edge is the last one that its target waits for, by the entry that the shard has of it
+abbrev pub fires : Plan → Content → Edge → Bool
+fires P y e = ((entry_before y e.to (goal P e.to) (priority P e.to)).arrived + 1) == (entry_before y e.to (goal P e.to) (priority P e.to)).goal
+
+-- what is told of a job, where one is named
+abbrev pub Tells : Option Job → (Job → Type 0) → Type 0
+Tells None told = Unit {0}
+Tells (Some j) told = told j
+
+-- a turn is taken, or was found taken
+abbrev pub took : Option Job → ℕ → Step Content → Seated → ℕ → Seated → Type 0
+took j k st m r n =
+    (r ≡ 0 → (y : Content) × (n ≡ (with_turn m.0 k y, (k, y) ∷ m.1)) × Tells j (λ (i : Job). WasSeen i k m.0 y))
+    × (r ≢ 0 → n ≡ (with_look m.0 (Turn k) r, m.1))
+
+-- a turn is given back: with nothing else, with a claim, with a send, with the end of the running task
+abbrev pub left : Step Content → Seated → ℕ → Seated → Type 0
+left st m r n = n ≡ (turn_left m.0, rest m.1)
+
+abbrev pub gave_claim : Option Job → Task → List FlowTile → Step Content → Seated → ℕ → Seated → Type 0
+gave_claim j t tiles st m r n = (n ≡ (turn_left (with_own_claim m.0 t), rest m.1)) × Tells j (λ (i : Job). MayStart i.matched i.given t tiles m.0)
+
+abbrev pub gave_send : Sent → Step Content → Seated → ℕ → Seated → Type 0
+gave_send x st m r n = n ≡ (turn_left (with_own_send m.0 x), rest m.1)
+
+abbrev pub gave_end : Step Content → Seated → ℕ → Seated → Type 0
+gave_end st m r n = n ≡ (turn_left (with_own_end m.0), rest m.1)
+
+-- the halt word is raised, or read: in a preloaded table it is 0
+abbrev pub raised_halt : Step Content → Seated → ℕ → Seated → Type 0
+raised_halt st m r n = n ≡ (with_halt m.0, m.1)
+
+abbrev pub read_halt : Option Job → Step Content → Seated → ℕ → Seated → Type 0
+read_halt j st m r n = (n ≡ (with_look m.0 Halt r, m.1)) × Tells j (λ (i : Job). i.preloaded ≡ true → r ≡ 0)
+
+-- the live word is raised, lowered, or read: 0 is quiet
+abbrev pub raised_live : Step Content → Seated → ℕ → Seated → Type 0
+raised_live st m r n = n ≡ (with_credit m.0, m.1)
+
+abbrev pub lowered_live : Step Content → Seated → ℕ → Seated → Type 0
+lowered_live st m r n = n ≡ (without_credit m.0, m.1)
+
+abbrev pub read_live : Option Job → Step Content → Seated → ℕ → Seated → Type 0
+read_live j st m r n =
+    (r ≡ 0 → (n ≡ (with_quiet (with_look m.0 Live r), m.1)) × Tells j (λ (i : Job). WasPass i (with_quiet (with_look m.0 Live r))))
+    × (r ≢ 0 → n ≡ (with_look m.0 Live r, m.1))
+
+-- a stamp is drawn for a task
+abbrev pub drew_stamp : Task → Step Content → Seated → ℕ → Seated → Type 0
+drew_stamp t st m r n = n ≡ (with_stamp m.0 t r, m.1)

@@ -1,0 +1,19 @@
+-- Quiet and halt. Source: this project's own choice.
+use Rattle.std.specs.Prelude.{◌≡◌, ℕ, ◌<◌, true, List}
+use Rattle.plan_core.specs.declared.plan.Plan.{Plan}
+use Rattle.flow_meaning.specs.Counting.{as_number, weigh}
+use Rattle.shard_meaning.specs.Calm.{IsCalm}
+use Rattle.shard_meaning.specs.Moment.{Moment}
+use Rattle.work_board.specs.declared.record.PassRecord.{PassRecord}
+use Rattle.table_rule.specs.Records.{Each}
+
+-- how many of the passes raised the halt word
+abbrev pub raised : PassRecord → ℕ
+raised v = as_number v.halts
+
+pub record IsQuieted (P : Plan) (R : Moment) (halt : ℕ) (vs : List PassRecord) : Type 0 where
+  -- where a pass has seen quiet, no task is ready or runs
+  pub calm : Each (λ v. v.quiet ≡ true → IsCalm P R) vs
+  -- the halt word is 0 exactly where no pass has raised it
+  pub low : weigh raised vs ≡ 0 → halt ≡ 0
+  pub high : 0 < weigh raised vs → 0 < halt

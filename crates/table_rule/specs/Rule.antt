@@ -1,0 +1,68 @@
+-- The rule of the table: it holds between any two steps of its passes. Source: this project's own choice.
+use Rattle.std.specs.Prelude.{◌≡◌, ℕ, ◌<◌, ◌≤◌, true, List, length, slice_index}
+use mathlib.Core.Option.{Option}
+use Rattle.atomic_table.specs.Table.{State}
+use Rattle.dep_iter.specs.Consistent.{IsConsistent}
+use Rattle.dep_shard.specs.Content.{Content}
+use Rattle.flow_meaning.specs.Sound.{IsSoundState}
+use Rattle.shard_meaning.specs.Calm.{AreFinished}
+use Rattle.shard_meaning.specs.Moment.{Moment}
+use Rattle.shard_meaning.specs.Reserve.{HasReserve}
+use Rattle.shard_meaning.specs.Share.{IsShardOf}
+use Rattle.work_board.specs.declared.record.PassRecord.{PassRecord}
+use Rattle.table_rule.specs.declared.job.Job.{Job}
+use Rattle.table_rule.specs.Live.{AreLive}
+use Rattle.table_rule.specs.Owning.{AreOwned}
+use Rattle.table_rule.specs.Placing.{shard_of}
+use Rattle.table_rule.specs.Quiet.{IsQuieted}
+use Rattle.table_rule.specs.Records.{AreRecordsOf}
+use Rattle.table_rule.specs.Turns.{AreHeld, AreTurns, AtRest}
+use Rattle.table_rule.specs.Words.{halt_word, live_word, stamp_word, word_count}
+
+-- the table as plain data: its words, the shards in their slots, and the records of its passes
+abbrev pub Table : Type 0
+Table = State Content PassRecord
+
+-- the shard k has its part of a moment, and spares for all that is due
+abbrev pub Share : Job → Moment → ℕ → Content → Type 0
+Share j R k y = IsShardOf j.matched j.given (shard_of j.matched j.shards) k R y
+
+abbrev pub Reserve : Job → Moment → ℕ → Content → Type 0
+Reserve j R k y = HasReserve j.matched (shard_of j.matched j.shards) k R y
+
+-- a preloaded table: no pass has given up, and each shard has its spares, at rest and when a turn was taken
+pub record IsReserved (j : Job) (R : Moment) (halted : ℕ) (words : List ℕ) (slots : List (Option Content)) (vs : List PassRecord) : Type 0 where
+  pub halt : halted ≡ 0
+  pub at_rest : AtRest (Reserve j R) words slots
+  pub held : AreHeld (Reserve j R) vs
+
+-- the rule at this moment of the run, part by part
+pub record Parts (j : Job) (s : Table) (R : Moment) : Type 0 where
+  -- a consistent job, from 1 to 256 shards, and the words for them
+  pub consistent : IsConsistent j.matched
+  pub some_shards : 0 < j.shards
+  pub few_shards : j.shards ≤ 256
+  pub slots : length s.homes ≡ j.shards
+  pub words : length s.words ≡ word_count j.shards
+  -- the moment is what all passes did together, and it is sound
+  pub records : AreRecordsOf R s.views
+  pub sound : IsSoundState j.matched j.given R.state
+  -- each pass works for its own claims, and the names of the passes are in order
+  pub owned : AreOwned s.views
+  -- a claimed task that no pass runs has trapped, or all its items were sent
+  pub finished : AreFinished j.matched j.given R
+  -- a shard at rest holds its part of the moment
+  pub at_rest : AtRest (Share j R) s.words s.homes
+  -- a turn word is not 0 exactly where one pass holds that turn, which then had the part of its shard
+  pub turns : AreTurns s.words s.homes s.views
+  pub held : AreHeld (Share j R) s.views
+  -- quiet, and the halt word
+  pub quieted : IsQuieted j.matched R (slice_index s.words (halt_word j.shards)) s.views
+  -- the live word, and the stamps
+  pub live : AreLive j.matched R (slice_index s.words (live_word j.shards)) (slice_index s.words (stamp_word j.shards)) s.views
+  -- the spares of a preloaded table
+  pub reserved : j.preloaded ≡ true → IsReserved j R (slice_index s.words (halt_word j.shards)) s.words s.homes s.views
+
+-- there is a moment of the run at which all parts hold. Which one it is, is no more than the order of its lists
+abbrev pub Rule : Job → Table → Type 0
+Rule j s = (R : Moment) × Parts j s R

@@ -1,0 +1,26 @@
+-- Where the words of a table are: a turn word for each of the n shards, then the halt word, the live word and the stamp word. Source: this project's own choice.
+use Rattle.std.specs.Prelude.{ℕ, ◌+◌, ◌*◌}
+
+-- how far apart the words are: no two that are used are on one line of a cache
+abbrev pub stride : ℕ
+stride = 16
+
+-- the turn word of the shard k: 0 while its turn is free
+abbrev pub turn_word : ℕ → ℕ
+turn_word k = stride * k
+
+-- the halt word: not 0 once a pass has given up
+abbrev pub halt_word : ℕ → ℕ
+halt_word n = stride * n
+
+-- the live word: 0 only where no task is ready or runs
+abbrev pub live_word : ℕ → ℕ
+live_word n = stride * (n + 1)
+
+-- the stamp word: the next stamp
+abbrev pub stamp_word : ℕ → ℕ
+stamp_word n = stride * (n + 2)
+
+-- how many words a table has
+abbrev pub word_count : ℕ → ℕ
+word_count n = stride * (n + 3)

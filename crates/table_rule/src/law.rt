@@ -1,0 +1,166 @@
+//! The rule of the table as its words and slots know it, and the kinds of step.
+
+ghost use Rattle.table_rule.specs.Rule.{Rule};
+ghost use Rattle.table_rule.specs.Changes.{after_split, both, first_pass, joined_away, split_off};
+ghost use Rattle.table_rule.specs.Plays.{drew_stamp, gave_claim, gave_end, gave_send, left, lowered_live, raised_halt, raised_live, read_halt, read_live, took};
+
+use crate::job::Job;
+use atomic_table::{Join, Play, Split, TableRule};
+use dep_shard::Shard;
+use std::marker::{Brand, PhantomData};
+use work_board::PassRecord;
+
+/// The rule of the table.
+pub struct Law;
+
+impl TableRule<Shard, PassRecord, Job> for Law {
+    ghost holds = { Rule };
+
+    ghost first = { λ _. first_pass };
+}
+
+/// What a step is about. A call at `Brand` picks it, since a step is given neither the job nor the arguments of its caller.
+pub trait Event {
+    ghost use Rattle.std.specs.Prelude.{List, Option, ℕ};
+    ghost use Rattle.ptg_base.specs.Task.{Task};
+    ghost use Rattle.dep_shard.specs.Arrivals.{FlowTile};
+    ghost use Rattle.flow_meaning.specs.Machine.{Sent};
+    ghost use Rattle.table_rule.specs.declared.job.Job.{Job};
+
+    // The job, if there is one: there is no plan that could stand where none is meant.
+    ghost job: { Option Job };
+
+    // The shard whose turn is taken.
+    ghost shard: { ℕ };
+
+    // The task that is claimed or gets a stamp.
+    ghost task: { Task };
+
+    // The tiles that are handed out with the claim.
+    ghost tiles: { List FlowTile };
+
+    // The item that is sent, with its tile.
+    ghost sent: { Sent };
+}
+
+impl Event for Brand {
+    ghost use Rattle.std.specs.Prelude.{[], None};
+    ghost use Rattle.table_rule.specs.Events.{no_sent, no_task};
+
+    ghost job = { None };
+
+    ghost shard = { 0 };
+
+    ghost task = { no_task };
+
+    ghost tiles = { [] };
+
+    ghost sent = { no_sent };
+}
+
+/// A turn is taken, or was found taken.
+pub struct Take<E> {
+    event: PhantomData<E>,
+}
+
+impl<E: Event> Play<Shard, PassRecord> for Take<E> {
+    ghost then = { took E.job E.shard };
+}
+
+/// A turn is given back, and nothing else happens.
+pub struct Leave;
+
+impl Play<Shard, PassRecord> for Leave {
+    ghost then = { left };
+}
+
+/// A turn is given back with a claim.
+pub struct Claim<E> {
+    event: PhantomData<E>,
+}
+
+impl<E: Event> Play<Shard, PassRecord> for Claim<E> {
+    ghost then = { gave_claim E.job E.task E.tiles };
+}
+
+/// A turn is given back with a send.
+pub struct Send<E> {
+    event: PhantomData<E>,
+}
+
+impl<E: Event> Play<Shard, PassRecord> for Send<E> {
+    ghost then = { gave_send E.sent };
+}
+
+/// A turn is given back with the end of the running task.
+pub struct End;
+
+impl Play<Shard, PassRecord> for End {
+    ghost then = { gave_end };
+}
+
+/// The halt word is raised.
+pub struct RaiseHalt;
+
+impl Play<Shard, PassRecord> for RaiseHalt {
+    ghost then = { raised_halt };
+}
+
+/// The halt word is read.
+pub struct ReadHalt<E> {
+    event: PhantomData<E>,
+}
+
+impl<E: Event> Play<Shard, PassRecord> for ReadHalt<E> {
+    ghost then = { read_halt E.job };
+}
+
+/// The live word is raised.
+pub struct RaiseLive;
+
+impl Play<Shard, PassRecord> for RaiseLive {
+    ghost then = { raised_live };
+}
+
+/// The live word is lowered.
+pub struct LowerLive;
+
+impl Play<Shard, PassRecord> for LowerLive {
+    ghost then = { lowered_live };
+}
+
+/// The live word is read.
+pub struct ReadLive<E> {
+    event: PhantomData<E>,
+}
+
+impl<E: Event> Play<Shard, PassRecord> for ReadLive<E> {
+    ghost then = { read_live E.job };
+}
+
+/// A stamp is drawn for the running task.
+pub struct DrawStamp<E> {
+    event: PhantomData<E>,
+}
+
+impl<E: Event> Play<Shard, PassRecord> for DrawStamp<E> {
+    ghost then = { drew_stamp E.task };
+}
+
+/// A pass is split off another.
+pub struct SplitOff;
+
+impl Split<PassRecord> for SplitOff {
+    ghost left = { after_split };
+
+    ghost right = { split_off };
+}
+
+/// A pass is joined to another.
+pub struct JoinTo;
+
+impl Join<PassRecord> for JoinTo {
+    ghost both = { both };
+
+    ghost spent = { joined_away };
+}

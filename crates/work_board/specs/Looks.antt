@@ -1,0 +1,60 @@
+-- What the looks at the live word and at the halt word answer. Source: this project's own choice.
+use Rattle.std.specs.Prelude.{◌≡◌, ◌≢◌, ℕ, ◌+◌, Bool, true, false, List, [], ◌∷◌, ◌++◌, ◌⊎◌}
+use Rattle.ptg_base.specs.Task.{Task}
+use Rattle.work_board.specs.declared.record.PassRecord.{PassRecord}
+use Rattle.work_board.specs.Records.{FoundBusy, IsStill, KeepsDone}
+use Rattle.work_board.specs.Word.{Halt, Live, Word}
+
+-- In its one look the pass found 0 in a word.
+pub record FoundZero (word : Word) (v w : PassRecord) : Type 0 where
+  pub look : w.look ≡ (word, 0)
+  pub looks : w.looks ≡ v.looks + 1
+  pub last : w.last ≡ v.last
+
+-- The pass has seen quiet: it found 0 in the live word. All else stays.
+pub record HasSeenQuiet (v w : PassRecord) : Type 0 where
+  pub found : FoundZero Live v w
+  pub quiet : w.quiet ≡ true
+  pub names : w.names ≡ v.names
+  pub turns : w.turns ≡ v.turns
+  pub halts : w.halts ≡ v.halts
+  pub credit : w.credit ≡ v.credit
+  pub running : w.running ≡ v.running
+  pub done : KeepsDone v w
+
+-- what the answer of a look for quiet says: false is a live word that was not 0
+abbrev pub QuietIf : Bool → PassRecord → PassRecord → Type 0
+QuietIf true v w = HasSeenQuiet v w
+QuietIf false v w = FoundBusy Live v w
+
+-- The pass found 0 in the halt word, and nothing else changed.
+pub record FoundRunning (v w : PassRecord) : Type 0 where
+  pub found : FoundZero Halt v w
+  pub still : IsStill v w
+
+-- what the answer of a look at the halt word says: true exactly where it was not 0
+abbrev pub HaltedIf : Bool → PassRecord → PassRecord → Type 0
+HaltedIf true v w = FoundBusy Halt v w
+HaltedIf false v w = FoundRunning v w
+
+-- The pass raised the halt word. All else stays, its looks among it.
+pub record HasHalted (v w : PassRecord) : Type 0 where
+  pub halts : w.halts ≡ true
+  pub names : w.names ≡ v.names
+  pub turns : w.turns ≡ v.turns
+  pub last : w.last ≡ v.last
+  pub quiet : w.quiet ≡ v.quiet
+  pub look : w.look ≡ v.look
+  pub looks : w.looks ≡ v.looks
+  pub credit : w.credit ≡ v.credit
+  pub running : w.running ≡ v.running
+  pub done : KeepsDone v w
+
+-- The board is halted, as the pass knows it: the pass raised the halt word, or it looked at that word last and found that it was not 0.
+abbrev pub KnowsHalted : PassRecord → Type 0
+KnowsHalted v = (v.halts ≡ true) ⊎ ((v.look.0 ≡ Halt) × (v.look.1 ≢ 0))
+
+-- the task that the pass runs has this stamp: it is the one that was drawn last
+pub record HasStamp (v : PassRecord) (t : Task) (stamp : ℕ) : Type 0 where
+  pub earlier : List (Task × ℕ)
+  pub is_last : v.stamps ≡ earlier ++ (t, stamp) ∷ []

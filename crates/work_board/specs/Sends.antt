@@ -1,0 +1,95 @@
+-- What a send answers, what it needs, and how it changes the record of its pass; the same for the end of a task. Source: DAGuE (Parallel Computing, 2012), where a task that ends satisfies the dependences of its successors; the answers are this project's own choice.
+use Rattle.std.specs.Prelude.{◌≡◌, ℕ, ◌+◌, ◌<◌, ℤ, true, false, Bool, List, [], ◌∷◌, ◌++◌, Option, Err, Some, IsTrue}
+use Rattle.std.specs.Option.{option_map_or}
+use Rattle.ptg_base.specs.Lists.{IsIn}
+use Rattle.ptg_base.specs.Task.{Task}
+use Rattle.ptg_base.specs.declared.edge.Item.{Item}
+use Rattle.ptg_base.specs.declared.edge.Item.TheVariants as item
+use Rattle.term_core.specs.declared.trap.Trap.{Trap}
+use Rattle.plan_core.specs.declared.plan.Plan.{Plan}
+use Rattle.coll_data.specs.Data.{Data}
+use Rattle.dep_iter.specs.Edges.{goal}
+use Rattle.dep_iter.specs.Items.{item_flow, items}
+use Rattle.dep_shard.specs.Content.{Content, Entry, entry_of}
+use Rattle.flow_meaning.specs.Ending.{has_outputs, output_tile}
+use Rattle.flow_meaning.specs.Backward.{ended}
+use Rattle.flow_meaning.specs.Machine.{is_sent, send_count, sender}
+use Rattle.work_board.specs.declared.record.PassRecord.{PassRecord}
+use Rattle.work_board.specs.declared.answers.Sent.{Sent}
+use Rattle.work_board.specs.declared.answers.Sent.TheVariants as answer
+use Rattle.work_board.specs.Records.{FoundBusy, KeepsDone, KeepsNamesAndMarks, TookShard, done_by}
+use Rattle.work_board.specs.Word.{Turn}
+
+-- The pass may send the item with this tile: it is an item of the task that the pass runs, that task has outputs, the item was not sent, and the tile is the one that the task leaves in the item's flow.
+pub record IsNext (P : Plan) (G : Data) (i : Item) (sent_tile : Option (List ℤ)) (v : PassRecord) : Type 0 where
+  pub runs : v.running ≡ sender i ∷ []
+  pub is_item : IsIn i (items P (sender i))
+  pub outputs : IsTrue (has_outputs (ended P G (sender i)))
+  pub unsent : send_count (done_by v) i ≡ 0
+  pub tile : sent_tile ≡ output_tile (ended P G (sender i)) (item_flow i)
+
+-- an item is handled in the shard of the task that it goes to: an edge in that of its target, a write-back in that of its task
+abbrev pub shard_of_item : (Task → ℕ) → Item → ℕ
+shard_of_item of (item.Edge e) = of e.to
+shard_of_item of (item.Write w) = of w.from
+
+-- the item is added to the sends with its tile. All else stays but the looks and the shard taken last
+pub record AddsSend (i : Item) (tile : Option (List ℤ)) (v w : PassRecord) : Type 0 where
+  pub sends : w.sends ≡ v.sends ++ record { item = i; tile = tile } ∷ []
+  pub claims : w.claims ≡ v.claims
+  pub stamps : w.stamps ≡ v.stamps
+  pub running : w.running ≡ v.running
+  pub kept : KeepsNamesAndMarks v w
+
+-- how many edges have come to a task, by its entry in a shard
+abbrev pub arrived_in : Content → Task → ℕ
+arrived_in y t = option_map_or (λ (e : Entry). e.arrived) (entry_of y t) 0
+
+-- a write-back is kept. With an edge its target fires if it was the last edge that the target waited for, and else waits on
+abbrev pub AnswersFor : Plan → Content → Item → Sent → Type 0
+AnswersFor P y (item.Edge e) answer.Fired = arrived_in y e.to + 1 ≡ goal P e.to
+AnswersFor P y (item.Edge e) answer.Waits = arrived_in y e.to + 1 < goal P e.to
+AnswersFor P y (item.Edge e) answer.Kept = ⊥
+AnswersFor P y (item.Edge e) answer.Busy = ⊥
+AnswersFor P y (item.Write w) answer.Kept = Unit {0}
+AnswersFor P y (item.Write w) answer.Fired = ⊥
+AnswersFor P y (item.Write w) answer.Waits = ⊥
+AnswersFor P y (item.Write w) answer.Busy = ⊥
+
+-- The pass sent the item with this tile under the turn of shard k, and the answer is by what the shard had.
+pub record HasSent (P : Plan) (k : ℕ) (i : Item) (tile : Option (List ℤ)) (a : Sent) (v w : PassRecord) : Type 0 where
+  pub shard : Content
+  pub took : TookShard k shard v w
+  pub answer : AnswersFor P shard i a
+  pub added : AddsSend i tile v w
+
+-- what the answer of a send says, where the item lies in shard k
+abbrev pub SentAs : Plan → ℕ → Item → Option (List ℤ) → Sent → PassRecord → PassRecord → Type 0
+SentAs P k i tile answer.Waits v w = HasSent P k i tile answer.Waits v w
+SentAs P k i tile answer.Fired v w = HasSent P k i tile answer.Fired v w
+SentAs P k i tile answer.Kept v w = HasSent P k i tile answer.Kept v w
+SentAs P k i tile answer.Busy v w = FoundBusy (Turn k) v w
+
+-- A task that may end: the pass runs it, it has outputs, and the pass has sent all its items.
+pub record MayEnd (P : Plan) (G : Data) (t : Task) (v : PassRecord) : Type 0 where
+  pub runs : v.running ≡ t ∷ []
+  pub outputs : IsTrue (has_outputs (ended P G t))
+  pub sent : (i : Item) → IsIn i (items P t) → IsTrue (is_sent (done_by v) i)
+
+-- A task that may trap with this cause: the pass runs it, and it traps so.
+pub record MayTrap (P : Plan) (G : Data) (t : Task) (cause : Trap) (v : PassRecord) : Type 0 where
+  pub runs : v.running ≡ t ∷ []
+  pub traps : ended P G t ≡ Some (Err cause)
+
+-- The pass runs nothing any more, under the turn of shard k. All else stays but the looks and the shard taken last.
+pub record HasEnded (k : ℕ) (v w : PassRecord) : Type 0 where
+  pub shard : Content
+  pub took : TookShard k shard v w
+  pub running : w.running ≡ []
+  pub done : KeepsDone v w
+  pub kept : KeepsNamesAndMarks v w
+
+-- what the answer of an end or of a trap says, where the task lies in shard k: false is a turn that was taken
+abbrev pub EndedIf : Bool → ℕ → PassRecord → PassRecord → Type 0
+EndedIf true k v w = HasEnded k v w
+EndedIf false k v w = FoundBusy (Turn k) v w

@@ -1,0 +1,146 @@
+//! What a worker needs of a table of dependences.
+
+ghost use Rattle.std.specs.Prelude.{◌≡◌, ◌<◌, [], ◌∷◌, true, false, IsOk, IfOk, OnErr};
+ghost use Rattle.std.specs.Option.{option_copied};
+ghost use Rattle.ptg_base.specs.Task.{Task};
+ghost use Rattle.plan_data.specs.Fit.{DataFit};
+ghost use Rattle.dep_iter.specs.Tasks.{IsTask};
+ghost use Rattle.work_board.specs.Records.{IsClean, OnlyTook};
+ghost use Rattle.work_board.specs.Claims.{Claimed, Scanned};
+ghost use Rattle.work_board.specs.Sends.{EndedIf, IsNext, MayEnd, MayTrap, SentAs, shard_of_item};
+ghost use Rattle.work_board.specs.Looks.{HaltedIf, HasHalted, HasStamp, QuietIf};
+
+use crate::answers::{Claim, Scan, Sent};
+use coll_data::Given;
+use dep_iter::Matched;
+use ptg_base::{Item, OutOfMemory, TaskId, Tile};
+use std::marker::Sync;
+use term_core::Trap;
+
+/// A table of dependences that workers share, each by a pass of its own. Its calls go for the turn of one shard, once, and do not
+/// wait: where another pass holds that turn they answer so, and the pass's look shows the word that was not 0.
+///
+/// Every call that takes a pass needs a clean pass of this board, and leaves it so. Want of memory, `Busy` and false change at most
+/// the pass's looks and the shard that it took last.
+pub trait Board: Sync {
+    ghost use Rattle.std.specs.Prelude.{Bool, ℕ};
+    ghost use Rattle.ptg_base.specs.Task.{Task};
+    ghost use Rattle.plan_core.specs.declared.plan.Plan.{Plan};
+    ghost use Rattle.coll_data.specs.Data.{Data};
+    ghost use Rattle.work_board.specs.declared.record.PassRecord.{PassRecord};
+
+    /// A worker's part in the table.
+    type Pass;
+
+    /// What a pass has done and what it holds.
+    ghost shown: { Self.Pass → PassRecord };
+
+    /// The pass is a clean one of this board.
+    ghost is_pass: { Self → Self.Pass → Type 0 };
+
+    /// The job: its plan and its data.
+    ghost plan: { Self → Plan };
+
+    ghost job_data: { Self → Data };
+
+    /// The shard of each task.
+    ghost placement: { Self → Task → ℕ };
+
+    /// How many shards can be scanned.
+    ghost shard_count: { Self → ℕ };
+
+    /// Whether all memory was taken before the run.
+    ghost preloaded: { Self → Bool };
+
+    /// The job's plan.
+    fn matched(&self) -> &Matched
+        ensures { result.now ≡ plan self.now };
+
+    /// The job's data.
+    fn given(&self) -> &Given
+        ensures same { result.now ≡ job_data self.now }
+        ensures fit { DataFit (plan self.now).colls (plan self.now).elems (job_data self.now) };
+
+    /// How many shards can be scanned.
+    fn shards(&self) -> u32
+        ensures { result ≡ shard_count self.now };
+
+    /// Whether all memory was taken before the run.
+    fn is_preloaded(&self) -> bool
+        ensures { result ≡ preloaded self.now };
+
+    /// Claims a task: `Gone` exactly where its shard has no ready entry of it.
+    fn try_claim(&self, pass: &mut Self::Pass, t: &TaskId) -> Claim
+        requires pass { is_pass self.now pass.old }
+        requires task { IsTask (plan self.now) t.now }
+        requires idle { (shown pass.old).running ≡ [] }
+        ensures pass { is_pass self.now pass.new }
+        ensures claim { Claimed (plan self.now) (job_data self.now) (placement self.now t.now) t.now result (shown pass.old) (shown pass.new) };
+
+    /// Claims the best ready task of a shard: `Empty` exactly where none is ready.
+    fn try_scan(&self, pass: &mut Self::Pass, shard: u32) -> Scan
+        requires pass { is_pass self.now pass.old }
+        requires shard { shard < shard_count self.now }
+        requires idle { (shown pass.old).running ≡ [] }
+        ensures pass { is_pass self.now pass.new }
+        ensures scan { Scanned (plan self.now) (job_data self.now) (placement self.now) shard result (shown pass.old) (shown pass.new) };
+
+    /// Sends an item of the task that the pass runs, with the tile that the task leaves in its flow.
+    fn try_send(
+        &self,
+        pass: &mut Self::Pass,
+        item: &Item,
+        tile: Option<&Tile>,
+    ) -> Result<Sent, OutOfMemory>
+        requires pass { is_pass self.now pass.old }
+        requires item { IsNext (plan self.now) (job_data self.now) item.now (option_copied tile) (shown pass.old) }
+        ensures pass { is_pass self.now pass.new }
+        ensures sent { IfOk result (λ a. SentAs (plan self.now) (shard_of_item (placement self.now) item.now) item.now (option_copied tile.entry) a (shown pass.old) (shown pass.new)) }
+        ensures err { OnErr result (OnlyTook (shard_of_item (placement self.now) item.now) (shown pass.old) (shown pass.new)) }
+        ensures preloaded { preloaded self.now ≡ true → IsOk result };
+
+    /// Ends the task that the pass runs, whose items were all sent. False only where the turn was taken.
+    fn try_end(&self, pass: &mut Self::Pass, t: &TaskId) -> bool
+        requires pass { is_pass self.now pass.old }
+        requires task { MayEnd (plan self.now) (job_data self.now) t.now (shown pass.old) }
+        ensures pass { is_pass self.now pass.new }
+        ensures ended { EndedIf result (placement self.now t.now) (shown pass.old) (shown pass.new) };
+
+    /// Notes that the task that the pass runs trapped with this cause. False only where the turn was taken.
+    fn try_trap(&self, pass: &mut Self::Pass, t: &TaskId, cause: Trap) -> Result<bool, OutOfMemory>
+        requires pass { is_pass self.now pass.old }
+        requires task { MayTrap (plan self.now) (job_data self.now) t.now cause (shown pass.old) }
+        ensures pass { is_pass self.now pass.new }
+        ensures ended { IfOk result (λ a. EndedIf a (placement self.now t.now) (shown pass.old) (shown pass.new)) }
+        ensures err { OnErr result (OnlyTook (placement self.now t.now) (shown pass.old) (shown pass.new)) }
+        ensures preloaded { preloaded self.now ≡ true → IsOk result };
+
+    /// Whether no task is ready or running. False only where the live word was not 0.
+    fn see_quiet(&self, pass: &mut Self::Pass) -> bool
+        requires { is_pass self.now pass.old }
+        ensures pass { is_pass self.now pass.new }
+        ensures quiet { QuietIf result (shown pass.old) (shown pass.new) };
+
+    /// Raises the halt word, so that all workers stop. A preloaded board is never halted.
+    fn halt(&self, pass: &mut Self::Pass)
+        requires pass { is_pass self.now pass.old }
+        requires not_preloaded { preloaded self.now ≡ false }
+        ensures pass { is_pass self.now pass.new }
+        ensures halted { HasHalted (shown pass.old) (shown pass.new) };
+
+    /// Whether the halt word is raised: exactly where it was not 0. Never on a preloaded board.
+    fn halted(&self, pass: &mut Self::Pass) -> bool
+        requires { is_pass self.now pass.old }
+        ensures pass { is_pass self.now pass.new }
+        ensures halted { HaltedIf result (shown pass.old) (shown pass.new) }
+        ensures preloaded { preloaded self.now ≡ true → result ≡ false };
+
+    /// The stamp of the task that the pass runs.
+    fn stamp(&self, pass: &Self::Pass) -> u64
+        requires pass { is_pass self.now pass.now }
+        requires runs { (t : Task) × ((shown pass.now).running ≡ t ∷ []) }
+        ensures { (t : Task) → (shown pass.now).running ≡ t ∷ [] → HasStamp (shown pass.now) t result };
+
+    /// A law: a pass of the board is clean.
+    ghost clean: { (board : Self) (pass : Self.Pass) → is_pass board pass → IsClean (shown pass) };
+}
