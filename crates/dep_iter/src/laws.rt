@@ -18,7 +18,7 @@ pub fn all_tasks_are_listed()
     ensures count { (P : Plan) → length (all_tasks P) ≡ task_total P.spaces }
 {}
 
-/// A law: a task has no more edges and items than the job.
+/// A law: no more edges go into a task, and none more out of it, than the job has.
 pub fn a_task_has_no_more_edges_than_the_job()
     ensures ins { (P : Plan) (t : Task) → IsTask P t → length (edges.in_edges P t) ≤ length (consistent.all_in P) }
     ensures outs { (P : Plan) (t : Task) → IsTask P t → length (items.out_edges P t) ≤ length (consistent.all_out P) }

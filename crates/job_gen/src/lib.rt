@@ -64,7 +64,7 @@ C[0] = C[0] + 1; C[1] = C[1] + k;
 END
 ";
 
-/// The job of a lower triangle of `n` rows of tiles: its JDF text and its data. It has n(n+1)(n+2)/6 tasks.
+/// The job of a lower triangle of `n` rows of tiles: its JDF text and its data.
 pub fn make(alloc: Global, n: u32) -> Result<(Text, Text), OutOfMemory>
     requires { (1 ≤ n) × (n ≤ 96) }
     ensures jdf { IfOk result (λ texts. texts.0 ≡ jdf_text) }
