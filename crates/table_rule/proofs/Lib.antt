@@ -12,3 +12,9 @@ pub mod Giving
 pub mod Claiming
 pub mod Ending
 pub mod Sending
+pub mod SameMembers
+pub mod Alone
+pub mod Opening
+pub mod Seeing
+pub mod AllNames
+pub mod Placing

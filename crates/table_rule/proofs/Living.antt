@@ -1,5 +1,5 @@
 -- The live word and the stamps where no stamp is drawn, and how large the two words get.
-use Rattle.std.proofs.Common.{◌≡◌, ℕ, ◌+◌, ◌<◌, ◌≤◌, ◌⊎◌, Bool, true, false, ◌&&◌, not, List, [], ◌∷◌, map, set, length, sym, refl, ap, ◌∙◌, subst, ⊎_elim, arith, eqb, eq-eqb, eqb-true, ne_eqb, cond}
+use Rattle.std.proofs.Common.{◌↔◌, IsTrue, ◌≡◌, ℕ, ◌+◌, ◌<◌, ◌≤◌, ◌⊎◌, Bool, true, false, ◌&&◌, not, List, [], ◌∷◌, map, set, length, sym, refl, ap, ◌∙◌, subst, ⊎_elim, arith, eqb, eq-eqb, eqb-true, ne_eqb, cond}
 use Rattle.std.specs.Cmp.{first_so, second_so}
 use Rattle.std.specs.List.{filter, flat_map}
 use mathlib.Core.Logic.{dite}
@@ -31,7 +31,7 @@ use Rattle.table_rule.proofs.Passes.{each_kept, same_weight}
 use Rattle.table_rule.proofs.Weighing.{dominated, few_numbers, some_place, term_le, weigh-flat, weigh-plus, weigh-same, weigh-set, weigh_terms}
 
 -- whether two stamps are the same
-abbrev same_stamp : Stamp → Stamp → Bool
+abbrev pub same_stamp : Stamp → Stamp → Bool
 same_stamp a b = same_task a.0 b.0 && eqb a.1 b.1
 
 same_stamp-one : (a b : Stamp) → same_stamp a b ≡ true → a ≡ b
@@ -42,6 +42,9 @@ same_stamp-one a b h =
 
 same_stamp-itself : (a : Stamp) → same_stamp a a ≡ true
 same_stamp-itself a = ap (λ b. b && eqb a.1 a.1) ((same_task-decides a.0 a.0).1 refl) ∙ eq-eqb a.1 a.1 refl
+
+pub same_stamp-decides : (a b : Stamp) → IsTrue (same_stamp a b) ↔ (a ≡ b)
+same_stamp-decides a b = (same_stamp-one a b, λ e. subst (λ c. same_stamp a c ≡ true) e (same_stamp-itself a))
 
 -- the stamps of a pass are among those of all, and each of those is one of some pass
 module _ (stamps : List Stamp) (vs : List PassRecord) (theirs : (f : Stamp → ℕ) → weigh f stamps ≡ weigh (λ (v : PassRecord). weigh f v.stamps) vs) where

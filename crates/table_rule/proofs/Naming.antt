@@ -40,16 +40,16 @@ tested p q = by (pointwise nat_eq p q) refl
 abbrev exact : Name → Name → ℕ
 exact x y = as_number (pointwise nat_eq y.0 x.0 && eqb y.1 x.1)
 
-named-here : (p : List ℕ) (x : Name) → x.0 ≡ p → named p x ≡ 1
+pub named-here : (p : List ℕ) (x : Name) → x.0 ≡ p → named p x ≡ 1
 named-here p x e = ap as_number (same_itself x.0 p e)
 
-named-at : (p : List ℕ) (x : Name) → 0 < named p x → x.0 ≡ p
+pub named-at : (p : List ℕ) (x : Name) → 0 < named p x → x.0 ≡ p
 named-at p x h = ⊎_elim (λ t. t.0) (λ t. absurd (omega (arith, ap as_number t.1))) (tested x.0 p)
 
 above-here : (p : List ℕ) (k : ℕ) (x : Name) → x.0 ≡ p → k < x.1 → above p k x ≡ 1
 above-here p k x e l = ap (λ (b : Bool). as_number (b && nat_lt k x.1)) (same_itself x.0 p e) ∙ ap as_number (lt-ltb k x.1 l)
 
-above-past : (p : List ℕ) (k : ℕ) (x : Name) → x.1 ≤ k → above p k x ≡ 0
+pub above-past : (p : List ℕ) (k : ℕ) (x : Name) → x.1 ≤ k → above p k x ≡ 0
 above-past p k x l = ⊎_elim (λ t. ap (λ (b : Bool). as_number (b && nat_lt k x.1)) t.1 ∙ ap as_number (le-ltb k x.1 l)) (λ t. ap (λ (b : Bool). as_number (b && nat_lt k x.1)) t.1) (tested x.0 p)
 
 above-else : (p : List ℕ) (k : ℕ) (x : Name) → x.0 ≢ p → above p k x ≡ 0
@@ -171,3 +171,31 @@ module _ (vs : List PassRecord) (id : ℕ) (v : PassRecord) (r : AreNames vs) (m
 pub named_not_empty : (l : List Name) → 0 < length l → l ≡ [] → ⊥
 named_not_empty [] h e = absurd (omega arith)
 named_not_empty (x ∷ xs) h e = cc
+
+-- all passes, after one was split off under (p, n)
+pub all_split : (vs vs' : List PassRecord) (p : List ℕ) (n : ℕ) → AreAll vs → ((f : Name → ℕ) → names_of vs' f + f (p, n) ≡ names_of vs f + f (p, n + 1) + f (p ++ n ∷ [], 0)) → AreAll vs'
+all_split vs vs' p n all moved = record {
+  first = let same : named [] (p, n) ≡ named [] (p, n + 1) = refl in omega (arith, moved (named []), all.first);
+  split = λ q k h.
+      let same : named (q ++ k ∷ []) (p, n) ≡ named (q ++ k ∷ []) (p, n + 1) = refl in
+      let here = moved (named (q ++ k ∷ [])) in
+      dite (ℕ_discrete (names_of vs (above q k)) 0)
+      (λ z. let new : 0 < above q k (p, n + 1) = omega (arith, moved (above q k), above-past q k (p ++ n ∷ [], 0) (omega arith)) in
+      let old : above q k (p, n) ≡ 0 = omega (arith, moved (above q k), above-past q k (p ++ n ∷ [], 0) (omega arith), one_at_most (has_split q k (p, n + 1))) in
+      let is_q : p ≡ q = named-at q (p, n + 1) (omega (arith, above_le q k (p, n + 1))) in
+      let at_k : k ≡ n = which q k is_q new old in
+      omega (arith, here, named-here (q ++ k ∷ []) (p ++ n ∷ [], 0) (λ i. is_q i ++ sym at_k i ∷ [])))
+      (λ nz. omega (arith, here, all.split q k (omega arith)));
+}
+  where
+    which : (q : List ℕ) (k : ℕ) → p ≡ q → 0 < above q k (p, n + 1) → above q k (p, n) ≡ 0 → k ≡ n
+    which q k is_q new old = dite (dec_le (n + 1) k)
+        (λ l. absurd (omega (arith, above-past q k (p, n + 1) l)))
+        (λ l. dite (dec_le n k) (λ m. omega arith) (λ m. absurd (omega (arith, above-here q k (p, n) is_q (omega arith)))))
+
+-- names that weigh the same are all, or not, together
+pub same_all : (vs vs' : List PassRecord) → ((f : Name → ℕ) → names_of vs' f ≡ names_of vs f) → AreAll vs → AreAll vs'
+same_all vs vs' same all = record {
+  first = omega (arith, same (named []), all.first);
+  split = λ q k h. omega (arith, same (named (q ++ k ∷ [])), all.split q k (omega (arith, same (above q k))));
+}

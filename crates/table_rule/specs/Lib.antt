@@ -10,3 +10,4 @@ pub mod Rule
 pub mod Changes
 pub mod Plays
 pub mod Events
+pub mod Opening

@@ -7,6 +7,7 @@ use Rattle.ptg_base.specs.Task.{Task}
 use Rattle.flow_meaning.specs.Counting.{weigh}
 use Rattle.flow_meaning.specs.Machine.{Sent}
 use Rattle.shard_meaning.specs.Moment.{Moment}
+use Rattle.work_board.specs.Records.{done_by}
 use Rattle.work_board.specs.declared.record.PassRecord.{PassRecord}
 
 -- each pass has the property
@@ -25,3 +26,7 @@ joined vs = record {
   state = record { claims = flat_map (λ (v : PassRecord). v.claims) vs; sends = flat_map (λ (v : PassRecord). v.sends) vs };
   running = flat_map (λ (v : PassRecord). v.running) vs;
 }
+
+-- what one pass did, as a moment
+abbrev pub moment_of : PassRecord → Moment
+moment_of v = record { state = done_by v; running = v.running }

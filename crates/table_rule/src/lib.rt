@@ -4,4 +4,5 @@
 pub mod events;
 pub mod job;
 pub mod law;
+pub mod rules;
 pub mod steps;
