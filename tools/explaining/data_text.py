@@ -1,8 +1,9 @@
 """The records of a data file, each with its line and its fields, read as docs/language.md says under 'The data file'."""
 import re
-from dataclasses import dataclass, field
+from dataclasses import dataclass
 
 END_OF_FIELD = re.compile(rb"[,\r\n]")
+END_OF_LINE = re.compile(rb"[\r\n]")
 
 
 @dataclass
@@ -15,11 +16,24 @@ class Field:
         return self.text.decode("utf-8", "replace")
 
 
-@dataclass
 class Record:
-    fields: list = field(default_factory=list)
+    """A record: a line without quotes, whose fields are taken apart when they are asked for, or fields that were quoted."""
+
+    def __init__(self, line, number, column, fields=None):
+        self.line, self.number, self.column, self.taken = line, number, column, fields
+
+    @property
+    def fields(self):
+        if self.taken is None:
+            self.taken, column = [], self.column
+            for piece in self.line.split(b","):
+                self.taken.append(Field(piece.strip(b" \t"), self.number, column))
+                column += len(piece) + 1
+        return self.taken
 
     def word(self):
+        if self.taken is None:
+            return self.line.split(b",", 1)[0].strip(b" \t").decode("utf-8", "replace")
         return self.fields[0].spelled()
 
     def at(self, number):
@@ -78,14 +92,24 @@ def records_of(text):
         if reading.byte() in (b"\r", b"\n"):
             reading.end_line()
             continue
-        record = Record([reading.one_field()])
-        while reading.byte() == b",":
-            reading.at += 1
-            record.fields.append(reading.one_field())
-        found.append(record)
+        found.append(one_record(reading))
         if reading.byte():
             reading.end_line()
     return found
+
+
+def one_record(reading):
+    end = END_OF_LINE.search(reading.text, reading.at)
+    line = reading.text[reading.at : end.start() if end else len(reading.text)]
+    column = reading.at - reading.start_of_line + 1
+    if b'"' not in line:
+        reading.at += len(line)
+        return Record(line, reading.line, column)
+    fields = [reading.one_field()]
+    while reading.byte() == b",":
+        reading.at += 1
+        fields.append(reading.one_field())
+    return Record(b"", fields[0].line, column, fields)
 
 
 def names_of(records, words):
