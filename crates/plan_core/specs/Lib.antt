@@ -2,6 +2,7 @@ pub mod Place
 pub mod Closed
 pub mod Kinds
 pub mod Names
+pub mod ClassName
 pub mod Targets
 pub mod Flows
 pub mod Bodies

@@ -1,4 +1,5 @@
 pub mod Decimal
+pub mod Line
 pub mod Task
 pub mod Lists
 pub mod TaskOrder

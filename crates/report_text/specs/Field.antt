@@ -1,13 +1,9 @@
--- Fields and lines. Source: this project's own choice.
-use Rattle.std.specs.Prelude.{ℕ, List, [], ◌∷◌, ◌++◌, map, flat_map}
-use Rattle.std.specs.List.{join_with_byte}
+-- Fields of lines. Source: this project's own choice.
+use Rattle.std.specs.Prelude.{ℕ, List, [], ◌∷◌, map, flat_map}
 use Rattle.std.specs.Fmt.{decimal, signed_decimal}
+pub use Rattle.ptg_base.specs.Line.{line}
 use Rattle.report_text.specs.declared.fields.Field.{Field}
 use Rattle.report_text.specs.declared.fields.Field.TheVariants.{Word, Number, Integers}
-
--- a line: its texts, joined by commas, and LF
-abbrev pub line : List (List ℕ) → List ℕ
-line texts = join_with_byte 44 texts ++ 10 ∷ []
 
 -- the texts of a field: its word, its number in decimal, or each of its integers in decimal
 abbrev pub field_texts : Field → List (List ℕ)

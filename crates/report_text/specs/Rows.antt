@@ -5,15 +5,12 @@ use Rattle.ptg_base.specs.Task.{Task}
 use Rattle.term_core.specs.declared.trap.Trap.{Trap}
 use Rattle.term_core.specs.declared.trap.Trap.TheVariants.{Overflow, Divide, Index, Absent, Budget, Word}
 use Rattle.plan_core.specs.declared.class.ClassPlan.{ClassPlan}
+pub use Rattle.plan_core.specs.ClassName.{class_name}
 use Rattle.plan_core.specs.declared.plan.Plan.{Plan}
 use Rattle.flow_meaning.specs.declared.outcome.TrapRow.{TrapRow}
 use Rattle.flow_meaning.specs.declared.outcome.WaitRow.{WaitRow}
 use Rattle.flow_meaning.specs.declared.outcome.Outcome.{Outcome}
 use Rattle.flow_meaning.specs.declared.outcome.Outcome.TheVariants.{Complete, Trapped, Stalled}
-
--- the name of the class with this number
-abbrev pub class_name : Plan → ℕ → List ℕ
-class_name plan class = option_map_or (λ (c : ClassPlan). c.name) (slice_get plan.classes class) []
 
 -- the trap words of the class with this number
 abbrev pub trap_words : Plan → ℕ → List (List ℕ)
