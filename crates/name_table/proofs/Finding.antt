@@ -1,5 +1,5 @@
 -- A name found among entries in the order of names, and among the pairs in the order in which they were added.
-use Rattle.std.proofs.Common.{◌≡◌, ℕ, zero, suc, ◌+◌, ◌≤◌, Bool, true, false, cond, List, [], ◌∷◌, length, Option, Some, None, is_some, refl, sym, ap, ◌∙◌, arith}
+use Rattle.std.proofs.Common.{◌≡◌, ℕ, zero, suc, ◌+◌, ◌≤◌, Bool, true, false, cond, List, [], ◌∷◌, length, Option, Some, None, refl, sym, ap, ◌∙◌, arith}
 use Rattle.std.specs.Cmp.{eq_by_cmp_equiv}
 use Rattle.std.specs.Cmp.Lexicographic.{slice_cmp, nat_list_cmp_total}
 use Rattle.std.specs.List.{position, position_from}
@@ -173,15 +173,7 @@ module _ {V : Type 0} where
       → w ≡ lookup (is_at (slice_cmp nat_cmp name)) es → option_map (λ (e : Numbered V). e.number) w ≡ index_named (keys_of self) name
   number_there name self es w a s view is = ap (λ r. option_map (λ (e : Numbered V). e.number) r) is ∙ (sym (number_is name es a s) ∙ ap (λ l. index_named (keys_of l) name) view)
 
-  -- a name that the list lacks is none of the tree's
-  pub lacking : (name : List ℕ) (self : List (List ℕ × V)) (es : List (List ℕ × Numbered V)) → AreNumbered es → IsStrictlySortedBy (slice_cmp nat_cmp) (keys_of es) → in_order es ≡ self
-      → is_some (value_named self name) ≡ false → lookup (is_at (slice_cmp nat_cmp name)) es ≡ None
-  lacking name self es a s view none = go (lookup (is_at (slice_cmp nat_cmp name)) es) (ap is_some (value_there name self es (lookup (is_at (slice_cmp nat_cmp name)) es) a s view refl) ∙ none)
-    where
-      go : (w : Option (Numbered V)) → is_some (option_map (λ (e : Numbered V). e.value) w) ≡ false → w ≡ None
-      go (Some w) h = absurd cc
-      go None h = refl
-
+  -- there are as many entries as pairs
   pub as_many : (self : List (List ℕ × V)) (es : List (List ℕ × Numbered V)) → AreNumbered es → in_order es ≡ self → length es ≡ length self
   as_many self es a view = omega (arith, ap length view, length_values (by_number [] es), grows es a)
     where

@@ -1,3 +1,4 @@
 mod Named
 mod Placing
 mod Finding
+mod Adding

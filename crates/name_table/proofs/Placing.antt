@@ -150,15 +150,3 @@ module _ {V : Type 0} where
       below' : all_below (length (insert_entry (slice_cmp nat_cmp) es name (record { number = length es; value = v }))) (insert_entry (slice_cmp nat_cmp) es name (record { number = length es; value = v })) ≡ true
       below' = subst (λ n. all_below n (insert_entry (slice_cmp nat_cmp) es name (record { number = length es; value = v })) ≡ true) (sym long)
           (all_below_new (suc (length es)) name (record { number = length es; value = v }) es (lt-ltb (length es) (suc (length es)) (omega arith)) (all_below_more (length es) es a.below))
-
-  -- the same of entries that are known by an equation
-  pub added_in_order : (name : List ℕ) (v : V) (n : ℕ) (es after : List (List ℕ × Numbered V)) (self : List (List ℕ × V)) → n ≡ length es → after ≡ insert_entry (slice_cmp nat_cmp) es name (record { number = n; value = v })
-      → AreNumbered es → lacks name es → in_order es ≡ self → in_order after ≡ self ++ (name, v) ∷ []
-  added_in_order name v n es after self is made a none view =
-      ap in_order (made ∙ ap (λ m. insert_entry (slice_cmp nat_cmp) es name (record { number = m; value = v })) is) ∙ (new_in_order name v es a none ∙ ap (λ l. l ++ (name, v) ∷ []) view)
-
-  pub added_numbered : (name : List ℕ) (v : V) (n : ℕ) (es after : List (List ℕ × Numbered V)) → n ≡ length es → after ≡ insert_entry (slice_cmp nat_cmp) es name (record { number = n; value = v })
-      → AreNumbered es → lacks name es → AreNumbered after
-  added_numbered name v n es after is made a none =
-      let P : List (List ℕ × Numbered V) → Type 0 = λ l. AreNumbered l in
-      subst P (sym (made ∙ ap (λ m. insert_entry (slice_cmp nat_cmp) es name (record { number = m; value = v })) is)) (new_numbered name v es a none)

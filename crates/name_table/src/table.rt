@@ -1,13 +1,17 @@
 //! A table from names to values.
 
 ghost use Rattle.std.specs.Prelude.{◌≡◌, [], ◌∷◌, ◌++◌, if◌then◌else◌, length, not, is_some, IfOk, OnErr};
+ghost use Rattle.std.specs.BTreeMap.{get, insert_entry, IsOrdered};
+ghost use Rattle.std.specs.Cmp.Lexicographic.{slice_cmp};
 ghost use Rattle.std.specs.Map.{keys_of, values_of};
 ghost use Rattle.std.specs.Option.{option_copied};
+ghost use Rattle.std.specs.Ordering.{nat_cmp};
 ghost use Rattle.name_table.specs.Names.{index_named, value_named};
 
 use ptg_base::{OutOfMemory, Seq, Text};
 use std::alloc::Global;
 use std::collections::BTreeMap;
+use std::collections::btree_map::Entry;
 use std::marker::Model;
 
 /// A value, with the number of its name in the order in which names were added, counted from 0.
@@ -86,12 +90,7 @@ impl<V: Drop> NameTable<V> {
         ensures entries { IfOk result (λ new. self.new ≡ (if new then self.old ++ (name, value) ∷ [] else self.old)) }
         ensures err { OnErr result (self.new ≡ self.old) }
     {
-        if self.get(&name).is_some() {
-            return Ok(false);
-        }
-        let number = self.entries.len();
-        self.entries.insert(name, Numbered { number, value })?;
-        Ok(true)
+        put(&mut self.entries, name, value)
     }
 
     /// The names with their values, in the order in which they were added.
@@ -103,6 +102,27 @@ impl<V: Drop> NameTable<V> {
             placed.insert(entry.number, (name, entry.value))?;
         }
         values(alloc, placed)
+    }
+}
+
+// Puts a name that the entries lack among them, with the number that comes next: was it new? An `Err` changes nothing.
+fn put<V: Drop>(
+    entries: &mut BTreeMap<Text, Numbered<V>>,
+    name: Text,
+    value: V,
+) -> Result<bool, OutOfMemory>
+    ensures added { IfOk result (λ new. new ≡ not (is_some (get (slice_cmp nat_cmp) entries.old name))) }
+    ensures put { IfOk result (λ new. entries.new.entries ≡ (if new then insert_entry (slice_cmp nat_cmp) entries.old.entries name (record { number = length entries.old.entries; value = value }) else entries.old.entries)) }
+    ensures err { OnErr result (entries.new.entries ≡ entries.old.entries) }
+    ensures ordered { IsOrdered (slice_cmp nat_cmp) entries.old }
+{
+    let number = entries.len();
+    match entries.entry(name)? {
+        Entry::Occupied(_) => Ok(false),
+        Entry::Vacant(place) => {
+            place.insert(Numbered { number, value });
+            Ok(true)
+        }
     }
 }
 
