@@ -32,6 +32,10 @@ in_edges P t = flat_map (λ a. edges_into t (locals_of P t) a.0 a.1) (active_ins
 abbrev pub goal : Plan → Task → ℕ
 goal P t = length (in_edges P t)
 
+-- the tasks that the edges into a task come from, one for each edge
+abbrev pub sources : Plan → Task → List Task
+sources P t = map (λ (e : Edge). e.from) (in_edges P t)
+
 -- what a target of an in dependence of flow n is to the task
 abbrev pub source_at : Task → List ℤ → ℕ → Target → Source
 source_at t env n (target.Task class flow args) = source.Task (edge (task class (map (single_value env) args)) flow t n)

@@ -1,6 +1,6 @@
 //! The links of a task, one after another.
 
-ghost use Rattle.std.specs.Prelude.{◌≡◌, ◌+◌, ◌≤◌, [], ◌∷◌, ◌++◌, length, map, IsTrue, List};
+ghost use Rattle.std.specs.Prelude.{◌≡◌, ◌+◌, ◌≤◌, [], ◌++◌, length, IsTrue, List, slice_get};
 ghost use Rattle.std.specs.Iterator.{YieldsFirst};
 ghost use Rattle.dep_iter.specs.Links.{all_links, fits, links_to, task_links};
 ghost use Rattle.dep_iter.specs.Given.{given_locals};
@@ -59,32 +59,42 @@ impl TargetLinks {
         }
     }
 
-    // The links of this flow that a target stands for.
-    fn new(plan: &Plan, near: u8, target: &Target, env: &[i64]) -> TargetLinks
+    // Replaces the links by those of this flow that a target stands for.
+    fn restart(&mut self, plan: &Plan, near: u8, target: &Target, env: &[i64])
         requires { IsTrue (fits plan.now target.now) }
-        ensures { result ≡ links_to env.now near target.now }
+        ensures { self.new ≡ links_to env.now near target.now }
     {
         let Target::Task(class, far_flow, args) = target else {
-            return TargetLinks::none();
+            self.params.stop();
+            return;
         };
         arguments_at_most(plan, *class, *far_flow, args.as_slice());
-        TargetLinks {
-            near,
-            class: *class,
-            far_flow: *far_flow,
-            params: Combinations::new(args.as_slice(), env),
+        self.near = near;
+        self.class = *class;
+        self.far_flow = *far_flow;
+        self.params.restart(args.as_slice(), env);
+    }
+
+    // The next link, if there is one.
+    fn first(&self) -> Option<Link>
+        ensures { result ≡ slice_get self.now 0 }
+    {
+        match self.params.first() {
+            Some(values) => Some(Link {
+                near: self.near,
+                far: TaskId::new(self.class, values),
+                far_flow: self.far_flow,
+            }),
+            None => None,
         }
     }
 
     fn next(&mut self) -> Option<Link>
         ensures { YieldsFirst (λ left. left) self.old result self.new }
     {
-        let params = self.params.next()?;
-        Some(Link {
-            near: self.near,
-            far: TaskId::new(self.class, params.as_slice()),
-            far_flow: self.far_flow,
-        })
+        let link = self.first();
+        self.params.pass();
+        link
     }
 }
 
@@ -106,7 +116,7 @@ fn next_link<'a>(
         return Some(link);
     }
     let (target, later) = next_target(inward, env, *p)?;
-    *at_hand = TargetLinks::new(plan, later.flow, target, env);
+    at_hand.restart(plan, later.flow, target, env);
     *p = later;
     next_link(plan, inward, env, p, at_hand)
 }

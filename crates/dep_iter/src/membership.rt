@@ -18,7 +18,7 @@ use plan_core::{Arg, DepPlan, Plan, Target};
 use ptg_base::{Edge, TaskId};
 
 // Whether these numbers are one of the combinations of the values of these arguments.
-fn has_combination(args: &[Arg], env: &[i64], params: &[i64]) -> bool
+pub(crate) fn has_combination(args: &[Arg], env: &[i64], params: &[i64]) -> bool
     ensures { IsTrue result ↔ IsIn params.now (combinations args.now env.now) }
 {
     let Some((arg, others)) = args.split_first() else {
@@ -143,6 +143,9 @@ pub fn has_in_edge_before(plan: &Plan, t: &TaskId, edge: &Edge, k: usize) -> boo
     requires { IsTask plan.now t.now }
     ensures { IsTrue result ↔ IsIn edge.now (edges.in_edges_before plan.now t.now edge.now.in_flow k) }
 {
+    if k == 0 {
+        return false;
+    }
     let flows = flows_of(plan, t);
     let number = edge.in_flow as usize;
     if number >= flows.len() {
@@ -170,6 +173,9 @@ pub fn has_out_edge_before(plan: &Plan, t: &TaskId, edge: &Edge, k: usize) -> bo
     requires { IsTask plan.now t.now }
     ensures { IsTrue result ↔ IsIn edge.now (items.out_edges_before plan.now t.now edge.now.out_flow k) }
 {
+    if k == 0 {
+        return false;
+    }
     let flows = flows_of(plan, t);
     let number = edge.out_flow as usize;
     if number >= flows.len() {

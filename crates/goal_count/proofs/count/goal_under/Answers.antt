@@ -2,6 +2,7 @@ use Rattle.std.proofs.Common.{◌≡◌, ◌≤◌, length, ◌∙◌, rules, ar
 use Rattle.dep_iter.specs.Edges.{in_edges}
 use Rattle.goal_count.specs.Counting.{flows_count}
 use Rattle.goal_count.proofs.Sums.{length-in_edges}
+use Rattle.goal_count.proofs.WellFlows.{well_flows}
 use Rattle.goal_count.proofs.count.goal_under.Goals as goal
 use Rattle.goal_count.proofs.count.goal_under.Goals.{After-flows_of}
 
@@ -17,8 +18,14 @@ at_most c =
     let g = c.plan-plan.ensures.consistent.in_edges_at_most in
     omega arith
 
-pub flows_count-requires : goal.flows_count-requires
-flows_count-requires c = at_most c
+pub flows_count-requires-clause-well : goal.flows_count-requires-clause-well
+flows_count-requires-clause-well c =
+    let P = c.args.m.now in
+    let t = c.args.t.now in
+    rw (c.requires.locals, c.flows_of.ensures.flows, c.plan-plan.ensures.same) (well_flows P t (c.plan-plan.ensures.consistent.connected t c.requires.task).well)
+
+pub flows_count-requires-clause-at_most : goal.flows_count-requires-clause-at_most
+flows_count-requires-clause-at_most c = at_most c
 
 pub overflow_cast-result : goal.overflow_cast-result
 overflow_cast-result c =
