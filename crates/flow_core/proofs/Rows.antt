@@ -1,5 +1,5 @@
 -- The rows of a run: its trapped tasks and its waiting tasks are those of the event machine.
-use Rattle.std.proofs.Common.{◌≡◌, ℕ, zero, suc, ◌<◌, ◌≤◌, Bool, true, false, ◌&&◌, ◌==◌, nat_lt, cond, is_some, List, [], ◌∷◌, ◌++◌, length, map, drop, refl, ap, sym, ◌∙◌, append_assoc, Option, Some, None, slice_get, eq-eqb, ◌⊎◌, inl, inr, arith}
+use Rattle.std.proofs.Common.{◌≡◌, ℕ, zero, suc, ◌<◌, ◌≤◌, Bool, true, false, ◌&&◌, ◌==◌, nat_lt, cond, is_some, List, [], ◌∷◌, ◌++◌, length, map, drop, refl, ap, sym, ◌∙◌, append_assoc, Option, Some, None, Ok, Err, slice_get, eq-eqb, ◌⊎◌, inl, inr, arith}
 use Rattle.std.proofs.lemmas.Bool.{eqb-true, false≢true, le-ltb, lt-ltb}
 use Rattle.std.proofs.lemmas.List.{append-nil}
 use Rattle.std.specs.Prelude.{unwrap_or}
@@ -27,7 +27,9 @@ use Rattle.flow_meaning.specs.Ending.{Ended}
 use Rattle.flow_meaning.specs.Machine.{MachineState, arrived, claim_count, end_in}
 use Rattle.flow_meaning.specs.StateAnswer.{state_answer, state_answer_by, state_traps}
 use Rattle.flow_meaning.specs.Table.{is_waiting, waiting_rows, waiting_tasks}
-use Rattle.flow_meaning.proofs.Counting.{count-some}
+use Rattle.flow_meaning.proofs.Counting.{count-some, weigh-append}
+use Rattle.flow_meaning.proofs.Once.{tasks_once}
+use Rattle.run_answer.specs.Rows.{AreOfDifferentTasks}
 use Rattle.flow_core.specs.RunState.{IsRunning, RunState, end_of, machine, mark_of}
 use Rattle.flow_core.specs.Fits.{Fits}
 use Rattle.flow_core.specs.Arrivals.{edges_to}
@@ -167,3 +169,40 @@ answer_trapped P G S rows are some = by rows some ∙ ap (state_answer_by P G S)
 pub answer_untrapped : (P : Plan) (G : Data) (S : MachineState) (rows : List TrapRow) → rows ≡ state_traps P G S → rows ≡ [] → state_answer_by P G S [] ≡ state_answer P G S
 unfolding state_answer
 answer_untrapped P G S rows are none = ap (state_answer_by P G S) (sym none ∙ are)
+
+-- the rows of different tasks are of different tasks
+count-traps : (t : Task) (claims : List (Task × Option Ended)) → count (λ (r : TrapRow). same_task t r.task) (claim_traps claims) ≤ count (same_task t) (keys_of claims)
+count-traps t [] = omega arith
+count-traps t (c ∷ claims) =
+    omega (arith, count-traps t claims, weigh-append (λ (r : TrapRow). as_number (same_task t r.task)) (trap_rows c.0 c.1) (claim_traps claims), one c.0 c.1)
+  where
+    one : (u : Task) (m : Option Ended) → count (λ (r : TrapRow). same_task t r.task) (trap_rows u m) ≤ as_number (same_task t u)
+    one u None = omega arith
+    one u (Some (Ok tiles)) = omega arith
+    one u (Some (Err cause)) = omega arith
+
+pub traps_differ : (rows rest : List TrapRow) (claims : List (Task × Option Ended)) → rows ++ rest ≡ claim_traps claims → ((t : Task) → count (same_task t) (keys_of claims) ≤ 1) → AreOfDifferentTasks (λ (r : TrapRow). r.task) rows
+traps_differ rows rest claims e once t =
+    let test = λ (r : TrapRow). same_task t r.task in
+    omega (arith, once t, count-traps t claims, weigh-append (λ (r : TrapRow). as_number (test r)) rows rest, ap (λ (l : List TrapRow). count test l) e)
+
+count-kept : (p q : Task → Bool) (ts : List Task) → count p (filter q ts) ≤ count p ts
+count-kept p q [] = omega arith
+count-kept p q (t ∷ ts) =
+    by_test (q t)
+    (λ k. omega (arith, count-kept p q ts, ap (λ b. count p (cond b (t ∷ filter q ts) (filter q ts))) k))
+    (λ k. omega (arith, count-kept p q ts, ap (λ b. count p (cond b (t ∷ filter q ts) (filter q ts))) k))
+
+count-rows : (P : Plan) (S : MachineState) (t : Task) (ts : List Task) → count (λ (r : WaitRow). same_task t r.task) (map (wait_row P S) ts) ≡ count (same_task t) ts
+count-rows P S t [] = refl
+count-rows P S t (u ∷ ts) = omega (arith, count-rows P S t ts)
+
+pub waits_differ : (P : Plan) (S : MachineState) (rows : List WaitRow) → rows ≡ waits_among P S (all_tasks P) → AreOfDifferentTasks (λ (r : WaitRow). r.task) rows
+waits_differ P S rows e t =
+    omega (
+      arith,
+      tasks_once P t,
+      count-kept (same_task t) (is_waiting P S) (all_tasks P),
+      count-rows P S t (filter (is_waiting P S) (all_tasks P)),
+      ap (λ (l : List WaitRow). count (λ (r : WaitRow). same_task t r.task) l) e,
+    )

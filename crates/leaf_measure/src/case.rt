@@ -1,7 +1,7 @@
 //! The cases that can be measured.
 use crate::count::Count;
 use crate::deques::{deep_deque, deque, thieves};
-use crate::shards::{best, by_task, fired, first_edges, last_edges, ready, trapped, written};
+use crate::shards::{best, by_task, fired, first_edges, last_edges, ready, reserved, trapped, written};
 use ptg_base::OutOfMemory;
 use std::alloc::Global;
 use std::sync::Wait;
@@ -20,7 +20,9 @@ pub enum Case {
     FirstEdges,
     /// Both edges into each of so many tasks.
     LastEdges,
-    /// The same, and all tasks taken from the best to the last.
+    /// The same in a shard with spares for all of it.
+    Reserved,
+    /// Both edges into each of so many tasks, and all tasks taken from the best to the last.
     Fired,
     /// So many ready tasks that are taken and trap.
     Trapped,
@@ -43,6 +45,7 @@ impl Case {
             "by_task" => Some(Case::ByTask),
             "first_edges" => Some(Case::FirstEdges),
             "last_edges" => Some(Case::LastEdges),
+            "reserved" => Some(Case::Reserved),
             "fired" => Some(Case::Fired),
             "trapped" => Some(Case::Trapped),
             "written" => Some(Case::Written),
@@ -67,6 +70,7 @@ pub fn measure<R: Threads + Wait + Sync>(
         Case::ByTask => by_task(alloc, size),
         Case::FirstEdges => first_edges(alloc, size),
         Case::LastEdges => last_edges(alloc, size),
+        Case::Reserved => reserved(alloc, size),
         Case::Fired => fired(alloc, size),
         Case::Trapped => trapped(alloc, size),
         Case::Written => written(alloc, size),

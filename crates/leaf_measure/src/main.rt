@@ -17,7 +17,7 @@ use std::thread::Threads;
 use std::{env, io};
 
 const USAGE: &str =
-    "usage: leaf_measure (ready|best|by_task|first_edges|last_edges|fired|trapped|written|deque|deep_deque|thieves SIZE)..";
+    "usage: leaf_measure (ready|best|by_task|first_edges|last_edges|reserved|fired|trapped|written|deque|deep_deque|thieves SIZE)..";
 
 // The case and the size that two words name.
 fn wanted(case: &String, size: &String) -> Option<(Case, u32)> {

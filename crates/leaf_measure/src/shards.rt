@@ -65,6 +65,19 @@ pub fn last_edges(alloc: Global, size: u32) -> Result<Vec<Count>, OutOfMemory> {
     ]?)
 }
 
+/// Both of two edges come to each of so many tasks, for which there are spares.
+pub fn reserved(alloc: Global, size: u32) -> Result<Vec<Count>, OutOfMemory> {
+    let mut shard = Shard::new(alloc, &[NUMBERS])?;
+    let tile = Tile::zeros(alloc, NUMBERS)?;
+    shard.reserve(u64::from(size), &[2 * u64::from(size)], 0, 0)?;
+    send_first(&mut shard, size, &tile)?;
+    let fired = send_last(&mut shard, size, &tile)?;
+    Ok(vec![in alloc;
+        Count::of("fired", fired),
+        Count::of("entries", shard.len() as u64),
+    ]?)
+}
+
 /// Both of two edges come to each of so many tasks, which are taken from the best to the last.
 pub fn fired(alloc: Global, size: u32) -> Result<Vec<Count>, OutOfMemory> {
     let mut shard = Shard::new(alloc, &[NUMBERS])?;

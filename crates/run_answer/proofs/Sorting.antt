@@ -1,20 +1,24 @@
--- A stable sort by tasks gives the rows in task order.
-use Rattle.std.proofs.Common.{◌≡◌, ℕ, suc, ◌+◌, ◌<◌, Bool, true, false, not, cond, List, [], ◌∷◌, length, get_or, refl, ap, sym, ◌∙◌, subst, ◌⊎◌, inl, inr, arith}
+-- A sort by tasks gives rows of different tasks in task order.
+use Rattle.std.proofs.Common.{◌≡◌, ℕ, zero, suc, ◌+◌, ◌<◌, ◌≤◌, Bool, true, false, not, cond, List, [], ◌∷◌, length, get_or, refl, ap, sym, ◌∙◌, subst, ◌⊎◌, inl, inr, arith}
 use Rattle.std.proofs.lemmas.Bool.{false≢true, and_parts, and_from}
-use Rattle.std.proofs.lemmas.List.Sorted.{answers_always, ranks_by, sorted_far}
-use Rattle.std.specs.List.{filter}
-use Rattle.std.specs.List.Sorted.{IsSortedBy, IsSortedByClosure, IsStableBy, IsStableByClosure, ties}
+use Rattle.std.proofs.lemmas.List.Sorted.{answers_always, ranks_by, sorted_far, IsPermutation-sym, Contains-permutation, sum_by-IsPermutation}
+use Rattle.std.proofs.lemmas.List.Sums.{sum_by-cons}
+use Rattle.std.specs.List.{filter, sum_by}
+use Rattle.std.specs.List.Sorted.{IsPermutation, IsSortedBy, IsSortedByClosure, ties}
 use Rattle.std.specs.Fn.{Called, ComparesAs}
 use Rattle.std.specs.declared.cmp.Ordering.{Ordering}
+use Rattle.std.specs.declared.cmp.Ordering.TheVariants.{Less, Equal, Greater}
 use denote.Param.Members.{Mut}
 use denote.Ref.{Bor}
 use Rattle.std.specs.Cmp.{IsStrictWeakOrder}
-use Rattle.std.specs.Ordering.{is_lt}
+use Rattle.std.specs.Ordering.{is_lt, is_eq, ordering_reverse}
 use Rattle.ptg_base.specs.Lists.{IsIn}
 use Rattle.ptg_base.specs.Task.{Task}
 use Rattle.ptg_base.specs.TaskOrder.{in_task_order, insert_by, task_before}
-use Rattle.ptg_base.specs.TaskComparing.{task_cmp}
-use Rattle.ptg_base.specs.TaskLaws.{task_before-cmp, task_cmp-total}
+use Rattle.ptg_base.specs.TaskComparing.{same_task, task_cmp}
+use Rattle.ptg_base.specs.TaskLaws.{same_task-ties, task_before-cmp, task_cmp-total}
+use Rattle.flow_meaning.specs.Counting.{as_number, count, weigh}
+use Rattle.run_answer.specs.Rows.{AreOfDifferentTasks}
 
 by_test : {P : Type 0} (b : Bool) → (b ≡ true → P) → (b ≡ false → P) → P
 by_test true on_true on_false = on_true refl
@@ -50,6 +54,13 @@ module _ {A : Type 0} (key : A → Task) where
   abbrev IsUp : List A → Type 0
   IsUp [] = Unit {0}
   IsUp (x ∷ xs) = ((y : A) → IsIn y xs → lt y x ≡ false) × IsUp xs
+
+  in_at : (y : A) (xs : List A) → IsIn y xs → (k : ℕ) × (k < length xs) × ((d : A) → get_or xs k d ≡ y)
+  in_at y [] i = absurd i
+  in_at y (x ∷ xs) i = elim i [
+    | inl e ↦ (0, omega arith, λ d. sym e)
+    | inr t ↦ let p = in_at y xs t in (suc p.0, omega (arith, p.1), λ d. p.2 d)
+  ]
 
   past : (x y : A) (ys : List A) → lt y x ≡ true → insert_by key x (y ∷ ys) ≡ y ∷ insert_by key x ys
   past x y ys h = ap (λ b. cond b (y ∷ insert_by key x ys) (x ∷ y ∷ ys)) h
@@ -145,13 +156,6 @@ module _ {A : Type 0} (key : A → Task) where
       λ w. rest_same (ties lt w y) y (filter (ties lt w) ys) (filter (ties lt w) zs) (e w ∙ ap (λ v. cond (ties lt w v) (v ∷ filter (ties lt w) zs) (filter (ties lt w) zs)) (sym same)) in
       ap (λ v. v ∷ ys) same ∙ ap (λ l. z ∷ l) (same_lists ys zs up.1 also.1 rest)
 
-  in_at : (y : A) (xs : List A) → IsIn y xs → (k : ℕ) × (k < length xs) × ((d : A) → get_or xs k d ≡ y)
-  in_at y [] i = absurd i
-  in_at y (x ∷ xs) i = elim i [
-    | inl e ↦ (0, omega arith, λ d. sym e)
-    | inr t ↦ let p = in_at y xs t in (suc p.0, omega (arith, p.1), λ d. p.2 d)
-  ]
-
   sorted_rest : (x : A) (xs : List A) → IsSortedBy lt (x ∷ xs) → IsSortedBy lt xs
   sorted_rest x xs h = λ k d from to.
       let next : suc k + 1 ≡ suc (k + 1) = omega arith in
@@ -166,14 +170,88 @@ module _ {A : Type 0} (key : A → Task) where
       subst (λ v. lt v x ≡ false) (p.2 x) far in
       (first, up_from xs (sorted_rest x xs h))
 
-  -- what a stable sort by the tasks of its rows makes of a list
-  pub sorted_is : (xs ys : List A) → IsSortedBy lt ys → IsStableBy lt xs ys → ys ≡ in_task_order key xs
-  sorted_is xs ys up stable = same_lists ys (in_task_order key xs) (up_from ys up) (up_order xs) (λ w. stable w ∙ sym (order_kept w xs))
+  -- rows that tie are of one task
+  tie_is_same : (x y : A) → ties lt x y ≡ true → same_task (key x) (key y) ≡ true
+  tie_is_same x y h = by (task_cmp (key x) (key y)) refl
+    where
+      by : (r : Ordering) → task_cmp (key x) (key y) ≡ r → same_task (key x) (key y) ≡ true
+      by Less e = absurd (false≢true (sym (tie_left x y h) ∙ sym (task_before-cmp (key x) (key y)) ∙ ap is_lt e))
+      by Equal e = same_task-ties (key x) (key y) ∙ ap is_eq e
+      by Greater e =
+          let back : task_cmp (key y) (key x) ≡ Less = task_cmp-total.antisymm (key y) (key x) ∙ ap ordering_reverse e in
+          absurd (false≢true (sym (tie_right x y h) ∙ sym (task_before-cmp (key y) (key x)) ∙ ap is_lt back))
 
-  -- the same of `sort_by`, where each call of its closure compares the tasks of the two rows
-  pub sorted_from_sort_by : {F : Type 0} {g : Mut F (Bor A × (Bor A × Unit {0})) Ordering} {f : F} (xs ys : List A) → IsSortedByClosure g f ys → IsStableByClosure g f xs ys →
+  -- of rows of different tasks, at most one ties with a row
+  few_ties : (w : A) (xs : List A) → length (filter (ties lt w) xs) ≤ count (λ r. same_task (key w) (key r)) xs
+  few_ties w [] = omega arith
+  few_ties w (x ∷ xs) =
+      by_test (ties lt w x)
+      (λ h. omega (arith, few_ties w xs, ap (λ b. length (cond b (x ∷ filter (ties lt w) xs) (filter (ties lt w) xs))) h, ap as_number (tie_is_same w x h)))
+      (λ h. omega (arith, few_ties w xs, ap (λ b. length (cond b (x ∷ filter (ties lt w) xs) (filter (ties lt w) xs))) h))
+
+  weigh-sum : (f : A → ℕ) (xs : List A) → weigh f xs ≡ sum_by f xs
+  weigh-sum f [] = refl
+  weigh-sum f (x ∷ xs) = omega (arith, weigh-sum f xs, sum_by-cons f x xs)
+
+  -- rows of different tasks are of different tasks in any order
+  differ_moved : (xs ys : List A) → IsPermutation xs ys → AreOfDifferentTasks key xs → AreOfDifferentTasks key ys
+  differ_moved xs ys moves once t =
+      let f : A → ℕ = λ r. as_number (same_task t (key r)) in
+      omega (arith, once t, weigh-sum f xs, weigh-sum f ys, sum_by-IsPermutation f xs ys moves)
+
+  in_filter : (p : A → Bool) (y : A) (xs : List A) → IsIn y xs → p y ≡ true → IsIn y (filter p xs)
+  in_filter p y [] i h = absurd i
+  in_filter p y (x ∷ xs) i h =
+      elim i [
+        | inl e ↦ subst (IsIn y) (sym (kept_first p x xs (subst (λ v. p v ≡ true) e h))) (inl e)
+        | inr later ↦
+            by_test (p x)
+            (λ k. subst (IsIn y) (sym (kept_first p x xs k)) (inr (in_filter p y xs later h)))
+            (λ k. subst (IsIn y) (sym (ap (λ b. cond b (x ∷ filter p xs) (filter p xs)) k)) (in_filter p y xs later h))
+      ]
+
+  filtered_passes : (p : A → Bool) (y : A) (l xs : List A) → filter p xs ≡ y ∷ l → p y ≡ true
+  filtered_passes p y l [] e = absurd cc
+  filtered_passes p y l (x ∷ xs) e =
+      by_test (p x)
+      (λ h. let f = sym (ap (λ b. cond b (x ∷ filter p xs) (filter p xs)) h) ∙ e in let same : x ≡ y = cc in subst (λ v. p v ≡ true) same h)
+      (λ h. filtered_passes p y l xs (sym (ap (λ b. cond b (x ∷ filter p xs) (filter p xs)) h) ∙ e))
+
+  in_of : (y : A) (xs : List A) (k : ℕ) → k < length xs → get_or xs k y ≡ y → IsIn y xs
+  in_of y [] k h e = absurd (omega (arith, h))
+  in_of y (x ∷ xs) zero h e = inl (sym e)
+  in_of y (x ∷ xs) (suc k) h e = inr (in_of y xs k (omega (arith, h)) e)
+
+  in_moved : (y : A) (xs ys : List A) → IsPermutation xs ys → IsIn y xs → IsIn y ys
+  in_moved y xs ys moves i =
+      let p = in_at y xs i in
+      let found = Contains-permutation xs ys y moves (p.0, p.1, p.2 y) in
+      in_of y ys found.0 found.1 found.2
+
+  -- where at most one row passes a test, the same one passes in any order
+  same_one : (p : A → Bool) (xs ys cs bs : List A) → IsPermutation xs ys → filter p xs ≡ cs → filter p ys ≡ bs → length cs ≤ 1 → length bs ≤ 1 → cs ≡ bs
+  same_one p xs ys [] [] moves e f one other = refl
+  same_one p xs ys [] (b ∷ bs) moves e f one other =
+      absurd (subst (IsIn b) e (in_filter p b xs (in_moved b ys xs (IsPermutation-sym xs ys moves) (head_in p b bs ys f)) (filtered_passes p b bs ys f)))
+  same_one p xs ys (a ∷ cs) [] moves e f one other =
+      absurd (subst (IsIn a) f (in_filter p a ys (in_moved a xs ys moves (head_in p a cs xs e)) (filtered_passes p a cs xs e)))
+  same_one p xs ys (a ∷ []) (b ∷ []) moves e f one other =
+      elim (subst (IsIn a) f (in_filter p a ys (in_moved a xs ys moves (head_in p a [] xs e)) (filtered_passes p a [] xs e))) [ inl q ↦ ap (λ v. v ∷ []) q | inr none ↦ absurd none ]
+  same_one p xs ys (a ∷ c ∷ cs) (b ∷ bs) moves e f one other = absurd (omega (arith, one))
+  same_one p xs ys (a ∷ []) (b ∷ c ∷ bs) moves e f one other = absurd (omega (arith, other))
+
+  -- what a sort by the tasks of its rows makes of rows of different tasks
+  pub sorted_is : (xs ys : List A) → IsSortedBy lt ys → IsPermutation xs ys → AreOfDifferentTasks key xs → ys ≡ in_task_order key xs
+  sorted_is xs ys up moves once =
+      same_lists ys (in_task_order key xs) (up_from ys up) (up_order xs)
+      (λ w.
+      sym (same_one (ties lt w) xs ys (filter (ties lt w) xs) (filter (ties lt w) ys) moves refl refl (omega (arith, few_ties w xs, once (key w))) (omega (arith, few_ties w ys, differ_moved xs ys moves once (key w))))
+      ∙ sym (order_kept w xs))
+
+  -- the same of `sort_unstable_by`, where each call of its closure compares the tasks of the two rows
+  pub sorted_from_sort_by : {F : Type 0} {g : Mut F (Bor A × (Bor A × Unit {0})) Ordering} {f : F} (xs ys : List A) → IsSortedByClosure g f ys → IsPermutation xs ys → AreOfDifferentTasks key xs →
       ((f : F) (a : Bor A × (Bor A × Unit {0})) (r : Ordering) (f' : F) → Called g f a r f' → r ≡ task_cmp (key a.0.now) (key a.1.0.now)) → ys ≡ in_task_order key xs
-  sorted_from_sort_by {g = g} {f = f} xs ys up stable compares =
+  sorted_from_sort_by {g = g} {f = f} xs ys up moves once compares =
       let always : ComparesAs g lt f =
       answers_always g (λ a r. is_lt r ≡ lt a.0.now a.1.0.now) f (λ f a r f' k. ap is_lt (compares f a r f' k) ∙ task_before-cmp (key a.0.now) (key a.1.0.now)) in
-      sorted_is xs ys (up lt weak_order always) (stable lt weak_order always)
+      sorted_is xs ys (up lt weak_order always) moves once

@@ -1,7 +1,9 @@
 //! The answer of a run in which nothing more can happen.
 
 ghost use Rattle.std.specs.Prelude.{◌≡◌, ◌<◌, ◌≤◌, ◌++◌, [], ◌∷◌, drop, length, map, IfOk, OnOk, List, slice_get, Some, unwrap_or};
+ghost use Rattle.std.specs.Map.{keys_of};
 ghost use Rattle.ptg_base.specs.Task.{Task};
+ghost use Rattle.ptg_base.specs.TaskComparing.{same_task};
 ghost use Rattle.ptg_base.specs.TaskOrder.{in_task_order};
 ghost use Rattle.term_core.specs.declared.space.ClassSpace.{ClassSpace as ClassSpaceValue};
 ghost use Rattle.range_space.specs.Tasks as range;
@@ -14,6 +16,7 @@ ghost use Rattle.flow_meaning.specs.declared.outcome.Outcome.{Outcome as Outcome
 ghost use Rattle.flow_meaning.specs.declared.outcome.Outcome.TheVariants.{Complete};
 ghost use Rattle.flow_meaning.specs.Answer as meaning;
 ghost use Rattle.flow_meaning.specs.Answer.{trap_rows};
+ghost use Rattle.flow_meaning.specs.Counting.{count};
 ghost use Rattle.flow_meaning.specs.Machine.{IsQuiescent};
 ghost use Rattle.flow_meaning.specs.StateAnswer.{state_answer, state_answer_by, state_data};
 ghost use Rattle.flow_meaning.specs.Table.{waiting_rows};
@@ -149,13 +152,14 @@ impl State {
 
     // The rows of the tasks that have trapped, in task order.
     fn traps(&self) -> Result<Seq<TrapRow>, OutOfMemory>
+        requires { (t : Task) → count (same_task t) (keys_of self.now.claims) ≤ 1 }
         ensures { IfOk result (λ rows. rows ≡ in_task_order (λ (r : TrapRowValue). r.task) (claim_traps self.now.claims)) }
     {
         let mut rows = Vec::new(self.alloc);
         for (t, end) in self.claims.iter() {
             push_trap(t, end, &mut rows)?;
         }
-        traps_in_task_order(rows)
+        Ok(traps_in_task_order(rows))
     }
 
     // The rows of the tasks that wait, in task order.
@@ -165,7 +169,7 @@ impl State {
     {
         let mut rows = Vec::new(self.alloc);
         self.push_waits(m, 0, &mut rows)?;
-        waits_in_task_order(rows)
+        Ok(waits_in_task_order(rows))
     }
 
     // Adds the rows of the tasks that wait, of the classes from this number on.

@@ -30,3 +30,6 @@ returns c =
     let traps = traps_are P G c.requires.consistent r fits c.requires.idle c.in_ok-traps.traps c.in_ok-traps.ensures in
     h G ∙ answer_untrapped P G (machine r) c.in_ok-traps.traps traps (c.if-not-is_empty.ensures.0 refl))
     c.stall.ensures
+
+pub traps-requires : goal.traps-requires
+traps-requires c t = c.requires.fits.1.sound.claimed_once t
