@@ -1,4 +1,4 @@
--- Names with numbers: the pairs of a table in the order in which they were added, from its entries in the order of their names.
+-- Names with numbers: the pairs of a table in the order in which they were added, from its entries in the order of their names. Source: this project's own choice.
 use Rattle.std.specs.Prelude.{◌≡◌, ℕ, ◌+◌, suc, zero, nat_lt, List, [], ◌∷◌, IsTrue, length}
 use Rattle.std.specs.List.{list_all}
 use Rattle.std.specs.Ordering.{nat_cmp}
