@@ -45,7 +45,7 @@ no_size None h = refl
 no_size (Some x) h = absurd cc
 
 -- and a task leaves none in it
-no_output : (P : Plan) (G : Data) (d : Delivery) (t : Task) → IsTask P t → (k : ℕ) (g : FlowPlan) → slice_get (flows_of P t) k ≡ Some g → is_data (Some g.kind) ≡ false → (o : Option Ended) → ended_on P G d t ≡ o → output_tile o k ≡ None
+pub no_output : (P : Plan) (G : Data) (d : Delivery) (t : Task) → IsTask P t → (k : ℕ) (g : FlowPlan) → slice_get (flows_of P t) k ≡ Some g → is_data (Some g.kind) ≡ false → (o : Option Ended) → ended_on P G d t ≡ o → output_tile o k ≡ None
 unfolding ended_on starting_tiles
 no_output P G d t job k g here ctl None is = refl
 no_output P G d t job k g here ctl (Some (Err cause)) is = refl
@@ -64,7 +64,7 @@ pub carries : (P : Plan) (G : Data) (S : MachineState) (e : Edge) → IsTask P e
 carries P G S e job among =
     let to = sends_to P e.from job e (IsIn-filter_map edge_of (items P e.from) (item.Edge e) e among refl) in
     by_test (is_data (Some to.flow.kind))
-    (λ d. to_flow (flow_of P.classes e.to.class e.in_flow) (flow_is P e.to e.in_flow) (to.to_data d) (edge_tile P G S e) refl)
+    (λ d. to_flow (flow_of P.classes e.to.class e.in_flow) (flow_is P e.to e.in_flow) (to.same_kind ∙ d) (edge_tile P G S e) refl)
     (λ ctl. inl (none e.from job e.out_flow to.flow to.here ctl))
   where
     to_flow : (o : Option FlowPlan) → slice_get (flows_of P e.to) e.in_flow ≡ o → is_data (option_map (λ (f : FlowPlan). f.kind) o) ≡ true → (x : Option (List ℤ)) → edge_tile P G S e ≡ x → Carries P G S e

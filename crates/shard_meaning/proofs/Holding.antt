@@ -1,5 +1,5 @@
 -- What the holder of a shard knows: which tasks may be claimed, what a claim hands out, and what its two numbers are at most.
-use Rattle.std.proofs.Common.{◌≡◌, ℕ, ◌+◌, ◌<◌, ◌≤◌, Bool, true, false, cond, ◌==◌, ◌&&◌, ◌||◌, List, [], ◌∷◌, ◌++◌, length, refl, ap, sym, ◌∙◌, subst, arith, Some, None, nat_lt, IsSome}
+use Rattle.std.proofs.Common.{◌≡◌, ℕ, ◌+◌, ◌<◌, ◌≤◌, Bool, true, false, cond, ◌==◌, ◌&&◌, ◌||◌, List, refl, ap, sym, ◌∙◌, subst, arith, Some, None, nat_lt, IsSome}
 use Rattle.std.proofs.lemmas.Bool.{eqb-true}
 use Rattle.std.specs.Prelude.{option_map}
 use Rattle.ptg_base.specs.Task.{Task}
@@ -8,6 +8,7 @@ use Rattle.coll_data.specs.Data.{Data}
 use Rattle.dep_iter.specs.Consistent.{IsConsistent}
 use Rattle.dep_iter.specs.Edges.{goal}
 use Rattle.dep_iter.specs.Hints.{priority}
+use Rattle.dep_iter.specs.Tasks.{IsTask}
 use Rattle.dep_shard.specs.Arrivals.{FlowTile}
 use Rattle.dep_shard.specs.Content.{Content, Entry, IsReady, Takes, entry_of}
 use Rattle.flow_meaning.specs.Backward.{ended, inputs}
@@ -17,12 +18,12 @@ use Rattle.flow_meaning.specs.Sound.{IsSoundState}
 use Rattle.flow_meaning.specs.Starting.{delivered_tiles}
 use Rattle.flow_meaning.specs.Table.{is_ready, is_waiting}
 use Rattle.flow_meaning.proofs.Counting.{count-at_most}
-use Rattle.flow_meaning.proofs.Events.{claim_sound, has_inputs, it_ends}
-use Rattle.shard_meaning.specs.Moment.{Moment, run_count, with_claim}
+use Rattle.flow_meaning.proofs.Events.{has_inputs, it_ends}
+use Rattle.shard_meaning.specs.Moment.{Moment, run_count}
 use Rattle.shard_meaning.specs.Share.{IsShardOf, Placement, as_entry, is_of}
 use Rattle.shard_meaning.proofs.Claims.{one_here}
 use Rattle.shard_meaning.proofs.Listing.{counted_member, weigh-member}
-use Rattle.shard_meaning.proofs.SoundMoments.{claims_at_most}
+use Rattle.shard_meaning.proofs.SoundMoments.{claims_at_most, claims_below}
 use Rattle.shard_meaning.proofs.TableEntries.{by_same, full_entry}
 
 abbrev whole_entry : Plan → MachineState → Task → Entry
@@ -79,14 +80,13 @@ module _ (P : Plan) (G : Data) (of : Placement) (k : ℕ) (R : Moment) (y : Cont
   pub numbers_at_most : IsConsistent P → IsSoundState P G R.state → y.running + y.ended ≤ 1000000
   numbers_at_most con sound = omega (arith, h.ended, count-at_most (is_of of k) R.state.claims, claims_at_most P G R.state sound, con.tasks_at_most)
 
-  -- and fewer, where a task may be claimed
-  pub numbers_below : IsConsistent P → IsSoundState P G R.state → (t : Task) → MayClaim P R.state t → y.running + y.ended < 1000000
-  numbers_below con sound t may =
-      omega (arith, h.ended, count-at_most (is_of of k) R.state.claims, claims_at_most P G (with_claim R t).state (claim_sound P G con R.state sound t may), con.tasks_at_most, length_push R.state.claims t)
-    where
-      length_push : (ts : List Task) (u : Task) → length (ts ++ u ∷ []) ≡ length ts + 1
-      length_push [] u = refl
-      length_push (v ∷ vs) u = omega (arith, length_push vs u)
+  -- and fewer, where a task is not claimed
+  pub numbers_below : IsConsistent P → IsSoundState P G R.state → (t : Task) → IsTask P t → claim_count R.state t ≡ 0 → y.running + y.ended < 1000000
+  numbers_below con sound t job free = omega (arith, h.ended, count-at_most (is_of of k) R.state.claims, claims_below P G R.state sound t job free, con.tasks_at_most)
+
+  -- so where it has an entry
+  pub numbers_with_entry : IsConsistent P → IsSoundState P G R.state → (t : Task) (e : Entry) → entry_of y t ≡ Some e → y.running + y.ended < 1000000
+  numbers_with_entry con sound t e is = numbers_below con sound t (h.only t e is).0 (entry_in_table t e is).unclaimed
 
   -- some task of the shard runs, where one of its tasks does
   pub some_runs : (t : Task) → of t ≡ k → 0 < run_count R t → 0 < y.running

@@ -18,3 +18,5 @@ pub mod Calming
 pub mod Openings
 pub mod ReadyCount
 pub mod Reordered
+pub mod Sharing
+pub mod Typing

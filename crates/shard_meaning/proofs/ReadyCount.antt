@@ -106,25 +106,26 @@ module _ (P : Plan) (G : Data) (con : IsConsistent P) (S : MachineState) (sound 
   pub ready-write : (w : WriteBack) → MaySend P G S (item.Write w) → count (is_ready P (state_after P G S (Send (item.Write w)))) (all_tasks P) ≡ count (is_ready P S) (all_tasks P)
   ready-write w may = count-same (is_ready P S) (is_ready P (state_after P G S (Send (item.Write w)))) (all_tasks P) (λ u i. same_ready P S (state_after P G S (Send (item.Write w))) u refl (writes_not P G con S sound w may u))
 
-  disjoint : {A : Type 0} (p q : A → Bool) (xs : List A) → ((x : A) → q x ≡ true → p x ≡ false) → count p xs + count q xs ≤ length xs
-  disjoint p q [] h = omega arith
-  disjoint p q (x ∷ xs) h =
-      by_test (q x)
-      (λ k. omega (arith, ap as_number k, ap as_number (h x k), disjoint p q xs h))
-      (λ k. omega (arith, ap as_number k, one_at_most (p x), disjoint p q xs h))
+-- no member passes two tests that exclude each other
+disjoint : {A : Type 0} (p q : A → Bool) (xs : List A) → ((x : A) → q x ≡ true → p x ≡ false) → count p xs + count q xs ≤ length xs
+disjoint p q [] h = omega arith
+disjoint p q (x ∷ xs) h =
+    by_test (q x)
+    (λ k. omega (arith, ap as_number k, ap as_number (h x k), disjoint p q xs h))
+    (λ k. omega (arith, ap as_number k, one_at_most (p x), disjoint p q xs h))
 
-  -- the tasks that are ready and those that were claimed are no more than there are
-  pub ready_at_most : length (ready_tasks P S) + length S.claims ≤ length (all_tasks P)
-  ready_at_most =
-      let claimed : Task → Bool = λ t. not (is_unclaimed S t) in
-      let taken : (t : Task) → IsIn t S.claims → claimed t ≡ true = λ t i. ap not (ne_eqb (claim_count S t) 0 (λ z. absurd (omega (arith, z, member_claim S t i)))) in
-      let claims : length S.claims ≤ length (filter claimed (all_tasks P)) =
-      at_most S.claims (filter claimed (all_tasks P)) (distinct_once S.claims sound.claimed_once) (λ t i. (filtered claimed (all_tasks P) t).1 ((listed P t).0 (sound.claimed_have_all t i).task, taken t i)) in
-      omega (arith, claims, length-filter claimed (all_tasks P), ready_count P S, disjoint (is_ready P S) claimed (all_tasks P) (λ t h. not_one (is_unclaimed S t) (arrived P S t == goal P t) h))
-    where
-      not_one : (a b : Bool) → not a ≡ true → (a && b) ≡ false
-      not_one true b h = absurd (false≢true h)
-      not_one false b h = refl
+-- the tasks that are ready and those that were claimed are no more than there are
+pub ready_at_most : (P : Plan) (G : Data) (S : MachineState) → IsSoundState P G S → length (ready_tasks P S) + length S.claims ≤ length (all_tasks P)
+ready_at_most P G S sound =
+    let claimed : Task → Bool = λ t. not (is_unclaimed S t) in
+    let taken : (t : Task) → IsIn t S.claims → claimed t ≡ true = λ t i. ap not (ne_eqb (claim_count S t) 0 (λ z. absurd (omega (arith, z, member_claim S t i)))) in
+    let claims : length S.claims ≤ length (filter claimed (all_tasks P)) =
+    at_most S.claims (filter claimed (all_tasks P)) (distinct_once S.claims sound.claimed_once) (λ t i. (filtered claimed (all_tasks P) t).1 ((listed P t).0 (sound.claimed_have_all t i).task, taken t i)) in
+    omega (arith, claims, length-filter claimed (all_tasks P), ready_count P S, disjoint (is_ready P S) claimed (all_tasks P) (λ t h. not_one (is_unclaimed S t) (arrived P S t == goal P t) h))
+  where
+    not_one : (a b : Bool) → not a ≡ true → (a && b) ≡ false
+    not_one true b h = absurd (false≢true h)
+    not_one false b h = refl
 
 -- where no task is ready and none runs, the moment is calm
 pub calm_by_count : (P : Plan) (R : Moment) → length (ready_tasks P R.state) ≡ 0 → R.running ≡ [] → IsCalm P R

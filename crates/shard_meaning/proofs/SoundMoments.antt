@@ -9,7 +9,7 @@ use Rattle.range_space.proofs.Stepping.{by_test}
 use Rattle.plan_core.specs.declared.plan.Plan.{Plan}
 use Rattle.coll_data.specs.Data.{Data}
 use Rattle.dep_iter.specs.Consistent.{IsConsistent}
-use Rattle.dep_iter.specs.Tasks.{all_tasks}
+use Rattle.dep_iter.specs.Tasks.{IsTask, all_tasks}
 use Rattle.dep_iter.proofs.Listing.{listed}
 use Rattle.flow_meaning.specs.Counting.{as_number}
 use Rattle.flow_meaning.specs.Comparing.{same_item}
@@ -28,6 +28,18 @@ use Rattle.shard_meaning.proofs.Listing.{distinct_once}
 pub opening_moment_sound : (P : Plan) (G : Data) → IsSoundMoment P G opening_moment
 opening_moment_sound P G = record { state = opening_sound P G; claimed = λ t. omega arith }
 
+-- the end of a task is no event, and leaves it among those that run once less
+pub end_moment : (P : Plan) (G : Data) (R : Moment) → IsSoundMoment P G R → (t : Task) → 0 < run_count R t → IsSoundMoment P G (with_end R t)
+end_moment P G R sound t runs = record {
+  state = sound.state;
+  claimed = λ u. by_test (same_task u t)
+      (λ k. subst (λ v. run_count (with_end R t) v ≤ claim_count R.state v) (sym ((same_task-decides u t).0 k)) (omega (arith, sound.claimed t, runs_once_less R t runs)))
+      (λ k. omega (arith, sound.claimed u, runs_as_before R t u runs (λ e. differ u e k)));
+}
+  where
+    differ : (u : Task) → u ≡ t → same_task u t ≡ false → ⊥
+    differ u e k = absurd (omega (arith, ap as_number k, ap as_number ((same_task-decides u t).1 e)))
+
 module _ (P : Plan) (G : Data) (con : IsConsistent P) (R : Moment) (sound : IsSoundMoment P G R) where
   pub claim_moment : (t : Task) → MayClaim P R.state t → IsSoundMoment P G (with_claim R t)
   claim_moment t may = record {
@@ -37,17 +49,6 @@ module _ (P : Plan) (G : Data) (con : IsConsistent P) (R : Moment) (sound : IsSo
 
   pub send_moment : (i : Item) → MaySend P G R.state i → IsSoundMoment P G (with_send P G R i)
   send_moment i may = record { state = send_sound P G con R.state sound.state i may; claimed = sound.claimed }
-
-  pub end_moment : (t : Task) → 0 < run_count R t → IsSoundMoment P G (with_end R t)
-  end_moment t runs = record {
-    state = sound.state;
-    claimed = λ u. by_test (same_task u t)
-        (λ k. subst (λ v. run_count (with_end R t) v ≤ claim_count R.state v) (sym ((same_task-decides u t).0 k)) (omega (arith, sound.claimed t, runs_once_less R t runs)))
-        (λ k. omega (arith, sound.claimed u, runs_as_before R t u runs (λ e. differ u e k)));
-  }
-    where
-      differ : (u : Task) → u ≡ t → same_task u t ≡ false → ⊥
-      differ u e k = absurd (omega (arith, ap as_number k, ap as_number ((same_task-decides u t).1 e)))
 
   -- a task that runs was claimed
   pub running_claimed : (t : Task) → 0 < run_count R t → IsIn t R.state.claims
@@ -101,3 +102,10 @@ at_most (x ∷ xs) ys once among =
 -- no more tasks are claimed than there are
 pub claims_at_most : (P : Plan) (G : Data) (S : MachineState) → IsSoundState P G S → length S.claims ≤ length (all_tasks P)
 claims_at_most P G S sound = at_most S.claims (all_tasks P) (distinct_once S.claims sound.claimed_once) (λ t i. (listed P t).0 (sound.claimed_have_all t i).task)
+
+-- and fewer, where one is not claimed
+pub claims_below : (P : Plan) (G : Data) (S : MachineState) → IsSoundState P G S → (t : Task) → IsTask P t → claim_count S t ≡ 0 → length S.claims < length (all_tasks P)
+claims_below P G S sound t job free =
+    let more = at_most (t ∷ S.claims) (all_tasks P) ((λ i. absurd (omega (arith, free, member_claim S t i))), distinct_once S.claims sound.claimed_once)
+    (λ u i. elim i [ inl same ↦ subst (λ v. IsIn v (all_tasks P)) (sym same) ((listed P t).0 job) | inr claimed ↦ (listed P u).0 (sound.claimed_have_all u claimed).task ]) in
+    omega (arith, more)

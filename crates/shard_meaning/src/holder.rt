@@ -16,7 +16,7 @@ ghost use Rattle.dep_iter.specs.Tasks.{IsTask};
 ghost use Rattle.dep_shard.specs.Arrivals.{FlowTile, tile_of};
 ghost use Rattle.dep_shard.specs.Content.{Content, Entry, IsReady, IsWaiting, Takes, entry_before, entry_of, with_arrival};
 ghost use Rattle.flow_meaning.specs.Backward.{ended, inputs};
-ghost use Rattle.flow_meaning.specs.Machine.{MayClaim, MaySend, arrived, send_count, sender};
+ghost use Rattle.flow_meaning.specs.Machine.{MayClaim, MaySend, arrived, claim_count, send_count, sender};
 ghost use Rattle.flow_meaning.specs.Sound.{IsSoundState};
 ghost use Rattle.shard_meaning.specs.Moment.{Moment, run_count};
 ghost use Rattle.shard_meaning.specs.Share.{IsShardOf, Placement};
@@ -31,12 +31,13 @@ pub fn a_claim_hands_out_the_inputs()
     ensures unsent { (P : Plan) (G : Data) (R : Moment) (i : Item) → IsSoundState P G R.state → MayClaim P R.state (sender i) → send_count R.state i ≡ 0 }
 {}
 
-/// A law: the tasks of a shard that run and those that have ended are no more than a job may have, and fewer where a task may be
-/// claimed; the number of those that run is not 0 where one does.
+/// A law: the tasks of a shard that run and those that have ended are no more than a job may have, and fewer where a task has an
+/// entry; where a task runs, the number of those that run is not 0 and fewer have ended.
 pub fn the_numbers_of_a_shard_are_bounded()
     ensures at_most { (P : Plan) (G : Data) (of : Placement) (k : ℕ) (R : Moment) (y : Content) → IsConsistent P → IsSoundState P G R.state → IsShardOf P G of k R y → y.running + y.ended ≤ 1000000 }
-    ensures below { (P : Plan) (G : Data) (of : Placement) (k : ℕ) (R : Moment) (y : Content) (t : Task) → IsConsistent P → IsSoundState P G R.state → IsShardOf P G of k R y → MayClaim P R.state t → y.running + y.ended < 1000000 }
-    ensures running { (P : Plan) (G : Data) (of : Placement) (k : ℕ) (R : Moment) (y : Content) (t : Task) → IsShardOf P G of k R y → of t ≡ k → 0 < run_count R t → 0 < y.running }
+    ensures entry { (P : Plan) (G : Data) (of : Placement) (k : ℕ) (R : Moment) (y : Content) (t : Task) (e : Entry) → IsConsistent P → IsSoundState P G R.state → IsShardOf P G of k R y → entry_of y t ≡ Some e → y.running + y.ended < 1000000 }
+    ensures unclaimed { (P : Plan) (G : Data) (of : Placement) (k : ℕ) (R : Moment) (y : Content) (t : Task) → IsConsistent P → IsSoundState P G R.state → IsShardOf P G of k R y → IsTask P t → claim_count R.state t ≡ 0 → y.running + y.ended < 1000000 }
+    ensures running { (P : Plan) (G : Data) (of : Placement) (k : ℕ) (R : Moment) (y : Content) (t : Task) → IsConsistent P → IsSoundState P G R.state → IsShardOf P G of k R y → of t ≡ k → 0 < run_count R t → (0 < y.running) × (y.ended < 1000000) }
 {}
 
 /// A law: the target of an edge that may be sent is a task that waits for it. Its entry, if it has one, has the goal and the

@@ -4,17 +4,20 @@
 
 mod calm;
 mod holder;
+mod items;
 mod moments;
 mod opening;
 mod ready;
 mod reserves;
 mod shares;
+mod threads;
 
 pub use calm::{a_calm_moment_is_at_rest, shards_without_work_are_calm};
 pub use holder::{
     a_claim_hands_out_the_inputs, a_place_is_written_once, an_edge_finds_its_target,
     the_numbers_of_a_shard_are_bounded,
 };
+pub use items::items_carry_tiles_of_their_types;
 pub use moments::{
     events_keep_moments_sound, finished_tasks_stay_finished, order_changes_no_shard,
     running_tasks_may_send,
@@ -30,3 +33,4 @@ pub use shares::{
     a_send_of_an_edge_changes_its_own_shard, an_end_changes_its_own_shard,
     nothing_changes_without_an_event,
 };
+pub use threads::{sends_shard, shares_given, shares_matched, shares_plan, shares_shard};

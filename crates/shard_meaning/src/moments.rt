@@ -22,7 +22,7 @@ pub fn events_keep_moments_sound()
     ensures opening { (P : Plan) (G : Data) → IsSoundMoment P G opening_moment }
     ensures claim { (P : Plan) (G : Data) (R : Moment) (t : Task) → IsConsistent P → IsSoundMoment P G R → MayClaim P R.state t → IsSoundMoment P G (with_claim R t) }
     ensures send { (P : Plan) (G : Data) (R : Moment) (i : Item) → IsConsistent P → IsSoundMoment P G R → MaySend P G R.state i → IsSoundMoment P G (with_send P G R i) }
-    ensures end { (P : Plan) (G : Data) (R : Moment) (t : Task) → IsConsistent P → IsSoundMoment P G R → 0 < run_count R t → IsSoundMoment P G (with_end R t) }
+    ensures end { (P : Plan) (G : Data) (R : Moment) (t : Task) → IsSoundMoment P G R → 0 < run_count R t → IsSoundMoment P G (with_end R t) }
 {}
 
 /// A law: what a running task may send next, the event machine may send, and what is sent is the tile that the task leaves.

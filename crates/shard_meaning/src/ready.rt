@@ -23,6 +23,6 @@ pub fn the_ready_tasks_are_counted()
     ensures fires { (P : Plan) (G : Data) (R : Moment) (e : Edge) → IsConsistent P → IsSoundState P G R.state → MaySend P G R.state (item.Edge e) → arrived P R.state e.to + 1 ≡ goal P e.to → length (ready_tasks P (with_send P G R (item.Edge e)).state) ≡ length (ready_tasks P R.state) + 1 }
     ensures waits { (P : Plan) (G : Data) (R : Moment) (e : Edge) → IsConsistent P → IsSoundState P G R.state → MaySend P G R.state (item.Edge e) → arrived P R.state e.to + 1 ≢ goal P e.to → length (ready_tasks P (with_send P G R (item.Edge e)).state) ≡ length (ready_tasks P R.state) }
     ensures write { (P : Plan) (G : Data) (R : Moment) (w : WriteBack) → IsConsistent P → IsSoundState P G R.state → MaySend P G R.state (item.Write w) → length (ready_tasks P (with_send P G R (item.Write w)).state) ≡ length (ready_tasks P R.state) }
-    ensures at_most { (P : Plan) (G : Data) (R : Moment) → IsConsistent P → IsSoundState P G R.state → length (ready_tasks P R.state) + length R.state.claims ≤ length (all_tasks P) }
+    ensures at_most { (P : Plan) (G : Data) (R : Moment) → IsSoundState P G R.state → length (ready_tasks P R.state) + length R.state.claims ≤ length (all_tasks P) }
     ensures calm { (P : Plan) (R : Moment) → length (ready_tasks P R.state) ≡ 0 → R.running ≡ [] → IsCalm P R }
 {}

@@ -6,5 +6,5 @@ returns c = record {
   opening = opening_moment_sound;
   claim = λ P G R t con sound may. claim_moment P G con R sound t may;
   send = λ P G R i con sound may. send_moment P G con R sound i may;
-  end = λ P G R t con sound runs. end_moment P G con R sound t runs;
+  end = λ P G R t sound runs. end_moment P G R sound t runs;
 }
