@@ -1,22 +1,27 @@
 -- The queue and its room, as entries come and go.
-use Rattle.std.specs.Prelude.{Result, Ok, OnOk, ◌≡◌, ℕ, ◌+◌, ◌<◌, ◌≤◌, ℤ, Bool, true, false, ◌||◌, cond, nat_eq, List, ◌∷◌, Option, Some, None, IfNone, is_some}
-use Rattle.std.proofs.Common.{refl, sym, ap, ◌∙◌, true≢false, arith, subst}
+use Rattle.std.specs.Prelude.{Result, Ok, OnOk, ◌≡◌, ◌↔◌, ℕ, ◌+◌, ◌<◌, ◌≤◌, ℤ, Bool, true, false, ◌||◌, cond, nat_eq, List, [], ◌∷◌, ◌++◌, length, slice_get, swap_remove, Option, Some, None, IfNone, IfSome, is_some, position}
+use Rattle.std.proofs.Common.{zero, suc, refl, sym, ap, ◌∙◌, true≢false, arith, subst}
 use Rattle.std.specs.List.{list_any}
 use Rattle.std.specs.List.Sorted.{IsPermutation}
 use Rattle.std.proofs.lemmas.List.Sorted.{list_any-IsPermutation}
 use Rattle.std.specs.Cmp.{first_so, second_so, unsigned_Decides, signed_Decides}
 use Rattle.ptg_base.specs.Task.{Task}
 use Rattle.ptg_base.specs.TaskComparing.{same_task}
-use Rattle.dep_shard.specs.Content.{Entry, Entries, Content, entry_in, IsReady, IsWaiting, HasWaiting, Updates}
-use Rattle.dep_shard.specs.Queue.{Candidate, order, is_candidate, is_ready_at, HasEveryReady, one_if_waiting, count_waiting, IsQueueOf}
+use Rattle.dep_shard.specs.Content.{Entry, Entries, Content, entry_in, IsReady, IsWaiting, HasNoReady, IsEntryAt, ArrivesAt, Updates, with_arrival}
+use Rattle.dep_shard.specs.Queue.{Candidate, order, is_candidate, is_ready_at, HasEveryReady, HaveAtMostGoal, one_if_waiting, count_waiting, IsQueueOf}
 use Rattle.dep_shard.proofs.Candidates.{same_means, same_self, candidate_self}
-use Rattle.dep_shard.proofs.Waiting.{count_waiting-insert, count_waiting-set, count_waiting-swap_remove}
+use Rattle.dep_shard.proofs.Waiting.{count_waiting-insert, count_waiting-set_at, count_waiting-swap_remove_at, all_wait, count_all}
 use Rattle.std.proofs.lemmas.Bool.Decides.{nat_tests}
-use Rattle.std.specs.Map.{lookup, set_value}
+use Rattle.std.specs.Map.{lookup, lookup_key, keys_of, values_of}
 use Rattle.std.specs.Option.{unwrap_or}
 use Rattle.std.specs.Ordering.{int_eq}
 use Rattle.std.specs.BinaryHeap.{KeepsHeap}
-use Rattle.indexmap.specs.IndexMap.{insert_entry, swap_remove_entry}
+use Rattle.std.specs.List.{IsDistinct}
+use Rattle.std.specs.Cmp.{IsEquivalence, decided}
+use Rattle.ptg_base.specs.TaskLaws.{same_task-decides}
+use Rattle.indexmap.specs.IndexMap.{insert_entry, set_value_at}
+use Rattle.indexmap.proofs.MapLemmas.{Found-position, index-first}
+use Rattle.indexmap.proofs.RemoveLemmas.{own_first}
 
 one_waits : (e : Entry) → IsWaiting e → one_if_waiting e ≡ 1
 one_waits e less = grind (arith, nat_tests)
@@ -59,67 +64,86 @@ served t e x rs ss moves prio is p h =
     let here : is_candidate p t x ≡ true = subst (λ (u : Task). is_candidate p u x ≡ true) is (subst (λ (q : ℤ). is_candidate q x.1.0 x ≡ true) (prio ∙ level) (candidate_self x)) in
     sym (list_any-IsPermutation (is_candidate p t) (x ∷ rs) ss moves) ∙ ap (λ b. b || list_any (is_candidate p t) rs) here
 
+-- One entry changes. If no more edges have come to the new one than it waits for, that holds of each.
+at_most_after : (es fs : Entries) (t : Task) (w : Option Entry) → Updates es fs t w → ((e : Entry) → w ≡ Some e → e.arrived ≤ e.goal) → HaveAtMostGoal es → HaveAtMostGoal fs
+at_most_after es fs t w up new all u e is = by (same_task t u) refl
+  where
+    by : (b : Bool) → same_task t u ≡ b → e.arrived ≤ e.goal
+    by true h = new e (sym (up u ∙ ap (λ b. cond b w (entry_in es u)) h) ∙ is)
+    by false h = all u e (sym (up u ∙ ap (λ b. cond b w (entry_in es u)) h) ∙ is)
+
+at_most_new : (f : Entry) → f.arrived ≤ f.goal → (e : Entry) → Some f ≡ Some e → e.arrived ≤ e.goal
+at_most_new f h e is = let one : f ≡ e = cc in subst (λ (x : Entry). x.arrived ≤ x.goal) one h
+
+no_new : (e : Entry) → None ≡ Some e → e.arrived ≤ e.goal
+no_new e is = absurd cc
+
 -- after a ready entry came, and its candidate
-pub enters_ready : (eq : Task → Task → Bool) (es fs : Entries) (t : Task) (e : Entry) (x : Candidate) (rs ss : List Candidate) (len cap waiting len' cap' : ℕ)
-    → IsQueueOf es rs len cap waiting → lookup (eq t) es ≡ None → fs ≡ insert_entry eq es t e → Updates es fs t (Some e) → IsReady e
-    → IsPermutation (x ∷ rs) ss → KeepsHeap order rs ss → x.0 ≡ e.priority → x.1.0 ≡ t → len' + waiting ≤ cap'
-    → IsQueueOf fs ss len' cap' waiting
-enters_ready eq es fs t e x rs ss len cap waiting len' cap' k absent is up ready moves heap prio same room = record {
+pub enters_ready : (eq : Task → Task → Bool) (es fs : Entries) (t : Task) (e : Entry) (x : Candidate) (rs ss : List Candidate) (len capacity waiting len' capacity' : ℕ)
+    → IsQueueOf es rs len capacity waiting → lookup (eq t) es ≡ None → fs ≡ insert_entry eq es t e → Updates es fs t (Some e) → IsReady e
+    → IsPermutation (x ∷ rs) ss → KeepsHeap order rs ss → x.0 ≡ e.priority → x.1.0 ≡ t → len' + waiting ≤ capacity'
+    → IsQueueOf fs ss len' capacity' waiting
+enters_ready eq es fs t e x rs ss len capacity waiting len' capacity' k absent is up ready moves heap prio same room = record {
   heap = heap k.heap;
   has_ready = changed es fs t (Some e) ss up (served t e x rs ss moves prio same) (pushed es x rs ss moves k.has_ready);
+  at_most_goal = at_most_after es fs t (Some e) up (at_most_new e (omega (arith, ready))) k.at_most_goal;
   counted = ap count_waiting is ∙ omega (arith, count_waiting-insert eq es t e absent, k.counted, none_waits e ready);
   room = room;
 }
 
 -- after a waiting entry came
-pub enters_waiting : (eq : Task → Task → Bool) (es fs : Entries) (t : Task) (e : Entry) (rs : List Candidate) (len cap waiting : ℕ)
-    → IsQueueOf es rs len cap waiting → lookup (eq t) es ≡ None → fs ≡ insert_entry eq es t e → Updates es fs t (Some e) → IsWaiting e
-    → len + waiting < cap
-    → IsQueueOf fs rs len cap (waiting + 1)
-enters_waiting eq es fs t e rs len cap waiting k absent is up waits_e room = record {
+pub enters_waiting : (eq : Task → Task → Bool) (es fs : Entries) (t : Task) (e : Entry) (rs : List Candidate) (len capacity waiting : ℕ)
+    → IsQueueOf es rs len capacity waiting → lookup (eq t) es ≡ None → fs ≡ insert_entry eq es t e → Updates es fs t (Some e) → IsWaiting e
+    → len + waiting < capacity
+    → IsQueueOf fs rs len capacity (waiting + 1)
+enters_waiting eq es fs t e rs len capacity waiting k absent is up waits_e room = record {
   heap = k.heap;
   has_ready = changed es fs t (Some e) rs up (λ p h. absurd (not_ready e waits_e p h)) k.has_ready;
+  at_most_goal = at_most_after es fs t (Some e) up (at_most_new e (omega (arith, waits_e))) k.at_most_goal;
   counted = ap count_waiting is ∙ omega (arith, count_waiting-insert eq es t e absent, k.counted, one_waits e waits_e);
   room = omega arith;
 }
 
 -- after a ready entry went
-pub leaves : (test : Task → Bool) (es fs : Entries) (t : Task) (e : Entry) (rs : List Candidate) (len cap waiting : ℕ)
-    → IsQueueOf es rs len cap waiting → lookup test es ≡ Some e → fs ≡ swap_remove_entry test es → Updates es fs t None → IsReady e
-    → IsQueueOf fs rs len cap waiting
-leaves test es fs t e rs len cap waiting k is gone up ready = record {
+pub leaves : (es fs : Entries) (i : ℕ) (t : Task) (e : Entry) (rs : List Candidate) (len capacity waiting : ℕ)
+    → IsQueueOf es rs len capacity waiting → slice_get es i ≡ Some (t, e) → fs ≡ swap_remove es i (t, e) → Updates es fs t None → IsReady e
+    → IsQueueOf fs rs len capacity waiting
+leaves es fs i t e rs len capacity waiting k is gone up ready = record {
   heap = k.heap;
   has_ready = changed es fs t None rs up (λ p h. absurd (true≢false (sym h))) k.has_ready;
-  counted = ap count_waiting gone ∙ omega (arith, count_waiting-swap_remove test es e is, k.counted, none_waits e ready);
+  at_most_goal = at_most_after es fs t None up no_new k.at_most_goal;
+  counted = ap count_waiting gone ∙ omega (arith, count_waiting-swap_remove_at es i t e is, k.counted, none_waits e ready);
   room = k.room;
 }
 
 -- after an edge came to an entry that still waits
-pub lands : (test : Task → Bool) (es fs : Entries) (t : Task) (e f : Entry) (rs : List Candidate) (len cap waiting : ℕ)
-    → IsQueueOf es rs len cap waiting → lookup test es ≡ Some e → fs ≡ set_value test es f → Updates es fs t (Some f) → IsWaiting e → IsWaiting f
-    → IsQueueOf fs rs len cap waiting
-lands test es fs t e f rs len cap waiting k is set up waits_e waits_f = record {
+pub lands : (es fs : Entries) (i : ℕ) (t : Task) (e f : Entry) (rs : List Candidate) (len capacity waiting : ℕ)
+    → IsQueueOf es rs len capacity waiting → slice_get es i ≡ Some (t, e) → fs ≡ set_value_at es i f → Updates es fs t (Some f) → IsWaiting e → IsWaiting f
+    → IsQueueOf fs rs len capacity waiting
+lands es fs i t e f rs len capacity waiting k is set up waits_e waits_f = record {
   heap = k.heap;
   has_ready = changed es fs t (Some f) rs up (λ p h. absurd (not_ready f waits_f p h)) k.has_ready;
-  counted = ap count_waiting set ∙ omega (arith, count_waiting-set test es e f is, k.counted, one_waits e waits_e, one_waits f waits_f);
+  at_most_goal = at_most_after es fs t (Some f) up (at_most_new f (omega (arith, waits_f))) k.at_most_goal;
+  counted = ap count_waiting set ∙ omega (arith, count_waiting-set_at es i t e f is, k.counted, one_waits e waits_e, one_waits f waits_f);
   room = k.room;
 }
 
 -- after the last edge came, and the candidate
-pub fires : (test : Task → Bool) (es fs : Entries) (t : Task) (e f : Entry) (x : Candidate) (rs ss : List Candidate) (len cap waiting len' cap' waiting' : ℕ)
-    → IsQueueOf es rs len cap waiting → lookup test es ≡ Some e → fs ≡ set_value test es f → Updates es fs t (Some f) → IsWaiting e → IsReady f
-    → IsPermutation (x ∷ rs) ss → KeepsHeap order rs ss → x.0 ≡ f.priority → x.1.0 ≡ t → waiting ≡ waiting' + 1 → len' + waiting' ≤ cap'
-    → IsQueueOf fs ss len' cap' waiting'
-fires test es fs t e f x rs ss len cap waiting len' cap' waiting' k is set up waits_e ready_f moves heap prio same less room = record {
+pub fires : (es fs : Entries) (i : ℕ) (t : Task) (e f : Entry) (x : Candidate) (rs ss : List Candidate) (len capacity waiting len' capacity' waiting' : ℕ)
+    → IsQueueOf es rs len capacity waiting → slice_get es i ≡ Some (t, e) → fs ≡ set_value_at es i f → Updates es fs t (Some f) → IsWaiting e → IsReady f
+    → IsPermutation (x ∷ rs) ss → KeepsHeap order rs ss → x.0 ≡ f.priority → x.1.0 ≡ t → waiting ≡ waiting' + 1 → len' + waiting' ≤ capacity'
+    → IsQueueOf fs ss len' capacity' waiting'
+fires es fs i t e f x rs ss len capacity waiting len' capacity' waiting' k is set up waits_e ready_f moves heap prio same less room = record {
   heap = heap k.heap;
   has_ready = changed es fs t (Some f) ss up (served t f x rs ss moves prio same) (pushed es x rs ss moves k.has_ready);
-  counted = ap count_waiting set ∙ omega (arith, count_waiting-set test es e f is, k.counted, one_waits e waits_e, none_waits f ready_f);
+  at_most_goal = at_most_after es fs t (Some f) up (at_most_new f (omega (arith, ready_f))) k.at_most_goal;
+  counted = ap count_waiting set ∙ omega (arith, count_waiting-set_at es i t e f is, k.counted, one_waits e waits_e, none_waits f ready_f);
   room = room;
 }
 
 -- If an entry waits, at least one is counted.
-pub some_wait : (test : Task → Bool) (es : Entries) (e : Entry) (rs : List Candidate) (len cap waiting : ℕ) → IsQueueOf es rs len cap waiting → lookup test es ≡ Some e → IsWaiting e → 0 < waiting
-some_wait test es e rs len cap waiting k is waits_e = omega (arith, k.counted, count_waiting-swap_remove test es e is, one_waits e waits_e)
+pub some_wait : (es : Entries) (i : ℕ) (t : Task) (e : Entry) (rs : List Candidate) (len capacity waiting : ℕ) → IsQueueOf es rs len capacity waiting → slice_get es i ≡ Some (t, e) → IsWaiting e → 0 < waiting
+some_wait es i t e rs len capacity waiting k is waits_e = omega (arith, k.counted, count_waiting-swap_remove_at es i t e is, one_waits e waits_e)
 
 -- what an `OnOk` says of an `Ok`
 pub on_success : {T E P : Type 0} (r : Result T E) (x : T) → r ≡ Ok x → OnOk r P → P
@@ -147,22 +171,108 @@ pub some_before : (r : Option Entry) (d : Entry) → is_some r ≡ true → r �
 some_before None d h = absurd (true≢false (sym h))
 some_before (Some e) d h = refl
 
--- The entry of an edge's target is there before the edge comes.
-pub entered : (old mid fs : Entries) (t : Task) (d d' : Entry) → mid ≡ old → d ≡ d' → Updates mid fs t (Some (unwrap_or (entry_in mid t) d)) → Updates old fs t (Some (unwrap_or (entry_in old t) d'))
-entered old mid fs t d d' same made up = subst (λ (es : Entries). Updates es fs t (Some (unwrap_or (entry_in es t) d'))) same (subst (λ (x : Entry). Updates mid fs t (Some (unwrap_or (entry_in mid t) x))) made up)
-
-pub arrives : (old fs gs : Entries) (t : Task) (e : Entry) (f : Entry → Entry) → Updates old fs t (Some e) → ((e : Entry) → entry_in fs t ≡ Some e → Updates fs gs t (Some (f e))) → Updates old gs t (Some (f e))
-arrives old fs gs t e f one two = updates_twice old fs gs t (Some e) (Some (f e)) one (two e (updates_here old fs t (Some e) one))
-
--- an entry of a task that waits, waits
-pub found_waits : (es : Entries) (t : Task) (y : Content) (e : Entry) → es ≡ y.entries → HasWaiting y t → entry_in es t ≡ Some e → IsWaiting e
-found_waits es t y e same w is =
-    let asked : entry_in es t ≡ Some w.entry = ap (λ (fs : Entries). entry_in fs t) same ∙ w.is in
-    let one : Some w.entry ≡ Some e = sym asked ∙ is in
-    let it : w.entry ≡ e = cc in
-    subst IsWaiting it w.waits
-
 -- a fact that holds whatever the answer is
 pub if_none : {T : Type 0} (r : Option T) (P : Type 0) → P → IfNone r P
 if_none None P p = p
 if_none (Some x) P p = tt
+
+pub task_equivalence : IsEquivalence same_task
+task_equivalence = decided same_task same_task-decides
+
+row_of : (es : Entries) (i : ℕ) (t : Task) → slice_get (keys_of es) i ≡ Some t → (e : Entry) → slice_get (values_of es) i ≡ Some e → slice_get es i ≡ Some (t, e)
+row_of [] i t key e value = absurd cc
+row_of (x ∷ xs) zero t key e value =
+    let k : x.0 ≡ t = cc in
+    let v : x.1 ≡ e = cc in
+    λ j. Some (k j, v j)
+row_of (x ∷ xs) (suc i) t key e value = row_of xs i t key e value
+
+value_of : (es : Entries) (i : ℕ) (t : Task) (e : Entry) → slice_get es i ≡ Some (t, e) → slice_get (values_of es) i ≡ Some e
+value_of [] i t e is = absurd cc
+value_of (x ∷ xs) zero t e is =
+    let one : x ≡ (t, e) = cc in
+    ap (λ (y : Task × Entry). Some y.1) one
+value_of (x ∷ xs) (suc i) t e is = value_of xs i t e is
+
+-- a look-up of a task finds the entry that stands with it in the list
+pub looked_up : (es : Entries) (i : ℕ) (t : Task) (e : Entry) → IsDistinct same_task (keys_of es) → slice_get es i ≡ Some (t, e) → entry_in es t ≡ Some e
+looked_up es i t e distinct is =
+    (Found-position (same_task t) es i (index-first (same_task t) es i (own_first same_task task_equivalence es i t e distinct is))).value ∙ value_of es i t e is
+
+-- As many entries wait as there are exactly if none is ready.
+pub calm : (es : Entries) (rs : List Candidate) (len capacity waiting : ℕ) → IsQueueOf es rs len capacity waiting → IsDistinct same_task (keys_of es) → (waiting ≡ length es) ↔ HasNoReady es
+calm es rs len capacity waiting k distinct = (
+  λ all t e is ready. absurd (omega (arith, ready, all_wait (same_task t) es e (k.counted ∙ all) is)),
+  λ none. sym k.counted ∙ count_all es (λ i t e is. below e (k.at_most_goal t e (looked_up es i t e distinct is)) (none t e (looked_up es i t e distinct is))),
+)
+  where
+    below : (e : Entry) → e.arrived ≤ e.goal → (IsReady e → ⊥) → IsWaiting e
+    below e most never = omega (arith, most, never)
+
+-- An entry comes at the end of the list, and then an edge comes to it.
+pub comes_first : (old es mid fs : Entries) (t : Task) (d e : Entry) (i flow : ℕ) (x tile : Option (List ℤ)) → es ≡ old → d ≡ e → x ≡ tile → Updates es mid t (Some d) → slice_get mid i ≡ Some (t, d) → ArrivesAt mid fs i flow x → Updates old fs t (Some (with_arrival e flow tile))
+comes_first old es mid fs t d e i flow x tile same made brought one at two =
+    let entered : Updates old mid t (Some d) = subst (λ (gs : Entries). Updates gs mid t (Some d)) same one in
+    let both : Updates old fs t (Some (with_arrival d flow x)) = updates_twice old mid fs t (Some d) (Some (with_arrival d flow x)) entered (two t d at) in
+    subst (λ (y : Option (List ℤ)). Updates old fs t (Some (with_arrival e flow y))) brought (subst (λ (f : Entry). Updates old fs t (Some (with_arrival f flow x))) made both)
+
+-- one more entry at the end
+pub at_end : (es : Entries) (x : Task × Entry) (n : ℕ) → n ≡ length es → slice_get (es ++ x ∷ []) n ≡ Some x
+at_end [] x zero h = refl
+at_end [] x (suc n) h = absurd (omega (arith, h))
+at_end (e ∷ es) x zero h = absurd (omega (arith, h))
+at_end (e ∷ es) x (suc n) h = at_end es x n (omega (arith, h))
+
+-- what stands at an index stands there alone
+pub one_row : (es : Entries) (i : ℕ) (t u : Task) (e f : Entry) → slice_get es i ≡ Some (t, e) → slice_get es i ≡ Some (u, f) → (t ≡ u) × (e ≡ f)
+one_row es i t u e f one other =
+    let row : Task × Entry = (t, e) in
+    let found : Task × Entry = (u, f) in
+    let both : Some row ≡ Some found = sym one ∙ other in
+    let same : row ≡ found = cc in
+    (ap (λ (x : Task × Entry). x.0) same, ap (λ (x : Task × Entry). x.1) same)
+
+-- an edge that came to the entry at an index
+pub arrives_at : (old es fs : Entries) (i : ℕ) (t : Task) (e f : Entry) (flow : ℕ) (tile : Option (List ℤ)) → es ≡ old → slice_get es i ≡ Some (t, e) → f ≡ with_arrival e flow tile → Updates es fs t (Some f) → ArrivesAt old fs i flow tile
+arrives_at old es fs i t e f flow tile same at is up u g asked =
+    let one = one_row es i t u e g at (ap (λ (xs : Entries). slice_get xs i) same ∙ asked) in
+    let here : Updates old fs t (Some (with_arrival e flow tile)) = subst (λ (xs : Entries). Updates xs fs t (Some (with_arrival e flow tile))) same (subst (λ (x : Entry). Updates es fs t (Some x)) is up) in
+    subst (λ (v : Task). Updates old fs v (Some (with_arrival g flow tile))) one.0 (subst (λ (x : Entry). Updates old fs t (Some (with_arrival x flow tile))) one.1 here)
+
+row_within : (es : Entries) (i : ℕ) → i < length es → (row : Task × Entry) × (slice_get es i ≡ Some row)
+row_within [] i h = absurd (omega (arith, h))
+row_within (x ∷ xs) zero h = (x, refl)
+row_within (x ∷ xs) (suc i) h = row_within xs i (omega (arith, h))
+
+key_of : (es : Entries) (i : ℕ) (t : Task) (e : Entry) → slice_get es i ≡ Some (t, e) → slice_get (keys_of es) i ≡ Some t
+key_of [] i t e is = absurd cc
+key_of (x ∷ xs) zero t e is =
+    let one : x ≡ (t, e) = cc in
+    ap (λ (y : Task × Entry). Some y.0) one
+key_of (x ∷ xs) (suc i) t e is = key_of xs i t e is
+
+-- a key that a look-up finds passes its test
+key_passes : (test : Task → Bool) (es : Entries) (t : Task) → lookup_key test es ≡ Some t → test t ≡ true
+key_passes test [] t is = absurd cc
+key_passes test (x ∷ xs) t is = by (key_passes test xs t) (test x.0) refl
+  where
+    by : (lookup_key test xs ≡ Some t → test t ≡ true) → (b : Bool) → test x.0 ≡ b → test t ≡ true
+    by rest true h =
+        let it : Some x.0 ≡ Some t = sym (ap (λ b. cond b (Some x.0) (lookup_key test xs)) h) ∙ is in
+        let one : x.0 ≡ t = cc in
+        subst (λ (u : Task). test u ≡ true) one h
+    by rest false h = rest (sym (ap (λ b. cond b (Some x.0) (lookup_key test xs)) h) ∙ is)
+
+-- the entry that a look-up by index found
+pub found_at : (y : Content) (es : Entries) (t : Task) (r : Option ℕ) → es ≡ y.entries → r ≡ position (same_task t) (keys_of es) → IfSome r (IsEntryAt y t)
+found_at y es t None same is = tt
+found_at y es t (Some i) same is =
+    let found = Found-position (same_task t) es i (sym is) in
+    let row = row_within es i found.within in
+    let named : same_task t row.0.0 ≡ true = key_passes (same_task t) es row.0.0 (found.key ∙ key_of es i row.0.0 row.0.1 row.1) in
+    let at : slice_get es i ≡ Some (t, row.0.1) = subst (λ (u : Task). slice_get es i ≡ Some (u, row.0.1)) (sym (same_means t row.0.0 named)) row.1 in
+    record {
+      entry = row.0.1;
+      at = ap (λ (fs : Entries). slice_get fs i) (sym same) ∙ at;
+      is = ap (λ (fs : Entries). entry_in fs t) (sym same) ∙ found.value ∙ value_of es i t row.0.1 at;
+    }

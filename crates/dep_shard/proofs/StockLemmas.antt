@@ -1,5 +1,5 @@
 -- The tiles of all types, where those of one type change.
-use Rattle.std.specs.Prelude.{◌≡◌, ℕ, ◌+◌, ◌<◌, ◌≤◌, List, [], ◌∷◌, length, map, slice_index, slice_index_or, slice_set, Some, None, Result, Ok, Err, OnErr}
+use Rattle.std.specs.Prelude.{◌≡◌, ℕ, ◌+◌, ◌<◌, ◌≤◌, List, [], ◌∷◌, length, map, slice_index, slice_index_or, slice_set, Some, None, Result, Ok, Err, OnErr, OnOk}
 use Rattle.std.proofs.Common.{zero, suc, refl, ap, subst, ◌∙◌, arith}
 use Rattle.std.proofs.lemmas.Bool.Decides.{nat_tests}
 use Rattle.std.proofs.Math.Seq.{map-set_same}
@@ -58,3 +58,8 @@ spare_there types elems k v was within = there types k v (omega (arith, within, 
 pub at_err : {A E : Type 0} {P Q : Type 0} (result : Result A E) → (P → Q) → OnErr result P → OnErr result Q
 at_err (Ok x) f h = h
 at_err (Err e) f h = f h
+
+-- what an `Ok` gives, where one thing gives the other
+pub at_ok : {A E : Type 0} {P Q : Type 0} (result : Result A E) → (P → Q) → OnOk result P → OnOk result Q
+at_ok (Ok x) f h = f h
+at_ok (Err e) f h = h

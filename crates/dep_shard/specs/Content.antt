@@ -1,5 +1,5 @@
 -- What contracts see of a shard: its entries by task, what was written, what trapped, two numbers, and its spares. Source: DAGuE 2012, where an entry counts the dependences that have come; the form of the table is this project's own choice.
-use Rattle.std.specs.Prelude.{◌≡◌, ℕ, ◌+◌, ◌<◌, ◌≤◌, ℤ, false, cond, List, [], length, slice_index, Option, Some, None}
+use Rattle.std.specs.Prelude.{◌≡◌, ℕ, ◌+◌, ◌<◌, ◌≤◌, ℤ, false, cond, List, [], length, slice_get, slice_index, Option, Some, None}
 use Rattle.std.specs.Map.{lookup}
 use Rattle.std.specs.Option.{unwrap_or}
 use Rattle.std.specs.Ordering.{int_cmp, is_lt, ordering_then}
@@ -113,6 +113,30 @@ pub record HasWaiting (y : Content) (t : Task) : Type 0 where
   pub entry : Entry
   pub is : entry_of y t ≡ Some entry
   pub waits : IsWaiting entry
+
+-- the entry at this index of the list is that of t
+pub record IsEntryAt (y : Content) (t : Task) (index : ℕ) : Type 0 where
+  pub entry : Entry
+  pub at : slice_get y.entries index ≡ Some (t, entry)
+  pub is : entry_of y t ≡ Some entry
+
+-- the entry at this index of the list waits
+pub record HasWaitingAt (y : Content) (index : ℕ) : Type 0 where
+  pub task : Task
+  pub entry : Entry
+  pub at : slice_get y.entries index ≡ Some (task, entry)
+  pub waits : IsWaiting entry
+
+-- the entry at this index of the list is ready
+pub record HasReadyAt (y : Content) (index : ℕ) : Type 0 where
+  pub task : Task
+  pub entry : Entry
+  pub at : slice_get y.entries index ≡ Some (task, entry)
+  pub ready : IsReady entry
+
+-- one more edge has come to the entry at this index of old, into this flow and with this tile
+abbrev pub ArrivesAt : Entries → Entries → ℕ → ℕ → Option (List ℤ) → Type 0
+ArrivesAt old new index flow tile = (t : Task) (e : Entry) → slice_get old index ≡ Some (t, e) → Updates old new t (Some (with_arrival e flow tile))
 
 -- Old has a ready entry of t with these tiles, and new has none: the task runs.
 pub record Takes (old new : Content) (t : Task) (tiles : List FlowTile) : Type 0 where

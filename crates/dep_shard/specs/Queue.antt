@@ -1,5 +1,5 @@
 -- How a shard's queue of candidates serves its entries. Source: this project's own choice.
-use Rattle.std.specs.Prelude.{◌≡◌, ℕ, ◌+◌, ◌≤◌, ℤ, Bool, true, false, ◌&&◌, cond, nat_lt, nat_eq, List, [], ◌∷◌, Option}
+use Rattle.std.specs.Prelude.{◌≡◌, ℕ, ◌+◌, ◌≤◌, ℤ, Bool, true, false, ◌&&◌, cond, nat_lt, nat_eq, List, [], ◌∷◌, Option, Some}
 use Rattle.std.specs.BinaryHeap.{IsHeap}
 use Rattle.std.specs.List.{list_any}
 use Rattle.std.specs.Option.{option_map_or}
@@ -46,9 +46,14 @@ abbrev pub count_waiting : Entries → ℕ
 count_waiting [] = 0
 count_waiting (e ∷ es) = one_if_waiting e.1 + count_waiting es
 
+-- to no entry more edges have come than it waits for
+abbrev pub HaveAtMostGoal : Entries → Type 0
+HaveAtMostGoal entries = (t : Task) (e : Entry) → entry_in entries t ≡ Some e → e.arrived ≤ e.goal
+
 -- The queue is in order and has every ready entry, and it has room for every entry that waits.
 pub record IsQueueOf (entries : Entries) (cs : List Candidate) (len capacity waiting : ℕ) : Type 0 where
   pub heap : IsHeap order cs
   pub has_ready : HasEveryReady entries cs
+  pub at_most_goal : HaveAtMostGoal entries
   pub counted : count_waiting entries ≡ waiting
   pub room : len + waiting ≤ capacity

@@ -4,7 +4,7 @@ ghost use Rattle.std.specs.Option.{option_map};
 ghost use Rattle.dep_shard.specs.Content.{fresh, with_arrival, IsWaiting};
 
 use crate::arrivals::Arrivals;
-use crate::tile_list::{LinkedTile, TileList};
+use crate::tile_list::{LinkedTile, Links, TileList};
 use std::marker::Model;
 use std::mem;
 
@@ -56,12 +56,12 @@ impl Entry {
         }
     }
 
-    // The tiles that have come.
-    pub(crate) fn into_arrivals(self) -> Arrivals
+    // The tiles that have come. Their links go to those that are free.
+    pub(crate) fn into_arrivals(self, free: &mut Links) -> Arrivals
         ensures { result ≡ self.tiles }
     {
         let mut arrivals = Arrivals::new();
-        self.tiles.move_to(&mut arrivals);
+        self.tiles.move_to(&mut arrivals, free);
         arrivals
     }
 

@@ -3,6 +3,7 @@
 
 mod arrivals;
 mod entry;
+mod parts;
 mod queue;
 mod shard;
 mod stock;
@@ -10,4 +11,5 @@ mod tile_list;
 
 pub use arrivals::Arrivals;
 pub use entry::Entry;
+pub use parts::{Entries, Parts};
 pub use shard::{Arrived, Shard};

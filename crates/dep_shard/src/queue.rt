@@ -51,3 +51,14 @@ pub(crate) fn drop_stale(table: &Table, queue: &mut Queue)
         let _stale = queue.pop();
     }
 }
+
+// Drops every stale candidate.
+pub(crate) fn drop_all_stale(table: &Table, queue: &mut Queue)
+    requires { HasEveryReady table.now.entries (heap_items queue.old) }
+    ensures heap { IsHeap order (heap_items queue.new) }
+    ensures ready { HasEveryReady table.now.entries (heap_items queue.new) }
+    ensures len { heap_len queue.new ≤ heap_len queue.old }
+    ensures capacity { heap_capacity queue.new ≡ heap_capacity queue.old }
+{
+    queue.retain(|candidate| is_live(table, candidate));
+}

@@ -1,16 +1,18 @@
 //! The entries of one shard, its write-backs and its trapped tasks.
-ghost use Rattle.std.specs.Prelude.{◌≡◌, ◌+◌, ◌<◌, ◌≤◌, ◌↔◌, length, ◌∷◌, [], ◌++◌, slice_get, slice_index, None, Some, IsOk, IsSome, IfOk, OnOk, OnErr, IfNone, IfSome, is_some, if◌then◌else◌};
+ghost use Rattle.std.specs.Prelude.{◌≡◌, ◌+◌, ◌<◌, ◌≤◌, ◌↔◌, length, ◌∷◌, [], ◌++◌, slice_get, slice_index, None, Some, IsOk, IsSome, IsTrue, IfOk, OnOk, OnErr, IfNone, IfSome, is_some, if◌then◌else◌};
 ghost use Rattle.std.specs.Option.{option_copied, option_map};
 ghost use Rattle.std.specs.Map.{keys_of};
 ghost use Rattle.std.specs.Map.Iter.{deref_pair};
 ghost use Rattle.std.specs.List.{IsDistinct};
+ghost use Rattle.ptg_base.specs.Task.{Task};
 ghost use Rattle.ptg_base.specs.TaskComparing.{same_task};
 ghost use Rattle.dep_shard.specs.declared.shard.Arrived.TheVariants.{Fired};
-ghost use Rattle.dep_shard.specs.Content.{Entry as EntryContent, HasSpares, Uses, HasNoReady, IsBest, IsReady, IsWaiting, IsNew, IsTileOf, IsUnchanged, KeepsAllButEntries, KeepsAllButWritten, KeepsEntriesAndWritten, Updates, Takes, Ends, HasWaiting, entry_of, entry_before, fresh, with_arrival};
+ghost use Rattle.dep_shard.specs.Content.{Entry as EntryContent, HasSpares, Uses, HasNoReady, IsBest, IsReady, IsWaiting, IsNew, IsTileOf, IsUnchanged, KeepsAllButEntries, KeepsAllButWritten, KeepsEntriesAndWritten, Updates, Takes, Ends, IsEntryAt, HasWaitingAt, HasReadyAt, ArrivesAt, entry_of, entry_before, fresh, with_arrival};
 
 use crate::arrivals::Arrivals;
 use crate::entry::Entry;
-use crate::queue::{Queue, Table, copy_of_task, drop_stale};
+use crate::parts::{Entries, Parts};
+use crate::queue::{Queue, Table, copy_of_task, drop_all_stale, drop_stale};
 use crate::stock::Stock;
 use crate::tile_list::LinkedTile;
 use indexmap::IndexMap;
@@ -20,6 +22,9 @@ use std::cmp::Reverse;
 use std::collections::BinaryHeap;
 use std::marker::Model;
 use term_core::Trap;
+
+// So many stale candidates are never too many.
+const FEW: usize = 16;
 
 /// What has become of the target of an edge that came.
 #[derive(Clone, Copy, Debug, PartialEq, Eq)]
@@ -148,20 +153,23 @@ impl Shard {
             .unwrap();
     }
 
-    // Adds an entry that waits, to which nothing has come.
-    fn enter_waiting(&mut self, t: &TaskId, goal: u32, priority: i64)
+    // Adds an entry that waits, to which nothing has come, at the end of the list. Its index.
+    fn enter_waiting(&mut self, t: &TaskId, goal: u32, priority: i64) -> usize
         requires new { entry_of self.old t.now ≡ None }
         requires room { 0 < self.old.spare.entries }
         requires goal { 0 < goal }
+        ensures at { slice_get self.new.entries result ≡ Some (t.now, fresh goal priority) }
         ensures entries { Updates self.old.entries self.new.entries t.now (Some (fresh goal priority)) }
         ensures rest { KeepsAllButEntries self.old self.new }
         ensures spare { Uses self.old.spare self.new.spare 1 None 0 0 }
     {
+        let index = self.table.len();
         let _none = self
             .table
             .insert(copy_of_task(t), Entry::new(goal, priority))
             .unwrap();
         self.waiting += 1;
+        index
     }
 
     /// The best ready task: of the greatest priority, and of equal ones the first in task order. Looking drops
@@ -175,6 +183,14 @@ impl Shard {
         drop_stale(&self.table, &mut self.queue);
         let best = self.queue.peek()?;
         Some(copy_of_task(&best.1.0))
+    }
+
+    /// The index of a task's entry in the list of entries, if the task has one. It holds until entries come or go.
+    pub fn index_of(&self, t: &TaskId) -> Option<usize>
+        ensures none { IfNone result (entry_of self.now t.now ≡ None) }
+        ensures some { IfSome result (IsEntryAt self.now t.now) }
+    {
+        self.table.get_index_of(t)
     }
 
     /// Notes that an edge has come, with this tile of this type. The first edge of a task makes its entry and uses a
@@ -200,24 +216,62 @@ impl Shard {
         ensures kept { OnErr result (Uses self.old.spare self.new.spare 0 None 0 0) }
         ensures succeeds { (entry_of self.old edge.now.to ≡ None → 0 < self.old.spare.entries) → (IsSome tile.entry → 0 < slice_index self.old.spare.tiles datatype) → IsOk result }
     {
-        self.reserve_entry_of(&edge.to)?;
-        let copied = self.copy_in(datatype, tile)?;
-        self.enter_if_new(&edge.to, goal, priority);
-        Ok(self.land(&edge.to, edge.in_flow, copied))
+        match self.index_of(&edge.to) {
+            Some(index) => self.arrive_at(index, edge.in_flow, datatype, tile),
+            None => self.arrive_first(edge, goal, priority, datatype, tile),
+        }
     }
 
-    // Takes memory for the entry of this task if it has none.
-    fn reserve_entry_of(&mut self, t: &TaskId) -> Result<(), OutOfMemory>
-        ensures ok { OnOk result (entry_of self.old t.now ≡ None → 0 < self.new.spare.entries) }
-        ensures same { IsUnchanged self.old self.new }
-        ensures spare { Uses self.old.spare self.new.spare 0 None 0 0 }
-        ensures succeeds { 0 < self.old.spare.entries → IsOk result }
-        ensures needless { IsSome (entry_of self.old t.now) → IsOk result }
+    /// Notes that an edge has come to a task whose entry is at this index and waits. A tile uses a spare tile of its
+    /// type.
+    pub fn arrive_at(
+        &mut self,
+        index: usize,
+        flow: u8,
+        datatype: u32,
+        tile: Option<&Tile>,
+    ) -> Result<Arrived, OutOfMemory>
+        requires flow { flow < 8 }
+        requires waits { HasWaitingAt self.old index }
+        requires tile { IfSome (option_copied tile) (λ t. IsTileOf self.old.elems datatype t) }
+        ensures ok { OnOk result (ArrivesAt self.old.entries self.new.entries index flow (option_copied tile.entry)) }
+        ensures fired { IfOk result (λ a. (t : Task) (e : EntryContent) → slice_get self.old.entries index ≡ Some (t, e) → (a ≡ Fired) ↔ IsReady (with_arrival e flow (option_copied tile.entry))) }
+        ensures err { OnErr result (self.new.entries ≡ self.old.entries) }
+        ensures rest { KeepsAllButEntries self.old self.new }
+        ensures spare { Uses self.old.spare self.new.spare 0 (if is_some tile.entry then Some datatype else None) 0 0 }
+        ensures kept { OnErr result (Uses self.old.spare self.new.spare 0 None 0 0) }
+        ensures succeeds { (IsSome tile.entry → 0 < slice_index self.old.spare.tiles datatype) → IsOk result }
     {
-        if self.table.contains_key(t) {
-            return Ok(());
-        }
-        self.reserve_entries(1)
+        let copied = self.copy_in(datatype, tile)?;
+        Ok(self.land(index, flow, copied))
+    }
+
+    /// Notes that the first edge has come to a task, which has no entry yet. It uses a spare entry, and a tile uses a
+    /// spare tile of its type.
+    pub fn arrive_first(
+        &mut self,
+        edge: &Edge,
+        goal: u32,
+        priority: i64,
+        datatype: u32,
+        tile: Option<&Tile>,
+    ) -> Result<Arrived, OutOfMemory>
+        requires flow { edge.now.in_flow < 8 }
+        requires goal { 0 < goal }
+        requires new { entry_of self.old edge.now.to ≡ None }
+        requires tile { IfSome (option_copied tile) (λ t. IsTileOf self.old.elems datatype t) }
+        ensures ok { OnOk result (Updates self.old.entries self.new.entries edge.now.to (Some (with_arrival (fresh goal priority) edge.now.in_flow (option_copied tile.entry)))) }
+        ensures fired { IfOk result (λ a. (a ≡ Fired) ↔ IsReady (with_arrival (fresh goal priority) edge.now.in_flow (option_copied tile.entry))) }
+        ensures err { OnErr result (self.new.entries ≡ self.old.entries) }
+        ensures rest { KeepsAllButEntries self.old self.new }
+        ensures spare { Uses self.old.spare self.new.spare 1 (if is_some tile.entry then Some datatype else None) 0 0 }
+        ensures kept { OnErr result (Uses self.old.spare self.new.spare 0 None 0 0) }
+        ensures succeeds { 0 < self.old.spare.entries → (IsSome tile.entry → 0 < slice_index self.old.spare.tiles datatype) → IsOk result }
+    {
+        self.reserve_entries(1)?;
+        let copied = self.copy_in(datatype, tile)?;
+        let index = self.enter_waiting(&edge.to, goal, priority);
+        Ok(self.land(index, edge.in_flow, copied))
     }
 
     // A copy of the tile and a link to hold it, if there is a tile.
@@ -236,84 +290,76 @@ impl Shard {
         self.stock.copy_if_any(datatype, tile)
     }
 
-    fn enter_if_new(&mut self, t: &TaskId, goal: u32, priority: i64)
-        requires goal { 0 < goal }
-        requires room { entry_of self.old t.now ≡ None → 0 < self.old.spare.entries }
-        ensures entries { Updates self.old.entries self.new.entries t.now (Some (entry_before self.old t.now goal priority)) }
-        ensures rest { KeepsAllButEntries self.old self.new }
-        ensures spare { Uses self.old.spare self.new.spare (if is_some (entry_of self.old t.now) then 0 else 1) None 0 0 }
-    {
-        if !self.table.contains_key(t) {
-            self.enter_waiting(t, goal, priority);
-        }
-    }
-
     // An edge comes to an entry that waits. The queue has room for its candidate.
-    fn land(&mut self, t: &TaskId, flow: u8, tile: Option<LinkedTile>) -> Arrived
+    fn land(&mut self, index: usize, flow: u8, tile: Option<LinkedTile>) -> Arrived
         requires flow { flow < 8 }
-        requires waits { HasWaiting self.old t.now }
-        ensures entries { (e : EntryContent) → entry_of self.old t.now ≡ Some e → Updates self.old.entries self.new.entries t.now (Some (with_arrival e flow (option_map (λ m. m.0) tile))) }
-        ensures fired { (e : EntryContent) → entry_of self.old t.now ≡ Some e → (result ≡ Fired) ↔ IsReady (with_arrival e flow (option_map (λ m. m.0) tile)) }
+        requires waits { HasWaitingAt self.old index }
+        ensures entries { ArrivesAt self.old.entries self.new.entries index flow (option_map (λ m. m.0) tile) }
+        ensures fired { (t : Task) (e : EntryContent) → slice_get self.old.entries index ≡ Some (t, e) → (result ≡ Fired) ↔ IsReady (with_arrival e flow (option_map (λ m. m.0) tile)) }
         ensures rest { KeepsAllButEntries self.old self.new }
         ensures spare { Uses self.old.spare self.new.spare 0 None 0 0 }
     {
-        let priority = match self.table.get_mut(t) {
-            Some(entry) => {
-                entry.add(flow, tile);
-                if entry.arrived() < entry.goal() {
-                    return Arrived::Waits;
-                }
-                entry.priority()
-            }
-            None => return Arrived::Waits,
-        };
+        let (task, entry) = self.table.pair_mut(index);
+        entry.add(flow, tile);
+        if entry.arrived() < entry.goal() {
+            return Arrived::Waits;
+        }
+        let candidate = (entry.priority(), Reverse(copy_of_task(task)));
         self.waiting -= 1;
-        self.queue
-            .push((priority, Reverse(copy_of_task(t))))
-            .unwrap();
+        self.queue.push(candidate).unwrap();
         Arrived::Fired
     }
 
     /// Takes the ready entry of a task out, with the tiles that came to it. The task runs from then on. `None` exactly
-    /// if it has no ready entry.
+    /// if it has no ready entry, and then the shard is as it was.
     pub fn take_ready(&mut self, t: &TaskId) -> Option<Arrivals>
         requires { self.old.running < 1000000 }
         ensures none { IfNone result ((e : EntryContent) → entry_of self.old t.now ≡ Some e → IsReady e → ⊥) }
-        ensures same { IfNone result (IsUnchanged self.old self.new) }
+        ensures same { IfNone result (self.new ≡ self.old) }
         ensures some { IfSome result (λ tiles. Takes self.old self.new t.now tiles) }
         ensures spare { Uses self.old.spare self.new.spare 0 None 0 0 }
     {
-        let arrivals = self.remove_ready(t)?;
-        self.drop_stale();
+        let index = self.index_of(t)?;
+        if !self.is_ready_at(index) {
+            return None;
+        }
+        let arrivals = self.take_at(index)?;
+        self.drop_stale_if_many();
         Some(arrivals)
     }
 
-    fn remove_ready(&mut self, t: &TaskId) -> Option<Arrivals>
-        requires { self.old.running < 1000000 }
-        ensures none { IfNone result ((e : EntryContent) → entry_of self.old t.now ≡ Some e → IsReady e → ⊥) }
-        ensures same { IfNone result (IsUnchanged self.old self.new) }
-        ensures some { IfSome result (λ tiles. Takes self.old self.new t.now tiles) }
-        ensures spare { Uses self.old.spare self.new.spare 0 None 0 0 }
+    // Whether the entry at this index is ready.
+    fn is_ready_at(&self, index: usize) -> bool
+        ensures { (t : Task) (e : EntryContent) → slice_get self.now.entries index ≡ Some (t, e) → IsTrue result ↔ IsReady e }
     {
-        match self.table.get(t) {
-            Some(e) => {
-                if e.arrived() != e.goal() {
-                    return None;
-                }
-            }
-            None => return None,
+        match self.table.get_index(index) {
+            Some((_task, entry)) => entry.arrived() == entry.goal(),
+            None => false,
         }
-        let entry = self.table.swap_remove(t)?;
-        self.running += 1;
-        Some(entry.into_arrivals())
     }
 
-    // Drops the stale candidates at the front of the queue, so that they do not pile up until the next search.
-    fn drop_stale(&mut self)
+    // Takes the ready entry at this index out.
+    fn take_at(&mut self, index: usize) -> Option<Arrivals>
+        requires running { self.old.running < 1000000 }
+        requires ready { HasReadyAt self.old index }
+        ensures there { IsSome result }
+        ensures some { IfSome result (λ tiles. (t : Task) → IsEntryAt self.old t index → Takes self.old self.new t tiles) }
+        ensures spare { Uses self.old.spare self.new.spare 0 None 0 0 }
+    {
+        let (_task, entry) = self.table.swap_remove_index(index)?;
+        self.running += 1;
+        Some(self.stock.arrivals_of(entry))
+    }
+
+    // Drops the stale candidates where most are, so that they do not pile up until the next search.
+    fn drop_stale_if_many(&mut self)
         ensures same { IsUnchanged self.old self.new }
         ensures spare { Uses self.old.spare self.new.spare 0 None 0 0 }
     {
-        drop_stale(&self.table, &mut self.queue);
+        let ready = self.table.len().saturating_sub(self.waiting);
+        if self.queue.len() / 2 > ready + FEW {
+            drop_all_stale(&self.table, &mut self.queue);
+        }
     }
 
     /// Writes a copy of a tile of this type back. It uses a spare write-back and a spare tile of the type.
@@ -411,5 +457,35 @@ impl Shard {
         ensures { result ≡ self.now.ended }
     {
         self.ended
+    }
+
+    /// Whether no task runs and no entry is ready.
+    pub fn is_calm(&self) -> bool
+        ensures { IsTrue result ↔ ((self.now.running ≡ 0) × HasNoReady self.now.entries) }
+    {
+        self.running == 0 && self.waiting == self.table.len()
+    }
+
+    /// What is left of a shard at the end of a run.
+    pub fn into_parts(self) -> Parts
+        ensures entries { result.entries ≡ self.entries }
+        ensures written { result.written.items ≡ self.written }
+        ensures trapped { result.trapped.items ≡ self.trapped }
+    {
+        let Shard {
+            table,
+            queue: _queue,
+            waiting: _waiting,
+            stock: _stock,
+            written,
+            trapped,
+            running: _running,
+            ended: _ended,
+        } = self;
+        Parts {
+            entries: Entries::of(table),
+            written,
+            trapped,
+        }
     }
 }

@@ -4,7 +4,9 @@ ghost use Rattle.std.specs.Option.{option_copied, option_map};
 ghost use Rattle.dep_shard.specs.Content.{IsTileOf};
 ghost use Rattle.dep_shard.specs.Stock.{UsesTile};
 
-use crate::tile_list::{Link, LinkedTile};
+use crate::arrivals::Arrivals;
+use crate::entry::Entry;
+use crate::tile_list::{Link, LinkedTile, Links};
 use ptg_base::{OutOfMemory, Tile};
 use std::alloc::Global;
 use std::marker::Model;
@@ -15,7 +17,7 @@ use tile_pool::TilePool;
 pub(crate) struct TypeStock {
     alloc: Global,
     pool: TilePool,
-    links: Vec<Box<Link>>,
+    links: Links,
 }
 
 impl Model for TypeStock {
@@ -61,8 +63,8 @@ impl TypeStock {
         self.pool.copy_of(tile)
     }
 
-    // A copy of a tile, and a link to hold it.
-    fn copy_and_link(&mut self, tile: &Tile) -> Result<LinkedTile, OutOfMemory>
+    // A copy of a tile, and a link to hold it: a free one if there is any, else a reserved one, else a new one.
+    fn copy_and_link(&mut self, tile: &Tile, free: &mut Links) -> Result<LinkedTile, OutOfMemory>
         requires { length tile.now ≡ self.old.elems }
         ensures ok { IfOk result (λ made. made.0 ≡ tile.now) }
         ensures elems { self.new.elems ≡ self.old.elems }
@@ -70,17 +72,28 @@ impl TypeStock {
         ensures err { OnErr result (self.old.spare ≤ self.new.spare) }
         ensures succeeds { 0 < self.old.spare → IsOk result }
     {
-        let link = match self.links.pop() {
-            Some(link) => link,
-            None => Box::new(self.alloc, Link::Spare)?,
-        };
+        let link = take_link(self.alloc, &mut self.links, free)?;
         let copy = self.pool.copy_of(tile)?;
         Ok((copy, link))
     }
 }
 
+// A link: a free one if there is any, else a reserved one, else a new one.
+fn take_link(alloc: Global, links: &mut Links, free: &mut Links) -> Result<Box<Link>, OutOfMemory>
+    ensures taken { vec_len links.old ≤ vec_len links.new + 1 }
+    ensures succeeds { 0 < vec_len links.old → IsOk result }
+{
+    if let Some(link) = free.pop() {
+        return Ok(link);
+    }
+    match links.pop() {
+        Some(link) => Ok(link),
+        None => Ok(Box::new(alloc, Link::Spare)?),
+    }
+}
+
 // Makes spare links until there are `n`.
-fn make_links(links: &mut Vec<Box<Link>>, alloc: Global, n: usize) -> Result<(), OutOfMemory>
+fn make_links(links: &mut Links, alloc: Global, n: usize) -> Result<(), OutOfMemory>
     ensures ok { OnOk result (n ≤ vec_len links.new) }
     ensures more { vec_len links.old ≤ vec_len links.new }
     ensures succeeds { n ≤ vec_len links.old → IsOk result }
@@ -91,10 +104,11 @@ fn make_links(links: &mut Vec<Box<Link>>, alloc: Global, n: usize) -> Result<(),
     Ok(())
 }
 
-// The reserved tiles of all types, by type number.
+// The reserved tiles of all types, by type number, and the links that held tiles before and are free again.
 #[derive(Drop)]
 pub(crate) struct Stock {
     types: Vec<TypeStock>,
+    free: Links,
 }
 
 impl Model for Stock {
@@ -115,7 +129,10 @@ impl Stock {
         for n in elems {
             types.push(TypeStock::new(alloc, *n))?;
         }
-        Ok(Stock { types })
+        Ok(Stock {
+            types,
+            free: Vec::new(alloc),
+        })
     }
 
     // Makes tiles and links until so many more tiles of each type can come.
@@ -172,7 +189,15 @@ impl Stock {
         ensures succeeds { 0 < slice_index self.old.spare datatype → IsOk result }
     {
         let stock = &mut self.types[datatype as usize];
-        stock.copy_and_link(tile)
+        stock.copy_and_link(tile, &mut self.free)
+    }
+
+    // The tiles of an entry. Their links are free from then on.
+    pub(crate) fn arrivals_of(&mut self, entry: Entry) -> Arrivals
+        ensures tiles { result ≡ entry.tiles }
+        ensures same { self.new ≡ self.old }
+    {
+        entry.into_arrivals(&mut self.free)
     }
 
     // A copy of a tile of this type and a link to hold it, if there is a tile.

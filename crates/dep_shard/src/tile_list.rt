@@ -5,6 +5,7 @@ ghost use Rattle.dep_shard.specs.Arrivals.{in_flow_order};
 use crate::arrivals::Arrivals;
 use ptg_base::Tile;
 use std::marker::Model;
+use std::mem;
 
 // The tiles that came to a task so far, each after its flow, from the last that came to the first. An entry of a
 // task to which no tile came has no link, so that it is small.
@@ -28,6 +29,9 @@ pub(crate) enum Link {
     Spare,
     Held(u8, Tile, TileList),
 }
+
+// Links that hold nothing.
+pub(crate) type Links = Vec<Box<Link>>;
 
 // A tile, with a link to hold it.
 pub(crate) type LinkedTile = (Tile, Box<Link>);
@@ -68,20 +72,24 @@ impl TileList {
         }
     }
 
-    // Moves the tiles out. The links go.
-    pub(crate) fn move_to(self, arrivals: &mut Arrivals)
+    // Moves the tiles out. The links go to those that are free, where there is room for them.
+    pub(crate) fn move_to(self, arrivals: &mut Arrivals, free: &mut Links)
         requires { arrivals.old ≡ [] }
         ensures { arrivals.new ≡ in_flow_order self }
     {
         match self.first {
             First::End => {}
-            First::More(link) => match Box::into_inner(link) {
-                Link::Spare => {}
-                Link::Held(flow, tile, rest) => {
-                    rest.move_to(arrivals);
-                    arrivals.put(flow, tile);
+            First::More(mut link) => {
+                let held = mem::replace(&mut *link, Link::Spare);
+                let _kept = free.push(link);
+                match held {
+                    Link::Spare => {}
+                    Link::Held(flow, tile, rest) => {
+                        rest.move_to(arrivals, free);
+                        arrivals.put(flow, tile);
+                    }
                 }
-            },
+            }
         }
     }
 }

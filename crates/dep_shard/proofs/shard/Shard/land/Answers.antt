@@ -1,65 +1,77 @@
-use Rattle.std.proofs.Common.{rules, arith, ◌≡◌, sym, ap, Some, IsSome, slice_index}
+use Rattle.std.proofs.Common.{rules, arith, refl, ◌≡◌, ◌<◌, subst, ap, ◌∙◌, Some, slice_get, slice_index}
 use Rattle.std.specs.BinaryHeap.{heap_items}
-use Rattle.indexmap.specs.IndexMap.{spare}
-use Rattle.ptg_base.specs.TaskComparing.{same_task}
-use Rattle.dep_shard.specs.Content.{Content, Entry, entry_in, IsReady, IsWaiting}
-use Rattle.dep_shard.proofs.QueueLemmas.{lands, fires, found_waits, some_wait, on_success}
+use Rattle.indexmap.specs.IndexMap.{set_value_at}
+use Rattle.indexmap.proofs.CallerLemmas.{updates-with_value_at}
+use Rattle.dep_shard.specs.Content.{Content, Entry, IsReady, IsWaiting}
+use Rattle.dep_shard.proofs.QueueLemmas.{arrives_at, lands, fires, one_row, some_wait, on_success, task_equivalence}
 use Rattle.dep_shard.proofs.shard.Shard.land.Goals as goal
 
 pub invariant_of-self : goal.invariant_of-self
 invariant_of-self c =
     let es = c.self.inside.table.entries in
-    let e : Entry = c.in-Some.entry.now in
+    let t = c.pair_mut-entry.result.0.now in
+    let e : Entry = c.pair_mut-entry.result.1.now in
     let f : Entry = c.add.new.self in
-    let is : entry_in es c.args.t.now ≡ Some e = sym c.in-Some.ensures.value in
-    let waits : IsWaiting e = found_waits es c.args.t.now _ e (ap (λ (y : Content). y.entries) c.self.view_is) c.requires.waits is in
-    let some : IsSome (entry_in es c.args.t.now) = search rules in
-    let written = c.get_mut.follows.holds f in
-    lands (same_task c.args.t.now) es _ c.args.t.now e f (heap_items c.self.inside.queue) _ _ _ c.self.invariant is written.0 (written.3 some).0 waits (omega (arith, c.if-arrived-goal.true, c.arrived.ensures, c.goal.ensures))
+    let at : slice_get es c.args.index ≡ Some (t, e) = c.pair_mut-entry.ensures.value in
+    let asked : slice_get es c.args.index ≡ Some (c.requires.waits.task, c.requires.waits.entry) = ap (λ (y : Content). slice_get y.entries c.args.index) c.self.view_is ∙ c.requires.waits.at in
+    let waits : IsWaiting e = subst IsWaiting ((one_row es c.args.index _ _ _ _ asked at).1) c.requires.waits.waits in
+    let up = updates-with_value_at c.self.inside.table c.args.index f task_equivalence c.pair_mut-entry.ensures.unique t e at in
+    lands es (set_value_at es c.args.index f) c.args.index t e f (heap_items c.self.inside.queue) _ _ _ c.self.invariant at refl up.0 waits (omega (arith, c.if-arrived-goal.true, c.arrived.ensures, c.goal.ensures))
+
+pub returns-then-arrived-goal-clause-entries : goal.returns-then-arrived-goal-clause-entries
+returns-then-arrived-goal-clause-entries c =
+    let es = c.self.inside.table.entries in
+    let t = c.pair_mut-entry.result.0.now in
+    let e : Entry = c.pair_mut-entry.result.1.now in
+    let at : slice_get es c.args.index ≡ Some (t, e) = c.pair_mut-entry.ensures.value in
+    let up = updates-with_value_at c.self.inside.table c.args.index c.add.new.self task_equivalence c.pair_mut-entry.ensures.unique t e at in
+    arrives_at c.args.self.now.entries es _ c.args.index t e c.add.new.self c.args.flow _ (ap (λ (y : Content). y.entries) c.self.view_is) at c.add.ensures up.0
+
+pub returns-clause-entries : goal.returns-clause-entries
+returns-clause-entries c =
+    let es = c.self.inside.table.entries in
+    let t = c.pair_mut-entry.result.0.now in
+    let e : Entry = c.pair_mut-entry.result.1.now in
+    let at : slice_get es c.args.index ≡ Some (t, e) = c.pair_mut-entry.ensures.value in
+    let up = updates-with_value_at c.self.inside.table c.args.index c.add.new.self task_equivalence c.pair_mut-entry.ensures.unique t e at in
+    arrives_at c.args.self.now.entries es _ c.args.index t e c.add.new.self c.args.flow _ (ap (λ (y : Content). y.entries) c.self.view_is) at c.add.ensures up.0
 
 pub overflow_sub-self : goal.overflow_sub-self
 overflow_sub-self c =
     let es = c.self.inside.table.entries in
-    let e : Entry = c.in-Some.entry.now in
-    let is : entry_in es c.args.t.now ≡ Some e = sym c.in-Some.ensures.value in
-    let waits : IsWaiting e = found_waits es c.args.t.now _ e (ap (λ (y : Content). y.entries) c.self.view_is) c.requires.waits is in
-    some_wait (same_task c.args.t.now) es e (heap_items c.self.inside.queue) _ _ _ c.self.invariant is waits
+    let asked : slice_get es c.args.index ≡ Some (c.requires.waits.task, c.requires.waits.entry) = ap (λ (y : Content). slice_get y.entries c.args.index) c.self.view_is ∙ c.requires.waits.at in
+    some_wait es c.args.index c.requires.waits.task c.requires.waits.entry (heap_items c.self.inside.queue) _ _ _ c.self.invariant asked c.requires.waits.waits
 
 pub unwrap-requires : goal.unwrap-requires
 unwrap-requires c =
     let es = c.self.inside.table.entries in
-    let e : Entry = c.in-Some.entry.now in
-    let is : entry_in es c.args.t.now ≡ Some e = sym c.in-Some.ensures.value in
-    let waits : IsWaiting e = found_waits es c.args.t.now _ e (ap (λ (y : Content). y.entries) c.self.view_is) c.requires.waits is in
-    let positive = some_wait (same_task c.args.t.now) es e (heap_items c.self.inside.queue) _ _ _ c.self.invariant is waits in
+    let asked : slice_get es c.args.index ≡ Some (c.requires.waits.task, c.requires.waits.entry) = ap (λ (y : Content). slice_get y.entries c.args.index) c.self.view_is ∙ c.requires.waits.at in
+    let positive : 0 < c.self.inside.waiting = some_wait es c.args.index c.requires.waits.task c.requires.waits.entry (heap_items c.self.inside.queue) _ _ _ c.self.invariant asked c.requires.waits.waits in
     c.push.ensures.succeeds (omega (arith, positive, c.self.invariant.room))
 
 pub invariant_of-self-2 : goal.invariant_of-self-2
 invariant_of-self-2 c =
     let es = c.self.inside.table.entries in
-    let e : Entry = c.in-Some.entry.now in
+    let t = c.pair_mut-entry.result.0.now in
+    let e : Entry = c.pair_mut-entry.result.1.now in
     let f : Entry = c.add.new.self in
-    let is : entry_in es c.args.t.now ≡ Some e = sym c.in-Some.ensures.value in
-    let waits : IsWaiting e = found_waits es c.args.t.now _ e (ap (λ (y : Content). y.entries) c.self.view_is) c.requires.waits is in
-    let positive = some_wait (same_task c.args.t.now) es e (heap_items c.self.inside.queue) _ _ _ c.self.invariant is waits in
-    let some : IsSome (entry_in es c.args.t.now) = search rules in
-    let written = c.get_mut.follows.holds f in
+    let at : slice_get es c.args.index ≡ Some (t, e) = c.pair_mut-entry.ensures.value in
+    let asked : slice_get es c.args.index ≡ Some (c.requires.waits.task, c.requires.waits.entry) = ap (λ (y : Content). slice_get y.entries c.args.index) c.self.view_is ∙ c.requires.waits.at in
+    let positive : 0 < c.self.inside.waiting = some_wait es c.args.index c.requires.waits.task c.requires.waits.entry (heap_items c.self.inside.queue) _ _ _ c.self.invariant asked c.requires.waits.waits in
+    let waits : IsWaiting e = subst IsWaiting ((one_row es c.args.index _ _ _ _ asked at).1) c.requires.waits.waits in
+    let up = updates-with_value_at c.self.inside.table c.args.index f task_equivalence c.pair_mut-entry.ensures.unique t e at in
     let ready : IsReady f = omega (arith, ap (λ (x : Entry). x.arrived) c.add.ensures, ap (λ (x : Entry). x.goal) c.add.ensures, waits, c.if-arrived-goal.false, c.arrived.ensures, c.goal.ensures) in
-    fires (same_task c.args.t.now) es _ c.args.t.now e f _ (heap_items c.self.inside.queue) (heap_items c.push.new.self) _ _ _ _ _ _
-    c.self.invariant is written.0 (written.3 some).0 waits ready (on_success _ _ c.unwrap.ensures c.push.ensures.permutation) (on_success _ _ c.unwrap.ensures c.push.ensures.heap_order)
+    fires es (set_value_at es c.args.index f) c.args.index t e f _ (heap_items c.self.inside.queue) (heap_items c.push.new.self) _ _ _ _ _ _
+    c.self.invariant at refl up.0 waits ready (on_success _ _ c.unwrap.ensures c.push.ensures.permutation) (on_success _ _ c.unwrap.ensures c.push.ensures.heap_order)
     (search rules) c.copy_of_task.ensures (omega (arith, positive)) (omega (arith, positive, on_success _ _ c.unwrap.ensures c.push.ensures.len, c.self.invariant.room))
 
 pub returns-clause-spare : goal.returns-clause-spare
 returns-clause-spare c =
     let es = c.self.inside.table.entries in
-    let e : Entry = c.in-Some.entry.now in
-    let is : entry_in es c.args.t.now ≡ Some e = sym c.in-Some.ensures.value in
-    let waits : IsWaiting e = found_waits es c.args.t.now _ e (ap (λ (y : Content). y.entries) c.self.view_is) c.requires.waits is in
-    let positive = some_wait (same_task c.args.t.now) es e (heap_items c.self.inside.queue) _ _ _ c.self.invariant is waits in
-    let written = c.get_mut.follows.holds c.add.new.self in
-    let kept : spare (c.get_mut.follows.lender c.add.new.self) ≡ spare c.self.inside.table = written.6 in
+    let asked : slice_get es c.args.index ≡ Some (c.requires.waits.task, c.requires.waits.entry) = ap (λ (y : Content). slice_get y.entries c.args.index) c.self.view_is ∙ c.requires.waits.at in
+    let positive : 0 < c.self.inside.waiting = some_wait es c.args.index c.requires.waits.task c.requires.waits.entry (heap_items c.self.inside.queue) _ _ _ c.self.invariant asked c.requires.waits.waits in
     record {
-      entries = omega (arith, positive, kept, on_success _ _ c.unwrap.ensures c.push.ensures.len, c.self.invariant.room, ap (λ (y : Content). y.spare.entries) c.self.view_is);
+      entries = omega (arith, positive, on_success _ _ c.unwrap.ensures c.push.ensures.len, c.self.invariant.room, ap (λ (y : Content). y.spare.entries) c.self.view_is);
       tiles = λ k. omega (arith, ap (λ (y : Content). slice_index y.spare.tiles k) c.self.view_is);
       writes = omega (arith, ap (λ (y : Content). y.spare.writes) c.self.view_is);
       traps = omega (arith, ap (λ (y : Content). y.spare.traps) c.self.view_is);
