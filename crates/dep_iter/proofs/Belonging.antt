@@ -1,5 +1,5 @@
 -- Which links are among those of targets and of tasks.
-use Rattle.std.proofs.Common.{◌≡◌, ◌↔◌, ℕ, zero, suc, ◌+◌, ◌<◌, ℤ, Bool, true, false, List, [], ◌∷◌, ◌++◌, length, take, map, refl, ap, sym, ◌∙◌, subst, append_assoc, add-zero, Option, Some, None, slice_get, IsSomeAnd, IsTrue, ◌⊎◌, inl, inr, arith}
+use Rattle.std.proofs.Common.{◌≡◌, ◌↔◌, ℕ, zero, suc, ◌+◌, ℤ, Bool, true, false, List, [], ◌∷◌, ◌++◌, length, take, map, refl, ap, sym, ◌∙◌, subst, append_assoc, add-zero, Some, None, slice_get, IsSomeAnd, IsTrue, inl, inr, arith}
 use Rattle.std.proofs.lemmas.Bool.{false≢true}
 use Rattle.std.specs.List.{flat_map}
 use Rattle.ptg_base.specs.Lists.{IsIn}
@@ -11,7 +11,7 @@ use Rattle.plan_core.specs.declared.target.Target.{Target}
 use Rattle.plan_core.specs.declared.target.Target.TheVariants as target
 use Rattle.range_space.proofs.MemberLists.{IsIn-append_left, IsIn-append_right, IsIn-flat_map, IsIn-map, from_append, from_flat_map, from_map}
 use Rattle.dep_iter.specs.declared.link.Link.{Link}
-use Rattle.dep_iter.specs.Tasks.{flows_of, locals_of, task}
+use Rattle.dep_iter.specs.Tasks.{flows_of, locals_of}
 use Rattle.plan_core.specs.declared.flow.DepPlan.{DepPlan}
 use Rattle.dep_iter.specs.Active.{by_flow, held_target, held_targets, held_then, takes_first}
 use Rattle.dep_iter.specs.Arguments.{combinations, product}

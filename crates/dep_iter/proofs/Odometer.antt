@@ -1,11 +1,9 @@
 -- How the combinations of values of progressions follow one another.
-use Rattle.std.proofs.Common.{◌≡◌, ◌||◌, ℤ, pos, ◌+ℤ◌, Bool, true, false, List, [], ◌∷◌, ◌++◌, length, map, refl, ap, sym, ◌∙◌, append_assoc, Option, Some, None, Result, Ok, Err, IsErr, is_ok, MatchOption, FitsSigned, w64, rules}
+use Rattle.std.proofs.Common.{◌≡◌, ◌||◌, ℤ, pos, ◌+ℤ◌, Bool, true, false, List, [], ◌∷◌, ◌++◌, map, refl, ap, sym, ◌∙◌, Option, Some, None, Result, Ok, Err, IsErr, is_ok, MatchOption, FitsSigned, w64}
 use Rattle.std.proofs.lemmas.Bool.{false≢true}
 use Rattle.std.specs.List.{flat_map}
-use Rattle.term_core.specs.Term.{Term}
 use Rattle.range_space.specs.declared.fault.SpanFault.{SpanFault}
 use Rattle.range_space.specs.declared.steps.Steps.{Steps}
-use Rattle.range_space.specs.Fault.{number}
 use Rattle.range_space.specs.Values.{is_within, values}
 use Rattle.range_space.proofs.Stepping.{by_test, values_in, values_past, values_unfit}
 use Rattle.range_space.proofs.Nesting.{values-one}

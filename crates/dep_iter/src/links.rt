@@ -3,7 +3,8 @@
 ghost use Rattle.std.specs.Prelude.{◌≡◌, ◌+◌, ◌≤◌, [], ◌∷◌, ◌++◌, length, map, IsTrue, List};
 ghost use Rattle.std.specs.Iterator.{YieldsFirst};
 ghost use Rattle.dep_iter.specs.Links.{all_links, fits, links_to, task_links};
-ghost use Rattle.dep_iter.specs.Tasks.{IsTask};
+ghost use Rattle.dep_iter.specs.Given.{given_locals};
+ghost use Rattle.dep_iter.specs.Tasks.{IsTask, locals_of};
 ghost use Rattle.dep_iter.specs.declared.link.Link.{Link as LinkValue};
 ghost use Rattle.dep_iter.specs.Arguments.{combinations};
 ghost use Rattle.dep_iter.specs.Walking.{position_fits, targets_left};
@@ -11,11 +12,11 @@ ghost use Rattle.plan_core.specs.declared.target.Target.TheVariants.{Task};
 
 use crate::combining::Combinations;
 use crate::link::Link;
+use crate::locals::Locals;
 use crate::position::{Position, next_target, start};
-use crate::task::{flows_of, locals_of};
+use crate::task::flows_of;
 use plan_core::{Arg, Plan, Target};
 use ptg_base::TaskId;
-use range_space::Numbers;
 use std::marker::Model;
 
 /// The links of one target that are not yet given.
@@ -115,7 +116,7 @@ fn next_link<'a>(
 pub(crate) struct Links<'a> {
     plan: &'a Plan,
     inward: bool,
-    env: Numbers<16>,
+    env: Locals<'a>,
     position: Position<'a>,
     at_hand: TargetLinks,
 }
@@ -125,25 +126,27 @@ impl<'a> Model for Links<'a> {
     ghost use Rattle.dep_iter.specs.declared.link.Link.{Link};
     ghost use Rattle.dep_iter.specs.Links.{all_links};
     ghost use Rattle.dep_iter.specs.Walking.{position_fits, targets_left};
+    ghost use Rattle.dep_iter.specs.Given.{given_locals};
 
     ghost Value = { List Link };
 
-    ghost view = { λ l. l.at_hand ++ all_links l.env (targets_left l.inward l.env l.position) };
+    ghost view = { λ l. l.at_hand ++ all_links (given_locals l.env) (targets_left l.inward (given_locals l.env) l.position) };
 
     ghost invariant = { λ l. (l.position.next_flow + length l.position.flows.now ≤ 8) × IsTrue (position_fits l.plan.now l.position) };
 }
 
 impl<'a> Links<'a> {
-    // All links of a task.
-    pub(crate) fn new(plan: &'a Plan, t: &TaskId, inward: bool) -> Links<'a>
-        requires { IsTask plan.now t.now }
+    // All links of a task with these locals.
+    pub(crate) fn new(plan: &'a Plan, t: &TaskId, env: Locals<'a>, inward: bool) -> Links<'a>
+        requires task { IsTask plan.now t.now }
+        requires locals { given_locals env ≡ locals_of plan.now t.now }
         ensures { result ≡ task_links plan.now t.now inward }
     {
         let flows = flows_of(plan, t);
         Links {
             plan,
             inward,
-            env: locals_of(plan, t),
+            env,
             position: start(flows),
             at_hand: TargetLinks::none(),
         }

@@ -4,6 +4,7 @@ ghost use Rattle.std.specs.Prelude.{◌≡◌, ◌≤◌, length};
 ghost use Rattle.range_space.specs.Tasks.{or_empty};
 ghost use Rattle.dep_iter.specs.Arguments.{arg_values, combinations};
 ghost use Rattle.dep_iter.specs.Edges as edges;
+ghost use Rattle.dep_iter.specs.Tasks as tasks;
 ghost use Rattle.dep_iter.specs.Tasks.{IsTask};
 ghost use Rattle.goal_count.specs.Counting as counting;
 
@@ -87,9 +88,18 @@ pub fn goal(m: &Matched, t: &TaskId) -> u32
     requires { IsTask m.now t.now }
     ensures { result ≡ edges.goal m.now t.now }
 {
+    let env = locals_of(m.plan(), t);
+    goal_under(m, t, env.as_slice())
+}
+
+/// How many edges go into a task with these locals. No edge is walked.
+pub fn goal_under(m: &Matched, t: &TaskId, env: &[i64]) -> u32
+    requires task { IsTask m.now t.now }
+    requires locals { env.now ≡ tasks.locals_of m.now t.now }
+    ensures { result ≡ edges.goal m.now t.now }
+{
     a_task_has_no_more_edges_than_the_job();
     edges_are_links();
     let plan = m.plan();
-    let env = locals_of(plan, t);
-    flows_count(flows_of(plan, t), env.as_slice()) as u32
+    flows_count(flows_of(plan, t), env) as u32
 }

@@ -1,4 +1,4 @@
-use Rattle.std.proofs.Common.{◌≡◌, ◌*◌, ◌<◌, ◌≤◌, length, map, ap, sym, ◌∙◌, rules, arith}
+use Rattle.std.proofs.Common.{◌*◌, ◌<◌, ◌≤◌, length, map, ap, sym, rules, arith}
 use Rattle.range_space.specs.Tasks.{or_empty}
 use Rattle.dep_iter.specs.Arguments.{arg_values, product}
 use Rattle.goal_count.proofs.Sums.{factor-le, length-product}

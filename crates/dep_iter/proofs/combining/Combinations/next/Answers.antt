@@ -1,4 +1,4 @@
-use Rattle.std.proofs.Common.{◌≡◌, ◌∷◌, ap, sym, ◌∙◌}
+use Rattle.std.proofs.Common.{◌∷◌, ap, sym, ◌∙◌}
 use Rattle.dep_iter.specs.Combining.{combinations_left}
 use Rattle.dep_iter.proofs.Odometer.{left-next, left-last, HasOneEach-next}
 use Rattle.dep_iter.proofs.combining.Combinations.next.Goals as goal

@@ -1,19 +1,19 @@
-use Rattle.std.proofs.Common.{◌≡◌, ◌≤◌, length, ap, sym, ◌∙◌, Fits, w32, rules, arith}
+use Rattle.std.proofs.Common.{◌≡◌, ◌≤◌, length, ◌∙◌, rules, arith}
 use Rattle.dep_iter.specs.Edges.{in_edges}
 use Rattle.goal_count.specs.Counting.{flows_count}
 use Rattle.goal_count.proofs.Sums.{length-in_edges}
-use Rattle.goal_count.proofs.count.goal.Goals as goal
-use Rattle.goal_count.proofs.count.goal.Goals.{After-as_slice}
+use Rattle.goal_count.proofs.count.goal_under.Goals as goal
+use Rattle.goal_count.proofs.count.goal_under.Goals.{After-flows_of}
 
-counted : (c : After-as_slice) → flows_count c.as_slice.result.now c.flows_of.result.now ≡ length (in_edges c.args.m.now c.args.t.now)
+counted : (c : After-flows_of) → flows_count c.args.env.now c.flows_of.result.now ≡ length (in_edges c.args.m.now c.args.t.now)
 counted c =
-    rw (c.as_slice.ensures.same, c.locals_of-env.ensures, c.flows_of.ensures.flows, c.plan-plan.ensures.same)
+    rw (c.requires.locals, c.flows_of.ensures.flows, c.plan-plan.ensures.same)
     (length-in_edges c.args.m.now c.args.t.now (c.edges_are_links.ensures.ins c.args.m.now c.args.t.now))
 
-at_most : (c : After-as_slice) → flows_count c.as_slice.result.now c.flows_of.result.now ≤ 4000000
+at_most : (c : After-flows_of) → flows_count c.args.env.now c.flows_of.result.now ≤ 4000000
 at_most c =
     let e = counted c in
-    let f = c.a_task_has_no_more_edges_than_the_job.ensures.ins c.args.m.now c.args.t.now c.requires in
+    let f = c.a_task_has_no_more_edges_than_the_job.ensures.ins c.args.m.now c.args.t.now c.requires.task in
     let g = c.plan-plan.ensures.consistent.in_edges_at_most in
     omega arith
 
