@@ -1,0 +1,6 @@
+pub mod PoolLemmas
+pub mod Lending
+pub mod FlowSizes
+pub mod Arriving
+pub mod Laying
+pub mod Ending

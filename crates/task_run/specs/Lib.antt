@@ -1,0 +1,4 @@
+pub mod Pools
+pub mod PoolList
+pub mod Bench
+pub mod Start

@@ -1,0 +1,155 @@
+//! Where one worker runs tasks.
+
+ghost use Rattle.std.specs.Prelude.{◌≡◌, ◌+◌, ◌<◌, ◌≤◌, [], ◌∷◌, ◌++◌, Some, Ok, Err, length, slice_get, IfOk, OnOk, IfErr, IsSome};
+ghost use Rattle.std.specs.Option.{option_copied};
+ghost use Rattle.body_eval.specs.Element.{tile_of};
+ghost use Rattle.dep_iter.specs.Tasks as tasks;
+ghost use Rattle.flow_meaning.specs.Starting as starting;
+ghost use Rattle.flow_meaning.specs.Backward.{ended, inputs};
+ghost use Rattle.task_run.specs.Bench.{IsBenchOf};
+ghost use Rattle.task_run.specs.Start.{HasInputsFrom, IsStart, MayRun, delivered};
+
+use crate::pools::Pools;
+use crate::start::{Start, next_tile};
+use body_eval::{Scratch, run_body};
+use dep_iter::{Matched, flows_of};
+use dep_shard::Arrivals;
+use plan_core::FlowPlan;
+use ptg_base::{OutOfMemory, Tile};
+use std::alloc::Global;
+use std::marker::Model;
+use term_core::Trap;
+
+/// Where one worker runs tasks, one after another: a place for the tile of each flow, eight tiles of each type for the flows
+/// whose tile comes by no edge, and room for the variables of a body. Only `new` takes memory.
+#[derive(Drop)]
+pub struct Bench {
+    scratch: Scratch,
+    pools: Pools,
+    tiles: [Option<Tile>; 8],
+}
+
+impl Model for Bench {
+    ghost use Rattle.std.specs.Prelude.{◌≡◌, length, take};
+    ghost use Rattle.task_run.specs.Bench.{FitLent, Laid};
+
+    ghost Value = { Laid };
+
+    ghost view = { λ b. record { elems = b.pools.elems; tiles = take (length b.pools.lent) b.tiles } };
+
+    ghost invariant = { λ b. FitLent b.pools.elems b.pools.lent b.tiles × (length b.tiles ≡ 8) };
+}
+
+impl Bench {
+    /// A bench for the tasks of a job.
+    pub fn new(alloc: Global, m: &Matched) -> Result<Bench, OutOfMemory>
+        ensures { IfOk result (IsBenchOf m.now) }
+    {
+        Ok(Bench {
+            scratch: Scratch::new(),
+            pools: Pools::new(alloc, m.plan())?,
+            tiles: [None, None, None, None, None, None, None, None],
+        })
+    }
+
+    // How many flows the task on the bench has.
+    fn flows(&self) -> usize
+        ensures { result ≡ length self.now.tiles }
+    {
+        self.pools.flows()
+    }
+
+    // Lays the tile of the next flow of a task on the bench: the one that arrived, or else the one that its source gives.
+    fn lay(&mut self, start: &Start, flow: &FlowPlan, arrivals: &mut Arrivals)
+        requires start { IsStart start.now.plan.now start.now.given.now start.now.task.now start.now.locals.now }
+        requires elems { self.old.elems ≡ start.now.plan.now.elems }
+        requires room { length self.old.tiles < 8 }
+        requires flow { slice_get (tasks.flows_of start.now.plan.now start.now.task.now) (length self.old.tiles) ≡ Some flow.now }
+        requires inputs { HasInputsFrom start.now.plan.now start.now.given.now start.now.task.now (length self.old.tiles) arrivals.old }
+        ensures elems { self.new.elems ≡ self.old.elems }
+        ensures tiles { self.new.tiles ≡ self.old.tiles ++ starting.starting_tile start.now.plan.now start.now.given.now (delivered start.now.plan.now start.now.given.now) start.now.task.now (length self.old.tiles) flow.now ∷ [] }
+        ensures inputs { HasInputsFrom start.now.plan.now start.now.given.now start.now.task.now (length self.old.tiles + 1) arrivals.new }
+    {
+        let number = self.pools.flows();
+        let tile = next_tile(&mut self.pools, start, flow, arrivals);
+        self.tiles[number] = tile;
+    }
+
+    // Lays the tiles of all flows of a task on the bench.
+    fn lay_all(&mut self, start: &Start, arrivals: &mut Arrivals)
+        requires start { IsStart start.now.plan.now start.now.given.now start.now.task.now start.now.locals.now }
+        requires bench { IsBenchOf start.now.plan.now self.old }
+        requires inputs { arrivals.old ≡ inputs start.now.plan.now start.now.given.now start.now.task.now }
+        ensures elems { self.new.elems ≡ self.old.elems }
+        ensures tiles { self.new.tiles ≡ starting.starting_tiles start.now.plan.now start.now.given.now (delivered start.now.plan.now start.now.given.now) start.now.task.now }
+    {
+        for flow in flows_of(start.plan, start.task) {
+            self.lay(start, flow, arrivals);
+        }
+    }
+
+    // Runs the body of the task whose tiles are on the bench.
+    fn run_laid(&mut self, start: &Start) -> Result<(), Trap>
+        requires start { IsStart start.now.plan.now start.now.given.now start.now.task.now start.now.locals.now }
+        requires tiles { self.old.tiles ≡ starting.starting_tiles start.now.plan.now start.now.given.now (delivered start.now.plan.now start.now.given.now) start.now.task.now }
+        requires runs { IsSome (ended start.now.plan.now start.now.given.now start.now.task.now) }
+        ensures elems { self.new.elems ≡ self.old.elems }
+        ensures ok { OnOk result (ended start.now.plan.now start.now.given.now start.now.task.now ≡ Some (Ok self.new.tiles)) }
+        ensures trap { IfErr result (λ cause. ended start.now.plan.now start.now.given.now start.now.task.now ≡ Some (Err cause)) }
+    {
+        let class = start.plan.class(start.task.class());
+        let flows = self.pools.flows();
+        run_body(
+            &class.body,
+            start.locals,
+            &mut self.tiles[..flows],
+            &mut self.scratch,
+        )
+    }
+
+    /// Runs a task on the tiles that came to it by edges and on those that its other sources give: exactly as the task ends. A
+    /// tile that came is moved; only for the other flows is the source evaluated. It takes no memory.
+    pub fn run(&mut self, start: &Start, arrivals: Arrivals) -> Result<(), Trap>
+        requires bench { IsBenchOf start.now.plan.now self.old }
+        requires start { IsStart start.now.plan.now start.now.given.now start.now.task.now start.now.locals.now }
+        requires inputs { MayRun start.now.plan.now start.now.given.now start.now.task.now arrivals }
+        ensures elems { self.new.elems ≡ self.old.elems }
+        ensures ok { OnOk result (ended start.now.plan.now start.now.given.now start.now.task.now ≡ Some (Ok self.new.tiles)) }
+        ensures trap { IfErr result (λ cause. ended start.now.plan.now start.now.given.now start.now.task.now ≡ Some (Err cause)) }
+    {
+        let mut arrivals = arrivals;
+        self.lay_all(start, &mut arrivals);
+        self.run_laid(start)
+    }
+
+    /// The tile of a flow of the task on the bench, if it has one.
+    pub fn tile(&self, flow: u8) -> Option<&Tile>
+        ensures { option_copied result ≡ tile_of self.now.tiles flow }
+    {
+        if flow as usize >= self.pools.flows() {
+            return None;
+        }
+        self.tiles[flow as usize].as_ref()
+    }
+
+    // Clears the place of the last flow of the task on the bench.
+    fn clear_last(&mut self)
+        requires { 0 < length self.old.tiles }
+        ensures elems { self.new.elems ≡ self.old.elems }
+        ensures fewer { length self.new.tiles + 1 ≡ length self.old.tiles }
+    {
+        let last = self.pools.flows() - 1;
+        let tile = self.tiles[last].take();
+        self.pools.take_back(tile);
+    }
+
+    /// Takes the task off the bench: tiles of the bench come back, and those that came with the task go.
+    pub fn clear(&mut self)
+        ensures elems { self.new.elems ≡ self.old.elems }
+        ensures idle { self.new.tiles ≡ [] }
+    {
+        for _flow in 0..self.flows() {
+            self.clear_last();
+        }
+    }
+}

@@ -1,0 +1,9 @@
+//! One task, run without memory: the tiles that it starts on, its body, and the tiles that it leaves.
+#![tactic(auto)]
+
+mod bench;
+mod pools;
+mod start;
+
+pub use bench::Bench;
+pub use start::Start;
