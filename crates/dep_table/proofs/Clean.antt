@@ -1,0 +1,73 @@
+-- A pass stays clean where its record keeps what a clean pass has.
+use Rattle.std.proofs.Common.{◌≡◌, List, [], ◌∷◌, ◌++◌, length, sym, ap, ◌∙◌, subst, refl, arith}
+use Rattle.atomic_table.specs.Seated.{TableId}
+use Rattle.ptg_base.specs.Lists.{IsIn}
+use Rattle.ptg_base.specs.Task.{Task}
+use Rattle.work_board.specs.Records.{IsClean}
+use Rattle.work_board.specs.declared.record.PassRecord.{PassRecord}
+use Rattle.table_rule.specs.Changes.{new_pass}
+use Rattle.table_rule.specs.Names.{Name, names_after_split, names_split_off}
+use Rattle.table_rule.specs.Plays.{Seated}
+use Rattle.dep_table.specs.Passes.{IsPassOf}
+use Rattle.dep_table.specs.Views.{PassView, shown}
+
+-- the fields that a clean pass is about are the same
+pub record KeepsClean (v w : PassRecord) : Type 0 where
+  pub turns : w.turns ≡ v.turns
+  pub credit : w.credit ≡ v.credit
+  pub claims : w.claims ≡ v.claims
+  pub stamps : w.stamps ≡ v.stamps
+  pub running : w.running ≡ v.running
+
+pub still_clean : (v w : PassRecord) → KeepsClean v w → IsClean v → IsClean w
+still_clean v w k c = record {
+  no_turn = k.turns ∙ c.no_turn;
+  no_credit = k.credit ∙ c.no_credit;
+  stamped = λ t i. let s = c.stamped t (subst (IsIn t) k.claims i) in (s.0, subst (IsIn (t, s.0)) (sym k.stamps) s.1);
+}
+
+-- a pass after a step that keeps these, and the number of its names
+pub still_pass : (table : TableId) (p q : PassView) → IsPassOf table p → q.table ≡ p.table → q.me.1 ≡ p.me.1 → q.stamp ≡ p.stamp → length (shown q).names ≡ 1 → KeepsClean (shown p) (shown q) → IsPassOf table q
+still_pass table p q h of slots stamp names k = record {
+  of = of ∙ h.of;
+  clean = record { no_shard = slots ∙ h.clean.no_shard; clean = still_clean (shown p) (shown q) k h.clean.clean; one_name = names };
+  stamp = λ t runs. let s = h.stamp t (sym k.running ∙ runs) in record { earlier = s.earlier; is_last = k.stamps ∙ (s.is_last ∙ ap (λ n. s.earlier ++ (t, n) ∷ []) (sym stamp)) };
+}
+
+-- the same from what a step says of the seat: `i` is the pass before the step, taken apart
+pub after_step : (table : TableId) (p i q : PassView) (w : PassRecord) → IsPassOf table p → i ≡ p → q.table ≡ i.table → q.stamp ≡ i.stamp → q.me ≡ (w, i.me.1) → length w.names ≡ length (shown i).names → KeepsClean (shown i) w → IsPassOf table q
+after_step table p i q w h is of stamp me names k =
+    let h' : IsPassOf table i = subst (IsPassOf table) (sym is) h in
+    let me0 : shown q ≡ w = ap (λ (m : Seated). m.0) me in
+    still_pass table i q h' of (ap (λ (m : Seated). m.1) me) stamp (ap (λ (u : PassRecord). length u.names) me0 ∙ (names ∙ h'.clean.one_name)) (record {
+      turns = ap (λ (u : PassRecord). u.turns) me0 ∙ k.turns;
+      credit = ap (λ (u : PassRecord). u.credit) me0 ∙ k.credit;
+      claims = ap (λ (u : PassRecord). u.claims) me0 ∙ k.claims;
+      stamps = ap (λ (u : PassRecord). u.stamps) me0 ∙ k.stamps;
+      running = ap (λ (u : PassRecord). u.running) me0 ∙ k.running;
+    })
+
+pub split_length : (l : List Name) → length (names_after_split l) ≡ length l
+split_length [] = refl
+split_length (x ∷ xs) = refl
+
+pub child_length : (l : List Name) → length l ≡ 1 → length (names_split_off l) ≡ 1
+child_length [] h = absurd (omega arith)
+child_length (x ∷ xs) h = refl
+
+-- a pass that was split off is clean
+pub new_pass_of : (table : TableId) (q : PassView) (names : List Name) → q.table ≡ table → q.me ≡ (new_pass names, []) → length names ≡ 1 → IsPassOf table q
+new_pass_of table q names of me one =
+    let me0 : shown q ≡ new_pass names = ap (λ (m : Seated). m.0) me in
+    record {
+      of = of;
+      clean = record {
+        no_shard = ap (λ (m : Seated). m.1) me;
+        clean = record { no_turn = ap (λ (u : PassRecord). u.turns) me0; no_credit = ap (λ (u : PassRecord). u.credit) me0; stamped = λ t i. absurd (subst (IsIn t) (ap (λ (u : PassRecord). u.claims) me0) i) };
+        one_name = ap (λ (u : PassRecord). length u.names) me0 ∙ one;
+      };
+      stamp = λ t runs. absurd (nothing (sym (ap (λ (u : PassRecord). u.running) me0) ∙ runs));
+    }
+  where
+    nothing : {t : Task} → [] ≡ t ∷ [] → ⊥
+    nothing e = cc

@@ -1,0 +1,20 @@
+-- Clean passes: those that a worker has between two calls. Source: this project's own choice.
+use Rattle.std.specs.Prelude.{◌≡◌, [], ◌∷◌, length}
+use Rattle.atomic_table.specs.Seated.{TableId}
+use Rattle.ptg_base.specs.Task.{Task}
+use Rattle.work_board.specs.Looks.{HasStamp}
+use Rattle.work_board.specs.Records.{IsClean}
+use Rattle.table_rule.specs.Plays.{Seated}
+use Rattle.dep_table.specs.Views.{PassView, shown}
+
+-- it holds no shard and no turn, owes the live word nothing, has one name, and each of its claims has a stamp
+pub record IsCleanSeat (m : Seated) : Type 0 where
+  pub no_shard : m.1 ≡ []
+  pub clean : IsClean m.0
+  pub one_name : length m.0.names ≡ 1
+
+-- a clean pass of this table. The stamp of the task that it runs is the one that it drew last
+pub record IsPassOf (table : TableId) (p : PassView) : Type 0 where
+  pub of : p.table ≡ table
+  pub clean : IsCleanSeat p.me
+  pub stamp : (t : Task) → (shown p).running ≡ t ∷ [] → HasStamp (shown p) t p.stamp

@@ -1,0 +1,113 @@
+//! What a table tells, and the calls of a pass that need no turn.
+
+ghost use Rattle.std.specs.Prelude.{◌≡◌, ◌<◌, ◌≤◌, true, false, IsTrue, ◌∷◌, []};
+ghost use Rattle.ptg_base.specs.Task.{Task};
+ghost use Rattle.dep_iter.specs.Tasks.{IsTask};
+ghost use Rattle.work_board.specs.Looks.{HaltedIf, HasHalted, HasStamp, QuietIf};
+ghost use Rattle.table_rule.specs.Changes.{after_split, split_off};
+ghost use Rattle.table_rule.specs.Placing as placing;
+ghost use Rattle.table_rule.specs.Plays.{WasPass};
+ghost use Rattle.dep_table.specs.Passes.{IsPassOf};
+ghost use Rattle.dep_table.specs.Tables.{id_of, job_of};
+ghost use Rattle.dep_table.specs.Views.{shown};
+
+use crate::pass::Pass;
+use crate::table::DepTable;
+use coll_data::Given;
+use dep_iter::{Matched, affinity, place_number};
+use ptg_base::TaskId;
+use table_rule::law::SplitOff;
+
+impl DepTable {
+    /// The plan of the job.
+    pub fn matched(&self) -> &Matched
+        ensures { result.now ≡ (job_of self.now).matched }
+    {
+        &self.job.matched
+    }
+
+    /// The data of the job.
+    pub fn given(&self) -> &Given
+        ensures { result.now ≡ (job_of self.now).given }
+    {
+        &self.job.given
+    }
+
+    /// The number of shards.
+    pub fn shards(&self) -> u32
+        ensures { result ≡ (job_of self.now).shards }
+    {
+        self.job.shards
+    }
+
+    /// Whether all memory was taken before the first step.
+    pub fn is_preloaded(&self) -> bool
+        ensures { result ≡ (job_of self.now).preloaded }
+    {
+        self.job.preloaded
+    }
+
+    /// The number of the shard of a task.
+    #[tactic(auto, unfolding(table_rule::specs::Placing::shard_of))]
+    pub fn shard_of(&self, t: &TaskId) -> u32
+        requires { IsTask (job_of self.now).matched t.now }
+        ensures number { result ≡ placing.shard_of (job_of self.now).matched (job_of self.now).shards t.now }
+        ensures within { result < (job_of self.now).shards }
+    {
+        let plan = self.job.matched.plan();
+        let place = affinity(plan, t);
+        let shards = u64::from(self.job.shards);
+        let coll = u64::from(place.coll) % shards;
+        let number = place_number(plan, &place) % shards;
+        ((coll + number) % shards) as u32
+    }
+
+    /// Splits a pass off another: a new name, and nothing done.
+    pub fn split(&self, pass: &mut Pass) -> Pass
+        requires { IsPassOf (id_of self.now) pass.old }
+        ensures pass { IsPassOf (id_of self.now) pass.new }
+        ensures new { IsPassOf (id_of self.now) result }
+        ensures records { (shown pass.new ≡ after_split (shown pass.old)) × (shown result ≡ split_off (shown pass.old)) }
+    {
+        let seat = self.table.shared.split_seat::<SplitOff>(&mut pass.seat);
+        Pass { seat, stamp: 0 }
+    }
+
+    /// Raises the halt word.
+    pub fn halt(&self, pass: &mut Pass)
+        requires pass { IsPassOf (id_of self.now) pass.old }
+        requires not_preloaded { (job_of self.now).preloaded ≡ false }
+        ensures pass { IsPassOf (id_of self.now) pass.new }
+        ensures halted { HasHalted (shown pass.old) (shown pass.new) }
+    {
+        self.raise_halt(&mut pass.seat);
+    }
+
+    /// Whether the halt word was not 0, at one look. It never is in a preloaded table.
+    pub fn halted(&self, pass: &mut Pass) -> bool
+        requires { IsPassOf (id_of self.now) pass.old }
+        ensures pass { IsPassOf (id_of self.now) pass.new }
+        ensures halted { HaltedIf result (shown pass.old) (shown pass.new) }
+        ensures preloaded { (job_of self.now).preloaded ≡ true → result ≡ false }
+    {
+        self.read_halt(&mut pass.seat) != 0
+    }
+
+    /// Whether the live word was 0, at one look: then no task is ready or runs, now and from now on.
+    pub fn see_quiet(&self, pass: &mut Pass) -> bool
+        requires { IsPassOf (id_of self.now) pass.old }
+        ensures pass { IsPassOf (id_of self.now) pass.new }
+        ensures quiet { QuietIf result (shown pass.old) (shown pass.new) }
+        ensures rule { IsTrue result → WasPass (job_of self.now) (shown pass.new) }
+    {
+        self.read_live(&mut pass.seat) == 0
+    }
+
+    /// The stamp of the task that the pass runs.
+    pub fn stamp(&self, pass: &Pass) -> u64
+        requires pass { IsPassOf (id_of self.now) pass.now }
+        ensures { (t : Task) → (shown pass.now).running ≡ t ∷ [] → HasStamp (shown pass.now) t result }
+    {
+        pass.stamp
+    }
+}

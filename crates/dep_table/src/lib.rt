@@ -1,0 +1,8 @@
+//! The dependency table that workers share: its shards and its words under one rule, and the passes that workers hold.
+#![tactic(auto)]
+
+mod calls;
+pub mod pass;
+mod steps;
+pub mod table;
+mod words;

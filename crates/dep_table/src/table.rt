@@ -1,0 +1,20 @@
+//! The table: its shards and words, and its job.
+
+ghost use Rattle.std.specs.Prelude.{◌≡◌, ◌<◌, ◌≤◌};
+ghost use Rattle.table_rule.specs.Words.{word_count};
+
+use atomic_table::Table;
+use dep_shard::Shard;
+use std::alloc::Global;
+use table_rule::job::Job;
+use table_rule::law::Law;
+use work_board::PassRecord;
+
+/// A dependency table that workers share, each by a pass of its own.
+#[derive(Drop)]
+pub struct DepTable {
+    pub(crate) table: Table<Shard, PassRecord, Job, Law, Global>,
+    pub(crate) job: Job,
+    ghost of_job: { job ≡ table.shared.key },
+    ghost sized: { (table.shared.table_id.words ≡ word_count job.shards) × (table.shared.table_id.slots ≡ job.shards) × (0 < job.shards) × (job.shards ≤ 256) },
+}

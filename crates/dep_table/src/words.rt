@@ -1,0 +1,40 @@
+//! Where the words of a table are.
+
+ghost use Rattle.std.specs.Prelude.{◌≡◌, ◌≤◌, ◌<◌};
+ghost use Rattle.table_rule.specs.Words.{halt_word, live_word, turn_word};
+ghost use Rattle.table_rule.specs.Words as words;
+
+// How far apart the words are: no two that are used are on one line of a cache.
+const STRIDE: usize = 16;
+
+// The turn word of a shard.
+pub(crate) fn turn_index(shard: u32) -> usize
+    requires { shard < 256 }
+    ensures { result ≡ turn_word shard }
+{
+    STRIDE * shard as usize
+}
+
+// The halt word, where there are so many shards.
+pub(crate) fn halt_index(shards: u32) -> usize
+    requires { shards ≤ 256 }
+    ensures { result ≡ halt_word shards }
+{
+    STRIDE * shards as usize
+}
+
+// The live word.
+pub(crate) fn live_index(shards: u32) -> usize
+    requires { shards ≤ 256 }
+    ensures { result ≡ live_word shards }
+{
+    STRIDE * (shards as usize + 1)
+}
+
+// The stamp word.
+pub(crate) fn stamp_index(shards: u32) -> usize
+    requires { shards ≤ 256 }
+    ensures { result ≡ words.stamp_word shards }
+{
+    STRIDE * (shards as usize + 2)
+}
