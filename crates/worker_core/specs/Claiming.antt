@@ -1,0 +1,37 @@
+-- What a worker has after a claim. Source: this project's own choice.
+use Rattle.std.specs.Prelude.{◌≡◌, ℕ, List, [], ◌∷◌, ◌++◌, Bool, true}
+use Rattle.ptg_base.specs.Task.{Task}
+use Rattle.plan_core.specs.declared.plan.Plan.{Plan}
+use Rattle.coll_data.specs.Data.{Data}
+use Rattle.dep_iter.specs.Tasks.{locals_of}
+use Rattle.dep_shard.specs.Arrivals.{FlowTile}
+use Rattle.work_board.specs.declared.record.PassRecord.{PassRecord}
+use Rattle.work_board.specs.Records.{IsStill, KeepsDone}
+use Rattle.work_board.specs.Claims.{AddsClaim, MayStart}
+use Rattle.worker_core.specs.declared.claiming.Found.{Found}
+use Rattle.worker_core.specs.declared.next.Look.{Look}
+use Rattle.worker_core.specs.declared.next.Look.TheVariants as look
+
+-- The pass claimed this task, which may start on these tiles, and these are its locals.
+pub record HasGot (P : Plan) (G : Data) (f : Found) (v w : PassRecord) : Type 0 where
+  pub locals_are : f.locals ≡ locals_of P f.task
+  pub may_start : MayStart P G f.task f.arrivals v
+  pub added : AddsClaim f.task v w
+
+-- The pass has seen quiet, and nothing else changed but its looks.
+pub record IsQuietAfter (v w : PassRecord) : Type 0 where
+  pub quiet : w.quiet ≡ true
+  pub names : w.names ≡ v.names
+  pub running : w.running ≡ v.running
+  pub done : KeepsDone v w
+
+-- what one look for a task found
+abbrev pub Looked : Plan → Data → Look → PassRecord → PassRecord → Type 0
+Looked P G (look.Task f) v w = HasGot P G f v w
+Looked P G look.Quiet v w = IsQuietAfter v w
+Looked P G look.Nothing v w = IsStill v w
+
+-- The same, and where the log keeps what is noted, it has gained the claim with its stamp.
+pub record HasGotLogged (P : Plan) (G : Data) (keeps : Bool) (f : Found) (v w : PassRecord) (old new : List (ℕ × Task)) : Type 0 where
+  pub got : HasGot P G f v w
+  pub noted : keeps ≡ true → new ≡ old ++ (got.added.stamp, f.task) ∷ []

@@ -1,0 +1,48 @@
+-- How a worker sends what a task leaves. Source: DAGuE (Parallel Computing, 2012), where a task that ends satisfies the dependences of its successors.
+use Rattle.std.specs.Prelude.{◌≡◌, List, [], ◌∷◌, ◌++◌, map, IsTrue}
+use Rattle.ptg_base.specs.Lists.{HasNoRepeats, IsIn}
+use Rattle.ptg_base.specs.Task.{Task}
+use Rattle.ptg_base.specs.declared.edge.Item.{Item}
+use Rattle.plan_core.specs.declared.plan.Plan.{Plan}
+use Rattle.coll_data.specs.Data.{Data}
+use Rattle.dep_iter.specs.Items.{item_flow, items}
+use Rattle.dep_iter.specs.Consistent.{IsConsistent}
+use Rattle.flow_meaning.specs.Ending.{has_outputs, output_tile}
+use Rattle.flow_meaning.specs.Backward.{ended}
+use Rattle.flow_meaning.specs.Machine.{Sent, send_count, sender}
+use Rattle.work_board.specs.declared.record.PassRecord.{PassRecord}
+use Rattle.work_board.specs.Records.{KeepsNamesAndMarks, done_by}
+
+-- an item with the tile that its task leaves in the item's flow
+abbrev pub with_output : Plan → Data → Item → Sent
+with_output P G i = record { item = i; tile = output_tile (ended P G (sender i)) (item_flow i) }
+
+-- The pass sent these items, each with the tile that its task leaves. All else stays but the looks and the shard taken last.
+pub record HasSentAll (P : Plan) (G : Data) (is : List Item) (v w : PassRecord) : Type 0 where
+  pub sends : w.sends ≡ v.sends ++ map (with_output P G) is
+  pub claims : w.claims ≡ v.claims
+  pub stamps : w.stamps ≡ v.stamps
+  pub running : w.running ≡ v.running
+  pub kept : KeepsNamesAndMarks v w
+
+-- The pass may send these items one after another: they are items of the task that it runs, which has outputs, and each is there once and was not sent.
+pub record MaySendAll (P : Plan) (G : Data) (t : Task) (is : List Item) (v : PassRecord) : Type 0 where
+  pub runs : v.running ≡ t ∷ []
+  pub outputs : IsTrue (has_outputs (ended P G t))
+  pub are_items : (i : Item) → IsIn i is → IsIn i (items P t)
+  pub once : HasNoRepeats is
+  pub unsent : (i : Item) → IsIn i is → send_count (done_by v) i ≡ 0
+
+-- The pass runs this task of the job and has sent none of its items.
+pub record RunsUnsent (P : Plan) (t : Task) (v : PassRecord) : Type 0 where
+  pub runs : v.running ≡ t ∷ []
+  pub consistent : IsConsistent P
+  pub unsent : (i : Item) → IsIn i (items P t) → send_count (done_by v) i ≡ 0
+
+-- The pass has sent some items more, and claimed nothing.
+pub record HasSentSome (v w : PassRecord) : Type 0 where
+  pub more_sends : List Sent
+  pub names : w.names ≡ v.names
+  pub claims : w.claims ≡ v.claims
+  pub stamps : w.stamps ≡ v.stamps
+  pub sends : w.sends ≡ v.sends ++ more_sends

@@ -1,0 +1,61 @@
+-- What a worker has done. Source: this project's own choice.
+use Rattle.std.specs.Prelude.{◌≡◌, ℕ, List, [], ◌++◌, length, map, true, Bool, IsSome}
+use Rattle.ptg_base.specs.Lists.{IsIn}
+use Rattle.ptg_base.specs.Task.{Task}
+use Rattle.ptg_base.specs.declared.edge.Item.{Item}
+use Rattle.plan_core.specs.declared.plan.Plan.{Plan}
+use Rattle.coll_data.specs.Data.{Data}
+use Rattle.dep_iter.specs.Items.{items}
+use Rattle.flow_meaning.specs.Machine.{Sent, send_count}
+use Rattle.flow_meaning.specs.Sound.{IsFinished}
+use Rattle.work_board.specs.declared.record.PassRecord.{PassRecord}
+use Rattle.work_board.specs.Records.{done_by}
+
+-- claims, each with its stamp, and their tasks
+abbrev pub Stamped : Type 0
+Stamped = List (Task × ℕ)
+
+abbrev pub tasks_of : Stamped → List Task
+tasks_of claims = map (λ (c : Task × ℕ). c.0) claims
+
+-- The pass has these claims more, with their stamps, and maybe more sends; its names stay.
+pub record HasClaimedMore (more : Stamped) (v w : PassRecord) : Type 0 where
+  pub more_sends : List Sent
+  pub names : w.names ≡ v.names
+  pub claims : w.claims ≡ v.claims ++ tasks_of more
+  pub stamps : w.stamps ≡ v.stamps ++ more
+  pub sends : w.sends ≡ v.sends ++ more_sends
+
+-- Each of these tasks was let through the gate, and the pass has sent all its items, or it traps.
+pub record AreFollowed (P : Plan) (G : Data) (lets : Task → Type 0) (tasks : List Task) (w : PassRecord) : Type 0 where
+  pub let_through : (t : Task) → IsIn t tasks → lets t
+  pub finished : (t : Task) → IsIn t tasks → IsFinished P G (done_by w) t
+
+-- The pass claimed so many tasks more, followed each, and runs nothing.
+pub record HasWorked (P : Plan) (G : Data) (lets : Task → Type 0) (ran : ℕ) (v w : PassRecord) : Type 0 where
+  pub more : Stamped
+  pub claimed : HasClaimedMore more v w
+  pub counted : length more ≡ ran
+  pub followed : AreFollowed P G lets (tasks_of more) w
+  pub idle : w.running ≡ []
+
+-- The pass ran the task that it had claimed last: it followed it and runs nothing.
+pub record HasRun (P : Plan) (G : Data) (t : Task) (v w : PassRecord) : Type 0 where
+  pub idle : w.running ≡ []
+  pub finished : IsFinished P G (done_by w) t
+
+-- entries of a log: the stamp before the task
+abbrev pub logged : Stamped → List (ℕ × Task)
+logged claims = map (λ (c : Task × ℕ). (c.1, c.0)) claims
+
+-- The log has gained exactly the new claims of the pass, each with its stamp.
+pub record HasLogged (v w : PassRecord) (old new : List (ℕ × Task)) : Type 0 where
+  pub more : Stamped
+  pub claimed : HasClaimedMore more v w
+  pub gained : new ≡ old ++ logged more
+
+-- the same where the log keeps what is noted
+pub record HasGrown (keeps : Bool) (v w : PassRecord) (old new : List (ℕ × Task)) : Type 0 where
+  pub more : Stamped
+  pub claimed : HasClaimedMore more v w
+  pub gained : keeps ≡ true → new ≡ old ++ logged more

@@ -1,0 +1,120 @@
+//! Claims of tasks.
+
+ghost use Rattle.std.specs.Prelude.{◌≡◌, [], MatchOption, IfNone, IfSome, OnSome};
+ghost use Rattle.dep_iter.specs.Tasks as tasks;
+ghost use Rattle.dep_iter.specs.Tasks.{IsTask};
+ghost use Rattle.work_board.specs.Claims.{AddsClaim, MayStart};
+ghost use Rattle.work_board.specs.Records.{IsStill};
+ghost use Rattle.worker_core.specs.Claiming.{HasGot};
+
+use crate::post::{Post, after_busy};
+use dep_iter::{is_task, locals_of};
+use dep_shard::Arrivals;
+use ptg_base::TaskId;
+use range_space::Numbers;
+use std::sync::Wait;
+use std::thread::Threads;
+use work_board::{Board, Claim, Scan};
+
+// A claimed task with its locals, and the tiles that came to it.
+#[derive(Drop)]
+pub(crate) struct Found {
+    pub(crate) task: TaskId,
+    pub(crate) locals: Numbers<16>,
+    pub(crate) arrivals: Arrivals,
+}
+
+// Claims a task of the job, however long its turn takes. None where it is gone.
+fn claim<R: Threads + Wait + Sync, B: Board, G>(
+    post: &Post<R, B, G>,
+    pass: &mut B::Pass,
+    t: &TaskId,
+) -> Option<Arrivals>
+    requires pass { B.is_pass post.now.board.now pass.old }
+    requires task { IsTask (B.plan post.now.board.now) t.now }
+    requires idle { (B.shown pass.old).running ≡ [] }
+    ensures pass { B.is_pass post.now.board.now pass.new }
+    ensures gone { IfNone result (IsStill (B.shown pass.old) (B.shown pass.new)) }
+    ensures start { IfSome result (λ tiles. MayStart (B.plan post.now.board.now) (B.job_data post.now.board.now) t.now tiles (B.shown pass.old)) }
+    ensures added { OnSome result (AddsClaim t.now (B.shown pass.old) (B.shown pass.new)) }
+{
+    let mut busy = 0;
+    for _ in post.rt.forever() {
+        match post.board.try_claim(pass, t) {
+            Claim::Got(arrivals) => return Some(arrivals),
+            Claim::Gone => return None,
+            Claim::Busy => busy = after_busy(busy),
+        }
+    }
+    unreachable!()
+}
+
+// Claims the task of an id, if it is a task of the job and is not gone.
+pub(crate) fn claim_id<R: Threads + Wait + Sync, B: Board, G>(
+    post: &Post<R, B, G>,
+    pass: &mut B::Pass,
+    id: TaskId,
+) -> Option<Found>
+    requires pass { B.is_pass post.now.board.now pass.old }
+    requires idle { (B.shown pass.old).running ≡ [] }
+    ensures pass { B.is_pass post.now.board.now pass.new }
+    ensures found { MatchOption result (IsStill (B.shown pass.old) (B.shown pass.new)) (λ f. HasGot (B.plan post.now.board.now) (B.job_data post.now.board.now) f (B.shown pass.old) (B.shown pass.new)) }
+{
+    let plan = post.board.matched().plan();
+    if !is_task(plan, &id) {
+        return None;
+    }
+    let locals = locals_of(plan, &id);
+    let arrivals = claim(post, pass, &id)?;
+    Some(Found {
+        task: id,
+        locals,
+        arrivals,
+    })
+}
+
+// Claims the best ready task of the next shard in turn, if one is ready and the shard's turn is free. The shard stays next while it has ready tasks.
+pub(crate) fn scan<R: Threads + Wait + Sync, B: Board, G>(
+    post: &Post<R, B, G>,
+    pass: &mut B::Pass,
+    next: &mut u32,
+) -> Option<Found>
+    requires pass { B.is_pass post.now.board.now pass.old }
+    requires idle { (B.shown pass.old).running ≡ [] }
+    ensures pass { B.is_pass post.now.board.now pass.new }
+    ensures found { MatchOption result (IsStill (B.shown pass.old) (B.shown pass.new)) (λ f. HasGot (B.plan post.now.board.now) (B.job_data post.now.board.now) f (B.shown pass.old) (B.shown pass.new)) }
+{
+    let shards = post.board.shards();
+    if shards == 0 {
+        return None;
+    }
+    if *next >= shards {
+        *next = 0;
+    }
+    match post.board.try_scan(pass, *next) {
+        Scan::Got(task, arrivals) => Some(with_locals(post, task, arrivals)),
+        Scan::Empty | Scan::Busy => {
+            *next += 1;
+            None
+        }
+    }
+}
+
+// A claimed task with its locals.
+fn with_locals<R: Threads + Wait + Sync, B: Board, G>(
+    post: &Post<R, B, G>,
+    task: TaskId,
+    arrivals: Arrivals,
+) -> Found
+    requires { IsTask (B.plan post.now.board.now) task }
+    ensures task { result.task ≡ task }
+    ensures locals { result.locals ≡ tasks.locals_of (B.plan post.now.board.now) task }
+    ensures arrivals { result.arrivals ≡ arrivals }
+{
+    let locals = locals_of(post.board.matched().plan(), &task);
+    Found {
+        task,
+        locals,
+        arrivals,
+    }
+}

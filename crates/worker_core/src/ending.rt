@@ -1,0 +1,57 @@
+//! The end of a task, and its trap.
+
+ghost use Rattle.std.specs.Prelude.{◌≡◌, [], false, OnOk, OnErr};
+ghost use Rattle.work_board.specs.Records.{IsStill, KeepsDone};
+ghost use Rattle.work_board.specs.Sends.{MayEnd, MayTrap};
+ghost use Rattle.worker_core.specs.Ending.{HasEndedOnly};
+
+use crate::post::{Post, after_busy};
+use ptg_base::{OutOfMemory, TaskId};
+use std::sync::Wait;
+use std::thread::Threads;
+use term_core::Trap;
+use work_board::Board;
+
+// Ends the task that the pass runs, however long its turn takes.
+pub(crate) fn end_one<R: Threads + Wait + Sync, B: Board, G>(
+    post: &Post<R, B, G>,
+    pass: &mut B::Pass,
+    t: &TaskId,
+)
+    requires pass { B.is_pass post.now.board.now pass.old }
+    requires task { MayEnd (B.plan post.now.board.now) (B.job_data post.now.board.now) t.now (B.shown pass.old) }
+    ensures pass { B.is_pass post.now.board.now pass.new }
+    ensures ended { HasEndedOnly (B.shown pass.old) (B.shown pass.new) }
+{
+    let mut busy = 0;
+    for _ in post.rt.forever() {
+        if post.board.try_end(pass, t) {
+            return;
+        }
+        busy = after_busy(busy);
+    }
+}
+
+// Notes that the task that the pass runs trapped, however long its turn takes.
+pub(crate) fn trap_one<R: Threads + Wait + Sync, B: Board, G>(
+    post: &Post<R, B, G>,
+    pass: &mut B::Pass,
+    t: &TaskId,
+    cause: Trap,
+) -> Result<(), OutOfMemory>
+    requires pass { B.is_pass post.now.board.now pass.old }
+    requires task { MayTrap (B.plan post.now.board.now) (B.job_data post.now.board.now) t.now cause (B.shown pass.old) }
+    ensures pass { B.is_pass post.now.board.now pass.new }
+    ensures ended { OnOk result (HasEndedOnly (B.shown pass.old) (B.shown pass.new)) }
+    ensures still { OnErr result (IsStill (B.shown pass.old) (B.shown pass.new)) }
+    ensures err { OnErr result (B.preloaded post.now.board.now ≡ false) }
+{
+    let mut busy = 0;
+    for _ in post.rt.forever() {
+        if post.board.try_trap(pass, t, cause)? {
+            return Ok(());
+        }
+        busy = after_busy(busy);
+    }
+    unreachable!()
+}

@@ -1,0 +1,95 @@
+//! The next task of a worker.
+
+ghost use Rattle.std.specs.Prelude.{◌≡◌, [], true, false, OnErr, IfOk, MatchOption};
+ghost use Rattle.ready_deques.specs.Hands.{SameWorker};
+ghost use Rattle.work_board.specs.Records.{IsStill};
+ghost use Rattle.worker_core.specs.Claiming.{HasGot, IsQuietAfter, Looked};
+
+use crate::claiming::{Found, claim_id, scan};
+use crate::post::Post;
+use crate::stealing::take_id;
+use ptg_base::OutOfMemory;
+use ready_deques::Hands;
+use std::sync::Wait;
+use std::thread::{Threads, yield_now};
+use work_board::Board;
+
+// What one look for a task found.
+#[derive(Drop)]
+pub(crate) enum Look {
+    // A task, which is claimed.
+    Task(Found),
+    // All is quiet.
+    Quiet,
+    // No task yet.
+    Nothing,
+}
+
+// Whether all is quiet; if not, other threads may run.
+fn see_quiet<R: Threads + Wait + Sync, B: Board, G>(
+    post: &Post<R, B, G>,
+    pass: &mut B::Pass,
+) -> Look
+    requires { B.is_pass post.now.board.now pass.old }
+    ensures pass { B.is_pass post.now.board.now pass.new }
+    ensures looked { Looked (B.plan post.now.board.now) (B.job_data post.now.board.now) result (B.shown pass.old) (B.shown pass.new) }
+{
+    if post.board.see_quiet(pass) {
+        return Look::Quiet;
+    }
+    yield_now();
+    Look::Nothing
+}
+
+// Looks for a task once: among the worker's own ids, then those of others, then in the next shard.
+fn look_once<R: Threads + Wait + Sync, B: Board, G>(
+    post: &Post<R, B, G>,
+    pass: &mut B::Pass,
+    hands: &mut Hands,
+    next: &mut u32,
+) -> Look
+    requires pass { B.is_pass post.now.board.now pass.old }
+    requires idle { (B.shown pass.old).running ≡ [] }
+    ensures pass { B.is_pass post.now.board.now pass.new }
+    ensures hands { SameWorker hands.old hands.new }
+    ensures looked { Looked (B.plan post.now.board.now) (B.job_data post.now.board.now) result (B.shown pass.old) (B.shown pass.new) }
+{
+    if let Some(id) = take_id(post.rt, hands) {
+        return match claim_id(post, pass, id) {
+            Some(found) => Look::Task(found),
+            None => Look::Nothing,
+        };
+    }
+    match scan(post, pass, next) {
+        Some(found) => Look::Task(found),
+        None => see_quiet(post, pass),
+    }
+}
+
+// The next task, which is claimed; none where all is quiet. Want of memory where the board is halted.
+pub(crate) fn next_task<R: Threads + Wait + Sync, B: Board, G>(
+    post: &Post<R, B, G>,
+    pass: &mut B::Pass,
+    hands: &mut Hands,
+    next: &mut u32,
+) -> Result<Option<Found>, OutOfMemory>
+    requires pass { B.is_pass post.now.board.now pass.old }
+    requires idle { (B.shown pass.old).running ≡ [] }
+    ensures pass { B.is_pass post.now.board.now pass.new }
+    ensures hands { SameWorker hands.old hands.new }
+    ensures found { IfOk result (λ found. MatchOption found (IsQuietAfter (B.shown pass.old) (B.shown pass.new)) (λ f. HasGot (B.plan post.now.board.now) (B.job_data post.now.board.now) f (B.shown pass.old) (B.shown pass.new))) }
+    ensures still { OnErr result (IsStill (B.shown pass.old) (B.shown pass.new)) }
+    ensures halted { OnErr result (B.preloaded post.now.board.now ≡ false) }
+{
+    for _ in post.rt.forever() {
+        if post.board.halted(pass) {
+            return Err(OutOfMemory);
+        }
+        match look_once(post, pass, hands, next) {
+            Look::Task(found) => return Ok(Some(found)),
+            Look::Quiet => return Ok(None),
+            Look::Nothing => {}
+        }
+    }
+    unreachable!()
+}

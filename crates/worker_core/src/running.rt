@@ -1,0 +1,129 @@
+//! One claimed task, from the gate to its end.
+
+ghost use Rattle.std.specs.Prelude.{◌≡◌, false, Ok, Err, Some, OnOk, OnErr, IfErr};
+ghost use Rattle.dep_iter.specs.Tasks.{IsTask, locals_of};
+ghost use Rattle.flow_meaning.specs.Backward.{ended};
+ghost use Rattle.ready_deques.specs.Hands.{SameWorker};
+ghost use Rattle.task_run.specs.Bench.{IsBenchOf};
+ghost use Rattle.task_run.specs.Start.{MayRun};
+ghost use Rattle.work_board.specs.Sends.{MayTrap};
+ghost use Rattle.worker_core.specs.Sending.{HasSentSome, RunsUnsent};
+ghost use Rattle.worker_core.specs.Starting.{HasStarted};
+ghost use Rattle.worker_core.specs.Working.{HasRun};
+
+use crate::claiming::Found;
+use crate::ending::{end_one, trap_one};
+use crate::gate::Gate;
+use crate::post::{Post, TaskAt};
+use crate::sending::send_all;
+use dep_shard::Arrivals;
+use ptg_base::OutOfMemory;
+use ready_deques::Hands;
+use std::sync::Wait;
+use std::thread::Threads;
+use task_run::{Bench, Start};
+use term_core::Trap;
+use work_board::Board;
+
+// Runs the body of a task that the gate has let through, on the bench.
+fn run_body<R: Threads + Wait + Sync, B: Board, G: Gate>(
+    post: &Post<R, B, G>,
+    bench: &mut Bench,
+    at: &TaskAt,
+    arrivals: Arrivals,
+) -> Result<(), Trap>
+    requires gate { G.lets post.now.gate.now post.now.worker at.now.task.now }
+    requires bench { IsBenchOf (B.plan post.now.board.now) bench.old }
+    requires task { IsTask (B.plan post.now.board.now) at.now.task.now }
+    requires locals { at.now.locals.now ≡ locals_of (B.plan post.now.board.now) at.now.task.now }
+    requires inputs { MayRun (B.plan post.now.board.now) (B.job_data post.now.board.now) at.now.task.now arrivals }
+    ensures elems { bench.new.elems ≡ bench.old.elems }
+    ensures ok { OnOk result (ended (B.plan post.now.board.now) (B.job_data post.now.board.now) at.now.task.now ≡ Some (Ok bench.new.tiles)) }
+    ensures trap { IfErr result (λ cause. ended (B.plan post.now.board.now) (B.job_data post.now.board.now) at.now.task.now ≡ Some (Err cause)) }
+{
+    let start = Start {
+        plan: post.board.matched().plan(),
+        given: post.board.given(),
+        task: at.task,
+        locals: at.locals,
+    };
+    bench.run(&start, arrivals)
+}
+
+// Sends what the task on the bench leaves, and ends it.
+fn send_and_end<R: Threads + Wait + Sync, B: Board, G>(
+    post: &Post<R, B, G>,
+    pass: &mut B::Pass,
+    hands: &mut Hands,
+    bench: &Bench,
+    at: &TaskAt,
+) -> Result<(), OutOfMemory>
+    requires pass { B.is_pass post.now.board.now pass.old }
+    requires task { IsTask (B.plan post.now.board.now) at.now.task.now }
+    requires tiles { ended (B.plan post.now.board.now) (B.job_data post.now.board.now) at.now.task.now ≡ Some (Ok bench.now.tiles) }
+    requires unsent { RunsUnsent (B.plan post.now.board.now) at.now.task.now (B.shown pass.old) }
+    ensures pass { B.is_pass post.now.board.now pass.new }
+    ensures hands { SameWorker hands.old hands.new }
+    ensures some { HasSentSome (B.shown pass.old) (B.shown pass.new) }
+    ensures run { OnOk result (HasRun (B.plan post.now.board.now) (B.job_data post.now.board.now) at.now.task.now (B.shown pass.old) (B.shown pass.new)) }
+    ensures err { OnErr result (B.preloaded post.now.board.now ≡ false) }
+{
+    send_all(post, pass, hands, bench, at)?;
+    end_one(post, pass, at.task);
+    Ok(())
+}
+
+// Notes the trap of the task.
+fn note_trap<R: Threads + Wait + Sync, B: Board, G>(
+    post: &Post<R, B, G>,
+    pass: &mut B::Pass,
+    at: &TaskAt,
+    cause: Trap,
+) -> Result<(), OutOfMemory>
+    requires pass { B.is_pass post.now.board.now pass.old }
+    requires task { MayTrap (B.plan post.now.board.now) (B.job_data post.now.board.now) at.now.task.now cause (B.shown pass.old) }
+    ensures pass { B.is_pass post.now.board.now pass.new }
+    ensures some { HasSentSome (B.shown pass.old) (B.shown pass.new) }
+    ensures run { OnOk result (HasRun (B.plan post.now.board.now) (B.job_data post.now.board.now) at.now.task.now (B.shown pass.old) (B.shown pass.new)) }
+    ensures err { OnErr result (B.preloaded post.now.board.now ≡ false) }
+{
+    trap_one(post, pass, at.task, cause)
+}
+
+// Runs a claimed task after the gate: its body, then its sends and its end, or its trap. The bench is cleared whatever comes.
+pub(crate) fn run_found<R: Threads + Wait + Sync, B: Board, G: Gate>(
+    post: &Post<R, B, G>,
+    pass: &mut B::Pass,
+    hands: &mut Hands,
+    bench: &mut Bench,
+    found: Found,
+) -> Result<(), OutOfMemory>
+    requires pass { B.is_pass post.now.board.now pass.old }
+    requires bench { IsBenchOf (B.plan post.now.board.now) bench.old }
+    requires started { HasStarted (B.plan post.now.board.now) (B.job_data post.now.board.now) found (B.shown pass.old) }
+    ensures pass { B.is_pass post.now.board.now pass.new }
+    ensures hands { SameWorker hands.old hands.new }
+    ensures bench { IsBenchOf (B.plan post.now.board.now) bench.new }
+    ensures gate { G.lets post.now.gate.now post.now.worker found.task }
+    ensures some { HasSentSome (B.shown pass.old) (B.shown pass.new) }
+    ensures run { OnOk result (HasRun (B.plan post.now.board.now) (B.job_data post.now.board.now) found.task (B.shown pass.old) (B.shown pass.new)) }
+    ensures err { OnErr result (B.preloaded post.now.board.now ≡ false) }
+{
+    let Found {
+        task,
+        locals,
+        arrivals,
+    } = found;
+    let at = TaskAt {
+        task: &task,
+        locals: locals.as_slice(),
+    };
+    let _ = post.board.matched().plan();
+    post.gate.before_body(post.rt, post.worker, &task);
+    let answer = match run_body(post, bench, &at, arrivals) {
+        Ok(()) => send_and_end(post, pass, hands, bench, &at),
+        Err(cause) => note_trap(post, pass, &at, cause),
+    };
+    bench.clear();
+    answer
+}

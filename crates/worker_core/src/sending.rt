@@ -1,0 +1,161 @@
+//! Sends of what a task leaves.
+
+ghost use Rattle.std.specs.Prelude.{◌≡◌, ◌∷◌, [], false, Ok, Some, map, OnOk, OnErr};
+ghost use Rattle.std.specs.Option.{option_copied};
+ghost use Rattle.ptg_base.specs.declared.edge.Edge.{Edge as EdgeValue};
+ghost use Rattle.ptg_base.specs.declared.edge.WriteBack.{WriteBack as WriteBackValue};
+ghost use Rattle.ptg_base.specs.declared.edge.Item.TheVariants as item;
+ghost use Rattle.dep_iter.specs.Items as items;
+ghost use Rattle.dep_iter.specs.Tasks.{IsTask};
+ghost use Rattle.flow_meaning.specs.Backward.{ended};
+ghost use Rattle.ready_deques.specs.Hands.{SameWorker};
+ghost use Rattle.work_board.specs.Records.{IsStill};
+ghost use Rattle.work_board.specs.Sends.{AddsSend, IsNext, MayEnd};
+ghost use Rattle.worker_core.specs.Sending.{HasSentAll, HasSentSome, MaySendAll, RunsUnsent, with_output};
+
+use crate::post::{Post, TaskAt, after_busy, copy_of_task};
+use dep_iter::{out_edges, write_backs};
+use ptg_base::{Edge, Item, OutOfMemory, Tile, WriteBack};
+use ready_deques::Hands;
+use std::sync::Wait;
+use std::thread::Threads;
+use task_run::Bench;
+use work_board::{Board, Sent};
+
+// Sends an item, however long its turn takes. Whether its edge was the last that its target waited for.
+fn send_one<R: Threads + Wait + Sync, B: Board, G>(
+    post: &Post<R, B, G>,
+    pass: &mut B::Pass,
+    item: &Item,
+    tile: Option<&Tile>,
+) -> Result<bool, OutOfMemory>
+    requires pass { B.is_pass post.now.board.now pass.old }
+    requires item { IsNext (B.plan post.now.board.now) (B.job_data post.now.board.now) item.now (option_copied tile) (B.shown pass.old) }
+    ensures pass { B.is_pass post.now.board.now pass.new }
+    ensures sent { OnOk result (AddsSend item.now (option_copied tile.entry) (B.shown pass.old) (B.shown pass.new)) }
+    ensures still { OnErr result (IsStill (B.shown pass.old) (B.shown pass.new)) }
+    ensures err { OnErr result (B.preloaded post.now.board.now ≡ false) }
+{
+    let mut busy = 0;
+    for _ in post.rt.forever() {
+        match post.board.try_send(pass, item, tile)? {
+            Sent::Fired => return Ok(true),
+            Sent::Waits | Sent::Kept => return Ok(false),
+            Sent::Busy => busy = after_busy(busy),
+        }
+    }
+    unreachable!()
+}
+
+// Sends an edge. A target that fires is the worker's newest id; one that does not fit is found by a scan.
+fn send_edge<R: Threads + Wait + Sync, B: Board, G>(
+    post: &Post<R, B, G>,
+    pass: &mut B::Pass,
+    hands: &mut Hands,
+    bench: &Bench,
+    edge: Edge,
+) -> Result<(), OutOfMemory>
+    requires pass { B.is_pass post.now.board.now pass.old }
+    requires tiles { ended (B.plan post.now.board.now) (B.job_data post.now.board.now) edge.from ≡ Some (Ok bench.now.tiles) }
+    requires next { IsNext (B.plan post.now.board.now) (B.job_data post.now.board.now) (item.Edge edge) (with_output (B.plan post.now.board.now) (B.job_data post.now.board.now) (item.Edge edge)).tile (B.shown pass.old) }
+    ensures pass { B.is_pass post.now.board.now pass.new }
+    ensures hands { SameWorker hands.old hands.new }
+    ensures sent { OnOk result (HasSentAll (B.plan post.now.board.now) (B.job_data post.now.board.now) (item.Edge edge ∷ []) (B.shown pass.old) (B.shown pass.new)) }
+    ensures still { OnErr result (IsStill (B.shown pass.old) (B.shown pass.new)) }
+    ensures err { OnErr result (B.preloaded post.now.board.now ≡ false) }
+{
+    let target = copy_of_task(&edge.to);
+    let tile = bench.tile(edge.out_flow);
+    if send_one(post, pass, &Item::Edge(edge), tile)? {
+        let _dropped = hands.push(target);
+    }
+    Ok(())
+}
+
+// Sends the edges out of a task.
+fn send_edges<R: Threads + Wait + Sync, B: Board, G>(
+    post: &Post<R, B, G>,
+    pass: &mut B::Pass,
+    hands: &mut Hands,
+    bench: &Bench,
+    at: &TaskAt,
+) -> Result<(), OutOfMemory>
+    requires pass { B.is_pass post.now.board.now pass.old }
+    requires task { IsTask (B.plan post.now.board.now) at.now.task.now }
+    requires tiles { ended (B.plan post.now.board.now) (B.job_data post.now.board.now) at.now.task.now ≡ Some (Ok bench.now.tiles) }
+    requires edges { MaySendAll (B.plan post.now.board.now) (B.job_data post.now.board.now) at.now.task.now (map (λ (e : EdgeValue). item.Edge e) (items.out_edges (B.plan post.now.board.now) at.now.task.now)) (B.shown pass.old) }
+    ensures pass { B.is_pass post.now.board.now pass.new }
+    ensures hands { SameWorker hands.old hands.new }
+    ensures sent { OnOk result (HasSentAll (B.plan post.now.board.now) (B.job_data post.now.board.now) (map (λ (e : EdgeValue). item.Edge e) (items.out_edges (B.plan post.now.board.now) at.now.task.now)) (B.shown pass.old) (B.shown pass.new)) }
+    ensures some { OnErr result (HasSentSome (B.shown pass.old) (B.shown pass.new)) }
+    ensures err { OnErr result (B.preloaded post.now.board.now ≡ false) }
+{
+    for edge in out_edges(post.board.matched().plan(), at.task) {
+        send_edge(post, pass, hands, bench, edge)?;
+    }
+    Ok(())
+}
+
+// Sends a write-back.
+fn send_write<R: Threads + Wait + Sync, B: Board, G>(
+    post: &Post<R, B, G>,
+    pass: &mut B::Pass,
+    bench: &Bench,
+    write: WriteBack,
+) -> Result<(), OutOfMemory>
+    requires pass { B.is_pass post.now.board.now pass.old }
+    requires tiles { ended (B.plan post.now.board.now) (B.job_data post.now.board.now) write.from ≡ Some (Ok bench.now.tiles) }
+    requires next { IsNext (B.plan post.now.board.now) (B.job_data post.now.board.now) (item.Write write) (with_output (B.plan post.now.board.now) (B.job_data post.now.board.now) (item.Write write)).tile (B.shown pass.old) }
+    ensures pass { B.is_pass post.now.board.now pass.new }
+    ensures sent { OnOk result (HasSentAll (B.plan post.now.board.now) (B.job_data post.now.board.now) (item.Write write ∷ []) (B.shown pass.old) (B.shown pass.new)) }
+    ensures still { OnErr result (IsStill (B.shown pass.old) (B.shown pass.new)) }
+    ensures err { OnErr result (B.preloaded post.now.board.now ≡ false) }
+{
+    let tile = bench.tile(write.flow);
+    let _fired = send_one(post, pass, &Item::Write(write), tile)?;
+    Ok(())
+}
+
+// Sends the write-backs of a task.
+fn send_writes<R: Threads + Wait + Sync, B: Board, G>(
+    post: &Post<R, B, G>,
+    pass: &mut B::Pass,
+    bench: &Bench,
+    at: &TaskAt,
+) -> Result<(), OutOfMemory>
+    requires pass { B.is_pass post.now.board.now pass.old }
+    requires task { IsTask (B.plan post.now.board.now) at.now.task.now }
+    requires tiles { ended (B.plan post.now.board.now) (B.job_data post.now.board.now) at.now.task.now ≡ Some (Ok bench.now.tiles) }
+    requires writes { MaySendAll (B.plan post.now.board.now) (B.job_data post.now.board.now) at.now.task.now (map (λ (w : WriteBackValue). item.Write w) (items.write_backs (B.plan post.now.board.now) at.now.task.now)) (B.shown pass.old) }
+    ensures pass { B.is_pass post.now.board.now pass.new }
+    ensures sent { OnOk result (HasSentAll (B.plan post.now.board.now) (B.job_data post.now.board.now) (map (λ (w : WriteBackValue). item.Write w) (items.write_backs (B.plan post.now.board.now) at.now.task.now)) (B.shown pass.old) (B.shown pass.new)) }
+    ensures some { OnErr result (HasSentSome (B.shown pass.old) (B.shown pass.new)) }
+    ensures err { OnErr result (B.preloaded post.now.board.now ≡ false) }
+{
+    for write in write_backs(post.board.matched().plan(), at.task) {
+        send_write(post, pass, bench, write)?;
+    }
+    Ok(())
+}
+
+// Sends all items of a task, each once: first its edges, then its write-backs.
+pub(crate) fn send_all<R: Threads + Wait + Sync, B: Board, G>(
+    post: &Post<R, B, G>,
+    pass: &mut B::Pass,
+    hands: &mut Hands,
+    bench: &Bench,
+    at: &TaskAt,
+) -> Result<(), OutOfMemory>
+    requires pass { B.is_pass post.now.board.now pass.old }
+    requires task { IsTask (B.plan post.now.board.now) at.now.task.now }
+    requires tiles { ended (B.plan post.now.board.now) (B.job_data post.now.board.now) at.now.task.now ≡ Some (Ok bench.now.tiles) }
+    requires unsent { RunsUnsent (B.plan post.now.board.now) at.now.task.now (B.shown pass.old) }
+    ensures pass { B.is_pass post.now.board.now pass.new }
+    ensures hands { SameWorker hands.old hands.new }
+    ensures sent { OnOk result (MayEnd (B.plan post.now.board.now) (B.job_data post.now.board.now) at.now.task.now (B.shown pass.new)) }
+    ensures some { HasSentSome (B.shown pass.old) (B.shown pass.new) }
+    ensures err { OnErr result (B.preloaded post.now.board.now ≡ false) }
+{
+    send_edges(post, pass, hands, bench, at)?;
+    send_writes(post, pass, bench, at)
+}

@@ -1,0 +1,183 @@
+//! A worker's whole work.
+
+ghost use Rattle.std.specs.Prelude.{◌≡◌, [], true, false, IsOk, IfOk, IfNone, MatchOption, OnErr, OnOk};
+ghost use Rattle.ready_deques.specs.Hands.{SameWorker};
+ghost use Rattle.task_run.specs.Bench.{IsBenchOf};
+ghost use Rattle.work_board.specs.Looks.{KnowsHalted};
+ghost use Rattle.work_board.specs.Records.{IsLaterRecord, IsStill};
+ghost use Rattle.worker_core.specs.Claiming.{HasGotLogged, IsQuietAfter};
+ghost use Rattle.worker_core.specs.Working.{HasGrown, HasLogged, HasWorked};
+
+use crate::claiming::Found;
+use crate::gate::Gate;
+use crate::log::{Log, NoLog};
+use crate::next::next_task;
+use crate::post::{Post, copy_of_task};
+use crate::running::run_found;
+use ptg_base::{OutOfMemory, TaskId};
+use ready_deques::Hands;
+use std::sync::Wait;
+use std::thread::Threads;
+use task_run::Bench;
+use work_board::Board;
+
+/// What a worker did.
+#[derive(Clone, Copy, Debug, PartialEq, Eq)]
+pub struct Worked {
+    /// How many tasks it claimed and ran.
+    pub ran: u64,
+}
+
+// Claims the next task, and notes it in the log. None where all is quiet.
+fn claim_next<R: Threads + Wait + Sync, B: Board, G, L: Log>(
+    post: &Post<R, B, G>,
+    pass: &mut B::Pass,
+    hands: &mut Hands,
+    log: &mut L,
+    next: &mut u32,
+) -> Result<Option<Found>, OutOfMemory>
+    requires pass { B.is_pass post.now.board.now pass.old }
+    requires idle { (B.shown pass.old).running ≡ [] }
+    requires log { L.keeps ≡ true → B.preloaded post.now.board.now ≡ false }
+    ensures pass { B.is_pass post.now.board.now pass.new }
+    ensures hands { SameWorker hands.old hands.new }
+    ensures found { IfOk result (λ found. MatchOption found (IsQuietAfter (B.shown pass.old) (B.shown pass.new)) (λ f. HasGotLogged (B.plan post.now.board.now) (B.job_data post.now.board.now) L.keeps f (B.shown pass.old) (B.shown pass.new) (L.entries log.old) (L.entries log.new))) }
+    ensures none { IfOk result (λ found. IfNone found (L.entries log.new ≡ L.entries log.old)) }
+    ensures still { OnErr result (IsStill (B.shown pass.old) (B.shown pass.new) × (L.entries log.new ≡ L.entries log.old)) }
+    ensures err { OnErr result (B.preloaded post.now.board.now ≡ false) }
+{
+    log.make_room()?;
+    let Some(found) = next_task(post, pass, hands, next)? else {
+        return Ok(None);
+    };
+    log.note(post.board.stamp(pass), copy_of_task(&found.task));
+    Ok(Some(found))
+}
+
+// Claims and runs tasks until all is quiet.
+fn run_all<R: Threads + Wait + Sync, B: Board, G: Gate, L: Log>(
+    post: &Post<R, B, G>,
+    pass: &mut B::Pass,
+    hands: &mut Hands,
+    bench: &mut Bench,
+    log: &mut L,
+) -> Result<Worked, OutOfMemory>
+    requires pass { B.is_pass post.now.board.now pass.old }
+    requires idle { (B.shown pass.old).running ≡ [] }
+    requires bench { IsBenchOf (B.plan post.now.board.now) bench.old }
+    requires log { L.keeps ≡ true → B.preloaded post.now.board.now ≡ false }
+    ensures pass { B.is_pass post.now.board.now pass.new }
+    ensures hands { SameWorker hands.old hands.new }
+    ensures bench { IsBenchOf (B.plan post.now.board.now) bench.new }
+    ensures worked { IfOk result (λ worked. HasWorked (B.plan post.now.board.now) (B.job_data post.now.board.now) (G.lets post.now.gate.now post.now.worker) worked.ran (B.shown pass.old) (B.shown pass.new)) }
+    ensures quiet { OnOk result ((B.shown pass.new).quiet ≡ true) }
+    ensures grown { HasGrown L.keeps (B.shown pass.old) (B.shown pass.new) (L.entries log.old) (L.entries log.new) }
+    ensures err { OnErr result (B.preloaded post.now.board.now ≡ false) }
+{
+    let mut next = post.worker;
+    for ran in 0..u64::MAX {
+        match claim_next(post, pass, hands, log, &mut next)? {
+            Some(found) => run_found(post, pass, hands, bench, found)?,
+            None => return Ok(Worked { ran }),
+        }
+    }
+    // No job has so many tasks.
+    for _ in post.rt.forever() {}
+    unreachable!()
+}
+
+// The same; where memory is wanted, all workers stop.
+fn work_with<R: Threads + Wait + Sync, B: Board, G: Gate, L: Log>(
+    post: &Post<R, B, G>,
+    pass: &mut B::Pass,
+    hands: &mut Hands,
+    bench: &mut Bench,
+    log: &mut L,
+) -> Result<Worked, OutOfMemory>
+    requires pass { B.is_pass post.now.board.now pass.old }
+    requires idle { (B.shown pass.old).running ≡ [] }
+    requires bench { IsBenchOf (B.plan post.now.board.now) bench.old }
+    requires log { L.keeps ≡ true → B.preloaded post.now.board.now ≡ false }
+    ensures pass { B.is_pass post.now.board.now pass.new }
+    ensures hands { SameWorker hands.old hands.new }
+    ensures bench { IsBenchOf (B.plan post.now.board.now) bench.new }
+    ensures worked { IfOk result (λ worked. HasWorked (B.plan post.now.board.now) (B.job_data post.now.board.now) (G.lets post.now.gate.now post.now.worker) worked.ran (B.shown pass.old) (B.shown pass.new)) }
+    ensures quiet { OnOk result ((B.shown pass.new).quiet ≡ true) }
+    ensures grown { HasGrown L.keeps (B.shown pass.old) (B.shown pass.new) (L.entries log.old) (L.entries log.new) }
+    ensures halted { OnErr result (KnowsHalted (B.shown pass.new)) }
+    ensures err { OnErr result (B.preloaded post.now.board.now ≡ false) }
+{
+    match run_all(post, pass, hands, bench, log) {
+        Ok(worked) => Ok(worked),
+        Err(refused) => {
+            post.board.halt(pass);
+            Err(refused)
+        }
+    }
+}
+
+/// Works at a board until all is quiet: takes the next ready task, of its own, of another worker or of a shard, runs it after the
+/// gate, and sends each of its items once, or notes its trap. Ok only where the pass has seen quiet and runs nothing. Want of
+/// memory only where a call answered it or the board is halted, which it is then; never at a preloaded board. It may wait.
+pub fn work<R: Threads + Wait + Sync, B: Board, G: Gate>(
+    rt: &R,
+    worker: u32,
+    board: &B,
+    pass: &mut B::Pass,
+    hands: &mut Hands,
+    gate: &G,
+    bench: &mut Bench,
+) -> Result<Worked, OutOfMemory>
+    requires pass { B.is_pass board.now pass.old }
+    requires idle { (B.shown pass.old).running ≡ [] }
+    requires bench { IsBenchOf (B.plan board.now) bench.old }
+    ensures pass { B.is_pass board.now pass.new }
+    ensures hands { SameWorker hands.old hands.new }
+    ensures bench { IsBenchOf (B.plan board.now) bench.new }
+    ensures later { IsLaterRecord (B.shown pass.old) (B.shown pass.new) }
+    ensures worked { IfOk result (λ worked. HasWorked (B.plan board.now) (B.job_data board.now) (G.lets gate.now worker) worked.ran (B.shown pass.old) (B.shown pass.new)) }
+    ensures quiet { OnOk result ((B.shown pass.new).quiet ≡ true) }
+    ensures halted { OnErr result (KnowsHalted (B.shown pass.new)) }
+    ensures preloaded { B.preloaded board.now ≡ true → IsOk result }
+{
+    let post = Post {
+        rt,
+        board,
+        gate,
+        worker,
+    };
+    work_with(&post, pass, hands, bench, &mut NoLog)
+}
+
+/// The same, for a board that is not preloaded. It takes room in the log before each claim; afterwards, whatever the answer, the
+/// log has gained exactly the claims of the pass, each with its stamp.
+pub fn work_logged<R: Threads + Wait + Sync, B: Board, G: Gate>(
+    rt: &R,
+    worker: u32,
+    board: &B,
+    pass: &mut B::Pass,
+    hands: &mut Hands,
+    gate: &G,
+    bench: &mut Bench,
+    log: &mut Vec<(u64, TaskId)>,
+) -> Result<Worked, OutOfMemory>
+    requires pass { B.is_pass board.now pass.old }
+    requires idle { (B.shown pass.old).running ≡ [] }
+    requires bench { IsBenchOf (B.plan board.now) bench.old }
+    requires not_preloaded { B.preloaded board.now ≡ false }
+    ensures pass { B.is_pass board.now pass.new }
+    ensures hands { SameWorker hands.old hands.new }
+    ensures bench { IsBenchOf (B.plan board.now) bench.new }
+    ensures worked { IfOk result (λ worked. HasWorked (B.plan board.now) (B.job_data board.now) (G.lets gate.now worker) worked.ran (B.shown pass.old) (B.shown pass.new)) }
+    ensures quiet { OnOk result ((B.shown pass.new).quiet ≡ true) }
+    ensures logged { HasLogged (B.shown pass.old) (B.shown pass.new) log.old.items log.new.items }
+    ensures halted { OnErr result (KnowsHalted (B.shown pass.new)) }
+{
+    let post = Post {
+        rt,
+        board,
+        gate,
+        worker,
+    };
+    work_with(&post, pass, hands, bench, log)
+}
