@@ -1,11 +1,12 @@
 -- A pass stays clean where its record keeps what a clean pass has.
-use Rattle.std.proofs.Common.{◌≡◌, List, [], ◌∷◌, ◌++◌, length, sym, ap, ◌∙◌, subst, refl, arith}
+use Rattle.std.proofs.Common.{ℕ, ◌≡◌, List, [], ◌∷◌, ◌++◌, length, sym, ap, ◌∙◌, subst, refl, arith}
 use Rattle.atomic_table.specs.Seated.{TableId}
 use Rattle.ptg_base.specs.Lists.{IsIn}
 use Rattle.ptg_base.specs.Task.{Task}
-use Rattle.work_board.specs.Records.{IsClean}
+use Rattle.work_board.specs.Records.{FoundBusy, IsClean}
+use Rattle.work_board.specs.Word.{Word}
 use Rattle.work_board.specs.declared.record.PassRecord.{PassRecord}
-use Rattle.table_rule.specs.Changes.{new_pass}
+use Rattle.table_rule.specs.Changes.{new_pass, with_look}
 use Rattle.table_rule.specs.Names.{Name, names_after_split, names_split_off}
 use Rattle.table_rule.specs.Plays.{Seated}
 use Rattle.dep_table.specs.Passes.{IsPassOf}
@@ -71,3 +72,13 @@ new_pass_of table q names of me one =
   where
     nothing : {t : Task} → [] ≡ t ∷ [] → ⊥
     nothing e = cc
+
+-- in its one look the pass found that a word was not 0
+pub found_busy : (p i : PassView) (n : Seated) (word : Word) (r : ℕ) → i ≡ p → n ≡ (with_look i.me.0 word r, i.me.1) → (r ≡ 0 → ⊥) → FoundBusy word (shown p) n.0
+found_busy p i n word r is me held = subst (λ (m : Seated). FoundBusy word (shown p) m.0) (sym me) (subst (λ (v : PassRecord). FoundBusy word v (with_look i.me.0 word r)) (ap shown is) (record {
+  word = refl;
+  taken = held;
+  looks = refl;
+  last = refl;
+  still = record { kept = record { names = refl; turns = refl; quiet = refl; halts = refl; credit = refl }; done = record { claims = refl; stamps = refl; sends = refl }; running = refl };
+}))

@@ -1,3 +1,4 @@
 pub mod Clean
 pub mod StepsAt
 pub mod Sums
+pub mod Turns

@@ -1,12 +1,14 @@
 -- The steps on words other than turns, at the word that a function computed and under the key of its table.
-use Rattle.std.proofs.Common.{◌≡◌, ℕ, sym, subst, false, Option, Some}
+use Rattle.std.proofs.Common.{◌≡◌, ℕ, ◌<◌, sym, subst, false, Option, None, Some}
 use mathlib.Core.Option.{none}
 use Rattle.atomic_table.specs.Table.{Allows, step}
 use Rattle.table_rule.specs.declared.job.Job.{Job}
-use Rattle.table_rule.specs.Plays.{Seated, raised_halt, read_halt, read_live}
+use Rattle.table_rule.specs.Plays.{HasName, HasTurn, Seated, left, raised_halt, read_halt, read_live, took}
 use Rattle.table_rule.specs.Rule.{Rule}
-use Rattle.table_rule.specs.Words.{halt_word, live_word}
-use Rattle.table_rule.proofs.Looking.{reads_halt}
+use Rattle.table_rule.specs.Words.{halt_word, live_word, turn_word}
+use Rattle.dep_shard.specs.Content.{Content, IsUnchanged, Uses}
+use Rattle.table_rule.proofs.Giving.{leaves}
+use Rattle.table_rule.proofs.Looking.{reads_halt, takes_turn}
 use Rattle.table_rule.proofs.WordSteps.{raises_halt, reads_live}
 
 pub raises_halt_at : (j key : Job) → j ≡ key → (word n id : ℕ) (m : Seated) → word ≡ halt_word j.shards → j.preloaded ≡ false → Allows (Rule key) n id m word (λ _. 1) (λ _. raised_halt (step n word 1 0 none) m 1)
@@ -17,3 +19,10 @@ reads_halt_at e j key event same word n id m at = subst (λ (k : Job). Allows (R
 
 pub reads_live_at : (e : Option Job) (j key : Job) → e ≡ Some j → j ≡ key → (word n id : ℕ) (m : Seated) → word ≡ live_word j.shards → Allows (Rule key) n id m word (λ x. x) (read_live e (step n word 0 0 none) m)
 reads_live_at e j key event same word n id m at = subst (λ (k : Job). Allows (Rule k) n id m word (λ x. x) (read_live e (step n word 0 0 none) m)) same (subst (λ (o : Option Job). Allows (Rule j) n id m word (λ x. x) (read_live o (step n word 0 0 none) m)) (sym event) (subst (λ (i : ℕ). Allows (Rule j) n id m i (λ x. x) (read_live (Some j) (step n i 0 0 none) m)) (sym at) (reads_live j n id m)))
+
+pub takes_at : (e : Option Job) (j key : Job) (k k' : ℕ) → e ≡ Some j → j ≡ key → k' ≡ k → (word n id : ℕ) (m : Seated) → word ≡ turn_word k → k < j.shards → HasName m.0 → Allows (Rule key) n id m word (λ _. 1) (took e k' (step n word 1 0 none) m)
+takes_at e j key k k' event same here word n id m at near named = subst (λ (i : Job). Allows (Rule i) n id m word (λ _. 1) (took e k' (step n word 1 0 none) m)) same (subst (λ (o : Option Job). Allows (Rule j) n id m word (λ _. 1) (took o k' (step n word 1 0 none) m)) (sym event)
+    (subst (λ (i : ℕ). Allows (Rule j) n id m word (λ _. 1) (took (Some j) i (step n word 1 0 none) m)) (sym here) (subst (λ (i : ℕ). Allows (Rule j) n id m i (λ _. 1) (took (Some j) k (step n i 1 0 none) m)) (sym at) (takes_turn j n id m k near named))))
+
+pub leaves_at : (j key : Job) → j ≡ key → (word n id k : ℕ) (m : Seated) (y z : Content) → word ≡ turn_word k → HasTurn m k y z 0 → IsUnchanged y z → Uses y.spare z.spare 0 None 0 0 → Allows (Rule key) n id m word (λ _. 0) (λ _. left (step n word 0 0 none) m 0)
+leaves_at j key same word n id k m y z at turn unchanged uses = subst (λ (i : Job). Allows (Rule i) n id m word (λ _. 0) (λ _. left (step n word 0 0 none) m 0)) same (subst (λ (i : ℕ). Allows (Rule j) n id m i (λ _. 0) (λ _. left (step n i 0 0 none) m 0)) (sym at) (leaves j n id m k y z turn unchanged uses))

@@ -1,3 +1,4 @@
 pub mod Views
 pub mod Passes
 pub mod Tables
+pub mod Turns

@@ -5,4 +5,6 @@ mod calls;
 pub mod pass;
 mod steps;
 pub mod table;
+pub mod turn;
+mod turn_steps;
 mod words;

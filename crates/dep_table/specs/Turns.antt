@@ -1,0 +1,42 @@
+-- A turn that a pass holds. Source: this project's own choice.
+use Rattle.std.specs.Prelude.{◌≡◌, ℕ, ◌<◌, List, [], ◌∷◌, length, None}
+use Rattle.ptg_base.specs.Task.{Task}
+use Rattle.dep_shard.specs.Arrivals.{FlowTile}
+use Rattle.dep_shard.specs.Content.{Content, IsUnchanged, Takes, Uses}
+use Rattle.work_board.specs.Looks.{HasStamp}
+use Rattle.work_board.specs.Records.{IsClean}
+use Rattle.work_board.specs.declared.record.PassRecord.{PassRecord}
+use Rattle.table_rule.specs.Changes.{with_turn}
+use Rattle.table_rule.specs.Plays.{HasTurn, Seated, WasSeen}
+use Rattle.dep_table.specs.declared.turn.Turn.{Turn}
+use Rattle.dep_table.specs.Tables.{id_of, job_of}
+
+-- the turn of a pass that was clean, with the record v, when it was taken: the table met its rule then, the shard had y₀, and by now at most spares have grown and it has y
+pub record IsTurnOf (t : Turn) (v : PassRecord) (y₀ y : Content) : Type 0 where
+  pub of : t.pass.now.table ≡ id_of t.table.now
+  pub within : t.shard < (job_of t.table.now).shards
+  pub me : t.pass.now.me ≡ (with_turn v t.shard y₀, (t.shard, y) ∷ [])
+  pub same : IsUnchanged y₀ y
+  pub spares : Uses y₀.spare y.spare 0 None 0 0
+  pub seen : WasSeen (job_of t.table.now) t.shard v y₀
+  pub clean : IsClean v
+  pub one_name : length v.names ≡ 1
+  pub stamp : (u : Task) → v.running ≡ u ∷ [] → HasStamp v u t.pass.now.stamp
+
+abbrev pub IsTurn : Turn → Type 0
+IsTurn t = (v : PassRecord) × (y₀ : Content) × (y : Content) × IsTurnOf t v y₀ y
+
+-- what a pass may give a turn back with: nothing but spares that grew, or a ready entry that was taken out
+pub record Leaves (k : ℕ) (m : Seated) : Type 0 where
+  pub before : Content
+  pub after : Content
+  pub turn : HasTurn m k before after 0
+  pub same : IsUnchanged before after
+  pub spares : Uses before.spare after.spare 0 None 0 0
+
+pub record Claims (k : ℕ) (t : Task) (tiles : List FlowTile) (m : Seated) : Type 0 where
+  pub before : Content
+  pub after : Content
+  pub turn : HasTurn m k before after 0
+  pub takes : Takes before after t tiles
+  pub spares : Uses before.spare after.spare 0 None 0 0

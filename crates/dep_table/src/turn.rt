@@ -1,0 +1,61 @@
+//! A turn that was taken: the one pass that holds it may read and write its shard.
+
+ghost use Rattle.std.specs.Prelude.{◌≡◌, ◌<◌, IfErr, IfNone, IfSome, IfOk, true, []};
+ghost use Rattle.dep_shard.specs.Content.{Content, HasNoReady, IsBest};
+ghost use Rattle.work_board.specs.Records.{FoundBusy, OnlyTook};
+ghost use Rattle.work_board.specs.Word as word;
+ghost use Rattle.work_board.specs.declared.record.PassRecord.{PassRecord};
+ghost use Rattle.dep_table.specs.Passes.{IsPassOf};
+ghost use Rattle.dep_table.specs.Tables.{id_of, job_of};
+ghost use Rattle.dep_table.specs.Turns.{IsTurn, IsTurnOf};
+ghost use Rattle.dep_table.specs.Views.{shown};
+
+use crate::pass::Pass;
+use crate::table::DepTable;
+use ptg_base::TaskId;
+
+/// The turn of a shard, with the pass that took it. It has no `Drop`: one of the calls that take it gives the turn back.
+pub struct Turn<'a> {
+    pub(crate) table: &'a DepTable,
+    pub(crate) pass: &'a mut Pass,
+    pub(crate) shard: u32,
+}
+
+/// Another pass had the turn. The pass that was lent comes back.
+pub struct Busy<'a> {
+    pub pass: &'a mut Pass,
+}
+
+impl DepTable {
+    /// Tries to take the turn of a shard, in one step on its word: busy only where another pass had it then.
+    pub fn try_turn<'a>(&'a self, pass: &'a mut Pass, shard: u32) -> Result<Turn<'a>, Busy<'a>>
+        requires pass { IsPassOf (id_of self.now) pass.old }
+        requires shard { shard < (job_of self.now).shards }
+        ensures same { IfOk result (λ t. (t.pass.ghost_name ≡ pass.entry.ghost_name) × (t.table.now ≡ self.now) × (t.shard ≡ shard)) }
+        ensures turn { IfOk result (λ t. (y : Content) × IsTurnOf t (shown pass.old) y y) }
+        ensures name { IfErr result (λ b. b.pass.ghost_name ≡ pass.entry.ghost_name) }
+        ensures busy { IfErr result (λ b. IsPassOf (id_of self.now) b.pass.now × FoundBusy (word.Turn shard) (shown pass.old) (shown b.pass.now)) }
+    {
+        let found = self.take(&mut pass.seat, shard);
+        if found != 0 {
+            return Err(Busy { pass });
+        }
+        Ok(Turn {
+            table: self,
+            pass,
+            shard,
+        })
+    }
+}
+
+impl<'a> Turn<'a> {
+    /// Gives the turn back, and nothing else.
+    pub fn leave(self)
+        requires turn { IsTurn self }
+        ensures pass { IsPassOf (id_of self.entry.table.now) self.exit.1.0.now }
+        ensures left { (v : PassRecord) (y z : Content) → IsTurnOf self.entry v y z → OnlyTook self.entry.shard v (shown self.exit.1.0.now) }
+    {
+        let Turn { table, pass, shard } = self;
+        table.give(&mut pass.seat, shard);
+    }
+}
