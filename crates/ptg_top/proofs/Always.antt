@@ -4,7 +4,8 @@ use Rattle.std.specs.Prelude.{Option, None}
 use Rattle.ptg_io.specs.Files.{file_of}
 use Rattle.ptg_io.specs.Sink.{appended}
 use Rattle.ptg_words.specs.declared.order.Order.{Order}
-use Rattle.ptg_words.specs.Words.{Orders, OrderOrUsage}
+use Rattle.ptg_words.specs.Laws.{OrderOrUsage}
+use Rattle.ptg_words.specs.Words.{Orders}
 use Rattle.ptg_words.proofs.OneOrder.{one_order}
 use Rattle.jdf_print.specs.Spelling.{spelling}
 use Rattle.jdf_read.proofs.Either.{tree_or_fault}

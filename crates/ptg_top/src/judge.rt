@@ -11,7 +11,7 @@ use crate::showing::show;
 use crate::verdict::Verdict;
 use ptg_base::{OutOfMemory, Text};
 use ptg_io::Files;
-use ptg_words::{WordsRefusal, words};
+use ptg_words::{WordsRefusal, files_are_text, words};
 use std::alloc::Global;
 
 /// The verdict on arguments and files.
@@ -21,6 +21,7 @@ pub fn judge<F: Files>(alloc: Global, list: &[Text], files: &mut F) -> Result<Ve
     ensures judged { IfOk result (IsVerdictOnWords list.now (F.contents files.old) (F.faults files.old) (F.faults files.new)) }
     ensures fit { IfOk result HasFittingJob }
 {
+    files_are_text();
     match words(alloc, list) {
         Ok(order) => match request_of(order) {
             Some(request) => carry_out(alloc, &request, files),
