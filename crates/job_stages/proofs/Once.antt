@@ -63,17 +63,14 @@ job_once job (verdicts.Data f) (verdicts.Data g) h k = ap verdicts.Data (h.1 ∙
 job_once job (verdicts.Data f) (verdicts.Jdf g) h k = absurd (lacks_or_has job h.0 k.0)
 job_once job (verdicts.Data f) (verdicts.Inconsistent Q g) h k = absurd (lacks_or_has job h.0 k.0.globals)
 job_once job (verdicts.Data f) (verdicts.Consistent Q b) h k = absurd (lacks_or_has job h.0 k.0.globals)
-job_once job (verdicts.Data f) (verdicts.Answered Q o) h k = absurd k
 job_once job (verdicts.Jdf f) (verdicts.Data g) h k = absurd (lacks_or_has job k.0 h.0)
 job_once job (verdicts.Jdf f) (verdicts.Jdf g) h k = ap verdicts.Jdf (one_first_fault job f g h.1 k.1)
 job_once job (verdicts.Jdf f) (verdicts.Inconsistent Q g) h k = absurd (a_plan_has_no_fault job Q f k.0.plan h.1)
 job_once job (verdicts.Jdf f) (verdicts.Consistent Q b) h k = absurd (a_plan_has_no_fault job Q f k.0.plan h.1)
-job_once job (verdicts.Jdf f) (verdicts.Answered Q o) h k = absurd k
 job_once job (verdicts.Inconsistent P f) (verdicts.Data g) h k = absurd (lacks_or_has job k.0 h.0.globals)
 job_once job (verdicts.Inconsistent P f) (verdicts.Jdf g) h k = absurd (a_plan_has_no_fault job P g h.0.plan k.1)
 job_once job (verdicts.Inconsistent P f) (verdicts.Inconsistent Q g) h k = same_inconsistency job P Q f g h.0 k.0 h.1 k.1
 job_once job (verdicts.Inconsistent P f) (verdicts.Consistent Q b) h k = absurd (consistent_none Q f k.1 (fault_at job P Q f h.0 k.0 h.1))
-job_once job (verdicts.Inconsistent P f) (verdicts.Answered Q o) h k = absurd k
 job_once job (verdicts.Consistent P a) (verdicts.Data g) h k = absurd (lacks_or_has job k.0 h.0.globals)
 job_once job (verdicts.Consistent P a) (verdicts.Jdf g) h k = absurd (a_plan_has_no_fault job P g h.0.plan k.1)
 job_once job (verdicts.Consistent P a) (verdicts.Inconsistent Q g) h k = absurd (consistent_none P g h.1 (fault_at job Q P g k.0 h.0 k.1))
@@ -81,8 +78,6 @@ job_once job (verdicts.Consistent P a) (verdicts.Consistent Q b) h k =
     let plans = same_plan job P Q h.0 k.0 in
     let givens = h.2 ∙ sym k.2 in
     λ i. verdicts.Consistent (plans i) (givens i)
-job_once job (verdicts.Consistent P a) (verdicts.Answered Q o) h k = absurd k
-job_once job (verdicts.Answered P o) w h k = absurd h
 
 -- ---- two texts
 

@@ -1,5 +1,5 @@
 pub mod DataText
 pub mod Stages
 pub mod Verdict
-pub mod Answered
+pub mod Fitting
 pub mod Laws

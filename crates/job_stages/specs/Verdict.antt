@@ -22,14 +22,12 @@ abbrev pub missing_name : Data → DataFault
 missing_name given = record { row = given.rows_read + 1; code = MissingName }
 
 -- A JDF with its data denotes this verdict: a global that the data lack; else the first fault of the JDF's names and kinds; else
--- the first fault of the plan, with the plan, whose names are printed; else the plan, which is consistent, with the data. It is
--- not run.
+-- the first fault of the plan, with the plan, whose names are printed; else the plan, which is consistent, with the data.
 abbrev pub JobDenotes : Job → JobVerdict → Type 0
 JobDenotes job (verdicts.Data fault) = IsLacking job × (fault ≡ missing_name job.given)
 JobDenotes job (verdicts.Jdf fault) = HasGlobals job × types.IsFirstFault job fault
 JobDenotes job (verdicts.Inconsistent P fault) = HasPlan job P × edges.IsFirstFault P fault
 JobDenotes job (verdicts.Consistent P given) = HasPlan job P × IsConsistent P × (given ≡ job.given)
-JobDenotes job (verdicts.Answered P outcome) = ⊥
 
 -- the JDF's text has this first fault
 abbrev pub JdfTextDenotes : List ℕ → JobVerdict → Type 0

@@ -5,7 +5,7 @@ ghost use Rattle.check_names.specs.Names.{Job};
 ghost use Rattle.jdf_tree.specs.Jdf.{IsJdf};
 ghost use Rattle.jdf_tree.specs.TreeLimits.{IsWithinLimits};
 ghost use Rattle.plan_data.specs.Fit.{DataFit};
-ghost use Rattle.job_stages.specs.Answered.{IsOfItsPlan};
+ghost use Rattle.job_stages.specs.Fitting.{HasFittingData};
 ghost use Rattle.job_stages.specs.Stages.{HasPlan};
 ghost use Rattle.job_stages.specs.Verdict.{JobDenotes, TextsDenote};
 ghost use Rattle.job_stages.specs.declared.verdict.JobVerdict.{JobVerdict as Verdict};
@@ -34,7 +34,7 @@ pub fn judge_texts(
     // What they denote is answered, unless memory runs out.
     ensures only { (v : Verdict) → TextsDenote jdf_text.now data_text.now v → IfOk result (λ w. w ≡ v) }
     // And it may be run.
-    ensures fit { IfOk result IsOfItsPlan }
+    ensures fit { IfOk result HasFittingData }
 {
     one_verdict();
     match tree_of(alloc, jdf_text) {
@@ -48,7 +48,7 @@ pub fn judge_texts(
 pub fn judge_data(alloc: Global, jdf: &Jdf, data_text: &[u8]) -> Result<JobVerdict, OutOfMemory>
     requires { IsWithinLimits jdf.now }
     ensures found { (text : List ℕ) → IsJdf text jdf.now → IfOk result (TextsDenote text data_text.now) }
-    ensures fit { IfOk result IsOfItsPlan }
+    ensures fit { IfOk result HasFittingData }
 {
     match given_of(alloc, data_text) {
         Ok(given) => judge_job(alloc, jdf, given),
@@ -61,7 +61,7 @@ pub fn judge_data(alloc: Global, jdf: &Jdf, data_text: &[u8]) -> Result<JobVerdi
 fn judge_job(alloc: Global, jdf: &Jdf, given: Given) -> Result<JobVerdict, OutOfMemory>
     requires { IsWithinLimits jdf.now }
     ensures found { IfOk result (JobDenotes (record { jdf = jdf.now; given = given })) }
-    ensures fit { IfOk result IsOfItsPlan }
+    ensures fit { IfOk result HasFittingData }
 {
     if missing(alloc, jdf, &given)? {
         return Ok(JobVerdict::Data(missing_name(&given)?));
@@ -77,7 +77,7 @@ fn judge_job(alloc: Global, jdf: &Jdf, given: Given) -> Result<JobVerdict, OutOf
 fn judge_plan(alloc: Global, plan: Plan, given: Given) -> Result<JobVerdict, OutOfMemory>
     requires { DataFit plan.colls plan.elems given }
     ensures found { (job : Job) → HasPlan job plan → given ≡ job.given → IfOk result (JobDenotes job) }
-    ensures fit { IfOk result IsOfItsPlan }
+    ensures fit { IfOk result HasFittingData }
 {
     match match_edges(alloc, plan) {
         Ok(matched) => Ok(JobVerdict::Consistent(matched, given)),

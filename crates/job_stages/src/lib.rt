@@ -1,14 +1,12 @@
 //! What the text of a JDF and the text of its data come to: a refusal, a plan that is not consistent, or a consistent plan.
 #![tactic(auto)]
 
-mod answering;
 mod data_text;
 mod jdf_text;
 mod judging;
 mod laws;
 mod verdict;
 
-pub use answering::answer_of;
 pub use data_text::{data_too_long, given_of};
 pub use jdf_text::{jdf_too_long, tree_of};
 pub use judging::{judge_data, judge_texts};

@@ -3,7 +3,6 @@
 use coll_data::{DataFault, Given};
 use dep_iter::Matched;
 use edge_match::MatchFault;
-use flow_meaning::Outcome;
 use jdf_lex::JdfFault;
 use plan_core::Plan;
 
@@ -18,6 +17,4 @@ pub enum JobVerdict {
     Inconsistent(Plan, MatchFault),
     /// The plan is consistent; these are its data.
     Consistent(Matched, Given),
-    /// The plan is consistent, and this is its answer on its data.
-    Answered(Matched, Outcome),
 }

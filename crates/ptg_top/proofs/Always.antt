@@ -4,20 +4,24 @@ use Rattle.std.specs.Prelude.{Option, None}
 use Rattle.ptg_io.specs.Files.{file_of}
 use Rattle.ptg_io.specs.Sink.{appended}
 use Rattle.ptg_words.specs.declared.order.Order.{Order}
-use Rattle.ptg_words.specs.Words.{Orders, OrderOrUsage}
+use Rattle.ptg_words.specs.Laws.{OrderOrUsage}
+use Rattle.ptg_words.specs.Words.{Orders}
 use Rattle.ptg_words.proofs.OneOrder.{one_order}
 use Rattle.jdf_print.specs.Spelling.{spelling}
+use Rattle.flow_meaning.specs.Answer.{answer}
 use Rattle.jdf_read.proofs.Either.{tree_or_fault}
 use Rattle.job_stages.specs.declared.verdict.JobVerdict.TheVariants as jobs
 use Rattle.job_stages.proofs.Always.{texts_some}
 use Rattle.ptg_top.specs.declared.request.Request.{Request}
 use Rattle.ptg_top.specs.declared.request.Request.TheVariants.{Run, Show, Check}
-use Rattle.ptg_top.specs.declared.verdict.Verdict.{Verdict}
-use Rattle.ptg_top.specs.declared.verdict.Verdict.TheVariants as verdicts
+use Rattle.ptg_top.specs.Denotation as verdicts
+use Rattle.ptg_top.specs.Denotation.{Denotation}
 use Rattle.ptg_top.specs.Requests.{Requests, request_of}
-use Rattle.ptg_top.specs.JobFiles.{Entries, ContentsDenote, with_answer}
+use Rattle.ptg_top.specs.JobFiles.{Entries, ContentsDenote}
 use Rattle.ptg_top.specs.Meaning.{ContentShows, IsNoOrder, RequestDenotes, Shows, SomeMeaning}
 use Rattle.ptg_top.specs.Headline.{text_of, status_of, SomeOutput}
+use Rattle.ptg_top.specs.Answering.{IsAnswer}
+use Rattle.ptg_top.proofs.Answered.{some_on}
 use Rattle.ptg_top.proofs.Checked.{fault_refuses}
 
 -- ---- what is asked
@@ -41,17 +45,17 @@ asked_or_none either words = elim (either words) [
 
 -- ---- what the files denote
 
-shows_some : (text : List ℕ) → (v : Verdict) × Shows text v
+shows_some : (text : List ℕ) → (v : Denotation) × Shows text v
 shows_some text = elim (tree_or_fault text) [
   | inl tree ↦ (verdicts.Spelling (spelling tree.0), inr (tree.0, tree.1, refl))
   | inr w ↦ (verdicts.Job (jobs.Jdf w.0), inl (fault_refuses text w.0 w.1))
 ]
 
-content_shows_some : (name : List ℕ) (content : Option (List ℕ)) → (v : Verdict) × ContentShows name content v
+content_shows_some : (name : List ℕ) (content : Option (List ℕ)) → (v : Denotation) × ContentShows name content v
 content_shows_some name None = (verdicts.Unread name, refl)
 content_shows_some name (Some text) = shows_some text
 
-contents_some : (jdf tiles : List ℕ) (a b : Option (List ℕ)) → (v : Verdict) × ContentsDenote jdf tiles a b v
+contents_some : (jdf tiles : List ℕ) (a b : Option (List ℕ)) → (v : Denotation) × ContentsDenote jdf tiles a b v
 contents_some jdf tiles None b = (verdicts.Unread jdf, refl)
 contents_some jdf tiles (Some text) None = elim (tree_or_fault text) [
   | inl tree ↦ (verdicts.Unread tiles, inr (tree.0, tree.1, refl))
@@ -59,8 +63,10 @@ contents_some jdf tiles (Some text) None = elim (tree_or_fault text) [
 ]
 contents_some jdf tiles (Some text) (Some data_text) = let job = texts_some text data_text in (verdicts.Job job.0, (job.0, job.1, refl))
 
-request_some : (files : Entries) (request : Request) → (v : Verdict) × RequestDenotes files request v
-request_some files (Run jdf tiles) = let checked = contents_some jdf tiles (file_of files jdf) (file_of files tiles) in (with_answer checked.0, (checked.0, checked.1, refl))
+request_some : (files : Entries) (request : Request) → (v : Denotation) × RequestDenotes files request v
+request_some files (Run jdf tiles) = let checked = contents_some jdf tiles (file_of files jdf) (file_of files tiles) in
+    let found = some_on IsAnswer (λ P given. (verdicts.Answered P (answer P given), refl)) checked.0 in
+    (found.0, (checked.0, checked.1, found.1))
 request_some files (Show jdf) = content_shows_some jdf (file_of files jdf)
 request_some files (Check jdf tiles) = contents_some jdf tiles (file_of files jdf) (file_of files tiles)
 

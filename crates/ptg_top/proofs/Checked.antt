@@ -17,8 +17,9 @@ use Rattle.job_stages.specs.DataText.{too_long}
 use Rattle.job_stages.specs.Verdict.{TextsDenote}
 use Rattle.job_stages.proofs.Once.{jdf_text_once, texts_once}
 use Rattle.ptg_top.specs.declared.request.Request.TheVariants.{Check}
+use Rattle.ptg_top.specs.Denotation as verdicts
 use Rattle.ptg_top.specs.declared.verdict.Verdict.{Verdict}
-use Rattle.ptg_top.specs.declared.verdict.Verdict.TheVariants as verdicts
+use Rattle.ptg_top.specs.Denotation.{Denotation, denoted}
 use Rattle.ptg_top.specs.JobFiles.{Entries, RefusesText, ContentsDenote, FilesDenote}
 use Rattle.ptg_top.specs.Steps.{CheckOfDataEndsWith, CheckOfTextEndsWith}
 use Rattle.ptg_top.specs.Reports.{IsOfTexts, IsVerdictOnRequest}
@@ -40,7 +41,7 @@ pub long_refuses : (text : List ℕ) (fault : JdfFault) → fault ≡ record { s
 long_refuses text fault e long = fault_refuses text fault (inl (record { long = long; fault_is = e }))
 
 -- a verdict on a job is one on texts
-pub job_is_of_texts : (v : Verdict) (job : JobVerdict) → v ≡ verdicts.Job job → IsOfTexts v
+pub job_is_of_texts : (v : Denotation) (job : JobVerdict) → v ≡ verdicts.Job job → IsOfTexts v
 job_is_of_texts v job e = subst IsOfTexts (sym e) tt
 
 module _ (contents : Option Entries) (old new : ℕ) (text tiles : List ℕ) where
@@ -62,22 +63,23 @@ module _ (contents : Option Entries) (old new : ℕ) (text tiles : List ℕ) whe
       )
 
   -- a JDF's text that is that of a tree
-  pub tree_ends : (J : Jdf) (r : Result Verdict OutOfMemory) → IsJdf text J → IfOk r (CheckOfDataEndsWith contents old new text tiles) → IfOk r (CheckOfTextEndsWith contents old new text tiles)
+  pub tree_ends : (J : Jdf) (r : Result Verdict OutOfMemory) → IsJdf text J → IfOk r (λ v. CheckOfDataEndsWith contents old new text tiles (denoted v))
+      → IfOk r (λ v. CheckOfTextEndsWith contents old new text tiles (denoted v))
   tree_ends J (Ok v) tree h = inr (J, tree, h)
   tree_ends J (Err x) tree h = tt
 
 -- a fault of the JDF's text is denoted whatever the data file is, and whether it is there or not
-refused_whatever : (jdf tiles text : List ℕ) (other : Option (List ℕ)) (v : Verdict) → RefusesText text v → ContentsDenote jdf tiles (Some text) other v
+refused_whatever : (jdf tiles text : List ℕ) (other : Option (List ℕ)) (v : Denotation) → RefusesText text v → ContentsDenote jdf tiles (Some text) other v
 refused_whatever jdf tiles text None v h = inl h
 refused_whatever jdf tiles text (Some data_text) v h = (h.0, inl h.1, h.2)
 
 -- what the contents of a JDF file that is there denote, the files denote
-files_denote : (files : Entries) (jdf tiles text : List ℕ) (v : Verdict) → file_of files jdf ≡ Some text → ContentsDenote jdf tiles (Some text) (file_of files tiles) v → FilesDenote files jdf tiles v
+files_denote : (files : Entries) (jdf tiles text : List ℕ) (v : Denotation) → file_of files jdf ≡ Some text → ContentsDenote jdf tiles (Some text) (file_of files tiles) v → FilesDenote files jdf tiles v
 files_denote files jdf tiles text v there h = subst (λ (o : Option (List ℕ)). ContentsDenote jdf tiles o (file_of files tiles) v) (sym there) h
 
 module _ (contents : Option Entries) (old new : List ℕ → ℕ) (jdf tiles : List ℕ) where
   -- the check of the JDF's text, which was read, is the check of the files
-  text_ends : (mid : ℕ) (text : List ℕ) (v : Verdict) → old tiles ≤ mid → ((files : Entries) → contents ≡ Some files → file_of files jdf ≡ Some text)
+  text_ends : (mid : ℕ) (text : List ℕ) (v : Denotation) → old tiles ≤ mid → ((files : Entries) → contents ≡ Some files → file_of files jdf ≡ Some text)
       → CheckOfTextEndsWith contents mid (new tiles) text tiles v → IsVerdictOnRequest contents old new (Check jdf tiles) v
   text_ends mid text v le there (inl h) =
       inr (job_is_of_texts v h.0 h.2, λ files t. files_denote files jdf tiles text v (there files t) (refused_whatever jdf tiles text (file_of files tiles) v h))
@@ -92,8 +94,8 @@ module _ (contents : Option Entries) (old new : List ℕ → ℕ) (jdf tiles : L
       )
 
   pub text_result_ends : (mid : ℕ) (text : List ℕ) (r : Result Verdict OutOfMemory) → old tiles ≤ mid → ((files : Entries) → contents ≡ Some files → file_of files jdf ≡ Some text)
-      → IfOk r (CheckOfTextEndsWith contents mid (new tiles) text tiles) → IfOk r (IsVerdictOnRequest contents old new (Check jdf tiles))
-  text_result_ends mid text (Ok v) le there h = text_ends mid text v le there h
+      → IfOk r (λ v. CheckOfTextEndsWith contents mid (new tiles) text tiles (denoted v)) → IfOk r (λ v. IsVerdictOnRequest contents old new (Check jdf tiles) (denoted v))
+  text_result_ends mid text (Ok v) le there h = text_ends mid text (denoted v) le there h
   text_result_ends mid text (Err x) le there h = tt
 
   -- a JDF file that is too long
@@ -104,18 +106,18 @@ module _ (contents : Option Entries) (old new : List ℕ → ℕ) (jdf tiles : L
         tt,
         λ files t.
             let at = long files t in
-            let v : Verdict = verdicts.Job (jobs.Jdf fault) in
+            let v : Denotation = verdicts.Job (jobs.Jdf fault) in
             files_denote files jdf tiles at.0 v at.1 (refused_whatever jdf tiles at.0 (file_of files tiles) v (long_refuses at.0 fault e at.2)),
       )
 
 -- ---- two files denote one verdict at most
-pub refused_once : (text : List ℕ) (v w : Verdict) → RefusesText text v → RefusesText text w → v ≡ w
+pub refused_once : (text : List ℕ) (v w : Denotation) → RefusesText text v → RefusesText text w → v ≡ w
 refused_once text v w (job, h, e) (other, k, d) = e ∙ (ap verdicts.Job (jdf_text_once text job other h k) ∙ sym d)
 
-pub refused_or_read : (text : List ℕ) (v : Verdict) (J : Jdf) → RefusesText text v → IsJdf text J → ⊥
+pub refused_or_read : (text : List ℕ) (v : Denotation) (J : Jdf) → RefusesText text v → IsJdf text J → ⊥
 refused_or_read text v J (job, (f, first, is), e) tree = not_both text J f tree first
 
-pub contents_once : (jdf tiles : List ℕ) (a b : Option (List ℕ)) (v w : Verdict) → ContentsDenote jdf tiles a b v → ContentsDenote jdf tiles a b w → v ≡ w
+pub contents_once : (jdf tiles : List ℕ) (a b : Option (List ℕ)) (v w : Denotation) → ContentsDenote jdf tiles a b v → ContentsDenote jdf tiles a b w → v ≡ w
 contents_once jdf tiles None b v w h k = h ∙ sym k
 contents_once jdf tiles (Some text) None v w (inl h) (inl k) = refused_once text v w h k
 contents_once jdf tiles (Some text) None v w (inl h) (inr (J, tree, d)) = absurd (refused_or_read text v J h tree)

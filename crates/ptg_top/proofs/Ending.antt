@@ -7,50 +7,50 @@ use Rattle.flow_meaning.specs.declared.outcome.Outcome.TheVariants as outcome
 use Rattle.job_stages.specs.declared.verdict.JobVerdict.TheVariants as jobs
 use Rattle.ptg_top.specs.declared.status.Status.{Status}
 use Rattle.ptg_top.specs.declared.status.Status.TheVariants as status
-use Rattle.ptg_top.specs.declared.verdict.Verdict.{Verdict}
-use Rattle.ptg_top.specs.declared.verdict.Verdict.TheVariants as verdicts
+use Rattle.ptg_top.specs.Denotation as verdicts
+use Rattle.ptg_top.specs.Denotation.{Denotation}
 use Rattle.ptg_top.specs.JobFiles.{Entries}
 use Rattle.ptg_top.specs.Meaning.{Denotes, IsNoOrder, MayBeUnread}
 use Rattle.ptg_top.specs.Reports.{IsOfTexts, IsVerdictOnWords}
 use Rattle.ptg_top.specs.Headline.{text_of, status_of, unread_line, usage_line, IsExact, Prints}
 
 -- arguments and files denote the verdict, unless it is a read fault
-denoted : (words : List (List ℕ)) (files : Entries) (contents : Option Entries) (old new : List ℕ → ℕ) (v : Verdict) → IsVerdictOnWords words contents old new v → contents ≡ Some files → ((name : List ℕ) → v ≡ verdicts.Unread name → Rose (old name) (new name) → ⊥) → Denotes words files v
-denoted words files contents old new v (inl h) t read = inl h
-denoted words files contents old new v (inr (request, asked, inl (name, rose, may, e))) t read = absurd (read name e rose)
-denoted words files contents old new v (inr (request, asked, inr (of, known))) t read = inr (request, asked, known files t)
+is_denoted : (words : List (List ℕ)) (files : Entries) (contents : Option Entries) (old new : List ℕ → ℕ) (v : Denotation) → IsVerdictOnWords words contents old new v → contents ≡ Some files → ((name : List ℕ) → v ≡ verdicts.Unread name → Rose (old name) (new name) → ⊥) → Denotes words files v
+is_denoted words files contents old new v (inl h) t read = inl h
+is_denoted words files contents old new v (inr (request, asked, inl (name, rose, may, e))) t read = absurd (read name e rose)
+is_denoted words files contents old new v (inr (request, asked, inr (of, known))) t read = inr (request, asked, known files t)
 
-pub exact_prints : (words : List (List ℕ)) (files : Entries) (contents : Option Entries) (old new : List ℕ → ℕ) (before after : Option (List ℕ)) (v : Verdict) (s : Status)
+pub exact_prints : (words : List (List ℕ)) (files : Entries) (contents : Option Entries) (old new : List ℕ → ℕ) (before after : Option (List ℕ)) (v : Denotation) (s : Status)
     → IsVerdictOnWords words contents old new v → contents ≡ Some files → after ≡ appended before (text_of v) → s ≡ status_of v → IsExact s → Prints words files before after s
 exact_prints words files contents old new before after v s h t text ends exact =
     record {
       verdict = v;
-      denoted = denoted words files contents old new v h t (λ name e rose. subst IsExact (ends ∙ ap status_of e) exact);
+      denoted = is_denoted words files contents old new v h t (λ name e rose. subst IsExact (ends ∙ ap status_of e) exact);
       text = text;
       ends = ends;
     }
 
-pub complete_prints : (words : List (List ℕ)) (files : Entries) (contents : Option Entries) (old new : List ℕ → ℕ) (before after : Option (List ℕ)) (v : Verdict) (s : Status)
+pub complete_prints : (words : List (List ℕ)) (files : Entries) (contents : Option Entries) (old new : List ℕ → ℕ) (before after : Option (List ℕ)) (v : Denotation) (s : Status)
     → IsVerdictOnWords words contents old new v → contents ≡ Some files → after ≡ appended before (text_of v) → s ≡ status_of v → ((name : List ℕ) → Rose (old name) (new name) → ⊥)
     → Prints words files before after s ⊎ (s ≡ status.OutOfMemory)
 complete_prints words files contents old new before after v s h t text ends none =
-    inl (record { verdict = v; denoted = denoted words files contents old new v h t (λ name e rose. none name rose); text = text; ends = ends })
+    inl (record { verdict = v; denoted = is_denoted words files contents old new v h t (λ name e rose. none name rose); text = text; ends = ends })
 
 -- ---- the status of a verdict on texts is neither that of usage nor that of a failed read or write
 
 abbrev IsOfText : Status → Type 0
 IsOfText s = (s ≡ status.Usage → ⊥) × (s ≡ status.ReadFault → ⊥) × (s ≡ status.WriteFault → ⊥)
 
-of_texts : (v : Verdict) → IsOfTexts v → IsOfText (status_of v)
+of_texts : (v : Denotation) → IsOfTexts v → IsOfText (status_of v)
 of_texts verdicts.Usage h = absurd h
 of_texts (verdicts.Unread name) h = absurd h
 of_texts (verdicts.Job (jobs.Jdf fault)) h = (λ e. absurd cc, λ e. absurd cc, λ e. absurd cc)
 of_texts (verdicts.Job (jobs.Data fault)) h = (λ e. absurd cc, λ e. absurd cc, λ e. absurd cc)
 of_texts (verdicts.Job (jobs.Inconsistent P fault)) h = (λ e. absurd cc, λ e. absurd cc, λ e. absurd cc)
 of_texts (verdicts.Job (jobs.Consistent P given)) h = (λ e. absurd cc, λ e. absurd cc, λ e. absurd cc)
-of_texts (verdicts.Job (jobs.Answered P (outcome.Complete count given))) h = (λ e. absurd cc, λ e. absurd cc, λ e. absurd cc)
-of_texts (verdicts.Job (jobs.Answered P (outcome.Trapped rows))) h = (λ e. absurd cc, λ e. absurd cc, λ e. absurd cc)
-of_texts (verdicts.Job (jobs.Answered P (outcome.Stalled ran total rows))) h = (λ e. absurd cc, λ e. absurd cc, λ e. absurd cc)
+of_texts (verdicts.Answered P (outcome.Complete count given)) h = (λ e. absurd cc, λ e. absurd cc, λ e. absurd cc)
+of_texts (verdicts.Answered P (outcome.Trapped rows)) h = (λ e. absurd cc, λ e. absurd cc, λ e. absurd cc)
+of_texts (verdicts.Answered P (outcome.Stalled ran total rows)) h = (λ e. absurd cc, λ e. absurd cc, λ e. absurd cc)
 of_texts (verdicts.Spelling text) h = (λ e. absurd cc, λ e. absurd cc, λ e. absurd cc)
 
 not_usage : ◌≡◌ {A = Status} status.ReadFault status.Usage → ⊥
@@ -59,7 +59,7 @@ not_usage e = absurd cc
 not_read_fault : ◌≡◌ {A = Status} status.Usage status.ReadFault → ⊥
 not_read_fault e = absurd cc
 
-module _ (words : List (List ℕ)) (contents : Option Entries) (old new : List ℕ → ℕ) (v : Verdict) where
+module _ (words : List (List ℕ)) (contents : Option Entries) (old new : List ℕ → ℕ) (v : Denotation) where
   -- the status of usage comes with its line alone, and only to arguments that form no command
   pub usage_is_its_line : IsVerdictOnWords words contents old new v → status_of v ≡ status.Usage → text_of v ≡ usage_line
   usage_is_its_line (inl h) e = ap text_of h.1

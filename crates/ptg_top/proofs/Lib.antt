@@ -1,5 +1,6 @@
 pub mod Requested
 pub mod Checked
+pub mod Answered
 pub mod Carried
 pub mod JobTexts
 pub mod Ending

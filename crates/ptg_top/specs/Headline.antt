@@ -1,12 +1,15 @@
 -- What is printed for a verdict, and what a run of the program promises. Source: this project's own choice of lines and statuses.
 use Rattle.std.specs.Prelude.{◌≡◌, ℕ, List, [], ◌∷◌, Option, codes}
 use Rattle.ptg_io.specs.Sink.{appended}
+use Rattle.flow_meaning.specs.declared.outcome.Outcome.{Outcome}
+use Rattle.flow_meaning.specs.declared.outcome.Outcome.TheVariants as outcomes
 use Rattle.report_text.specs.Field.{line}
+use Rattle.report_text.specs.Printed.{outcome_text}
 use Rattle.report_text.specs.Puts.{HasPrefix}
 use Rattle.ptg_top.specs.declared.status.Status.{Status}
 use Rattle.ptg_top.specs.declared.status.Status.TheVariants.{Complete, Usage, JdfRefused, DataRefused, Inconsistent, Trapped, Stalled, ReadFault, WriteFault, OutOfMemory}
-use Rattle.ptg_top.specs.declared.verdict.Verdict.{Verdict}
-use Rattle.ptg_top.specs.declared.verdict.Verdict.TheVariants as verdicts
+use Rattle.ptg_top.specs.Denotation as verdicts
+use Rattle.ptg_top.specs.Denotation.{Denotation}
 use Rattle.ptg_top.specs.JobFiles.{Entries}
 use Rattle.ptg_top.specs.Meaning.{Denotes}
 use Rattle.ptg_top.specs.Reports.{IsVerdictOnWords}
@@ -21,17 +24,24 @@ abbrev pub usage_line : List ℕ
 usage_line = line (codes "usage" ∷ [])
 
 -- what is printed for a verdict
-abbrev pub text_of : Verdict → List ℕ
+abbrev pub text_of : Denotation → List ℕ
 text_of verdicts.Usage = usage_line
 text_of (verdicts.Unread name) = unread_line name
 text_of (verdicts.Job job) = job_text job
+text_of (verdicts.Answered P outcome) = outcome_text P outcome
 text_of (verdicts.Spelling text) = text
 
+abbrev pub status_of_outcome : Outcome → Status
+status_of_outcome (outcomes.Complete count given) = Complete
+status_of_outcome (outcomes.Trapped rows) = Trapped
+status_of_outcome (outcomes.Stalled ran total rows) = Stalled
+
 -- and its status
-abbrev pub status_of : Verdict → Status
+abbrev pub status_of : Denotation → Status
 status_of verdicts.Usage = Usage
 status_of (verdicts.Unread name) = ReadFault
 status_of (verdicts.Job job) = status_of_job job
+status_of (verdicts.Answered P outcome) = status_of_outcome outcome
 status_of (verdicts.Spelling text) = Complete
 
 -- the statuses of a verdict, where no failed read or write and no want of memory took its place
@@ -49,7 +59,7 @@ IsExact OutOfMemory = ⊥
 
 -- the sink grew by exactly the text of the verdict that the arguments and the files denote (one at most), and this is its status
 pub record Prints (words : List (List ℕ)) (files : Entries) (before after : Option (List ℕ)) (status : Status) : Type 0 where
-  pub verdict : Verdict
+  pub verdict : Denotation
   pub denoted : Denotes words files verdict
   pub text : after ≡ appended before (text_of verdict)
   pub ends : status ≡ status_of verdict
@@ -68,6 +78,6 @@ SomeOutput =
 -- a failed write cut the text of a verdict short: the one that the arguments and the files denote, or the name of a file that could
 -- not be read
 pub record IsCut (words : List (List ℕ)) (contents : Option Entries) (old new : List ℕ → ℕ) (before after : Option (List ℕ)) : Type 0 where
-  pub verdict : Verdict
+  pub verdict : Denotation
   pub due : IsVerdictOnWords words contents old new verdict
   pub prefix : HasPrefix before after (text_of verdict)

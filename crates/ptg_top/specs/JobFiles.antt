@@ -5,10 +5,11 @@ use Rattle.ptg_io.specs.Files.{file_of}
 use Rattle.jdf_tree.specs.declared.tree.Jdf.{Jdf}
 use Rattle.jdf_tree.specs.Jdf.{IsJdf}
 use Rattle.job_stages.specs.declared.verdict.JobVerdict.{JobVerdict}
-use Rattle.job_stages.specs.Answered.{answered, IsOfItsPlan}
+use Rattle.job_stages.specs.Fitting.{HasFittingData}
 use Rattle.job_stages.specs.Verdict.{JdfTextDenotes, TextsDenote}
-use Rattle.ptg_top.specs.declared.verdict.Verdict.{Verdict}
-use Rattle.ptg_top.specs.declared.verdict.Verdict.TheVariants as verdicts
+use Rattle.ptg_top.specs.Denotation as verdicts
+use Rattle.ptg_top.specs.Denotation.{Denotation}
+use Rattle.ptg_top.specs.Answering.{IsAnswered}
 
 -- files by name
 abbrev pub Entries : Type 0
@@ -19,30 +20,24 @@ abbrev pub TreeAt : Entries → List ℕ → Jdf → Type 0
 TreeAt files name J = (text : List ℕ) × (file_of files name ≡ Some text) × IsJdf text J
 
 -- the text of a JDF has a fault, and this is its refusal
-abbrev pub RefusesText : List ℕ → Verdict → Type 0
+abbrev pub RefusesText : List ℕ → Denotation → Type 0
 RefusesText text v = (job : JobVerdict) × JdfTextDenotes text job × (v ≡ verdicts.Job job)
 
 -- The contents of a JDF file and of a data file with these names denote this verdict: that the JDF file is not there; else, where the
 -- data file is not there, the first fault of the JDF's text, or that the data file is not there; else what the two texts denote.
-abbrev pub ContentsDenote : List ℕ → List ℕ → Option (List ℕ) → Option (List ℕ) → Verdict → Type 0
+abbrev pub ContentsDenote : List ℕ → List ℕ → Option (List ℕ) → Option (List ℕ) → Denotation → Type 0
 ContentsDenote jdf tiles None other v = v ≡ verdicts.Unread jdf
 ContentsDenote jdf tiles (Some text) None v = RefusesText text v ⊎ ((J : Jdf) × IsJdf text J × (v ≡ verdicts.Unread tiles))
 ContentsDenote jdf tiles (Some text) (Some data_text) v = (job : JobVerdict) × TextsDenote text data_text job × (v ≡ verdicts.Job job)
 
 -- the files of these names denote this verdict
-abbrev pub FilesDenote : Entries → List ℕ → List ℕ → Verdict → Type 0
+abbrev pub FilesDenote : Entries → List ℕ → List ℕ → Denotation → Type 0
 FilesDenote files jdf tiles v = ContentsDenote jdf tiles (file_of files jdf) (file_of files tiles) v
 
--- The verdict of `run` for one of `check`: a consistent job is answered, and every refusal stays as it is.
-abbrev pub with_answer : Verdict → Verdict
-with_answer verdicts.Usage = verdicts.Usage
-with_answer (verdicts.Unread name) = verdicts.Unread name
-with_answer (verdicts.Job job) = verdicts.Job (answered job)
-with_answer (verdicts.Spelling text) = verdicts.Spelling text
-
--- the data of a consistent job fit its plan, and an answer is one of its plan
-abbrev pub HasFittingJob : Verdict → Type 0
+-- The data of a consistent job fit its plan, and an answer is that of its plan on some data.
+abbrev pub HasFittingJob : Denotation → Type 0
 HasFittingJob verdicts.Usage = Unit {0}
 HasFittingJob (verdicts.Unread name) = Unit {0}
-HasFittingJob (verdicts.Job job) = IsOfItsPlan job
+HasFittingJob (verdicts.Job job) = HasFittingData job
+HasFittingJob (verdicts.Answered P outcome) = IsAnswered P outcome
 HasFittingJob (verdicts.Spelling text) = Unit {0}

@@ -1,4 +1,6 @@
 pub mod Requests
+pub mod Denotation
+pub mod Answering
 pub mod JobFiles
 pub mod Meaning
 pub mod Steps

@@ -7,43 +7,44 @@ use Rattle.jdf_tree.specs.Jdf.{IsJdf}
 use Rattle.jdf_print.specs.Spelling.{spelling}
 use Rattle.ptg_top.specs.declared.request.Request.{Request}
 use Rattle.ptg_top.specs.declared.request.Request.TheVariants.{Run, Show, Check}
-use Rattle.ptg_top.specs.declared.verdict.Verdict.{Verdict}
-use Rattle.ptg_top.specs.declared.verdict.Verdict.TheVariants as verdicts
+use Rattle.ptg_top.specs.Denotation as verdicts
+use Rattle.ptg_top.specs.Denotation.{Denotation}
 use Rattle.ptg_top.specs.Requests.{Requests}
-use Rattle.ptg_top.specs.JobFiles.{Entries, TreeAt, RefusesText, FilesDenote, with_answer}
+use Rattle.ptg_top.specs.JobFiles.{Entries, TreeAt, RefusesText, FilesDenote}
+use Rattle.ptg_top.specs.Answering.{IsAnswer, OnConsistent}
 
 -- the arguments form no command that is carried out
 abbrev pub IsNoOrder : List (List ℕ) → Type 0
 IsNoOrder words = (request : Request) → Requests words request → ⊥
 
 -- The verdict of `show` on the text of a JDF: its first fault, or the canonical spelling of its tree.
-abbrev pub Shows : List ℕ → Verdict → Type 0
+abbrev pub Shows : List ℕ → Denotation → Type 0
 Shows text v = RefusesText text v ⊎ ((J : Jdf) × IsJdf text J × (v ≡ verdicts.Spelling (spelling J)))
 
 -- The verdict of `show` on a file with this name and this content: that it is not there, or the one on its text.
-abbrev pub ContentShows : List ℕ → Option (List ℕ) → Verdict → Type 0
+abbrev pub ContentShows : List ℕ → Option (List ℕ) → Denotation → Type 0
 ContentShows name None v = v ≡ verdicts.Unread name
 ContentShows name (Some text) v = Shows text v
 
 -- What the files denote for what is asked: `run` answers a job that `check` finds consistent, and refuses what `check` refuses.
-abbrev pub RequestDenotes : Entries → Request → Verdict → Type 0
-RequestDenotes files (Run jdf tiles) v = (checked : Verdict) × FilesDenote files jdf tiles checked × (v ≡ with_answer checked)
+abbrev pub RequestDenotes : Entries → Request → Denotation → Type 0
+RequestDenotes files (Run jdf tiles) v = (checked : Denotation) × FilesDenote files jdf tiles checked × OnConsistent IsAnswer checked v
 RequestDenotes files (Show jdf) v = ContentShows jdf (file_of files jdf) v
 RequestDenotes files (Check jdf tiles) v = FilesDenote files jdf tiles v
 
 -- The arguments and the files denote this verdict: usage, if the arguments form no command; else what the files denote for what
 -- the arguments ask.
-abbrev pub Denotes : List (List ℕ) → Entries → Verdict → Type 0
+abbrev pub Denotes : List (List ℕ) → Entries → Denotation → Type 0
 Denotes words files v =
     (IsNoOrder words × (v ≡ verdicts.Usage)) ⊎ ((request : Request) × Requests words request × RequestDenotes files request v)
 
 -- the arguments and the files denote one verdict at most
 abbrev pub OneMeaning : Type 0
-OneMeaning = (words : List (List ℕ)) (files : Entries) (v w : Verdict) → Denotes words files v → Denotes words files w → v ≡ w
+OneMeaning = (words : List (List ℕ)) (files : Entries) (v w : Denotation) → Denotes words files v → Denotes words files w → v ≡ w
 
 -- and they denote one, whatever they are
 abbrev pub SomeMeaning : Type 0
-SomeMeaning = (words : List (List ℕ)) (files : Entries) → (v : Verdict) × Denotes words files v
+SomeMeaning = (words : List (List ℕ)) (files : Entries) → (v : Denotation) × Denotes words files v
 
 -- this is the JDF file, or it is the data file and the JDF is the text of a tree, where the contents are known
 abbrev pub IsUnreadOf : Option Entries → List ℕ → List ℕ → List ℕ → Type 0

@@ -5,32 +5,33 @@ use Rattle.std.specs.Str.{IsUtf8}
 use Rattle.ptg_io.specs.Faults.{Rose}
 use Rattle.ptg_top.specs.declared.request.Request.{Request}
 use Rattle.ptg_top.specs.declared.request.Request.TheVariants.{Run, Show, Check}
-use Rattle.ptg_top.specs.declared.verdict.Verdict.{Verdict}
-use Rattle.ptg_top.specs.declared.verdict.Verdict.TheVariants as verdicts
+use Rattle.ptg_top.specs.Denotation as verdicts
+use Rattle.ptg_top.specs.Denotation.{Denotation}
 use Rattle.ptg_top.specs.Requests.{Requests}
 use Rattle.ptg_top.specs.JobFiles.{Entries}
 use Rattle.ptg_top.specs.Meaning.{IsNoOrder, MayBeUnreadFor, RequestDenotes}
 
 -- a verdict on what was read
-abbrev pub IsOfTexts : Verdict → Type 0
+abbrev pub IsOfTexts : Denotation → Type 0
 IsOfTexts verdicts.Usage = ⊥
 IsOfTexts (verdicts.Unread name) = ⊥
 IsOfTexts (verdicts.Job job) = Unit {0}
+IsOfTexts (verdicts.Answered P outcome) = Unit {0}
 IsOfTexts (verdicts.Spelling text) = Unit {0}
 
 -- a read of the file that the verdict names failed
-abbrev pub IsReadFault : Option Entries → (List ℕ → ℕ) → (List ℕ → ℕ) → Request → Verdict → Type 0
+abbrev pub IsReadFault : Option Entries → (List ℕ → ℕ) → (List ℕ → ℕ) → Request → Denotation → Type 0
 IsReadFault contents old new request v =
     (name : List ℕ) × Rose (old name) (new name) × MayBeUnreadFor contents request name × (v ≡ verdicts.Unread name)
 
 -- The verdict on a request: unread only where a read of that name failed; else what the files denote, where the contents are known.
-abbrev pub IsVerdictOnRequest : Option Entries → (List ℕ → ℕ) → (List ℕ → ℕ) → Request → Verdict → Type 0
+abbrev pub IsVerdictOnRequest : Option Entries → (List ℕ → ℕ) → (List ℕ → ℕ) → Request → Denotation → Type 0
 IsVerdictOnRequest contents old new request v =
     IsReadFault contents old new request v
     ⊎ (IsOfTexts v × ((files : Entries) → contents ≡ Some files → RequestDenotes files request v))
 
 -- A verdict on the arguments: usage exactly where they form no command; else the verdict on what they ask.
-abbrev pub IsVerdictOnWords : List (List ℕ) → Option Entries → (List ℕ → ℕ) → (List ℕ → ℕ) → Verdict → Type 0
+abbrev pub IsVerdictOnWords : List (List ℕ) → Option Entries → (List ℕ → ℕ) → (List ℕ → ℕ) → Denotation → Type 0
 IsVerdictOnWords words contents old new v =
     (IsNoOrder words × (v ≡ verdicts.Usage))
     ⊎ ((request : Request) × Requests words request × IsVerdictOnRequest contents old new request v)

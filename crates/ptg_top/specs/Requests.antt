@@ -6,13 +6,17 @@ use Rattle.ptg_words.specs.Words.{Orders}
 use Rattle.ptg_top.specs.declared.request.Request.{Request}
 use Rattle.ptg_top.specs.declared.request.Request.TheVariants.{Run, Show, Check}
 
--- What a command asks for, where that is carried out so far: `demo` and a run with `--preload` are not, and the numbers of workers
--- and of shards have no effect.
+-- What a command asks for, where that is carried out so far: a run with `--preload` and the verbs `demo`, `trace`, `replay`, `certify`
+-- and `ranks` are not, and the numbers of workers and of shards have no effect.
 abbrev pub request_of : Order → Option Request
 request_of (order.Run jdf tiles workers shards preload) = if preload then None else Some (Run jdf tiles)
 request_of (order.Show jdf) = Some (Show jdf)
 request_of (order.Check jdf tiles) = Some (Check jdf tiles)
 request_of (order.Demo n) = None
+request_of (order.Trace jdf tiles workers shards) = None
+request_of (order.Replay jdf tiles trace) = None
+request_of (order.Certify jdf tiles) = None
+request_of (order.Ranks jdf tiles ranks seed) = None
 
 -- the arguments form a command that asks for this
 pub record Requests (words : List (List ℕ)) (request : Request) : Type 0 where

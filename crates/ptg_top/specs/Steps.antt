@@ -7,13 +7,13 @@ use Rattle.jdf_tree.specs.declared.tree.Jdf.{Jdf}
 use Rattle.jdf_tree.specs.Jdf.{IsJdf}
 use Rattle.job_stages.specs.declared.verdict.JobVerdict.{JobVerdict}
 use Rattle.job_stages.specs.Verdict.{TextsDenote}
-use Rattle.ptg_top.specs.declared.verdict.Verdict.{Verdict}
-use Rattle.ptg_top.specs.declared.verdict.Verdict.TheVariants as verdicts
+use Rattle.ptg_top.specs.Denotation as verdicts
+use Rattle.ptg_top.specs.Denotation.{Denotation}
 use Rattle.ptg_top.specs.JobFiles.{Entries, RefusesText}
 
 -- The check of a JDF, read from this text, with the data file of this name ends so: a read of that file failed, or the two texts
 -- denote the verdict, where the contents are known.
-abbrev pub CheckOfDataEndsWith : Option Entries → ℕ → ℕ → List ℕ → List ℕ → Verdict → Type 0
+abbrev pub CheckOfDataEndsWith : Option Entries → ℕ → ℕ → List ℕ → List ℕ → Denotation → Type 0
 CheckOfDataEndsWith contents old new text tiles v =
     ((v ≡ verdicts.Unread tiles) × Rose old new)
     ⊎ ((job : JobVerdict) × (v ≡ verdicts.Job job)
@@ -21,6 +21,6 @@ CheckOfDataEndsWith contents old new text tiles v =
 
 -- The check of a JDF's text with the data file of this name ends so: the text has a fault; or it is that of a tree, and the check of
 -- that ends so.
-abbrev pub CheckOfTextEndsWith : Option Entries → ℕ → ℕ → List ℕ → List ℕ → Verdict → Type 0
+abbrev pub CheckOfTextEndsWith : Option Entries → ℕ → ℕ → List ℕ → List ℕ → Denotation → Type 0
 CheckOfTextEndsWith contents old new text tiles v =
     RefusesText text v ⊎ ((J : Jdf) × IsJdf text J × CheckOfDataEndsWith contents old new text tiles v)

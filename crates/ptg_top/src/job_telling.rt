@@ -1,22 +1,19 @@
-//! Prints what a job comes to; its status.
+//! Prints what the check of a job comes to; its status.
 
 ghost use Rattle.std.specs.Prelude.{◌≡◌, ◌≤◌, OnOk, OnErr};
 ghost use Rattle.ptg_io.specs.Faults.{Rose};
 ghost use Rattle.ptg_io.specs.Sink.{appended};
 ghost use Rattle.report_text.specs.Puts.{HasPrefix};
-ghost use Rattle.job_stages.specs.Answered.{IsOfItsPlan};
-ghost use Rattle.ptg_top.specs.JobText.{job_text, status_of_job, status_of_outcome};
+ghost use Rattle.ptg_top.specs.JobText.{job_text, status_of_job};
 
 use crate::names::{class_name, flow_name};
 use crate::status::Status;
-use flow_meaning::Outcome;
 use job_stages::JobVerdict;
 use ptg_io::{Failed, Sink};
-use report_text::{Line, answers_have_rows_of_their_plan, consistent, refusal, report};
+use report_text::{Line, consistent, refusal};
 
-/// Prints what a job comes to. On `Err` a prefix of its text was written.
+/// Prints what the check of a job comes to. On `Err` a prefix of its text was written.
 pub fn tell_job<O: Sink>(job: &JobVerdict, out: &mut O) -> Result<(), Failed>
-    requires { IsOfItsPlan job.now }
     ensures ok { OnOk result (O.bytes out.new ≡ appended (O.bytes out.old) (job_text job.now)) }
     ensures prefix { OnErr result (HasPrefix (O.bytes out.old) (O.bytes out.new) (job_text job.now)) }
     ensures grows { O.faults out.old ≤ O.faults out.new }
@@ -33,10 +30,6 @@ pub fn tell_job<O: Sink>(job: &JobVerdict, out: &mut O) -> Result<(), Failed>
         JobVerdict::Consistent(matched, _) => {
             consistent(matched.tasks(), matched.edges(), matched.writes(), out)
         }
-        JobVerdict::Answered(matched, outcome) => {
-            answers_have_rows_of_their_plan();
-            report(matched.plan(), outcome, out)
-        }
     }
 }
 
@@ -49,17 +42,5 @@ pub fn status_of_job(job: &JobVerdict) -> Status
         JobVerdict::Data(_) => Status::DataRefused,
         JobVerdict::Inconsistent(_, _) => Status::Inconsistent,
         JobVerdict::Consistent(_, _) => Status::Complete,
-        JobVerdict::Answered(_, outcome) => status_of_outcome(outcome),
-    }
-}
-
-// The status of an answer.
-fn status_of_outcome(outcome: &Outcome) -> Status
-    ensures { result ≡ status_of_outcome outcome.now }
-{
-    match outcome {
-        Outcome::Complete(_, _) => Status::Complete,
-        Outcome::Trapped(_) => Status::Trapped,
-        Outcome::Stalled(_, _, _) => Status::Stalled,
     }
 }

@@ -1,6 +1,7 @@
 //! The verdict on arguments and files.
 
 ghost use Rattle.std.specs.Prelude.{◌≡◌, ◌≤◌, ℕ, List, IfOk};
+ghost use Rattle.ptg_top.specs.Denotation.{denoted};
 ghost use Rattle.ptg_top.specs.JobFiles.{HasFittingJob};
 ghost use Rattle.ptg_top.specs.Reports.{AreTexts, IsVerdictOnRequest, IsVerdictOnWords};
 
@@ -11,16 +12,17 @@ use crate::showing::show;
 use crate::verdict::Verdict;
 use ptg_base::{OutOfMemory, Text};
 use ptg_io::Files;
-use ptg_words::{WordsRefusal, words};
+use ptg_words::{WordsRefusal, files_are_text, words};
 use std::alloc::Global;
 
 /// The verdict on arguments and files.
 pub fn judge<F: Files>(alloc: Global, list: &[Text], files: &mut F) -> Result<Verdict, OutOfMemory>
     ensures stays { F.contents files.new ≡ F.contents files.old }
     ensures grows { (other : List ℕ) → F.faults files.old other ≤ F.faults files.new other }
-    ensures judged { IfOk result (IsVerdictOnWords list.now (F.contents files.old) (F.faults files.old) (F.faults files.new)) }
-    ensures fit { IfOk result HasFittingJob }
+    ensures judged { IfOk result (λ v. IsVerdictOnWords list.now (F.contents files.old) (F.faults files.old) (F.faults files.new) (denoted v)) }
+    ensures fit { IfOk result (λ v. HasFittingJob (denoted v)) }
 {
+    files_are_text();
     match words(alloc, list) {
         Ok(order) => match request_of(order) {
             Some(request) => carry_out(alloc, &request, files),
@@ -40,8 +42,8 @@ fn carry_out<F: Files>(
     requires { AreTexts request.now }
     ensures stays { F.contents files.new ≡ F.contents files.old }
     ensures grows { (other : List ℕ) → F.faults files.old other ≤ F.faults files.new other }
-    ensures judged { IfOk result (IsVerdictOnRequest (F.contents files.old) (F.faults files.old) (F.faults files.new) request.now) }
-    ensures fit { IfOk result HasFittingJob }
+    ensures judged { IfOk result (λ v. IsVerdictOnRequest (F.contents files.old) (F.faults files.old) (F.faults files.new) request.now (denoted v)) }
+    ensures fit { IfOk result (λ v. HasFittingJob (denoted v)) }
 {
     match request {
         Request::Run(jdf, tiles) => run(alloc, jdf, tiles, files),

@@ -1,6 +1,7 @@
 //! The whole program, over files and a sink that it is handed.
 #![tactic(auto)]
 
+mod answer_telling;
 mod checking;
 mod job_telling;
 mod judge;
@@ -18,4 +19,4 @@ mod verdict;
 pub use laws::{one_meaning, some_meaning};
 pub use program::ptg_main;
 pub use status::Status;
-pub use verdict::Verdict;
+pub use verdict::{RanBy, Verdict};

@@ -2,7 +2,8 @@
 
 ghost use Rattle.std.specs.Prelude.{◌≡◌, IfOk};
 ghost use Rattle.std.specs.Str.{IsUtf8};
-ghost use Rattle.ptg_top.specs.declared.verdict.Verdict.TheVariants as verdicts;
+ghost use Rattle.ptg_top.specs.Denotation as verdicts;
+ghost use Rattle.ptg_top.specs.Denotation.{denoted};
 
 use crate::verdict::Verdict;
 use ptg_base::{OutOfMemory, Text};
@@ -21,7 +22,7 @@ pub fn name_of(word: &Text) -> &str
 
 /// The verdict where the file of this name could not be read.
 pub fn unread(alloc: Global, name: &Text) -> Result<Verdict, OutOfMemory>
-    ensures { IfOk result (λ v. v ≡ verdicts.Unread name.now) }
+    ensures { IfOk result (λ v. denoted v ≡ verdicts.Unread name.now) }
 {
     let name = Text::of(alloc, name.bytes())?;
     Ok(Verdict::Unread(name))

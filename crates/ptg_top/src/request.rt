@@ -17,7 +17,7 @@ pub enum Request {
     Check(Text, Text),
 }
 
-/// What a command asks for: nothing where it is `demo`, or a run whose memory is to be taken before.
+/// What a command asks for: nothing where it is a run whose memory is to be taken before, or one of the verbs that come later.
 pub fn request_of(order: Order) -> Option<Request>
     ensures { result ≡ request_of order }
 {
@@ -32,5 +32,9 @@ pub fn request_of(order: Order) -> Option<Request>
         Order::Show(jdf) => Some(Request::Show(jdf)),
         Order::Check(jdf, tiles) => Some(Request::Check(jdf, tiles)),
         Order::Demo(_) => None,
+        Order::Trace(_, _, _, _) => None,
+        Order::Replay(_, _, _) => None,
+        Order::Certify(_, _) => None,
+        Order::Ranks(_, _, _, _) => None,
     }
 }

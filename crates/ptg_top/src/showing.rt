@@ -3,6 +3,7 @@
 ghost use Rattle.std.specs.Prelude.{◌≡◌, ◌≤◌, ℕ, List, IfOk};
 ghost use Rattle.std.specs.Str.{IsUtf8};
 ghost use Rattle.ptg_top.specs.declared.request.Request.TheVariants as asked;
+ghost use Rattle.ptg_top.specs.Denotation.{denoted};
 ghost use Rattle.ptg_top.specs.JobFiles.{HasFittingJob};
 ghost use Rattle.ptg_top.specs.Meaning.{Shows};
 ghost use Rattle.ptg_top.specs.Reports.{IsOfTexts, IsVerdictOnRequest};
@@ -21,8 +22,8 @@ pub fn show<F: Files>(alloc: Global, jdf: &Text, files: &mut F) -> Result<Verdic
     requires { IsUtf8 jdf.now }
     ensures stays { F.contents files.new ≡ F.contents files.old }
     ensures grows { (other : List ℕ) → F.faults files.old other ≤ F.faults files.new other }
-    ensures verdict { IfOk result (IsVerdictOnRequest (F.contents files.old) (F.faults files.old) (F.faults files.new) (asked.Show jdf.now)) }
-    ensures fit { IfOk result HasFittingJob }
+    ensures verdict { IfOk result (λ v. IsVerdictOnRequest (F.contents files.old) (F.faults files.old) (F.faults files.new) (asked.Show jdf.now) (denoted v)) }
+    ensures fit { IfOk result (λ v. HasFittingJob (denoted v)) }
 {
     match load(alloc, files, name_of(jdf)) {
         Ok(text) => shown(alloc, text.as_slice()),
@@ -34,9 +35,9 @@ pub fn show<F: Files>(alloc: Global, jdf: &Text, files: &mut F) -> Result<Verdic
 
 // The verdict of `show` on the text of a JDF.
 fn shown(alloc: Global, text: &[u8]) -> Result<Verdict, OutOfMemory>
-    ensures shows { IfOk result (Shows text.now) }
-    ensures of_texts { IfOk result IsOfTexts }
-    ensures fit { IfOk result HasFittingJob }
+    ensures shows { IfOk result (λ v. Shows text.now (denoted v)) }
+    ensures of_texts { IfOk result (λ v. IsOfTexts (denoted v)) }
+    ensures fit { IfOk result (λ v. HasFittingJob (denoted v)) }
 {
     match tree_of(alloc, text) {
         Ok(tree) => {

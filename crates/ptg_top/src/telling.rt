@@ -4,9 +4,11 @@ ghost use Rattle.std.specs.Prelude.{◌≡◌, ◌≤◌, OnOk, OnErr};
 ghost use Rattle.ptg_io.specs.Faults.{Rose};
 ghost use Rattle.ptg_io.specs.Sink.{appended};
 ghost use Rattle.report_text.specs.Puts.{HasPrefix};
+ghost use Rattle.ptg_top.specs.Denotation.{denoted};
 ghost use Rattle.ptg_top.specs.JobFiles.{HasFittingJob};
 ghost use Rattle.ptg_top.specs.Headline.{text_of, status_of};
 
+use crate::answer_telling::{status_of_outcome, tell_answer};
 use crate::job_telling::{status_of_job, tell_job};
 use crate::status::Status;
 use crate::verdict::Verdict;
@@ -16,9 +18,9 @@ use report_text::{Line, refusal};
 
 /// Prints a verdict. On `Err` a prefix of its text was written.
 pub fn tell<O: Sink>(verdict: &Verdict, out: &mut O) -> Result<(), Failed>
-    requires { HasFittingJob verdict.now }
-    ensures ok { OnOk result (O.bytes out.new ≡ appended (O.bytes out.old) (text_of verdict.now)) }
-    ensures prefix { OnErr result (HasPrefix (O.bytes out.old) (O.bytes out.new) (text_of verdict.now)) }
+    requires { HasFittingJob (denoted verdict.now) }
+    ensures ok { OnOk result (O.bytes out.new ≡ appended (O.bytes out.old) (text_of (denoted verdict.now))) }
+    ensures prefix { OnErr result (HasPrefix (O.bytes out.old) (O.bytes out.new) (text_of (denoted verdict.now))) }
     ensures grows { O.faults out.old ≤ O.faults out.new }
     ensures failed { OnErr result (Rose (O.faults out.old) (O.faults out.new)) }
 {
@@ -26,6 +28,7 @@ pub fn tell<O: Sink>(verdict: &Verdict, out: &mut O) -> Result<(), Failed>
         Verdict::Usage => refusal(&Line::Usage, out),
         Verdict::Unread(name) => refusal(&Line::Unread(name.bytes()), out),
         Verdict::Job(job) => tell_job(job, out),
+        Verdict::Answered(by, outcome) => tell_answer(by, outcome, out),
         Verdict::Spelling(text) => spell(text, out),
     }
 }
@@ -42,12 +45,13 @@ fn spell<O: Sink>(text: &Text, out: &mut O) -> Result<(), Failed>
 
 /// The status of a verdict that was printed.
 pub fn status(verdict: &Verdict) -> Status
-    ensures { result ≡ status_of verdict.now }
+    ensures { result ≡ status_of (denoted verdict.now) }
 {
     match verdict {
         Verdict::Usage => Status::Usage,
         Verdict::Unread(_) => Status::ReadFault,
         Verdict::Job(job) => status_of_job(job),
+        Verdict::Answered(_, outcome) => status_of_outcome(outcome),
         Verdict::Spelling(_) => Status::Complete,
     }
 }

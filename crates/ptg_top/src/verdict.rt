@@ -1,5 +1,7 @@
 //! The verdict: what a run comes to, before it is printed.
 
+use dep_iter::Matched;
+use flow_meaning::Outcome;
 use job_stages::JobVerdict;
 use ptg_base::Text;
 
@@ -10,8 +12,17 @@ pub enum Verdict {
     Usage,
     /// The file of this name could not be read.
     Unread(Text),
-    /// What a job comes to, or the refusal of a JDF.
+    /// The refusal of a job or of a JDF, or a job that was found consistent.
     Job(JobVerdict),
+    /// The answer of a job, and by whom it was run.
+    Answered(RanBy, Outcome),
     /// The canonical spelling of a JDF.
     Spelling(Text),
+}
+
+/// By whom a job was run. It has the job.
+#[derive(Drop)]
+pub enum RanBy {
+    /// By one thread.
+    OneThread(Matched),
 }

@@ -1,184 +1,226 @@
--- What clap makes of the words of each verb.
-use Rattle.std.proofs.Common.{◌≡◌, ℕ, suc, Bool, true, false, not, ◌&&◌, ◌||◌, List, [], ◌∷◌, length, Some, None, is_some, refl, sym, ap, ◌∙◌, arith, codes}
-use Rattle.std.specs.Prelude.{slice_get, nat_le, ◌==◌, drop}
+-- What clap makes of the words of a verb with these operands and options.
+use Rattle.std.proofs.Common.{◌≡◌, ◌≢◌, ℕ, ◌+◌, ◌≤◌, Bool, true, false, not, cond, ◌&&◌, ◌||◌, List, [], ◌∷◌, ◌++◌, map, length, Option, Some, None, is_some, refl, sym, ap, ◌∙◌, arith, codes}
+use Rattle.std.specs.Prelude.{slice_get, nat_le, ◌==◌, drop, find, option_map, option_and_then}
 use Rattle.std.specs.List.{list_any, list_all}
 use Rattle.std.specs.Str.{bytes_eq}
 use Rattle.std.proofs.lemmas.Bool.Decides.{nat_tests}
-use Rattle.std.proofs.lemmas.List.{append-nil}
-use Rattle.clap.specs.Walk.{Rule, Text, first_of, with_default, nothing_held}
-use Rattle.clap.specs.Simple.{built, matches_of}
-use Rattle.clap.specs.Takes.{is_given}
+use Rattle.std.proofs.lemmas.Slice.Eq.{bytes_eq-Decides}
+use Rattle.clap.specs.Walk.{Text, first_of, one_of, row_text, rows_after, rows_of, has_row, nothing_held}
+use Rattle.clap.specs.Simple.{App, built, matches_of, is_simple}
+use Rattle.clap.specs.Matches.{first_value, one_text}
 use Rattle.clap.specs.Faults.{fault_of, level_fault, is_simple_and_free}
+use Rattle.clap.specs.declared.parser.matches.Found.{Found}
 use Rattle.clap.proofs.FaultLemmas.{leaf_fault}
-use Rattle.ptg_words.specs.Parts.{NumberOption, Part, name_of, workers, shards, operands, is_lacking, is_stray, has_twice, parts}
-use Rattle.ptg_words.specs.Readings.{is_read, AllProper}
-use Rattle.ptg_words.specs.Commands.{one_operand, two_operands}
-use Rattle.ptg_words.proofs.ClapUses.{fresh, none, value_rule}
-use Rattle.ptg_words.proofs.ClapStates.{good, uses, shape}
-use Rattle.ptg_words.proofs.ClapViews.{view, no_option}
-use Rattle.ptg_words.proofs.PartsOfUses.{Apart, fresh_once, good_is, value_in, first_operand, second_operand, same}
-use Rattle.ptg_words.proofs.ClapEnd.{Fits, passes, level_passes, final_rows, settle_terms, first_seen, value_default, value_kept}
-
-pub or_false : (b : Bool) → (b || false) ≡ b
-or_false true = refl
-or_false false = refl
-
-not_two_more : (n m : ℕ) → (suc (suc (suc n)) == 2) ≡ false
-not_two_more n m = grind (arith, nat_tests)
-
-over_two : (n : ℕ) → nat_le (suc (suc (suc n))) 2 ≡ false
-over_two n = grind (arith, nat_tests)
-
-over_one : (n : ℕ) → nat_le (suc (suc n)) 1 ≡ false
-over_one n = grind (arith, nat_tests)
-
-not_one_more : (n : ℕ) → (suc (suc n) == 1) ≡ false
-not_one_more n = grind (arith, nat_tests)
-
-count_one : (ops : List Text) → (nat_le (length ops) 1 && (is_some (slice_get ops 0) && true)) ≡ (length ops == 1)
-count_one [] = refl
-count_one (a ∷ []) = refl
-count_one (a ∷ b ∷ rest) = rw (over_one (length rest), not_one_more (length rest)) refl
-
-count_two : (ops : List Text) → (nat_le (length ops) 2 && (is_some (slice_get ops 0) && (is_some (slice_get ops 1) && true))) ≡ (length ops == 2)
-count_two [] = refl
-count_two (a ∷ []) = refl
-count_two (a ∷ b ∷ []) = refl
-count_two (a ∷ b ∷ d ∷ rest) = rw (over_two (length rest), not_two_more (length rest) 0) refl
+use Rattle.clap.proofs.WalkLemmas.{first_value-rows}
+use Rattle.ptg_words.specs.declared.options.Options.{Options}
+use Rattle.ptg_words.specs.declared.options.Options.TheVariants.{NoOptions, Counts, CountsAndPreload}
+use Rattle.ptg_words.specs.Parts.{NumberOption, Part, name_of, workers, shards, operands, texts_of, is_preload, is_lacking, is_stray, has_twice, parts}
+use Rattle.ptg_words.specs.Readings.{AllProper, HasFirstValues, are_ids, is_free_id, is_read}
+use Rattle.ptg_words.specs.Commands.{verb_command}
+use Rattle.ptg_words.proofs.ClapUses.{Use, use_row, fresh, none}
+use Rattle.ptg_words.proofs.ClapStates.{uses, shape}
+use Rattle.ptg_words.proofs.ClapViews.{view, option_view}
+use Rattle.ptg_words.proofs.PartsOfUses.{Apart, NoneIs, fresh_once, free_at, good_is, value_in, operand_at, all_there, all_values, number_option_value, preload_value}
+use Rattle.ptg_words.proofs.ClapEnd.{Fits, passes, level_passes, final_rows, settle_terms, seen, or_seen, seen_append, first_seen}
+use Rattle.ptg_words.proofs.ClapRules.{rules_from, filled_is, simple_new, simple_built, free_built, none_early, by_short, by_long, option_value, positions, quiet_rules, off_row, tail_of, finished, nothing_added, required}
+use Rattle.ptg_words.proofs.ValuesRead.{none_is, some_is, one_text-rows, counted}
 
 pub both_true : (a b : Bool) → (a && b) ≡ true → a ≡ true
 both_true true b e = refl
 both_true false b e = e
 
-pub neither : (a b : Bool) → (not a || (not b || false)) ≡ not (a && (b && true))
-neither true true = refl
-neither true false = refl
-neither false b = refl
+pub simple_first : (a : App) → is_simple_and_free a ≡ true → is_simple a ≡ true
+simple_first a h = both_true _ _ h
 
--- ---- one operand
+-- ---- ids
 
-module _ (name i : Text) (own : (s : NumberOption) → (bytes_eq (name_of s) i ≡ false) × (bytes_eq i (name_of s) ≡ false)) (not_flag : bytes_eq (codes "preload") i ≡ false)
-    (no_flag : bytes_eq i (codes "preload") ≡ false) where
-  abbrev one_rules : List Rule
-  one_rules = value_rule i None (Some 1) true ∷ []
+other_way : (a b : Text) → bytes_eq a b ≡ false → bytes_eq b a ≡ false
+other_way a b e = go (bytes_eq b a) refl
+  where
+    go : (c : Bool) → bytes_eq b a ≡ c → bytes_eq b a ≡ false
+    go false h = h
+    go true h = let again : bytes_eq a b ≡ true = (bytes_eq-Decides a b).1 (sym ((bytes_eq-Decides b a).0 h)) in let bad : false ≡ true = sym e ∙ again in absurd cc
 
-  fits_one : Fits one_rules (i ∷ []) false
-  fits_one = record {
-    views = view one_rules (λ x. refl) false (no_option one_rules (λ n. refl));
-    positions = (refl, record { long = None; index = Some 1; required = true; found = rw (same i) refl }, refl, refl);
-    quiet_defaults = ((λ rows. value_default rows i None (Some 1) true), tt);
-    tail = λ rows. [];
-    finished_is = λ rows. value_kept rows i None (Some 1) true ∙ sym (append-nil rows);
-    absent = λ rows id h. refl;
-    required = λ rows. one_needed (is_given i rows);
-    apart = (own, not_flag, no_flag, refl, tt);
+is_off : (b : Bool) → not b ≡ true → b ≡ false
+is_off false e = refl
+is_off true e = absurd cc
+
+both : (a b : Bool) → (a && b) ≡ true → (a ≡ true) × (b ≡ true)
+both true b e = (refl, e)
+both false b e = absurd cc
+
+pub apart_ids : (ids : List Text) → are_ids ids ≡ true → Apart ids
+apart_ids [] h = tt
+apart_ids (i ∷ is) h =
+    let outer = both (is_free_id i) _ h in
+    let rest = both (not (list_any (bytes_eq i) is)) _ outer.1 in
+    let free = both (not (bytes_eq (codes "workers") i)) _ outer.0 in
+    let frees = both (not (bytes_eq (codes "shards") i)) _ free.1 in
+    let of_workers = is_off _ free.0 in
+    let of_shards = is_off _ frees.0 in
+    let of_preload = is_off _ frees.1 in
+    (own of_workers of_shards, of_preload, other_way (codes "preload") i of_preload, is_off _ rest.0, apart_ids is rest.1)
+  where
+    own : bytes_eq (codes "workers") i ≡ false → bytes_eq (codes "shards") i ≡ false → (s : NumberOption) → (bytes_eq (name_of s) i ≡ false) × (bytes_eq i (name_of s) ≡ false)
+    own w k workers = (w, other_way (codes "workers") i w)
+    own w k shards = (k, other_way (codes "shards") i k)
+
+no_id : (s : NumberOption) (ids : List Text) → Apart ids → NoneIs (name_of s) ids
+no_id s [] a = tt
+no_id s (i ∷ is) a = ((a.0 s).1, no_id s is a.4)
+
+no_preload_id : (ids : List Text) → Apart ids → NoneIs (codes "preload") ids
+no_preload_id [] a = tt
+no_preload_id (i ∷ is) a = (a.2, no_preload_id is a.4)
+
+-- ---- what clap passes
+
+both_le : (a b : ℕ) → (nat_le a b && nat_le b a) ≡ (a == b)
+both_le a b = grind (arith, nat_tests)
+
+module _ (name : Text) (ids : List Text) (o : Options) (few : 1 + length ids ≤ 100) (apart : Apart ids) where
+  fits : Fits (rules_from 1 ids o) ids o
+  fits = record {
+    views = view (rules_from 1 ids o) (by_short 1 ids o) o (option_view (rules_from 1 ids o) o (by_long 1 ids o) (option_value ids o apart));
+    positions = positions ids o few apart;
+    quiet_defaults = quiet_rules 1 ids o;
+    tail = tail_of o;
+    finished_is = finished 1 ids o;
+    absent = nothing_added o;
+    required = λ rows. required rows 1 ids o;
+    apart = apart;
   }
+
+  pub simple : is_simple_and_free (verb_command name ids o) ≡ true
+  simple = rw (simple_new ids o, filled_is 1 ids o few, simple_built 1 ids o, none_early _ 1 ids o, free_built 1 ids o) refl
+
+  fault_is : (ws : List Text) → fault_of (verb_command name ids o) ws ≡ level_fault (shape name (rules_from 1 ids o) o) [] nothing_held (drop 1 ws) false []
+  fault_is ws =
+      leaf_fault (built (verb_command name ids o)) nothing_held (drop 1 ws) refl
+      ∙ ap (λ rules. level_fault (shape name rules o) [] nothing_held (drop 1 ws) false []) (filled_is 1 ids o few)
+
+  rows_are : (ws : List Text) → matches_of (verb_command name ids o) ws ≡ rows_after (rules_from 1 ids o) [] (drop 1 ws)
+  rows_are ws = ap (λ rules. rows_after rules [] (drop 1 ws)) (filled_is 1 ids o few)
+
+  values_are : (ps : List Part) → (k : ℕ) (id : Text) → slice_get ids k ≡ Some id → value_in id (uses ids ps) ≡ slice_get (operands ps) k
+  values_are ps k id e = operand_at ids ps k id apart e
+
+  passes_is : (ws : List Text) → passes name (rules_from 1 ids o) ids o fits ws ≡ is_read (length ids) (parts o ws)
+  passes_is ws =
+      let ps = parts o ws in
+      let us = uses ids ps in
+      ap (λ g. (g && fresh [] us) && list_all (λ i. is_some (value_in i us)) ids) (good_is ids ps)
+      ∙ ap (λ all. ((not (list_any is_stray ps) && (not (list_any is_lacking ps) && nat_le (length (operands ps)) (length ids))) && fresh [] us) && all)
+      (all_there ids (operands ps) (λ i. value_in i us) (values_are ps))
+      ∙ settle_terms (not (list_any is_stray ps)) (not (list_any is_lacking ps)) (nat_le (length (operands ps)) (length ids)) (fresh [] us) (not (has_twice ps))
+      (nat_le (length ids) (length (operands ps))) (length (operands ps) == length ids)
+      (λ h. fresh_once ids ps apart (good_is ids ps ∙ h)) (both_le (length (operands ps)) (length ids))
+
+  pub reads : (ws : List Text) → AllProper (drop 1 ws) → none (fault_of (verb_command name ids o) ws) ≡ is_read (length ids) (parts o (drop 1 ws))
+  reads ws p = ap none (fault_is ws) ∙ level_passes name (rules_from 1 ids o) ids o fits (drop 1 ws) p ∙ passes_is (drop 1 ws)
+
+  -- ---- what clap finds
+
+  found_rows : (ws : List Text) → AllProper (drop 1 ws) → none (fault_of (verb_command name ids o) ws) ≡ true
+      → matches_of (verb_command name ids o) ws ≡ map use_row (uses ids (parts o (drop 1 ws))) ++ tail_of o (map use_row (uses ids (parts o (drop 1 ws))))
+  unfolding fits
+  found_rows ws p h =
+      let ok = both_true _ _ (sym (ap none (fault_is ws) ∙ level_passes name (rules_from 1 ids o) ids o fits (drop 1 ws) p) ∙ h) in
+      rows_are ws ∙ final_rows name (rules_from 1 ids o) ids o fits (drop 1 ws) p ok
+
+has_first : (id : Text) (us : List Use) → has_row id (map use_row us) ≡ is_some (value_in id us)
+has_first id [] = refl
+has_first id (u ∷ us) = go (bytes_eq u.0 id) (has_first id us)
+  where
+    go : (b : Bool) → has_row id (map use_row us) ≡ is_some (value_in id us) → (b || has_row id (map use_row us)) ≡ is_some (option_map (λ (v : Use). v.1) (cond b (Some u) (find (λ (v : Use). bytes_eq v.0 id) us)))
+    go true e = refl
+    go false e = e
+
+-- the text of a flag that is not there: clap adds one for a verb that has it
+abbrev pub off_text : Options → Option Text
+off_text NoOptions = None
+off_text Counts = None
+off_text CountsAndPreload = Some (codes "false")
+
+abbrev pub flag_text : Options → Bool → Option Text
+flag_text o b = cond b (Some (codes "true")) (off_text o)
+
+flag_found : (o : Options) (us : List Use) (b : Bool) → value_in (codes "preload") us ≡ cond b (Some (codes "true")) None
+    → one_of (codes "preload") (map use_row us ++ tail_of o (map use_row us)) ≡ flag_text o b
+flag_found o us b e =
+    ap (option_and_then row_text) (seen_append (codes "preload") us (tail_of o (map use_row us))) ∙ by o
+  where
+    bare : (f : Option Use) (b : Bool) → option_map (λ (u : Use). u.1) f ≡ cond b (Some (codes "true")) None
+        → option_and_then row_text (or_seen (option_map use_row f) None) ≡ cond b (Some (codes "true")) None
+    bare None true e = absurd cc
+    bare None false e = refl
+    bare (Some u) true e = e
+    bare (Some u) false e = absurd cc
+
+    with_off : (f : Option Use) (b : Bool) → option_map (λ (u : Use). u.1) f ≡ cond b (Some (codes "true")) None
+        → option_and_then row_text (or_seen (option_map use_row f) (seen (codes "preload") (cond (is_some (option_map (λ (u : Use). u.1) f)) [] (off_row ∷ [])))) ≡ flag_text CountsAndPreload b
+    with_off None true e = absurd cc
+    with_off None false e = refl
+    with_off (Some u) true e = e
+    with_off (Some u) false e = absurd cc
+
+    by : (o : Options) → option_and_then row_text (or_seen (option_map use_row (find (λ (u : Use). bytes_eq u.0 (codes "preload")) us)) (seen (codes "preload") (tail_of o (map use_row us)))) ≡ flag_text o b
+    by NoOptions = bare (find (λ (u : Use). bytes_eq u.0 (codes "preload")) us) b e
+    by Counts = bare (find (λ (u : Use). bytes_eq u.0 (codes "preload")) us) b e
+    by CountsAndPreload =
+        ap (λ h. option_and_then row_text (or_seen (option_map use_row (find (λ (u : Use). bytes_eq u.0 (codes "preload")) us)) (seen (codes "preload") (cond h [] (off_row ∷ [])))))
+        (has_first (codes "preload") us)
+        ∙ with_off (find (λ (u : Use). bytes_eq u.0 (codes "preload")) us) b e
+
+-- what a parse of the words of a verb found
+pub record WordsFound (f : Found) (ids : List Text) (o : Options) (ps : List Part) : Type 0 where
+  pub good : is_read (length ids) ps ≡ true
+  pub operand_values : HasFirstValues f ids (operands ps)
+  pub number_text : (s : NumberOption) → first_value f (name_of s) ≡ slice_get (texts_of s ps) 0
+  pub preload_text : one_text f (codes "preload") ≡ flag_text o (list_any is_preload ps)
+
+module _ (app : App) (name : Text) (ids : List Text) (o : Options) (ws : List Text) (is : app ≡ verb_command name ids o) (are : are_ids ids ≡ true) (few : length ids ≤ 4)
+    (proper : AllProper (drop 1 ws)) where
+  in_bound : 1 + length ids ≤ 100
+  in_bound = omega (arith, few)
+
+  pub app_simple : is_simple_and_free app ≡ true
+  app_simple = ap is_simple_and_free is ∙ simple name ids o in_bound (apart_ids ids are)
+
+  pub words_refused : fault_of app ws ≢ [] → is_read (length ids) (parts o (drop 1 ws)) ≡ false
+  words_refused h = sym (reads name ids o in_bound (apart_ids ids are) ws proper) ∙ ap (λ a. none (fault_of a ws)) (sym is) ∙ some_is (fault_of app ws) h
+
+  pub words_found : (f : Found) → fault_of app ws ≡ [] → rows_of f ≡ matches_of app ws → WordsFound f ids o (parts o (drop 1 ws))
+  words_found f h rows =
+      let ps = parts o (drop 1 ws) in
+      let us = uses ids ps in
+      let apart = apart_ids ids are in
+      let passed : none (fault_of (verb_command name ids o) ws) ≡ true = ap (λ a. none (fault_of a ws)) (sym is) ∙ none_is (fault_of app ws) h in
+      let read : is_read (length ids) ps ≡ true = sym (reads name ids o in_bound apart ws proper) ∙ passed in
+      let all = rows ∙ ap (λ a. matches_of a ws) is ∙ found_rows name ids o in_bound apart ws proper passed in
+      let value : (id : Text) → bytes_eq (codes "preload") id ≡ false → first_value f id ≡ value_in id us
+      = λ id free. first_value-rows f id ∙ ap (first_of id) all ∙ first_seen id us _ (nothing_added o (map use_row us) id free) in
+      record {
+        good = read;
+        operand_values = all_values ids (operands ps) (first_value f) (counted (length ids) ps read).0
+            (λ k id e. value id (free_of ids k id apart e) ∙ operand_at ids ps k id apart e);
+        number_text = λ s. value (name_of s) (not_preload s) ∙ number_option_value s ids ps (no_id s ids apart);
+        preload_text = one_text-rows f (codes "preload") ∙ ap (one_of (codes "preload")) all
+            ∙ flag_found o us (list_any is_preload ps) (preload_value ids ps (no_preload_id ids apart));
+      }
     where
-      one_needed : (b : Bool) → (not b || false) ≡ not (b && true)
-      one_needed true = refl
-      one_needed false = refl
+      not_preload : (s : NumberOption) → bytes_eq (codes "preload") (name_of s) ≡ false
+      not_preload workers = refl
+      not_preload shards = refl
 
-  fault_one : (ws : List Text) → fault_of (one_operand name i) ws ≡ level_fault (shape name one_rules false) [] nothing_held (drop 1 ws) false []
-  fault_one ws = leaf_fault (built (one_operand name i)) nothing_held (drop 1 ws) refl
+      free_of : (ids : List Text) (k : ℕ) (id : Text) → Apart ids → slice_get ids k ≡ Some id → bytes_eq (codes "preload") id ≡ false
+      free_of ids k id a e = (free_at ids k id a e).1
 
-  passes_one : (ws : List Text) → passes name one_rules (i ∷ []) false fits_one ws ≡ is_read 1 (parts false ws)
-  passes_one ws =
-      let ps = parts false ws in
-      let us = uses (i ∷ []) ps in
-      ap (λ g. (g && fresh [] us) && (is_some (value_in i us) && true)) (good_is (i ∷ []) ps)
-      ∙ ap (λ o. ((not (list_any is_stray ps) && (not (list_any is_lacking ps) && nat_le (length (operands ps)) 1)) && fresh [] us) && (is_some o && true))
-      (first_operand i [] ps (λ s. (own s).0) not_flag)
-      ∙ settle_terms (not (list_any is_stray ps)) (not (list_any is_lacking ps)) (nat_le (length (operands ps)) 1) (fresh [] us) (not (has_twice ps))
-      (is_some (slice_get (operands ps) 0) && true) (length (operands ps) == 1)
-      (λ h. fresh_once (i ∷ []) ps fits_one.apart (good_is (i ∷ []) ps ∙ h)) (count_one (operands ps))
+-- ---- the flag
 
-  pub reads_one : (ws : List Text) → AllProper (drop 1 ws) → none (fault_of (one_operand name i) ws) ≡ is_read 1 (parts false (drop 1 ws))
-  reads_one ws p = ap none (fault_one ws) ∙ level_passes name one_rules (i ∷ []) false fits_one (drop 1 ws) p ∙ passes_one (drop 1 ws)
-
-  pub value_one : (ws : List Text) → AllProper (drop 1 ws) → none (fault_of (one_operand name i) ws) ≡ true
-      → first_of i (matches_of (one_operand name i) ws) ≡ slice_get (operands (parts false (drop 1 ws))) 0
-  unfolding fits_one
-  value_one ws p h =
-      let ps = parts false (drop 1 ws) in
-      let us = uses (i ∷ []) ps in
-      let ok : (good (i ∷ []) ps && fresh [] us) ≡ true = both_true _ _ (sym (ap none (fault_one ws) ∙ level_passes name one_rules (i ∷ []) false fits_one (drop 1 ws) p) ∙ h) in
-      ap (first_of i) (final_rows name one_rules (i ∷ []) false fits_one (drop 1 ws) p ok) ∙ first_seen i us [] refl ∙ first_operand i [] ps (λ s. (own s).0) not_flag
-
--- ---- two operands, with or without options
-
-abbrev pub jdf_rule : Rule
-jdf_rule = value_rule (codes "jdf") None (Some 1) true
-
-abbrev pub data_rule : Rule
-data_rule = value_rule (codes "data") None (Some 2) true
-
-abbrev pub pair : List Text
-pair = codes "jdf" ∷ codes "data" ∷ []
-
-jdf_own : (s : NumberOption) → (bytes_eq (name_of s) (codes "jdf") ≡ false) × (bytes_eq (codes "jdf") (name_of s) ≡ false)
-jdf_own workers = (refl, refl)
-jdf_own shards = (refl, refl)
-
-data_own : (s : NumberOption) → (bytes_eq (name_of s) (codes "data") ≡ false) × (bytes_eq (codes "data") (name_of s) ≡ false)
-data_own workers = (refl, refl)
-data_own shards = (refl, refl)
-
-pub pair_apart : Apart pair
-pair_apart = (jdf_own, refl, refl, refl, (data_own, refl, refl, refl, tt))
-
-pub first_of_pair : (ps : List Part) → value_in (codes "jdf") (uses pair ps) ≡ slice_get (operands ps) 0
-first_of_pair ps = first_operand (codes "jdf") (codes "data" ∷ []) ps (λ s. (jdf_own s).0) refl
-
-pub second_of_pair : (ps : List Part) → value_in (codes "data") (uses pair ps) ≡ slice_get (operands ps) 1
-second_of_pair ps = second_operand (codes "jdf") (codes "data") [] ps refl (λ s. (data_own s).0) refl
-
-pub pair_reads : (ps : List Part) → ((good pair ps && fresh [] (uses pair ps)) && list_all (λ i. is_some (value_in i (uses pair ps))) pair) ≡ is_read 2 ps
-pair_reads ps =
-    let us = uses pair ps in
-    ap (λ g. (g && fresh [] us) && (is_some (value_in (codes "jdf") us) && (is_some (value_in (codes "data") us) && true))) (good_is pair ps)
-    ∙ ap (λ o. ((not (list_any is_stray ps) && (not (list_any is_lacking ps) && nat_le (length (operands ps)) 2)) && fresh [] us) && (is_some o && (is_some (value_in (codes "data") us) && true)))
-    (first_of_pair ps)
-    ∙ ap (λ o. ((not (list_any is_stray ps) && (not (list_any is_lacking ps) && nat_le (length (operands ps)) 2)) && fresh [] us) && (is_some (slice_get (operands ps) 0) && (is_some o && true)))
-    (second_of_pair ps)
-    ∙ settle_terms (not (list_any is_stray ps)) (not (list_any is_lacking ps)) (nat_le (length (operands ps)) 2) (fresh [] us) (not (has_twice ps))
-    (is_some (slice_get (operands ps) 0) && (is_some (slice_get (operands ps) 1) && true)) (length (operands ps) == 2)
-    (λ h. fresh_once pair ps pair_apart (good_is pair ps ∙ h)) (count_two (operands ps))
-
-abbrev two_rules : List Rule
-two_rules = jdf_rule ∷ data_rule ∷ []
-
-fits_two : Fits two_rules pair false
-fits_two = record {
-  views = view two_rules (λ x. refl) false (no_option two_rules (λ n. refl));
-  positions = (refl, record { long = None; index = Some 1; required = true; found = refl }, refl, (refl, record { long = None; index = Some 2; required = true; found = refl }, refl, refl));
-  quiet_defaults = ((λ rows. value_default rows (codes "jdf") None (Some 1) true), ((λ rows. value_default rows (codes "data") None (Some 2) true), tt));
-  tail = λ rows. [];
-  finished_is = λ rows. ap (λ r. with_default r data_rule) (value_kept rows (codes "jdf") None (Some 1) true) ∙ value_kept rows (codes "data") None (Some 2) true ∙ sym (append-nil rows);
-  absent = λ rows id h. refl;
-  required = λ rows. neither (is_given (codes "jdf") rows) (is_given (codes "data") rows);
-  apart = pair_apart;
-}
-
-module _ (name : Text) where
-  fault_two : (ws : List Text) → fault_of (two_operands name) ws ≡ level_fault (shape name two_rules false) [] nothing_held (drop 1 ws) false []
-  fault_two ws = leaf_fault (built (two_operands name)) nothing_held (drop 1 ws) refl
-
-  pub reads_two : (ws : List Text) → AllProper (drop 1 ws) → none (fault_of (two_operands name) ws) ≡ is_read 2 (parts false (drop 1 ws))
-  reads_two ws p = ap none (fault_two ws) ∙ level_passes name two_rules pair false fits_two (drop 1 ws) p ∙ pair_reads (parts false (drop 1 ws))
-
-  pub values_two : (ws : List Text) → AllProper (drop 1 ws) → none (fault_of (two_operands name) ws) ≡ true
-      → (first_of (codes "jdf") (matches_of (two_operands name) ws) ≡ slice_get (operands (parts false (drop 1 ws))) 0)
-      × (first_of (codes "data") (matches_of (two_operands name) ws) ≡ slice_get (operands (parts false (drop 1 ws))) 1)
-  unfolding fits_two
-  values_two ws p h =
-      let ps = parts false (drop 1 ws) in
-      let us = uses pair ps in
-      let ok : (good pair ps && fresh [] us) ≡ true = both_true _ _ (sym (ap none (fault_two ws) ∙ level_passes name two_rules pair false fits_two (drop 1 ws) p) ∙ h) in
-      let rows = final_rows name two_rules pair false fits_two (drop 1 ws) p ok in
-      (ap (first_of (codes "jdf")) rows ∙ first_seen (codes "jdf") us [] refl ∙ first_of_pair ps, ap (first_of (codes "data")) rows ∙ first_seen (codes "data") us [] refl ∙ second_of_pair ps)
-
-pub simple_one : (name i : Text) → is_simple_and_free (one_operand name i) ≡ true
-simple_one name i = refl
-
-pub simple_two : (name : Text) → is_simple_and_free (two_operands name) ≡ true
-simple_two name = refl
+pub flag_is : (o : Options) (text : Option Text) (b result : Bool) → (text ≡ None → result ≡ false) → (text ≡ Some (codes "true") → result ≡ true)
+    → (text ≡ Some (codes "false") → result ≡ false) → text ≡ flag_text o b → b ≡ result
+flag_is o text true result n t f e = sym (t e)
+flag_is NoOptions text false result n t f e = sym (n e)
+flag_is Counts text false result n t f e = sym (n e)
+flag_is CountsAndPreload text false result n t f e = sym (f e)

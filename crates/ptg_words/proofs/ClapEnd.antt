@@ -10,6 +10,7 @@ use Rattle.clap.specs.Facts.{explicit_source}
 use Rattle.clap.specs.Takes.{is_given}
 use Rattle.clap.specs.Kinds.{or_else}
 use Rattle.clap.specs.Faults.{level_fault, default_fault, defaults_fault, check_fault, settle_fault, walk_fault}
+use Rattle.ptg_words.specs.declared.options.Options.{Options}
 use Rattle.ptg_words.specs.Parts.{parts}
 use Rattle.ptg_words.proofs.ClapUses.{Use, use_row, added, fresh, none, none_else, and_assoc, value_rule, preload_rule}
 use Rattle.ptg_words.proofs.ClapStates.{quiet, good, uses, shape, total, final, here, View, Positions, Ends}
@@ -90,7 +91,7 @@ no_default_fault [] rows q = refl
 no_default_fault (a ∷ rest) rows q = rw (q.0 rows) (no_default_fault rest (with_default rows a) q.1)
 
 -- what is known of a command's rules
-pub record Fits (c : List Rule) (ids : List Text) (opts : Bool) : Type 0 where
+pub record Fits (c : List Rule) (ids : List Text) (opts : Options) : Type 0 where
   pub views : (w : Text) → IsProper w → View c opts w
   pub positions : Positions c 1 ids
   pub quiet_defaults : Quiet c
@@ -111,7 +112,7 @@ not_not : (b : Bool) → not (not b) ≡ b
 not_not true = refl
 not_not false = refl
 
-module _ (name : Text) (c : List Rule) (ids : List Text) (opts : Bool) (fits : Fits c ids opts) where
+module _ (name : Text) (c : List Rule) (ids : List Text) (opts : Options) (fits : Fits c ids opts) where
   all_views : (ws : List Text) → AllProper ws → Views name c opts ws
   all_views [] p = tt
   all_views (w ∷ ws) p = (fits.views w p.0, all_views ws p.1)

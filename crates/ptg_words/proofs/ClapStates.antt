@@ -9,6 +9,7 @@ use Rattle.clap.specs.Kinds.{Kinds, or_else}
 use Rattle.clap.specs.Faults.{use_fault, settle_fault, turn_fault, walk_fault, flag_word_fault}
 use Rattle.clap.specs.Lexer.{usize_max}
 use Rattle.clap.specs.Lexer.{long_of, short_of}
+use Rattle.ptg_words.specs.declared.options.Options.{Options}
 use Rattle.ptg_words.specs.Parts.{NumberOption, Part, name_of, after, form_of, operand, given, lacking, preload, stray, plain, named, flag, unknown}
 use Rattle.ptg_words.proofs.ClapUses.{none, none_else, value_rule, preload_rule, number_option_rule, Use, added, fresh, value_fault, value_used, and_true, and_assoc}
 
@@ -61,7 +62,7 @@ Positions c n [] = arg_by_index c n ≡ None
 Positions c n (i ∷ is) = (arg_by_index c n ≡ Some (value_rule i None (Some n) true)) × IsValue c i × (min (n + 1) usize_max ≡ n + 1) × Positions c (n + 1) is
 
 -- what clap sees in a word, beside its form
-pub data View (c : List Rule) (opts : Bool) (w : Text) : Type 0 where
+pub data View (c : List Rule) (opts : Options) (w : Text) : Type 0 where
   is_plain : form_of opts w ≡ plain → bytes_eq w (45 ∷ 45 ∷ []) ≡ false → long_of w ≡ None → short_of w ≡ None → View c opts w
   is_name : (s : NumberOption) → form_of opts w ≡ named s None → bytes_eq w (45 ∷ 45 ∷ []) ≡ false → long_of w ≡ Some (name_of s, None)
       → arg_by_long c (name_of s) ≡ Some (number_option_rule s) → IsValue c (name_of s) → View c opts w
@@ -97,7 +98,7 @@ pub record Ends (F : Kinds) (final expected : List Row) (ok : Bool) : Type 0 whe
   pub sound : none F ≡ ok
   pub rows : ok ≡ true → final ≡ expected
 
-module _ (name : Text) (c : List Rule) (opts : Bool) where
+module _ (name : Text) (c : List Rule) (opts : Options) where
   abbrev pub shape : Shape
   shape = record (new_shape name) { rules = c; disable_help_flag = true; disable_help_subcommand = true; is_built = true }
 

@@ -7,11 +7,12 @@ use Rattle.clap.specs.Kinds.{Kinds, or_else}
 use Rattle.clap.specs.Faults.{use_fault, settle_fault, turn_fault, flag_word_fault, word_fault}
 use Rattle.clap.specs.Lexer.{usize_max}
 use Rattle.clap.specs.Lexer.{long_of, short_of}
+use Rattle.ptg_words.specs.declared.options.Options.{Options}
 use Rattle.ptg_words.specs.Parts.{NumberOption, name_of, workers, shards}
 use Rattle.ptg_words.proofs.ClapUses.{none, none_else, value_rule, preload_rule, number_option_rule, Use, use_row, added, fresh, and_true, and_false, and_left, and_swap, fresh_split, added_split}
 use Rattle.ptg_words.proofs.ClapStates.{Pend, pending_of, uses_of, held, here, IsValue, Known, quiet, due, shape, settle_none, settle_rows}
 
-module _ (name : Text) (c : List Rule) (opts : Bool) where
+module _ (name : Text) (c : List Rule) (opts : Options) where
   -- ---- what each word comes to
 
   pub turn_operand : (w i : Text) (rows : List Row) (q : Option Use) (n : ℕ) → arg_by_index c n ≡ Some (value_rule i None (Some n) true)

@@ -10,10 +10,12 @@ use Rattle.std.specs.Option.{option_map_or}
 use Rattle.clap.specs.Walk.{Held, Row, Rule, Text, arg_by_short, arg_by_long}
 use Rattle.clap.specs.Faults.{flag_word_fault, flags_fault, bundle_fault, bundle_step_fault, short_fault, long_fault}
 use Rattle.clap.specs.Lexer.{long_of, short_of}
-use Rattle.ptg_words.specs.Parts.{NumberOption, name_of, workers, shards, named, form_of, text_after}
+use Rattle.ptg_words.specs.declared.options.Options.{Options}
+use Rattle.ptg_words.specs.declared.options.Options.TheVariants.{NoOptions, Counts, CountsAndPreload}
+use Rattle.ptg_words.specs.Parts.{NumberOption, name_of, workers, shards, named, form_of, text_after, has_counts}
 use Rattle.ptg_words.specs.Words.{IsProper}
 use Rattle.ptg_words.proofs.ClapStates.{Pend, IsValue, View, is_plain, is_name, is_text, is_flag, is_refused, held}
-use Rattle.ptg_words.proofs.ClapUses.{none, number_option_rule, preload_rule, and_false}
+use Rattle.ptg_words.proofs.ClapUses.{none, number_option_rule, preload_rule}
 
 pub first_char : (x : ℕ) (xs : List ℕ) → IsUtf8 (x ∷ xs) → (y : ℕ) × (slice_get (chars (x ∷ xs)) 0 ≡ Some y)
 first_char x xs u = go (chars (x ∷ xs)) refl
@@ -43,13 +45,13 @@ module _ (c : List Rule) (no_short : (x : ℕ) → arg_by_short c x ≡ None) wh
       ∙ ap (λ o. none (option_map_or (λ flags. bundle_fault c false flags (held rows p)) o [])) short
       ∙ bundle_fails x xs u (length xs) (held rows p)
 
-  module _ (opts : Bool) (double : (y : ℕ) (ys : List ℕ) → View c opts (45 ∷ 45 ∷ y ∷ ys)) where
+  module _ (opts : Options) (double : (y : ℕ) (ys : List ℕ) → View c opts (45 ∷ 45 ∷ y ∷ ys)) where
     dashed : (bs : List ℕ) → IsProper (45 ∷ bs) → View c opts (45 ∷ bs)
     dashed [] p = absurd (p.2 refl)
     dashed (x ∷ xs) p = go (x == 45) refl
       where
         go : (b : Bool) → (x == 45) ≡ b → View c opts (45 ∷ x ∷ xs)
-        go false e = is_refused (rw (e, and_false opts) refl) (rw e refl) (short_fails x xs (IsUtf8-past_char (45 ∷ x ∷ xs) (x ∷ xs) 45 p.0 (sym (ap (λ l. l ++ (x ∷ xs)) (encode_ascii 45 (omega arith))))) e)
+        go false e = is_refused (rw e refl) (rw e refl) (short_fails x xs (IsUtf8-past_char (45 ∷ x ∷ xs) (x ∷ xs) 45 p.0 (sym (ap (λ l. l ++ (x ∷ xs)) (encode_ascii 45 (omega arith))))) e)
         go true e =
             let is_dash : x ≡ 45 = grind (arith, nat_tests) in
             again xs (subst (λ z. IsProper (45 ∷ z ∷ xs)) is_dash p) (λ v. subst (λ z. View c opts (45 ∷ z ∷ xs)) (sym is_dash) v)
@@ -71,33 +73,40 @@ module _ (c : List Rule) (no_short : (x : ℕ) → arg_by_short c x ≡ None) wh
 abbrev pub name_part : ℕ → List ℕ → Text
 name_part y ys = before_first (λ b. b == 61) (y ∷ ys)
 
--- a command without options
-pub no_option : (c : List Rule) → ((name : Text) → arg_by_long c name ≡ None) → (y : ℕ) (ys : List ℕ) → View c false (45 ∷ 45 ∷ y ∷ ys)
-unfolding none
-no_option c no_long y ys = is_refused refl refl (λ rows p. rw (no_long (before_first (λ b. b == 61) (y ∷ ys))) refl)
-
--- a command with the three options
-abbrev pub long_rule : Text → Option Rule
-long_rule name = cond (bytes_eq (codes "workers") name) (Some (number_option_rule workers)) (cond (bytes_eq (codes "shards") name) (Some (number_option_rule shards))
+-- the rule of the option of this name
+abbrev pub long_rule : Options → Text → Option Rule
+long_rule NoOptions name = None
+long_rule Counts name = cond (bytes_eq (codes "workers") name) (Some (number_option_rule workers)) (cond (bytes_eq (codes "shards") name) (Some (number_option_rule shards)) None)
+long_rule CountsAndPreload name = cond (bytes_eq (codes "workers") name) (Some (number_option_rule workers)) (cond (bytes_eq (codes "shards") name) (Some (number_option_rule shards))
     (cond (bytes_eq (codes "preload") name) (Some preload_rule) None))
 
-module _ (c : List Rule) (by_long : (name : Text) → arg_by_long c name ≡ long_rule name) (by_id : (s : NumberOption) → IsValue c (name_of s)) where
-  named_view : (s : NumberOption) (y : ℕ) (ys : List ℕ) (text : Option Text) → text_after (y ∷ ys) ≡ text → name_of s ≡ before_first (λ b. b == 61) (y ∷ ys)
-      → ((t : Option Text) → form_of true (45 ∷ 45 ∷ y ∷ ys) ≡ named s (text_after (y ∷ ys))) → arg_by_long c (name_of s) ≡ Some (number_option_rule s)
-      → View c true (45 ∷ 45 ∷ y ∷ ys)
-  named_view s y ys None e n f found =
-      is_name s (f None ∙ ap (named s) e) refl (ap₂ (λ (a : Text) (t : Option Text). Some (a, t)) (sym n) e) found (by_id s)
-  named_view s y ys (Some t) e n f found =
-      is_text s t (f None ∙ ap (named s) e) refl (ap₂ (λ (a : Text) (t : Option Text). Some (a, t)) (sym n) e) found
+module _ (c : List Rule) where
+  named_view : (opts : Options) (s : NumberOption) (y : ℕ) (ys : List ℕ) (text : Option Text) → text_after (y ∷ ys) ≡ text → name_of s ≡ name_part y ys
+      → form_of opts (45 ∷ 45 ∷ y ∷ ys) ≡ named s (text_after (y ∷ ys)) → arg_by_long c (name_of s) ≡ Some (number_option_rule s) → IsValue c (name_of s)
+      → View c opts (45 ∷ 45 ∷ y ∷ ys)
+  named_view opts s y ys None e n f found value =
+      is_name s (f ∙ ap (named s) e) refl (ap₂ (λ (a : Text) (t : Option Text). Some (a, t)) (sym n) e) found value
+  named_view opts s y ys (Some t) e n f found value =
+      is_text s t (f ∙ ap (named s) e) refl (ap₂ (λ (a : Text) (t : Option Text). Some (a, t)) (sym n) e) found
 
-  pub some_option : (y : ℕ) (ys : List ℕ) → View c true (45 ∷ 45 ∷ y ∷ ys)
+  -- a word that begins with `--`
+  pub option_view : (opts : Options) → ((name : Text) → arg_by_long c name ≡ long_rule opts name) → (has_counts opts ≡ true → (s : NumberOption) → IsValue c (name_of s))
+      → (y : ℕ) (ys : List ℕ) → View c opts (45 ∷ 45 ∷ y ∷ ys)
   unfolding none
-  some_option y ys = go (bytes_eq (codes "workers") (name_part y ys)) (bytes_eq (codes "shards") (name_part y ys)) (bytes_eq (codes "preload") (name_part y ys)) (text_after (y ∷ ys)) refl refl refl refl
+  option_view NoOptions by_long by_id y ys = is_refused refl refl (λ rows p. rw (by_long (name_part y ys)) refl)
+  option_view Counts by_long by_id y ys = go (bytes_eq (codes "workers") (name_part y ys)) (bytes_eq (codes "shards") (name_part y ys)) refl refl
+    where
+      go : (a b : Bool) → bytes_eq (codes "workers") (name_part y ys) ≡ a → bytes_eq (codes "shards") (name_part y ys) ≡ b → View c Counts (45 ∷ 45 ∷ y ∷ ys)
+      go true b ea eb = named_view Counts workers y ys _ refl (same_bytes _ _ ea) (rw ea refl) (by_long (codes "workers")) (by_id refl workers)
+      go false true ea eb = named_view Counts shards y ys _ refl (same_bytes _ _ eb) (rw (ea, eb) refl) (by_long (codes "shards")) (by_id refl shards)
+      go false false ea eb = is_refused (rw (ea, eb) refl) refl (λ rows p. rw (by_long (name_part y ys), ea, eb) refl)
+  option_view CountsAndPreload by_long by_id y ys =
+      go (bytes_eq (codes "workers") (name_part y ys)) (bytes_eq (codes "shards") (name_part y ys)) (bytes_eq (codes "preload") (name_part y ys)) (text_after (y ∷ ys)) refl refl refl refl
     where
       go : (a b d : Bool) (text : Option Text) → bytes_eq (codes "workers") (name_part y ys) ≡ a → bytes_eq (codes "shards") (name_part y ys) ≡ b → bytes_eq (codes "preload") (name_part y ys) ≡ d
-          → text_after (y ∷ ys) ≡ text → View c true (45 ∷ 45 ∷ y ∷ ys)
-      go true b d text ea eb ed e = named_view workers y ys text e (same_bytes _ _ ea) (λ t. rw ea refl) (by_long (codes "workers"))
-      go false true d text ea eb ed e = named_view shards y ys text e (same_bytes _ _ eb) (λ t. rw (ea, eb) refl) (by_long (codes "shards"))
+          → text_after (y ∷ ys) ≡ text → View c CountsAndPreload (45 ∷ 45 ∷ y ∷ ys)
+      go true b d text ea eb ed e = named_view CountsAndPreload workers y ys text e (same_bytes _ _ ea) (rw ea refl) (by_long (codes "workers")) (by_id refl workers)
+      go false true d text ea eb ed e = named_view CountsAndPreload shards y ys text e (same_bytes _ _ eb) (rw (ea, eb) refl) (by_long (codes "shards")) (by_id refl shards)
       go false false true None ea eb ed e =
           is_flag (rw (ea, eb, ed, e) refl) refl (ap₂ (λ (a : Text) (t : Option Text). Some (a, t)) (sym (same_bytes _ _ ed)) e) (by_long (codes "preload"))
       go false false true (Some t) ea eb ed e =

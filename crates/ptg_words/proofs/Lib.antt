@@ -5,10 +5,11 @@ mod ClapWalk
 mod PartsOfUses
 mod ClapViews
 mod ClapEnd
+mod Building
+mod ClapRules
 mod ClapCommands
-mod ClapRun
 mod ValuesRead
-mod Commanded
 mod Rules
 pub mod OneOrder
 mod Either
+mod OrderFacts

@@ -1,5 +1,5 @@
 -- What clap keeps of the words says the same as their parts: each option occurs once, and the positionals are the operands.
-use Rattle.std.proofs.Common.{◌≡◌, ℕ, suc, Bool, true, false, not, cond, ◌&&◌, ◌||◌, List, [], ◌∷◌, ◌++◌, length, Option, Some, None, refl, sym, ap, ◌∙◌, arith, codes}
+use Rattle.std.proofs.Common.{◌≡◌, ℕ, zero, suc, Bool, true, false, not, cond, ◌&&◌, ◌||◌, List, [], ◌∷◌, ◌++◌, length, map, Option, Some, None, is_some, refl, sym, ap, ◌∙◌, subst, arith, codes}
 use Rattle.std.specs.Prelude.{find, option_map, slice_get, nat_le, ◌==◌}
 use Rattle.std.specs.List.{list_any, list_all}
 use Rattle.std.specs.Str.{bytes_eq}
@@ -133,23 +133,62 @@ pub same : (i : Text) → bytes_eq i i ≡ true
 same [] = refl
 same (b ∷ bs) = let here : (b == b) ≡ true = grind (arith, nat_tests) in rw (here, same bs)
 
-pub first_operand : (i : Text) (is : List Text) (ps : List Part) → ((s : NumberOption) → bytes_eq (name_of s) i ≡ false) → bytes_eq (codes "preload") i ≡ false
-    → value_in i (uses (i ∷ is) ps) ≡ slice_get (operands ps) 0
-first_operand i is [] a b = refl
-first_operand i is (operand w ∷ ps) a b = rw (same i) refl
-first_operand i is (given s t ∷ ps) a b = rw (a s) (first_operand i is ps a b)
-first_operand i is (lacking s ∷ ps) a b = first_operand i is ps a b
-first_operand i is (preload ∷ ps) a b = rw b (first_operand i is ps a b)
-first_operand i is (stray ∷ ps) a b = first_operand i is ps a b
+-- the ids of positionals have no name of an option at any place
+pub free_at : (ids : List Text) (k : ℕ) (id : Text) → Apart ids → slice_get ids k ≡ Some id → ((s : NumberOption) → bytes_eq (name_of s) id ≡ false) × (bytes_eq (codes "preload") id ≡ false)
+free_at [] k id a e = absurd cc
+free_at (i ∷ is) zero id a e = let here : i ≡ id = cc in subst (λ (x : Text). ((s : NumberOption) → bytes_eq (name_of s) x ≡ false) × (bytes_eq (codes "preload") x ≡ false)) here ((λ s. (a.0 s).0), a.1)
+free_at (i ∷ is) (suc k) id a e = free_at is k id a.4 e
 
-pub second_operand : (i j : Text) (is : List Text) (ps : List Part) → bytes_eq i j ≡ false → ((s : NumberOption) → bytes_eq (name_of s) j ≡ false) → bytes_eq (codes "preload") j ≡ false
-    → value_in j (uses (i ∷ j ∷ is) ps) ≡ slice_get (operands ps) 1
-second_operand i j is [] d a b = refl
-second_operand i j is (operand w ∷ ps) d a b = rw d (first_operand j is ps a b)
-second_operand i j is (given s t ∷ ps) d a b = rw (a s) (second_operand i j is ps d a b)
-second_operand i j is (lacking s ∷ ps) d a b = second_operand i j is ps d a b
-second_operand i j is (preload ∷ ps) d a b = rw b (second_operand i j is ps d a b)
-second_operand i j is (stray ∷ ps) d a b = second_operand i j is ps d a b
+differs_at : (i : Text) (ids : List Text) (k : ℕ) (id : Text) → list_any (bytes_eq i) ids ≡ false → slice_get ids k ≡ Some id → bytes_eq i id ≡ false
+differs_at i [] k id d e = absurd cc
+differs_at i (j ∷ js) zero id d e = let here : j ≡ id = cc in ap (bytes_eq i) (sym here) ∙ left_of (bytes_eq i j) _ d
+  where
+    left_of : (a b : Bool) → (a || b) ≡ false → a ≡ false
+    left_of false b e = refl
+    left_of true b e = let bad : true ≡ false = e in absurd cc
+differs_at i (j ∷ js) (suc k) id d e = differs_at i js k id (right_of (bytes_eq i j) _ d) e
+
+-- each operand is the first value of its id
+pub operand_at : (ids : List Text) (ps : List Part) (k : ℕ) (id : Text) → Apart ids → slice_get ids k ≡ Some id → value_in id (uses ids ps) ≡ slice_get (operands ps) k
+operand_at ids [] k id a e = refl
+operand_at [] (operand w ∷ ps) k id a e = absurd cc
+operand_at (i ∷ is) (operand w ∷ ps) zero id a e = let here : i ≡ id = cc in rw (ap (bytes_eq i) (sym here) ∙ same i) refl
+operand_at (i ∷ is) (operand w ∷ ps) (suc k) id a e = rw (differs_at i is k id a.3 e) (operand_at is ps k id a.4 e)
+operand_at ids (given s t ∷ ps) k id a e = rw ((free_at ids k id a e).0 s) (operand_at ids ps k id a e)
+operand_at ids (lacking s ∷ ps) k id a e = operand_at ids ps k id a e
+operand_at ids (preload ∷ ps) k id a e = rw ((free_at ids k id a e).1) (operand_at ids ps k id a e)
+operand_at ids (stray ∷ ps) k id a e = operand_at ids ps k id a e
+
+zero_le : (n : ℕ) → nat_le 0 n ≡ true
+zero_le n = grind (arith, nat_tests)
+
+none_below : (n : ℕ) → nat_le (suc n) 0 ≡ false
+none_below n = grind (arith, nat_tests)
+
+le_suc : (a b : ℕ) (t : Bool) → nat_le a b ≡ t → nat_le (suc a) (suc b) ≡ t
+le_suc a b true e = grind (arith, nat_tests)
+le_suc a b false e = grind (arith, nat_tests)
+
+both_more : (a b : ℕ) → nat_le (suc a) (suc b) ≡ nat_le a b
+both_more a b = le_suc a b (nat_le a b) refl
+
+-- so they are there where there are at least as many operands
+pub all_there : (ids ops : List Text) (g : Text → Option Text) → ((k : ℕ) (id : Text) → slice_get ids k ≡ Some id → g id ≡ slice_get ops k)
+    → list_all (λ i. is_some (g i)) ids ≡ nat_le (length ids) (length ops)
+all_there [] ops g at = sym (zero_le (length ops))
+all_there (i ∷ is) [] g at = rw (at 0 i refl, none_below (length is)) refl
+all_there (i ∷ is) (w ∷ ws) g at =
+    ap (λ o. is_some o && list_all (λ j. is_some (g j)) is) (at 0 i refl) ∙ all_there is ws g (λ k id e. at (suc k) id e) ∙ sym (both_more (length is) (length ws))
+
+-- and they are the operands, where there are as many
+pub all_values : (ids ops : List Text) (g : Text → Option Text) → length ops ≡ length ids → ((k : ℕ) (id : Text) → slice_get ids k ≡ Some id → g id ≡ slice_get ops k)
+    → map g ids ≡ map Some ops
+all_values [] [] g n at = refl
+all_values [] (w ∷ ws) g n at = absurd (omega (arith, n))
+all_values (i ∷ is) [] g n at = absurd (omega (arith, n))
+all_values (i ∷ is) (w ∷ ws) g n at =
+    let rest = all_values is ws g (omega (arith, n)) (λ k id e. at (suc k) id e) in
+    let first : g i ≡ Some w = at 0 i refl in cc
 
 -- none of these is the name
 abbrev pub NoneIs : Text → List Text → Type 0
@@ -179,19 +218,6 @@ preload_value ids (given shards t ∷ ps) h = preload_value ids ps h
 preload_value ids (lacking t ∷ ps) h = preload_value ids ps h
 preload_value ids (preload ∷ ps) h = refl
 preload_value ids (stray ∷ ps) h = preload_value ids ps h
-
-zero_le : (n : ℕ) → nat_le 0 n ≡ true
-zero_le n = grind (arith, nat_tests)
-
-none_below : (n : ℕ) → nat_le (suc n) 0 ≡ false
-none_below n = grind (arith, nat_tests)
-
-le_suc : (a b : ℕ) (t : Bool) → nat_le a b ≡ t → nat_le (suc a) (suc b) ≡ t
-le_suc a b true e = grind (arith, nat_tests)
-le_suc a b false e = grind (arith, nat_tests)
-
-both_more : (a b : ℕ) → nat_le (suc a) (suc b) ≡ nat_le a b
-both_more a b = le_suc a b (nat_le a b) refl
 
 both_false : (a b : Bool) → false ≡ (not a && (not b && false))
 both_false true b = refl

@@ -1,6 +1,6 @@
 -- The rules hold or fail by what the parts of the words are.
-use Rattle.std.proofs.Common.{◌≡◌, ℕ, Bool, true, false, not, ◌&&◌, List, [], ◌∷◌, ◌++◌, ◌+◌, take, length, Some, refl, sym, ap, ◌∙◌, subst, arith, ◌<◌}
-use Rattle.std.specs.Prelude.{◌==◌, drop, option_map, nat_le}
+use Rattle.std.proofs.Common.{◌≡◌, ℕ, Bool, true, false, not, ◌&&◌, ◌||◌, List, [], ◌∷◌, ◌++◌, ◌+◌, take, length, get_or, Some, refl, sym, ap, ◌∙◌, subst, inl, inr, arith, ◌<◌, ◌≤◌}
+use Rattle.std.specs.Prelude.{◌==◌, ◌⊎◌, drop, option_map, nat_le}
 use Rattle.std.specs.List.{All, list_any, list_all, slice_index_or}
 use Rattle.std.specs.Option.{option_map_or}
 use Rattle.std.proofs.lemmas.List.Elements.{All-drop, All-push}
@@ -9,7 +9,7 @@ use Rattle.std.specs.Borrow.{Bor}
 use Rattle.ptg_base.specs.Decimal.{decimal, is_decimal, is_digit}
 use Rattle.ptg_words.specs.Parts.{Part, parts, operands, is_lacking, is_stray, has_twice}
 use Rattle.ptg_words.specs.declared.order.Order.{Order}
-use Rattle.ptg_words.specs.Words.{Verb, Breaks, IsOrderOf, Orders, IsProper, IsUsage, no_verb, improper_word, stray_word, lacking_number, option_twice, operand_number, bad_number, read, verb_of, has_options, operand_count, has_bad_number, has_wrong_count}
+use Rattle.ptg_words.specs.Words.{Verb, Breaks, Orders, IsProper, IsUsage, no_verb, improper_word, stray_word, lacking_number, option_twice, operand_number, bad_number, formed, read, verb_of, options_of, operands_of, operand_count, has_bad_count, has_bad_operand, has_bad_number, has_wrong_count, is_number, ranks}
 use Rattle.ptg_words.specs.Readings.{AllProper, IsOf, is_read, texts}
 
 pub all_proper : (ws : List (List ℕ)) → All IsProper ws → AllProper ws
@@ -24,7 +24,7 @@ rest_proper (w ∷ ws) h = all_proper ws (All-drop IsProper 1 (w ∷ ws) h)
 by_parts : (rule : Verb → List Part → Bool) (ws : List (List ℕ)) (v : Verb) (ps : List Part) → read ws ≡ Some (v, ps) → Breaks rule ws → rule v ps ≡ true
 by_parts rule ws v ps e h = sym (ap (λ o. option_map_or (λ r. rule r.0 r.1) o false) e) ∙ h
 
-to_rule : (rule : Verb → List Part → Bool) (ws : List (List ℕ)) (v : Verb) (ps : List Part) → read ws ≡ Some (v, ps) → rule v ps ≡ true → Breaks rule ws
+pub to_rule : (rule : Verb → List Part → Bool) (ws : List (List ℕ)) (v : Verb) (ps : List Part) → read ws ≡ Some (v, ps) → rule v ps ≡ true → Breaks rule ws
 to_rule rule ws v ps e h = ap (λ o. option_map_or (λ r. rule r.0 r.1) o false) e ∙ h
 
 clash : (b : Bool) → b ≡ true → not b ≡ true → ⊥
@@ -78,27 +78,51 @@ at_most most (b ∷ bs) h = go (list_all is_digit (b ∷ bs)) (nat_le (decimal (
     go true y e = e
     go false y e = absurd cc
 
+pub number_at_most : (least most : ℕ) (text : List ℕ) → is_number least most text ≡ true → nat_le (decimal text) most ≡ true
+number_at_most least most text h = at_most most text (go (nat_le (length text) 20) (is_decimal most text) (nat_le least (decimal text)) h)
+  where
+    go : (a b c : Bool) → (a && (b && c)) ≡ true → b ≡ true
+    go true true c e = refl
+    go true false c e = absurd cc
+    go false b c e = absurd cc
+
 -- what the parts of proper words mean is what the words order
-pub order_of : (v : Verb) (ws : List (List ℕ)) (order : Order) → IsOf v ws → is_read (operand_count v) (parts (has_options v) (drop 1 ws)) ≡ true
-    → has_bad_number v (parts (has_options v) (drop 1 ws)) ≡ false → IsOrderOf v (parts (has_options v) (drop 1 ws)) order → Orders ws order
-order_of v ws order of good number asks = record {
-  verb = v;
-  rest = parts (has_options v) (drop 1 ws);
-  reads = of.reads;
-  asks = asks;
-  breaks_no_rule = breaks_none ws v (parts (has_options v) (drop 1 ws)) of.reads of.proper good number;
-}
+module _ (v : Verb) (ws : List (List ℕ)) (of : IsOf v ws) where
+  abbrev pub rest_of : List Part
+  rest_of = parts (options_of v) (drop 1 ws)
 
-pub refused : (v : Verb) (ws : List (List ℕ)) → IsOf v ws → is_read (operand_count v) (parts (has_options v) (drop 1 ws)) ≡ false → IsUsage ws
-refused v ws of h = breaks_rule ws v (parts (has_options v) (drop 1 ws)) of.reads h
+  pub order_of : (order : Order) → is_read (operand_count v) rest_of ≡ true → has_bad_count rest_of ≡ false → has_bad_operand (operands_of v) (operands rest_of) ≡ false
+      → formed v (operands rest_of) rest_of ≡ Some order → Orders ws order
+  order_of order good counts numbers asks = record {
+    verb = v;
+    rest = rest_of;
+    reads = of.reads;
+    asks = asks;
+    breaks_no_rule = breaks_none ws v rest_of of.reads of.proper good (rw (counts, numbers) refl);
+  }
 
-pub no_number : (v : Verb) (ws : List (List ℕ)) → IsOf v ws → has_bad_number v (parts (has_options v) (drop 1 ws)) ≡ true → IsUsage ws
-no_number v ws of h = breaks_number ws v (parts (has_options v) (drop 1 ws)) of.reads h
+  -- the same, where the operands are known
+  pub order_from : (order : Order) (ops : List (List ℕ)) → is_read (operand_count v) rest_of ≡ true → has_bad_count rest_of ≡ false → ops ≡ operands rest_of
+      → has_bad_operand (operands_of v) ops ≡ false → formed v ops rest_of ≡ Some order → Orders ws order
+  order_from order ops good counts same numbers asks =
+      order_of order good counts (ap (has_bad_operand (operands_of v)) (sym same) ∙ numbers) (ap (λ xs. formed v xs rest_of) (sym same) ∙ asks)
+
+  -- arguments that are not read break a rule
+  pub refused : (is_read (operand_count v) rest_of ≡ false) ⊎ (has_bad_count rest_of ≡ true) → IsUsage ws
+  refused (inl h) = breaks_rule ws v rest_of of.reads h
+  refused (inr h) = breaks_number ws v rest_of of.reads (rw h refl)
+
+  pub no_number : has_bad_operand (operands_of v) (operands rest_of) ≡ true → IsUsage ws
+  no_number h = breaks_number ws v rest_of of.reads (or_true (has_bad_count rest_of) _ h)
+    where
+      or_true : (a b : Bool) → b ≡ true → (a || b) ≡ true
+      or_true true b e = refl
+      or_true false b e = e
 
 -- proper words whose first is the word of a verb
 pub begins : (word : List ℕ) (v : Verb) (w : List ℕ) (ws : List (List ℕ)) → All IsProper (w ∷ ws) → w ≡ word → verb_of word ≡ Some v → IsOf v (w ∷ ws)
 begins word v w ws proper same is = record {
-  reads = ap (option_map (λ verb. (verb, parts (has_options verb) ws))) (ap verb_of same ∙ is);
+  reads = ap (option_map (λ verb. (verb, parts (options_of verb) ws))) (ap verb_of same ∙ is);
   proper = proper;
 }
 
@@ -110,3 +134,18 @@ texts_more xs ys list i d x pushed same lt is =
 
 pub proper_more : (list : List (List ℕ)) (i : ℕ) (d : List ℕ) → All IsProper (take i list) → i < length list → IsProper (slice_index_or list i d) → All IsProper (take (i + 1) list)
 proper_more list i d all lt p = subst (All IsProper) (sym (take_more list i d lt)) (All-push IsProper (take i list) (slice_index_or list i d) all p)
+
+-- lists of three and of four references, as a pattern of a slice knows them
+pub three_texts : (xs : List (Bor (List ℕ))) (d : Bor (List ℕ)) → 3 ≤ length xs → length xs < 4 → texts xs ≡ (get_or xs 0 d).now ∷ (get_or xs 1 d).now ∷ (get_or xs 2 d).now ∷ []
+three_texts (a ∷ b ∷ e ∷ []) d low high = refl
+three_texts xs d low high = absurd (omega (arith, low, high))
+
+pub four_texts : (xs : List (Bor (List ℕ))) (d : Bor (List ℕ)) → 4 ≤ length xs → length xs < 5
+    → texts xs ≡ (get_or xs 0 d).now ∷ (get_or xs 1 d).now ∷ (get_or xs 2 d).now ∷ (get_or xs 3 d).now ∷ []
+four_texts (a ∷ b ∷ e ∷ f ∷ []) d low high = refl
+four_texts xs d low high = absurd (omega (arith, low, high))
+
+-- two numbers in range are no bad operands
+pub ranks_fit : (jdf tiles count seed : List ℕ) → is_number 1 64 count ≡ true → is_number 0 18446744073709551615 seed ≡ true
+    → has_bad_operand (operands_of ranks) (jdf ∷ tiles ∷ count ∷ seed ∷ []) ≡ false
+ranks_fit jdf tiles count seed r s = rw (r, s) refl

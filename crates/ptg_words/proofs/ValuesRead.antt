@@ -65,21 +65,6 @@ counted n ps e =
     no_twice false h = refl
     no_twice true h = absurd cc
 
-pub one_of_one : (xs : List Text) (o : Option (Bor Text)) → length xs ≡ 1 → option_map (λ (s : Bor Text). s.now) o ≡ slice_get xs 0 → xs ≡ texts_in o
-one_of_one [] o n e = absurd (omega (arith, n))
-one_of_one (a ∷ []) None n e = absurd cc
-one_of_one (a ∷ []) (Some s) n e = let same : s.now ≡ a = cc in cc
-one_of_one (a ∷ b ∷ rest) o n e = absurd (omega (arith, n))
-
-pub two_of_two : (xs : List Text) (o p : Option (Bor Text)) → length xs ≡ 2 → option_map (λ (s : Bor Text). s.now) o ≡ slice_get xs 0 → option_map (λ (s : Bor Text). s.now) p ≡ slice_get xs 1
-    → (a b : Bor Text) × (o ≡ Some a) × (p ≡ Some b) × (xs ≡ a.now ∷ b.now ∷ [])
-two_of_two [] o p n e f = absurd (omega (arith, n))
-two_of_two (x ∷ []) o p n e f = absurd (omega (arith, n))
-two_of_two (x ∷ y ∷ []) None p n e f = absurd cc
-two_of_two (x ∷ y ∷ []) (Some a) None n e f = absurd cc
-two_of_two (x ∷ y ∷ []) (Some a) (Some b) n e f = let same : a.now ≡ x = cc in let other : b.now ≡ y = cc in (a, b, refl, refl, cc)
-two_of_two (x ∷ y ∷ z ∷ rest) o p n e f = absurd (omega (arith, n))
-
 -- an option that does not occur twice has one text at most
 no_texts : (s : NumberOption) (ps : List Part) → list_any (is_named (name_of s)) ps ≡ false → texts_of s ps ≡ []
 no_texts s [] e = refl

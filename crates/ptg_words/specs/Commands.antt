@@ -1,9 +1,10 @@
--- The command of each verb, as clap sees it: operands by their ids, the two options with a number, and
--- `--preload`.
-use Rattle.std.specs.Prelude.{List, [], ◌∷◌, Some, true, codes}
+-- The command of each verb, as clap sees it: operands by their ids, and the options of the verb.
+use Rattle.std.specs.Prelude.{List, [], ◌∷◌, ◌++◌, map, Some, true, codes}
 use Rattle.clap.specs.Walk.{Rule, Text}
-use Rattle.clap.specs.Simple.{App, new_rule, new_shape}
+use Rattle.clap.specs.Simple.{App, new_rule, new_shape, on_top}
 use Rattle.clap.specs.declared.builder.action.ArgAction.TheVariants.{Set, SetTrue}
+use Rattle.ptg_words.specs.declared.options.Options.{Options}
+use Rattle.ptg_words.specs.declared.options.Options.TheVariants.{NoOptions, Counts, CountsAndPreload}
 
 abbrev pub operand_rule : Text → Rule
 operand_rule id = record (new_rule id) { required = true; action = Some Set }
@@ -17,15 +18,16 @@ flag_rule name = record (new_rule name) { long = Some name; action = Some SetTru
 abbrev pub command : Text → List Rule → App
 command name rules = record { top = record (new_shape name) { rules = rules; disable_help_flag = true }; subs = [] }
 
--- `show JDF`, `demo N`
-abbrev pub one_operand : Text → Text → App
-one_operand name id = command name (operand_rule id ∷ [])
+-- the rules of the options
+abbrev pub option_rules : Options → List Rule
+option_rules NoOptions = []
+option_rules Counts = option_rule (codes "workers") ∷ option_rule (codes "shards") ∷ []
+option_rules CountsAndPreload = option_rule (codes "workers") ∷ option_rule (codes "shards") ∷ flag_rule (codes "preload") ∷ []
 
--- `check JDF DATA`
-abbrev pub two_operands : Text → App
-two_operands name = command name (operand_rule (codes "jdf") ∷ operand_rule (codes "data") ∷ [])
+-- the command with more rules at its end
+abbrev pub with_rules : App → List Rule → App
+with_rules app rules = on_top (λ s. record s { rules = s.rules ++ rules }) app
 
--- `run JDF DATA` with its options
-abbrev pub run_command : App
-run_command = command (codes "run") (operand_rule (codes "jdf") ∷ operand_rule (codes "data") ∷ option_rule (codes "workers") ∷ option_rule (codes "shards")
-    ∷ flag_rule (codes "preload") ∷ [])
+-- the command of a verb with these operands and options
+abbrev pub verb_command : Text → List Text → Options → App
+verb_command name ids options = command name (map operand_rule ids ++ option_rules options)

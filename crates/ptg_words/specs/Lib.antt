@@ -1,4 +1,5 @@
 pub mod Commands
+pub mod Laws
 pub mod Parts
 pub mod Readings
 pub mod Words

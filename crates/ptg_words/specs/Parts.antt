@@ -4,6 +4,19 @@ use Rattle.std.specs.Prelude.{◌==◌, ◌&&◌, ◌||◌, not, ℕ, Bool, true
 use Rattle.std.specs.List.{list_any, before_first, after_first}
 use Rattle.std.specs.Option.{option_map_or}
 use Rattle.std.specs.Str.{bytes_eq}
+use Rattle.ptg_words.specs.declared.options.Options.{Options}
+use Rattle.ptg_words.specs.declared.options.Options.TheVariants.{NoOptions, Counts, CountsAndPreload}
+
+-- the options with a number are there for every verb that has options, and `--preload` for those that have it
+abbrev pub has_counts : Options → Bool
+has_counts NoOptions = false
+has_counts Counts = true
+has_counts CountsAndPreload = true
+
+abbrev pub has_preload : Options → Bool
+has_preload NoOptions = false
+has_preload Counts = false
+has_preload CountsAndPreload = true
 
 -- an option that has a number as its value
 pub data NumberOption : Type 0 where
@@ -15,7 +28,7 @@ name_of workers = codes "workers"
 name_of shards = codes "shards"
 
 -- What a word is by itself: plain, where it begins with no `-`; an option with a number, `--NAME` or `--NAME=TEXT`; the flag
--- `--preload`; or unknown: it begins with `-` and is none of these.
+-- `--preload`; or unknown: it begins with `-` and is no option of the verb.
 pub data Form : Type 0 where
   plain : Form
   named : NumberOption → Option (List ℕ) → Form
@@ -27,26 +40,25 @@ abbrev pub is_dashed : List ℕ → Bool
 is_dashed [] = false
 is_dashed (b ∷ bs) = b == 45
 
--- the option that has this name, with the text after `=` if there is one
-abbrev pub option_named : List ℕ → Option (List ℕ) → Form
-option_named name text =
-    if bytes_eq (codes "workers") name then named workers text
-    else if bytes_eq (codes "shards") name then named shards text
-    else if bytes_eq (codes "preload") name && not (is_some text) then flag
+-- the option of the verb that has this name, with the text after `=` if there is one
+abbrev pub option_named : Options → List ℕ → Option (List ℕ) → Form
+option_named options name text =
+    if has_counts options && bytes_eq (codes "workers") name then named workers text
+    else if has_counts options && bytes_eq (codes "shards") name then named shards text
+    else if has_preload options && (bytes_eq (codes "preload") name && not (is_some text)) then flag
     else unknown
 
 -- the text after the first `=`, which is 61
 abbrev pub text_after : List ℕ → Option (List ℕ)
 text_after word = if list_any (λ b. b == 61) word then Some (after_first (λ b. b == 61) word) else None
 
--- the form of a word that begins with `-`; only `run` has options
-abbrev pub dashed_form : Bool → List ℕ → Form
-dashed_form has_options word =
-    if has_options && is_dashed word then option_named (before_first (λ b. b == 61) (drop 1 word)) (text_after (drop 1 word))
-    else unknown
+-- the form of a word that begins with `-`, by what follows it
+abbrev pub dashed_form : Options → List ℕ → Form
+dashed_form options word =
+    if is_dashed word then option_named options (before_first (λ b. b == 61) (drop 1 word)) (text_after (drop 1 word)) else unknown
 
-abbrev pub form_of : Bool → List ℕ → Form
-form_of has_options word = if is_dashed word then dashed_form has_options (drop 1 word) else plain
+abbrev pub form_of : Options → List ℕ → Form
+form_of options word = if is_dashed word then dashed_form options (drop 1 word) else plain
 
 -- The words in their order: an operand, an option with its number, an option that lacks it, `--preload`, or a stray word, which
 -- begins with `-` and is no option.
@@ -79,12 +91,12 @@ at_end None = []
 at_end (Some s) = lacking s ∷ []
 
 -- the parts of words; the first one may follow `--NAME` of an option with a number
-unfoldable pub parts_from : Bool → Option NumberOption → List (List ℕ) → List Part
-parts_from has_options due [] = at_end due
-parts_from has_options due (word ∷ words) = after due (form_of has_options word) word (λ next. parts_from has_options next words)
+unfoldable pub parts_from : Options → Option NumberOption → List (List ℕ) → List Part
+parts_from options due [] = at_end due
+parts_from options due (word ∷ words) = after due (form_of options word) word (λ next. parts_from options next words)
 
-abbrev pub parts : Bool → List (List ℕ) → List Part
-parts has_options words = parts_from has_options None words
+abbrev pub parts : Options → List (List ℕ) → List Part
+parts options words = parts_from options None words
 
 -- the operands, in their order
 abbrev pub operands : List Part → List (List ℕ)

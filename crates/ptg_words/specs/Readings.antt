@@ -1,11 +1,14 @@
 -- The definitions that the contracts of the steps of parsing cite.
-use Rattle.std.specs.Prelude.{◌≡◌, ◌==◌, ◌&&◌, not, drop, ℕ, Bool, false, List, [], ◌∷◌, length, map, Option, Some, None, codes}
+use Rattle.std.specs.Prelude.{◌≡◌, ◌==◌, ◌&&◌, not, drop, ℕ, Bool, true, false, List, [], ◌∷◌, length, map, Option, Some, None, codes}
 use Rattle.std.specs.Str.{bytes_eq}
 use Rattle.std.specs.List.{All, list_any}
 use Rattle.std.specs.Borrow.{Bor}
-use Rattle.ptg_words.specs.declared.clap_words.RunWords.{RunWords}
-use Rattle.ptg_words.specs.Parts.{Part, parts, NumberOption, name_of, workers, shards, operands, texts_of, is_preload, is_lacking, is_stray, has_twice}
-use Rattle.ptg_words.specs.Words.{Verb, IsProper, read, has_options}
+use Rattle.clap.specs.Matches.{first_value}
+use Rattle.clap.specs.declared.parser.matches.Found.{Found}
+use Rattle.ptg_words.specs.declared.clap_words.VerbWords.{VerbWords}
+use Rattle.ptg_words.specs.declared.verb.ReadVerb.{ReadVerb}
+use Rattle.ptg_words.specs.Parts.{Part, parts, workers, shards, operands, texts_of, is_preload, is_lacking, is_stray, has_twice}
+use Rattle.ptg_words.specs.Words.{Verb, IsProper, read, options_of, workers_of, shards_of, has_bad_count}
 
 abbrev pub AllProper : List (List ℕ) → Type 0
 AllProper [] = Unit {0}
@@ -24,18 +27,36 @@ abbrev pub texts_in : Option (Bor (List ℕ)) → List (List ℕ)
 texts_in None = []
 texts_in (Some s) = s.now ∷ []
 
--- what the parts of `run` give
-pub record IsRunOf (ps : List Part) (r : RunWords) : Type 0 where
-  pub files : operands ps ≡ r.jdf.now ∷ r.tiles.now ∷ []
+-- the first values of these ids, in order
+abbrev pub HasFirstValues : Found → List (List ℕ) → List (List ℕ) → Type 0
+HasFirstValues found ids values = map (first_value found) ids ≡ map Some values
+
+-- the operands of the parts and what their options have, as text
+pub record HasWords (ps : List Part) (r : VerbWords) : Type 0 where
+  pub operand_texts : texts r.operands.items ≡ operands ps
   pub workers_text : texts_of workers ps ≡ texts_in r.workers
   pub shards_text : texts_of shards ps ≡ texts_in r.shards
   pub preloads : list_any is_preload ps ≡ r.preload
 
--- an id that is no option's name
-abbrev pub IsFreeId : List ℕ → Type 0
-IsFreeId id = ((s : NumberOption) → (bytes_eq (name_of s) id ≡ false) × (bytes_eq id (name_of s) ≡ false)) × (bytes_eq (codes "preload") id ≡ false) × (bytes_eq id (codes "preload") ≡ false)
+-- the operands of the parts and what their options have, with the numbers that are not given
+pub record IsReadOf (n : ℕ) (ps : List Part) (r : ReadVerb) : Type 0 where
+  pub good : is_read n ps ≡ true
+  pub counts : has_bad_count ps ≡ false
+  pub operand_texts : texts r.operands.items ≡ operands ps
+  pub workers : r.workers ≡ workers_of ps
+  pub shards : r.shards ≡ shards_of ps
+  pub preloads : r.preload ≡ list_any is_preload ps
+
+-- an id is the name of no option
+abbrev pub is_free_id : List ℕ → Bool
+is_free_id id = not (bytes_eq (codes "workers") id) && (not (bytes_eq (codes "shards") id) && not (bytes_eq (codes "preload") id))
+
+-- ids of operands: they differ from each other and from the names of the options
+abbrev pub are_ids : List (List ℕ) → Bool
+are_ids [] = true
+are_ids (id ∷ ids) = is_free_id id && (not (list_any (bytes_eq id) ids) && are_ids ids)
 
 -- proper words that begin with this verb
 pub record IsOf (verb : Verb) (words : List (List ℕ)) : Type 0 where
-  pub reads : read words ≡ Some (verb, parts (has_options verb) (drop 1 words))
+  pub reads : read words ≡ Some (verb, parts (options_of verb) (drop 1 words))
   pub proper : All IsProper words

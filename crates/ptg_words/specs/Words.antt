@@ -1,11 +1,13 @@
 -- Which arguments give which command, and the seven rules by which they give none. Source: this project's own choice.
-use Rattle.std.specs.Prelude.{◌≡◌, ◌≢◌, ◌==◌, ◌&&◌, ◌||◌, ◌⊎◌, not, ℕ, Bool, true, false, nat_le, List, [], ◌∷◌, length, Option, Some, None, option_map, if◌then◌else◌, codes}
+use Rattle.std.specs.Prelude.{◌≡◌, ◌≢◌, ◌==◌, ◌&&◌, ◌||◌, not, ℕ, Bool, true, false, nat_le, List, [], ◌∷◌, length, Option, Some, None, option_map, if◌then◌else◌, codes}
 use Rattle.std.specs.List.{Any, list_any}
 use Rattle.std.specs.Option.{option_map_or}
 use Rattle.std.specs.Str.{IsUtf8, bytes_eq}
 use Rattle.ptg_base.specs.Decimal.{decimal, is_decimal}
+use Rattle.ptg_words.specs.declared.options.Options.{Options}
+use Rattle.ptg_words.specs.declared.options.Options.TheVariants.{NoOptions, Counts, CountsAndPreload}
 use Rattle.ptg_words.specs.declared.order.Order.{Order}
-use Rattle.ptg_words.specs.declared.order.Order.TheVariants.{Run, Show, Check, Demo}
+use Rattle.ptg_words.specs.declared.order.Order.TheVariants.{Run, Show, Check, Demo, Trace, Replay, Certify, Ranks}
 use Rattle.ptg_words.specs.Parts.{Part, workers, shards, parts, operands, texts_of, is_preload, is_lacking, is_stray, has_twice}
 
 -- the first word
@@ -14,6 +16,10 @@ pub data Verb : Type 0 where
   show : Verb
   check : Verb
   demo : Verb
+  trace : Verb
+  replay : Verb
+  certify : Verb
+  ranks : Verb
 
 abbrev pub verb_of : List ℕ → Option Verb
 verb_of word =
@@ -21,45 +27,72 @@ verb_of word =
     else if bytes_eq word (codes "show") then Some show
     else if bytes_eq word (codes "check") then Some check
     else if bytes_eq word (codes "demo") then Some demo
+    else if bytes_eq word (codes "trace") then Some trace
+    else if bytes_eq word (codes "replay") then Some replay
+    else if bytes_eq word (codes "certify") then Some certify
+    else if bytes_eq word (codes "ranks") then Some ranks
     else None
 
--- `run` alone has options
-abbrev pub has_options : Verb → Bool
-has_options run = true
-has_options show = false
-has_options check = false
-has_options demo = false
+-- `run` and `trace` have options
+abbrev pub options_of : Verb → Options
+options_of run = CountsAndPreload
+options_of trace = Counts
+options_of show = NoOptions
+options_of check = NoOptions
+options_of demo = NoOptions
+options_of replay = NoOptions
+options_of certify = NoOptions
+options_of ranks = NoOptions
 
--- `run JDF DATA`, `show JDF`, `check JDF DATA`, `demo N`
-abbrev pub operand_count : Verb → ℕ
-operand_count run = 2
-operand_count show = 1
-operand_count check = 2
-operand_count demo = 1
+-- an operand: the name of a file, or a number from a least to a greatest one
+pub data Operand : Type 0 where
+  file : Operand
+  number : ℕ → ℕ → Operand
+
+-- `run JDF DATA`, `show JDF`, `check JDF DATA`, `demo N`, `trace JDF DATA`, `replay JDF DATA TRACE`, `certify JDF DATA`,
+-- `ranks JDF DATA R SEED`: a made job of 1 to 96 tiles a side, 1 to 64 ranks, and a seed below 2^64
+abbrev pub operands_of : Verb → List Operand
+operands_of run = file ∷ file ∷ []
+operands_of show = file ∷ []
+operands_of check = file ∷ file ∷ []
+operands_of demo = number 1 96 ∷ []
+operands_of trace = file ∷ file ∷ []
+operands_of replay = file ∷ file ∷ file ∷ []
+operands_of certify = file ∷ file ∷ []
+operands_of ranks = file ∷ file ∷ number 1 64 ∷ number 0 18446744073709551615 ∷ []
 
 -- the verb, and the parts of the words after it
 abbrev pub read : List (List ℕ) → Option (Verb × List Part)
 read [] = None
-read (word ∷ words) = option_map (λ verb. (verb, parts (has_options verb) words)) (verb_of word)
+read (word ∷ words) = option_map (λ verb. (verb, parts (options_of verb) words)) (verb_of word)
 
 -- a word that is text and neither empty, `-` nor `--`
 abbrev pub IsProper : List ℕ → Type 0
 IsProper word = IsUtf8 word × (word ≢ []) × (word ≢ codes "-") × (word ≢ codes "--")
 
--- 1 to 20 decimal digits whose number is from 1 to `most`; leading zeros are allowed
-abbrev pub is_number : ℕ → List ℕ → Bool
-is_number most text = nat_le (length text) 20 && (is_decimal most text && nat_le 1 (decimal text))
+-- 1 to 20 decimal digits whose number is from `least` to `most`; leading zeros are allowed
+abbrev pub is_number : ℕ → ℕ → List ℕ → Bool
+is_number least most text = nat_le (length text) 20 && (is_decimal most text && nat_le least (decimal text))
 
--- some text is no number from 1 to `most`
-abbrev pub has_no_number : ℕ → List (List ℕ) → Bool
-has_no_number most texts = list_any (λ text. not (is_number most text)) texts
+-- some text is no number from `least` to `most`
+abbrev pub has_no_number : ℕ → ℕ → List (List ℕ) → Bool
+has_no_number least most texts = list_any (λ text. not (is_number least most text)) texts
 
--- 1 to 64 workers and 1 to 256 shards, and a made job of 1 to 96 tiles a side
+-- a text that is to be a number and is none, or is out of its range
+abbrev pub has_bad_operand : List Operand → List (List ℕ) → Bool
+has_bad_operand (file ∷ rest) (text ∷ texts) = has_bad_operand rest texts
+has_bad_operand (number least most ∷ rest) (text ∷ texts) = not (is_number least most text) || has_bad_operand rest texts
+has_bad_operand _ _ = false
+
+-- 1 to 64 workers and 1 to 256 shards
+abbrev pub has_bad_count : List Part → Bool
+has_bad_count ps = has_no_number 1 64 (texts_of workers ps) || has_no_number 1 256 (texts_of shards ps)
+
 abbrev pub has_bad_number : Verb → List Part → Bool
-has_bad_number run ps = has_no_number 64 (texts_of workers ps) || has_no_number 256 (texts_of shards ps)
-has_bad_number show ps = false
-has_bad_number check ps = false
-has_bad_number demo ps = has_no_number 96 (operands ps)
+has_bad_number verb ps = has_bad_count ps || has_bad_operand (operands_of verb) (operands ps)
+
+abbrev pub operand_count : Verb → ℕ
+operand_count verb = length (operands_of verb)
 
 -- A stray word is no operand: it breaks a rule of its own.
 abbrev pub has_wrong_count : Verb → List Part → Bool
@@ -86,32 +119,29 @@ abbrev pub number_or : ℕ → List (List ℕ) → ℕ
 number_or default [] = default
 number_or default (text ∷ texts) = decimal text
 
--- The command that the parts form: to run a job, with 4 workers and 16 shards unless others are given; to show a JDF file; to check a job;
--- to run the made job.
-abbrev pub IsOrderOf : Verb → List Part → Order → Type 0
-IsOrderOf run ps (Run jdf tiles w s p) = (operands ps ≡ jdf ∷ tiles ∷ []) × IsUtf8 jdf × IsUtf8 tiles
-    × (w ≡ number_or 4 (texts_of workers ps)) × (s ≡ number_or 16 (texts_of shards ps)) × (p ≡ list_any is_preload ps)
-IsOrderOf show ps (Show jdf) = (operands ps ≡ jdf ∷ []) × IsUtf8 jdf
-IsOrderOf check ps (Check jdf tiles) = (operands ps ≡ jdf ∷ tiles ∷ []) × IsUtf8 jdf × IsUtf8 tiles
-IsOrderOf demo ps (Demo n) = (text : List ℕ) × (operands ps ≡ text ∷ []) × (n ≡ decimal text)
-IsOrderOf _ ps _ = ⊥
+-- 4 workers and 16 shards unless others are given
+abbrev pub workers_of : List Part → ℕ
+workers_of ps = number_or 4 (texts_of workers ps)
+
+abbrev pub shards_of : List Part → ℕ
+shards_of ps = number_or 16 (texts_of shards ps)
+
+-- the command that a verb, its operands and its options form
+abbrev pub formed : Verb → List (List ℕ) → List Part → Option Order
+formed run (jdf ∷ tiles ∷ []) ps = Some (Run jdf tiles (workers_of ps) (shards_of ps) (list_any is_preload ps))
+formed show (jdf ∷ []) ps = Some (Show jdf)
+formed check (jdf ∷ tiles ∷ []) ps = Some (Check jdf tiles)
+formed demo (rows ∷ []) ps = Some (Demo (decimal rows))
+formed trace (jdf ∷ tiles ∷ []) ps = Some (Trace jdf tiles (workers_of ps) (shards_of ps))
+formed replay (jdf ∷ tiles ∷ list ∷ []) ps = Some (Replay jdf tiles list)
+formed certify (jdf ∷ tiles ∷ []) ps = Some (Certify jdf tiles)
+formed ranks (jdf ∷ tiles ∷ count ∷ seed ∷ []) ps = Some (Ranks jdf tiles (decimal count) (decimal seed))
+formed _ _ ps = None
 
 -- the arguments break no rule, and form this command
 pub record Orders (words : List (List ℕ)) (order : Order) : Type 0 where
   pub verb : Verb
   pub rest : List Part
   pub reads : read words ≡ Some (verb, rest)
-  pub asks : IsOrderOf verb rest order
+  pub asks : formed verb (operands rest) rest ≡ Some order
   pub breaks_no_rule : IsUsage words → ⊥
-
--- arguments give one order at most
-abbrev pub OneOrder : Type 0
-OneOrder = (words : List (List ℕ)) (a b : Order) → Orders words a → Orders words b → a ≡ b
-
--- and none where they break a rule
-abbrev pub NeverBoth : Type 0
-NeverBoth = (words : List (List ℕ)) (order : Order) → Orders words order → IsUsage words → ⊥
-
--- and one where they break none: arguments form a command or break a rule
-abbrev pub OrderOrUsage : Type 0
-OrderOrUsage = (words : List (List ℕ)) → ((order : Order) × Orders words order) ⊎ IsUsage words

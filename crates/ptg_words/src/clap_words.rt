@@ -1,21 +1,21 @@
-//! What `clap` reads of the words of each verb, as text.
+//! What `clap` reads of the words of a verb, as text.
 
-ghost use Rattle.std.specs.Prelude.{◌≡◌, ◌≢◌, ◌∷◌, [], true, false, IfOk, Err, drop};
+ghost use Rattle.std.specs.Prelude.{◌≡◌, ◌≢◌, ◌≤◌, ℕ, List, [], true, false, IfOk, Err, drop, length};
 ghost use Rattle.clap.specs.Words.{app_of, found_of, rows_of, rule_of, fault_of, is_simple_and_free, matches_of};
 ghost use Rattle.ptg_words.specs.Commands as Commands;
-ghost use Rattle.ptg_words.specs.Parts.{operands, parts};
-ghost use Rattle.ptg_words.specs.Readings.{AllProper, IsFreeId, IsRunOf, is_read, texts};
+ghost use Rattle.ptg_words.specs.Parts.{parts};
+ghost use Rattle.ptg_words.specs.Readings.{AllProper, HasFirstValues, HasWords, are_ids, is_read, texts};
 
+use crate::options::Options;
 use crate::order::WordsRefusal;
 use clap::error::ErrorKind;
 use clap::{Arg, ArgAction, ArgMatches, Command};
 use std::alloc::{AllocError, Global};
 
-// The words of `run`, and what its options have.
+// The words of a verb: its operands, and what its options have.
 #[derive(Drop)]
-pub(crate) struct RunWords<'a> {
-    pub(crate) jdf: &'a str,
-    pub(crate) tiles: &'a str,
+pub(crate) struct VerbWords<'a> {
+    pub(crate) operands: Vec<&'a str>,
     pub(crate) workers: Option<&'a str>,
     pub(crate) shards: Option<&'a str>,
     pub(crate) preload: bool,
@@ -52,26 +52,46 @@ fn plain<'a>(alloc: Global, name: &'a str) -> Command<'a>
     Command::new(alloc, name).disable_help_flag(true)
 }
 
-fn one_operand<'a>(alloc: Global, name: &'a str, id: &'a str) -> Result<Command<'a>, AllocError>
-    ensures { IfOk result (λ c. app_of c ≡ Commands.one_operand name.entry.now id.entry.now) }
+// The command with the options that have a number.
+fn with_counts<'a>(alloc: Global, command: Command<'a>) -> Result<Command<'a>, AllocError>
+    ensures { IfOk result (λ c. app_of c ≡ Commands.with_rules (app_of command.entry) (Commands.option_rules Options.Counts)) }
 {
-    plain(alloc, name).arg(operand(alloc, id))
-}
-
-fn two_operands<'a>(alloc: Global, name: &'a str) -> Result<Command<'a>, AllocError>
-    ensures { IfOk result (λ c. app_of c ≡ Commands.two_operands name.entry.now) }
-{
-    let command = plain(alloc, name).arg(operand(alloc, "jdf"))?;
-    command.arg(operand(alloc, "data"))
-}
-
-fn run_command<'a>(alloc: Global) -> Result<Command<'a>, AllocError>
-    ensures { IfOk result (λ c. app_of c ≡ Commands.run_command) }
-{
-    let command = two_operands(alloc, "run")?;
     let command = command.arg(option(alloc, "workers"))?;
-    let command = command.arg(option(alloc, "shards"))?;
-    command.arg(flag(alloc, "preload"))
+    command.arg(option(alloc, "shards"))
+}
+
+// The command with the options of the verb.
+fn with_options<'a>(
+    alloc: Global,
+    command: Command<'a>,
+    options: Options,
+) -> Result<Command<'a>, AllocError>
+    ensures { IfOk result (λ c. app_of c ≡ Commands.with_rules (app_of command.entry) (Commands.option_rules options)) }
+{
+    match options {
+        Options::NoOptions => Ok(command),
+        Options::Counts => with_counts(alloc, command),
+        Options::CountsAndPreload => {
+            let command = with_counts(alloc, command)?;
+            command.arg(flag(alloc, "preload"))
+        }
+    }
+}
+
+// The command of a verb with these operands and options.
+fn verb_command<'a>(
+    alloc: Global,
+    name: &'a str,
+    ids: &'a [&'a str],
+    options: Options,
+) -> Result<Command<'a>, AllocError>
+    ensures { IfOk result (λ c. app_of c ≡ Commands.verb_command name.entry.now (texts ids.entry.now) options) }
+{
+    let mut command = plain(alloc, name);
+    for id in ids {
+        command = command.arg(operand(alloc, id))?;
+    }
+    with_options(alloc, command, options)
 }
 
 // Parses the words; the first one is the verb.
@@ -90,70 +110,47 @@ fn parsed<'a>(command: Command<'a>, words: &'a [&'a str]) -> Result<ArgMatches<'
     }
 }
 
-// The operand of `show` or `demo`.
-pub(crate) fn read_one<'a>(
+// The values of the operands with these ids, in order.
+fn operands_in<'a>(
     alloc: Global,
-    name: &'a str,
-    id: &'a str,
-    words: &'a [&'a str],
-) -> Result<&'a str, WordsRefusal>
-    requires proper { AllProper (drop 1 (texts words.now)) }
-    requires free { IsFreeId id.now }
-    ensures found { IfOk result (λ word. (is_read 1 (parts false (drop 1 (texts words.entry.now))) ≡ true)
-        × (operands (parts false (drop 1 (texts words.entry.now))) ≡ word.now ∷ [])) }
-    ensures usage { result ≡ Err WordsRefusal.Usage → is_read 1 (parts false (drop 1 (texts words.entry.now))) ≡ false }
+    matches: &ArgMatches<'a>,
+    ids: &[&str],
+) -> Result<Vec<&'a str>, WordsRefusal>
+    ensures found { IfOk result (λ words. HasFirstValues (found_of matches.now) (texts ids.now) (texts words.items)) }
+    ensures usage { result ≡ Err WordsRefusal.Usage → (values : List (List ℕ)) → HasFirstValues (found_of matches.now) (texts ids.now) values → ⊥ }
 {
-    let matches = parsed(one_operand(alloc, name, id)?, words)?;
-    let Some(word) = matches.get_str(id) else {
-        return Err(WordsRefusal::Usage);
-    };
-    Ok(word)
+    let mut words = Vec::new(alloc);
+    for id in ids {
+        let Some(word) = matches.get_str(id) else {
+            return Err(WordsRefusal::Usage);
+        };
+        words.push(word)?;
+    }
+    Ok(words)
 }
 
-// The operands of `check`.
-pub(crate) fn read_two<'a>(
+/// The words of a verb with these operands and options.
+pub(crate) fn verb_words<'a>(
     alloc: Global,
     name: &'a str,
+    ids: &'a [&'a str],
+    options: Options,
     words: &'a [&'a str],
-) -> Result<(&'a str, &'a str), WordsRefusal>
+) -> Result<VerbWords<'a>, WordsRefusal>
     requires proper { AllProper (drop 1 (texts words.now)) }
-    ensures found { IfOk result (λ two. (is_read 2 (parts false (drop 1 (texts words.entry.now))) ≡ true)
-        × (operands (parts false (drop 1 (texts words.entry.now))) ≡ two.0.now ∷ two.1.now ∷ [])) }
-    ensures usage { result ≡ Err WordsRefusal.Usage → is_read 2 (parts false (drop 1 (texts words.entry.now))) ≡ false }
+    requires ids { are_ids (texts ids.now) ≡ true }
+    requires few { length ids.now ≤ 4 }
+    ensures found { IfOk result (λ r. (is_read (length ids.entry.now) (parts options (drop 1 (texts words.entry.now))) ≡ true)
+        × HasWords (parts options (drop 1 (texts words.entry.now))) r) }
+    ensures usage { result ≡ Err WordsRefusal.Usage → is_read (length ids.entry.now) (parts options (drop 1 (texts words.entry.now))) ≡ false }
 {
-    let matches = parsed(two_operands(alloc, name)?, words)?;
-    let Some(jdf) = matches.get_str("jdf") else {
-        return Err(WordsRefusal::Usage);
-    };
-    let Some(tiles) = matches.get_str("data") else {
-        return Err(WordsRefusal::Usage);
-    };
-    Ok((jdf, tiles))
-}
-
-// The operands and options of `run`.
-pub(crate) fn read_run<'a>(
-    alloc: Global,
-    words: &'a [&'a str],
-) -> Result<RunWords<'a>, WordsRefusal>
-    requires proper { AllProper (drop 1 (texts words.now)) }
-    ensures found { IfOk result (λ r. (is_read 2 (parts true (drop 1 (texts words.entry.now))) ≡ true)
-        × IsRunOf (parts true (drop 1 (texts words.entry.now))) r) }
-    ensures usage { result ≡ Err WordsRefusal.Usage → is_read 2 (parts true (drop 1 (texts words.entry.now))) ≡ false }
-{
-    let matches = parsed(run_command(alloc)?, words)?;
-    let Some(jdf) = matches.get_str("jdf") else {
-        return Err(WordsRefusal::Usage);
-    };
-    let Some(tiles) = matches.get_str("data") else {
-        return Err(WordsRefusal::Usage);
-    };
+    let matches = parsed(verb_command(alloc, name, ids, options)?, words)?;
+    let operands = operands_in(alloc, &matches, ids)?;
     let workers = matches.get_str("workers");
     let shards = matches.get_str("shards");
     let preload = matches.get_flag("preload");
-    Ok(RunWords {
-        jdf,
-        tiles,
+    Ok(VerbWords {
+        operands,
         workers,
         shards,
         preload,

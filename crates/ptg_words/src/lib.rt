@@ -3,9 +3,13 @@
 
 mod clap_words;
 mod laws;
+mod options;
 mod order;
 mod reading;
+#[cfg(test)]
+mod tests;
+mod verb;
 
-pub use laws::words_give_one_order;
+pub use laws::{files_are_text, orders_have_numbers_in_range, words_give_one_order};
 pub use order::{Order, WordsRefusal};
 pub use reading::words;

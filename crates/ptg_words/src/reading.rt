@@ -1,20 +1,20 @@
 //! The command that proper words form: the verb, its operands and its numbers.
 
-ghost use Rattle.std.specs.Prelude.{◌≡◌, IfOk, MatchOption, MatchResult, Err, Ok, true, false};
+ghost use Rattle.std.specs.Prelude.{◌≡◌, IfOk, MatchResult, Err, Ok};
 ghost use Rattle.std.specs.List.{All};
-ghost use Rattle.std.specs.Str.{IsUtf8};
-ghost use Rattle.ptg_base.specs.Decimal.{decimal};
 ghost use Rattle.ptg_words.specs.Words as Words;
-ghost use Rattle.ptg_words.specs.Words.{IsProper, IsUsage, Orders, has_no_number, is_number};
-ghost use Rattle.ptg_words.specs.Readings.{IsOf, texts, texts_in};
+ghost use Rattle.ptg_words.specs.Words.{IsProper, IsUsage, Orders};
+ghost use Rattle.ptg_words.specs.Readings.{IsOf, texts};
 
-use crate::clap_words::{read_one, read_run, read_two};
+use crate::options::Options;
 use crate::order::{Order, WordsRefusal};
-use ptg_base::{OutOfMemory, Text, decimal};
+use crate::verb::{file, number, read_verb, small_number};
+use ptg_base::Text;
 use std::alloc::Global;
 
 /// Parses the command line, without the program's name: `run JDF DATA [--workers N] [--shards K] [--preload]`, `show JDF`,
-/// `check JDF DATA` or `demo N`, with options anywhere after the verb. Usage exactly where one of the rules is broken.
+/// `check JDF DATA`, `demo N`, `trace JDF DATA [--workers N] [--shards K]`, `replay JDF DATA TRACE`, `certify JDF DATA` or
+/// `ranks JDF DATA R SEED`, with options anywhere after the verb. Usage exactly where one of the rules is broken.
 pub fn words(alloc: Global, list: &[Text]) -> Result<Order, WordsRefusal>
     ensures found { IfOk result (λ order. Orders list.now order) }
     ensures usage { result ≡ Err WordsRefusal.Usage → IsUsage list.now }
@@ -56,26 +56,32 @@ fn order(alloc: Global, words: &[&str]) -> Result<Order, WordsRefusal>
         [verb, ..] if *verb == "show" => show(alloc, words),
         [verb, ..] if *verb == "check" => check(alloc, words),
         [verb, ..] if *verb == "demo" => demo(alloc, words),
+        [verb, ..] if *verb == "trace" => trace(alloc, words),
+        [verb, ..] if *verb == "replay" => replay(alloc, words),
+        [verb, ..] if *verb == "certify" => certify(alloc, words),
+        [verb, ..] if *verb == "ranks" => ranks(alloc, words),
         _ => Err(WordsRefusal::Usage),
     }
 }
 
-// The order of `run`: 1 to 64 workers, 4 by default, and 1 to 256 shards, 16 by default.
 fn run(alloc: Global, words: &[&str]) -> Result<Order, WordsRefusal>
     requires { IsOf Words.run (texts words.now) }
     ensures found { IfOk result (λ order. Orders (texts words.now) order) }
     ensures usage { result ≡ Err WordsRefusal.Usage → IsUsage (texts words.now) }
 {
-    let read = read_run(alloc, words)?;
-    let Some(workers) = number_or(read.workers, 64, 4) else {
+    let read = read_verb(
+        alloc,
+        "run",
+        &["jdf", "data"],
+        Options::CountsAndPreload,
+        words,
+    )?;
+    let [jdf, tiles] = read.operands.as_slice() else {
         return Err(WordsRefusal::Usage);
     };
-    let Some(shards) = number_or(read.shards, 256, 16) else {
-        return Err(WordsRefusal::Usage);
-    };
-    let jdf = file(alloc, read.jdf)?;
-    let tiles = file(alloc, read.tiles)?;
-    Ok(Order::Run(jdf, tiles, workers, shards, read.preload))
+    let jdf = file(alloc, jdf)?;
+    let tiles = file(alloc, tiles)?;
+    Ok(Order::Run(jdf, tiles, read.workers, read.shards, read.preload))
 }
 
 fn show(alloc: Global, words: &[&str]) -> Result<Order, WordsRefusal>
@@ -83,7 +89,10 @@ fn show(alloc: Global, words: &[&str]) -> Result<Order, WordsRefusal>
     ensures found { IfOk result (λ order. Orders (texts words.now) order) }
     ensures usage { result ≡ Err WordsRefusal.Usage → IsUsage (texts words.now) }
 {
-    let jdf = read_one(alloc, "show", "jdf", words)?;
+    let read = read_verb(alloc, "show", &["jdf"], Options::NoOptions, words)?;
+    let [jdf] = read.operands.as_slice() else {
+        return Err(WordsRefusal::Usage);
+    };
     Ok(Order::Show(file(alloc, jdf)?))
 }
 
@@ -92,7 +101,10 @@ fn check(alloc: Global, words: &[&str]) -> Result<Order, WordsRefusal>
     ensures found { IfOk result (λ order. Orders (texts words.now) order) }
     ensures usage { result ≡ Err WordsRefusal.Usage → IsUsage (texts words.now) }
 {
-    let (jdf, tiles) = read_two(alloc, "check", words)?;
+    let read = read_verb(alloc, "check", &["jdf", "data"], Options::NoOptions, words)?;
+    let [jdf, tiles] = read.operands.as_slice() else {
+        return Err(WordsRefusal::Usage);
+    };
     let jdf = file(alloc, jdf)?;
     Ok(Order::Check(jdf, file(alloc, tiles)?))
 }
@@ -102,40 +114,92 @@ fn demo(alloc: Global, words: &[&str]) -> Result<Order, WordsRefusal>
     ensures found { IfOk result (λ order. Orders (texts words.now) order) }
     ensures usage { result ≡ Err WordsRefusal.Usage → IsUsage (texts words.now) }
 {
-    let size = read_one(alloc, "demo", "size", words)?;
-    match number(size, 96) {
-        Some(size) => Ok(Order::Demo(size)),
+    let read = read_verb(alloc, "demo", &["rows"], Options::NoOptions, words)?;
+    let [rows] = read.operands.as_slice() else {
+        return Err(WordsRefusal::Usage);
+    };
+    match small_number(rows, 96) {
+        Some(rows) => Ok(Order::Demo(rows)),
         None => Err(WordsRefusal::Usage),
     }
 }
 
-// The name of a file.
-fn file(alloc: Global, word: &str) -> Result<Text, OutOfMemory>
-    ensures { IfOk result (λ text. (text ≡ word.now) × IsUtf8 word.now) }
+fn trace(alloc: Global, words: &[&str]) -> Result<Order, WordsRefusal>
+    requires { IsOf Words.trace (texts words.now) }
+    ensures found { IfOk result (λ order. Orders (texts words.now) order) }
+    ensures usage { result ≡ Err WordsRefusal.Usage → IsUsage (texts words.now) }
 {
-    Text::of(alloc, word.as_bytes())
+    let read = read_verb(alloc, "trace", &["jdf", "data"], Options::Counts, words)?;
+    let [jdf, tiles] = read.operands.as_slice() else {
+        return Err(WordsRefusal::Usage);
+    };
+    let jdf = file(alloc, jdf)?;
+    let tiles = file(alloc, tiles)?;
+    Ok(Order::Trace(jdf, tiles, read.workers, read.shards))
 }
 
-// The number of the text, or `default` where there is none. None where the text is no number from 1 to `most`.
-fn number_or(text: Option<&str>, most: u32, default: u32) -> Option<u32>
-    ensures { MatchOption result (has_no_number most (texts_in text.entry) ≡ true)
-        (λ n. (has_no_number most (texts_in text.entry) ≡ false) × (n ≡ Words.number_or default (texts_in text.entry))) }
+fn replay(alloc: Global, words: &[&str]) -> Result<Order, WordsRefusal>
+    requires { IsOf Words.replay (texts words.now) }
+    ensures found { IfOk result (λ order. Orders (texts words.now) order) }
+    ensures usage { result ≡ Err WordsRefusal.Usage → IsUsage (texts words.now) }
 {
-    match text {
-        None => Some(default),
-        Some(text) => number(text, most),
-    }
+    let read = read_verb(
+        alloc,
+        "replay",
+        &["jdf", "data", "trace"],
+        Options::NoOptions,
+        words,
+    )?;
+    let [jdf, tiles, trace] = read.operands.as_slice() else {
+        return Err(WordsRefusal::Usage);
+    };
+    let jdf = file(alloc, jdf)?;
+    let tiles = file(alloc, tiles)?;
+    Ok(Order::Replay(jdf, tiles, file(alloc, trace)?))
 }
 
-// The number of 1 to 20 decimal digits, if it is from 1 to `most`. Leading zeros change nothing.
-fn number(text: &str, most: u32) -> Option<u32>
-    ensures { MatchOption result (is_number most text.now ≡ false) (λ n. (is_number most text.now ≡ true) × (n ≡ decimal text.now)) }
+fn certify(alloc: Global, words: &[&str]) -> Result<Order, WordsRefusal>
+    requires { IsOf Words.certify (texts words.now) }
+    ensures found { IfOk result (λ order. Orders (texts words.now) order) }
+    ensures usage { result ≡ Err WordsRefusal.Usage → IsUsage (texts words.now) }
 {
-    if text.len() > 20 {
-        return None;
-    }
-    match decimal(text.as_bytes(), most as u64) {
-        Some(value) if value > 0 => Some(value as u32),
-        _ => None,
-    }
+    let read = read_verb(
+        alloc,
+        "certify",
+        &["jdf", "data"],
+        Options::NoOptions,
+        words,
+    )?;
+    let [jdf, tiles] = read.operands.as_slice() else {
+        return Err(WordsRefusal::Usage);
+    };
+    let jdf = file(alloc, jdf)?;
+    Ok(Order::Certify(jdf, file(alloc, tiles)?))
+}
+
+// The order of `ranks`: 1 to 64 ranks, and a seed of 64 bits.
+fn ranks(alloc: Global, words: &[&str]) -> Result<Order, WordsRefusal>
+    requires { IsOf Words.ranks (texts words.now) }
+    ensures found { IfOk result (λ order. Orders (texts words.now) order) }
+    ensures usage { result ≡ Err WordsRefusal.Usage → IsUsage (texts words.now) }
+{
+    let read = read_verb(
+        alloc,
+        "ranks",
+        &["jdf", "data", "ranks", "seed"],
+        Options::NoOptions,
+        words,
+    )?;
+    let [jdf, tiles, ranks, seed] = read.operands.as_slice() else {
+        return Err(WordsRefusal::Usage);
+    };
+    let Some(ranks) = small_number(ranks, 64) else {
+        return Err(WordsRefusal::Usage);
+    };
+    let Some(seed) = number(seed, 0, u64::MAX) else {
+        return Err(WordsRefusal::Usage);
+    };
+    let jdf = file(alloc, jdf)?;
+    let tiles = file(alloc, tiles)?;
+    Ok(Order::Ranks(jdf, tiles, ranks, seed))
 }

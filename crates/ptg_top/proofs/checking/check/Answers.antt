@@ -1,6 +1,7 @@
 use Rattle.std.proofs.Common.{ℕ, List, Some, Err, ap, sym, ◌∙◌, subst}
 use Rattle.std.specs.Prelude.{Option, IfOk}
 use Rattle.ptg_io.specs.Files.{file_of, IsLonger}
+use Rattle.ptg_top.specs.Denotation.{denoted}
 use Rattle.ptg_top.specs.JobFiles.{Entries}
 use Rattle.ptg_top.specs.Steps.{CheckOfTextEndsWith}
 use Rattle.ptg_top.proofs.Checked.{text_result_ends, long_ends}
@@ -13,7 +14,7 @@ returns-in-Ok-clause-verdict g c =
     let tiles = c.args.tiles.now in
     let mid = g.F.Files.faults c.load.new.files tiles in
     let new = g.F.Files.faults c.check_text.new.files in
-    let Ends : Option Entries → Type 0 = λ t. IfOk c.check_text.result (CheckOfTextEndsWith t mid (new tiles) c.as_slice.result.now tiles) in
+    let Ends : Option Entries → Type 0 = λ t. IfOk c.check_text.result (λ v. CheckOfTextEndsWith t mid (new tiles) c.as_slice.result.now tiles (denoted v)) in
     text_result_ends (g.F.Files.contents c.args.files.now) (g.F.Files.faults c.args.files.now) new jdf tiles mid c.as_slice.result.now c.check_text.result
     (c.in-Ok.ensures.grows tiles)
     (λ files e. ap (file_of files) (sym c.name_of.ensures) ∙ (c.in-Ok.ensures.given files e ∙ ap Some (sym c.as_slice.ensures)))

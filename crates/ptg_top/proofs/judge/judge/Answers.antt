@@ -8,7 +8,7 @@ use Rattle.ptg_top.proofs.judge.judge.Goals as goal
 pub carry_out-requires : goal.carry_out-requires
 carry_out-requires g c =
     let asks : request_of c.in-Ok.order ≡ Some c.in-Some.request = search rules in
-    request_texts c.args.list.now c.in-Ok.order c.in-Some.request c.in-Ok.ensures.found asks
+    request_texts c.files_are_text.ensures c.args.list.now c.in-Ok.order c.in-Some.request c.in-Ok.ensures.found asks
 
 -- the verdict on the request is the one on the arguments
 pub returns-in-Some-clause-judged : goal.returns-in-Some-clause-judged

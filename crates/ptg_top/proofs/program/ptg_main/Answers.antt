@@ -1,5 +1,6 @@
 use Rattle.std.proofs.Common.{ap, sym, ◌∙◌, inl}
 use Rattle.ptg_io.specs.Sink.{appended}
+use Rattle.ptg_top.specs.Denotation.{denoted}
 use Rattle.ptg_top.proofs.Ending.{exact_prints, complete_prints, usage_is_its_line, usage_is_no_order, no_order_is_usage, read_fault_names, no_write_fault}
 use Rattle.ptg_top.proofs.program.ptg_main.Goals as goal
 
@@ -7,14 +8,14 @@ use Rattle.ptg_top.proofs.program.ptg_main.Goals as goal
 pub returns-in-Ok-tell-clause-exact : goal.returns-in-Ok-tell-clause-exact
 returns-in-Ok-tell-clause-exact g c entries contents exact =
     exact_prints c.args.words.now entries (g.F.Files.contents c.args.files.now) (g.F.Files.faults c.args.files.now) (g.F.Files.faults c.judge.new.files)
-    (g.O.Sink.bytes c.args.out.now) (g.O.Sink.bytes c.tell.new.out) c.in-Ok.verdict c.status.result
+    (g.O.Sink.bytes c.args.out.now) (g.O.Sink.bytes c.tell.new.out) (denoted c.in-Ok.verdict) c.status.result
     c.in-Ok.ensures.judged contents c.in-Ok-tell.ensures.ok c.status.ensures exact
 
 -- and it is exact where no read failed
 pub returns-in-Ok-tell-clause-complete : goal.returns-in-Ok-tell-clause-complete
 returns-in-Ok-tell-clause-complete g c entries contents no_read no_write =
     complete_prints c.args.words.now entries (g.F.Files.contents c.args.files.now) (g.F.Files.faults c.args.files.now) (g.F.Files.faults c.judge.new.files)
-    (g.O.Sink.bytes c.args.out.now) (g.O.Sink.bytes c.tell.new.out) c.in-Ok.verdict c.status.result
+    (g.O.Sink.bytes c.args.out.now) (g.O.Sink.bytes c.tell.new.out) (denoted c.in-Ok.verdict) c.status.result
     c.in-Ok.ensures.judged contents c.in-Ok-tell.ensures.ok c.status.ensures no_read
 
 -- the status of a read fault comes with the name of a file that could not be read
@@ -22,7 +23,7 @@ pub returns-in-Ok-tell-clause-unread : goal.returns-in-Ok-tell-clause-unread
 returns-in-Ok-tell-clause-unread g c fault =
     let h =
     read_fault_names c.args.words.now (g.F.Files.contents c.args.files.now) (g.F.Files.faults c.args.files.now) (g.F.Files.faults c.judge.new.files)
-    c.in-Ok.verdict c.in-Ok.ensures.judged (sym c.status.ensures ∙ fault)
+    (denoted c.in-Ok.verdict) c.in-Ok.ensures.judged (sym c.status.ensures ∙ fault)
     in
     (h.0, h.1, h.2, c.in-Ok-tell.ensures.ok ∙ ap (appended (g.O.Sink.bytes c.args.out.now)) h.3)
 
@@ -31,7 +32,7 @@ pub returns-in-Ok-tell-clause-cut : goal.returns-in-Ok-tell-clause-cut
 returns-in-Ok-tell-clause-cut g c fault =
     absurd (
     no_write_fault c.args.words.now (g.F.Files.contents c.args.files.now) (g.F.Files.faults c.args.files.now) (g.F.Files.faults c.judge.new.files)
-    c.in-Ok.verdict c.in-Ok.ensures.judged (sym c.status.ensures ∙ fault)
+    (denoted c.in-Ok.verdict) c.in-Ok.ensures.judged (sym c.status.ensures ∙ fault)
     )
 
 -- the status of usage comes with its line
@@ -39,19 +40,19 @@ pub returns-in-Ok-tell-clause-usage_line : goal.returns-in-Ok-tell-clause-usage_
 returns-in-Ok-tell-clause-usage_line g c usage =
     c.in-Ok-tell.ensures.ok ∙ ap (appended (g.O.Sink.bytes c.args.out.now)) (
     usage_is_its_line c.args.words.now (g.F.Files.contents c.args.files.now) (g.F.Files.faults c.args.files.now) (g.F.Files.faults c.judge.new.files)
-    c.in-Ok.verdict c.in-Ok.ensures.judged (sym c.status.ensures ∙ usage)
+    (denoted c.in-Ok.verdict) c.in-Ok.ensures.judged (sym c.status.ensures ∙ usage)
     )
 
 -- and only to arguments that form no command, which have no other
 pub returns-in-Ok-tell-clause-usage_only : goal.returns-in-Ok-tell-clause-usage_only
 returns-in-Ok-tell-clause-usage_only g c usage =
     usage_is_no_order c.args.words.now (g.F.Files.contents c.args.files.now) (g.F.Files.faults c.args.files.now) (g.F.Files.faults c.judge.new.files)
-    c.in-Ok.verdict c.in-Ok.ensures.judged (sym c.status.ensures ∙ usage)
+    (denoted c.in-Ok.verdict) c.in-Ok.ensures.judged (sym c.status.ensures ∙ usage)
 
 pub returns-in-Ok-tell-clause-usage : goal.returns-in-Ok-tell-clause-usage
 returns-in-Ok-tell-clause-usage g c none =
     inl (
     c.status.ensures
     ∙ no_order_is_usage c.args.words.now (g.F.Files.contents c.args.files.now) (g.F.Files.faults c.args.files.now) (g.F.Files.faults c.judge.new.files)
-    c.in-Ok.verdict c.in-Ok.ensures.judged none
+    (denoted c.in-Ok.verdict) c.in-Ok.ensures.judged none
     )

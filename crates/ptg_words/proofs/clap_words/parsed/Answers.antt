@@ -1,5 +1,5 @@
 use Rattle.clap.specs.Words.{app_of}
-use Rattle.ptg_words.proofs.Commanded.{simple_first}
+use Rattle.ptg_words.proofs.ClapCommands.{simple_first}
 use Rattle.ptg_words.proofs.clap_words.parsed.Goals as goal
 
 pub returns-in-Ok-clause-passes : goal.returns-in-Ok-clause-passes

@@ -1,0 +1,56 @@
+-- What follows from the rules of the command line.
+use Rattle.std.specs.Prelude.{◌≡◌, ◌⊎◌, ℕ, ◌<◌, ◌≤◌, ◌^◌, List, [], ◌∷◌}
+use Rattle.std.specs.Str.{IsUtf8}
+use Rattle.ptg_words.specs.declared.order.Order.{Order}
+use Rattle.ptg_words.specs.declared.order.Order.TheVariants.{Run, Show, Check, Demo, Trace, Replay, Certify, Ranks}
+use Rattle.ptg_words.specs.Words.{IsUsage, Orders}
+
+-- arguments give one order at most
+abbrev pub OneOrder : Type 0
+OneOrder = (words : List (List ℕ)) (a b : Order) → Orders words a → Orders words b → a ≡ b
+
+-- and none where they break a rule
+abbrev pub NeverBoth : Type 0
+NeverBoth = (words : List (List ℕ)) (order : Order) → Orders words order → IsUsage words → ⊥
+
+-- and one where they break none: arguments form a command or break a rule
+abbrev pub OrderOrUsage : Type 0
+OrderOrUsage = (words : List (List ℕ)) → ((order : Order) × Orders words order) ⊎ IsUsage words
+
+-- the names of the files of a command
+abbrev pub files_of : Order → List (List ℕ)
+files_of (Run jdf tiles w s p) = jdf ∷ tiles ∷ []
+files_of (Show jdf) = jdf ∷ []
+files_of (Check jdf tiles) = jdf ∷ tiles ∷ []
+files_of (Demo rows) = []
+files_of (Trace jdf tiles w s) = jdf ∷ tiles ∷ []
+files_of (Replay jdf tiles list) = jdf ∷ tiles ∷ list ∷ []
+files_of (Certify jdf tiles) = jdf ∷ tiles ∷ []
+files_of (Ranks jdf tiles r seed) = jdf ∷ tiles ∷ []
+
+-- each of them is text
+abbrev pub AreText : List (List ℕ) → Type 0
+AreText [] = Unit {0}
+AreText (name ∷ names) = IsUtf8 name × AreText names
+
+-- the names of files in a command are text
+abbrev pub FilesAreText : Type 0
+FilesAreText = (words : List (List ℕ)) (order : Order) → Orders words order → AreText (files_of order)
+
+-- 1 to 64 workers, 1 to 256 shards
+abbrev pub AreCounts : ℕ → ℕ → Type 0
+AreCounts w s = (1 ≤ w) × (w ≤ 64) × (1 ≤ s) × (s ≤ 256)
+
+-- The numbers of a command are in their ranges: 1 to 64 workers or ranks, 1 to 256 shards, 1 to 96 rows of tiles, a seed below 2^64.
+abbrev pub HasNumbersInRange : Order → Type 0
+HasNumbersInRange (Run jdf tiles w s p) = AreCounts w s
+HasNumbersInRange (Show jdf) = Unit {0}
+HasNumbersInRange (Check jdf tiles) = Unit {0}
+HasNumbersInRange (Demo rows) = (1 ≤ rows) × (rows ≤ 96)
+HasNumbersInRange (Trace jdf tiles w s) = AreCounts w s
+HasNumbersInRange (Replay jdf tiles list) = Unit {0}
+HasNumbersInRange (Certify jdf tiles) = Unit {0}
+HasNumbersInRange (Ranks jdf tiles r seed) = (1 ≤ r) × (r ≤ 64) × (seed < 2 ^ 64)
+
+abbrev pub NumbersInRange : Type 0
+NumbersInRange = (words : List (List ℕ)) (order : Order) → Orders words order → HasNumbersInRange order
