@@ -1,0 +1,141 @@
+-- How many tasks are ready: one fewer after a claim, one more after a send that makes a task ready.
+use Rattle.std.proofs.Common.{◌≡◌, ◌≢◌, ◌+◌, ◌<◌, ◌≤◌, Bool, true, false, cond, ◌&&◌, ◌==◌, not, List, [], ◌∷◌, length, refl, ap, sym, ◌∙◌, subst, arith, eq-eqb, ne_eqb}
+use Rattle.std.specs.List.{filter}
+use Rattle.std.proofs.lemmas.Bool.{and_from, and_parts, eqb-true, false_from_ne_true, false≢true}
+use Rattle.ptg_base.specs.Lists.{HasNoRepeats, IsIn}
+use Rattle.ptg_base.specs.Task.{Task}
+use Rattle.ptg_base.specs.TaskComparing.{same_task}
+use Rattle.ptg_base.specs.TaskLaws.{same_task-decides}
+use Rattle.ptg_base.specs.declared.edge.Edge.{Edge}
+use Rattle.ptg_base.specs.declared.edge.WriteBack.{WriteBack}
+use Rattle.ptg_base.specs.declared.edge.Item.TheVariants as item
+use Rattle.range_space.proofs.Stepping.{by_test}
+use Rattle.plan_core.specs.declared.plan.Plan.{Plan}
+use Rattle.coll_data.specs.Data.{Data}
+use Rattle.dep_iter.specs.Consistent.{IsConsistent}
+use Rattle.dep_iter.specs.Edges.{goal}
+use Rattle.dep_iter.specs.Tasks.{IsTask, all_tasks}
+use Rattle.dep_iter.proofs.Listing.{listed}
+use Rattle.flow_meaning.specs.Counting.{as_number, count}
+use Rattle.flow_meaning.specs.Machine.{MachineState, MayClaim, MaySend, Send, arrived, claim_count, state_after}
+use Rattle.flow_meaning.specs.Sound.{IsSoundState}
+use Rattle.flow_meaning.specs.Table.{is_ready, is_unclaimed, ready_tasks}
+use Rattle.flow_meaning.proofs.Arriving.{arrives, arrives_not, writes_not}
+use Rattle.flow_meaning.proofs.Counting.{count-some, one_at_most, weigh-push}
+use Rattle.flow_meaning.proofs.Events.{member_claim}
+use Rattle.flow_meaning.proofs.Once.{tasks_once}
+use Rattle.flow_meaning.proofs.Quiet.{filtered}
+use Rattle.shard_meaning.specs.Calm.{IsCalm}
+use Rattle.shard_meaning.specs.Moment.{Moment, with_claim}
+use Rattle.shard_meaning.proofs.Entries.{missing, target, target_unclaimed}
+use Rattle.shard_meaning.proofs.Listing.{count-falls, count-same, distinct_once}
+use Rattle.shard_meaning.proofs.SoundMoments.{at_most}
+
+length-filter : {A : Type 0} (test : A → Bool) (xs : List A) → length (filter test xs) ≡ count test xs
+length-filter test [] = refl
+length-filter test (x ∷ xs) =
+    by_test (test x)
+    (λ k. omega (arith, ap (λ b. length (cond b (x ∷ filter test xs) (filter test xs))) k, ap as_number k, length-filter test xs))
+    (λ k. omega (arith, ap (λ b. length (cond b (x ∷ filter test xs) (filter test xs))) k, ap as_number k, length-filter test xs))
+
+-- the ready tasks are those of the job that are ready
+pub ready_count : (P : Plan) (S : MachineState) → length (ready_tasks P S) ≡ count (is_ready P S) (all_tasks P)
+unfolding ready_tasks
+ready_count P S = length-filter (is_ready P S) (all_tasks P)
+
+is_ready-may : (P : Plan) (S : MachineState) (t : Task) → claim_count S t ≡ 0 → arrived P S t ≡ goal P t → is_ready P S t ≡ true
+is_ready-may P S t free all = and_from (is_unclaimed S t) (arrived P S t == goal P t) (eq-eqb (claim_count S t) 0 free) (eq-eqb (arrived P S t) (goal P t) all)
+
+not_ready-claimed : (P : Plan) (S : MachineState) (t : Task) → 0 < claim_count S t → is_ready P S t ≡ false
+not_ready-claimed P S t some = ap (λ b. b && (arrived P S t == goal P t)) (ne_eqb (claim_count S t) 0 (λ z. absurd (omega (arith, z))))
+
+not_ready-waits : (P : Plan) (S : MachineState) (t : Task) → arrived P S t ≢ goal P t → is_ready P S t ≡ false
+not_ready-waits P S t ne = ap (λ b. is_unclaimed S t && b) (ne_eqb (arrived P S t) (goal P t) ne) ∙ never (is_unclaimed S t)
+  where
+    never : (b : Bool) → (b && false) ≡ false
+    never true = refl
+    never false = refl
+
+-- a task is as ready where it is claimed as often and as many edges came
+same_ready : (P : Plan) (S T : MachineState) (t : Task) → claim_count T t ≡ claim_count S t → arrived P T t ≡ arrived P S t → is_ready P T t ≡ is_ready P S t
+same_ready P S T t c a = λ i. (c i == 0) && (a i == goal P t)
+
+distinct_tasks : (P : Plan) → HasNoRepeats (all_tasks P)
+distinct_tasks P = distinct_once (all_tasks P) (tasks_once P)
+
+-- a claim makes one fewer ready
+pub ready-claim : (P : Plan) (R : Moment) (t : Task) → MayClaim P R.state t → count (is_ready P (with_claim R t).state) (all_tasks P) + 1 ≡ count (is_ready P R.state) (all_tasks P)
+ready-claim P R t may =
+    count-falls (is_ready P R.state) (is_ready P (with_claim R t).state) (all_tasks P) t (distinct_tasks P) ((listed P t).0 may.task)
+    (is_ready-may P R.state t may.unclaimed may.all_arrived)
+    (not_ready-claimed P (with_claim R t).state t (omega (arith, weigh-push (λ v. as_number (same_task t v)) R.state.claims t, ap as_number ((same_task-decides t t).1 refl))))
+    (λ u ne. same_ready P R.state (with_claim R t).state u (omega (arith, weigh-push (λ v. as_number (same_task u v)) R.state.claims t, ap as_number (false_from_ne_true (same_task u t) (λ q. ne ((same_task-decides u t).0 q))))) refl)
+
+module _ (P : Plan) (G : Data) (con : IsConsistent P) (S : MachineState) (sound : IsSoundState P G S) where
+  module _ (e : Edge) (may : MaySend P G S (item.Edge e)) where
+    abbrev later : MachineState
+    later = state_after P G S (Send (item.Edge e))
+
+    one_more : arrived P later e.to ≡ arrived P S e.to + 1
+    one_more = arrives P G con S sound e may
+
+    others_ready : (u : Task) → (u ≡ e.to → ⊥) → is_ready P later u ≡ is_ready P S u
+    others_ready u ne = same_ready P S later u refl (arrives_not P G con S sound e may u ne)
+
+    free : claim_count S e.to ≡ 0
+    free = target_unclaimed P G con S sound (λ t. 0) 0 e may
+
+    before_full : arrived P S e.to + 1 ≡ goal P e.to → is_ready P S e.to ≡ false
+    before_full last = not_ready-waits P S e.to (λ q. absurd (omega (arith, q, last)))
+
+    -- a send of the last edge into a task makes it ready
+    pub ready-fires : arrived P S e.to + 1 ≡ goal P e.to → count (is_ready P S) (all_tasks P) + 1 ≡ count (is_ready P later) (all_tasks P)
+    ready-fires last =
+        count-falls (is_ready P later) (is_ready P S) (all_tasks P) e.to (distinct_tasks P) ((listed P e.to).0 (target P G con S sound (λ t. 0) 0 e may))
+        (is_ready-may P later e.to free (one_more ∙ last)) (before_full last) (λ u ne. sym (others_ready u ne))
+
+    -- a send of another one makes none ready
+    pub ready-waits : arrived P S e.to + 1 ≢ goal P e.to → count (is_ready P later) (all_tasks P) ≡ count (is_ready P S) (all_tasks P)
+    ready-waits more = count-same (is_ready P S) (is_ready P later) (all_tasks P) (λ u i. by_test (same_task u e.to)
+        (λ k. subst (λ v. is_ready P later v ≡ is_ready P S v) (sym ((same_task-decides u e.to).0 k)) (not_ready-waits P later e.to (λ q. more (sym one_more ∙ q)) ∙ sym was_not))
+        (λ k. others_ready u (λ q. false≢true (sym k ∙ (same_task-decides u e.to).1 q))))
+      where
+        was_not : is_ready P S e.to ≡ false
+        was_not = not_ready-waits P S e.to (λ q. absurd (omega (arith, q, missing P G con S sound (λ t. 0) 0 e may)))
+
+  pub ready-write : (w : WriteBack) → MaySend P G S (item.Write w) → count (is_ready P (state_after P G S (Send (item.Write w)))) (all_tasks P) ≡ count (is_ready P S) (all_tasks P)
+  ready-write w may = count-same (is_ready P S) (is_ready P (state_after P G S (Send (item.Write w)))) (all_tasks P) (λ u i. same_ready P S (state_after P G S (Send (item.Write w))) u refl (writes_not P G con S sound w may u))
+
+-- no member passes two tests that exclude each other
+disjoint : {A : Type 0} (p q : A → Bool) (xs : List A) → ((x : A) → q x ≡ true → p x ≡ false) → count p xs + count q xs ≤ length xs
+disjoint p q [] h = omega arith
+disjoint p q (x ∷ xs) h =
+    by_test (q x)
+    (λ k. omega (arith, ap as_number k, ap as_number (h x k), disjoint p q xs h))
+    (λ k. omega (arith, ap as_number k, one_at_most (p x), disjoint p q xs h))
+
+-- the tasks that are ready and those that were claimed are no more than there are
+pub ready_at_most : (P : Plan) (G : Data) (S : MachineState) → IsSoundState P G S → length (ready_tasks P S) + length S.claims ≤ length (all_tasks P)
+ready_at_most P G S sound =
+    let claimed : Task → Bool = λ t. not (is_unclaimed S t) in
+    let taken : (t : Task) → IsIn t S.claims → claimed t ≡ true = λ t i. ap not (ne_eqb (claim_count S t) 0 (λ z. absurd (omega (arith, z, member_claim S t i)))) in
+    let claims : length S.claims ≤ length (filter claimed (all_tasks P)) =
+    at_most S.claims (filter claimed (all_tasks P)) (distinct_once S.claims sound.claimed_once) (λ t i. (filtered claimed (all_tasks P) t).1 ((listed P t).0 (sound.claimed_have_all t i).task, taken t i)) in
+    omega (arith, claims, length-filter claimed (all_tasks P), ready_count P S, disjoint (is_ready P S) claimed (all_tasks P) (λ t h. not_one (is_unclaimed S t) (arrived P S t == goal P t) h))
+  where
+    not_one : (a b : Bool) → not a ≡ true → (a && b) ≡ false
+    not_one true b h = absurd (false≢true h)
+    not_one false b h = refl
+
+-- where no task is ready and none runs, the moment is calm
+pub calm_by_count : (P : Plan) (R : Moment) → length (ready_tasks P R.state) ≡ 0 → R.running ≡ [] → IsCalm P R
+calm_by_count P R none idle = record {
+  none_ready = λ t may. absurd (omega (arith, none, ready_count P R.state, count-some (is_ready P R.state) (all_tasks P) t ((listed P t).0 may.task) (is_ready-may P R.state t may.unclaimed may.all_arrived)));
+  none_runs = idle;
+}
+
+-- a task that is ready may be claimed
+pub ready-is_may : (P : Plan) (S : MachineState) (t : Task) → IsTask P t → is_ready P S t ≡ true → MayClaim P S t
+ready-is_may P S t job h =
+    let p = and_parts (is_unclaimed S t) (arrived P S t == goal P t) h in
+    record { task = job; unclaimed = eqb-true (claim_count S t) 0 p.0; all_arrived = eqb-true (arrived P S t) (goal P t) p.1 }

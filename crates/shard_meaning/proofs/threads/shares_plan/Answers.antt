@@ -1,0 +1,6 @@
+use denote.Param.Send.{sendable}
+use Rattle.shard_meaning.proofs.Sharing.{plan_sync}
+use Rattle.shard_meaning.proofs.threads.shares_plan.Goals as goal
+
+pub needs_sync-requires-sync-T : goal.needs_sync-requires-sync-T
+needs_sync-requires-sync-T c κs = search (sendable, plan_sync) depth 10

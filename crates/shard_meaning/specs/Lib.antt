@@ -1,0 +1,5 @@
+pub mod Moment
+pub mod Share
+pub mod Reserve
+pub mod Calm
+pub mod Opening

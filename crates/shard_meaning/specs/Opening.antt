@@ -1,0 +1,46 @@
+-- What a shard holds before the first event: of its tasks, those that no edge goes into are ready. Source: DAGuE (Parallel Computing, 2012): a task without dependences may run at once.
+use Rattle.std.specs.Prelude.{◌≡◌, ◌≤◌, ℕ, ◌+◌, Bool, true, false, ◌&&◌, ◌==◌, [], Option, Some, None, slice_index, if◌then◌else◌}
+use Rattle.ptg_base.specs.Task.{Task}
+use Rattle.ptg_base.specs.declared.edge.Edge.{Edge}
+use Rattle.ptg_base.specs.declared.edge.WriteBack.{WriteBack}
+use Rattle.plan_core.specs.declared.plan.Plan.{Plan}
+use Rattle.dep_iter.specs.Consistent.{all_data, all_writes}
+use Rattle.dep_iter.specs.Edges.{goal}
+use Rattle.dep_iter.specs.Hints.{priority}
+use Rattle.dep_iter.specs.Tasks.{IsTask, all_tasks}
+use Rattle.dep_shard.specs.Content.{Content, Entry, entry_of, fresh}
+use Rattle.flow_meaning.specs.Counting.{count}
+use Rattle.shard_meaning.specs.Share.{Placement, is_of}
+use Rattle.shard_meaning.specs.Reserve.{is_edge_of_type, is_write_of_type}
+
+-- the entry of a task before the first event, if it has one: no edge goes into it, so it is ready
+abbrev pub opening_entry : Plan → Task → Option Entry
+opening_entry P t = if goal P t == 0 then Some (fresh 0 (priority P t)) else None
+
+-- the shard k before the first event
+pub record IsOpeningShard (P : Plan) (of : Placement) (k : ℕ) (y : Content) : Type 0 where
+  pub there : (t : Task) → IsTask P t → of t ≡ k → entry_of y t ≡ opening_entry P t
+  pub only : (t : Task) (e : Entry) → entry_of y t ≡ Some e → IsTask P t × (of t ≡ k)
+  pub written : y.written ≡ []
+  pub trapped : y.trapped ≡ []
+  pub running : y.running ≡ 0
+  pub ended : y.ended ≡ 0
+  pub elems : y.elems ≡ P.elems
+
+-- whether a task of the shard k has edges into it, so that its entry is still to come
+abbrev pub is_to_enter : Plan → Placement → ℕ → Task → Bool
+is_to_enter P of k t = is_of of k t && (if goal P t == 0 then false else true)
+
+-- whether a data edge goes to a task of the shard k, or a write-back is of one, with a tile of this type
+abbrev pub is_edge_to : Plan → Placement → ℕ → ℕ → Edge → Bool
+is_edge_to P of k datatype e = is_of of k e.to && is_edge_of_type P datatype e
+
+abbrev pub is_write_from : Plan → Placement → ℕ → ℕ → WriteBack → Bool
+is_write_from P of k datatype w = is_of of k w.from && is_write_of_type P datatype w
+
+-- the spares of the shard k before the first event: for all that will come to it
+pub record HasOpeningReserve (P : Plan) (of : Placement) (k : ℕ) (y : Content) : Type 0 where
+  pub entries : count (is_to_enter P of k) (all_tasks P) ≤ y.spare.entries
+  pub tiles : (datatype : ℕ) → count (is_edge_to P of k datatype) (all_data P) + count (is_write_from P of k datatype) (all_writes P) ≤ slice_index y.spare.tiles datatype
+  pub writes : count (λ (w : WriteBack). is_of of k w.from) (all_writes P) ≤ y.spare.writes
+  pub traps : count (is_of of k) (all_tasks P) ≤ y.spare.traps
