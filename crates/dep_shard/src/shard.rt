@@ -445,6 +445,13 @@ impl Shard {
         Some((&row.0, row.1))
     }
 
+    /// The trapped tasks, each with its cause.
+    pub fn traps(&self) -> &[(TaskId, Trap)]
+        ensures { result.now ≡ self.now.trapped }
+    {
+        self.trapped.as_slice()
+    }
+
     /// How many tasks run.
     pub fn running(&self) -> u64
         ensures { result ≡ self.now.running }

@@ -172,3 +172,34 @@ last_of d ws rest w e all = (All-pop (IsWritable d) ws rest (Some w) e all).1
 
 pub still_all : (d : Data) (p : Place) (t : List ℤ) (ws rest : List (WriteBack × List ℤ)) (w : WriteBack × List ℤ) → ws ≡ rest ++ w ∷ [] → All (IsWritable d) ws → All (IsWritable (with_tile_at d p t)) rest
 still_all d p t ws rest w e all = All-weaker (IsWritable d) (IsWritable (with_tile_at d p t)) (still_writable d p t) rest ((All-pop (IsWritable d) ws rest (Some w) e all).0)
+
+-- What an earlier list wrote counts before what a later one did.
+earlier_counts : (here : Place → Bool) (vs ws : List (WriteBack × List ℤ)) (tile : List ℤ) → unwrap_or (written_to (vs ++ ws) here) tile ≡ unwrap_or (written_to vs here) (unwrap_or (written_to ws here) tile)
+earlier_counts here [] ws tile = refl
+earlier_counts here (v ∷ vs) ws tile = before_it (here v.0.place) v.1 tile (unwrap_or (written_to ws here) tile) (written_to (vs ++ ws) here) (written_to vs here) (earlier_counts here vs ws tile)
+
+module _ (vs ws : List (WriteBack × List ℤ)) where
+  tiles_twice : (c : ℕ) (x : Coll) (k : ℕ) (tiles : List (List ℤ)) → replaced_tiles (written_to (vs ++ ws)) c x k tiles ≡ replaced_tiles (written_to vs) c x k (replaced_tiles (written_to ws) c x k tiles)
+  tiles_twice c x k [] = refl
+  tiles_twice c x k (tile ∷ tiles) = λ i. earlier_counts (is_place_of c x k) vs ws tile i ∷ tiles_twice c x (suc k) tiles i
+
+  colls_twice : (c : ℕ) (xs : List Coll) → replaced_colls (written_to (vs ++ ws)) c xs ≡ replaced_colls (written_to vs) c (replaced_colls (written_to ws) c xs)
+  colls_twice c [] = refl
+  colls_twice c (x ∷ xs) = λ i. record x { tiles = tiles_twice c x 0 x.tiles i } ∷ colls_twice (suc c) xs i
+
+  -- two lists of write-backs are made one after the other
+  pub replaced_twice : (d : Data) → replaced_data (written_to (vs ++ ws)) d ≡ replaced_data (written_to vs) (replaced_data (written_to ws) d)
+  replaced_twice d = ap (λ xs. record d { colls = xs }) (colls_twice 0 d.colls)
+
+module _ (ws : List (WriteBack × List ℤ)) where
+  kept_replaced : (P : Option Coll → Type 0) → ((x : Coll) (tiles : List (List ℤ)) → P (Some x) → P (Some (record x { tiles = tiles }))) → (c : ℕ) (xs : List Coll) (q : ℕ) → P (slice_get xs q) → P (slice_get (replaced_colls (written_to ws) c xs) q)
+  kept_replaced P h c [] q p = p
+  kept_replaced P h c (x ∷ xs) zero p = h x (replaced_tiles (written_to ws) c x 0 x.tiles) p
+  kept_replaced P h c (x ∷ xs) (suc q) p = kept_replaced P h (suc c) xs q p
+
+  -- what may be written may still be written after others were
+  pub replaced_writable : (d : Data) (v : WriteBack × List ℤ) → IsWritable d v → IsWritable (replaced_data (written_to ws) d) v
+  replaced_writable d v w = record {
+    exists = kept_replaced (λ o. IsSomeAnd o (λ (c : Coll). IsRow c.shape.0 v.0.place.i × IsColumn c.shape.1 v.0.place.j)) (λ x tiles h. h) 0 d.colls v.0.place.coll w.exists;
+    elements = kept_replaced (λ o. IfSome o (λ (c : Coll). length v.1 ≡ slice_index (elements_by_type d) c.datatype)) (λ x tiles h. h) 0 d.colls v.0.place.coll w.elements;
+  }

@@ -229,23 +229,32 @@ module _ {A : Type 0} (key : A → Task) where
       in_of y ys found.0 found.1 found.2
 
   -- where at most one row passes a test, the same one passes in any order
-  same_one : (p : A → Bool) (xs ys cs bs : List A) → IsPermutation xs ys → filter p xs ≡ cs → filter p ys ≡ bs → length cs ≤ 1 → length bs ≤ 1 → cs ≡ bs
-  same_one p xs ys [] [] moves e f one other = refl
-  same_one p xs ys [] (b ∷ bs) moves e f one other =
-      absurd (subst (IsIn b) e (in_filter p b xs (in_moved b ys xs (IsPermutation-sym xs ys moves) (head_in p b bs ys f)) (filtered_passes p b bs ys f)))
-  same_one p xs ys (a ∷ cs) [] moves e f one other =
-      absurd (subst (IsIn a) f (in_filter p a ys (in_moved a xs ys moves (head_in p a cs xs e)) (filtered_passes p a cs xs e)))
-  same_one p xs ys (a ∷ []) (b ∷ []) moves e f one other =
-      elim (subst (IsIn a) f (in_filter p a ys (in_moved a xs ys moves (head_in p a [] xs e)) (filtered_passes p a [] xs e))) [ inl q ↦ ap (λ v. v ∷ []) q | inr none ↦ absurd none ]
-  same_one p xs ys (a ∷ c ∷ cs) (b ∷ bs) moves e f one other = absurd (omega (arith, one))
-  same_one p xs ys (a ∷ []) (b ∷ c ∷ bs) moves e f one other = absurd (omega (arith, other))
+  same_one : (p : A → Bool) (xs ys cs bs : List A) → ((y : A) → IsIn y xs → IsIn y ys) → ((y : A) → IsIn y ys → IsIn y xs) → filter p xs ≡ cs → filter p ys ≡ bs → length cs ≤ 1 → length bs ≤ 1 → cs ≡ bs
+  same_one p xs ys [] [] to from e f one other = refl
+  same_one p xs ys [] (b ∷ bs) to from e f one other =
+      absurd (subst (IsIn b) e (in_filter p b xs (from b (head_in p b bs ys f)) (filtered_passes p b bs ys f)))
+  same_one p xs ys (a ∷ cs) [] to from e f one other =
+      absurd (subst (IsIn a) f (in_filter p a ys (to a (head_in p a cs xs e)) (filtered_passes p a cs xs e)))
+  same_one p xs ys (a ∷ []) (b ∷ []) to from e f one other =
+      elim (subst (IsIn a) f (in_filter p a ys (to a (head_in p a [] xs e)) (filtered_passes p a [] xs e))) [ inl q ↦ ap (λ v. v ∷ []) q | inr none ↦ absurd none ]
+  same_one p xs ys (a ∷ c ∷ cs) (b ∷ bs) to from e f one other = absurd (omega (arith, one))
+  same_one p xs ys (a ∷ []) (b ∷ c ∷ bs) to from e f one other = absurd (omega (arith, other))
+
+  -- rows of different tasks have one order
+  pub one_order : (xs ys : List A) → ((y : A) → IsIn y xs → IsIn y ys) → ((y : A) → IsIn y ys → IsIn y xs) → AreOfDifferentTasks key xs → AreOfDifferentTasks key ys → in_task_order key xs ≡ in_task_order key ys
+  one_order xs ys to from once other =
+      same_lists (in_task_order key xs) (in_task_order key ys) (up_order xs) (up_order ys)
+      (λ w.
+      order_kept w xs
+      ∙ same_one (ties lt w) xs ys (filter (ties lt w) xs) (filter (ties lt w) ys) to from refl refl (omega (arith, few_ties w xs, once (key w))) (omega (arith, few_ties w ys, other (key w)))
+      ∙ sym (order_kept w ys))
 
   -- what a sort by the tasks of its rows makes of rows of different tasks
   pub sorted_is : (xs ys : List A) → IsSortedBy lt ys → IsPermutation xs ys → AreOfDifferentTasks key xs → ys ≡ in_task_order key xs
   sorted_is xs ys up moves once =
       same_lists ys (in_task_order key xs) (up_from ys up) (up_order xs)
       (λ w.
-      sym (same_one (ties lt w) xs ys (filter (ties lt w) xs) (filter (ties lt w) ys) moves refl refl (omega (arith, few_ties w xs, once (key w))) (omega (arith, few_ties w ys, differ_moved xs ys moves once (key w))))
+      sym (same_one (ties lt w) xs ys (filter (ties lt w) xs) (filter (ties lt w) ys) (λ y. in_moved y xs ys moves) (λ y. in_moved y ys xs (IsPermutation-sym xs ys moves)) refl refl (omega (arith, few_ties w xs, once (key w))) (omega (arith, few_ties w ys, differ_moved xs ys moves once (key w))))
       ∙ sym (order_kept w xs))
 
   -- the same of `sort_unstable_by`, where each call of its closure compares the tasks of the two rows
