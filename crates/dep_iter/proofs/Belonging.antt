@@ -1,7 +1,8 @@
 -- Which links are among those of targets and of tasks.
-use Rattle.std.proofs.Common.{◌≡◌, ◌↔◌, ℕ, zero, suc, ◌+◌, ◌<◌, ℤ, Bool, true, false, List, [], ◌∷◌, ◌++◌, length, take, map, refl, ap, sym, ◌∙◌, subst, append_assoc, add-zero, Option, Some, None, slice_get, IsSomeAnd, IsTrue, ◌⊎◌, inl, inr, arith}
+use Rattle.std.proofs.Common.{Option, ◌≡◌, ◌↔◌, ℕ, zero, suc, ◌+◌, ℤ, Bool, true, false, List, [], ◌∷◌, ◌++◌, length, take, map, refl, ap, sym, ◌∙◌, subst, append_assoc, add-zero, Some, None, slice_get, IsSomeAnd, IsTrue, inl, inr, arith}
 use Rattle.std.proofs.lemmas.Bool.{false≢true}
-use Rattle.std.specs.List.{flat_map}
+use Rattle.std.specs.List.{filter_map, flat_map}
+use Rattle.std.specs.Option.{option_map_or}
 use Rattle.ptg_base.specs.Lists.{IsIn}
 use Rattle.ptg_base.specs.Task.{Task}
 use Rattle.ptg_base.specs.declared.edge.Edge.{Edge}
@@ -11,12 +12,12 @@ use Rattle.plan_core.specs.declared.target.Target.{Target}
 use Rattle.plan_core.specs.declared.target.Target.TheVariants as target
 use Rattle.range_space.proofs.MemberLists.{IsIn-append_left, IsIn-append_right, IsIn-flat_map, IsIn-map, from_append, from_flat_map, from_map}
 use Rattle.dep_iter.specs.declared.link.Link.{Link}
-use Rattle.dep_iter.specs.Tasks.{flows_of, locals_of, task}
+use Rattle.dep_iter.specs.Tasks.{flows_of, locals_of}
 use Rattle.plan_core.specs.declared.flow.DepPlan.{DepPlan}
 use Rattle.dep_iter.specs.Active.{by_flow, held_target, held_targets, held_then, takes_first}
 use Rattle.dep_iter.specs.Arguments.{combinations, product}
-use Rattle.dep_iter.specs.Edges.{in_edges, in_edges_before}
-use Rattle.dep_iter.specs.Items.{out_edges, out_edges_before}
+use Rattle.dep_iter.specs.Edges.{edges_into, in_edges, in_edges_before}
+use Rattle.dep_iter.specs.Items.{edge_of, items_to, out_edges, out_edges_before}
 use Rattle.dep_iter.specs.Links.{all_links, edge_in, edge_out, flow_targets, link, links_to, task_links}
 use Rattle.dep_iter.proofs.Joining.{edges_into-among, in_edges-links, items_to-among, out_edges-links}
 
@@ -69,7 +70,7 @@ flat_map-numbered env n [] = refl
 flat_map-numbered env n (x ∷ xs) = ap (λ l. links_to env n x ++ l) (flat_map-numbered env n xs)
 
 module _ (env : List ℤ) (g : FlowPlan → List Target) where
-  by_flow-links : (n : ℕ) (f : FlowPlan) (fs : List FlowPlan) → all_links env (by_flow g n (f ∷ fs)) ≡ flat_map (links_to env n) (g f) ++ all_links env (by_flow g (suc n) fs)
+  pub by_flow-links : (n : ℕ) (f : FlowPlan) (fs : List FlowPlan) → all_links env (by_flow g n (f ∷ fs)) ≡ flat_map (links_to env n) (g f) ++ all_links env (by_flow g (suc n) fs)
   by_flow-links n f fs =
       flat_map-append (λ (a : ℕ × Target). links_to env a.0 a.1) (map (λ x. (n, x)) (g f)) (by_flow g (suc n) fs)
       ∙ ap (λ l. l ++ all_links env (by_flow g (suc n) fs)) (flat_map-numbered env n (g f))
@@ -221,3 +222,18 @@ in_before-past P t e k past h = rw past at h
 pub out_before-past : (P : Plan) (t : Task) (e : Edge) (k : ℕ) → slice_get (flows_of P t) e.out_flow ≡ None → IsIn e (out_edges_before P t e.out_flow k) → ⊥
 unfolding out_edges_before
 out_before-past P t e k past h = rw past at h
+
+-- no dependence gives none
+none_of : {A : Type 0} (g : FlowPlan → List DepPlan → List A) (h : (f : FlowPlan) → g f [] ≡ []) (ds : FlowPlan → List DepPlan) (o : Option FlowPlan) (e : A) → IsIn e (option_map_or (λ (f : FlowPlan). g f (take 0 (ds f))) o []) → ⊥
+none_of g h ds None e w = w
+none_of g h ds (Some f) e w = rw (h f) at w
+
+pub in_before-none : (P : Plan) (t : Task) (n : ℕ) (e : Edge) → IsIn e (in_edges_before P t n 0) → ⊥
+unfolding in_edges_before
+in_before-none P t n e w =
+    none_of (λ f ds. flat_map (edges_into t (locals_of P t) n) (held_targets (takes_first f.kind) ds (locals_of P t))) (λ f. refl) (λ f. f.ins) (slice_get (flows_of P t) n) e w
+
+pub out_before-none : (P : Plan) (t : Task) (n : ℕ) (e : Edge) → IsIn e (out_edges_before P t n 0) → ⊥
+unfolding out_edges_before
+out_before-none P t n e w =
+    none_of (λ f ds. filter_map edge_of (flat_map (items_to t (locals_of P t) n) (held_targets false ds (locals_of P t)))) (λ f. refl) (λ f. f.outs) (slice_get (flows_of P t) n) e w

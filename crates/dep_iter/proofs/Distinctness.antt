@@ -17,7 +17,7 @@ use Rattle.plan_core.specs.declared.target.Arg.TheVariants.{One, Span}
 use Rattle.plan_core.specs.declared.target.Target.{Target}
 use Rattle.plan_core.specs.declared.target.Target.TheVariants as target
 use Rattle.dep_iter.specs.declared.link.Link.{Link}
-use Rattle.dep_iter.specs.Arguments.{arg_values, combinations, product}
+use Rattle.dep_iter.specs.Arguments.{arg_values, combinations}
 use Rattle.dep_iter.specs.Edges.{edges_into}
 use Rattle.dep_iter.specs.Items.{edge_of, items_to}
 use Rattle.dep_iter.specs.Links.{edge_in, edge_out, link, links_to}

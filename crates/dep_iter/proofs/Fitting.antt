@@ -1,5 +1,5 @@
 -- The targets of a well made plan fit it, and the locals of its tasks.
-use Rattle.std.proofs.Common.{◌≡◌, ℕ, zero, suc, ◌+◌, ◌<◌, ◌≤◌, slice_index_or, ℤ, Bool, true, false, ◌&&◌, List, [], ◌∷◌, length, refl, ap, sym, ◌∙◌, Option, Some, None, slice_get, IsSomeAnd, IsTrue, ◌⊎◌, inl, inr, subst, rules, arith}
+use Rattle.std.proofs.Common.{◌≡◌, ℕ, zero, suc, ◌<◌, ◌≤◌, slice_index_or, ℤ, Bool, true, false, ◌&&◌, List, [], ◌∷◌, length, refl, ap, sym, ◌∙◌, Option, Some, None, slice_get, IsSomeAnd, IsTrue, inl, inr, arith}
 use Rattle.std.proofs.lemmas.Bool.{false≢true}
 use Rattle.std.specs.List.{find, list_all}
 use Rattle.std.specs.Option.{option_map_or}
@@ -9,7 +9,7 @@ use Rattle.std.specs.Cmp.Rules.{signed_items}
 use Rattle.ptg_base.specs.Lists.{IsIn}
 use Rattle.term_core.specs.Term.{Term}
 use Rattle.term_core.specs.declared.space.ClassSpace.{ClassSpace}
-use Rattle.range_space.specs.Tasks.{all_locals, params_of, tasks}
+use Rattle.range_space.specs.Tasks.{all_locals, params_of}
 use Rattle.range_space.specs.Locals.{IsLocalsOf}
 use Rattle.range_space.proofs.Stepping.{by_test}
 use Rattle.range_space.proofs.MemberLists.{and_left, and_right}

@@ -4,3 +4,4 @@ pub mod Joining
 pub mod Belonging
 pub mod Listing
 pub mod Distinctness
+pub mod FarTasks

@@ -1,5 +1,5 @@
 -- Consistent jobs. Source: PaRSEC (2013): each out edge has its in edge and each in edge its out edge; the limits, and that no place is written twice, are this project's own choice.
-use Rattle.std.specs.Prelude.{◌≡◌, ◌≢◌, ◌≤◌, ◌↔◌, ℕ, List, length, map, flat_map, filter, Bool, true, false, IsTrue, slice_get, Some}
+use Rattle.std.specs.Prelude.{◌≡◌, ◌≢◌, ◌≤◌, ◌↔◌, ◌==◌, ℕ, List, length, map, flat_map, filter, Bool, true, false, IsTrue, slice_get, Some}
 use Rattle.std.specs.List.{AllByRecursion}
 use Rattle.ptg_base.specs.Lists.{IsIn, HasNoRepeats}
 use Rattle.ptg_base.specs.Task.{Task}
@@ -14,10 +14,10 @@ use Rattle.plan_core.specs.declared.flow.FlowPlan.{FlowPlan}
 use Rattle.plan_core.specs.declared.plan.Plan.{Plan}
 use Rattle.plan_core.specs.Kinds.{is_data, kind_of}
 use Rattle.plan_core.specs.Place.{HasPlace}
-use Rattle.dep_iter.specs.declared.source.Source.{Source}
+use Rattle.dep_iter.specs.declared.counts.Counts.{Counts}
 use Rattle.dep_iter.specs.declared.source.Source.TheVariants as source
 use Rattle.dep_iter.specs.Tasks.{all_tasks, flows_of, IsTask}
-use Rattle.dep_iter.specs.Edges.{data_source, in_edges}
+use Rattle.dep_iter.specs.Edges.{data_source, goal, in_edges}
 use Rattle.dep_iter.specs.Items.{item_flow, items, out_edges, write_backs}
 use Rattle.dep_iter.specs.Hints.{affinity}
 use Rattle.dep_iter.specs.Well.{IsWellTask}
@@ -82,9 +82,14 @@ pub record IsConsistent (P : Plan) : Type 0 where
   pub no_out_edge_twice : HasNoRepeats (all_out P)
   pub same_edges : (e : Edge) → IsIn e (all_in P) ↔ IsIn e (all_out P)
 
--- the counts of a job: its tasks, its edges, those that carry a tile, and its write-backs
-pub record HasCounts (P : Plan) (tasks edges data_edges writes : ℕ) : Type 0 where
-  pub all_tasks : tasks ≡ length (all_tasks P)
-  pub all_edges : edges ≡ length (all_in P)
-  pub all_data_edges : data_edges ≡ length (all_data P)
-  pub all_writes : writes ≡ length (all_writes P)
+-- the tasks without an edge into them, in walk order
+abbrev pub roots : Plan → List Task
+roots P = filter (λ t. goal P t == 0) (all_tasks P)
+
+-- the counts of a job: its tasks, those without an edge into them, its edges, those that carry a tile, and its write-backs
+pub record HasCounts (P : Plan) (c : Counts) : Type 0 where
+  pub all_tasks : c.tasks ≡ length (all_tasks P)
+  pub all_roots : c.roots ≡ length (roots P)
+  pub all_edges : c.edges ≡ length (all_in P)
+  pub all_data_edges : c.data_edges ≡ length (all_data P)
+  pub all_writes : c.writes ≡ length (all_writes P)

@@ -1,5 +1,5 @@
 -- The edges into a task and where its tiles come from. Source: DAGuE (Parallel Computing, 2012) and PaRSEC (2013).
-use Rattle.std.specs.Prelude.{ℕ, ℤ, List, [], ◌∷◌, map, flat_map, length, take, Option, Some, None, slice_get}
+use Rattle.std.specs.Prelude.{ℕ, ℤ, List, [], ◌∷◌, map, flat_map, length, take, slice_get}
 use Rattle.std.specs.Option.{option_map_or}
 use Rattle.ptg_base.specs.Task.{Task}
 use Rattle.ptg_base.specs.declared.edge.Edge.{Edge}
@@ -31,6 +31,10 @@ in_edges P t = flat_map (λ a. edges_into t (locals_of P t) a.0 a.1) (active_ins
 -- how many edges go into a task
 abbrev pub goal : Plan → Task → ℕ
 goal P t = length (in_edges P t)
+
+-- the tasks that the edges into a task come from, one for each edge
+abbrev pub sources : Plan → Task → List Task
+sources P t = map (λ (e : Edge). e.from) (in_edges P t)
 
 -- what a target of an in dependence of flow n is to the task
 abbrev pub source_at : Task → List ℤ → ℕ → Target → Source

@@ -9,3 +9,4 @@ pub mod Consistent
 pub mod Combining
 pub mod Links
 pub mod Walking
+pub mod Given

@@ -1,5 +1,5 @@
 -- The edges of a task seen from the task: the tasks at the other ends. A link is an edge in without the task that it goes into, or an edge out without the task that it comes from.
-use Rattle.std.specs.Prelude.{ℕ, ℤ, List, [], ◌∷◌, ◌++◌, map, flat_map, Bool, true, false, Option, Some, None, ◌&&◌, ◌==◌, is_some, length, slice_get}
+use Rattle.std.specs.Prelude.{ℕ, ℤ, List, [], map, flat_map, Bool, true, false, ◌&&◌, is_some, length}
 use Rattle.std.specs.List.{list_all}
 use Rattle.std.specs.Option.{option_map_or}
 use Rattle.ptg_base.specs.Task.{Task}
@@ -13,7 +13,7 @@ use Rattle.plan_core.specs.Kinds.{flow_of}
 use Rattle.plan_core.specs.Targets.{has_params}
 use Rattle.dep_iter.specs.declared.link.Link.{Link}
 use Rattle.dep_iter.specs.Tasks.{flows_of, locals_of, task}
-use Rattle.dep_iter.specs.Active.{by_flow, flow_ins, flow_outs, held_targets}
+use Rattle.dep_iter.specs.Active.{by_flow, flow_ins, flow_outs}
 use Rattle.dep_iter.specs.Arguments.{combinations}
 use Rattle.dep_iter.specs.Edges.{edge}
 

@@ -1,5 +1,5 @@
 -- The tasks of a job, and the locals of a task, under which all that its class says of it is evaluated. Source: DAGuE (Parallel Computing, 2012): a task is named by its class and its parameters; the JDF documentation for locals.
-use Rattle.std.specs.Prelude.{ℕ, suc, ℤ, List, [], ◌∷◌, ◌++◌, map, find, Option, unwrap_or, slice_get, IsSomeAnd}
+use Rattle.std.specs.Prelude.{ℕ, suc, ℤ, List, [], ◌∷◌, ◌++◌, map, find, unwrap_or, slice_get, IsSomeAnd}
 use Rattle.std.specs.Option.{option_map_or}
 use Rattle.std.specs.Ordering.{int_eq}
 use Rattle.std.specs.Cmp.Lexicographic.{pointwise}

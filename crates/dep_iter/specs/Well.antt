@@ -1,7 +1,6 @@
 -- Well tasks: each expression that a task needs has a value, and no range that it needs has step 0. Source: the JDF documentation; the order in which a fault is looked for is this project's own choice.
 use Rattle.std.specs.Prelude.{◌≡◌, ℕ, suc, ℤ, List, [], ◌∷◌, Bool, true, false, ◌&&◌, Option, Some, None, Result, Ok, Err, is_ok, slice_get, if◌then◌else◌, option_map, option_and_then}
 use Rattle.std.specs.List.{list_all}
-use Rattle.std.specs.Option.{option_map_or}
 use Rattle.ptg_base.specs.Task.{Task}
 use Rattle.term_core.specs.Term.{Term}
 use Rattle.term_core.specs.Value.{value}

@@ -1,8 +1,9 @@
 //! The combinations of values of arguments, one after another.
 
-ghost use Rattle.std.specs.Prelude.{◌≡◌, ◌+◌, ◌≤◌, ◌<◌, ◌+ℤ◌, [], ◌∷◌, ◌++◌, length, map, MatchOption, IsTrue, false, true};
+ghost use Rattle.std.specs.Prelude.{◌≡◌, ◌+◌, ◌≤◌, [], ◌++◌, drop, length, map, IfSome, slice_get, if◌then◌else◌};
 ghost use Rattle.std.specs.Bool.{OnTrue, OnFalse};
 ghost use Rattle.std.specs.Iterator.{YieldsFirst};
+ghost use Rattle.std.specs.Option.{option_copied};
 ghost use Rattle.range_space.specs.Tasks.{or_empty};
 ghost use Rattle.range_space.specs.Values.{is_within};
 ghost use Rattle.dep_iter.specs.Arguments.{arg_values, combinations};
@@ -16,7 +17,7 @@ use plan_core::Arg;
 use range_space::Numbers;
 use std::marker::Model;
 
-/// The combinations of values of arguments that are not yet given, the first argument outermost. It takes no memory.
+/// The combinations of values of arguments that are not yet given, the first argument outermost. It takes no memory, and goes on in place.
 #[derive(Drop)]
 pub struct Combinations {
     spans: ArrayVec<Progression, 8>,
@@ -32,20 +33,7 @@ impl Model for Combinations {
 
     ghost view = { λ c. combinations_left c.live c.spans.items c.at };
 
-    ghost invariant = { λ c. (length c.spans.items ≤ 8) × (c.live ≡ true → HasOneEach c.spans.items c.at × HaveFirst c.spans.items) };
-}
-
-// Whether a combination comes after this one.
-fn has_next(spans: &[Progression], at: &[i64]) -> bool
-    ensures { result ≡ combining.has_next spans.now at.now }
-{
-    let Some((steps, inner)) = spans.split_first() else {
-        return false;
-    };
-    let Some((v, rest)) = at.split_first() else {
-        return false;
-    };
-    has_next(inner, rest) || next_value(steps.hi, steps.step, *v).is_some()
+    ghost invariant = { λ c. c.live ≡ true → (length c.at ≤ 8) × HasOneEach c.spans.items c.at × HaveFirst c.spans.items };
 }
 
 // Adds the first value of each progression.
@@ -60,27 +48,35 @@ fn push_first(spans: &[Progression], values: &mut Numbers<8>)
     push_first(inner, values);
 }
 
-// Adds the values of the combination after this one.
-fn push_next(spans: &[Progression], at: &[i64], values: &mut Numbers<8>)
-    requires room { length values.old + length spans.now ≤ 8 }
-    requires next { IsTrue (combining.has_next spans.now at.now) }
-    ensures { values.new ≡ values.old ++ combining.next_of spans.now at.now }
+// Takes all numbers away.
+fn clear(values: &mut Numbers<8>)
+    ensures { values.new ≡ [] }
 {
-    let Some((steps, inner)) = spans.split_first() else {
-        return;
-    };
-    let Some((v, rest)) = at.split_first() else {
-        return;
-    };
-    if has_next(inner, rest) {
-        values.push(*v);
-        push_next(inner, rest, values);
-        return;
+    if values.pop().is_some() {
+        clear(values);
     }
-    if let Some(w) = next_value(steps.hi, steps.step, *v) {
-        values.push(w);
-        push_first(inner, values);
+}
+
+// Goes on to the combination after this one: the last value that can goes on, and those after it begin anew. Where there is none all begin anew.
+fn advance(spans: &[Progression], at: &mut Numbers<8>) -> bool
+    requires at_most { length at.old ≤ 8 }
+    requires each { HasOneEach spans.now at.old }
+    ensures next { result ≡ combining.has_next spans.now at.old }
+    ensures values { at.new ≡ (if result then combining.next_of spans.now at.old else first_values spans.now) }
+{
+    let Some((steps, outer)) = spans.split_last() else {
+        return false;
+    };
+    let Some(v) = at.pop() else {
+        return false;
+    };
+    if let Some(w) = next_value(steps.hi, steps.step, v) {
+        at.push(w);
+        return true;
     }
+    let more = advance(outer, at);
+    at.push(steps.lo);
+    more
 }
 
 // Adds the progression of each argument, unless one has no values.
@@ -118,20 +114,53 @@ impl Combinations {
         requires { length args.now ≤ 8 }
         ensures { result ≡ combinations args.now env.now }
     {
-        let mut spans = ArrayVec::new();
-        if !push_spans(args, env, &mut spans) {
-            return Combinations::none();
-        }
-        let mut at = Numbers::new();
-        push_first(spans.as_slice(), &mut at);
-        Combinations {
-            spans,
-            at,
-            live: true,
+        let mut all = Combinations::none();
+        all.restart(args, env);
+        all
+    }
+
+    /// Replaces the combinations by those of the values of these arguments under these locals.
+    pub fn restart(&mut self, args: &[Arg], env: &[i64])
+        requires { length args.now ≤ 8 }
+        ensures { self.new ≡ combinations args.now env.now }
+    {
+        self.spans.clear();
+        self.live = push_spans(args, env, &mut self.spans);
+        clear(&mut self.at);
+        if self.live {
+            push_first(self.spans.as_slice(), &mut self.at);
         }
     }
 
-    /// The next combination, and then None. Takes no more steps than the square of the number of arguments.
+    /// Takes all combinations away.
+    pub fn stop(&mut self)
+        ensures { self.new ≡ [] }
+    {
+        self.live = false;
+    }
+
+    /// The next combination, if there is one.
+    pub fn first(&self) -> Option<&[i64]>
+        ensures first { option_copied result ≡ slice_get self.now 0 }
+        ensures at_most { IfSome result (λ values. length values.now ≤ 8) }
+    {
+        if self.live {
+            Some(self.at.as_slice())
+        } else {
+            None
+        }
+    }
+
+    /// Goes on to the combination after the next one. Takes no more steps than there are arguments.
+    pub fn pass(&mut self)
+        ensures { self.new ≡ drop 1 self.old }
+    {
+        if self.live {
+            self.live = advance(self.spans.as_slice(), &mut self.at);
+        }
+    }
+
+    /// A copy of the next combination, and then None.
     pub fn next(&mut self) -> Option<Numbers<8>>
         ensures { YieldsFirst (λ left. left) self.old result self.new }
     {
@@ -139,12 +168,7 @@ impl Combinations {
             return None;
         }
         let given = self.at.copy();
-        self.live = has_next(self.spans.as_slice(), given.as_slice());
-        if self.live {
-            let mut at = Numbers::new();
-            push_next(self.spans.as_slice(), given.as_slice(), &mut at);
-            self.at = at;
-        }
+        self.pass();
         Some(given)
     }
 }

@@ -2,11 +2,14 @@
 
 ghost use Rattle.std.specs.Prelude.{◌≡◌};
 ghost use Rattle.std.specs.Iterator.{YieldsFirst, item_count};
+ghost use Rattle.dep_iter.specs.Tasks as tasks;
 ghost use Rattle.dep_iter.specs.Tasks.{IsTask};
 ghost use Rattle.dep_iter.specs.Edges as edges;
 ghost use Rattle.dep_iter.specs.Items as items;
 
 use crate::links::Links;
+use crate::locals::Locals;
+use crate::task::locals_of;
 use plan_core::Plan;
 use ptg_base::{Edge, TaskId};
 use std::marker::Model;
@@ -42,7 +45,19 @@ pub fn in_edges<'a>(plan: &'a Plan, t: &TaskId) -> InEdges<'a>
 {
     InEdges {
         task: copy_of(t),
-        links: Links::new(plan, t, true),
+        links: Links::new(plan, t, Locals::Own(locals_of(plan, t)), true),
+    }
+}
+
+/// The edges into a task with these locals.
+pub fn in_edges_under<'a>(plan: &'a Plan, t: &TaskId, env: &'a [i64]) -> InEdges<'a>
+    requires task { IsTask plan.now t.now }
+    requires locals { env.now ≡ tasks.locals_of plan.now t.now }
+    ensures { result ≡ edges.in_edges plan.now t.now }
+{
+    InEdges {
+        task: copy_of(t),
+        links: Links::new(plan, t, Locals::Lent(env), true),
     }
 }
 
@@ -88,7 +103,19 @@ pub fn out_edges<'a>(plan: &'a Plan, t: &TaskId) -> OutEdges<'a>
 {
     OutEdges {
         task: copy_of(t),
-        links: Links::new(plan, t, false),
+        links: Links::new(plan, t, Locals::Own(locals_of(plan, t)), false),
+    }
+}
+
+/// The edges out of a task with these locals.
+pub fn out_edges_under<'a>(plan: &'a Plan, t: &TaskId, env: &'a [i64]) -> OutEdges<'a>
+    requires task { IsTask plan.now t.now }
+    requires locals { env.now ≡ tasks.locals_of plan.now t.now }
+    ensures { result ≡ items.out_edges plan.now t.now }
+{
+    OutEdges {
+        task: copy_of(t),
+        links: Links::new(plan, t, Locals::Lent(env), false),
     }
 }
 

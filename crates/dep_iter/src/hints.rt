@@ -1,6 +1,8 @@
 //! Where a task would best run, and how urgent it is.
 
-ghost use Rattle.std.specs.Prelude.{◌≡◌};
+ghost use Rattle.std.specs.Prelude.{◌≡◌, ◌<◌, ◌^◌, pos};
+ghost use Rattle.plan_core.specs.Place.{HasPlace, IsColumn};
+ghost use Rattle.dep_iter.specs.Tasks as tasks;
 ghost use Rattle.dep_iter.specs.Tasks.{IsTask};
 ghost use Rattle.dep_iter.specs.Hints as hints;
 
@@ -11,18 +13,45 @@ use ptg_base::{Place, TaskId};
 use term_core::Expr;
 
 /// The place of the affinity of a task, a hint where it would best run.
-#[tactic(auto, unfolding(crate::specs::Hints::affinity))]
 pub fn affinity(plan: &Plan, t: &TaskId) -> Place
     requires { IsTask plan.now t.now }
     ensures { result ≡ hints.affinity plan.now t.now }
 {
     let env = locals_of(plan, t);
+    affinity_under(plan, t, env.as_slice())
+}
+
+/// The place of the affinity of a task with these locals.
+#[tactic(auto, unfolding(crate::specs::Hints::affinity))]
+pub fn affinity_under(plan: &Plan, t: &TaskId, env: &[i64]) -> Place
+    requires task { IsTask plan.now t.now }
+    requires locals { env.now ≡ tasks.locals_of plan.now t.now }
+    ensures { result ≡ hints.affinity plan.now t.now }
+{
     let class = plan.class(t.class());
-    place_of(
-        class.affinity.0,
-        class.affinity.1.as_slice(),
-        env.as_slice(),
-    )
+    place_of(class.affinity.0, class.affinity.1.as_slice(), env)
+}
+
+// The number of a row and a column among the places of a collection with so many columns.
+fn number_in(columns: Option<u32>, row: u64, column: u64) -> u64
+    requires row { row < 2 ^ 32 }
+    requires column { IsColumn columns (pos column) }
+    ensures { result ≡ hints.number_in columns row column }
+{
+    match columns {
+        None => row,
+        Some(columns) => row * u64::from(columns) + column,
+    }
+}
+
+/// The number of a place among those of its collection, row by row.
+pub fn place_number(plan: &Plan, p: &Place) -> u64
+    requires { HasPlace plan.now.colls p.now }
+    ensures { result ≡ hints.place_number plan.now p.now }
+{
+    let shape = plan.coll(p.coll);
+    let _rows = shape.rows;
+    number_in(shape.cols, p.i.unsigned_abs(), p.j.unsigned_abs())
 }
 
 // The value of a priority, 0 where none is written.
@@ -36,11 +65,20 @@ fn priority_value(env: &[i64], priority: &Option<Expr>) -> i64
 }
 
 /// The priority of a task, 0 where none is written.
-#[tactic(auto, unfolding(crate::specs::Hints::priority))]
 pub fn priority(plan: &Plan, t: &TaskId) -> i64
     requires { IsTask plan.now t.now }
     ensures { result ≡ hints.priority plan.now t.now }
 {
     let env = locals_of(plan, t);
-    priority_value(env.as_slice(), &plan.class(t.class()).priority)
+    priority_under(plan, t, env.as_slice())
+}
+
+/// The priority of a task with these locals.
+#[tactic(auto, unfolding(crate::specs::Hints::priority))]
+pub fn priority_under(plan: &Plan, t: &TaskId, env: &[i64]) -> i64
+    requires task { IsTask plan.now t.now }
+    requires locals { env.now ≡ tasks.locals_of plan.now t.now }
+    ensures { result ≡ hints.priority plan.now t.now }
+{
+    priority_value(env, &plan.class(t.class()).priority)
 }

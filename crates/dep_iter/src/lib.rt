@@ -3,18 +3,22 @@
 
 mod argument;
 mod combining;
+mod counts;
 mod edges;
+mod ends;
 mod guard;
 mod hints;
 mod laws;
 mod link;
 mod links;
+mod locals;
 mod matched;
 mod membership;
 mod place;
 mod position;
 mod progression;
 mod source;
+mod sources;
 mod task;
 mod tile_source;
 mod well;
@@ -22,20 +26,26 @@ mod writes;
 
 pub use argument::arg_steps;
 pub use combining::Combinations;
-pub use edges::{InEdges, OutEdges, in_edges, out_edges};
+pub use counts::Counts;
+pub use edges::{InEdges, OutEdges, in_edges, in_edges_under, out_edges, out_edges_under};
+pub use ends::{receiver_locals, sender_locals};
 pub use guard::held_target;
-pub use hints::{affinity, priority};
+pub use hints::{affinity, affinity_under, place_number, priority, priority_under};
 pub use laws::{
     a_task_has_no_more_edges_than_the_job, all_tasks_are_listed, edges_are_links,
     edges_of_a_dependence_differ,
 };
 pub use link::Link;
 pub use matched::Matched;
-pub use membership::{has_in_edge, has_in_edge_before, has_out_edge, has_out_edge_before};
+pub use membership::{
+    has_in_edge, has_in_edge_before, has_in_edge_under, has_out_edge, has_out_edge_before,
+    has_out_edge_under,
+};
 pub use position::{Position, takes_first};
 pub use progression::Progression;
 pub use source::Source;
-pub use task::{flows_of, is_task, locals_of};
-pub use tile_source::data_source;
-pub use well::{IllTask, well_task};
-pub use writes::{WriteBacks, write_backs};
+pub use sources::has_source_under;
+pub use task::{flows_of, is_task, locals_of, task_locals};
+pub use tile_source::{data_source, data_source_under};
+pub use well::{IllTask, well_task, well_task_under};
+pub use writes::{WriteBacks, write_backs, write_backs_under};

@@ -1,9 +1,10 @@
 //! The links of a task, one after another.
 
-ghost use Rattle.std.specs.Prelude.{◌≡◌, ◌+◌, ◌≤◌, [], ◌∷◌, ◌++◌, length, map, IsTrue, List};
+ghost use Rattle.std.specs.Prelude.{◌≡◌, ◌+◌, ◌≤◌, [], ◌++◌, length, IsTrue, List, slice_get};
 ghost use Rattle.std.specs.Iterator.{YieldsFirst};
 ghost use Rattle.dep_iter.specs.Links.{all_links, fits, links_to, task_links};
-ghost use Rattle.dep_iter.specs.Tasks.{IsTask};
+ghost use Rattle.dep_iter.specs.Given.{given_locals};
+ghost use Rattle.dep_iter.specs.Tasks.{IsTask, locals_of};
 ghost use Rattle.dep_iter.specs.declared.link.Link.{Link as LinkValue};
 ghost use Rattle.dep_iter.specs.Arguments.{combinations};
 ghost use Rattle.dep_iter.specs.Walking.{position_fits, targets_left};
@@ -11,11 +12,11 @@ ghost use Rattle.plan_core.specs.declared.target.Target.TheVariants.{Task};
 
 use crate::combining::Combinations;
 use crate::link::Link;
+use crate::locals::Locals;
 use crate::position::{Position, next_target, start};
-use crate::task::{flows_of, locals_of};
+use crate::task::flows_of;
 use plan_core::{Arg, Plan, Target};
 use ptg_base::TaskId;
-use range_space::Numbers;
 use std::marker::Model;
 
 /// The links of one target that are not yet given.
@@ -58,32 +59,42 @@ impl TargetLinks {
         }
     }
 
-    // The links of this flow that a target stands for.
-    fn new(plan: &Plan, near: u8, target: &Target, env: &[i64]) -> TargetLinks
+    // Replaces the links by those of this flow that a target stands for.
+    fn restart(&mut self, plan: &Plan, near: u8, target: &Target, env: &[i64])
         requires { IsTrue (fits plan.now target.now) }
-        ensures { result ≡ links_to env.now near target.now }
+        ensures { self.new ≡ links_to env.now near target.now }
     {
         let Target::Task(class, far_flow, args) = target else {
-            return TargetLinks::none();
+            self.params.stop();
+            return;
         };
         arguments_at_most(plan, *class, *far_flow, args.as_slice());
-        TargetLinks {
-            near,
-            class: *class,
-            far_flow: *far_flow,
-            params: Combinations::new(args.as_slice(), env),
+        self.near = near;
+        self.class = *class;
+        self.far_flow = *far_flow;
+        self.params.restart(args.as_slice(), env);
+    }
+
+    // The next link, if there is one.
+    fn first(&self) -> Option<Link>
+        ensures { result ≡ slice_get self.now 0 }
+    {
+        match self.params.first() {
+            Some(values) => Some(Link {
+                near: self.near,
+                far: TaskId::new(self.class, values),
+                far_flow: self.far_flow,
+            }),
+            None => None,
         }
     }
 
     fn next(&mut self) -> Option<Link>
         ensures { YieldsFirst (λ left. left) self.old result self.new }
     {
-        let params = self.params.next()?;
-        Some(Link {
-            near: self.near,
-            far: TaskId::new(self.class, params.as_slice()),
-            far_flow: self.far_flow,
-        })
+        let link = self.first();
+        self.params.pass();
+        link
     }
 }
 
@@ -105,7 +116,7 @@ fn next_link<'a>(
         return Some(link);
     }
     let (target, later) = next_target(inward, env, *p)?;
-    *at_hand = TargetLinks::new(plan, later.flow, target, env);
+    at_hand.restart(plan, later.flow, target, env);
     *p = later;
     next_link(plan, inward, env, p, at_hand)
 }
@@ -115,7 +126,7 @@ fn next_link<'a>(
 pub(crate) struct Links<'a> {
     plan: &'a Plan,
     inward: bool,
-    env: Numbers<16>,
+    env: Locals<'a>,
     position: Position<'a>,
     at_hand: TargetLinks,
 }
@@ -125,25 +136,27 @@ impl<'a> Model for Links<'a> {
     ghost use Rattle.dep_iter.specs.declared.link.Link.{Link};
     ghost use Rattle.dep_iter.specs.Links.{all_links};
     ghost use Rattle.dep_iter.specs.Walking.{position_fits, targets_left};
+    ghost use Rattle.dep_iter.specs.Given.{given_locals};
 
     ghost Value = { List Link };
 
-    ghost view = { λ l. l.at_hand ++ all_links l.env (targets_left l.inward l.env l.position) };
+    ghost view = { λ l. l.at_hand ++ all_links (given_locals l.env) (targets_left l.inward (given_locals l.env) l.position) };
 
     ghost invariant = { λ l. (l.position.next_flow + length l.position.flows.now ≤ 8) × IsTrue (position_fits l.plan.now l.position) };
 }
 
 impl<'a> Links<'a> {
-    // All links of a task.
-    pub(crate) fn new(plan: &'a Plan, t: &TaskId, inward: bool) -> Links<'a>
-        requires { IsTask plan.now t.now }
+    // All links of a task with these locals.
+    pub(crate) fn new(plan: &'a Plan, t: &TaskId, env: Locals<'a>, inward: bool) -> Links<'a>
+        requires task { IsTask plan.now t.now }
+        requires locals { given_locals env ≡ locals_of plan.now t.now }
         ensures { result ≡ task_links plan.now t.now inward }
     {
         let flows = flows_of(plan, t);
         Links {
             plan,
             inward,
-            env: locals_of(plan, t),
+            env,
             position: start(flows),
             at_hand: TargetLinks::none(),
         }

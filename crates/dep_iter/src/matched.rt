@@ -5,6 +5,7 @@ ghost use Rattle.dep_iter.specs.Tasks.{all_tasks};
 ghost use Rattle.dep_iter.specs.Consistent as consistent;
 ghost use Rattle.dep_iter.specs.Consistent.{HasCounts, IsConsistent};
 
+use crate::counts::Counts;
 use plan_core::Plan;
 use std::marker::Model;
 
@@ -12,10 +13,7 @@ use std::marker::Model;
 #[derive(Drop)]
 pub struct Matched {
     plan: Plan,
-    tasks: u64,
-    edges: u64,
-    data_edges: u64,
-    writes: u64,
+    counts: Counts,
 }
 
 impl Model for Matched {
@@ -32,23 +30,17 @@ impl Model for Matched {
 
     ghost view = { λ m. m.plan };
 
-    ghost invariant = { λ m. IsConsistent m.plan × HasCounts m.plan m.tasks m.edges m.data_edges m.writes };
+    ghost invariant = { λ m. IsConsistent m.plan × HasCounts m.plan m.counts };
 }
 
 impl Matched {
     /// A plan that was found to be consistent, with its counts.
-    pub fn trusted(plan: Plan, tasks: u64, edges: u64, data_edges: u64, writes: u64) -> Matched
+    pub fn trusted(plan: Plan, counts: Counts) -> Matched
         requires consistent { IsConsistent plan }
-        requires counts { HasCounts plan tasks edges data_edges writes }
+        requires counts { HasCounts plan counts }
         ensures { result ≡ plan }
     {
-        Matched {
-            plan,
-            tasks,
-            edges,
-            data_edges,
-            writes,
-        }
+        Matched { plan, counts }
     }
 
     /// The plan.
@@ -63,27 +55,34 @@ impl Matched {
     pub fn tasks(&self) -> u64
         ensures { result ≡ length (all_tasks self.now) }
     {
-        self.tasks
+        self.counts.tasks
+    }
+
+    /// How many of its tasks have no edge into them. A run begins with these, so whoever looks for them may stop after so many.
+    pub fn roots(&self) -> u64
+        ensures { result ≡ length (consistent.roots self.now) }
+    {
+        self.counts.roots
     }
 
     /// How many edges it has, those of CTL flows among them.
     pub fn edges(&self) -> u64
         ensures { result ≡ length (consistent.all_in self.now) }
     {
-        self.edges
+        self.counts.edges
     }
 
     /// How many of its edges carry a tile.
     pub fn data_edges(&self) -> u64
         ensures { result ≡ length (consistent.all_data self.now) }
     {
-        self.data_edges
+        self.counts.data_edges
     }
 
     /// How many write-backs it has.
     pub fn writes(&self) -> u64
         ensures { result ≡ length (consistent.all_writes self.now) }
     {
-        self.writes
+        self.counts.writes
     }
 }

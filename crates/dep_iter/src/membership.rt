@@ -7,6 +7,7 @@ ghost use Rattle.dep_iter.specs.Arguments.{combinations};
 ghost use Rattle.dep_iter.specs.Edges as edges;
 ghost use Rattle.dep_iter.specs.Items as items;
 ghost use Rattle.dep_iter.specs.Links.{links_to};
+ghost use Rattle.dep_iter.specs.Tasks as tasks;
 ghost use Rattle.dep_iter.specs.Tasks.{IsTask};
 
 use crate::argument::has_value;
@@ -17,7 +18,7 @@ use plan_core::{Arg, DepPlan, Plan, Target};
 use ptg_base::{Edge, TaskId};
 
 // Whether these numbers are one of the combinations of the values of these arguments.
-fn has_combination(args: &[Arg], env: &[i64], params: &[i64]) -> bool
+pub(crate) fn has_combination(args: &[Arg], env: &[i64], params: &[i64]) -> bool
     ensures { IsTrue result ↔ IsIn params.now (combinations args.now env.now) }
 {
     let Some((arg, others)) = args.split_first() else {
@@ -72,6 +73,16 @@ pub fn has_in_edge(plan: &Plan, t: &TaskId, edge: &Edge) -> bool
     requires { IsTask plan.now t.now }
     ensures { IsTrue result ↔ IsIn edge.now (edges.in_edges plan.now t.now) }
 {
+    let env = locals_of(plan, t);
+    has_in_edge_under(plan, t, env.as_slice(), edge)
+}
+
+/// Whether the edge is one of those into the task with these locals.
+pub fn has_in_edge_under(plan: &Plan, t: &TaskId, env: &[i64], edge: &Edge) -> bool
+    requires task { IsTask plan.now t.now }
+    requires locals { env.now ≡ tasks.locals_of plan.now t.now }
+    ensures { IsTrue result ↔ IsIn edge.now (edges.in_edges plan.now t.now) }
+{
     let flows = flows_of(plan, t);
     let number = edge.in_flow as usize;
     if number >= flows.len() {
@@ -81,12 +92,11 @@ pub fn has_in_edge(plan: &Plan, t: &TaskId, edge: &Edge) -> bool
     if !same_task {
         return false;
     }
-    let env = locals_of(plan, t);
     let flow = &flows[number];
     any_leads_to(
         takes_first(flow.kind),
         flow.ins.as_slice(),
-        env.as_slice(),
+        env,
         &edge.from,
         edge.out_flow,
     )
@@ -95,6 +105,16 @@ pub fn has_in_edge(plan: &Plan, t: &TaskId, edge: &Edge) -> bool
 /// Whether the edge is one of those out of the task. Takes time according to the dependences of one flow, however many edges they give.
 pub fn has_out_edge(plan: &Plan, t: &TaskId, edge: &Edge) -> bool
     requires { IsTask plan.now t.now }
+    ensures { IsTrue result ↔ IsIn edge.now (items.out_edges plan.now t.now) }
+{
+    let env = locals_of(plan, t);
+    has_out_edge_under(plan, t, env.as_slice(), edge)
+}
+
+/// Whether the edge is one of those out of the task with these locals.
+pub fn has_out_edge_under(plan: &Plan, t: &TaskId, env: &[i64], edge: &Edge) -> bool
+    requires task { IsTask plan.now t.now }
+    requires locals { env.now ≡ tasks.locals_of plan.now t.now }
     ensures { IsTrue result ↔ IsIn edge.now (items.out_edges plan.now t.now) }
 {
     let flows = flows_of(plan, t);
@@ -106,15 +126,8 @@ pub fn has_out_edge(plan: &Plan, t: &TaskId, edge: &Edge) -> bool
     if !same_task {
         return false;
     }
-    let env = locals_of(plan, t);
     let flow = &flows[number];
-    any_leads_to(
-        false,
-        flow.outs.as_slice(),
-        env.as_slice(),
-        &edge.to,
-        edge.in_flow,
-    )
+    any_leads_to(false, flow.outs.as_slice(), env, &edge.to, edge.in_flow)
 }
 
 // The first k of these dependences, or all where there are no more.
@@ -130,6 +143,9 @@ pub fn has_in_edge_before(plan: &Plan, t: &TaskId, edge: &Edge, k: usize) -> boo
     requires { IsTask plan.now t.now }
     ensures { IsTrue result ↔ IsIn edge.now (edges.in_edges_before plan.now t.now edge.now.in_flow k) }
 {
+    if k == 0 {
+        return false;
+    }
     let flows = flows_of(plan, t);
     let number = edge.in_flow as usize;
     if number >= flows.len() {
@@ -157,6 +173,9 @@ pub fn has_out_edge_before(plan: &Plan, t: &TaskId, edge: &Edge, k: usize) -> bo
     requires { IsTask plan.now t.now }
     ensures { IsTrue result ↔ IsIn edge.now (items.out_edges_before plan.now t.now edge.now.out_flow k) }
 {
+    if k == 0 {
+        return false;
+    }
     let flows = flows_of(plan, t);
     let number = edge.out_flow as usize;
     if number >= flows.len() {

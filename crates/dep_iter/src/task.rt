@@ -1,6 +1,6 @@
 //! Tasks of a plan, their locals and their flows.
 
-ghost use Rattle.std.specs.Prelude.{◌≡◌, ◌↔◌, ◌<◌, ◌≤◌, length, slice_get, Some, IsTrue};
+ghost use Rattle.std.specs.Prelude.{◌≡◌, ◌↔◌, ◌<◌, ◌≤◌, length, slice_get, Some, IsTrue, MatchOption};
 ghost use Rattle.term_core.specs.WellSpace.{IsWellSpace};
 ghost use Rattle.dep_iter.specs.Tasks as tasks;
 ghost use Rattle.dep_iter.specs.Tasks.{IsTask};
@@ -42,6 +42,17 @@ pub fn locals_of(plan: &Plan, t: &TaskId) -> Numbers<16>
 {
     a_task_has_one_list_of_locals();
     range_space::locals_of(space_of(plan, t.class()), t.params())
+}
+
+/// The locals of a task, or None where the job has no such task. All that the calls under given locals say of the task is evaluated under them.
+pub fn task_locals(plan: &Plan, t: &TaskId) -> Option<Numbers<16>>
+    ensures { MatchOption result (IsTask plan.now t.now → ⊥) (λ locals. IsTask plan.now t.now × (locals ≡ tasks.locals_of plan.now t.now)) }
+{
+    if is_task(plan, t) {
+        Some(locals_of(plan, t))
+    } else {
+        None
+    }
 }
 
 /// The flows of the class of a task.

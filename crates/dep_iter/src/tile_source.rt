@@ -6,6 +6,7 @@ ghost use Rattle.dep_iter.specs.Active.{flow_ins};
 ghost use Rattle.dep_iter.specs.Arguments as arguments;
 ghost use Rattle.dep_iter.specs.Edges as edges;
 ghost use Rattle.dep_iter.specs.Links.{dependences_fit, fits};
+ghost use Rattle.dep_iter.specs.Tasks as tasks;
 ghost use Rattle.dep_iter.specs.Tasks.{IsTask};
 
 use crate::edges::copy_of;
@@ -87,11 +88,20 @@ pub fn data_source(plan: &Plan, t: &TaskId, flow: u8) -> Source
     requires { IsTask plan.now t.now }
     ensures { result ≡ edges.data_source plan.now t.now flow }
 {
+    let env = locals_of(plan, t);
+    data_source_under(plan, t, env.as_slice(), flow)
+}
+
+/// Where the tile of a data flow of a task with these locals comes from.
+pub fn data_source_under(plan: &Plan, t: &TaskId, env: &[i64], flow: u8) -> Source
+    requires task { IsTask plan.now t.now }
+    requires locals { env.now ≡ tasks.locals_of plan.now t.now }
+    ensures { result ≡ edges.data_source plan.now t.now flow }
+{
     let flows = flows_of(plan, t);
     let number = flow as usize;
     if number >= flows.len() {
         return Source::Nothing;
     }
-    let env = locals_of(plan, t);
-    flow_source(plan, t, env.as_slice(), flow, &flows[number])
+    flow_source(plan, t, env, flow, &flows[number])
 }

@@ -2,6 +2,7 @@
 
 ghost use Rattle.std.specs.Prelude.{◌≡◌, ◌+◌, ◌≤◌, length, Some, None, IfErr, IfOk};
 ghost use Rattle.std.specs.List.{list_all};
+ghost use Rattle.dep_iter.specs.Tasks as tasks;
 ghost use Rattle.dep_iter.specs.Tasks.{IsTask};
 ghost use Rattle.dep_iter.specs.Well as well;
 
@@ -111,18 +112,28 @@ fn has_hints(env: &[i64], class: &ClassPlan) -> bool
 
 /// Whether each expression that a task needs has a value and no range that it needs has step 0: those of its affinity, its priority and its active dependences.
 /// An `Err` names what is ill first: the affinity or the priority, or a flow.
-#[tactic(auto, unfolding(crate::specs::Well::ill_part))]
 pub fn well_task(plan: &Plan, t: &TaskId) -> Result<(), IllTask>
     requires { IsTask plan.now t.now }
     ensures well { IfOk result (λ _. well.ill_part plan.now t.now ≡ None) }
     ensures ill { IfErr result (λ e. well.ill_part plan.now t.now ≡ Some e.flow) }
 {
     let env = locals_of(plan, t);
+    well_task_under(plan, t, env.as_slice())
+}
+
+/// The same of a task with these locals.
+#[tactic(auto, unfolding(crate::specs::Well::ill_part))]
+pub fn well_task_under(plan: &Plan, t: &TaskId, env: &[i64]) -> Result<(), IllTask>
+    requires task { IsTask plan.now t.now }
+    requires locals { env.now ≡ tasks.locals_of plan.now t.now }
+    ensures well { IfOk result (λ _. well.ill_part plan.now t.now ≡ None) }
+    ensures ill { IfErr result (λ e. well.ill_part plan.now t.now ≡ Some e.flow) }
+{
     let class = plan.class(t.class());
-    if !has_hints(env.as_slice(), class) {
+    if !has_hints(env, class) {
         return Err(IllTask { flow: None });
     }
-    match first_ill_flow(env.as_slice(), 0, flows_of(plan, t)) {
+    match first_ill_flow(env, 0, flows_of(plan, t)) {
         Some(flow) => Err(IllTask { flow: Some(flow) }),
         None => Ok(()),
     }

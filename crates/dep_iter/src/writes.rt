@@ -3,24 +3,25 @@
 ghost use Rattle.std.specs.Prelude.{◌≡◌, ◌+◌, ◌≤◌, length, List, false};
 ghost use Rattle.std.specs.Iterator.{YieldsFirst, item_count};
 ghost use Rattle.ptg_base.specs.declared.edge.WriteBack.{WriteBack as WriteBackValue};
+ghost use Rattle.dep_iter.specs.Tasks as tasks;
 ghost use Rattle.dep_iter.specs.Tasks.{IsTask};
 ghost use Rattle.dep_iter.specs.Items as items;
 ghost use Rattle.dep_iter.specs.Walking.{all_writes_to, targets_left};
 
 use crate::edges::copy_of;
+use crate::locals::Locals;
 use crate::place::place_of;
 use crate::position::{Position, next_target, start};
 use crate::task::{flows_of, locals_of};
 use plan_core::{Plan, Target};
 use ptg_base::{TaskId, WriteBack};
-use range_space::Numbers;
 use std::marker::Model;
 
 /// An iterator over the write-backs of a task. Contracts see it as the list of those not yet given. It takes no memory.
 #[derive(Drop)]
 pub struct WriteBacks<'a> {
     task: TaskId,
-    env: Numbers<16>,
+    env: Locals<'a>,
     position: Position<'a>,
 }
 
@@ -28,10 +29,11 @@ impl<'a> Model for WriteBacks<'a> {
     ghost use Rattle.std.specs.Prelude.{◌+◌, ◌≤◌, List, length, false};
     ghost use Rattle.ptg_base.specs.declared.edge.WriteBack.{WriteBack};
     ghost use Rattle.dep_iter.specs.Walking.{all_writes_to, targets_left};
+    ghost use Rattle.dep_iter.specs.Given.{given_locals};
 
     ghost Value = { List WriteBack };
 
-    ghost view = { λ w. all_writes_to w.task w.env (targets_left false w.env w.position) };
+    ghost view = { λ w. all_writes_to w.task (given_locals w.env) (targets_left false (given_locals w.env) w.position) };
 
     ghost invariant = { λ w. w.position.next_flow + length w.position.flows.now ≤ 8 };
 }
@@ -61,7 +63,20 @@ pub fn write_backs<'a>(plan: &'a Plan, t: &TaskId) -> WriteBacks<'a>
 {
     WriteBacks {
         task: copy_of(t),
-        env: locals_of(plan, t),
+        env: Locals::Own(locals_of(plan, t)),
+        position: start(flows_of(plan, t)),
+    }
+}
+
+/// The write-backs of a task with these locals.
+pub fn write_backs_under<'a>(plan: &'a Plan, t: &TaskId, env: &'a [i64]) -> WriteBacks<'a>
+    requires task { IsTask plan.now t.now }
+    requires locals { env.now ≡ tasks.locals_of plan.now t.now }
+    ensures { result ≡ items.write_backs plan.now t.now }
+{
+    WriteBacks {
+        task: copy_of(t),
+        env: Locals::Lent(env),
         position: start(flows_of(plan, t)),
     }
 }

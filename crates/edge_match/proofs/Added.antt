@@ -1,5 +1,5 @@
 -- What the marks of the first phase count: all edges into tasks, all items and all places that are written.
-use Rattle.std.proofs.Common.{◌≡◌, ℕ, suc, List, [], ◌∷◌, ◌++◌, map, refl, ap, sym, ◌∙◌, subst, append_assoc}
+use Rattle.std.proofs.Common.{◌≡◌, ℕ, suc, ◌+◌, List, [], ◌∷◌, ◌++◌, length, length-append, map, refl, ap, sym, ◌∙◌, subst, append_assoc, Ok, arith}
 use Rattle.std.proofs.lemmas.List.{append-nil}
 use Rattle.std.specs.List.{filter_map, flat_map}
 use Rattle.ptg_base.specs.Task.{Task}
@@ -15,11 +15,13 @@ use Rattle.dep_iter.specs.declared.source.Source.{Source}
 use Rattle.dep_iter.specs.Tasks.{all_tasks, flows_of, locals_of}
 use Rattle.dep_iter.specs.Active.{by_flow, flow_ins, flow_outs}
 use Rattle.dep_iter.specs.Consistent.{all_in, all_items, all_writes}
-use Rattle.dep_iter.specs.Edges.{data_source, edges_into, in_edges}
+use Rattle.dep_iter.specs.Edges.{data_source, edges_into, goal, in_edges}
 use Rattle.dep_iter.specs.Items.{items, items_to, write_of}
 use Rattle.dep_iter.proofs.Joining.{filter_map-append, filter_map-flat_map, map-append}
 use Rattle.edge_match.specs.declared.phase.Phase.TheVariants.{Connecting}
 use Rattle.edge_match.specs.Marks.{Before, Mark, add_all, edges_into_flow, flow_marks, flow_start, flows_marks, in_marks, item_marks, items_of_flow, nothing, phase_marks, task_marks, task_start}
+use Rattle.edge_match.specs.declared.counted.Counted.{Counted}
+use Rattle.edge_match.specs.Counted.{Checked, IsCounted}
 use Rattle.edge_match.proofs.Parts.{add_all-append}
 
 -- these marks count these edges, items and places
@@ -128,7 +130,7 @@ task_nothing : (P : Plan) (t : Task) → Adds (task_start Connecting P t) [] [] 
 unfolding Adds
 task_nothing P t b = Adds-nil b
 
-task_marks-add : (P : Plan) (t : Task) → Adds (task_marks Connecting P t) (in_edges P t) (items P t) (places_of (items P t))
+pub task_marks-add : (P : Plan) (t : Task) → Adds (task_marks Connecting P t) (in_edges P t) (items P t) (places_of (items P t))
 task_marks-add P t =
     let flows = flows_marks Connecting P t 0 (flows_of P t) in
     let is = items_of_flows P t 0 (flows_of P t) in
@@ -150,3 +152,13 @@ unfolding Adds places_of
 phase-adds P =
     tasks-add P (all_tasks P) nothing
     ∙ one_before _ _ _ _ _ _ refl refl (ap (map (λ (w : WriteBack). w.place)) (filter_map-flat_map write_of (items P) (all_tasks P)))
+
+-- a task whose marks pass has added the edges into it
+pub grown : (P : Plan) (s u : Counted) (b : Before) (t : Task) → IsCounted P s b → Checked P s u (Ok tt) (task_marks Connecting P t) → u.ins ≡ s.ins + goal P t
+unfolding Adds
+grown P s u b t k h =
+    let e = (h b k).1.ins in
+    let a = ap (λ (c : Before). length c.ins) (task_marks-add P t b) in
+    let l = length-append b.ins (in_edges P t) in
+    let i = k.ins in
+    omega arith

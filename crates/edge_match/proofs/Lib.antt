@@ -5,6 +5,7 @@ pub mod SentItems
 pub mod PlaceBits
 pub mod Walks
 pub mod Added
+pub mod Roots
 pub mod Passing
 pub mod Consistency
 pub mod NoFault

@@ -26,20 +26,20 @@ module _ {A : Type 0} (P : Plan) (marks : A → List Mark) where
     pub split : all ≡ done ++ left
     pub checked : Checked P s u (Ok tt) (flat_map marks done)
 
-  pub nothing_yet : (s : Counted) (all : List A) → IsSoFar s s all all
+  unfoldable pub nothing_yet : (s : Counted) (all : List A) → IsSoFar s s all all
   nothing_yet s all = record { done = []; split = refl; checked = checked_nil P s tt }
 
   pub all_done : (s u : Counted) (all : List A) → IsSoFar s u all [] → Checked P s u (Ok tt) (flat_map marks all)
   all_done s u all w = subst (λ l. Checked P s u (Ok tt) (flat_map marks l)) (sym (w.split ∙ append-nil w.done)) w.checked
 
   module _ (s u v : Counted) (all : List A) (x : A) (more : List A) (w : IsSoFar s u all (x ∷ more)) where
-    with_this : flat_map marks (w.done ++ x ∷ []) ≡ flat_map marks w.done ++ marks x
+    pub with_this : flat_map marks (w.done ++ x ∷ []) ≡ flat_map marks w.done ++ marks x
     with_this = flat_map-append marks w.done (x ∷ []) ∙ ap (λ l. flat_map marks w.done ++ l) (append-nil (marks x))
 
-    longer : all ≡ (w.done ++ x ∷ []) ++ more
+    pub longer : all ≡ (w.done ++ x ∷ []) ++ more
     longer = w.split ∙ sym (append_assoc w.done (x ∷ []) more)
 
-    pub one_more : Checked P u v (Ok tt) (marks x) → IsSoFar s v all more
+    unfoldable pub one_more : Checked P u v (Ok tt) (marks x) → IsSoFar s v all more
     one_more c = record {
       done = w.done ++ x ∷ [];
       split = longer;

@@ -1,15 +1,20 @@
 -- What the pass has counted, against what came before a mark, and what a part of the pass shows. Source: this project's own choice.
-use Rattle.std.specs.Prelude.{◌≡◌, ℕ, ◌↔◌, List, length, filter, IsTrue, Result, MatchResult}
+use Rattle.std.specs.Prelude.{◌≡◌, ◌==◌, ◌+◌, ℕ, ◌↔◌, List, length, filter, IsTrue, Result, MatchResult}
 use Rattle.ptg_base.specs.Lists.{IsIn}
+use Rattle.ptg_base.specs.Task.{Task}
 use Rattle.ptg_base.specs.declared.place.Place.{Place}
 use Rattle.plan_core.specs.declared.plan.Plan.{Plan}
 use Rattle.plan_core.specs.Place.{HasPlace}
+use Rattle.dep_iter.specs.declared.counts.Counts.{Counts}
+use Rattle.dep_iter.specs.Tasks.{all_tasks}
+use Rattle.dep_iter.specs.Edges.{goal}
 use Rattle.dep_iter.specs.Consistent.{all_data, all_in, all_writes, is_data_edge}
 use Rattle.edge_match.specs.declared.counted.Counted.{Counted}
 use Rattle.edge_match.specs.declared.fault.MatchFault.{MatchFault}
 use Rattle.edge_match.specs.declared.fault.MatchRefusal.{MatchRefusal}
 use Rattle.edge_match.specs.declared.fault.MatchRefusal.TheVariants as refusal
-use Rattle.edge_match.specs.declared.totals.Totals.{Totals}
+use Rattle.edge_match.specs.declared.phase.Phase.{Phase}
+use Rattle.edge_match.specs.declared.phase.Phase.TheVariants.{Connecting, Matching}
 use Rattle.edge_match.specs.Marks.{Before, Mark, AllPass, add_all}
 use Rattle.edge_match.specs.FirstFault.{IsFirstFailure, IsFirstFault}
 use Rattle.edge_match.specs.Written.{FitsShapes, is_written}
@@ -27,9 +32,18 @@ pub record IsCounted (P : Plan) (c : Counted) (b : Before) : Type 0 where
 abbrev pub Checked : Plan → Counted → Counted → Result (Unit {0}) MatchFault → List Mark → Type 0
 Checked P old new r ms = (b : Before) → IsCounted P old b → MatchResult r (λ _. AllPass P b ms × IsCounted P new (add_all b ms)) (λ f. IsFirstFailure P b ms f)
 
--- totals are those of a plan
-abbrev pub AreTotals : Plan → ℕ → Totals → Type 0
-AreTotals P tasks t = (t.tasks ≡ tasks) × (t.edges ≡ length (all_in P)) × (t.data_edges ≡ length (all_data P)) × (t.writes ≡ length (all_writes P))
+-- how many of these tasks have no edge into them
+abbrev pub root_count : Plan → List Task → ℕ
+root_count P ts = length (filter (λ t. goal P t == 0) ts)
+
+-- where the first phase went on from these counts over these tasks, those without an edge into them are added
+abbrev pub CountsRoots : Phase → Plan → Counted → List Task → ℕ → ℕ → Type 0
+CountsRoots Connecting P old ts roots sum = (b : Before) → IsCounted P old b → sum ≡ roots + root_count P ts
+CountsRoots Matching P old ts roots sum = Unit {0}
+
+-- counts are those of a plan with so many tasks
+abbrev pub AreCounts : Plan → ℕ → Counts → Type 0
+AreCounts P tasks c = (c.tasks ≡ tasks) × (c.roots ≡ root_count P (all_tasks P)) × (c.edges ≡ length (all_in P)) × (c.data_edges ≡ length (all_data P)) × (c.writes ≡ length (all_writes P))
 
 -- a refusal says the first fault of a plan, or want of memory
 abbrev pub IsRefusalOf : Plan → MatchRefusal → Type 0

@@ -19,7 +19,6 @@ mod refusing;
 mod sending;
 mod task_at;
 mod tasks;
-mod totals;
 mod written;
 
 pub use fault::{MatchCode, MatchFault, MatchRefusal};

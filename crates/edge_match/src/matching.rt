@@ -1,9 +1,10 @@
 //! Whether a plan is consistent, or its first fault.
 
-ghost use Rattle.std.specs.Prelude.{◌≡◌, Err, IfErr, IfOk, IsTrue, MatchResult};
+ghost use Rattle.std.specs.Prelude.{◌≡◌, ◌+◌, ◌<◌, ◌^◌, Err, IfErr, IfOk, IsTrue, MatchResult, OnOk, length};
 ghost use Rattle.plan_core.specs.declared.plan.Plan.{Plan as PlanValue};
 ghost use Rattle.dep_iter.specs.Consistent.{HasCounts, IsConsistent};
-ghost use Rattle.edge_match.specs.Counted.{AreTotals, Checked, IsCounted, IsRefusalOf};
+ghost use Rattle.dep_iter.specs.Tasks.{all_tasks};
+ghost use Rattle.edge_match.specs.Counted.{AreCounts, Checked, CountsRoots, IsCounted, IsRefusalOf};
 ghost use Rattle.edge_match.specs.Faults as faults;
 ghost use Rattle.edge_match.specs.FirstFault.{IsFirstFailure, IsFirstFault};
 ghost use Rattle.edge_match.specs.Marks.{AllPass, marks, nothing, phase_marks};
@@ -20,9 +21,8 @@ use crate::laws::{
 };
 use crate::phase::Phase;
 use crate::tasks::check_classes;
-use crate::totals::Totals;
 use crate::written::Written;
-use dep_iter::{Matched, all_tasks_are_listed};
+use dep_iter::{Counts, Matched, all_tasks_are_listed};
 use plan_core::Plan;
 use range_space::{Numbers, SpaceFault, space_size};
 use std::alloc::Global;
@@ -47,11 +47,18 @@ fn space_fault(fault: SpaceFault) -> MatchFault
     }
 }
 
-// Checks all tasks in one phase.
-fn check_phase(phase: Phase, plan: &Plan, counted: &mut Counted) -> Result<(), MatchFault>
-    ensures { Checked plan.now counted.old counted.new result (phase_marks phase plan.now) }
+// Checks all tasks in one phase, and counts those for which it counted no edge into them.
+fn check_phase(
+    phase: Phase,
+    plan: &Plan,
+    counted: &mut Counted,
+    roots: &mut u64,
+) -> Result<(), MatchFault>
+    requires { roots.old + length (all_tasks plan.now) < 2 ^ 64 }
+    ensures checked { Checked plan.now counted.old counted.new result (phase_marks phase plan.now) }
+    ensures roots { OnOk result (CountsRoots phase plan.now counted.old (all_tasks plan.now) roots.old roots.new) }
 {
-    check_classes(phase, plan, 0, counted)
+    check_classes(phase, plan, 0, counted, roots)
 }
 
 // Nothing is counted yet.
@@ -67,26 +74,30 @@ fn nothing_counted(written: Written) -> Counted
     }
 }
 
-// Checks a plan of so many tasks, whose spaces have no fault, and gives its totals.
-fn check_tasks(plan: &Plan, tasks: u64, mut counted: Counted) -> Result<Totals, MatchFault>
-    requires { IsCounted plan.now counted nothing }
-    ensures { MatchResult result (λ t. AllPass plan.now nothing (marks plan.now) × AreTotals plan.now tasks t) (IsFirstFailure plan.now nothing (marks plan.now)) }
+// Checks a plan of so many tasks, whose spaces have no fault, and gives its counts.
+fn check_tasks(plan: &Plan, tasks: u64, mut counted: Counted) -> Result<Counts, MatchFault>
+    requires tasks { tasks ≡ length (all_tasks plan.now) }
+    requires nothing { IsCounted plan.now counted nothing }
+    ensures { MatchResult result (λ c. AllPass plan.now nothing (marks plan.now) × AreCounts plan.now tasks c) (IsFirstFailure plan.now nothing (marks plan.now)) }
 {
     all_edges_and_items_are_counted();
-    check_phase(Phase::Connecting, plan, &mut counted)?;
-    let totals = Totals {
+    let mut roots = 0;
+    check_phase(Phase::Connecting, plan, &mut counted, &mut roots)?;
+    let counts = Counts {
         tasks,
+        roots,
         edges: counted.ins,
         data_edges: counted.data_edges,
         writes: counted.writes,
     };
-    check_phase(Phase::Matching, plan, &mut counted)?;
-    Ok(totals)
+    let mut uncounted = 0;
+    check_phase(Phase::Matching, plan, &mut counted, &mut uncounted)?;
+    Ok(counts)
 }
 
-// Checks a plan and gives its totals.
-fn check_plan(alloc: Global, plan: &Plan) -> Result<Totals, MatchRefusal>
-    ensures consistent { IfOk result (λ t. IsConsistent plan.now × HasCounts plan.now t.tasks t.edges t.data_edges t.writes) }
+// Checks a plan and gives its counts.
+fn check_plan(alloc: Global, plan: &Plan) -> Result<Counts, MatchRefusal>
+    ensures consistent { IfOk result (λ counts. IsConsistent plan.now × HasCounts plan.now counts) }
     ensures refused { IfErr result (IsRefusalOf plan.now) }
 {
     a_plan_that_passes_is_consistent();
@@ -99,7 +110,7 @@ fn check_plan(alloc: Global, plan: &Plan) -> Result<Totals, MatchRefusal>
         return Err(MatchRefusal::OutOfMemory);
     };
     match check_tasks(plan, tasks, nothing_counted(written)) {
-        Ok(totals) => Ok(totals),
+        Ok(counts) => Ok(counts),
         Err(fault) => Err(MatchRefusal::Fault(fault)),
     }
 }
@@ -114,7 +125,7 @@ pub fn match_edges(alloc: Global, plan: Plan) -> Result<Matched, (MatchRefusal, 
 {
     a_consistent_plan_has_no_fault();
     match check_plan(alloc, &plan) {
-        Ok(t) => Ok(Matched::trusted(plan, t.tasks, t.edges, t.data_edges, t.writes)),
+        Ok(counts) => Ok(Matched::trusted(plan, counts)),
         Err(refusal) => Err((refusal, plan)),
     }
 }

@@ -7,7 +7,6 @@ ghost use Rattle.dep_iter.specs.Tasks as tasks;
 ghost use Rattle.dep_iter.specs.Tasks.{IsTask};
 
 use body_eval::{Scratch, run_body};
-use dep_iter::locals_of;
 use plan_core::Plan;
 use ptg_base::{Seq, TaskId, Tile};
 use term_core::Trap;
@@ -15,22 +14,17 @@ use term_core::Trap;
 // How a task ended: with the tiles of its flows after the body, or with a trap.
 pub(crate) type End = Result<Seq<Option<Tile>>, Trap>;
 
-// Runs the body of a task on these tiles, one place for each of its flows.
-pub(crate) fn run_task(plan: &Plan, t: &TaskId, tiles: Vec<Option<Tile>>) -> End
+// Runs the body of a task with these locals on these tiles, one place for each of its flows.
+pub(crate) fn run_task(plan: &Plan, t: &TaskId, env: &[i64], tiles: Vec<Option<Tile>>) -> End
+    requires locals { env.now ≡ tasks.locals_of plan.now t.now }
     requires task { IsTask plan.now t.now }
     requires flows { length tiles.items ≡ length (tasks.flows_of plan.now t.now) }
     ensures { option_map (λ (c : ClassPlan). body_meaning c.body (tasks.locals_of plan.now t.now) tiles.items) (slice_get plan.now.classes t.now.class) ≡ Some result }
 {
     let mut tiles = tiles;
     let mut scratch = Scratch::new();
-    let locals = locals_of(plan, t);
     let class = plan.class(t.class());
-    match run_body(
-        &class.body,
-        locals.as_slice(),
-        tiles.as_mut_slice(),
-        &mut scratch,
-    ) {
+    match run_body(&class.body, env, tiles.as_mut_slice(), &mut scratch) {
         Ok(()) => Ok(Seq::of(tiles)),
         Err(cause) => Err(cause),
     }

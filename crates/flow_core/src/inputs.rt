@@ -18,18 +18,20 @@ ghost use Rattle.dep_iter.specs.Tasks as tasks;
 
 use crate::sent_items::SentItems;
 use coll_data::Given;
-use dep_iter::{Source, data_source, flows_of};
+use dep_iter::{Source, data_source_under, flows_of};
 use plan_core::{FlowPlan, Plan};
 use ptg_base::{Item, OutOfMemory, TaskId, Tile};
 use std::alloc::Global;
 use term_core::FlowKind;
 
-// A task with what its tiles come from, besides the items that were sent: the plan and the data.
+// A task and its locals with what its tiles come from, besides the items that were sent: the plan and the data.
 #[derive(Drop)]
 pub(crate) struct Start<'a> {
     pub(crate) plan: &'a Plan,
     pub(crate) given: &'a Given,
     pub(crate) task: &'a TaskId,
+    pub(crate) env: &'a [i64],
+    pub(crate) ghost locals: { env.now ≡ tasks.locals_of plan.now task.now },
 }
 
 // Whether flows of this kind carry tiles.
@@ -102,7 +104,7 @@ fn source_of(start: &Start, number: u8, flow: &FlowPlan) -> Source
     if !is_data(flow.kind) {
         return Source::Null;
     }
-    data_source(start.plan, start.task, number)
+    data_source_under(start.plan, start.task, start.env, number)
 }
 
 // The edge that a source is.

@@ -6,6 +6,7 @@ ghost use Rattle.ptg_base.specs.declared.edge.WriteBack.{WriteBack as WriteBackV
 ghost use Rattle.ptg_base.specs.declared.edge.Item.TheVariants as item;
 ghost use Rattle.coll_data.specs.Data.{Data};
 ghost use Rattle.dep_iter.specs.Items as items;
+ghost use Rattle.dep_iter.specs.Tasks as tasks;
 ghost use Rattle.dep_iter.specs.Tasks.{IsTask};
 ghost use Rattle.flow_meaning.specs.Ending.{has_outputs};
 ghost use Rattle.flow_core.specs.RunState.{end_of};
@@ -16,7 +17,7 @@ ghost use Rattle.flow_core.specs.OneThread.{HasDone, running_tasks};
 use crate::claiming::claim_if_ready;
 use crate::possible::copy_of_task;
 use crate::runner::Runner;
-use dep_iter::{Matched, out_edges, write_backs};
+use dep_iter::{Matched, locals_of, out_edges_under, write_backs_under};
 use ptg_base::{Edge, Item, OutOfMemory, TaskId, WriteBack};
 
 // Sends an edge of a task that has ended without a trap, and claims the task that it goes to if it may be claimed then.
@@ -33,16 +34,17 @@ fn send_edge(runner: &mut Runner, m: &Matched, edge: Edge) -> Result<(), OutOfMe
     claim_if_ready(runner, m, &to)
 }
 
-// Sends the edges out of a task that has ended without a trap.
-fn send_edges(runner: &mut Runner, m: &Matched, t: &TaskId) -> Result<(), OutOfMemory>
+// Sends the edges out of a task with these locals that has ended without a trap.
+fn send_edges(runner: &mut Runner, m: &Matched, t: &TaskId, env: &[i64]) -> Result<(), OutOfMemory>
     requires task { IsTask m.now t.now }
+    requires locals { env.now ≡ tasks.locals_of m.now t.now }
     requires outputs { IsTrue (has_outputs (end_of runner.old.run t.now)) }
     requires fits { (G : Data) × Fits m.now G runner.old.run }
     requires running { runner.old.running.items ≡ running_tasks runner.old.run }
     ensures done { OnOk result (HasDone m.now [] (map (λ (e : EdgeValue). item.Edge e) (items.out_edges m.now t.now)) runner.old.run runner.new.run) }
     ensures running { OnOk result (runner.new.running.items ≡ running_tasks runner.new.run) }
 {
-    for edge in out_edges(m.plan(), t) {
+    for edge in out_edges_under(m.plan(), t, env) {
         send_edge(runner, m, edge)?;
     }
     Ok(())
@@ -61,16 +63,17 @@ fn send_write(runner: &mut Runner, m: &Matched, write: WriteBack) -> Result<(), 
     Ok(())
 }
 
-// Sends the write-backs of a task that has ended without a trap.
-fn send_writes(runner: &mut Runner, m: &Matched, t: &TaskId) -> Result<(), OutOfMemory>
+// Sends the write-backs of a task with these locals that has ended without a trap.
+fn send_writes(runner: &mut Runner, m: &Matched, t: &TaskId, env: &[i64]) -> Result<(), OutOfMemory>
     requires task { IsTask m.now t.now }
+    requires locals { env.now ≡ tasks.locals_of m.now t.now }
     requires outputs { IsTrue (has_outputs (end_of runner.old.run t.now)) }
     requires fits { (G : Data) × Fits m.now G runner.old.run }
     requires running { runner.old.running.items ≡ running_tasks runner.old.run }
     ensures done { OnOk result (HasDone m.now [] (map (λ (w : WriteBackValue). item.Write w) (items.write_backs m.now t.now)) runner.old.run runner.new.run) }
     ensures running { OnOk result (runner.new.running.items ≡ running_tasks runner.new.run) }
 {
-    for write in write_backs(m.plan(), t) {
+    for write in write_backs_under(m.plan(), t, env) {
         send_write(runner, m, write)?;
     }
     Ok(())
@@ -85,6 +88,8 @@ pub(crate) fn send_items(runner: &mut Runner, m: &Matched, t: &TaskId) -> Result
     ensures done { OnOk result (HasDone m.now [] (items.items m.now t.now) runner.old.run runner.new.run) }
     ensures running { OnOk result (runner.new.running.items ≡ running_tasks runner.new.run) }
 {
-    send_edges(runner, m, t)?;
-    send_writes(runner, m, t)
+    let locals = locals_of(m.plan(), t);
+    let env = locals.as_slice();
+    send_edges(runner, m, t, env)?;
+    send_writes(runner, m, t, env)
 }

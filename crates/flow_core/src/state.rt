@@ -29,7 +29,7 @@ use crate::outputs::{has_outputs, outputs_of, tile_at, trap_of};
 use crate::possible::{copy_of_item, copy_of_task, is_item, item_flow, sender};
 use crate::sent_items::SentItems;
 use coll_data::Given;
-use dep_iter::{Matched, is_task};
+use dep_iter::{Matched, is_task, locals_of};
 use goal_count::goal;
 use indexmap::IndexMap;
 use ptg_base::{Item, OutOfMemory, Seq, TaskId, Tile};
@@ -163,15 +163,18 @@ impl State {
         ensures fits { Fits m.now given.now self.new }
     {
         let plan = m.plan();
+        let locals = locals_of(plan, t);
+        let env = locals.as_slice();
         let start = Start {
             plan,
             given,
             task: t,
+            env,
         };
         let found = inputs_of(self.alloc, &start)?;
         let mut tiles = found.tiles;
         take_tiles(found.edges.as_slice(), 0, &mut self.sent, &mut tiles);
-        let end = run_task(plan, t, tiles);
+        let end = run_task(plan, t, env, tiles);
         let trap = trap_of(&end);
         mark(&mut self.claims, t, end);
         Ok(trap)

@@ -1,32 +1,50 @@
 //! The number of edges into a task: 1 for each plain edge, and for a gather the product of the counts of its ranges.
 
-ghost use Rattle.std.specs.Prelude.{◌≡◌, ◌≤◌, length};
+ghost use Rattle.std.specs.Prelude.{◌≡◌, ◌≤◌, IsTrue, length};
+ghost use Rattle.std.specs.List.{list_all};
+ghost use Rattle.range_space.specs.Fault.{range_values};
 ghost use Rattle.range_space.specs.Tasks.{or_empty};
 ghost use Rattle.dep_iter.specs.Arguments.{arg_values, combinations};
 ghost use Rattle.dep_iter.specs.Edges as edges;
+ghost use Rattle.dep_iter.specs.Tasks as tasks;
 ghost use Rattle.dep_iter.specs.Tasks.{IsTask};
+ghost use Rattle.dep_iter.specs.Well.{are_well, has_arg, has_arguments, is_well_flow};
 ghost use Rattle.goal_count.specs.Counting as counting;
 
 use dep_iter::{
-    Matched, a_task_has_no_more_edges_than_the_job, arg_steps, edges_are_links, flows_of,
-    held_target, locals_of, takes_first,
+    Matched, a_task_has_no_more_edges_than_the_job, edges_are_links, flows_of, held_target,
+    locals_of, takes_first,
 };
 use plan_core::{Arg, DepPlan, FlowPlan, Target};
 use ptg_base::TaskId;
+use range_space::steps_of;
+use term_core::Range;
 
-// How many values an argument has.
+// How many values a range has.
+fn value_count(range: &Range, env: &[i64]) -> u128
+    ensures { result ≡ length (or_empty (range_values range.now env.now)) }
+{
+    match steps_of(range, env) {
+        Ok(steps) => steps.count(),
+        Err(_) => 0,
+    }
+}
+
+// How many values an argument has that has its values. What is no range has one, which is not evaluated.
 fn arg_count(arg: &Arg, env: &[i64]) -> u128
+    requires { IsTrue (has_arg env.now arg.now) }
     ensures { result ≡ length (or_empty (arg_values arg.now env.now)) }
 {
-    match arg_steps(arg, env) {
-        Some(steps) => steps.count(),
-        None => 0,
+    match arg {
+        Arg::One(_) => 1,
+        Arg::Span(range) => value_count(range, env),
     }
 }
 
 // How many combinations the values of these arguments have: their product, which is known to be small though its factors may be large.
 fn combination_count(args: &[Arg], env: &[i64]) -> u128
-    requires { length (combinations args.now env.now) ≤ 4000000 }
+    requires well { IsTrue (list_all (has_arg env.now) args.now) }
+    requires at_most { length (combinations args.now env.now) ≤ 4000000 }
     ensures { result ≡ length (combinations args.now env.now) }
 {
     let Some((arg, others)) = args.split_first() else {
@@ -41,7 +59,8 @@ fn combination_count(args: &[Arg], env: &[i64]) -> u128
 
 // How many edges a target stands for.
 fn target_count(target: &Target, env: &[i64]) -> u128
-    requires { counting.target_count env.now target.now ≤ 4000000 }
+    requires well { IsTrue (has_arguments env.now target.now) }
+    requires at_most { counting.target_count env.now target.now ≤ 4000000 }
     ensures { result ≡ counting.target_count env.now target.now }
 {
     match target {
@@ -54,7 +73,8 @@ fn target_count(target: &Target, env: &[i64]) -> u128
 
 // How many edges these dependences give.
 fn held_count(first_only: bool, deps: &[DepPlan], env: &[i64]) -> u128
-    requires { counting.held_count first_only deps.now env.now ≤ 4000000 }
+    requires well { IsTrue (are_well first_only env.now deps.now) }
+    requires at_most { counting.held_count first_only deps.now env.now ≤ 4000000 }
     ensures { result ≡ counting.held_count first_only deps.now env.now }
 {
     let Some((d, later)) = deps.split_first() else {
@@ -72,7 +92,8 @@ fn held_count(first_only: bool, deps: &[DepPlan], env: &[i64]) -> u128
 
 // How many edges go into these flows.
 fn flows_count(flows: &[FlowPlan], env: &[i64]) -> u128
-    requires { counting.flows_count env.now flows.now ≤ 4000000 }
+    requires well { IsTrue (list_all (is_well_flow env.now) flows.now) }
+    requires at_most { counting.flows_count env.now flows.now ≤ 4000000 }
     ensures { result ≡ counting.flows_count env.now flows.now }
 {
     let Some((flow, others)) = flows.split_first() else {
@@ -87,9 +108,18 @@ pub fn goal(m: &Matched, t: &TaskId) -> u32
     requires { IsTask m.now t.now }
     ensures { result ≡ edges.goal m.now t.now }
 {
+    let env = locals_of(m.plan(), t);
+    goal_under(m, t, env.as_slice())
+}
+
+/// How many edges go into a task with these locals. No edge is walked.
+pub fn goal_under(m: &Matched, t: &TaskId, env: &[i64]) -> u32
+    requires task { IsTask m.now t.now }
+    requires locals { env.now ≡ tasks.locals_of m.now t.now }
+    ensures { result ≡ edges.goal m.now t.now }
+{
     a_task_has_no_more_edges_than_the_job();
     edges_are_links();
     let plan = m.plan();
-    let env = locals_of(plan, t);
-    flows_count(flows_of(plan, t), env.as_slice()) as u32
+    flows_count(flows_of(plan, t), env) as u32
 }

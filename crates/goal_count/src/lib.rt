@@ -3,4 +3,4 @@
 
 mod count;
 
-pub use count::goal;
+pub use count::{goal, goal_under};

@@ -1,4 +1,4 @@
-use Rattle.std.proofs.Common.{◌≡◌, rules, ap, sym, ◌∙◌, FitsSigned, w64}
+use Rattle.std.proofs.Common.{rules, ap, sym, ◌∙◌, FitsSigned, w64}
 use Rattle.std.proofs.lemmas.Int.{to_z-of_z}
 use Rattle.range_space.specs.Tasks.{or_empty}
 use Rattle.range_space.proofs.Stepping.{values_past}

@@ -1,4 +1,4 @@
-use Rattle.std.proofs.Common.{◌≡◌, ◌∷◌, map, sym, ◌∙◌, rules, FitsSigned, w64}
+use Rattle.std.proofs.Common.{map, sym, ◌∙◌, rules, FitsSigned, w64}
 use Rattle.std.proofs.lemmas.Int.{to_z-of_z}
 use Rattle.std.proofs.lemmas.Bool.{false≢true}
 use Rattle.range_space.specs.Tasks.{or_empty}

@@ -1,9 +1,14 @@
-use Rattle.std.proofs.Common.{◌≡◌, ap, sym, ◌∙◌, slice_get, Some, None, arith}
+use Rattle.std.proofs.Common.{◌≡◌, sym, ◌∙◌, slice_get, Some, None, arith}
 use Rattle.std.proofs.lemmas.Bool.{false≢true}
 use Rattle.dep_iter.specs.Tasks.{flows_of}
 use Rattle.dep_iter.proofs.Fitting.{at_index, past_end}
-use Rattle.dep_iter.proofs.Belonging.{in_before-is, in_before-past}
+use Rattle.dep_iter.proofs.Belonging.{in_before-is, in_before-none, in_before-past}
 use Rattle.dep_iter.proofs.membership.has_in_edge_before.Goals as goal
+
+pub returns-then-k-eq0 : goal.returns-then-k-eq0
+returns-then-k-eq0 c =
+    let e = c.args.edge.now in
+    (λ q. absurd (false≢true q), λ h. absurd (in_before-none c.args.plan.now c.args.t.now e.in_flow e (rw c.if-k-eq0.true at h)))
 
 pub returns-then-number-flows : goal.returns-then-number-flows
 returns-then-number-flows c =

@@ -1,7 +1,6 @@
-use Rattle.std.proofs.Common.{◌≡◌, sym, ◌∙◌}
+use Rattle.std.proofs.Common.{sym, ◌∙◌}
 use Rattle.std.proofs.lemmas.Bool.{false≢true}
 use Rattle.dep_iter.specs.Arguments.{combinations}
-use Rattle.dep_iter.specs.declared.link.Link.{Link}
 use Rattle.dep_iter.proofs.Belonging.{from_links, to_links_of}
 use Rattle.dep_iter.proofs.membership.leads_to.Goals as goal
 

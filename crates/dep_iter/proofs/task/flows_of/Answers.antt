@@ -1,4 +1,4 @@
-use Rattle.std.proofs.Common.{◌≡◌, ap, sym, ◌∙◌, length, slice_get}
+use Rattle.std.proofs.Common.{ap, sym, ◌∙◌, length, slice_get}
 use Rattle.plan_core.specs.WellMade.{IsWellClass}
 use Rattle.dep_iter.proofs.Fitting.{fits-class}
 use Rattle.dep_iter.proofs.task.flows_of.Goals as goal

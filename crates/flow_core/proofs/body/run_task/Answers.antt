@@ -13,7 +13,7 @@ run_body-requires c =
     let class = c.class-class.result.now in
     let h = class_of P t c.requires.task in
     let is : slice_get P.classes t.class ≡ Some class = ap (slice_get P.classes) (sym c.class.ensures) ∙ c.class-class.ensures.class in
-    let locals : length c.as_slice.result.now ≡ length h.space.defs = ap length (c.as_slice.ensures.same ∙ c.locals_of-locals.ensures) ∙ length-locals_of P t c.requires.task in
+    let locals : length c.args.env.now ≡ length h.space.defs = ap length c.requires.locals ∙ length-locals_of P t c.requires.task in
     let flows : length c.as_mut_slice.result.now ≡ length class.flows =
     ap length c.as_mut_slice.ensures.value ∙ c.requires.flows ∙ ap (λ o. length (option_map_or (λ (k : ClassPlan). k.flows) o [])) is in
     let well = (c.class-class.ensures.well_made h.space (ap (slice_get P.spaces) c.class.ensures ∙ h.space_is)).body in

@@ -13,7 +13,7 @@ loop-edge-init c = record { can_next = tt; is_finite = tt; so_far = nothing_yet 
 pub send_edge-requires : goal.send_edge-requires
 send_edge-requires c = record {
   due = edge_due c.args.m.now c.args.t.now c.args.runner.now.run c.loop-edge.runner.run c.requires.outputs c.into_iter-edge-iterator.result c.next.new.self c.in-Some.edge
-      (c.into_iter-edge-iterator.ensures.into_iter_gives ∙ c.out_edges-edge-items.ensures ∙ ap (λ (p : Plan). out_edges p c.args.t.now) c.plan.ensures.same)
+      (c.into_iter-edge-iterator.ensures.into_iter_gives ∙ c.out_edges_under-edge-items.ensures ∙ ap (λ (p : Plan). out_edges p c.args.t.now) c.plan.ensures.same)
       (subst (λ l. IsSoFar c.args.m.now [] [] (map (λ (x : Edge). item.Edge x) c.into_iter-edge-iterator.result) (map (λ (x : Edge). item.Edge x) l) c.args.runner.now.run c.loop-edge.runner.run) c.in-Some.ensures.steps c.loop-edge.invariant.so_far);
   fits = (c.requires.fits.0, c.loop-edge.invariant.so_far.done.fits c.requires.fits.0 c.requires.fits.1);
   running = c.loop-edge.invariant.running;
@@ -36,6 +36,6 @@ pub returns-clause-done : goal.returns-clause-done
 returns-clause-done c =
     let P = c.args.m.now in
     let all = map (λ (x : Edge). item.Edge x) c.into_iter-edge-iterator.result in
-    let q = c.into_iter-edge-iterator.ensures.into_iter_gives ∙ c.out_edges-edge-items.ensures ∙ ap (λ (p : Plan). out_edges p c.args.t.now) c.plan.ensures.same in
+    let q = c.into_iter-edge-iterator.ensures.into_iter_gives ∙ c.out_edges_under-edge-items.ensures ∙ ap (λ (p : Plan). out_edges p c.args.t.now) c.plan.ensures.same in
     let w = subst (λ l. IsSoFar P [] [] all (map (λ (x : Edge). item.Edge x) l) c.args.runner.now.run c.loop-edge.runner.run) c.in-None.ensures.steps.0 c.loop-edge.invariant.so_far in
     subst (λ l. HasDone P [] (map (λ (x : Edge). item.Edge x) l) c.args.runner.now.run c.loop-edge.runner.run) q (all_done P [] all c.args.runner.now.run c.loop-edge.runner.run w)

@@ -13,7 +13,7 @@ loop-write-init c = record { can_next = tt; is_finite = tt; so_far = nothing_yet
 pub send_write-requires : goal.send_write-requires
 send_write-requires c = record {
   due = write_due c.args.m.now c.args.t.now c.args.runner.now.run c.loop-write.runner.run c.requires.outputs c.into_iter-write-iterator.result c.next.new.self c.in-Some.write
-      (c.into_iter-write-iterator.ensures.into_iter_gives ∙ c.write_backs-write-items.ensures ∙ ap (λ (p : Plan). write_backs p c.args.t.now) c.plan.ensures.same)
+      (c.into_iter-write-iterator.ensures.into_iter_gives ∙ c.write_backs_under-write-items.ensures ∙ ap (λ (p : Plan). write_backs p c.args.t.now) c.plan.ensures.same)
       (subst (λ l. IsSoFar c.args.m.now [] [] (map (λ (x : WriteBack). item.Write x) c.into_iter-write-iterator.result) (map (λ (x : WriteBack). item.Write x) l) c.args.runner.now.run c.loop-write.runner.run) c.in-Some.ensures.steps c.loop-write.invariant.so_far);
   fits = (c.requires.fits.0, c.loop-write.invariant.so_far.done.fits c.requires.fits.0 c.requires.fits.1);
   running = c.loop-write.invariant.running;
@@ -36,6 +36,6 @@ pub returns-clause-done : goal.returns-clause-done
 returns-clause-done c =
     let P = c.args.m.now in
     let all = map (λ (x : WriteBack). item.Write x) c.into_iter-write-iterator.result in
-    let q = c.into_iter-write-iterator.ensures.into_iter_gives ∙ c.write_backs-write-items.ensures ∙ ap (λ (p : Plan). write_backs p c.args.t.now) c.plan.ensures.same in
+    let q = c.into_iter-write-iterator.ensures.into_iter_gives ∙ c.write_backs_under-write-items.ensures ∙ ap (λ (p : Plan). write_backs p c.args.t.now) c.plan.ensures.same in
     let w = subst (λ l. IsSoFar P [] [] all (map (λ (x : WriteBack). item.Write x) l) c.args.runner.now.run c.loop-write.runner.run) c.in-None.ensures.steps.0 c.loop-write.invariant.so_far in
     subst (λ l. HasDone P [] (map (λ (x : WriteBack). item.Write x) l) c.args.runner.now.run c.loop-write.runner.run) q (all_done P [] all c.args.runner.now.run c.loop-write.runner.run w)

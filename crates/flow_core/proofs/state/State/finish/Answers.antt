@@ -18,6 +18,11 @@ use Rattle.flow_core.proofs.Starting.{length-starting_tiles, ran}
 use Rattle.flow_core.proofs.Taking.{length-edges_from}
 use Rattle.flow_core.proofs.state.State.finish.Goals as goal
 
+pub locals_of-locals-requires : goal.locals_of-locals-requires
+locals_of-locals-requires c =
+    subst (λ P. IsTask P c.args.t.now) (sym c.plan-plan.ensures.same)
+    (running_task c.args.m.now c.args.given.now c.plan-plan.ensures.consistent c.args.self.now c.requires.fits c.args.t.now c.requires.running)
+
 pub inputs_of-requires : goal.inputs_of-requires
 inputs_of-requires c =
     subst (λ P. IsTask P c.args.t.now) (sym c.plan-plan.ensures.same)

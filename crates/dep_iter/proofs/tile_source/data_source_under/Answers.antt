@@ -1,8 +1,8 @@
-use Rattle.std.proofs.Common.{◌≡◌, ap, sym, ◌∙◌, length, slice_get, Some, None, refl, arith}
+use Rattle.std.proofs.Common.{◌≡◌, slice_get, Some, None, refl, arith}
 use Rattle.dep_iter.specs.Edges.{data_source}
 use Rattle.dep_iter.specs.Tasks.{flows_of}
 use Rattle.dep_iter.proofs.Fitting.{at_index, past_end}
-use Rattle.dep_iter.proofs.tile_source.data_source.Goals as goal
+use Rattle.dep_iter.proofs.tile_source.data_source_under.Goals as goal
 
 pub returns-then-number-flows : goal.returns-then-number-flows
 unfolding data_source
@@ -17,4 +17,4 @@ returns c =
     let flows = c.flows_of-flows.result.now in
     let f = c.index-flows-number.result in
     let e : slice_get (flows_of c.args.plan.now c.args.t.now) c.args.flow ≡ Some f = rw c.flows_of-flows.ensures.flows at (at_index flows c.args.flow f (omega arith) c.index-flows-number.is) in
-    rw e (rw (c.as_slice.ensures.same, c.locals_of-env.ensures) at c.flow_source.ensures)
+    rw e (rw c.requires.locals at c.flow_source.ensures)

@@ -1,9 +1,9 @@
-use Rattle.std.proofs.Common.{◌≡◌, ap, sym, ◌∙◌, slice_get, Some, None, IsSomeAnd, arith}
+use Rattle.std.proofs.Common.{◌≡◌, sym, ◌∙◌, slice_get, Some, arith}
 use Rattle.std.proofs.lemmas.Bool.{false≢true}
 use Rattle.dep_iter.specs.Tasks.{flows_of}
 use Rattle.dep_iter.proofs.Fitting.{at_index, below_length}
 use Rattle.dep_iter.proofs.Belonging.{out_edge_is, out_edge-by}
-use Rattle.dep_iter.proofs.membership.has_out_edge.Goals as goal
+use Rattle.dep_iter.proofs.membership.has_out_edge_under.Goals as goal
 
 pub returns-then-number-flows : goal.returns-then-number-flows
 returns-then-number-flows c = (
@@ -28,5 +28,5 @@ returns c =
     let e = c.args.edge.now in
     let f = c.index-flows-number.result in
     let here : slice_get (flows_of P t) e.out_flow ≡ Some f = rw c.flows_of-flows.ensures.flows at (at_index c.flows_of-flows.result.now e.out_flow f (omega arith) c.index-flows-number.is) in
-    let w = rw (c.as_slice.ensures, c.as_slice-2.ensures.same, c.locals_of-env.ensures) at (c.any_leads_to.ensures e.out_flow) in
+    let w = rw (c.as_slice.ensures, c.requires.locals) at (c.any_leads_to.ensures e.out_flow) in
     out_edge-by P t e f here (c.eq-same_task.ensures.same.0 c.if-not-same_task.false) c.any_leads_to.result w

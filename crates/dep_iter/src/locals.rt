@@ -1,0 +1,25 @@
+//! The locals that a walk over a task's dependences evaluates under.
+
+ghost use Rattle.std.specs.Prelude.{◌≡◌};
+ghost use Rattle.dep_iter.specs.Given.{given_locals};
+
+use range_space::Numbers;
+
+// The locals of a task: the walk's own, or lent to it.
+#[derive(Drop)]
+pub enum Locals<'a> {
+    Own(Numbers<16>),
+    Lent(&'a [i64]),
+}
+
+impl Locals<'_> {
+    // The locals in their order.
+    pub(crate) fn as_slice(&self) -> &[i64]
+        ensures { result.now ≡ given_locals self.now }
+    {
+        match self {
+            Locals::Own(locals) => locals.as_slice(),
+            Locals::Lent(locals) => locals,
+        }
+    }
+}

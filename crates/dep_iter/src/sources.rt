@@ -1,0 +1,71 @@
+//! Whether a task is the source of an edge into another, by guards and ranges, without a walk over the edges.
+
+ghost use Rattle.std.specs.Prelude.{◌≡◌, ◌↔◌, ℕ, IsTrue, flat_map, map, true};
+ghost use Rattle.ptg_base.specs.Lists.{IsIn};
+ghost use Rattle.dep_iter.specs.declared.link.Link.{Link as LinkValue};
+ghost use Rattle.dep_iter.specs.Active.{by_flow, held_targets};
+ghost use Rattle.dep_iter.specs.Edges as edges;
+ghost use Rattle.dep_iter.specs.Links.{all_links, flow_targets, links_to};
+ghost use Rattle.dep_iter.specs.Tasks as tasks;
+ghost use Rattle.dep_iter.specs.Tasks.{IsTask};
+
+use crate::guard::held_target;
+use crate::membership::has_combination;
+use crate::position::takes_first;
+use crate::task::flows_of;
+use plan_core::{DepPlan, FlowPlan, Plan, Target};
+use ptg_base::TaskId;
+
+// Whether a target stands for a link with this task.
+fn names(target: &Target, env: &[i64], far: &TaskId) -> bool
+    ensures { (n : ℕ) → IsTrue result ↔ IsIn far.now (map (λ (l : LinkValue). l.far) (links_to env.now n target.now)) }
+{
+    let Target::Task(class, _, args) = target else {
+        return false;
+    };
+    if *class != far.class() {
+        return false;
+    }
+    has_combination(args.as_slice(), env, far.params())
+}
+
+// Whether a target of these dependences that counts stands for a link with this task.
+fn any_names(first_only: bool, deps: &[DepPlan], env: &[i64], far: &TaskId) -> bool
+    ensures { (n : ℕ) → IsTrue result ↔ IsIn far.now (map (λ (l : LinkValue). l.far) (flat_map (links_to env.now n) (held_targets first_only deps.now env.now))) }
+{
+    let Some((d, later)) = deps.split_first() else {
+        return false;
+    };
+    let Some(target) = held_target(d, env) else {
+        return any_names(first_only, later, env, far);
+    };
+    if names(target, env, far) {
+        return true;
+    }
+    if first_only {
+        return false;
+    }
+    any_names(first_only, later, env, far)
+}
+
+// Whether a target of the active in dependences of these flows stands for a link with this task.
+fn any_flow_names(flows: &[FlowPlan], env: &[i64], far: &TaskId) -> bool
+    ensures { (n : ℕ) → IsTrue result ↔ IsIn far.now (map (λ (l : LinkValue). l.far) (all_links env.now (by_flow (flow_targets true env.now) n flows.now))) }
+{
+    let Some((flow, others)) = flows.split_first() else {
+        return false;
+    };
+    if any_names(takes_first(flow.kind), flow.ins.as_slice(), env, far) {
+        return true;
+    }
+    any_flow_names(others, env, far)
+}
+
+/// Whether an edge into a task with these locals comes from another task. Takes time according to the in dependences of the task, however many edges they give.
+pub fn has_source_under(plan: &Plan, t: &TaskId, env: &[i64], source: &TaskId) -> bool
+    requires task { IsTask plan.now t.now }
+    requires locals { env.now ≡ tasks.locals_of plan.now t.now }
+    ensures { IsTrue result ↔ IsIn source.now (edges.sources plan.now t.now) }
+{
+    any_flow_names(flows_of(plan, t), env, source)
+}
