@@ -12,7 +12,7 @@ ghost use Rattle.task_run.specs.Start.{HasInputsFrom, IsStart, delivered, withou
 
 use crate::pools::Pools;
 use coll_data::Given;
-use dep_iter::{Source, data_source};
+use dep_iter::{Source, data_source_under};
 use dep_shard::Arrivals;
 use plan_core::{FlowPlan, Plan};
 use plan_data::opening_tile;
@@ -106,7 +106,7 @@ fn lend_source(pools: &mut Pools, start: &Start, flow: &FlowPlan) -> Option<Tile
         pools.lend_none();
         return None;
     }
-    let source = data_source(start.plan, start.task, pools.flows() as u8);
+    let source = data_source_under(start.plan, start.task, start.locals, pools.flows() as u8);
     lend_from(pools, start, flow, &source)
 }
 

@@ -8,7 +8,7 @@ ghost use Rattle.work_board.specs.Records.{IsStill};
 ghost use Rattle.worker_core.specs.Claiming.{HasGot};
 
 use crate::post::{Post, after_busy};
-use dep_iter::{is_task, locals_of};
+use dep_iter::{locals_of, task_locals};
 use dep_shard::Arrivals;
 use ptg_base::TaskId;
 use range_space::Numbers;
@@ -61,10 +61,7 @@ pub(crate) fn claim_id<R: Threads + Wait + Sync, B: Board, G>(
     ensures found { MatchOption result (IsStill (B.shown pass.old) (B.shown pass.new)) (λ f. HasGot (B.plan post.now.board.now) (B.job_data post.now.board.now) f (B.shown pass.old) (B.shown pass.new)) }
 {
     let plan = post.board.matched().plan();
-    if !is_task(plan, &id) {
-        return None;
-    }
-    let locals = locals_of(plan, &id);
+    let locals = task_locals(plan, &id)?;
     let arrivals = claim(post, pass, &id)?;
     Some(Found {
         task: id,

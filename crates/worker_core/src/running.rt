@@ -60,6 +60,7 @@ fn send_and_end<R: Threads + Wait + Sync, B: Board, G>(
 ) -> Result<(), OutOfMemory>
     requires pass { B.is_pass post.now.board.now pass.old }
     requires task { IsTask (B.plan post.now.board.now) at.now.task.now }
+    requires locals { at.now.locals.now ≡ locals_of (B.plan post.now.board.now) at.now.task.now }
     requires tiles { ended (B.plan post.now.board.now) (B.job_data post.now.board.now) at.now.task.now ≡ Some (Ok bench.now.tiles) }
     requires unsent { RunsUnsent (B.plan post.now.board.now) at.now.task.now (B.shown pass.old) }
     ensures pass { B.is_pass post.now.board.now pass.new }

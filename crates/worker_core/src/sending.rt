@@ -6,7 +6,7 @@ ghost use Rattle.ptg_base.specs.declared.edge.Edge.{Edge as EdgeValue};
 ghost use Rattle.ptg_base.specs.declared.edge.WriteBack.{WriteBack as WriteBackValue};
 ghost use Rattle.ptg_base.specs.declared.edge.Item.TheVariants as item;
 ghost use Rattle.dep_iter.specs.Items as items;
-ghost use Rattle.dep_iter.specs.Tasks.{IsTask};
+ghost use Rattle.dep_iter.specs.Tasks.{IsTask, locals_of};
 ghost use Rattle.flow_meaning.specs.Backward.{ended};
 ghost use Rattle.ready_deques.specs.Hands.{SameWorker};
 ghost use Rattle.work_board.specs.Records.{IsStill};
@@ -14,7 +14,7 @@ ghost use Rattle.work_board.specs.Sends.{AddsSend, IsNext, MayEnd};
 ghost use Rattle.worker_core.specs.Sending.{HasSentAll, HasSentSome, MaySendAll, RunsUnsent, with_output};
 
 use crate::post::{Post, TaskAt, after_busy, copy_of_task};
-use dep_iter::{out_edges, write_backs};
+use dep_iter::{out_edges_under, write_backs_under};
 use ptg_base::{Edge, Item, OutOfMemory, Tile, WriteBack};
 use ready_deques::Hands;
 use std::sync::Wait;
@@ -82,6 +82,7 @@ fn send_edges<R: Threads + Wait + Sync, B: Board, G>(
 ) -> Result<(), OutOfMemory>
     requires pass { B.is_pass post.now.board.now pass.old }
     requires task { IsTask (B.plan post.now.board.now) at.now.task.now }
+    requires locals { at.now.locals.now ≡ locals_of (B.plan post.now.board.now) at.now.task.now }
     requires tiles { ended (B.plan post.now.board.now) (B.job_data post.now.board.now) at.now.task.now ≡ Some (Ok bench.now.tiles) }
     requires edges { MaySendAll (B.plan post.now.board.now) (B.job_data post.now.board.now) at.now.task.now (map (λ (e : EdgeValue). item.Edge e) (items.out_edges (B.plan post.now.board.now) at.now.task.now)) (B.shown pass.old) }
     ensures pass { B.is_pass post.now.board.now pass.new }
@@ -90,7 +91,7 @@ fn send_edges<R: Threads + Wait + Sync, B: Board, G>(
     ensures some { OnErr result (HasSentSome (B.shown pass.old) (B.shown pass.new)) }
     ensures err { OnErr result (B.preloaded post.now.board.now ≡ false) }
 {
-    for edge in out_edges(post.board.matched().plan(), at.task) {
+    for edge in out_edges_under(post.board.matched().plan(), at.task, at.locals) {
         send_edge(post, pass, hands, bench, edge)?;
     }
     Ok(())
@@ -125,6 +126,7 @@ fn send_writes<R: Threads + Wait + Sync, B: Board, G>(
 ) -> Result<(), OutOfMemory>
     requires pass { B.is_pass post.now.board.now pass.old }
     requires task { IsTask (B.plan post.now.board.now) at.now.task.now }
+    requires locals { at.now.locals.now ≡ locals_of (B.plan post.now.board.now) at.now.task.now }
     requires tiles { ended (B.plan post.now.board.now) (B.job_data post.now.board.now) at.now.task.now ≡ Some (Ok bench.now.tiles) }
     requires writes { MaySendAll (B.plan post.now.board.now) (B.job_data post.now.board.now) at.now.task.now (map (λ (w : WriteBackValue). item.Write w) (items.write_backs (B.plan post.now.board.now) at.now.task.now)) (B.shown pass.old) }
     ensures pass { B.is_pass post.now.board.now pass.new }
@@ -132,7 +134,7 @@ fn send_writes<R: Threads + Wait + Sync, B: Board, G>(
     ensures some { OnErr result (HasSentSome (B.shown pass.old) (B.shown pass.new)) }
     ensures err { OnErr result (B.preloaded post.now.board.now ≡ false) }
 {
-    for write in write_backs(post.board.matched().plan(), at.task) {
+    for write in write_backs_under(post.board.matched().plan(), at.task, at.locals) {
         send_write(post, pass, bench, write)?;
     }
     Ok(())
@@ -148,6 +150,7 @@ pub(crate) fn send_all<R: Threads + Wait + Sync, B: Board, G>(
 ) -> Result<(), OutOfMemory>
     requires pass { B.is_pass post.now.board.now pass.old }
     requires task { IsTask (B.plan post.now.board.now) at.now.task.now }
+    requires locals { at.now.locals.now ≡ locals_of (B.plan post.now.board.now) at.now.task.now }
     requires tiles { ended (B.plan post.now.board.now) (B.job_data post.now.board.now) at.now.task.now ≡ Some (Ok bench.now.tiles) }
     requires unsent { RunsUnsent (B.plan post.now.board.now) at.now.task.now (B.shown pass.old) }
     ensures pass { B.is_pass post.now.board.now pass.new }

@@ -23,7 +23,7 @@ send_edge-requires-clause-tiles g c κs within =
     let v = g.B.Board.shown c.args.pass.now in
     let w = g.B.Board.shown c.loop-edge.pass in
     let all = c.into_iter-edge-iterator.result in
-    let are : all ≡ out_edges P t = c.into_iter-edge-iterator.ensures.into_iter_gives ∙ c.out_edges-edge-items.ensures ∙ ap (λ (p : Plan). out_edges p t) (c.plan.ensures.same ∙ c.matched.ensures) in
+    let are : all ≡ out_edges P t = c.into_iter-edge-iterator.ensures.into_iter_gives ∙ c.out_edges_under-edge-items.ensures ∙ ap (λ (p : Plan). out_edges p t) (c.plan.ensures.same ∙ c.matched.ensures) in
     let may = subst (λ (l : List Edge). MaySendAll P G t (as_edges l) v) (sym are) c.requires.edges in
     let far = subst (λ (l : List Edge). IsSentSoFar P G (as_edges all) (as_edges l) v w) c.in-Some.ensures.steps c.loop-edge.invariant.so_far in
     ap (ended P G) (sender_left P G t (as_edges all) (as_edges c.next.new.self) (item.Edge c.in-Some.edge) v w may far) ∙ c.requires.tiles
@@ -36,7 +36,7 @@ send_edge-requires-clause-next g c κs within =
     let v = g.B.Board.shown c.args.pass.now in
     let w = g.B.Board.shown c.loop-edge.pass in
     let all = c.into_iter-edge-iterator.result in
-    let are : all ≡ out_edges P t = c.into_iter-edge-iterator.ensures.into_iter_gives ∙ c.out_edges-edge-items.ensures ∙ ap (λ (p : Plan). out_edges p t) (c.plan.ensures.same ∙ c.matched.ensures) in
+    let are : all ≡ out_edges P t = c.into_iter-edge-iterator.ensures.into_iter_gives ∙ c.out_edges_under-edge-items.ensures ∙ ap (λ (p : Plan). out_edges p t) (c.plan.ensures.same ∙ c.matched.ensures) in
     let may = subst (λ (l : List Edge). MaySendAll P G t (as_edges l) v) (sym are) c.requires.edges in
     let far = subst (λ (l : List Edge). IsSentSoFar P G (as_edges all) (as_edges l) v w) c.in-Some.ensures.steps c.loop-edge.invariant.so_far in
     next_left P G t (as_edges all) (as_edges c.next.new.self) (item.Edge c.in-Some.edge) v w may far

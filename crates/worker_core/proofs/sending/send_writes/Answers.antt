@@ -23,7 +23,7 @@ send_write-requires-clause-tiles g c κs within =
     let v = g.B.Board.shown c.args.pass.now in
     let w = g.B.Board.shown c.loop-write.pass in
     let all = c.into_iter-write-iterator.result in
-    let are : all ≡ write_backs P t = c.into_iter-write-iterator.ensures.into_iter_gives ∙ c.write_backs-write-items.ensures ∙ ap (λ (p : Plan). write_backs p t) (c.plan.ensures.same ∙ c.matched.ensures) in
+    let are : all ≡ write_backs P t = c.into_iter-write-iterator.ensures.into_iter_gives ∙ c.write_backs_under-write-items.ensures ∙ ap (λ (p : Plan). write_backs p t) (c.plan.ensures.same ∙ c.matched.ensures) in
     let may = subst (λ (l : List WriteBack). MaySendAll P G t (as_writes l) v) (sym are) c.requires.writes in
     let far = subst (λ (l : List WriteBack). IsSentSoFar P G (as_writes all) (as_writes l) v w) c.in-Some.ensures.steps c.loop-write.invariant.so_far in
     ap (ended P G) (sender_left P G t (as_writes all) (as_writes c.next.new.self) (item.Write c.in-Some.write) v w may far) ∙ c.requires.tiles
@@ -36,7 +36,7 @@ send_write-requires-clause-next g c κs within =
     let v = g.B.Board.shown c.args.pass.now in
     let w = g.B.Board.shown c.loop-write.pass in
     let all = c.into_iter-write-iterator.result in
-    let are : all ≡ write_backs P t = c.into_iter-write-iterator.ensures.into_iter_gives ∙ c.write_backs-write-items.ensures ∙ ap (λ (p : Plan). write_backs p t) (c.plan.ensures.same ∙ c.matched.ensures) in
+    let are : all ≡ write_backs P t = c.into_iter-write-iterator.ensures.into_iter_gives ∙ c.write_backs_under-write-items.ensures ∙ ap (λ (p : Plan). write_backs p t) (c.plan.ensures.same ∙ c.matched.ensures) in
     let may = subst (λ (l : List WriteBack). MaySendAll P G t (as_writes l) v) (sym are) c.requires.writes in
     let far = subst (λ (l : List WriteBack). IsSentSoFar P G (as_writes all) (as_writes l) v w) c.in-Some.ensures.steps c.loop-write.invariant.so_far in
     next_left P G t (as_writes all) (as_writes c.next.new.self) (item.Write c.in-Some.write) v w may far
