@@ -1,15 +1,36 @@
 """The words of the command line: which rule of docs/language.md, 'The command line', they break, and the files that they name."""
 from dataclasses import dataclass, field
 
-FORMS = {
-    "run": "ptg run JDF DATA [--workers N] [--shards K] [--preload]    runs a job on its data; N is 1 to 64, K is 1 to 256",
-    "check": "ptg check JDF DATA                       checks that a job is consistent, and counts its tasks, edges and write-backs",
-    "show": "ptg show JDF                             prints the canonical spelling of a JDF",
-    "demo": "ptg demo N                               runs a made job of N rows of tiles, N from 1 to 96",
+WORKERS, SHARDS = ("--workers", 64), ("--shards", 256)
+
+
+@dataclass
+class Verb:
+    """A verb: what it does, what its operands are called, with the largest number of those that are numbers, and its options."""
+
+    does: str
+    operands: dict
+    numbers: tuple = ()
+    flags: tuple = ()
+    # whether it is carried out, and which of its flags are not
+    carried_out: bool = True
+    later: tuple = ()
+
+    def options(self):
+        return [name for name, _ in self.numbers] + list(self.flags)
+
+    def words(self):
+        numbers = [f"[{name} 1..{most}]" for name, most in self.numbers]
+        return " ".join(list(self.operands) + numbers + [f"[{it}]" for it in self.flags])
+
+
+FILE = None
+VERBS = {
+    "run": Verb("runs a job on its data", {"JDF": FILE, "DATA": FILE}, (WORKERS, SHARDS), ("--preload",), later=("--preload",)),
+    "check": Verb("checks that a job is consistent, and counts its tasks, edges and write-backs", {"JDF": FILE, "DATA": FILE}),
+    "show": Verb("prints the canonical spelling of a JDF", {"JDF": FILE}),
+    "demo": Verb("runs a made job of N rows of tiles, N from 1 to 96", {"N": 96}, carried_out=False),
 }
-OPERANDS = {"run": 2, "check": 2, "show": 1, "demo": 1}
-MOST = {"--workers": 64, "--shards": 256}
-NOT_BUILT = "is read and checked, and not carried out yet"
 
 
 @dataclass
@@ -21,11 +42,16 @@ class Command:
     # what is wrong with the words, one by one
     wrong: list = field(default_factory=list)
 
+    def files(self):
+        """The operands that are names of files."""
+        kinds = VERBS[self.verb].operands.values() if self.verb in VERBS else []
+        return [name for name, most in zip(self.operands, kinds) if most is FILE]
+
     def jdf(self):
-        return self.operands[0] if self.operands else None
+        return next(iter(self.files()), None)
 
     def data(self):
-        return self.operands[1] if len(self.operands) > 1 else None
+        return next(iter(self.files()[1:]), None)
 
 
 def is_number(text, most):
@@ -37,47 +63,52 @@ def command_of(words):
     it = Command(words[0] if words else "")
     if not words:
         it.wrong.append("there is no word")
-    elif it.verb not in FORMS:
+    elif it.verb not in VERBS:
         it.wrong.append(f"`{shown(it.verb)}` is no command")
     else:
-        read(it, list(words[1:]))
+        read(it, VERBS[it.verb], list(words[1:]))
+        judge(it, VERBS[it.verb])
     return it
 
 
-def read(it, rest):
+def read(it, verb, rest):
     """Reads the words after the verb."""
     while rest:
         word = rest.pop(0)
         name, equals, value = word.partition("=")
         if is_improper(word):
             it.wrong.append(f"`{shown(word)}` is no word of a command: it is empty, `-`, `--` or not UTF-8")
-        elif it.verb == "run" and name in MOST:
+        elif name in dict(verb.numbers):
             if not equals:
                 value = rest.pop(0) if rest and not rest[0].startswith("-") else None
             it.options.append((name, value))
-        elif it.verb == "run" and word == "--preload":
+        elif word in verb.flags:
             it.options.append((word, ""))
         elif word.startswith("-"):
-            it.wrong.append(f"`{word}` is no option of `{it.verb}`, which has {'--workers, --shards and --preload' if it.verb == 'run' else 'none'}")
+            known = f"which has {', '.join(verb.options())}" if verb.options() else "which has none"
+            it.wrong.append(f"`{word}` is no option of `{it.verb}`, {known}")
         else:
             it.operands.append(word)
-    judge(it)
 
 
-def judge(it):
+def judge(it, verb):
+    """Looks at what was read of the words after the verb."""
     for at, (name, value) in enumerate(it.options):
+        most = dict(verb.numbers).get(name)
         if value is None:
             it.wrong.append(f"`{name}` has no number after it")
-        elif name in MOST and not is_number(value, MOST[name]):
-            it.wrong.append(f"`{shown(value)}` is no number from 1 to {MOST[name]} for `{name}`")
+        elif most and not is_number(value, most):
+            it.wrong.append(f"`{shown(value)}` is no number from 1 to {most} for `{name}`")
         if name in [other for other, _ in it.options[:at]]:
             it.wrong.append(f"`{name}` stands twice")
-    if len(it.operands) != OPERANDS[it.verb]:
-        it.wrong.append(f"`{it.verb}` takes {OPERANDS[it.verb]} {'word' if OPERANDS[it.verb] == 1 else 'words'}, and here are {len(it.operands)}")
-    elif it.verb == "demo" and not is_number(it.operands[0], 96):
-        it.wrong.append(f"`{shown(it.operands[0])}` is no number from 1 to 96")
-    if not it.wrong and (it.verb == "demo" or "--preload" in [name for name, _ in it.options]):
-        it.wrong.append(f"`{'demo' if it.verb == 'demo' else '--preload'}` {NOT_BUILT}")
+    if len(it.operands) != len(verb.operands):
+        it.wrong.append(f"`{it.verb}` takes {len(verb.operands)} {'word' if len(verb.operands) == 1 else 'words'}, and here are {len(it.operands)}")
+    else:
+        wanted = zip(it.operands, verb.operands.values())
+        it.wrong += [f"`{shown(text)}` is no number from 1 to {most}" for text, most in wanted if most is not FILE and not is_number(text, most)]
+    if not it.wrong:
+        later = [it.verb] * (not verb.carried_out) + [name for name, _ in it.options if name in verb.later]
+        it.wrong += [f"`{name}` is read and checked, and not carried out yet" for name in later]
 
 
 def is_improper(word):
@@ -89,8 +120,13 @@ def shown(word):
     return "".join(c if c.isprintable() else "\ufffd" for c in word[:80])
 
 
+def form(name):
+    """The words of a verb, and what it does."""
+    return f"ptg {name} {VERBS[name].words()}: {VERBS[name].does}"
+
+
 def explanation(words):
     """The lines for words that form no command."""
     it = command_of(words)
-    forms = [FORMS[it.verb]] if it.verb in FORMS else list(FORMS.values())
-    return [f"ptg: error: usage: {it.wrong[0]}" if it.wrong else "ptg: error: usage: these words form no command"] + ["    " + form for form in forms]
+    forms = [it.verb] if it.verb in VERBS else list(VERBS)
+    return [f"ptg: error: usage: {it.wrong[0] if it.wrong else 'these words form no command'}"] + ["    " + form(name) for name in forms]
