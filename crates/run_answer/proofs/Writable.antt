@@ -1,10 +1,9 @@
 -- A write-back that was sent has a tile of the size of its collection's type, and a place of the data.
-use Rattle.std.proofs.Common.{◌≡◌, ℕ, zero, suc, ◌+◌, ℤ, Bool, true, false, ◌&&◌, eqb, List, [], ◌∷◌, ◌++◌, length, map, refl, ap, sym, ◌∙◌, subst, append_assoc, Option, Some, None, Result, Ok, Err, slice_get, slice_index, IfSome, is_some, inl, inr, arith}
+use Rattle.std.proofs.Common.{◌≡◌, ℕ, zero, suc, ◌+◌, ℤ, Bool, true, false, ◌&&◌, eqb, List, [], ◌∷◌, length, map, refl, ap, sym, ◌∙◌, subst, Option, Some, None, Result, Ok, Err, slice_get, slice_index, IfSome, is_some, inl, inr, arith}
 use Rattle.std.proofs.lemmas.Bool.{and_parts, eqb-true, false≢true}
-use Rattle.std.proofs.lemmas.List.Elements.{All-cons, All-nil}
 use Rattle.std.proofs.lemmas.Option.{slice_get-map}
-use Rattle.std.specs.Prelude.{option_map, option_to_list}
-use Rattle.std.specs.List.{All, cons_option, filter_map}
+use Rattle.std.specs.Prelude.{option_map}
+use Rattle.std.specs.List.{filter_map}
 use Rattle.std.specs.Result.{result_unwrap_or}
 use Rattle.std.specs.Option.{option_map_or}
 use Rattle.ptg_base.specs.Lists.{IsIn}
@@ -42,14 +41,11 @@ use Rattle.dep_iter.specs.Items.{item_flow, items, items_to}
 use Rattle.dep_iter.specs.Consistent.{IsConsistent}
 use Rattle.flow_meaning.specs.Ending.{has_outputs, output_tile}
 use Rattle.flow_meaning.specs.Backward.{ended}
-use Rattle.flow_meaning.specs.Final.{replaced_data}
 use Rattle.flow_meaning.specs.Machine.{MachineState, Sent, sender}
-use Rattle.flow_meaning.specs.StateAnswer.{first_written, state_data}
-use Rattle.flow_meaning.specs.Table.{written_by}
 use Rattle.flow_meaning.proofs.Members.{all_at}
 use Rattle.flow_meaning.proofs.Sizes.{item_sized}
 use Rattle.flow_meaning.proofs.SourceEdges.{class_of}
-use Rattle.run_answer.specs.Written.{IsWritable, with_tiles}
+use Rattle.run_answer.specs.Written.{IsWritable}
 use Rattle.dep_iter.specs.Items.{write_of}
 use Rattle.flow_meaning.specs.Sound.{IsSoundState}
 
