@@ -1,5 +1,5 @@
 -- The items of a task, sent one after another.
-use Rattle.std.proofs.Common.{◌≡◌, ℕ, zero, suc, ◌+◌, ◌<◌, ℤ, Bool, true, false, cond, List, [], ◌∷◌, ◌++◌, map, refl, ap, sym, ◌∙◌, subst, append_assoc, Option, Some, None, IsTrue, inl, inr, ◌⊎◌, nat_lt, arith}
+use Rattle.std.proofs.Common.{◌≡◌, ℕ, ◌+◌, ◌<◌, Bool, true, false, List, [], ◌∷◌, ◌++◌, map, refl, ap, sym, ◌∙◌, subst, append_assoc, IsTrue, inl, inr, ◌⊎◌, nat_lt, arith}
 use Rattle.std.specs.List.{filter_map, flat_map}
 use Rattle.std.proofs.lemmas.Bool.Decides.{nat_tests}
 use Rattle.std.proofs.lemmas.List.{append-nil, map-append}
@@ -18,15 +18,14 @@ use Rattle.dep_iter.proofs.Listing.{listed}
 use Rattle.range_space.proofs.MemberLists.{IsIn-append_left, IsIn-map}
 use Rattle.flow_meaning.specs.Counting.{as_number, count, weigh}
 use Rattle.flow_meaning.specs.Comparing.{same_item}
-use Rattle.flow_meaning.specs.Ending.{has_outputs, output_tile}
+use Rattle.flow_meaning.specs.Ending.{has_outputs}
 use Rattle.flow_meaning.specs.Backward.{ended}
-use Rattle.flow_meaning.specs.Machine.{MachineState, Sent, is_sent, send_count, sender}
-use Rattle.flow_meaning.specs.Sound.{IsFinished}
+use Rattle.flow_meaning.specs.Machine.{Sent, send_count, sender}
 use Rattle.flow_meaning.proofs.Comparing.{same_item-decides}
 use Rattle.flow_meaning.proofs.Counting.{weigh-append}
 use Rattle.flow_meaning.proofs.Rest.{item_sender}
 use Rattle.work_board.specs.declared.record.PassRecord.{PassRecord}
-use Rattle.work_board.specs.Records.{KeepsNamesAndMarks, done_by}
+use Rattle.work_board.specs.Records.{done_by}
 use Rattle.work_board.specs.Sends.{AddsSend, IsNext, MayEnd}
 use Rattle.worker_core.specs.Sending.{HasSentAll, HasSentSome, MaySendAll, RunsUnsent, with_output}
 use Rattle.worker_core.proofs.Steps.{kept_then}

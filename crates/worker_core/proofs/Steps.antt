@@ -1,17 +1,15 @@
 -- How the record of a pass grows over several calls.
-use Rattle.std.proofs.Common.{◌≡◌, ℕ, ℤ, List, [], ◌∷◌, ◌++◌, refl, ap, sym, ◌∙◌, subst, append_assoc, Option, Some, IsTrue}
+use Rattle.std.proofs.Common.{◌≡◌, ℕ, ℤ, List, [], ◌∷◌, ◌++◌, refl, ap, sym, ◌∙◌, subst, append_assoc, Option, IsTrue}
 use Rattle.std.proofs.lemmas.List.{append-nil}
-use Rattle.ptg_base.specs.Lists.{IsIn}
 use Rattle.ptg_base.specs.Task.{Task}
 use Rattle.ptg_base.specs.declared.edge.Item.{Item}
 use Rattle.term_core.specs.declared.trap.Trap.{Trap}
 use Rattle.plan_core.specs.declared.plan.Plan.{Plan}
 use Rattle.coll_data.specs.Data.{Data}
-use Rattle.dep_iter.specs.Items.{items}
 use Rattle.dep_shard.specs.Arrivals.{FlowTile}
-use Rattle.flow_meaning.specs.Machine.{MachineState, Sent, is_sent, send_count, sender}
+use Rattle.flow_meaning.specs.Machine.{Sent, is_sent, send_count}
 use Rattle.work_board.specs.declared.record.PassRecord.{PassRecord}
-use Rattle.work_board.specs.Records.{IsStill, KeepsDone, KeepsNamesAndMarks, OnlyTook, done_by}
+use Rattle.work_board.specs.Records.{IsStill, KeepsNamesAndMarks}
 use Rattle.work_board.specs.Claims.{AddsClaim, MayStart}
 use Rattle.work_board.specs.Sends.{AddsSend, HasEnded, IsNext, MayEnd, MayTrap}
 use Rattle.work_board.specs.Looks.{HasStamp}

@@ -1,6 +1,5 @@
 -- A worker's tasks, one after another.
-use Rattle.std.proofs.Common.{◌≡◌, ℕ, zero, suc, ◌+◌, List, [], ◌∷◌, ◌++◌, length, map, refl, ap, sym, ◌∙◌, subst, append_assoc, Bool, true, IsTrue, inl, inr, ◌⊎◌, nat_lt, arith}
-use Rattle.std.specs.Prelude.{IsFalse}
+use Rattle.std.proofs.Common.{◌≡◌, ℕ, ◌+◌, List, [], ◌∷◌, ◌++◌, length, refl, ap, sym, ◌∙◌, subst, append_assoc, Bool, true, IsTrue, inl, inr, ◌⊎◌, nat_lt, arith}
 use Rattle.std.proofs.lemmas.Bool.Decides.{nat_tests}
 use Rattle.std.proofs.lemmas.List.{append-nil, map-append}
 use Rattle.ptg_base.specs.Lists.{IsIn}
@@ -8,22 +7,18 @@ use Rattle.ptg_base.specs.Task.{Task}
 use Rattle.ptg_base.specs.declared.edge.Item.{Item}
 use Rattle.plan_core.specs.declared.plan.Plan.{Plan}
 use Rattle.coll_data.specs.Data.{Data}
-use Rattle.dep_iter.specs.Items.{items}
 use Rattle.flow_meaning.specs.Counting.{as_number}
 use Rattle.flow_meaning.specs.Comparing.{same_item}
-use Rattle.flow_meaning.specs.Ending.{has_outputs}
-use Rattle.flow_meaning.specs.Backward.{ended}
-use Rattle.flow_meaning.specs.Machine.{MachineState, Sent, is_sent, send_count}
+use Rattle.flow_meaning.specs.Machine.{Sent, is_sent, send_count}
 use Rattle.flow_meaning.specs.Sound.{IsFinished}
 use Rattle.flow_meaning.proofs.Counting.{weigh-append}
 use Rattle.work_board.specs.declared.record.PassRecord.{PassRecord}
-use Rattle.work_board.specs.Records.{IsLaterRecord, IsStill, done_by}
-use Rattle.work_board.specs.Claims.{MayStart}
+use Rattle.work_board.specs.Records.{IsLaterRecord, done_by}
 use Rattle.worker_core.specs.declared.claiming.Found.{Found}
-use Rattle.worker_core.specs.Claiming.{HasGot, HasGotLogged, IsQuietAfter}
+use Rattle.worker_core.specs.Claiming.{HasGot, HasGotLogged}
 use Rattle.worker_core.specs.Sending.{HasSentSome}
 use Rattle.worker_core.specs.Starting.{HasStarted}
-use Rattle.worker_core.specs.Working.{AreFollowed, HasClaimedMore, HasGrown, HasLogged, HasRun, HasWorked, Stamped, logged, tasks_of}
+use Rattle.worker_core.specs.Working.{AreFollowed, HasClaimedMore, HasGrown, HasLogged, HasRun, Stamped, logged, tasks_of}
 
 more_positive : (m n : ℕ) → nat_lt 0 m ≡ true → nat_lt 0 (m + n) ≡ true
 more_positive m n h = grind (arith, nat_tests)

@@ -4,7 +4,6 @@ use Rattle.ptg_base.specs.Task.{Task}
 use Rattle.plan_core.specs.declared.plan.Plan.{Plan}
 use Rattle.coll_data.specs.Data.{Data}
 use Rattle.dep_iter.specs.Tasks.{locals_of}
-use Rattle.dep_shard.specs.Arrivals.{FlowTile}
 use Rattle.work_board.specs.declared.record.PassRecord.{PassRecord}
 use Rattle.work_board.specs.Records.{IsStill, KeepsDone}
 use Rattle.work_board.specs.Claims.{AddsClaim, MayStart}

@@ -1,10 +1,7 @@
 -- A claimed task that is about to run. Source: this project's own choice.
-use Rattle.std.specs.Prelude.{◌≡◌, [], ◌∷◌, IsSome}
-use Rattle.ptg_base.specs.Lists.{IsIn}
-use Rattle.ptg_base.specs.declared.edge.Item.{Item}
+use Rattle.std.specs.Prelude.{◌≡◌, [], ◌∷◌}
 use Rattle.plan_core.specs.declared.plan.Plan.{Plan}
 use Rattle.coll_data.specs.Data.{Data}
-use Rattle.dep_iter.specs.Items.{items}
 use Rattle.dep_iter.specs.Tasks.{locals_of}
 use Rattle.work_board.specs.declared.record.PassRecord.{PassRecord}
 use Rattle.work_board.specs.Claims.{MayStart}

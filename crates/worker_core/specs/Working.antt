@@ -1,12 +1,10 @@
 -- What a worker has done. Source: this project's own choice.
-use Rattle.std.specs.Prelude.{◌≡◌, ℕ, List, [], ◌++◌, length, map, true, Bool, IsSome}
+use Rattle.std.specs.Prelude.{◌≡◌, ℕ, List, [], ◌++◌, length, map, true, Bool}
 use Rattle.ptg_base.specs.Lists.{IsIn}
 use Rattle.ptg_base.specs.Task.{Task}
-use Rattle.ptg_base.specs.declared.edge.Item.{Item}
 use Rattle.plan_core.specs.declared.plan.Plan.{Plan}
 use Rattle.coll_data.specs.Data.{Data}
-use Rattle.dep_iter.specs.Items.{items}
-use Rattle.flow_meaning.specs.Machine.{Sent, send_count}
+use Rattle.flow_meaning.specs.Machine.{Sent}
 use Rattle.flow_meaning.specs.Sound.{IsFinished}
 use Rattle.work_board.specs.declared.record.PassRecord.{PassRecord}
 use Rattle.work_board.specs.Records.{done_by}

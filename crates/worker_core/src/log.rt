@@ -3,6 +3,7 @@
 ghost use Rattle.std.specs.Prelude.{◌≡◌, ◌<◌, [], ◌∷◌, ◌++◌, true, false, vec_len, vec_capacity, OnOk, OnErr};
 ghost use Rattle.ptg_base.specs.Task.{Task};
 
+use crate::post::copy_of_task;
 use ptg_base::{OutOfMemory, TaskId};
 
 /// Where a worker notes each of its claims with its stamp.
@@ -26,9 +27,9 @@ pub(crate) trait Log {
         ensures err { OnErr result (keeps ≡ true) };
 
     /// Notes a claim with its stamp.
-    fn note(&mut self, stamp: u64, task: TaskId)
+    fn note(&mut self, stamp: u64, task: &TaskId)
         requires { has_room self.old }
-        ensures { keeps ≡ true → entries self.new ≡ entries self.old ++ (stamp, task) ∷ [] };
+        ensures { keeps ≡ true → entries self.new ≡ entries self.old ++ (stamp, task.now) ∷ [] };
 }
 
 /// The log that keeps nothing.
@@ -46,7 +47,7 @@ impl Log for NoLog {
         Ok(())
     }
 
-    fn note(&mut self, _stamp: u64, _task: TaskId) {}
+    fn note(&mut self, _stamp: u64, _task: &TaskId) {}
 }
 
 impl Log for Vec<(u64, TaskId)> {
@@ -61,7 +62,7 @@ impl Log for Vec<(u64, TaskId)> {
         Ok(())
     }
 
-    fn note(&mut self, stamp: u64, task: TaskId) {
-        self.push((stamp, task)).unwrap();
+    fn note(&mut self, stamp: u64, task: &TaskId) {
+        self.push((stamp, copy_of_task(task))).unwrap();
     }
 }

@@ -47,6 +47,15 @@ fn send_one<R: Threads + Wait + Sync, B: Board, G>(
     unreachable!()
 }
 
+// Pushes the target of an edge that fired. An id that does not fit is dropped.
+fn push_target(hands: &mut Hands, item: &Item)
+    ensures { SameWorker hands.old hands.new }
+{
+    if let Item::Edge(edge) = item {
+        let _dropped = hands.push(copy_of_task(&edge.to));
+    }
+}
+
 // Sends an edge. A target that fires is the worker's newest id; one that does not fit is found by a scan.
 fn send_edge<R: Threads + Wait + Sync, B: Board, G>(
     post: &Post<R, B, G>,
@@ -64,10 +73,10 @@ fn send_edge<R: Threads + Wait + Sync, B: Board, G>(
     ensures still { OnErr result (IsStill (B.shown pass.old) (B.shown pass.new)) }
     ensures err { OnErr result (B.preloaded post.now.board.now ≡ false) }
 {
-    let target = copy_of_task(&edge.to);
     let tile = bench.tile(edge.out_flow);
-    if send_one(post, pass, &Item::Edge(edge), tile)? {
-        let _dropped = hands.push(target);
+    let item = Item::Edge(edge);
+    if send_one(post, pass, &item, tile)? {
+        push_target(hands, &item);
     }
     Ok(())
 }

@@ -12,7 +12,7 @@ use crate::claiming::Found;
 use crate::gate::Gate;
 use crate::log::{Log, NoLog};
 use crate::next::next_task;
-use crate::post::{Post, copy_of_task};
+use crate::post::Post;
 use crate::running::run_found;
 use ptg_base::{OutOfMemory, TaskId};
 use ready_deques::Hands;
@@ -50,7 +50,7 @@ fn claim_next<R: Threads + Wait + Sync, B: Board, G, L: Log>(
     let Some(found) = next_task(post, pass, hands, next)? else {
         return Ok(None);
     };
-    log.note(post.board.stamp(pass), copy_of_task(&found.task));
+    log.note(post.board.stamp(pass), &found.task);
     Ok(Some(found))
 }
 

@@ -1,4 +1,4 @@
-use Rattle.std.proofs.Common.{◌≡◌, refl, sym, subst, IsTrue}
+use Rattle.std.proofs.Common.{refl, sym, subst, IsTrue}
 use Rattle.flow_meaning.specs.Backward.{ended}
 use Rattle.flow_meaning.specs.Ending.{has_outputs}
 use Rattle.task_run.proofs.Laying.{if_ok}

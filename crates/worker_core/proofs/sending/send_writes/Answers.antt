@@ -1,12 +1,11 @@
-use Rattle.std.proofs.Common.{◌≡◌, List, map, ap, sym, ◌∙◌, subst}
+use Rattle.std.proofs.Common.{◌≡◌, List, ap, sym, ◌∙◌, subst}
 use Rattle.ptg_base.specs.declared.edge.WriteBack.{WriteBack}
 use Rattle.ptg_base.specs.declared.edge.Item.TheVariants as item
 use Rattle.plan_core.specs.declared.plan.Plan.{Plan}
 use Rattle.dep_iter.specs.Items.{write_backs}
 use Rattle.flow_meaning.specs.Backward.{ended}
-use Rattle.worker_core.specs.Sending.{HasSentAll, MaySendAll}
-use Rattle.worker_core.proofs.ItemLists.{IsSentSoFar, all_are_sent, as_writes, next_left, nothing_sent, one_sent_more, sender_left, some_are_sent}
-use Rattle.worker_core.proofs.Steps.{some_from_still, some_then}
+use Rattle.worker_core.specs.Sending.{MaySendAll}
+use Rattle.worker_core.proofs.ItemLists.{IsSentSoFar, as_writes, next_left, nothing_sent, one_sent_more, sender_left}
 use Rattle.worker_core.proofs.sending.send_writes.Goals as goal
 
 pub loop-write-init : goal.loop-write-init

@@ -1,4 +1,4 @@
-use Rattle.std.proofs.Common.{◌≡◌, refl, sym, subst, ◌∙◌}
+use Rattle.std.proofs.Common.{refl, subst, ◌∙◌}
 use Rattle.std.specs.Prelude.{MatchOption}
 use Rattle.worker_core.specs.Claiming.{HasGotLogged, IsQuietAfter}
 use Rattle.worker_core.proofs.WorkedSteps.{grown_claimed, nothing_done, one_task_more}
