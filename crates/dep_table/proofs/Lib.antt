@@ -2,3 +2,4 @@ pub mod Clean
 pub mod StepsAt
 pub mod Sums
 pub mod Turns
+pub mod Claiming
