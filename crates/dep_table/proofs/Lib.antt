@@ -2,3 +2,5 @@ pub mod Clean
 pub mod StepsAt
 pub mod Sums
 pub mod Turns
+pub mod OpeningSteps
+pub mod Opened
