@@ -3,3 +3,5 @@ pub mod StepsAt
 pub mod Sums
 pub mod Turns
 pub mod Claiming
+pub mod OpeningSteps
+pub mod Opened

@@ -2,3 +2,4 @@ pub mod Views
 pub mod Passes
 pub mod Tables
 pub mod Turns
+pub mod Opened

@@ -2,6 +2,7 @@
 #![tactic(auto)]
 
 mod calls;
+mod opening;
 pub mod pass;
 mod steps;
 pub mod table;

@@ -5,7 +5,7 @@ ghost use Rattle.table_rule.specs.Words.{halt_word, live_word, turn_word};
 ghost use Rattle.table_rule.specs.Words as words;
 
 // How far apart the words are: no two that are used are on one line of a cache.
-const STRIDE: usize = 16;
+pub(crate) const STRIDE: usize = 16;
 
 // The turn word of a shard.
 pub(crate) fn turn_index(shard: u32) -> usize

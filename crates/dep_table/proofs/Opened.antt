@@ -1,0 +1,105 @@
+-- A table that was opened.
+use Rattle.std.proofs.Common.{◌≡◌, ℕ, zero, suc, ◌+◌, ◌<◌, ◌≤◌, ◌==◌, true, List, [], ◌∷◌, ◌++◌, length, refl, ap, sym, ◌∙◌, subst, Some, None, slice_get, ◌⊎◌, inl, inr, arith, length-append, eq-eqb, ne_eqb}
+use Rattle.std.proofs.lemmas.List.{append-nil}
+use Rattle.std.specs.List.{filter}
+use mathlib.Core.Logic.{dite}
+use mathlib.Core.Option.{some, some-injective, some-ne-none}
+use native.Mathlib.Decide.{ℕ_discrete}
+use lib.ListN.{get_elem?}
+use Rattle.ptg_base.specs.Task.{Task}
+use Rattle.plan_core.specs.declared.plan.Plan.{Plan}
+use Rattle.dep_iter.specs.Consistent.{IsConsistent, roots}
+use Rattle.dep_iter.specs.Edges.{goal, in_edges}
+use Rattle.dep_iter.specs.Tasks.{all_tasks}
+use Rattle.dep_iter.proofs.Listing.{listed}
+use Rattle.dep_shard.specs.Content.{Content, Entries, IsNew, entry_in, entry_of}
+use Rattle.flow_meaning.specs.Machine.{arrived, opening_state}
+use Rattle.flow_meaning.specs.Table.{is_ready, ready_tasks}
+use Rattle.shard_meaning.specs.Opening.{HasOpeningReserve, IsOpeningShard}
+use Rattle.shard_meaning.specs.Share.{Placement}
+use Rattle.shard_meaning.proofs.Listing.{weigh-zero}
+use Rattle.table_rule.specs.declared.job.Job.{Job}
+use Rattle.table_rule.specs.Opening.{IsOpening}
+use Rattle.table_rule.specs.Placing.{shard_of}
+use Rattle.dep_table.specs.declared.opening.Opening.{Opening}
+use Rattle.dep_table.specs.Opened.{AreNew, AreOpened, AreOpeningWords, IsOpenedFor, Opens}
+
+snoc_at : {A : Type 0} (xs : List A) (x : A) (k : ℕ) (y : A) → slice_get (xs ++ x ∷ []) k ≡ Some y → (slice_get xs k ≡ Some y) ⊎ (x ≡ y)
+snoc_at [] x zero y e = inr cc
+snoc_at [] x (suc k) y e = absurd cc
+snoc_at (z ∷ xs) x zero y e = inl e
+snoc_at (z ∷ xs) x (suc k) y e = snoc_at xs x k y e
+
+-- one new shard more
+pub new_more : (n : ℕ) (lengths : List ℕ) (ys : List Content) (y : Content) (zs : List Content) → AreNew n lengths ys → IsNew y lengths → zs ≡ ys ++ y ∷ [] → AreNew (n + 1) lengths zs
+new_more n lengths ys y zs w new is = subst (AreNew (n + 1) lengths) (sym is) (record {
+  count = omega (arith, w.count, length-append ys (y ∷ []));
+  each = λ k z at. elim (snoc_at ys y k z at) [ inl before ↦ w.each k z before | inr same ↦ subst (λ x. IsNew x lengths) same new ];
+})
+
+-- a look-up that finds something, in both forms
+pub found_both : {A : Type 0} (xs : List A) (k : ℕ) (x : A) → get_elem? xs k ≡ some x → slice_get xs k ≡ Some x
+found_both [] k x e = absurd (some-ne-none x (sym e))
+found_both (y ∷ xs) zero x e = ap (λ z. Some z) (some-injective y x e)
+found_both (y ∷ xs) (suc k) x e = found_both xs k x e
+
+none_arrived : (P : Plan) (t : Task) → arrived P opening_state t ≡ 0
+none_arrived P t = weigh-zero _ (in_edges P t) (λ e i. refl)
+
+zero_first : (g : ℕ) → (0 == g) ≡ (g == 0)
+zero_first g = dite (ℕ_discrete g 0) (λ z. eq-eqb 0 g (sym z) ∙ sym (eq-eqb g 0 z)) (λ ne. ne_eqb 0 g (λ z. ne (sym z)) ∙ sym (ne_eqb g 0 ne))
+
+ready_first : (P : Plan) (t : Task) → is_ready P opening_state t ≡ (goal P t == 0)
+ready_first P t = ap (λ n. n == goal P t) (none_arrived P t) ∙ zero_first (goal P t)
+
+-- before the first event the ready tasks are those that no edge goes into
+ready_at_opening : (P : Plan) → length (ready_tasks P opening_state) ≡ length (roots P)
+unfolding ready_tasks
+ready_at_opening P = λ i. length (filter (λ t. ready_first P t i) (all_tasks P))
+
+-- of no task nothing is opened
+opened_none : (P : Plan) (of : Placement) (a : Opening) (n : ℕ) → AreNew n P.elems a.shards.items → a.left ≡ length (roots P) → AreOpened P of [] a
+opened_none P of a n new left = record {
+  each = λ k y at. let w = new.each k y at in record {
+    there = λ t i own. absurd i;
+    only = λ t e is. let none : entry_of y t ≡ None = ap (λ (l : Entries). entry_in l t) w.entries in absurd cc;
+    written = w.written;
+    trapped = w.trapped;
+    running = w.running;
+    ended = w.ended;
+    elems = w.elems;
+  };
+  left = omega (arith, left);
+}
+
+-- a shard that was opened for all tasks
+opening_shard : (P : Plan) (of : Placement) (k : ℕ) (y : Content) → IsOpenedFor P of k (all_tasks P) y → IsOpeningShard P of k y
+opening_shard P of k y w = record {
+  there = λ t job own. w.there t ((listed P t).0 job) own;
+  only = λ t e is. let p = w.only t e is in ((listed P t).1 p.0, p.1);
+  written = w.written;
+  trapped = w.trapped;
+  running = w.running;
+  ended = w.ended;
+  elems = w.elems;
+}
+
+pub opened : (j : Job) (words : List ℕ) (a b : Opening) → IsConsistent j.matched → 0 < j.shards → j.shards ≤ 256 → AreNew j.shards j.matched.elems a.shards.items → a.left ≡ length (roots j.matched)
+    → Opens j.matched (shard_of j.matched (length a.shards.items)) (all_tasks j.matched) a b → AreOpeningWords j.shards (length (roots j.matched)) words
+    → (j.preloaded ≡ true → (k : ℕ) (y : Content) → get_elem? b.shards.items k ≡ some y → HasOpeningReserve j.matched (shard_of j.matched j.shards) k y)
+    → IsOpening j words b.shards.items
+opened j words a b consistent least few new left opens w spares =
+    let P = j.matched in
+    let of = shard_of P (length a.shards.items) in
+    let all : AreOpened P of (all_tasks P) b = opens.opened [] [] (sym (append-nil (all_tasks P))) (opened_none P of a j.shards new left) in
+    record {
+      consistent = consistent;
+      some_shards = least;
+      few_shards = few;
+      shard_count = opens.count ∙ new.count;
+      long = w.long;
+      zero = w.zero;
+      live = w.live ∙ sym (ready_at_opening P);
+      each = λ k y at. subst (λ n. IsOpeningShard P (shard_of P n) k y) new.count (opening_shard P of k y (all.each k y (found_both b.shards.items k y at)));
+      spares = spares;
+    }

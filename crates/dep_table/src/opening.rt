@@ -1,0 +1,204 @@
+//! The opening of a table.
+
+ghost use Rattle.std.specs.Prelude.{◌≡◌, ◌<◌, ◌≤◌, [], ◌∷◌, false, List, Some, IfOk, OnOk, drop, length, map, slice_get};
+ghost use Rattle.term_core.specs.declared.space.ClassSpace.{ClassSpace as ClassSpaceValue};
+ghost use Rattle.range_space.specs.Tasks as range;
+ghost use Rattle.plan_data.specs.Fit.{DataFit};
+ghost use Rattle.dep_iter.specs.Tasks.{IsTask, task, tasks_from};
+ghost use Rattle.table_rule.specs.Changes.{first_pass};
+ghost use Rattle.table_rule.specs.Opening.{IsOpening};
+ghost use Rattle.table_rule.specs.Placing as placing;
+ghost use Rattle.dep_table.specs.Opened.{AreNew, AreOpeningWords, Enters, EntersIn, Opens};
+ghost use Rattle.dep_table.specs.Passes.{IsPassOf};
+ghost use Rattle.dep_table.specs.Tables.{id_of, job_of};
+
+use crate::pass::{Pass, Seat};
+use crate::table::DepTable;
+use crate::words::{STRIDE, live_index};
+use atomic_table::{Refused, Table};
+use coll_data::Given;
+use dep_iter::{Matched, affinity, place_number, priority};
+use dep_shard::Shard;
+use goal_count::goal;
+use ptg_base::{OutOfMemory, TaskId};
+use range_space::Space;
+use std::alloc::Global;
+use table_rule::job::Job;
+use table_rule::law::Law;
+use table_rule::rules::the_rule_holds_before_the_first_step;
+use term_core::ClassSpace;
+use work_board::PassRecord;
+
+// The shards of a table that is opened, and how many tasks without an edge into them are still to come.
+#[derive(Drop)]
+pub(crate) struct Opening {
+    pub(crate) shards: Vec<Shard>,
+    pub(crate) left: u64,
+}
+
+// Enters a ready task into its shard, unless it has an entry.
+fn enter_in(shard: &mut Shard, t: &TaskId, priority: i64) -> Result<(), OutOfMemory>
+    ensures { OnOk result (EntersIn t.now priority shard.old shard.new) }
+{
+    match shard.index_of(t) {
+        Some(_index) => Ok(()),
+        None => shard.add_ready(t, priority),
+    }
+}
+
+// Enters a ready task into the shard k.
+fn enter(shards: &mut Vec<Shard>, k: usize, t: &TaskId, priority: i64) -> Result<(), OutOfMemory>
+    requires { k < length shards.old.items }
+    ensures { OnOk result (Enters k t.now priority shards.old.items shards.new.items) }
+{
+    enter_in(&mut shards[k], t, priority)
+}
+
+// The shard of a task, where there are so many.
+#[tactic(auto, unfolding(table_rule::specs::Placing::shard_of))]
+fn shard_among(m: &Matched, shards: usize, t: &TaskId) -> usize
+    requires task { IsTask m.now t.now }
+    requires shards { (0 < shards) × (shards ≤ 256) }
+    ensures number { result ≡ placing.shard_of m.now shards t.now }
+    ensures within { result < shards }
+{
+    let plan = m.plan();
+    let place = affinity(plan, t);
+    let count = shards as u64;
+    let coll = u64::from(place.coll) % count;
+    let number = place_number(plan, &place) % count;
+    ((coll + number) % count) as usize
+}
+
+// Enters a task if no edge goes into it.
+fn open_task(opening: &mut Opening, m: &Matched, t: &TaskId) -> Result<(), OutOfMemory>
+    requires task { IsTask m.now t.now }
+    requires shards { (0 < length opening.old.shards.items) × (length opening.old.shards.items ≤ 256) }
+    ensures { OnOk result (Opens m.now (placing.shard_of m.now (length opening.old.shards.items)) (t.now ∷ []) opening.old opening.new) }
+{
+    if opening.left == 0 {
+        return Ok(());
+    }
+    if goal(m, t) != 0 {
+        return Ok(());
+    }
+    let k = shard_among(m, opening.shards.len(), t);
+    let urgency = priority(m.plan(), t);
+    enter(&mut opening.shards, k, t, urgency)?;
+    opening.left -= 1;
+    Ok(())
+}
+
+// The space of a class.
+fn space_of(m: &Matched, class: u32) -> &ClassSpace
+    requires { class < length m.now.classes }
+    ensures space { slice_get m.now.spaces class ≡ Some result.now }
+    ensures at_most { length result.now.defs ≤ 16 }
+{
+    let plan = m.plan();
+    let _ = plan.class(class);
+    plan.space(class)
+}
+
+// Enters the tasks of a class that no edge goes into.
+fn open_class(opening: &mut Opening, m: &Matched, class: u32) -> Result<(), OutOfMemory>
+    requires class { class < length m.now.classes }
+    requires shards { (0 < length opening.old.shards.items) × (length opening.old.shards.items ≤ 256) }
+    ensures { OnOk result ((s : ClassSpaceValue) → slice_get m.now.spaces class ≡ Some s → Opens m.now (placing.shard_of m.now (length opening.old.shards.items)) (map (task class) (range.tasks s)) opening.old opening.new) }
+{
+    let space = space_of(m, class);
+    for params in Space::new(space) {
+        let t = TaskId::new(class, params.as_slice());
+        open_task(opening, m, &t)?;
+    }
+    Ok(())
+}
+
+// Enters the tasks of the classes from this number on that no edge goes into.
+fn open_classes(opening: &mut Opening, m: &Matched, class: u32) -> Result<(), OutOfMemory>
+    requires shards { (0 < length opening.old.shards.items) × (length opening.old.shards.items ≤ 256) }
+    ensures { OnOk result ((ss : List ClassSpaceValue) → drop class m.now.spaces ≡ ss → Opens m.now (placing.shard_of m.now (length opening.old.shards.items)) (tasks_from class ss) opening.old opening.new) }
+{
+    if class as usize >= m.plan().classes.len() {
+        return Ok(());
+    }
+    open_class(opening, m, class)?;
+    open_classes(opening, m, class + 1)
+}
+
+// So many new shards.
+fn new_shards(alloc: Global, m: &Matched, count: u32) -> Result<Vec<Shard>, OutOfMemory>
+    ensures { IfOk result (λ v. AreNew count m.now.elems v.items) }
+{
+    let elems = m.plan().elems.as_slice();
+    let mut shards = Vec::new(alloc);
+    for _ in 0..count {
+        shards.push(Shard::new(alloc, elems)?)?;
+    }
+    Ok(shards)
+}
+
+// The words of a table with so many shards and ready tasks.
+fn opening_words(alloc: Global, shards: u32, live: u64) -> Result<Vec<u64>, OutOfMemory>
+    requires { shards ≤ 256 }
+    ensures { IfOk result (λ v. AreOpeningWords shards live v.items) }
+{
+    let mut words = vec![in alloc; 0; STRIDE * (shards as usize + 3)]?;
+    words[live_index(shards)] = live;
+    Ok(words)
+}
+
+// A table of these words and shards, and its first pass.
+fn lay(
+    alloc: Global,
+    words: Vec<u64>,
+    shards: Vec<Shard>,
+    job: Job,
+) -> Result<(DepTable, Pass), OutOfMemory>
+    requires opening { IsOpening job words.items shards.items }
+    requires fit { DataFit job.matched.colls job.matched.elems job.given }
+    ensures pass { IfOk result (λ r. IsPassOf (id_of r.0) r.1 × (r.1.me.0 ≡ first_pass)) }
+    ensures job { IfOk result (λ r. job_of r.0 ≡ job) }
+{
+    the_rule_holds_before_the_first_step();
+    let laid: Result<(Table<Shard, PassRecord, Job, Law, Global>, Seat), Refused<Shard, Global>> =
+        Table::new(alloc, words.as_slice(), shards, &job);
+    match laid {
+        Ok((table, seat)) => Ok((DepTable { table, job }, Pass { seat, stamp: 0 })),
+        Err(_refused) => Err(OutOfMemory),
+    }
+}
+
+impl DepTable {
+    /// A table for a job, with from 1 to 256 shards, and its first pass.
+    pub fn new(
+        alloc: Global,
+        matched: Matched,
+        given: Given,
+        shards: u32,
+    ) -> Result<(DepTable, Pass), OutOfMemory>
+        requires fit { DataFit matched.colls matched.elems given }
+        requires some_shards { 0 < shards }
+        requires few_shards { shards ≤ 256 }
+        ensures pass { IfOk result (λ r. IsPassOf (id_of r.0) r.1 × (r.1.me.0 ≡ first_pass)) }
+        ensures job { IfOk result (λ r. job_of r.0 ≡ record { matched = matched; given = given; shards = shards; preloaded = false }) }
+    {
+        let mut opening = Opening {
+            shards: new_shards(alloc, &matched, shards)?,
+            left: matched.roots(),
+        };
+        open_classes(&mut opening, &matched, 0)?;
+        let words = opening_words(alloc, shards, matched.roots())?;
+        let job = Job {
+            matched,
+            given,
+            shards,
+            preloaded: false,
+        };
+        let Opening {
+            shards: desks,
+            left: _left,
+        } = opening;
+        lay(alloc, words, desks, job)
+    }
+}
