@@ -6,7 +6,7 @@ WORKERS, SHARDS = ("--workers", 64), ("--shards", 256)
 
 @dataclass
 class Verb:
-    """A verb: what it does, what its operands are called, with the largest number of those that are numbers, and its options."""
+    """A verb: what it does, what its operands are called, with the least and the largest number of those that are numbers, and its options."""
 
     does: str
     operands: dict
@@ -29,7 +29,11 @@ VERBS = {
     "run": Verb("runs a job on its data", {"JDF": FILE, "DATA": FILE}, (WORKERS, SHARDS), ("--preload",), later=("--preload",)),
     "check": Verb("checks that a job is consistent, and counts its tasks, edges and write-backs", {"JDF": FILE, "DATA": FILE}),
     "show": Verb("prints the canonical spelling of a JDF", {"JDF": FILE}),
-    "demo": Verb("runs a made job of N rows of tiles, N from 1 to 96", {"N": 96}, carried_out=False),
+    "demo": Verb("runs a made job of N rows of tiles, N from 1 to 96", {"N": (1, 96)}, carried_out=False),
+    "trace": Verb("runs a job and prints its trace", {"JDF": FILE, "DATA": FILE}, (WORKERS, SHARDS), carried_out=False),
+    "replay": Verb("replays a trace of a job", {"JDF": FILE, "DATA": FILE, "TRACE": FILE}, carried_out=False),
+    "certify": Verb("prints a longest chain of a job, or a cycle", {"JDF": FILE, "DATA": FILE}, carried_out=False),
+    "ranks": Verb("runs a job on R ranks, R from 1 to 64", {"JDF": FILE, "DATA": FILE, "R": (1, 64), "SEED": (0, 2**64 - 1)}, carried_out=False),
 }
 
 
@@ -45,7 +49,7 @@ class Command:
     def files(self):
         """The operands that are names of files."""
         kinds = VERBS[self.verb].operands.values() if self.verb in VERBS else []
-        return [name for name, most in zip(self.operands, kinds) if most is FILE]
+        return [name for name, kind in zip(self.operands, kinds) if kind is FILE]
 
     def jdf(self):
         return next(iter(self.files()), None)
@@ -54,8 +58,8 @@ class Command:
         return next(iter(self.files()[1:]), None)
 
 
-def is_number(text, most):
-    return text.isascii() and text.isdigit() and len(text) <= 20 and 1 <= int(text) <= most
+def is_number(text, least, most):
+    return text.isascii() and text.isdigit() and len(text) <= 20 and least <= int(text) <= most
 
 
 def command_of(words):
@@ -97,7 +101,7 @@ def judge(it, verb):
         most = dict(verb.numbers).get(name)
         if value is None:
             it.wrong.append(f"`{name}` has no number after it")
-        elif most and not is_number(value, most):
+        elif most and not is_number(value, 1, most):
             it.wrong.append(f"`{shown(value)}` is no number from 1 to {most} for `{name}`")
         if name in [other for other, _ in it.options[:at]]:
             it.wrong.append(f"`{name}` stands twice")
@@ -105,7 +109,7 @@ def judge(it, verb):
         it.wrong.append(f"`{it.verb}` takes {len(verb.operands)} {'word' if len(verb.operands) == 1 else 'words'}, and here are {len(it.operands)}")
     else:
         wanted = zip(it.operands, verb.operands.values())
-        it.wrong += [f"`{shown(text)}` is no number from 1 to {most}" for text, most in wanted if most is not FILE and not is_number(text, most)]
+        it.wrong += [f"`{shown(text)}` is no number from {kind[0]} to {kind[1]}" for text, kind in wanted if kind is not FILE and not is_number(text, *kind)]
     if not it.wrong:
         later = [it.verb] * (not verb.carried_out) + [name for name, _ in it.options if name in verb.later]
         it.wrong += [f"`{name}` is read and checked, and not carried out yet" for name in later]
@@ -128,5 +132,5 @@ def form(name):
 def explanation(words):
     """The lines for words that form no command."""
     it = command_of(words)
-    forms = [it.verb] if it.verb in VERBS else list(VERBS)
+    forms = [it.verb] if it.verb in VERBS else [name for name, verb in VERBS.items() if verb.carried_out]
     return [f"ptg: error: usage: {it.wrong[0] if it.wrong else 'these words form no command'}"] + ["    " + form(name) for name in forms]
