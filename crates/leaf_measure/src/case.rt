@@ -1,7 +1,9 @@
 //! The cases that can be measured.
 use crate::count::Count;
 use crate::deques::{deep_deque, deque, thieves};
-use crate::shards::{best, by_task, fired, first_edges, last_edges, ready, reserved, trapped, written};
+use crate::shards::{
+    best, by_task, fired, first_edges, last_edges, ready, reserved, trapped, written,
+};
 use ptg_base::OutOfMemory;
 use std::alloc::Global;
 use std::sync::Wait;
