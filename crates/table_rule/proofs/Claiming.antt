@@ -70,7 +70,7 @@ nothing_sent j s R id v t tiles k y₀ y r me takes share = let P : Plan = j.mat
           omega (arith, none_sent, r.records.sends (λ (x : Sent). as_number (same_item i x.item)), term_le (λ (u : PassRecord). weigh (λ (x : Sent). as_number (same_item i x.item)) u.sends) s.views id v me);
     }
 
--- kind 8: the turn is given back with a claim, where the shard had a ready entry of the task
+-- the turn is given back with a claim, where the shard had a ready entry of the task
 pub claims : (j : Job) (n id : ℕ) (m : Seated) (k : ℕ) (t : Task) (y₀ y : Content) (tiles : List FlowTile) → HasTurn m k y₀ y 0 → Takes y₀ y t tiles → Uses y₀.spare y.spare 0 None 0 0
     → Allows (Rule j) n id m (turn_word k) (λ _. 0) (λ _. gave_claim (Some j) t tiles (step n (turn_word k) 0 0 none) m 0)
 claims j n id m k t y₀ y tiles h takes uses s rule wide me _ = let P : Plan = j.matched in let G : Data = j.given in let of : Placement = shard_of j.matched j.shards in

@@ -90,7 +90,7 @@ record Ending (j : Job) (R : Moment) (v : PassRecord) (k : ℕ) (t : Task) (y₀
   here : Share j R k y₀ → Share j (with_end R t) k y
   spare : j.preloaded ≡ true → Reserve j R k y₀ → Reserve j (with_end R t) k y
 
--- kinds 10 and 11: the turn is given back with the end of the running task
+-- the turn is given back with the end of the running task
 ends : (j : Job) (n id : ℕ) (m : Seated) (k : ℕ) (t : Task) (y₀ y : Content) → HasTurn m k y₀ y 0 → m.0.running ≡ t ∷ [] → shard_of j.matched j.shards t ≡ k → 0 < own_stamps m.0 t
     → ((s : Table) (R : Moment) → Parts j s R → get_elem? s.views id ≡ some m.0 → Ending j R m.0 k t y₀ y)
     → Allows (Rule j) n id m (turn_word k) (λ _. 0) (λ _. gave_end (step n (turn_word k) 0 0 none) m 0)
@@ -127,7 +127,7 @@ ends j n id m k t y₀ y h runs at stamped does s rule wide me _ = let P : Plan 
       refl,
     )
 
--- kind 10: after its items
+-- after its items
 pub ends_with_items : (j : Job) (n id : ℕ) (m : Seated) (k : ℕ) (t : Task) (y₀ y : Content) → HasTurn m k y₀ y 0 → MayEnd j.matched j.given t m.0 → shard_of j.matched j.shards t ≡ k → 0 < own_stamps m.0 t
     → Ends y₀ y → KeepsEntriesAndWritten y₀ y → y.trapped ≡ y₀.trapped → Uses y₀.spare y.spare 0 None 0 0
     → Allows (Rule j) n id m (turn_word k) (λ _. 0) (λ _. gave_end (step n (turn_word k) 0 0 none) m 0)
@@ -137,7 +137,7 @@ ends_with_items j n id m k t y₀ y h may at stamped ending kept trapped uses = 
   spare = λ pre q. reserve-end j.matched (shard_of j.matched j.shards) k R t own y₀ y kept uses q;
 })
 
--- kind 11: by a trap
+-- by a trap
 pub ends_by_trap : (j : Job) (n id : ℕ) (m : Seated) (k : ℕ) (t : Task) (cause : Trap) (y₀ y : Content) → HasTurn m k y₀ y 0 → MayTrap j.matched j.given t cause m.0 → shard_of j.matched j.shards t ≡ k → 0 < own_stamps m.0 t
     → Ends y₀ y → KeepsEntriesAndWritten y₀ y → y.trapped ≡ y₀.trapped ++ (t, cause) ∷ [] → Uses y₀.spare y.spare 0 None 0 1
     → Allows (Rule j) n id m (turn_word k) (λ _. 0) (λ _. gave_end (step n (turn_word k) 0 0 none) m 0)

@@ -102,7 +102,7 @@ module _ (j : Job) (s : Table) (id : ℕ) (v : PassRecord) (R : Moment) (r : Par
       here_or_held : (Q : ℕ → Content → Type 0) (x : ℕ) (z : Content) → Q k y → ((x : ℕ) (z : Content) → IsIn (x, z) v.turns → Q x z) → IsIn (x, z) ((k, y) ∷ v.turns) → Q x z
       here_or_held Q x z q held h = ⊎_elim (λ (e : (x, z) ≡ (k, y)). subst (λ (p : ℕ × Content). Q p.0 p.1) (sym e) q) (λ t. held x z t) h
 
--- kinds 1 and 2: the turn of a shard is taken, or was found taken
+-- the turn of a shard is taken, or was found taken
 pub takes_turn : (j : Job) (n id : ℕ) (m : Seated) (k : ℕ) → k < j.shards → HasName m.0 → Allows (Rule j) n id m (turn_word k) (λ _. 1) (took (Some j) k (step n (turn_word k) 1 0 none) m)
 takes_turn j n id m k near named s rule wide me _ = let R : Moment = rule.0 in let r = rule.1 in let v : PassRecord = m.0 in
     dite (ℕ_discrete (get_or s.words (turn_word k) 0) 0)
@@ -126,7 +126,7 @@ takes_turn j n id m k near named s rule wide me _ = let R : Moment = rule.0 in l
     same_home : (Q : Content → Type 0) (slots : List (mathlib.Core.Option.Option Content)) (y : Content) → get_elem? slots k ≡ some (some y) → (z : Content) × (get_elem? slots k ≡ some (some z)) × Q z → Q y
     same_home Q slots y e t = subst Q (some-injective t.0 y (some-injective (some t.0) (some y) (sym t.1 ∙ e))) t.2
 
--- kind 13: the halt word is read
+-- the halt word is read
 pub reads_halt : (j : Job) (n id : ℕ) (m : Seated) → Allows (Rule j) n id m (halt_word j.shards) (λ x. x) (read_halt (Some j) (step n (halt_word j.shards) 0 0 none) m)
 reads_halt j n id m s rule wide me _ = let found : ℕ = get_or s.words (halt_word j.shards) 0 in (
   with_look m.0 Halt found,

@@ -122,7 +122,7 @@ record Sending (j : Job) (R : Moment) (i : Item) (k credits : ℕ) (y₀ y : Con
   spare : j.preloaded ≡ true → Reserve j R k y₀ → Reserve j (with_send j.matched j.given R i) k y
   ready : Share j R k y₀ → length (ready_tasks j.matched (with_send j.matched j.given R i).state) ≡ length (ready_tasks j.matched R.state) + credits
 
--- kind 9: the turn is given back with a send
+-- the turn is given back with a send
 sends : (j : Job) (n id : ℕ) (m : Seated) (k : ℕ) (i : Item) (tile : Option (List ℤ)) (y₀ y : Content) (credits : ℕ) → HasTurn m k y₀ y credits → IsNext j.matched j.given i tile m.0 → 0 < own_stamps m.0 (sender i)
     → ((R : Moment) → IsSoundState j.matched j.given R.state → IsConsistent j.matched → MaySend j.matched j.given R.state i → Sending j R i k credits y₀ y)
     → Allows (Rule j) n id m (turn_word k) (λ _. 0) (λ _. gave_send record { item = i; tile = tile } (step n (turn_word k) 0 0 none) m 0)
@@ -161,7 +161,7 @@ sends j n id m k i tile y₀ y credits h next stamped does s rule wide me _ = le
       refl,
     )
 
--- kind 9, an edge: a credit is spent exactly where its target fires
+-- an edge: a credit is spent exactly where its target fires
 pub sends_edge : (j : Job) (n id : ℕ) (m : Seated) (k : ℕ) (e : Edge) (tile : Option (List ℤ)) (y₀ y : Content) (datatype : ℕ) → HasTurn m k y₀ y (as_number (fires j.matched y₀ e)) → IsNext j.matched j.given (item.Edge e) tile m.0
     → shard_of j.matched j.shards e.to ≡ k → 0 < own_stamps m.0 e.from
     → Updates y₀.entries y.entries e.to (Some (with_arrival (entry_before y₀ e.to (goal j.matched e.to) (priority j.matched e.to)) e.in_flow tile)) → KeepsAllButEntries y₀ y
@@ -177,7 +177,7 @@ sends_edge j n id m k e tile y₀ y datatype h next at stamped updates kept type
           (λ not_yet. omega (arith, ready_count P R.state, ready_count P (with_send P G R (item.Edge e)).state, ready-waits P G con R.state sound e may (λ all. false≢true (sym not_yet ∙ eq-eqb ((entry_before y₀ e.to (goal P e.to) (priority P e.to)).arrived + 1) (entry_before y₀ e.to (goal P e.to) (priority P e.to)).goal ((target_fires P G con of k R sound e may y₀ at share tile).1 all))), ap as_number not_yet));
     })
 
--- kind 9, a write-back
+-- a write-back
 pub sends_write : (j : Job) (n id : ℕ) (m : Seated) (k : ℕ) (b : WriteBack) (tile : List ℤ) (y₀ y : Content) (datatype : ℕ) → HasTurn m k y₀ y 0 → IsNext j.matched j.given (item.Write b) (Some tile) m.0
     → shard_of j.matched j.shards b.from ≡ k → 0 < own_stamps m.0 b.from
     → y.written ≡ y₀.written ++ (b, tile) ∷ [] → KeepsAllButWritten y₀ y

@@ -49,7 +49,7 @@ live_weighs : (j : Job) (R : Moment) (live stamp : ℕ) (old new : List PassReco
     → AreLive j.matched R live stamp old → AreLive j.matched R live stamp new
 live_weighs j R live stamp old new credits stamps each r = record { live = omega (arith, r.live, credits); each = each; stamps = r.stamps; theirs = λ f. r.theirs f ∙ sym (stamps f); drawn = r.drawn }
 
--- kind 6: a pass with one name is split
+-- a pass with one name is split
 pub splits : (j : Job) (id : ℕ) (v : PassRecord) (x : Name) → v.names ≡ x ∷ [] → Splits (Rule j) id v (after_split v) (split_off v)
 splits j id v x names s rule me = let R : Moment = rule.0 in let r = rule.1 in
     let w : PassRecord = after_split v in
@@ -105,7 +105,7 @@ one_or true false = (omega arith, omega arith, omega arith)
 one_or false true = (omega arith, omega arith, omega arith)
 one_or false false = (omega arith, omega arith, omega arith)
 
--- kind 7: a pass is joined to one that has a name
+-- a pass is joined to one that has a name
 pub joins : (j : Job) (id : ℕ) (v : PassRecord) (other : ℕ) (u : PassRecord) → HasName v → Joins (Rule j) id v other u (both v u) joined_away
 joins j id v other u named s rule me apart them = let R : Moment = rule.0 in let r = rule.1 in
     let w : PassRecord = both v u in

@@ -118,7 +118,7 @@ module _ (P : Plan) (G : Data) (R : Moment) (live stamp : ℕ) (vs : List PassRe
         stamped = λ u. omega (arith, weigh-push (λ (x : Stamp). as_number (same_task u x.0)) v.stamps (t, stamp), l.stamped u);
       }
 
--- kind 17: a stamp is drawn for the running task, which has none yet
+-- a stamp is drawn for the running task, which has none yet
 pub draws_stamp : (j : Job) (n id : ℕ) (m : Seated) (t : Task) → m.0.running ≡ t ∷ [] → own_stamps m.0 t ≡ 0 → HasName m.0 → Allows (Rule j) n id m (stamp_word j.shards) (λ x. (x + 1) % 2 ^ 64) (drew_stamp t (step n (stamp_word j.shards) 1 0 none) m)
 draws_stamp j n id m t runs none_yet named s rule wide me _ = let R : Moment = rule.0 in let r = rule.1 in let v : PassRecord = m.0 in let o = r.owned.each id v me in
     let i : ℕ = stamp_word j.shards in

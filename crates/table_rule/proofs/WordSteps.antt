@@ -34,7 +34,7 @@ use Rattle.table_rule.proofs.Naming.{named_not_empty}
 use Rattle.table_rule.proofs.Passes.{each_kept}
 use Rattle.table_rule.proofs.Weighing.{term_le, weigh-set}
 
--- kind 12: the halt word of a table that is not preloaded is raised
+-- the halt word of a table that is not preloaded is raised
 pub raises_halt : (j : Job) (n id : ℕ) (m : Seated) → j.preloaded ≡ false → Allows (Rule j) n id m (halt_word j.shards) (λ _. 1) (λ _. raised_halt (step n (halt_word j.shards) 1 0 none) m 1)
 raises_halt j n id m late s rule wide me _ = let R : Moment = rule.0 in let r = rule.1 in let v : PassRecord = m.0 in let w : PassRecord = with_halt v in let o = r.owned.each id v me in let l = r.live.each id v me in
     let i : ℕ = halt_word j.shards in
@@ -110,7 +110,7 @@ module _ (j : Job) (s : Table) (id : ℕ) (v w : PassRecord) (new : ℕ) (R : Mo
         halt = λ pre. halt ∙ (r.reserved pre).halt;
       })
 
--- kind 14: the live word is raised by a pass that holds more turns than it has credits
+-- the live word is raised by a pass that holds more turns than it has credits
 pub raises_live : (j : Job) (n id : ℕ) (m : Seated) → m.0.credit < length m.0.turns → HasName m.0 → Allows (Rule j) n id m (live_word j.shards) (λ x. (x + 1) % 2 ^ 64) (raised_live (step n (live_word j.shards) 1 0 none) m)
 raises_live j n id m room named s rule wide me _ = let R : Moment = rule.0 in let r = rule.1 in let v : PassRecord = m.0 in let o = r.owned.each id v me in let l = r.live.each id v me in
     let old : ℕ = get_or s.words (live_word j.shards) 0 in
@@ -127,7 +127,7 @@ raises_live j n id m room named s rule wide me _ = let R : Moment = rule.0 in le
       refl,
     )
 
--- kind 15: the live word is lowered by a pass that has a credit
+-- the live word is lowered by a pass that has a credit
 pub lowers_live : (j : Job) (n id : ℕ) (m : Seated) → 0 < m.0.credit → HasName m.0 → Allows (Rule j) n id m (live_word j.shards) (λ x. (x + (2 ^ 64 - 1)) % 2 ^ 64) (lowered_live (step n (live_word j.shards) 1 0 none) m)
 lowers_live j n id m some_credit named s rule wide me _ = let R : Moment = rule.0 in let r = rule.1 in let v : PassRecord = m.0 in let o = r.owned.each id v me in let l = r.live.each id v me in
     let old : ℕ = get_or s.words (live_word j.shards) 0 in
@@ -161,7 +161,7 @@ calm_at_zero P R live stamp vs r zero_word = record {
     some_ready : (P : Plan) (R : Moment) (t : Task) → MayClaim P R.state t → 0 < length (ready_tasks P R.state)
     some_ready P R t may = omega (arith, filter_count (is_ready P R.state) (all_tasks P), count-some (is_ready P R.state) (all_tasks P) t ((listed P t).0 may.task) (λ i. eq-eqb (claim_count R.state t) 0 may.unclaimed i && eq-eqb (arrived P R.state t) (goal P t) may.all_arrived i))
 
--- kind 16: the live word is read, and 0 is quiet
+-- the live word is read, and 0 is quiet
 pub reads_live : (j : Job) (n id : ℕ) (m : Seated) → Allows (Rule j) n id m (live_word j.shards) (λ x. x) (read_live (Some j) (step n (live_word j.shards) 0 0 none) m)
 reads_live j n id m s rule wide me _ = let R : Moment = rule.0 in let r = rule.1 in let v : PassRecord = m.0 in
     let found : ℕ = get_or s.words (live_word j.shards) 0 in
