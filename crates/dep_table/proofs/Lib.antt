@@ -3,3 +3,4 @@ pub mod StepsAt
 pub mod Sums
 pub mod Turns
 pub mod Claiming
+pub mod Ending

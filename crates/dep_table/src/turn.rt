@@ -6,6 +6,8 @@ ghost use Rattle.work_board.specs.Claims.{FoundGone, HasClaimed};
 ghost use Rattle.work_board.specs.Records.{FoundBusy, OnlyTook};
 ghost use Rattle.work_board.specs.Word as word;
 ghost use Rattle.work_board.specs.declared.record.PassRecord.{PassRecord};
+ghost use Rattle.work_board.specs.Sends.{HasEnded, MayEnd};
+ghost use Rattle.table_rule.specs.Placing as placing;
 ghost use Rattle.dep_table.specs.Passes.{IsPassOf};
 ghost use Rattle.dep_table.specs.Tables.{id_of, job_of};
 ghost use Rattle.dep_table.specs.Turns.{IsTurn, IsTurnOf};
@@ -85,5 +87,23 @@ impl<'a> Turn<'a> {
                 None
             }
         }
+    }
+}
+
+impl<'a> Turn<'a> {
+    /// Ends the running task, all of whose items the pass has sent, and gives the turn back.
+    pub fn end(self, t: &TaskId)
+        requires turn { IsTurn self }
+        requires task { MayEnd (job_of self.table.now).matched (job_of self.table.now).given t.now (shown self.pass.now) }
+        requires shard { placing.shard_of (job_of self.table.now).matched (job_of self.table.now).shards t.now ≡ self.shard }
+        ensures pass { IsPassOf (id_of self.entry.table.now) self.exit.1.0.now }
+        ensures ended { (v : PassRecord) (y z : Content) → IsTurnOf self.entry v y z → HasEnded self.entry.shard v (shown self.exit.1.0.now) }
+    {
+        let _task = t;
+        let Turn { table, pass, shard } = self;
+        let desk = pass.seat.slot_mut(&table.table.shared, shard as usize);
+        desk.end();
+        table.give_end(&mut pass.seat, shard);
+        table.lower_live(&mut pass.seat);
     }
 }
