@@ -1,12 +1,12 @@
 //! A turn that was taken: the one pass that holds it may read and write its shard.
 
-ghost use Rattle.std.specs.Prelude.{◌≡◌, ◌<◌, IfErr, IfNone, IfSome, IfOk, true, []};
+ghost use Rattle.std.specs.Prelude.{IsOk, OnErr, OnOk, ◌≡◌, ◌<◌, IfErr, IfNone, IfSome, IfOk, true, []};
 ghost use Rattle.dep_shard.specs.Content.{Content, HasNoReady, IsBest};
 ghost use Rattle.work_board.specs.Claims.{FoundGone, HasClaimed};
 ghost use Rattle.work_board.specs.Records.{FoundBusy, OnlyTook};
 ghost use Rattle.work_board.specs.Word as word;
 ghost use Rattle.work_board.specs.declared.record.PassRecord.{PassRecord};
-ghost use Rattle.work_board.specs.Sends.{HasEnded, MayEnd};
+ghost use Rattle.work_board.specs.Sends.{HasEnded, MayEnd, MayTrap};
 ghost use Rattle.table_rule.specs.Placing as placing;
 ghost use Rattle.dep_table.specs.Passes.{IsPassOf};
 ghost use Rattle.dep_table.specs.Tables.{id_of, job_of};
@@ -17,7 +17,8 @@ use crate::pass::Pass;
 use crate::table::DepTable;
 use crate::turn_steps::take_ready;
 use dep_shard::Arrivals;
-use ptg_base::TaskId;
+use ptg_base::{OutOfMemory, TaskId};
+use term_core::Trap;
 
 /// The turn of a shard, with the pass that took it. It has no `Drop`: one of the calls that take it gives the turn back.
 pub struct Turn<'a> {
@@ -105,5 +106,33 @@ impl<'a> Turn<'a> {
         desk.end();
         table.give_end(&mut pass.seat, shard);
         table.lower_live(&mut pass.seat);
+    }
+}
+
+impl<'a> Turn<'a> {
+    /// Notes that the running task trapped with this cause, which ends it, and gives the turn back. Without memory it gives the turn
+    /// back, and nothing else; a preloaded table has the memory.
+    pub fn trap(self, t: &TaskId, cause: Trap) -> Result<(), OutOfMemory>
+        requires turn { IsTurn self }
+        requires task { MayTrap (job_of self.table.now).matched (job_of self.table.now).given t.now cause (shown self.pass.now) }
+        requires shard { placing.shard_of (job_of self.table.now).matched (job_of self.table.now).shards t.now ≡ self.shard }
+        ensures pass { IsPassOf (id_of self.entry.table.now) self.exit.1.0.now }
+        ensures ended { OnOk result ((v : PassRecord) (y z : Content) → IsTurnOf self.entry v y z → HasEnded self.entry.shard v (shown self.exit.1.0.now)) }
+        ensures left { OnErr result ((v : PassRecord) (y z : Content) → IsTurnOf self.entry v y z → OnlyTook self.entry.shard v (shown self.exit.1.0.now)) }
+        ensures preloaded { (job_of self.entry.table.now).preloaded ≡ true → IsOk result }
+    {
+        let Turn { table, pass, shard } = self;
+        let desk = pass.seat.slot_mut(&table.table.shared, shard as usize);
+        match desk.trap(t, cause) {
+            Ok(()) => {
+                table.give_end(&mut pass.seat, shard);
+                table.lower_live(&mut pass.seat);
+                Ok(())
+            }
+            Err(OutOfMemory) => {
+                table.give(&mut pass.seat, shard);
+                Err(OutOfMemory)
+            }
+        }
     }
 }
