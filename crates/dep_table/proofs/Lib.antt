@@ -5,3 +5,4 @@ pub mod Turns
 pub mod Claiming
 pub mod OpeningSteps
 pub mod Opened
+pub mod Ending
