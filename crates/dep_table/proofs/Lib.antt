@@ -4,3 +4,4 @@ pub mod Sums
 pub mod Turns
 pub mod OpeningSteps
 pub mod Opened
+pub mod Closings
