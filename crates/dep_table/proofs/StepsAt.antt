@@ -1,12 +1,17 @@
 -- The steps on words other than turns, at the word that a function computed and under the key of its table.
-use Rattle.std.proofs.Common.{◌≡◌, ℕ, ◌<◌, sym, subst, false, Option, None, Some}
+use Rattle.std.proofs.Common.{◌≡◌, ℕ, ◌+◌, ◌%◌, ◌^◌, ◌<◌, List, [], ◌∷◌, sym, subst, false, Option, None, Some}
 use mathlib.Core.Option.{none}
 use Rattle.atomic_table.specs.Table.{Allows, step}
 use Rattle.table_rule.specs.declared.job.Job.{Job}
-use Rattle.table_rule.specs.Plays.{HasName, HasTurn, Seated, left, raised_halt, read_halt, read_live, took}
+use Rattle.table_rule.specs.Plays.{HasName, HasTurn, Seated, drew_stamp, gave_claim, left, raised_halt, read_halt, read_live, took}
 use Rattle.table_rule.specs.Rule.{Rule}
-use Rattle.table_rule.specs.Words.{halt_word, live_word, turn_word}
-use Rattle.dep_shard.specs.Content.{Content, IsUnchanged, Uses}
+use Rattle.table_rule.specs.Words.{halt_word, live_word, stamp_word, turn_word}
+use Rattle.dep_shard.specs.Arrivals.{FlowTile}
+use Rattle.dep_shard.specs.Content.{Content, IsUnchanged, Takes, Uses}
+use Rattle.ptg_base.specs.Task.{Task}
+use Rattle.table_rule.specs.Live.{own_stamps}
+use Rattle.table_rule.proofs.Claiming.{claims}
+use Rattle.table_rule.proofs.Stamping.{draws_stamp}
 use Rattle.table_rule.proofs.Giving.{leaves}
 use Rattle.table_rule.proofs.Looking.{reads_halt, takes_turn}
 use Rattle.table_rule.proofs.WordSteps.{raises_halt, reads_live}
@@ -26,3 +31,16 @@ takes_at e j key k k' event same here word n id m at near named = subst (λ (i :
 
 pub leaves_at : (j key : Job) → j ≡ key → (word n id k : ℕ) (m : Seated) (y z : Content) → word ≡ turn_word k → HasTurn m k y z 0 → IsUnchanged y z → Uses y.spare z.spare 0 None 0 0 → Allows (Rule key) n id m word (λ _. 0) (λ _. left (step n word 0 0 none) m 0)
 leaves_at j key same word n id k m y z at turn unchanged uses = subst (λ (i : Job). Allows (Rule i) n id m word (λ _. 0) (λ _. left (step n word 0 0 none) m 0)) same (subst (λ (i : ℕ). Allows (Rule j) n id m i (λ _. 0) (λ _. left (step n i 0 0 none) m 0)) (sym at) (leaves j n id m k y z turn unchanged uses))
+
+pub claims_at : (e : Option Job) (j key : Job) (u t : Task) (tiles' tiles : List FlowTile) → e ≡ Some j → j ≡ key → u ≡ t → tiles' ≡ tiles → (word n id k : ℕ) (m : Seated) (y z : Content) → word ≡ turn_word k → HasTurn m k y z 0 → Takes y z t tiles → Uses y.spare z.spare 0 None 0 0
+    → Allows (Rule key) n id m word (λ _. 0) (λ _. gave_claim e u tiles' (step n word 0 0 none) m 0)
+claims_at e j key u t tiles' tiles event same task handed word n id k m y z at turn takes uses = subst (λ (i : Job). Allows (Rule i) n id m word (λ _. 0) (λ _. gave_claim e u tiles' (step n word 0 0 none) m 0)) same
+    (subst (λ (o : Option Job). Allows (Rule j) n id m word (λ _. 0) (λ _. gave_claim o u tiles' (step n word 0 0 none) m 0)) (sym event)
+    (subst (λ (x : Task). Allows (Rule j) n id m word (λ _. 0) (λ _. gave_claim (Some j) x tiles' (step n word 0 0 none) m 0)) (sym task)
+    (subst (λ (x : List FlowTile). Allows (Rule j) n id m word (λ _. 0) (λ _. gave_claim (Some j) t x (step n word 0 0 none) m 0)) (sym handed)
+    (subst (λ (i : ℕ). Allows (Rule j) n id m i (λ _. 0) (λ _. gave_claim (Some j) t tiles (step n i 0 0 none) m 0)) (sym at) (claims j n id m k t y z tiles turn takes uses)))))
+
+pub draws_at : (j key : Job) (u t : Task) → j ≡ key → u ≡ t → (word n id : ℕ) (m : Seated) → word ≡ stamp_word j.shards → m.0.running ≡ t ∷ [] → own_stamps m.0 t ≡ 0 → HasName m.0 → Allows (Rule key) n id m word (λ x. (x + 1) % 2 ^ 64) (drew_stamp u (step n word 1 0 none) m)
+draws_at j key u t same task word n id m at runs none_yet named = subst (λ (i : Job). Allows (Rule i) n id m word (λ x. (x + 1) % 2 ^ 64) (drew_stamp u (step n word 1 0 none) m)) same
+    (subst (λ (x : Task). Allows (Rule j) n id m word (λ x. (x + 1) % 2 ^ 64) (drew_stamp x (step n word 1 0 none) m)) (sym task)
+    (subst (λ (i : ℕ). Allows (Rule j) n id m i (λ x. (x + 1) % 2 ^ 64) (drew_stamp t (step n i 1 0 none) m)) (sym at) (draws_stamp j n id m t runs none_yet named)))

@@ -2,6 +2,7 @@
 
 ghost use Rattle.std.specs.Prelude.{◌≡◌, ◌<◌, IfErr, IfNone, IfSome, IfOk, true, []};
 ghost use Rattle.dep_shard.specs.Content.{Content, HasNoReady, IsBest};
+ghost use Rattle.work_board.specs.Claims.{FoundGone, HasClaimed};
 ghost use Rattle.work_board.specs.Records.{FoundBusy, OnlyTook};
 ghost use Rattle.work_board.specs.Word as word;
 ghost use Rattle.work_board.specs.declared.record.PassRecord.{PassRecord};
@@ -12,6 +13,8 @@ ghost use Rattle.dep_table.specs.Views.{shown};
 
 use crate::pass::Pass;
 use crate::table::DepTable;
+use crate::turn_steps::take_ready;
+use dep_shard::Arrivals;
 use ptg_base::TaskId;
 
 /// The turn of a shard, with the pass that took it. It has no `Drop`: one of the calls that take it gives the turn back.
@@ -57,5 +60,30 @@ impl<'a> Turn<'a> {
     {
         let Turn { table, pass, shard } = self;
         table.give(&mut pass.seat, shard);
+    }
+}
+
+impl<'a> Turn<'a> {
+    /// Claims a task and gives the turn back: None exactly where the shard has no ready entry of the task. The claim has its stamp.
+    pub fn claim(self, t: &TaskId) -> Option<Arrivals>
+        requires turn { IsTurn self }
+        requires idle { (shown self.pass.now).running ≡ [] }
+        ensures pass { IsPassOf (id_of self.entry.table.now) self.exit.1.0.now }
+        ensures some { IfSome result (λ tiles. (v : PassRecord) (y z : Content) → IsTurnOf self.entry v y z → HasClaimed (job_of self.entry.table.now).matched (job_of self.entry.table.now).given self.entry.shard t.now tiles v (shown self.exit.1.0.now)) }
+        ensures none { IfNone result ((v : PassRecord) (y z : Content) → IsTurnOf self.entry v y z → FoundGone self.entry.shard t.now v (shown self.exit.1.0.now)) }
+    {
+        let Turn { table, pass, shard } = self;
+        let desk = pass.seat.slot_mut(&table.table.shared, shard as usize);
+        match take_ready(desk, t) {
+            Some(tiles) => {
+                table.give_claim(&mut pass.seat, shard, t, &tiles);
+                pass.stamp = table.draw_stamp(&mut pass.seat, t);
+                Some(tiles)
+            }
+            None => {
+                table.give(&mut pass.seat, shard);
+                None
+            }
+        }
     }
 }

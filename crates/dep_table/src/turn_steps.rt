@@ -1,18 +1,22 @@
 //! The steps of a pass on a turn word, one function a step.
 
-ghost use Rattle.std.specs.Prelude.{◌≡◌, ◌≢◌, ◌<◌, ◌∷◌, Some};
+ghost use Rattle.std.specs.Prelude.{[], IfNone, IfSome, None, ◌≡◌, ◌≢◌, ◌<◌, ◌∷◌, Some};
 ghost use Rattle.atomic_table.specs.Table.{rest};
-ghost use Rattle.dep_shard.specs.Content.{Content};
-ghost use Rattle.table_rule.specs.Changes.{turn_left, with_look, with_turn};
+ghost use Rattle.dep_shard.specs.Content.{Content, Entry, Takes, Uses, entry_of};
+ghost use Rattle.table_rule.specs.Changes.{turn_left, with_look, with_own_claim, with_stamp, with_turn};
+ghost use Rattle.table_rule.specs.Live.{own_stamps};
 ghost use Rattle.table_rule.specs.Plays.{HasName, WasSeen};
+ghost use Rattle.work_board.specs.Claims.{HasNoReadyOf, MayStart};
 ghost use Rattle.work_board.specs.Word as word;
-ghost use Rattle.dep_table.specs.Turns.{Leaves};
+ghost use Rattle.dep_table.specs.Turns.{Claims, Leaves};
 
 use crate::pass::Seat;
 use crate::table::DepTable;
-use crate::words::turn_index;
+use crate::words::{stamp_index, turn_index};
+use dep_shard::{Arrivals, Shard};
+use ptg_base::TaskId;
 use std::marker::Brand;
-use table_rule::law::{Event, Leave, Take};
+use table_rule::law::{Claim, DrawStamp, Event, Leave, Take};
 
 impl DepTable {
     fn take_of<E: Event>(&self, seat: &mut Seat, shard: u32) -> u64
@@ -50,5 +54,74 @@ impl DepTable {
     {
         let word = turn_index(shard);
         self.table.shared.store::<Leave>(seat, word, 0);
+    }
+}
+
+// Takes the ready entry of a task out of a shard whose numbers allow it where the task has an entry.
+pub(crate) fn take_ready(desk: &mut Shard, t: &TaskId) -> Option<Arrivals>
+    requires { (e : Entry) → entry_of desk.old t.now ≡ Some e → desk.old.running < 1000000 }
+    ensures none { IfNone result (HasNoReadyOf desk.old t.now) }
+    ensures same { IfNone result (desk.new ≡ desk.old) }
+    ensures some { IfSome result (λ tiles. Takes desk.old desk.new t.now tiles) }
+    ensures spare { Uses desk.old.spare desk.new.spare 0 None 0 0 }
+{
+    if desk.running() >= 1_000_000 {
+        return None;
+    }
+    desk.take_ready(t)
+}
+
+impl DepTable {
+    fn give_claim_of<E: Event>(&self, seat: &mut Seat, shard: u32, t: &TaskId, tiles: &Arrivals)
+        requires event { (E.job ≡ Some self.now.job) × (E.task ≡ t.now) × (E.tiles ≡ tiles.now) }
+        requires of { seat.old.table_id ≡ self.now.table.shared.table_id }
+        requires within { shard < self.now.job.shards }
+        requires claims { Claims shard t.now tiles.now seat.old.me }
+        ensures of { seat.new.table_id ≡ seat.old.table_id }
+        ensures me { seat.new.me ≡ (turn_left (with_own_claim seat.old.me.0 t.now), rest seat.old.me.1) }
+        ensures starts { MayStart self.now.job.matched self.now.job.given t.now tiles.now seat.old.me.0 }
+    {
+        let _task = t;
+        let _tiles = tiles;
+        let word = turn_index(shard);
+        self.table.shared.store::<Claim<E>>(seat, word, 0);
+    }
+
+    // Gives a turn back with a claim.
+    pub(crate) fn give_claim(&self, seat: &mut Seat, shard: u32, t: &TaskId, tiles: &Arrivals)
+        requires of { seat.old.table_id ≡ self.now.table.shared.table_id }
+        requires within { shard < self.now.job.shards }
+        requires claims { Claims shard t.now tiles.now seat.old.me }
+        ensures of { seat.new.table_id ≡ seat.old.table_id }
+        ensures me { seat.new.me ≡ (turn_left (with_own_claim seat.old.me.0 t.now), rest seat.old.me.1) }
+        ensures starts { MayStart self.now.job.matched self.now.job.given t.now tiles.now seat.old.me.0 }
+    {
+        self.give_claim_of::<Brand>(seat, shard, t, tiles);
+    }
+
+    fn draw_stamp_of<E: Event>(&self, seat: &mut Seat, t: &TaskId) -> u64
+        requires event { E.task ≡ t.now }
+        requires of { seat.old.table_id ≡ self.now.table.shared.table_id }
+        requires runs { seat.old.me.0.running ≡ t.now ∷ [] }
+        requires none_yet { own_stamps seat.old.me.0 t.now ≡ 0 }
+        requires named { HasName seat.old.me.0 }
+        ensures of { seat.new.table_id ≡ seat.old.table_id }
+        ensures me { seat.new.me ≡ (with_stamp seat.old.me.0 t.now result, seat.old.me.1) }
+    {
+        let _task = t;
+        let word = stamp_index(self.job.shards);
+        self.table.shared.fetch_add::<DrawStamp<E>>(seat, word, 1)
+    }
+
+    // Draws a stamp for the running task.
+    pub(crate) fn draw_stamp(&self, seat: &mut Seat, t: &TaskId) -> u64
+        requires of { seat.old.table_id ≡ self.now.table.shared.table_id }
+        requires runs { seat.old.me.0.running ≡ t.now ∷ [] }
+        requires none_yet { own_stamps seat.old.me.0 t.now ≡ 0 }
+        requires named { HasName seat.old.me.0 }
+        ensures of { seat.new.table_id ≡ seat.old.table_id }
+        ensures me { seat.new.me ≡ (with_stamp seat.old.me.0 t.now result, seat.old.me.1) }
+    {
+        self.draw_stamp_of::<Brand>(seat, t)
     }
 }
