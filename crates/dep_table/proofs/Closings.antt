@@ -1,35 +1,29 @@
 -- How passes are joined, and the shards of a table that was closed.
-use Rattle.std.proofs.Common.{◌≡◌, ℕ, zero, suc, ◌+◌, ◌<◌, ◌≤◌, List, [], ◌∷◌, ◌++◌, length, map, take, sym, refl, ap, ◌∙◌, subst, arith, Option, Some, None, slice_get, inl, inr}
+use Rattle.std.proofs.Common.{◌≡◌, ℕ, zero, suc, ◌+◌, ◌<◌, List, [], ◌∷◌, ◌++◌, length, map, take, sym, refl, ap, ◌∙◌, subst, arith, Some, slice_get, inl}
 use Rattle.std.proofs.lemmas.List.{append-nil}
 use Rattle.std.specs.List.{flat_map}
 use mathlib.Core.Option.{some, some-injective, some-ne-none}
 use lib.ListN.{get_elem?}
 use Rattle.atomic_table.specs.Seated.{TableId}
-use Rattle.atomic_table.specs.Table.{Final, Seen, State}
+use Rattle.atomic_table.specs.Table.{Final, Seen}
 use Rattle.ptg_base.specs.Lists.{IsIn}
-use Rattle.ptg_base.specs.Task.{Task}
 use Rattle.range_space.proofs.MemberLists.{IsIn-append_left, IsIn-append_right}
 use Rattle.dep_iter.proofs.Joining.{map-append}
 use Rattle.dep_shard.specs.Content.{Content}
 use Rattle.flow_meaning.specs.Counting.{HasSameMembers, weigh}
-use Rattle.flow_meaning.specs.Machine.{Sent}
 use Rattle.flow_meaning.proofs.Counting.{weigh-append}
-use Rattle.shard_meaning.specs.Moment.{Moment}
 use Rattle.work_board.specs.declared.record.PassRecord.{PassRecord}
 use Rattle.table_rule.specs.declared.job.Job.{Job}
 use Rattle.table_rule.specs.Changes.{both}
 use Rattle.table_rule.specs.Names.{AreAll}
-use Rattle.table_rule.specs.Placing.{shard_of}
 use Rattle.table_rule.specs.Plays.{HasName}
 use Rattle.table_rule.specs.Records.{joined, moment_of}
-use Rattle.table_rule.specs.Rule.{Parts, Rule, Share, Table}
-use Rattle.table_rule.specs.Words.{turn_word}
+use Rattle.table_rule.specs.Rule.{Rule, Share}
 use Rattle.table_rule.proofs.AllNames.{join_all, order_all}
 use Rattle.table_rule.proofs.Alone.{alone_free, alone_parts}
 use Rattle.dep_table.specs.Closing.{AreAllPasses, IsClosedAt, IsLastPass}
 use Rattle.dep_table.specs.Passes.{IsPassOf}
 use Rattle.dep_table.specs.Views.{PassView, shown}
-use Rattle.std.specs.Prelude.{slice_index}
 
 -- two lists at the end, or the two as one
 joined_two : {A : Type 0} (f : PassRecord → List A) (l : List PassRecord) (v w b : PassRecord) → f b ≡ f v ++ f w → flat_map f ((l ++ v ∷ []) ++ w ∷ []) ≡ flat_map f (l ++ b ∷ [])

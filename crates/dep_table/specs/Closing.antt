@@ -1,5 +1,5 @@
 -- A closed table: no pass shares it any more. Source: this project's own choice.
-use Rattle.std.specs.Prelude.{◌≡◌, ◌≤◌, ℕ, List, [], ◌∷◌, map, length, slice_get, Some, vec_capacity}
+use Rattle.std.specs.Prelude.{◌≡◌, ℕ, List, [], ◌∷◌, map, length, slice_get, Some}
 use Rattle.atomic_table.specs.Seated.{TableId}
 use Rattle.ptg_base.specs.Lists.{IsIn}
 use Rattle.dep_iter.specs.Consistent.{IsConsistent}
@@ -11,8 +11,7 @@ use Rattle.shard_meaning.specs.Share.{IsShardOf}
 use Rattle.table_rule.specs.declared.job.Job.{Job}
 use Rattle.table_rule.specs.Names.{AreAll}
 use Rattle.table_rule.specs.Placing.{shard_of}
-use Rattle.table_rule.specs.Plays.{HasName}
-use Rattle.table_rule.specs.Records.{joined, moment_of}
+use Rattle.table_rule.specs.Records.{moment_of}
 use Rattle.dep_table.specs.Passes.{IsPassOf}
 use Rattle.dep_table.specs.Views.{PassView, shown}
 

@@ -1,8 +1,8 @@
-use Rattle.std.proofs.Common.{arith, ◌≡◌, ◌<◌, ◌≤◌, ◌++◌, ℕ, ◌+◌, false, true, Bool, List, [], ◌∷◌, length, take, sym, ap, ◌∙◌, set, get_or, get_or-set_same, get_or-set_other}
+use Rattle.std.proofs.Common.{arith, ◌<◌, ◌++◌, ℕ, ◌+◌, false, Bool, List, [], ◌∷◌, length, take, sym, ap, ◌∙◌, set, get_or, get_or-set_same, get_or-set_other}
 use Rattle.std.proofs.Math.Seq.{take-length}
 use mathlib.Core.Logic.{dite}
 use native.Mathlib.Decide.{ℕ_discrete}
-use Rattle.std.specs.Mem.Slots.{slots_counts, slots_filled, slots_items, slots_len}
+use Rattle.std.specs.Mem.Slots.{slots_counts, slots_filled, slots_items}
 use Rattle.dep_shard.specs.Content.{Content}
 use Rattle.table_rule.specs.Records.{moment_of}
 use Rattle.dep_table.specs.Views.{shown}
