@@ -1,3 +1,6 @@
+pub mod OpeningSteps
+pub mod Opened
+pub mod Closings
 pub mod Clean
 pub mod StepsAt
 pub mod Sums

@@ -3,3 +3,4 @@ pub mod Passes
 pub mod Tables
 pub mod Turns
 pub mod Opened
+pub mod Closing

@@ -2,6 +2,7 @@
 #![tactic(auto)]
 
 mod calls;
+pub mod closed;
 mod opening;
 pub mod pass;
 mod steps;

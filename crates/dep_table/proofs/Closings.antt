@@ -1,0 +1,144 @@
+-- How passes are joined, and the shards of a table that was closed.
+use Rattle.std.proofs.Common.{◌≡◌, ℕ, zero, suc, ◌+◌, ◌<◌, List, [], ◌∷◌, ◌++◌, length, map, take, sym, refl, ap, ◌∙◌, subst, arith, Some, slice_get, inl}
+use Rattle.std.proofs.lemmas.List.{append-nil}
+use Rattle.std.specs.List.{flat_map}
+use mathlib.Core.Option.{some, some-injective, some-ne-none}
+use lib.ListN.{get_elem?}
+use Rattle.atomic_table.specs.Seated.{TableId}
+use Rattle.atomic_table.specs.Table.{Final, Seen}
+use Rattle.ptg_base.specs.Lists.{IsIn}
+use Rattle.range_space.proofs.MemberLists.{IsIn-append_left, IsIn-append_right}
+use Rattle.dep_iter.proofs.Joining.{map-append}
+use Rattle.dep_shard.specs.Content.{Content}
+use Rattle.flow_meaning.specs.Counting.{HasSameMembers, weigh}
+use Rattle.flow_meaning.proofs.Counting.{weigh-append}
+use Rattle.work_board.specs.declared.record.PassRecord.{PassRecord}
+use Rattle.table_rule.specs.declared.job.Job.{Job}
+use Rattle.table_rule.specs.Changes.{both}
+use Rattle.table_rule.specs.Names.{AreAll}
+use Rattle.table_rule.specs.Plays.{HasName}
+use Rattle.table_rule.specs.Records.{joined, moment_of}
+use Rattle.table_rule.specs.Rule.{Rule, Share}
+use Rattle.table_rule.proofs.AllNames.{join_all, order_all}
+use Rattle.table_rule.proofs.Alone.{alone_free, alone_parts}
+use Rattle.dep_table.specs.Closing.{AreAllPasses, IsClosedAt, IsLastPass}
+use Rattle.dep_table.specs.Passes.{IsPassOf}
+use Rattle.dep_table.specs.Views.{PassView, shown}
+
+-- two lists at the end, or the two as one
+joined_two : {A : Type 0} (f : PassRecord → List A) (l : List PassRecord) (v w b : PassRecord) → f b ≡ f v ++ f w → flat_map f ((l ++ v ∷ []) ++ w ∷ []) ≡ flat_map f (l ++ b ∷ [])
+joined_two f [] v w b e = ap (λ x. f v ++ x) (append-nil (f w)) ∙ (sym e ∙ sym (append-nil (f b)))
+joined_two f (u ∷ l) v w b e = ap (λ x. f u ++ x) (joined_two f l v w b e)
+
+both_joined : (l : List PassRecord) (v w : PassRecord) → joined ((l ++ v ∷ []) ++ w ∷ []) ≡ joined (l ++ both v w ∷ [])
+both_joined l v w = λ i. record {
+  state = record {
+    claims = joined_two (λ (u : PassRecord). u.claims) l v w (both v w) refl i;
+    sends = joined_two (λ (u : PassRecord). u.sends) l v w (both v w) refl i;
+  };
+  running = joined_two (λ (u : PassRecord). u.running) l v w (both v w) refl i;
+}
+
+one_joined : (v : PassRecord) → joined (v ∷ []) ≡ moment_of v
+one_joined v = λ i. record {
+  state = record { claims = append-nil v.claims i; sends = append-nil v.sends i };
+  running = append-nil v.running i;
+}
+
+-- some passes that are left, and one that has taken over the others
+pub record IsJoinedSoFar (table : TableId) (ps left : List PassView) (last : PassView) : Type 0 where
+  pub of : last.table ≡ table
+  pub no_shard : last.me.1 ≡ []
+  pub no_turn : (shown last).turns ≡ []
+  pub each : (p : PassView) → IsIn p left → IsPassOf table p
+  pub all : AreAll (shown last ∷ map shown left)
+  pub did : joined (map shown left ++ shown last ∷ []) ≡ joined (map shown ps)
+
+pub has_one_name : (p : PassView) (table : TableId) → IsPassOf table p → HasName (shown p)
+has_one_name p table w = omega (arith, w.clean.one_name)
+
+some_pass : (ps : List PassView) → AreAll (map shown ps) → 0 < length ps
+some_pass [] a = absurd (omega (arith, a.first))
+some_pass (p ∷ ps) a = omega arith
+
+pub passes_some : (table : TableId) (ps : List PassView) → AreAllPasses table ps → 0 < length ps
+passes_some table ps a = some_pass ps a.all
+
+last_first : (l : List PassView) (p : PassView) → HasSameMembers (map shown (l ++ p ∷ [])) (shown p ∷ map shown l)
+last_first l p = λ f. ap (weigh f) (map-append shown l (p ∷ [])) ∙ omega (arith, weigh-append f (map shown l) (shown p ∷ []))
+
+-- the first pass that is taken
+pub joined_first : (table : TableId) (ps left : List PassView) (p : PassView) → ps ≡ left ++ p ∷ [] → AreAllPasses table ps → IsJoinedSoFar table ps left p
+joined_first table ps left p is a =
+    let w = a.each p (subst (IsIn p) (sym is) (IsIn-append_right p left (p ∷ []) (inl refl))) in record {
+      of = w.of;
+      no_shard = w.clean.no_shard;
+      no_turn = w.clean.clean.no_turn;
+      each = λ q i. a.each q (subst (IsIn q) (sym is) (IsIn-append_left q left (p ∷ []) i));
+      all = order_all (map shown (left ++ p ∷ [])) (shown p ∷ map shown left) (last_first left p) (subst (λ l. AreAll (map shown l)) is a.all);
+      did = ap joined (sym (map-append shown left (p ∷ []))) ∙ ap (λ l. joined (map shown l)) (sym is);
+    }
+
+-- one pass more
+pub joined_next : (table : TableId) (ps before left : List PassView) (p last new : PassView) → before ≡ left ++ p ∷ [] → new.table ≡ p.table → new.me ≡ (both (shown p) (shown last), p.me.1) → IsJoinedSoFar table ps before last → IsJoinedSoFar table ps left new
+joined_next table ps before left p last new is of me a =
+    let w = a.each p (subst (IsIn p) (sym is) (IsIn-append_right p left (p ∷ []) (inl refl))) in
+    let now : shown new ≡ both (shown p) (shown last) = ap (λ (m : PassRecord × List (ℕ × Content)). m.0) me in
+    let swap : HasSameMembers (shown last ∷ map shown before) (shown p ∷ shown last ∷ map shown left) =
+    λ f. let e = last_first left p f in let g = ap (λ l. weigh f (map shown l)) is in omega (arith, e, g) in record {
+      of = of ∙ w.of;
+      no_shard = ap (λ (m : PassRecord × List (ℕ × Content)). m.1) me ∙ w.clean.no_shard;
+      no_turn = ap (λ (v : PassRecord). v.turns) now ∙ (ap (λ l. l ++ (shown last).turns) w.clean.clean.no_turn ∙ a.no_turn);
+      each = λ q i. a.each q (subst (IsIn q) (sym is) (IsIn-append_left q left (p ∷ []) i));
+      all = subst (λ v. AreAll (v ∷ map shown left)) (sym now) (join_all (shown p) (shown last) (map shown left) (order_all (shown last ∷ map shown before) (shown p ∷ shown last ∷ map shown left) swap a.all));
+      did = ap (λ v. joined (map shown left ++ v ∷ [])) now
+          ∙ (sym (both_joined (map shown left) (shown p) (shown last))
+          ∙ (ap (λ l. joined (l ++ shown last ∷ [])) (sym (map-append shown left (p ∷ []))) ∙ (ap (λ l. joined (map shown l ++ shown last ∷ [])) (sym is) ∙ a.did)));
+    }
+
+pub joined_all : (table : TableId) (ps left : List PassView) (last : PassView) → left ≡ [] → IsJoinedSoFar table ps left last → IsLastPass table last (joined (map shown ps))
+joined_all table ps left last none a = record {
+  of = a.of;
+  no_shard = a.no_shard;
+  no_turn = a.no_turn;
+  all = subst (λ l. AreAll (shown last ∷ map shown l)) none a.all;
+  did = sym (one_joined (shown last)) ∙ (ap (λ l. joined (map shown l ++ shown last ∷ [])) (sym none) ∙ a.did);
+}
+
+-- the shards of a table that was closed
+same_get : {A : Type 0} (xs : List A) (k : ℕ) (y z : A) → slice_get xs k ≡ Some y → get_elem? xs k ≡ some z → z ≡ y
+same_get [] k y z e h = absurd (some-ne-none z (sym h))
+same_get (x ∷ xs) zero y z e h = let q : x ≡ y = cc in sym (some-injective x z h) ∙ q
+same_get (x ∷ xs) (suc k) y z e h = same_get xs k y z e h
+
+get_below : {A : Type 0} (xs : List A) (k : ℕ) (y : A) → slice_get xs k ≡ Some y → k < length xs
+get_below [] k y e = absurd cc
+get_below (x ∷ xs) zero y e = omega arith
+get_below (x ∷ xs) (suc k) y e = omega (arith, get_below xs k y e)
+
+next_taken : {A : Type 0} (xs : List A) (k : ℕ) (y : A) → get_elem? xs k ≡ some y → take (suc k) xs ≡ take k xs ++ y ∷ []
+next_taken [] k y e = absurd (some-ne-none y (sym e))
+next_taken (x ∷ xs) zero y e = ap (λ z. z ∷ []) (some-injective x y e)
+next_taken (x ∷ xs) (suc k) y e = ap (λ l. x ∷ l) (next_taken xs k y e)
+
+pub take_next : {A : Type 0} (xs : List A) (k : ℕ) (y : A) → get_elem? xs k ≡ some y → take (k + 1) xs ≡ take k xs ++ y ∷ []
+take_next xs k y e = let one : k + 1 ≡ suc k = omega arith in ap (λ n. take n xs) one ∙ next_taken xs k y e
+
+pub closes : (j : Job) (id : ℕ) (v : PassRecord) (ws : List ℕ) (xs ys : List Content) → AreAll (v ∷ []) → v.turns ≡ [] → Final (Seen (Rule j) id v) ws xs → ys ≡ xs → IsClosedAt j (moment_of v) ys
+closes j id v ws xs ys all none f same =
+    let p = alone_parts j f.0 id v f.1.0 f.1.1 all in
+    let count : length ys ≡ j.shards = ap length same ∙ (sym f.3 ∙ p.slots) in record {
+      consistent = p.consistent;
+      count = count;
+      sound = p.sound;
+      finished = p.finished;
+      shares = λ k y e.
+          let e' : slice_get xs k ≡ Some y = subst (λ l. slice_get l k ≡ Some y) same e in
+          let near : k < length xs = get_below xs k y e' in
+          let home = p.at_rest k (omega (arith, f.3)) (alone_free j f.0 id v f.1.0 f.1.1 all none k (omega (arith, f.3, p.slots))) in
+          subst (Share j (moment_of v) k) (same_get xs k y home.0 e' (f.4 k home.0 home.1)) home.2;
+    }
+
+-- a pass that is taken is a clean one
+pub taken_pass : (table : TableId) (ps before left : List PassView) (p last : PassView) → before ≡ left ++ p ∷ [] → IsJoinedSoFar table ps before last → IsPassOf table p
+taken_pass table ps before left p last is a = a.each p (subst (IsIn p) (sym is) (IsIn-append_right p left (p ∷ []) (inl refl)))

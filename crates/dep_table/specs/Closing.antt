@@ -1,0 +1,41 @@
+-- A closed table: no pass shares it any more. Source: this project's own choice.
+use Rattle.std.specs.Prelude.{◌≡◌, ℕ, List, [], ◌∷◌, map, length, slice_get, Some}
+use Rattle.atomic_table.specs.Seated.{TableId}
+use Rattle.ptg_base.specs.Lists.{IsIn}
+use Rattle.dep_iter.specs.Consistent.{IsConsistent}
+use Rattle.dep_shard.specs.Content.{Content}
+use Rattle.flow_meaning.specs.Sound.{IsSoundState}
+use Rattle.shard_meaning.specs.Calm.{AreFinished}
+use Rattle.shard_meaning.specs.Moment.{Moment}
+use Rattle.shard_meaning.specs.Share.{IsShardOf}
+use Rattle.table_rule.specs.declared.job.Job.{Job}
+use Rattle.table_rule.specs.Names.{AreAll}
+use Rattle.table_rule.specs.Placing.{shard_of}
+use Rattle.table_rule.specs.Records.{moment_of}
+use Rattle.dep_table.specs.Passes.{IsPassOf}
+use Rattle.dep_table.specs.Views.{PassView, shown}
+
+-- The shards hold their parts of this moment. It is sound, and each of its claimed tasks still runs, has trapped, or has sent all its items.
+pub record IsClosedAt (j : Job) (R : Moment) (ys : List Content) : Type 0 where
+  pub consistent : IsConsistent j.matched
+  pub count : length ys ≡ j.shards
+  pub sound : IsSoundState j.matched j.given R.state
+  pub finished : AreFinished j.matched j.given R
+  pub shares : (k : ℕ) (y : Content) → slice_get ys k ≡ Some y → IsShardOf j.matched j.given (shard_of j.matched j.shards) k R y
+
+-- there is such a moment
+abbrev pub IsClosed : Job → List Content → Type 0
+IsClosed j ys = (R : Moment) × IsClosedAt j R ys
+
+-- clean passes of one table, and all that it has
+pub record AreAllPasses (table : TableId) (ps : List PassView) : Type 0 where
+  pub each : (p : PassView) → IsIn p ps → IsPassOf table p
+  pub all : AreAll (map shown ps)
+
+-- A pass to which all others were joined: it holds no turn, and what it did is this.
+pub record IsLastPass (table : TableId) (p : PassView) (R : Moment) : Type 0 where
+  pub of : p.table ≡ table
+  pub no_shard : p.me.1 ≡ []
+  pub no_turn : (shown p).turns ≡ []
+  pub all : AreAll (shown p ∷ [])
+  pub did : moment_of (shown p) ≡ R
