@@ -1,11 +1,10 @@
 -- The end of a task on a turn: what allows it, and the pass after it.
-use Rattle.std.proofs.Common.{◌≡◌, ℕ, ◌+◌, ◌-◌, ◌<◌, ◌≤◌, List, [], ◌∷◌, ◌++◌, length, sym, ap, ◌∙◌, subst, refl, arith, inl, inr, None, true}
+use Rattle.std.proofs.Common.{◌≡◌, ℕ, ◌+◌, ◌-◌, ◌<◌, List, [], ◌∷◌, ◌++◌, length, sym, ap, ◌∙◌, subst, refl, arith, inl, inr, None, true}
 use Rattle.atomic_table.specs.Table.{rest}
-use Rattle.ptg_base.specs.Lists.{IsIn}
 use Rattle.ptg_base.specs.Task.{Task}
 use Rattle.ptg_base.specs.TaskComparing.{same_task}
 use Rattle.ptg_base.specs.TaskLaws.{same_task-decides}
-use Rattle.dep_shard.specs.Content.{Content, Ends, IsUnchanged, KeepsEntriesAndWritten, Uses}
+use Rattle.dep_shard.specs.Content.{Content, Ends, KeepsEntriesAndWritten, Uses}
 use Rattle.term_core.specs.declared.trap.Trap.{Trap}
 use Rattle.flow_meaning.specs.Counting.{as_number, weigh}
 use Rattle.flow_meaning.proofs.Counting.{weigh-push}
@@ -13,7 +12,6 @@ use Rattle.shard_meaning.proofs.Holding.{numbers_at_most, some_runs}
 use Rattle.work_board.specs.Records.{IsClean}
 use Rattle.work_board.specs.Sends.{HasEnded, MayEnd, MayTrap}
 use Rattle.work_board.specs.declared.record.PassRecord.{PassRecord}
-use Rattle.table_rule.specs.declared.job.Job.{Job}
 use Rattle.table_rule.specs.Changes.{turn_left, with_own_end, with_turn, without_credit}
 use Rattle.table_rule.specs.Live.{Stamp, own_stamps}
 use Rattle.table_rule.specs.Placing.{shard_of}

@@ -1,5 +1,5 @@
 -- The steps on words other than turns, at the word that a function computed and under the key of its table.
-use Rattle.std.proofs.Common.{◌≡◌, ◌⊎◌, ℕ, ◌+◌, ◌-◌, ◌%◌, ◌^◌, ◌<◌, List, [], ◌∷◌, length, sym, subst, false, Option, None, Some, inl, inr}
+use Rattle.std.proofs.Common.{◌≡◌, ◌⊎◌, ℕ, ◌+◌, ◌-◌, ◌%◌, ◌^◌, ◌<◌, List, [], ◌∷◌, sym, subst, false, Option, None, Some, inl, inr}
 use Rattle.table_rule.proofs.Ending.{ends_by_trap, ends_with_items}
 use Rattle.dep_table.specs.Turns.{EndsAfterItems, EndsByTrap, EndsTask}
 use mathlib.Core.Option.{none}

@@ -1,4 +1,4 @@
-use Rattle.std.proofs.Common.{rules, arith}
+use Rattle.std.proofs.Common.{arith}
 use Rattle.dep_table.proofs.StepsAt.{ends_at}
 use Rattle.dep_table.proofs.table.DepTable.give_end.Goals as goal
 

@@ -1,4 +1,4 @@
-use Rattle.std.proofs.Common.{rules, arith}
+use Rattle.std.proofs.Common.{arith}
 use Rattle.dep_table.proofs.StepsAt.{lowers_at}
 use Rattle.dep_table.proofs.table.DepTable.lower_live.Goals as goal
 

@@ -1,4 +1,4 @@
-use Rattle.std.proofs.Common.{rules, ap, sym, ◌∙◌, refl, subst, IsOk, OnErr, OnOk}
+use Rattle.std.proofs.Common.{ap, sym, ◌∙◌, refl, subst, IsOk, OnErr, OnOk}
 use Rattle.std.proofs.lemmas.Bool.{false≢true}
 use Rattle.atomic_table.specs.Table.{rest}
 use Rattle.dep_shard.specs.Content.{Content}
