@@ -7,3 +7,4 @@ pub mod StepsAt
 pub mod Sums
 pub mod Turns
 pub mod Claiming
+pub mod Ending

@@ -1,9 +1,11 @@
 -- The steps on words other than turns, at the word that a function computed and under the key of its table.
-use Rattle.std.proofs.Common.{◌≡◌, ℕ, ◌+◌, ◌%◌, ◌^◌, ◌<◌, List, [], ◌∷◌, sym, subst, false, Option, None, Some}
+use Rattle.std.proofs.Common.{◌≡◌, ◌⊎◌, ℕ, ◌+◌, ◌-◌, ◌%◌, ◌^◌, ◌<◌, List, [], ◌∷◌, length, sym, subst, false, Option, None, Some, inl, inr}
+use Rattle.table_rule.proofs.Ending.{ends_by_trap, ends_with_items}
+use Rattle.dep_table.specs.Turns.{EndsAfterItems, EndsByTrap, EndsTask}
 use mathlib.Core.Option.{none}
 use Rattle.atomic_table.specs.Table.{Allows, step}
 use Rattle.table_rule.specs.declared.job.Job.{Job}
-use Rattle.table_rule.specs.Plays.{HasName, HasTurn, Seated, drew_stamp, gave_claim, left, raised_halt, read_halt, read_live, took}
+use Rattle.table_rule.specs.Plays.{HasName, HasTurn, Seated, drew_stamp, gave_claim, gave_end, left, lowered_live, raised_halt, read_halt, read_live, took}
 use Rattle.table_rule.specs.Rule.{Rule}
 use Rattle.table_rule.specs.Words.{halt_word, live_word, stamp_word, turn_word}
 use Rattle.dep_shard.specs.Arrivals.{FlowTile}
@@ -14,7 +16,7 @@ use Rattle.table_rule.proofs.Claiming.{claims}
 use Rattle.table_rule.proofs.Stamping.{draws_stamp}
 use Rattle.table_rule.proofs.Giving.{leaves}
 use Rattle.table_rule.proofs.Looking.{reads_halt, takes_turn}
-use Rattle.table_rule.proofs.WordSteps.{raises_halt, reads_live}
+use Rattle.table_rule.proofs.WordSteps.{lowers_live, raises_halt, reads_live}
 
 pub raises_halt_at : (j key : Job) → j ≡ key → (word n id : ℕ) (m : Seated) → word ≡ halt_word j.shards → j.preloaded ≡ false → Allows (Rule key) n id m word (λ _. 1) (λ _. raised_halt (step n word 1 0 none) m 1)
 raises_halt_at j key same word n id m at late = subst (λ (k : Job). Allows (Rule k) n id m word (λ _. 1) (λ _. raised_halt (step n word 1 0 none) m 1)) same (subst (λ (i : ℕ). Allows (Rule j) n id m i (λ _. 1) (λ _. raised_halt (step n i 1 0 none) m 1)) (sym at) (raises_halt j n id m late))
@@ -44,3 +46,13 @@ pub draws_at : (j key : Job) (u t : Task) → j ≡ key → u ≡ t → (word n 
 draws_at j key u t same task word n id m at runs none_yet named = subst (λ (i : Job). Allows (Rule i) n id m word (λ x. (x + 1) % 2 ^ 64) (drew_stamp u (step n word 1 0 none) m)) same
     (subst (λ (x : Task). Allows (Rule j) n id m word (λ x. (x + 1) % 2 ^ 64) (drew_stamp x (step n word 1 0 none) m)) (sym task)
     (subst (λ (i : ℕ). Allows (Rule j) n id m i (λ x. (x + 1) % 2 ^ 64) (drew_stamp t (step n i 1 0 none) m)) (sym at) (draws_stamp j n id m t runs none_yet named)))
+
+pub ends_at : (j key : Job) → j ≡ key → (word n id k : ℕ) (m : Seated) → word ≡ turn_word k → EndsTask j k m → Allows (Rule key) n id m word (λ _. 0) (λ _. gave_end (step n word 0 0 none) m 0)
+ends_at j key same word n id k m at e = subst (λ (i : Job). Allows (Rule i) n id m word (λ _. 0) (λ _. gave_end (step n word 0 0 none) m 0)) same (subst (λ (i : ℕ). Allows (Rule j) n id m i (λ _. 0) (λ _. gave_end (step n i 0 0 none) m 0)) (sym at) (by e.how))
+  where
+    by : EndsAfterItems j k e.task m ⊎ EndsByTrap j k e.task m → Allows (Rule j) n id m (turn_word k) (λ _. 0) (λ _. gave_end (step n (turn_word k) 0 0 none) m 0)
+    by (inl a) = ends_with_items j n id m k e.task a.before a.after a.turn a.may e.at e.stamped a.ends a.kept a.trapped a.spares
+    by (inr b) = ends_by_trap j n id m k e.task b.cause b.before b.after b.turn b.may e.at e.stamped b.ends b.kept b.trapped b.spares
+
+pub lowers_at : (j key : Job) → j ≡ key → (word n id : ℕ) (m : Seated) → word ≡ live_word j.shards → 0 < m.0.credit → HasName m.0 → Allows (Rule key) n id m word (λ x. (x + (2 ^ 64 - 1)) % 2 ^ 64) (lowered_live (step n word 1 0 none) m)
+lowers_at j key same word n id m at credit named = subst (λ (i : Job). Allows (Rule i) n id m word (λ x. (x + (2 ^ 64 - 1)) % 2 ^ 64) (lowered_live (step n word 1 0 none) m)) same (subst (λ (i : ℕ). Allows (Rule j) n id m i (λ x. (x + (2 ^ 64 - 1)) % 2 ^ 64) (lowered_live (step n i 1 0 none) m)) (sym at) (lowers_live j n id m credit named))

@@ -1,11 +1,16 @@
 -- A turn that a pass holds. Source: this project's own choice.
-use Rattle.std.specs.Prelude.{◌≡◌, ℕ, ◌<◌, List, [], ◌∷◌, length, None}
+use Rattle.std.specs.Prelude.{◌++◌, ◌⊎◌, ◌≡◌, ℕ, ◌<◌, List, [], ◌∷◌, length, None}
 use Rattle.ptg_base.specs.Task.{Task}
 use Rattle.dep_shard.specs.Arrivals.{FlowTile}
-use Rattle.dep_shard.specs.Content.{Content, IsUnchanged, Takes, Uses}
+use Rattle.dep_shard.specs.Content.{Content, Ends, IsUnchanged, KeepsEntriesAndWritten, Takes, Uses}
+use Rattle.term_core.specs.declared.trap.Trap.{Trap}
+use Rattle.work_board.specs.Sends.{MayEnd, MayTrap}
 use Rattle.work_board.specs.Looks.{HasStamp}
 use Rattle.work_board.specs.Records.{IsClean}
 use Rattle.work_board.specs.declared.record.PassRecord.{PassRecord}
+use Rattle.table_rule.specs.declared.job.Job.{Job}
+use Rattle.table_rule.specs.Live.{own_stamps}
+use Rattle.table_rule.specs.Placing.{shard_of}
 use Rattle.table_rule.specs.Changes.{with_turn}
 use Rattle.table_rule.specs.Plays.{HasTurn, Seated, WasSeen}
 use Rattle.dep_table.specs.declared.turn.Turn.{Turn}
@@ -40,3 +45,32 @@ pub record Claims (k : ℕ) (t : Task) (tiles : List FlowTile) (m : Seated) : Ty
   pub turn : HasTurn m k before after 0
   pub takes : Takes before after t tiles
   pub spares : Uses before.spare after.spare 0 None 0 0
+
+-- the end of the running task: after all its items, or by a trap with its row
+pub record EndsAfterItems (j : Job) (k : ℕ) (t : Task) (m : Seated) : Type 0 where
+  pub before : Content
+  pub after : Content
+  pub turn : HasTurn m k before after 0
+  pub may : MayEnd j.matched j.given t m.0
+  pub ends : Ends before after
+  pub kept : KeepsEntriesAndWritten before after
+  pub trapped : after.trapped ≡ before.trapped
+  pub spares : Uses before.spare after.spare 0 None 0 0
+
+pub record EndsByTrap (j : Job) (k : ℕ) (t : Task) (m : Seated) : Type 0 where
+  pub before : Content
+  pub after : Content
+  pub cause : Trap
+  pub turn : HasTurn m k before after 0
+  pub may : MayTrap j.matched j.given t cause m.0
+  pub ends : Ends before after
+  pub kept : KeepsEntriesAndWritten before after
+  pub trapped : after.trapped ≡ before.trapped ++ (t, cause) ∷ []
+  pub spares : Uses before.spare after.spare 0 None 0 1
+
+-- a task of the shard ends, which has its stamp
+pub record EndsTask (j : Job) (k : ℕ) (m : Seated) : Type 0 where
+  pub task : Task
+  pub at : shard_of j.matched j.shards task ≡ k
+  pub stamped : 0 < own_stamps m.0 task
+  pub how : EndsAfterItems j k task m ⊎ EndsByTrap j k task m

@@ -1,11 +1,13 @@
 //! A turn that was taken: the one pass that holds it may read and write its shard.
 
-ghost use Rattle.std.specs.Prelude.{◌≡◌, ◌<◌, IfErr, IfNone, IfSome, IfOk, true, []};
+ghost use Rattle.std.specs.Prelude.{IsOk, OnErr, OnOk, ◌≡◌, ◌<◌, IfErr, IfNone, IfSome, IfOk, true, []};
 ghost use Rattle.dep_shard.specs.Content.{Content, HasNoReady, IsBest};
 ghost use Rattle.work_board.specs.Claims.{FoundGone, HasClaimed};
 ghost use Rattle.work_board.specs.Records.{FoundBusy, OnlyTook};
 ghost use Rattle.work_board.specs.Word as word;
 ghost use Rattle.work_board.specs.declared.record.PassRecord.{PassRecord};
+ghost use Rattle.work_board.specs.Sends.{HasEnded, MayEnd, MayTrap};
+ghost use Rattle.table_rule.specs.Placing as placing;
 ghost use Rattle.dep_table.specs.Passes.{IsPassOf};
 ghost use Rattle.dep_table.specs.Tables.{id_of, job_of};
 ghost use Rattle.dep_table.specs.Turns.{IsTurn, IsTurnOf};
@@ -15,7 +17,8 @@ use crate::pass::Pass;
 use crate::table::DepTable;
 use crate::turn_steps::take_ready;
 use dep_shard::Arrivals;
-use ptg_base::TaskId;
+use ptg_base::{OutOfMemory, TaskId};
+use term_core::Trap;
 
 /// The turn of a shard, with the pass that took it. It has no `Drop`: one of the calls that take it gives the turn back.
 pub struct Turn<'a> {
@@ -83,6 +86,52 @@ impl<'a> Turn<'a> {
             None => {
                 table.give(&mut pass.seat, shard);
                 None
+            }
+        }
+    }
+}
+
+impl<'a> Turn<'a> {
+    /// Ends the running task, all of whose items the pass has sent, and gives the turn back.
+    pub fn end(self, t: &TaskId)
+        requires turn { IsTurn self }
+        requires task { MayEnd (job_of self.table.now).matched (job_of self.table.now).given t.now (shown self.pass.now) }
+        requires shard { placing.shard_of (job_of self.table.now).matched (job_of self.table.now).shards t.now ≡ self.shard }
+        ensures pass { IsPassOf (id_of self.entry.table.now) self.exit.1.0.now }
+        ensures ended { (v : PassRecord) (y z : Content) → IsTurnOf self.entry v y z → HasEnded self.entry.shard v (shown self.exit.1.0.now) }
+    {
+        let _task = t;
+        let Turn { table, pass, shard } = self;
+        let desk = pass.seat.slot_mut(&table.table.shared, shard as usize);
+        desk.end();
+        table.give_end(&mut pass.seat, shard);
+        table.lower_live(&mut pass.seat);
+    }
+}
+
+impl<'a> Turn<'a> {
+    /// Notes that the running task trapped with this cause, which ends it, and gives the turn back. Without memory it gives the turn
+    /// back, and nothing else; a preloaded table has the memory.
+    pub fn trap(self, t: &TaskId, cause: Trap) -> Result<(), OutOfMemory>
+        requires turn { IsTurn self }
+        requires task { MayTrap (job_of self.table.now).matched (job_of self.table.now).given t.now cause (shown self.pass.now) }
+        requires shard { placing.shard_of (job_of self.table.now).matched (job_of self.table.now).shards t.now ≡ self.shard }
+        ensures pass { IsPassOf (id_of self.entry.table.now) self.exit.1.0.now }
+        ensures ended { OnOk result ((v : PassRecord) (y z : Content) → IsTurnOf self.entry v y z → HasEnded self.entry.shard v (shown self.exit.1.0.now)) }
+        ensures left { OnErr result ((v : PassRecord) (y z : Content) → IsTurnOf self.entry v y z → OnlyTook self.entry.shard v (shown self.exit.1.0.now)) }
+        ensures preloaded { (job_of self.entry.table.now).preloaded ≡ true → IsOk result }
+    {
+        let Turn { table, pass, shard } = self;
+        let desk = pass.seat.slot_mut(&table.table.shared, shard as usize);
+        match desk.trap(t, cause) {
+            Ok(()) => {
+                table.give_end(&mut pass.seat, shard);
+                table.lower_live(&mut pass.seat);
+                Ok(())
+            }
+            Err(OutOfMemory) => {
+                table.give(&mut pass.seat, shard);
+                Err(OutOfMemory)
             }
         }
     }

@@ -3,20 +3,20 @@
 ghost use Rattle.std.specs.Prelude.{[], IfNone, IfSome, None, ◌≡◌, ◌≢◌, ◌<◌, ◌∷◌, Some};
 ghost use Rattle.atomic_table.specs.Table.{rest};
 ghost use Rattle.dep_shard.specs.Content.{Content, Entry, Takes, Uses, entry_of};
-ghost use Rattle.table_rule.specs.Changes.{turn_left, with_look, with_own_claim, with_stamp, with_turn};
+ghost use Rattle.table_rule.specs.Changes.{turn_left, with_look, with_own_claim, with_own_end, with_stamp, with_turn, without_credit};
 ghost use Rattle.table_rule.specs.Live.{own_stamps};
 ghost use Rattle.table_rule.specs.Plays.{HasName, WasSeen};
 ghost use Rattle.work_board.specs.Claims.{HasNoReadyOf, MayStart};
 ghost use Rattle.work_board.specs.Word as word;
-ghost use Rattle.dep_table.specs.Turns.{Claims, Leaves};
+ghost use Rattle.dep_table.specs.Turns.{Claims, EndsTask, Leaves};
 
 use crate::pass::Seat;
 use crate::table::DepTable;
-use crate::words::{stamp_index, turn_index};
+use crate::words::{live_index, stamp_index, turn_index};
 use dep_shard::{Arrivals, Shard};
 use ptg_base::TaskId;
 use std::marker::Brand;
-use table_rule::law::{Claim, DrawStamp, Event, Leave, Take};
+use table_rule::law::{Claim, DrawStamp, End, Event, Leave, LowerLive, Take};
 
 impl DepTable {
     fn take_of<E: Event>(&self, seat: &mut Seat, shard: u32) -> u64
@@ -123,5 +123,31 @@ impl DepTable {
         ensures me { seat.new.me ≡ (with_stamp seat.old.me.0 t.now result, seat.old.me.1) }
     {
         self.draw_stamp_of::<Brand>(seat, t)
+    }
+}
+
+impl DepTable {
+    // Gives a turn back with the end of the running task, which makes a credit.
+    pub(crate) fn give_end(&self, seat: &mut Seat, shard: u32)
+        requires of { seat.old.table_id ≡ self.now.table.shared.table_id }
+        requires within { shard < self.now.job.shards }
+        requires ends { EndsTask self.now.job shard seat.old.me }
+        ensures of { seat.new.table_id ≡ seat.old.table_id }
+        ensures me { seat.new.me ≡ (turn_left (with_own_end seat.old.me.0), rest seat.old.me.1) }
+    {
+        let word = turn_index(shard);
+        self.table.shared.store::<End>(seat, word, 0);
+    }
+
+    // Lowers the live word by a credit of the pass.
+    pub(crate) fn lower_live(&self, seat: &mut Seat)
+        requires of { seat.old.table_id ≡ self.now.table.shared.table_id }
+        requires credit { 0 < seat.old.me.0.credit }
+        requires named { HasName seat.old.me.0 }
+        ensures of { seat.new.table_id ≡ seat.old.table_id }
+        ensures me { seat.new.me ≡ (without_credit seat.old.me.0, seat.old.me.1) }
+    {
+        let word = live_index(self.job.shards);
+        let _found = self.table.shared.fetch_sub::<LowerLive>(seat, word, 1);
     }
 }
