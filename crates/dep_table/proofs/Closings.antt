@@ -129,6 +129,7 @@ closes j id v ws xs ys all none f same =
     let p = alone_parts j f.0 id v f.1.0 f.1.1 all in
     let count : length ys ≡ j.shards = ap length same ∙ (sym f.3 ∙ p.slots) in record {
       consistent = p.consistent;
+      some_shards = p.some_shards;
       count = count;
       sound = p.sound;
       finished = p.finished;

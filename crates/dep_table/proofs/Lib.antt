@@ -1,3 +1,4 @@
+pub mod Quiets
 pub mod OpeningSteps
 pub mod Opened
 pub mod Closings

@@ -1,11 +1,11 @@
 -- A closed table: no pass shares it any more. Source: this project's own choice.
-use Rattle.std.specs.Prelude.{◌≡◌, ℕ, List, [], ◌∷◌, map, length, slice_get, Some}
+use Rattle.std.specs.Prelude.{◌<◌, ◌≡◌, ℕ, List, [], ◌∷◌, map, length, slice_get, Some}
 use Rattle.atomic_table.specs.Seated.{TableId}
 use Rattle.ptg_base.specs.Lists.{IsIn}
 use Rattle.dep_iter.specs.Consistent.{IsConsistent}
 use Rattle.dep_shard.specs.Content.{Content}
 use Rattle.flow_meaning.specs.Sound.{IsSoundState}
-use Rattle.shard_meaning.specs.Calm.{AreFinished}
+use Rattle.shard_meaning.specs.Calm.{AreFinished, HasNoWork}
 use Rattle.shard_meaning.specs.Moment.{Moment}
 use Rattle.shard_meaning.specs.Share.{IsShardOf}
 use Rattle.table_rule.specs.declared.job.Job.{Job}
@@ -18,6 +18,7 @@ use Rattle.dep_table.specs.Views.{PassView, shown}
 -- The shards hold their parts of this moment. It is sound, and each of its claimed tasks still runs, has trapped, or has sent all its items.
 pub record IsClosedAt (j : Job) (R : Moment) (ys : List Content) : Type 0 where
   pub consistent : IsConsistent j.matched
+  pub some_shards : 0 < j.shards
   pub count : length ys ≡ j.shards
   pub sound : IsSoundState j.matched j.given R.state
   pub finished : AreFinished j.matched j.given R
@@ -39,3 +40,7 @@ pub record IsLastPass (table : TableId) (p : PassView) (R : Moment) : Type 0 whe
   pub no_turn : (shown p).turns ≡ []
   pub all : AreAll (shown p ∷ [])
   pub did : moment_of (shown p) ≡ R
+
+-- no shard has work
+abbrev pub HaveNoWork : List Content → Type 0
+HaveNoWork ys = (k : ℕ) (y : Content) → slice_get ys k ≡ Some y → HasNoWork y

@@ -4,3 +4,4 @@ pub mod Tables
 pub mod Turns
 pub mod Opened
 pub mod Closing
+pub mod ClosedTables

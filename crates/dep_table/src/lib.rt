@@ -5,6 +5,7 @@ mod calls;
 pub mod closed;
 mod opening;
 pub mod pass;
+pub mod quiet;
 mod steps;
 pub mod table;
 pub mod turn;
