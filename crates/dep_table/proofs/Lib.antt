@@ -7,6 +7,4 @@ pub mod StepsAt
 pub mod Sums
 pub mod Turns
 pub mod Claiming
-pub mod OpeningSteps
-pub mod Opened
 pub mod Ending

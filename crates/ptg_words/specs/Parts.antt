@@ -92,11 +92,11 @@ at_end (Some s) = lacking s ∷ []
 
 -- the parts of words; the first one may follow `--NAME` of an option with a number
 unfoldable pub parts_from : Options → Option NumberOption → List (List ℕ) → List Part
-parts_from options due [] = at_end due
-parts_from options due (word ∷ words) = after due (form_of options word) word (λ next. parts_from options next words)
+parts_from offered due [] = at_end due
+parts_from offered due (word ∷ words) = after due (form_of offered word) word (λ next. parts_from offered next words)
 
 abbrev pub parts : Options → List (List ℕ) → List Part
-parts options words = parts_from options None words
+parts offered words = parts_from offered None words
 
 -- the operands, in their order
 abbrev pub operands : List Part → List (List ℕ)
