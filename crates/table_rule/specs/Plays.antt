@@ -33,14 +33,14 @@ pub record HasTurn (m : Seated) (k : ℕ) (y₀ y : Content) (credits : ℕ) : T
   pub named : HasName m.0
   pub credit : m.0.credit ≡ credits
 
--- the table met its rule, with this record of a pass
+-- a table that meets the rule has this record of a pass. No clause can name the table at the step itself
 pub record WasPass (j : Job) (v : PassRecord) : Type 0 where
   pub table : Table
   pub rule : Rule j table
   pub id : ℕ
   pub mine : get_elem? table.views id ≡ some v
 
--- the table met its rule, with this record of a pass and with this content of the shard k, which was at rest
+-- a table that meets the rule has this record of a pass, and this content of the shard k, which is at rest
 pub record WasSeen (j : Job) (k : ℕ) (v : PassRecord) (y : Content) : Type 0 where
   pub table : Table
   pub rule : Rule j table

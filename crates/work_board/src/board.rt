@@ -115,13 +115,13 @@ pub trait Board: Sync {
         ensures err { OnErr result (OnlyTook (placement self.now t.now) (shown pass.old) (shown pass.new)) }
         ensures preloaded { preloaded self.now ≡ true → IsOk result };
 
-    /// Whether no task is ready or running. False only where the live word was not 0.
+    /// Looks at the live word. True exactly where it was 0: then the pass has seen quiet.
     fn see_quiet(&self, pass: &mut Self::Pass) -> bool
         requires { is_pass self.now pass.old }
         ensures pass { is_pass self.now pass.new }
         ensures quiet { QuietIf result (shown pass.old) (shown pass.new) };
 
-    /// Raises the halt word, so that all workers stop. A preloaded board is never halted.
+    /// Raises the halt word. A preloaded board is never halted.
     fn halt(&self, pass: &mut Self::Pass)
         requires pass { is_pass self.now pass.old }
         requires not_preloaded { preloaded self.now ≡ false }

@@ -12,7 +12,7 @@ pub trait Gate: Sync {
     ghost use Rattle.std.specs.Prelude.{ℕ};
     ghost use Rattle.ptg_base.specs.Task.{Task};
 
-    /// The gate has let this worker run this task. A worker knows it of no other call, so it runs no body before.
+    /// The gate has let this worker run this task. A worker knows it of no other call.
     ghost lets: { Self → ℕ → Task → Type 0 } = { λ _ _ _. Unit {0} };
 
     /// Comes before the body of a task is run by a worker.

@@ -117,8 +117,8 @@ fn work_with<R: Threads + Wait + Sync, B: Board, G: Gate, L: Log>(
 }
 
 /// Works at a board until all is quiet: takes the next ready task, of its own, of another worker or of a shard, runs it after the
-/// gate, and sends each of its items once, or notes its trap. Ok only where the pass has seen quiet and runs nothing. Want of
-/// memory only where a call answered it or the board is halted, which it is then; never at a preloaded board. It may wait.
+/// gate, and sends its items, or notes its trap. Ok only where the pass has seen quiet and runs nothing. With want of memory the
+/// board is halted; at a preloaded board it does not come. It may wait.
 pub fn work<R: Threads + Wait + Sync, B: Board, G: Gate>(
     rt: &R,
     worker: u32,
