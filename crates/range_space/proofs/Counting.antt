@@ -1,10 +1,12 @@
 -- How counts go on from one part of a walk to the next.
-use Rattle.std.proofs.Common.{◌≡◌, ℕ, suc, ◌+◌, ◌≤◌, ℤ, List, [], ◌∷◌, ◌++◌, length, refl, ap, sym, ◌∙◌, append_assoc, add-zero, Result, Ok, Err, length-append, arith}
+use Rattle.std.proofs.Common.{◌≡◌, ℕ, suc, ◌+◌, ◌<◌, ◌≤◌, ◌⊎◌, inl, inr, ℤ, List, [], ◌∷◌, ◌++◌, length, refl, ap, sym, ◌∙◌, append_assoc, add-zero, Result, Ok, Err, length-append, arith}
 use Rattle.std.proofs.lemmas.List.{append-nil, length-map}
+use Rattle.std.proofs.lemmas.Bool.{cases_lt}
 use Rattle.term_core.specs.declared.space.Def.{Def}
 use Rattle.term_core.specs.declared.space.ClassSpace.{ClassSpace}
 use Rattle.range_space.specs.declared.fault.SpanFault.{SpanFault}
 use Rattle.range_space.specs.declared.fault.SpaceFault.{SpaceFault}
+use Rattle.range_space.specs.declared.fault.SpaceFault.TheVariants.{TooManyTasks}
 use Rattle.range_space.specs.Values.{values}
 use Rattle.range_space.specs.Fault.{Bounds}
 use Rattle.range_space.specs.Tasks.{full_lists, def_values, or_empty, params_of}
@@ -155,3 +157,53 @@ module _ (t p t' p' class : ℕ) (ds : List Def) (outer all left : List ℤ) (v 
 
 pub walked_whole : (t p t' p' class : ℕ) (ds : List Def) (outer all : List ℤ) → IsSoFar t p t' p' class ds outer all [] → IsWalked t p t' p' (walk_among class ds outer all)
 walked_whole t p t' p' class ds outer all w = rw (w.split ∙ append-nil w.done) w.walked
+
+-- under the last definition of a class the walk visits a prefix and a task for each value
+all_values : (class : ℕ) (vs : List ℤ) → AllHaveValues (walk_among class [] [] vs)
+all_values class [] = tt
+all_values class (v ∷ vs) = all_values class vs
+
+tasks_of_values : (class : ℕ) (vs : List ℤ) → task_count (walk_among class [] [] vs) ≡ length vs
+tasks_of_values class [] = refl
+tasks_of_values class (v ∷ vs) = ap suc (tasks_of_values class vs)
+
+prefixes_of_values : (class : ℕ) (vs : List ℤ) → prefix_count (walk_among class [] [] vs) ≡ length vs
+prefixes_of_values class [] = refl
+prefixes_of_values class (v ∷ vs) = ap suc (prefixes_of_values class vs)
+
+pub values_counted : (t p t' p' class : ℕ) (vs : List ℤ) → t' ≡ t + length vs → p' ≡ p + length vs → t' ≤ 1000000 → p' ≤ 16000000 → IsWalked t p t' p' (walk_among class [] [] vs)
+values_counted t p t' p' class vs d e h k =
+    let f = tasks_of_values class vs in
+    let g = prefixes_of_values class vs in
+    record {
+      unstopped = record { all_have_values = all_values class vs; tasks_at_most = omega arith; prefixes_at_most = omega arith };
+      all_tasks = omega arith;
+      all_prefixes = omega arith;
+    }
+
+one_value : (t p class : ℕ) → t < 1000000 → p < 16000000 → IsWalked t p (suc t) (suc p) (Prefix class ∷ Task class ∷ [])
+one_value t p class h k = record {
+  unstopped = record { all_have_values = tt; tasks_at_most = omega arith; prefixes_at_most = omega arith };
+  all_tasks = omega arith;
+  all_prefixes = omega arith;
+}
+
+one_prefix : (t p class : ℕ) → t ≤ 1000000 → p < 16000000 → IsWalked t p t (suc p) (Prefix class ∷ [])
+one_prefix t p class h k = record {
+  unstopped = record { all_have_values = tt; tasks_at_most = omega arith; prefixes_at_most = omega arith };
+  all_tasks = omega arith;
+  all_prefixes = omega arith;
+}
+
+-- more values than there is room for: the first prefix or task without room stops the walk
+pub values_refused : (t p class : ℕ) (vs : List ℤ) → t ≤ 1000000 → p ≤ 16000000 → (1000000 < t + length vs) ⊎ (16000000 < p + length vs) → IsFirstFault t p (walk_among class [] [] vs) (TooManyTasks class)
+values_refused t p class [] h k more = absurd (elim more [ inl a ↦ omega arith | inr b ↦ omega arith ])
+values_refused t p class (v ∷ vs) h k more = elim (cases_lt p 16000000) [
+  | inr full ↦ fault_before t p (Prefix class ∷ []) (Task class ∷ walk_among class [] [] vs) _ (stops_at_once t p (Prefix class) _ h k (omega arith, refl))
+  | inl q ↦ elim (cases_lt t 1000000) [
+    | inr full ↦ fault_after t p t (suc p) (Prefix class ∷ []) (Task class ∷ walk_among class [] [] vs) _ (one_prefix t p class h q)
+        (fault_before t (suc p) (Task class ∷ []) (walk_among class [] [] vs) _ (stops_at_once t (suc p) (Task class) _ h q (omega arith, refl)))
+    | inl r ↦ fault_after t p (suc t) (suc p) (Prefix class ∷ Task class ∷ []) (walk_among class [] [] vs) _ (one_value t p class r q)
+        (values_refused (suc t) (suc p) class vs r q (elim more [ inl a ↦ inl (omega arith) | inr b ↦ inr (omega arith) ]))
+  ]
+]

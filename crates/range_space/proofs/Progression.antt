@@ -1,5 +1,5 @@
 -- The value of a range at an index.
-use Rattle.std.proofs.Common.{◌≡◌, ℕ, zero, suc, ℤ, ◌+ℤ◌, true, false, [], ◌∷◌, Option, Some, None, slice_get, refl}
+use Rattle.std.proofs.Common.{◌≡◌, ℕ, zero, suc, ℤ, ◌+ℤ◌, false, [], Some, None, slice_get, refl}
 use Rattle.std.specs.Prelude.{if◌then◌else◌}
 use Rattle.range_space.specs.Values.{is_within, values, steps_from}
 use Rattle.range_space.proofs.Stepping.{by_test, values_in, values_past}

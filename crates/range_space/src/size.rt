@@ -51,6 +51,21 @@ fn count_prefix(class: u32, counts: &mut Counts) -> Result<(), SpaceFault>
     Ok(())
 }
 
+// Counts a prefix and a task of this class for each value of its last definition, or refuses the first one too many.
+fn count_last(class: u32, steps: &Steps, counts: &mut Counts) -> Result<(), SpaceFault>
+    ensures ok { OnOk result (IsWalked counts.old.tasks counts.old.prefixes counts.new.tasks counts.new.prefixes (walk_among class [] [] (values steps.now.lo steps.now.hi steps.now.step))) }
+    ensures fault { IfErr result (IsFirstFault counts.old.tasks counts.old.prefixes (walk_among class [] [] (values steps.now.lo steps.now.hi steps.now.step))) }
+{
+    let count = steps.count();
+    let room = (MOST_TASKS - counts.tasks).min(MOST_PREFIXES - counts.prefixes);
+    if count > u128::from(room) {
+        return Err(SpaceFault::TooManyTasks(class));
+    }
+    counts.tasks += count as u64;
+    counts.prefixes += count as u64;
+    Ok(())
+}
+
 // Counts what the walk visits from these outer values on.
 #[cycle(counting)]
 fn count_from(
@@ -68,6 +83,7 @@ fn count_from(
         return count_task(class, counts);
     };
     match def_steps(def, outer.as_slice()) {
+        Ok(steps) if inner.is_empty() => count_last(class, &steps, counts),
         Ok(steps) => count_among(class, &steps, inner, outer, counts),
         Err(_) => Err(SpaceFault::BadExpr(class, outer.copy())),
     }
@@ -111,7 +127,7 @@ fn count_all(class: u32, spaces: &[ClassSpace], counts: &mut Counts) -> Result<(
     count_all(class + 1, others, counts)
 }
 
-/// How many tasks the classes have, or the first fault in walk order. Visits every prefix.
+/// How many tasks the classes have, or the first fault in walk order. The values of a last definition are counted at once.
 pub fn space_size(spaces: &[ClassSpace]) -> Result<u64, SpaceFault>
     requires classes { length spaces.now ≤ 64 }
     requires defs_at_most { All (λ s. length s.defs ≤ 16) spaces.now }

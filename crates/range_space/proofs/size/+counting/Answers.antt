@@ -1,5 +1,7 @@
-use Rattle.std.proofs.Common.{◌≡◌, ◌∷◌, ◌++◌, [], rules, refl, ap, ◌∙◌, FitsSigned, w64}
+use Rattle.std.proofs.Common.{◌≡◌, ◌∷◌, ◌++◌, [], rules, refl, ap, ◌∙◌, arith, FitsSigned, w64}
 use Rattle.std.proofs.lemmas.Int.{to_z-of_z}
+use Rattle.std.proofs.lemmas.List.{nil_from_length}
+use Rattle.std.proofs.lemmas.Bool.Decides.{nat_tests}
 use Rattle.std.proofs.lemmas.Result.{err_from_is_err_and}
 use Rattle.range_space.proofs.Nesting.{popped}
 use Rattle.range_space.proofs.Counting.{walk-bounds, walk-fault, stops_at_once, fault_at_prefix, fault_inside, one_more}
@@ -14,11 +16,23 @@ count_from-returns-in-Err-clause-fault t c =
 pub count_from-returns-in-Ok-clause-ok : goal.count_from-returns-in-Ok-clause-ok
 count_from-returns-in-Ok-clause-ok t c =
     let b = rw c.as_slice.ensures.same at c.in-Ok.ensures.steps in
-    rw (c.in-Some.ensures.cases.0, walk-bounds c.args.class c.in-Some.def.now c.in-Some.inner.now c.args.outer.now _ b) c.count_among.ensures.ok
+    let last : c.in-Some.inner.now ≡ [] = nil_from_length _ (grind (arith, nat_tests)) in
+    rw (c.in-Some.ensures.cases.0, walk-bounds c.args.class c.in-Some.def.now c.in-Some.inner.now c.args.outer.now _ b, last) c.count_last.ensures.ok
 
 pub count_from-returns-in-Ok-clause-fault : goal.count_from-returns-in-Ok-clause-fault
 count_from-returns-in-Ok-clause-fault t c =
     let b = rw c.as_slice.ensures.same at c.in-Ok.ensures.steps in
+    let last : c.in-Some.inner.now ≡ [] = nil_from_length _ (grind (arith, nat_tests)) in
+    rw (c.in-Some.ensures.cases.0, walk-bounds c.args.class c.in-Some.def.now c.in-Some.inner.now c.args.outer.now _ b, last) c.count_last.ensures.fault
+
+pub count_from-returns-in-Ok-2-clause-ok : goal.count_from-returns-in-Ok-2-clause-ok
+count_from-returns-in-Ok-2-clause-ok t c =
+    let b = rw c.as_slice.ensures.same at c.in-Ok-2.ensures.steps in
+    rw (c.in-Some.ensures.cases.0, walk-bounds c.args.class c.in-Some.def.now c.in-Some.inner.now c.args.outer.now _ b) c.count_among.ensures.ok
+
+pub count_from-returns-in-Ok-2-clause-fault : goal.count_from-returns-in-Ok-2-clause-fault
+count_from-returns-in-Ok-2-clause-fault t c =
+    let b = rw c.as_slice.ensures.same at c.in-Ok-2.ensures.steps in
     rw (c.in-Some.ensures.cases.0, walk-bounds c.args.class c.in-Some.def.now c.in-Some.inner.now c.args.outer.now _ b) c.count_among.ensures.fault
 
 pub count_among-returns-in_err-count_prefix-clause-fault : goal.count_among-returns-in_err-count_prefix-clause-fault
