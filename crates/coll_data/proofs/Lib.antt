@@ -2,3 +2,4 @@ pub mod Lists
 pub mod TileIndex
 pub mod Found
 pub mod Replaced
+pub mod ElementSums

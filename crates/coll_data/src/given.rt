@@ -4,9 +4,11 @@ ghost use Rattle.std.specs.Prelude.{◌≡◌, ◌≤◌, ◌↔◌, Some, IsTru
 ghost use Rattle.coll_data.specs.Data.{Data};
 ghost use Rattle.coll_data.specs.Tiles.{tile_at, HasPlace};
 ghost use Rattle.coll_data.specs.Replacing.{with_tile_at};
+ghost use Rattle.coll_data.specs.Sums.{all_elements, sum_of};
 ghost use Rattle.coll_data.specs.WellMade.{is_element_count, elements_by_type, IsTileOf, IsWellMade};
 
 use crate::coll::Coll;
+use crate::sums::element_sum;
 use ptg_base::{Place, Seq, Text, Tile};
 use std::marker::Model;
 
@@ -87,6 +89,13 @@ impl Given {
         ensures well_made { IsWellMade self.now }
     {
         self.colls.as_slice()
+    }
+
+    /// The sum of all elements of all collections, exactly. It takes no memory.
+    pub fn element_sum(&self) -> i128
+        ensures { result ≡ sum_of (all_elements self.now.colls) }
+    {
+        element_sum(self.colls.as_slice())
     }
 
     /// The number of records that were read.

@@ -5,6 +5,7 @@ mod coll;
 mod fault;
 mod given;
 mod index;
+mod sums;
 
 pub use coll::Coll;
 pub use fault::{DataCode, DataFault, DataRefusal};
