@@ -3,9 +3,12 @@
 
 mod calls;
 pub mod closed;
+mod delivery;
 mod opening;
 pub mod pass;
 pub mod quiet;
+mod send_steps;
+mod sending;
 mod steps;
 pub mod table;
 pub mod turn;
