@@ -8,6 +8,6 @@ pub mod Sums
 pub mod Turns
 pub mod Claiming
 pub mod Ending
-pub mod Delivery
-pub mod Sending
+pub mod Delivered
+pub mod SendingTurn
 pub mod SendingAt

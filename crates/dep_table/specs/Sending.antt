@@ -45,24 +45,24 @@ pub record MayTakeWrite (P : Plan) (w : WriteBack) (tile : Option (List ℤ)) (y
   pub fits : IfSome tile (IsTileOf y.elems flow.datatype)
 
 -- what an item needs
-abbrev pub MayTake : Plan → Item → Option (List ℤ) → Content → Type 0
-MayTake P (item.Edge e) tile y = MayTakeEdge P e tile y
-MayTake P (item.Write w) tile y = MayTakeWrite P w tile y
+abbrev pub MayTakeItem : Plan → Item → Option (List ℤ) → Content → Type 0
+MayTakeItem P (item.Edge e) tile y = MayTakeEdge P e tile y
+MayTakeItem P (item.Write w) tile y = MayTakeWrite P w tile y
 
 -- the shard has spares for the edge: an entry if its target has none, and a tile of the flow's type if it carries one
 pub record HasSpareForEdge (P : Plan) (e : Edge) (tile : Option (List ℤ)) (y : Content) : Type 0 where
   pub entry : entry_of y e.to ≡ None → 0 < y.spare.entries
-  pub tile : (datatype : ℕ) → IsTrue (has_type datatype (flow_of P.classes e.to.class e.in_flow)) → IsSome tile → 0 < slice_index y.spare.tiles datatype
+  pub tiles : (datatype : ℕ) → IsTrue (has_type datatype (flow_of P.classes e.to.class e.in_flow)) → IsSome tile → 0 < slice_index y.spare.tiles datatype
 
 -- the shard has spares for the write-back: a place, and a tile of the flow's type
 pub record HasSpareForWrite (P : Plan) (w : WriteBack) (y : Content) : Type 0 where
   pub place : 0 < y.spare.writes
-  pub tile : (datatype : ℕ) → IsTrue (has_type datatype (flow_of P.classes w.from.class w.flow)) → 0 < slice_index y.spare.tiles datatype
+  pub tiles : (datatype : ℕ) → IsTrue (has_type datatype (flow_of P.classes w.from.class w.flow)) → 0 < slice_index y.spare.tiles datatype
 
 -- the spares for an item
-abbrev pub HasSpareFor : Plan → Item → Option (List ℤ) → Content → Type 0
-HasSpareFor P (item.Edge e) tile y = HasSpareForEdge P e tile y
-HasSpareFor P (item.Write w) tile y = HasSpareForWrite P w y
+abbrev pub HasSpareForItem : Plan → Item → Option (List ℤ) → Content → Type 0
+HasSpareForItem P (item.Edge e) tile y = HasSpareForEdge P e tile y
+HasSpareForItem P (item.Write w) tile y = HasSpareForWrite P w y
 
 -- the edge has come to its target's entry, with its tile. It used at most a spare entry if the target had none, and a spare tile of the flow's type if it carries one
 pub record TakesEdge (P : Plan) (e : Edge) (tile : Option (List ℤ)) (old new : Content) : Type 0 where
@@ -83,9 +83,9 @@ pub record TakesWrite (P : Plan) (w : WriteBack) (tile : Option (List ℤ)) (old
   pub uses : Uses old.spare new.spare 0 (Some datatype) 1 0
 
 -- what an item changes
-abbrev pub Takes : Plan → Item → Option (List ℤ) → Content → Content → Type 0
-Takes P (item.Edge e) tile old new = TakesEdge P e tile old new
-Takes P (item.Write w) tile old new = TakesWrite P w tile old new
+abbrev pub TakesItem : Plan → Item → Option (List ℤ) → Content → Content → Type 0
+TakesItem P (item.Edge e) tile old new = TakesEdge P e tile old new
+TakesItem P (item.Write w) tile old new = TakesWrite P w tile old new
 
 -- what a send answers where this has become of the target
 abbrev pub answer_of : Arrived → Sent
@@ -115,4 +115,4 @@ pub record SendsItem (j : Job) (k : ℕ) (i : Item) (tile : Option (List ℤ)) (
   pub next : IsNext j.matched j.given i tile m.0
   pub at : shard_of_item (shard_of j.matched j.shards) i ≡ k
   pub stamped : 0 < own_stamps m.0 (sender i)
-  pub takes : Takes j.matched i tile before after
+  pub takes : TakesItem j.matched i tile before after

@@ -12,7 +12,7 @@ ghost use Rattle.dep_shard.specs.declared.shard.Arrived.TheVariants.{Fired};
 ghost use Rattle.dep_shard.specs.Content.{IsReady, IsTileOf, IsUnchanged, IsWaiting, KeepsAllButEntries, Updates, Uses, entry_before, entry_of, with_arrival};
 ghost use Rattle.work_board.specs.Sends.{AnswersFor};
 ghost use Rattle.dep_table.specs.Sending as sending;
-ghost use Rattle.dep_table.specs.Sending.{HasSpareFor, HasSpareForEdge, HasSpareForWrite, MayTake, MayTakeEdge, MayTakeWrite, Takes, TakesEdge, TakesWrite};
+ghost use Rattle.dep_table.specs.Sending.{HasSpareForItem, HasSpareForEdge, HasSpareForWrite, MayTakeItem, MayTakeEdge, MayTakeWrite, TakesItem, TakesEdge, TakesWrite};
 
 use dep_iter::{Matched, flows_of, locals_of, priority_under};
 use dep_shard::{Arrived, Shard};
@@ -26,7 +26,8 @@ fn type_of_flow(m: &Matched, t: &TaskId, flow: u8) -> u32
     requires flow { IsSome (flow_of m.now.classes t.now.class flow) }
     ensures { (f : FlowPlanValue) → flow_of m.now.classes t.now.class flow ≡ Some f → result ≡ f.datatype }
 {
-    flows_of(m.plan(), t)[flow as usize].datatype
+    let flows = flows_of(m.plan(), t);
+    flows[flow as usize].datatype
 }
 
 // The first edge comes to a task. Only here are its goal and its priority computed.
@@ -138,12 +139,12 @@ pub(crate) fn take_item(
     item: &Item,
     tile: Option<&Tile>,
 ) -> Result<Sent, OutOfMemory>
-    requires { MayTake m.now item.now (option_copied tile) desk.old }
-    ensures takes { OnOk result (Takes m.now item.now (option_copied tile.entry) desk.old desk.new) }
+    requires { MayTakeItem m.now item.now (option_copied tile) desk.old }
+    ensures takes { OnOk result (TakesItem m.now item.now (option_copied tile.entry) desk.old desk.new) }
     ensures answer { IfOk result (λ a. AnswersFor m.now desk.old item.now a) }
     ensures same { OnErr result (IsUnchanged desk.old desk.new) }
     ensures kept { OnErr result (Uses desk.old.spare desk.new.spare 0 None 0 0) }
-    ensures succeeds { HasSpareFor m.now item.now (option_copied tile.entry) desk.old → IsOk result }
+    ensures succeeds { HasSpareForItem m.now item.now (option_copied tile.entry) desk.old → IsOk result }
 {
     match item {
         Item::Edge(edge) => take_edge(desk, m, edge, tile),

@@ -1,5 +1,5 @@
 -- A send on a turn: what the shard that was taken has for the item, what allows the send, and the pass after it.
-use Rattle.std.proofs.Common.{◌≡◌, ℕ, ℤ, ◌+◌, ◌<◌, ◌==◌, true, false, List, [], ◌∷◌, ◌++◌, length, sym, ap, ◌∙◌, subst, refl, arith, eq-eqb, ne_eqb, tt, Option, Some, None, IsSome, IsTrue, is_some, if◌then◌else◌}
+use Rattle.std.proofs.Common.{◌≡◌, ℕ, ℤ, ◌+◌, ◌<◌, ◌==◌, true, false, List, [], ◌∷◌, ◌++◌, length, sym, ap, ◌∙◌, subst, refl, arith, eq-eqb, ne_eqb, Option, Some, None, IsSome, IsTrue, is_some, if◌then◌else◌}
 use Rattle.std.specs.Option.{IfSome, option_map_or, unwrap_or}
 use Rattle.atomic_table.specs.Table.{rest}
 use Rattle.ptg_base.specs.Task.{Task}
@@ -42,19 +42,20 @@ use Rattle.table_rule.proofs.SameMembers.{joined_parts}
 use Rattle.table_rule.proofs.Seeing.{seen_next, seen_reserve, seen_share}
 use Rattle.dep_table.specs.declared.turn.Turn.{Turn}
 use Rattle.dep_table.specs.Passes.{IsPassOf}
-use Rattle.dep_table.specs.Sending.{HasSpareFor, HasSpareForEdge, HasSpareForWrite, MayTake, MayTakeEdge, MayTakeWrite, SendsItem, Takes, TakesEdge, TakesWrite, credit_after, credited, spends}
+use Rattle.dep_table.specs.Sending.{HasSpareForItem, HasSpareForEdge, HasSpareForWrite, MayTakeItem, MayTakeEdge, MayTakeWrite, SendsItem, TakesItem, TakesEdge, TakesWrite, credit_after, credited, spends}
 use Rattle.dep_table.specs.Tables.{id_of, job_of}
-use Rattle.dep_table.specs.Turns.{IsTurnOf}
+use Rattle.dep_table.specs.Turns.{IsTurnOf, Leaves}
 use Rattle.dep_table.specs.Views.{PassView, shown}
-use Rattle.dep_table.proofs.Delivery.{arrived_before}
+use Rattle.dep_table.proofs.Delivered.{arrived_before}
+use Rattle.dep_table.proofs.Turns.{has_turn}
 
 -- what an edge finds in a list of entries
 abbrev found_in : Plan → Edge → Entries → Entry
 found_in P e es = unwrap_or (entry_in es e.to) (fresh (goal P e.to) (priority P e.to))
 
-same_goal : (o : Option Entry) (g : ℕ) (p : ℤ) → ((x : Entry) → o ≡ Some x → x.goal ≡ g) → (unwrap_or o (fresh g p)).goal ≡ g
-same_goal None g p h = refl
-same_goal (Some x) g p h = h x refl
+goal_found : (o : Option Entry) (g : ℕ) (p : ℤ) → ((x : Entry) → o ≡ Some x → x.goal ≡ g) → (unwrap_or o (fresh g p)).goal ≡ g
+goal_found None g p h = refl
+goal_found (Some x) g p h = h x refl
 
 -- an answer is by the entries alone
 pub answers_along : (P : Plan) (i : Item) (a : Answer) (y d : Content) → d.entries ≡ y.entries → AnswersFor P d i a → AnswersFor P y i a
@@ -71,7 +72,7 @@ answers_along P (item.Write w) answer.Busy y d same h = absurd h
 fires_if : (P : Plan) (e : Edge) (y : Content) → (entry_before y e.to (goal P e.to) (priority P e.to)).goal ≡ goal P e.to → fires P y e ≡ ((arrived_in y e.to + 1) == goal P e.to)
 fires_if P e y same = (λ k. (arrived_before (entry_of y e.to) (goal P e.to) (priority P e.to) k + 1) == same k)
 
-pub credit_is : (P : Plan) (i : Item) (a : Answer) (y : Content) (tile : Option (List ℤ)) → MayTake P i tile y → AnswersFor P y i a → credit_after a 0 ≡ spends P y i
+pub credit_is : (P : Plan) (i : Item) (a : Answer) (y : Content) (tile : Option (List ℤ)) → MayTakeItem P i tile y → AnswersFor P y i a → credit_after a 0 ≡ spends P y i
 credit_is P (item.Edge e) answer.Waits y tile may h = sym (ap as_number (fires_if P e y may.same_goal ∙ ne_eqb (arrived_in y e.to + 1) (goal P e.to) (λ q. absurd (omega (arith, h, q)))))
 credit_is P (item.Edge e) answer.Fired y tile may h = sym (ap as_number (fires_if P e y may.same_goal ∙ eq-eqb (arrived_in y e.to + 1) (goal P e.to) h))
 credit_is P (item.Edge e) answer.Kept y tile may h = absurd h
@@ -82,7 +83,7 @@ credit_is P (item.Write w) answer.Fired y tile may h = absurd h
 credit_is P (item.Write w) answer.Busy y tile may h = absurd h
 
 -- what an item needs is by the entries and the lengths of tiles
-may_along : (P : Plan) (i : Item) (tile : Option (List ℤ)) (y d : Content) → d.entries ≡ y.entries → d.elems ≡ y.elems → MayTake P i tile y → MayTake P i tile d
+may_along : (P : Plan) (i : Item) (tile : Option (List ℤ)) (y d : Content) → d.entries ≡ y.entries → d.elems ≡ y.elems → MayTakeItem P i tile y → MayTakeItem P i tile d
 may_along P (item.Edge e) tile y d entries elems m = record {
   task = m.task;
   flow = m.flow;
@@ -96,15 +97,15 @@ may_along P (item.Edge e) tile y d entries elems m = record {
 may_along P (item.Write w) tile y d entries elems m = record { task = m.task; flow = m.flow; is_flow = m.is_flow; carries = m.carries; fits = subst (λ (ns : List ℕ). IfSome tile (IsTileOf ns m.flow.datatype)) (sym elems) m.fits }
 
 -- spares that have grown are enough still
-spare_along : (P : Plan) (i : Item) (tile : Option (List ℤ)) (y d : Content) → d.entries ≡ y.entries → Uses y.spare d.spare 0 None 0 0 → HasSpareFor P i tile y → HasSpareFor P i tile d
+spare_along : (P : Plan) (i : Item) (tile : Option (List ℤ)) (y d : Content) → d.entries ≡ y.entries → Uses y.spare d.spare 0 None 0 0 → HasSpareForItem P i tile y → HasSpareForItem P i tile d
 spare_along P (item.Edge e) tile y d entries uses h = record {
   entry = λ none. omega (arith, h.entry (ap (λ (es : Entries). entry_in es e.to) (sym entries) ∙ none), uses.entries);
-  tile = λ t typed some. omega (arith, h.tile t typed some, uses.tiles t);
+  tiles = λ t typed some. omega (arith, h.tiles t typed some, uses.tiles t);
 }
-spare_along P (item.Write w) tile y d entries uses h = record { place = omega (arith, h.place, uses.writes); tile = λ t typed. omega (arith, h.tile t typed, uses.tiles t) }
+spare_along P (item.Write w) tile y d entries uses h = record { place = omega (arith, h.place, uses.writes); tiles = λ t typed. omega (arith, h.tiles t typed, uses.tiles t) }
 
 -- what an item changes, from the shard as it was taken on
-takes_since : (P : Plan) (i : Item) (tile : Option (List ℤ)) (y d w : Content) → IsUnchanged y d → Uses y.spare d.spare 0 None 0 0 → Takes P i tile d w → Takes P i tile y w
+takes_since : (P : Plan) (i : Item) (tile : Option (List ℤ)) (y d w : Content) → IsUnchanged y d → Uses y.spare d.spare 0 None 0 0 → TakesItem P i tile d w → TakesItem P i tile y w
 takes_since P (item.Edge e) tile y d w same grown t = record {
   datatype = t.datatype;
   typed = t.typed;
@@ -123,6 +124,17 @@ takes_since P (item.Write b) tile y d w same grown t = record {
   uses = record { entries = omega (arith, grown.entries, t.uses.entries); tiles = λ k. omega (arith, grown.tiles k, t.uses.tiles k); writes = omega (arith, grown.writes, t.uses.writes); traps = omega (arith, grown.traps, t.uses.traps) };
 }
 
+-- the shard of a send that was refused is the one that was taken, but for spares that have grown
+pub refused : (t : Turn) (v : PassRecord) (y z : Content) → IsTurnOf t v y z → (p : PassView) → p ≡ t.pass.now → (d w : Content) → d ≡ z → IsUnchanged d w → Uses d.spare w.spare 0 None 0 0 → Leaves t.shard (p.me.0, (t.shard, w) ∷ rest p.me.1)
+refused t v y z h p is d w here same grown = record {
+  before = y;
+  after = w;
+  turn = let turn = has_turn t v y z p h is in record { slot = ap (λ l. (t.shard, w) ∷ rest l) turn.slot; turn = turn.turn; named = turn.named; credit = turn.credit };
+  same = record { entries = same.entries ∙ (ap (λ (c : Content). c.entries) here ∙ h.same.entries); written = same.written ∙ (ap (λ (c : Content). c.written) here ∙ h.same.written); trapped = same.trapped ∙ (ap (λ (c : Content). c.trapped) here ∙ h.same.trapped); running = same.running ∙ (ap (λ (c : Content). c.running) here ∙ h.same.running); ended = same.ended ∙ (ap (λ (c : Content). c.ended) here ∙ h.same.ended); elems = same.elems ∙ (ap (λ (c : Content). c.elems) here ∙ h.same.elems) };
+  spares = let used = subst (λ (c : Content). Uses c.spare w.spare 0 None 0 0) here grown in
+      record { entries = omega (arith, h.spares.entries, used.entries); tiles = λ k. omega (arith, h.spares.tiles k, used.tiles k); writes = omega (arith, h.spares.writes, used.writes); traps = omega (arith, h.spares.traps, used.traps) };
+}
+
 is_there : (o : Option (List ℤ)) → IsSome o → (x : List ℤ) × (o ≡ Some x)
 is_there None h = absurd cc
 is_there (Some x) h = (x, refl)
@@ -131,8 +143,8 @@ module _ (t : Turn) (v : PassRecord) (y z : Content) (h : IsTurnOf t v y z) wher
   abbrev job : Job
   job = job_of t.table.now
 
-  abbrev then : Moment
-  then = joined h.seen.table.views
+  abbrev moment : Moment
+  moment = joined h.seen.table.views
 
   parts : Parts (job_of t.table.now) h.seen.table (joined h.seen.table.views)
   parts = joined_parts job h.seen.table h.seen.rule
@@ -141,27 +153,27 @@ module _ (t : Turn) (v : PassRecord) (y z : Content) (h : IsTurnOf t v y z) wher
   share = seen_share job t.shard v y h.seen
 
   -- what the shard had for the item when its turn was taken
-  may_take : (i : Item) (tile : Option (List ℤ)) → IsNext (job_of t.table.now).matched (job_of t.table.now).given i tile v → shard_of_item (shard_of (job_of t.table.now).matched (job_of t.table.now).shards) i ≡ t.shard → MayTake (job_of t.table.now).matched i tile y
+  may_take : (i : Item) (tile : Option (List ℤ)) → IsNext (job_of t.table.now).matched (job_of t.table.now).given i tile v → shard_of_item (shard_of (job_of t.table.now).matched (job_of t.table.now).shards) i ≡ t.shard → MayTakeItem (job_of t.table.now).matched i tile y
   may_take (item.Edge e) tile next at =
       let P : Plan = job.matched in let G : Data = job.given in let of : Placement = shard_of P job.shards in
-      let may : MaySend P G then.state (item.Edge e) = seen_next job t.shard v y h.seen (item.Edge e) tile next in
-      let flow = edge_flow P G parts.consistent then.state parts.sound e may in record {
-        task = target_is_task P G parts.consistent of t.shard then parts.sound e may;
+      let may : MaySend P G moment.state (item.Edge e) = seen_next job t.shard v y h.seen (item.Edge e) tile next in
+      let flow = edge_flow P G parts.consistent moment.state parts.sound e may in record {
+        task = target_is_task P G parts.consistent of t.shard moment parts.sound e may;
         flow = flow.0;
         is_flow = flow.1;
-        flow_number = target_flow P G parts.consistent of t.shard then parts.sound e may;
-        some_goal = target_goal P G parts.consistent of t.shard then parts.sound e may;
-        same_goal = same_goal (entry_of y e.to) (goal P e.to) (priority P e.to) (λ x is. (target_entry P G parts.consistent of t.shard then parts.sound e may y at share x is).0);
-        waits = target_waits P G parts.consistent of t.shard then parts.sound e may y at share;
+        flow_number = target_flow P G parts.consistent of t.shard moment parts.sound e may;
+        some_goal = target_goal P G parts.consistent of t.shard moment parts.sound e may;
+        same_goal = goal_found (entry_of y e.to) (goal P e.to) (priority P e.to) (λ x is. (target_entry P G parts.consistent of t.shard moment parts.sound e may y at share x is).0);
+        waits = target_waits P G parts.consistent of t.shard moment parts.sound e may y at share;
         fits = by_test (is_data (Some flow.0.kind))
-            (λ carries. let p = edge_typed P G parts.consistent then.state parts.sound e may t.table.now.fit t.table.now.well_made flow.0 flow.1 carries in
+            (λ carries. let p = edge_typed P G parts.consistent moment.state parts.sound e may t.table.now.fit t.table.now.well_made flow.0 flow.1 carries in
             subst (λ (o : Option (List ℤ)). IfSome o (IsTileOf y.elems flow.0.datatype)) (sym (next.tile ∙ p.1)) (subst (λ (ns : List ℕ). IsTileOf ns flow.0.datatype p.0) (sym share.elems) p.2))
-            (λ none. subst (λ (o : Option (List ℤ)). IfSome o (IsTileOf y.elems flow.0.datatype)) (sym (next.tile ∙ edge_empty P G parts.consistent then.state parts.sound e may flow.0 flow.1 none)) tt);
+            (λ none. subst (λ (o : Option (List ℤ)). IfSome o (IsTileOf y.elems flow.0.datatype)) (sym (next.tile ∙ edge_empty P G parts.consistent moment.state parts.sound e may flow.0 flow.1 none)) tt);
       }
   may_take (item.Write w) tile next at =
       let P : Plan = job.matched in let G : Data = job.given in
-      let may : MaySend P G then.state (item.Write w) = seen_next job t.shard v y h.seen (item.Write w) tile next in
-      let p = write_typed P G parts.consistent then.state parts.sound w may t.table.now.fit t.table.now.well_made in record {
+      let may : MaySend P G moment.state (item.Write w) = seen_next job t.shard v y h.seen (item.Write w) tile next in
+      let p = write_typed P G parts.consistent moment.state parts.sound w may t.table.now.fit t.table.now.well_made in record {
         task = (parts.sound.claimed_have_all w.from may.claimed).task;
         flow = p.0;
         is_flow = p.2;
@@ -170,20 +182,20 @@ module _ (t : Turn) (v : PassRecord) (y z : Content) (h : IsTurnOf t v y z) wher
       }
 
   -- and its spares for it, in a preloaded table
-  has_spare : (i : Item) (tile : Option (List ℤ)) → IsNext (job_of t.table.now).matched (job_of t.table.now).given i tile v → shard_of_item (shard_of (job_of t.table.now).matched (job_of t.table.now).shards) i ≡ t.shard → (job_of t.table.now).preloaded ≡ true → HasSpareFor (job_of t.table.now).matched i tile y
+  has_spare : (i : Item) (tile : Option (List ℤ)) → IsNext (job_of t.table.now).matched (job_of t.table.now).given i tile v → shard_of_item (shard_of (job_of t.table.now).matched (job_of t.table.now).shards) i ≡ t.shard → (job_of t.table.now).preloaded ≡ true → HasSpareForItem (job_of t.table.now).matched i tile y
   has_spare (item.Edge e) tile next at pre =
       let P : Plan = job.matched in let G : Data = job.given in let of : Placement = shard_of P job.shards in
-      let may : MaySend P G then.state (item.Edge e) = seen_next job t.shard v y h.seen (item.Edge e) tile next in
-      let spares : Reserve job then t.shard y = seen_reserve job t.shard v y h.seen pre in record {
-        entry = λ none. spare-entry P G parts.consistent of t.shard then parts.sound e may at y spares none;
-        tile = λ d typed some. let x = is_there tile some in spare-edge_tile P G parts.consistent of t.shard then parts.sound e may at y d x.0 spares typed (sym next.tile ∙ x.1);
+      let may : MaySend P G moment.state (item.Edge e) = seen_next job t.shard v y h.seen (item.Edge e) tile next in
+      let spares : Reserve job moment t.shard y = seen_reserve job t.shard v y h.seen pre in record {
+        entry = λ none. spare-entry P G parts.consistent of t.shard moment parts.sound e may at y spares none;
+        tiles = λ d typed some. let x = is_there tile some in spare-edge_tile P G parts.consistent of t.shard moment parts.sound e may at y d x.0 spares typed (sym next.tile ∙ x.1);
       }
   has_spare (item.Write w) tile next at pre =
       let P : Plan = job.matched in let G : Data = job.given in let of : Placement = shard_of P job.shards in
-      let may : MaySend P G then.state (item.Write w) = seen_next job t.shard v y h.seen (item.Write w) tile next in
-      let spares : Reserve job then t.shard y = seen_reserve job t.shard v y h.seen pre in record {
-        place = spare-write P G parts.consistent of t.shard then parts.sound w may at y spares;
-        tile = λ d typed. spare-write_tile P G parts.consistent of t.shard then parts.sound w may at y d spares typed;
+      let may : MaySend P G moment.state (item.Write w) = seen_next job t.shard v y h.seen (item.Write w) tile next in
+      let spares : Reserve job moment t.shard y = seen_reserve job t.shard v y h.seen pre in record {
+        place = spare-write P G parts.consistent of t.shard moment parts.sound w may at y spares;
+        tiles = λ d typed. spare-write_tile P G parts.consistent of t.shard moment parts.sound w may at y d spares typed;
       }
 
   module _ (i : Item) (tile : Option (List ℤ)) (next : IsNext (job_of t.table.now).matched (job_of t.table.now).given i tile (shown t.pass.now)) (at : shard_of_item (shard_of (job_of t.table.now).matched (job_of t.table.now).shards) i ≡ t.shard) where
@@ -191,10 +203,10 @@ module _ (t : Turn) (v : PassRecord) (y z : Content) (h : IsTurnOf t v y z) wher
     next_at_first : IsNext (job_of t.table.now).matched (job_of t.table.now).given i tile v
     next_at_first = let n = subst (λ (m : Seated). IsNext job.matched job.given i tile m.0) h.me next in record { runs = n.runs; is_item = n.is_item; outputs = n.outputs; unsent = n.unsent; tile = n.tile }
 
-    pub send_may : (d : Content) → d ≡ z → MayTake (job_of t.table.now).matched i tile d
+    pub send_may : (d : Content) → d ≡ z → MayTakeItem (job_of t.table.now).matched i tile d
     send_may d is = may_along job.matched i tile y d (ap (λ (c : Content). c.entries) is ∙ h.same.entries) (ap (λ (c : Content). c.elems) is ∙ h.same.elems) (may_take i tile next_at_first at)
 
-    pub send_spare : (job_of t.table.now).preloaded ≡ true → (d : Content) → d ≡ z → HasSpareFor (job_of t.table.now).matched i tile d
+    pub send_spare : (job_of t.table.now).preloaded ≡ true → (d : Content) → d ≡ z → HasSpareForItem (job_of t.table.now).matched i tile d
     send_spare pre d is = spare_along job.matched i tile y d (ap (λ (c : Content). c.entries) is ∙ h.same.entries) (subst (λ (c : Content). Uses y.spare c.spare 0 None 0 0) (sym is) h.spares) (has_spare i tile next_at_first at pre)
 
     stamped : 0 < own_stamps v (sender i)
@@ -217,7 +229,7 @@ module _ (t : Turn) (v : PassRecord) (y z : Content) (h : IsTurnOf t v y z) wher
       send_named = subst HasName (sym me0) (omega (arith, h.one_name))
 
       -- the send is allowed after the live word was raised as the answer says
-      pub sends_item : (a : Answer) (d w : Content) → d ≡ z → AnswersFor (job_of t.table.now).matched d i a → Takes (job_of t.table.now).matched i tile d w → (m : Seated) → m ≡ (credited a p.me.0, (t.shard, w) ∷ rest p.me.1) → SendsItem (job_of t.table.now) t.shard i tile m
+      pub sends_item : (a : Answer) (d w : Content) → d ≡ z → AnswersFor (job_of t.table.now).matched d i a → TakesItem (job_of t.table.now).matched i tile d w → (m : Seated) → m ≡ (credited a p.me.0, (t.shard, w) ∷ rest p.me.1) → SendsItem (job_of t.table.now) t.shard i tile m
       sends_item a d w here answers takes m raised = subst (SendsItem job t.shard i tile) (sym raised) (subst (λ (u : PassRecord). SendsItem job t.shard i tile (credited a u, (t.shard, w) ∷ rest p.me.1)) (sym me0) (record {
         before = y;
         after = w;

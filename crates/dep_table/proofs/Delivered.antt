@@ -1,6 +1,5 @@
 -- What a shard takes in: an edge that comes to its target's entry, or a write-back.
-use Rattle.std.proofs.Common.{◌≡◌, ◌↔◌, ℕ, ℤ, zero, suc, ◌+◌, ◌<◌, true, List, [], ◌∷◌, length, sym, ap, ◌∙◌, refl, subst, arith, eq-eqb, Option, Some, None, IsTrue, is_some, slice_get}
-use Rattle.std.specs.Borrow.{Bor}
+use Rattle.std.proofs.Common.{◌≡◌, ◌↔◌, Bor, ℕ, ℤ, zero, suc, ◌+◌, ◌<◌, true, List, [], ◌∷◌, length, sym, ap, ◌∙◌, refl, subst, arith, eq-eqb, Option, Some, None, IsTrue, is_some, slice_get, get_or}
 use Rattle.std.specs.Option.{option_copied, option_map_or, unwrap_or}
 use mathlib.Core.Logic.{dite}
 use native.Mathlib.Decide.{ℕ_discrete}
@@ -44,3 +43,13 @@ answers_edge P e tile y may x arrived.Waits h =
     dite (ℕ_discrete (before.arrived + 1) before.goal)
     (λ all. let never : arrived.Waits ≡ arrived.Fired = h.1 all in absurd cc)
     (λ some. omega (arith, some, may.waits, arrived_before (entry_of y e.to) (goal P e.to) (priority P e.to), may.same_goal))
+
+-- the flow at an index
+pub flow_at : (fs : List FlowPlan) (k : ℕ) (r f : FlowPlan) → slice_get fs k ≡ Some f → r ≡ get_or fs k r → r ≡ f
+flow_at [] k r f at is = absurd cc
+flow_at (x ∷ xs) zero r f at is = cc
+flow_at (x ∷ xs) (suc k) r f at is = flow_at xs k r f at is
+
+-- what the first edge finds
+pub found_first : (P : Plan) (e : Edge) (y : Content) (g : ℕ) (p : ℤ) → entry_of y e.to ≡ None → g ≡ goal P e.to → p ≡ priority P e.to → fresh g p ≡ entry_before y e.to (goal P e.to) (priority P e.to)
+found_first P e y g p none goal_is priority_is = (λ k. fresh (goal_is k) (priority_is k)) ∙ sym (ap (λ o. unwrap_or o (fresh (goal P e.to) (priority P e.to))) none)
