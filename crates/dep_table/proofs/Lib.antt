@@ -8,6 +8,5 @@ pub mod Sums
 pub mod Turns
 pub mod Claiming
 pub mod Ending
-pub mod Delivered
 pub mod SendingTurn
 pub mod SendingAt

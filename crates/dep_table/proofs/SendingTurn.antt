@@ -1,31 +1,27 @@
 -- A send on a turn: what the shard that was taken has for the item, what allows the send, and the pass after it.
-use Rattle.std.proofs.Common.{◌≡◌, ℕ, ℤ, ◌+◌, ◌<◌, ◌==◌, true, false, List, [], ◌∷◌, ◌++◌, length, sym, ap, ◌∙◌, subst, refl, arith, eq-eqb, ne_eqb, Option, Some, None, IsSome, IsTrue, is_some, if◌then◌else◌}
+use Rattle.std.proofs.Common.{◌≡◌, ℕ, ℤ, ◌+◌, ◌<◌, ◌==◌, true, List, [], ◌∷◌, ◌++◌, length, sym, ap, ◌∙◌, subst, refl, arith, eq-eqb, ne_eqb, Option, Some, None, IsSome, is_some, if◌then◌else◌}
 use Rattle.std.specs.Option.{IfSome, option_map_or, unwrap_or}
 use Rattle.atomic_table.specs.Table.{rest}
-use Rattle.ptg_base.specs.Task.{Task}
 use Rattle.ptg_base.specs.TaskComparing.{same_task}
 use Rattle.ptg_base.specs.TaskLaws.{same_task-decides}
 use Rattle.ptg_base.specs.declared.edge.Edge.{Edge}
 use Rattle.ptg_base.specs.declared.edge.Item.{Item}
 use Rattle.ptg_base.specs.declared.edge.Item.TheVariants as item
-use Rattle.ptg_base.specs.declared.edge.WriteBack.{WriteBack}
 use Rattle.range_space.proofs.Stepping.{by_test}
-use Rattle.plan_core.specs.declared.flow.FlowPlan.{FlowPlan}
 use Rattle.plan_core.specs.declared.plan.Plan.{Plan}
-use Rattle.plan_core.specs.Kinds.{flow_of, is_data}
+use Rattle.plan_core.specs.Kinds.{is_data}
 use Rattle.coll_data.specs.Data.{Data}
 use Rattle.dep_iter.specs.Edges.{goal}
 use Rattle.dep_iter.specs.Hints.{priority}
 use Rattle.dep_shard.specs.Content.{Content, Entries, Entry, IsTileOf, IsUnchanged, IsWaiting, Updates, Uses, entry_before, entry_in, entry_of, fresh, with_arrival}
 use Rattle.flow_meaning.specs.Counting.{as_number, weigh}
-use Rattle.flow_meaning.specs.Machine.{MaySend, Sent, sender}
+use Rattle.flow_meaning.specs.Machine.{MaySend, sender}
 use Rattle.flow_meaning.proofs.Counting.{weigh-push}
 use Rattle.shard_meaning.specs.Moment.{Moment}
 use Rattle.shard_meaning.specs.Share.{Placement}
 use Rattle.shard_meaning.proofs.SendReserving.{spare-edge_tile, spare-entry, spare-write, spare-write_tile}
 use Rattle.shard_meaning.proofs.Targets.{target_entry, target_flow, target_goal, target_is_task, target_waits}
 use Rattle.shard_meaning.proofs.Typing.{edge_empty, edge_flow, edge_typed, write_typed}
-use Rattle.work_board.specs.Looks.{HasStamp}
 use Rattle.work_board.specs.Records.{IsClean}
 use Rattle.work_board.specs.Sends.{AnswersFor, HasSent, IsNext, arrived_in, shard_of_item}
 use Rattle.work_board.specs.declared.answers.Sent.{Sent as Answer}
@@ -35,30 +31,35 @@ use Rattle.table_rule.specs.declared.job.Job.{Job}
 use Rattle.table_rule.specs.Changes.{turn_left, with_own_send, with_turn}
 use Rattle.table_rule.specs.Live.{Stamp, own_stamps}
 use Rattle.table_rule.specs.Placing.{shard_of}
-use Rattle.table_rule.specs.Plays.{HasName, HasTurn, Seated, fires}
+use Rattle.table_rule.specs.Plays.{HasName, Seated, fires}
 use Rattle.table_rule.specs.Records.{joined}
 use Rattle.table_rule.specs.Rule.{Parts, Reserve, Share}
 use Rattle.table_rule.proofs.SameMembers.{joined_parts}
 use Rattle.table_rule.proofs.Seeing.{seen_next, seen_reserve, seen_share}
 use Rattle.dep_table.specs.declared.turn.Turn.{Turn}
 use Rattle.dep_table.specs.Passes.{IsPassOf}
-use Rattle.dep_table.specs.Sending.{HasSpareForItem, HasSpareForEdge, HasSpareForWrite, MayTakeItem, MayTakeEdge, MayTakeWrite, SendsItem, TakesItem, TakesEdge, TakesWrite, credit_after, credited, spends}
+use Rattle.dep_table.specs.Sending.{HasSpareForItem, MayTakeItem, SendsItem, TakesItem, credit_after, credited, spends}
 use Rattle.dep_table.specs.Tables.{id_of, job_of}
 use Rattle.dep_table.specs.Turns.{IsTurnOf, Leaves}
 use Rattle.dep_table.specs.Views.{PassView, shown}
-use Rattle.dep_table.proofs.Delivered.{arrived_before}
 use Rattle.dep_table.proofs.Turns.{has_turn}
 
 -- what an edge finds in a list of entries
 abbrev found_in : Plan → Edge → Entries → Entry
 found_in P e es = unwrap_or (entry_in es e.to) (fresh (goal P e.to) (priority P e.to))
 
+-- what an edge finds waits for as many edges as the plan says, where an entry that is there does
 goal_found : (o : Option Entry) (g : ℕ) (p : ℤ) → ((x : Entry) → o ≡ Some x → x.goal ≡ g) → (unwrap_or o (fresh g p)).goal ≡ g
 goal_found None g p h = refl
 goal_found (Some x) g p h = h x refl
 
+-- as many edges have come to what an edge finds as to the entry, or none
+arrived_before : (o : Option Entry) (g : ℕ) (p : ℤ) → (unwrap_or o (fresh g p)).arrived ≡ option_map_or (λ (x : Entry). x.arrived) o 0
+arrived_before None g p = refl
+arrived_before (Some x) g p = refl
+
 -- an answer is by the entries alone
-pub answers_along : (P : Plan) (i : Item) (a : Answer) (y d : Content) → d.entries ≡ y.entries → AnswersFor P d i a → AnswersFor P y i a
+answers_along : (P : Plan) (i : Item) (a : Answer) (y d : Content) → d.entries ≡ y.entries → AnswersFor P d i a → AnswersFor P y i a
 answers_along P (item.Edge e) answer.Waits y d same h = subst (λ (es : Entries). option_map_or (λ (x : Entry). x.arrived) (entry_in es e.to) 0 + 1 < goal P e.to) same h
 answers_along P (item.Edge e) answer.Fired y d same h = subst (λ (es : Entries). option_map_or (λ (x : Entry). x.arrived) (entry_in es e.to) 0 + 1 ≡ goal P e.to) same h
 answers_along P (item.Edge e) answer.Kept y d same h = absurd h
@@ -72,7 +73,7 @@ answers_along P (item.Write w) answer.Busy y d same h = absurd h
 fires_if : (P : Plan) (e : Edge) (y : Content) → (entry_before y e.to (goal P e.to) (priority P e.to)).goal ≡ goal P e.to → fires P y e ≡ ((arrived_in y e.to + 1) == goal P e.to)
 fires_if P e y same = (λ k. (arrived_before (entry_of y e.to) (goal P e.to) (priority P e.to) k + 1) == same k)
 
-pub credit_is : (P : Plan) (i : Item) (a : Answer) (y : Content) (tile : Option (List ℤ)) → MayTakeItem P i tile y → AnswersFor P y i a → credit_after a 0 ≡ spends P y i
+credit_is : (P : Plan) (i : Item) (a : Answer) (y : Content) (tile : Option (List ℤ)) → MayTakeItem P i tile y → AnswersFor P y i a → credit_after a 0 ≡ spends P y i
 credit_is P (item.Edge e) answer.Waits y tile may h = sym (ap as_number (fires_if P e y may.same_goal ∙ ne_eqb (arrived_in y e.to + 1) (goal P e.to) (λ q. absurd (omega (arith, h, q)))))
 credit_is P (item.Edge e) answer.Fired y tile may h = sym (ap as_number (fires_if P e y may.same_goal ∙ eq-eqb (arrived_in y e.to + 1) (goal P e.to) h))
 credit_is P (item.Edge e) answer.Kept y tile may h = absurd h

@@ -2,7 +2,7 @@ use Rattle.std.proofs.Common.{Some, ap, sym, subst}
 use Rattle.std.specs.Option.{option_copied, unwrap_or}
 use Rattle.dep_iter.specs.Edges.{goal as goal_of}
 use Rattle.dep_iter.specs.Hints.{priority}
-use Rattle.dep_shard.specs.Content.{Entry, Updates, entry_before, fresh, with_arrival}
+use Rattle.dep_shard.specs.Content.{Entry, Updates, fresh, with_arrival}
 use Rattle.dep_shard.proofs.StockLemmas.{at_ok}
 use Rattle.dep_table.proofs.delivery.arrive.Goals as goal
 

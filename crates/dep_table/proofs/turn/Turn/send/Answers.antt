@@ -1,4 +1,4 @@
-use Rattle.std.proofs.Common.{ℕ, ℤ, List, Option, ◌∷◌, ap, sym, ◌∙◌, refl, subst, IsOk, OnErr}
+use Rattle.std.proofs.Common.{ℤ, List, Option, ap, sym, ◌∙◌, refl, subst, IsOk, OnErr}
 use Rattle.std.proofs.lemmas.Bool.{false≢true}
 use Rattle.std.specs.Option.{option_copied}
 use Rattle.std.specs.Result.{IfOk}
