@@ -10,3 +10,7 @@ pub mod Claiming
 pub mod Ending
 pub mod SendingTurn
 pub mod SendingAt
+pub mod Sharing
+pub mod Working
+pub mod Scans
+pub mod Tried

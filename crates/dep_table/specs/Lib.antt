@@ -7,3 +7,4 @@ pub mod Sending
 pub mod Opened
 pub mod Closing
 pub mod ClosedTables
+pub mod Boards
