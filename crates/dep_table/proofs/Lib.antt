@@ -8,3 +8,9 @@ pub mod Sums
 pub mod Turns
 pub mod Claiming
 pub mod Ending
+pub mod SendingTurn
+pub mod SendingAt
+pub mod Sharing
+pub mod Working
+pub mod Scans
+pub mod Tried
