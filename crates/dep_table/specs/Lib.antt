@@ -6,3 +6,5 @@ pub mod Turns
 pub mod Opened
 pub mod Closing
 pub mod ClosedTables
+pub mod Receipts
+pub mod ClosedMeaning
