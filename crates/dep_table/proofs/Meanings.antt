@@ -1,6 +1,6 @@
 -- What the passes of a table have done together once a run has ended.
-use Rattle.std.proofs.Common.{◌≡◌, ◌≢◌, ℕ, ◌+◌, ◌<◌, ◌≤◌, Bool, true, false, cond, List, [], ◌∷◌, map, refl, ap, sym, ◌∙◌, subst, inl, inr, arith}
-use Rattle.std.proofs.lemmas.Bool.{cases_eq, false≢true}
+use Rattle.std.proofs.Common.{◌≡◌, ◌≤◌, Bool, true, cond, List, [], ◌∷◌, map, refl, ap, sym, ◌∙◌, subst, inl, inr, arith}
+use Rattle.std.proofs.lemmas.Bool.{cases_eq}
 use Rattle.std.specs.List.{filter_map, flat_map}
 use Rattle.std.specs.Cmp.{first_so}
 use Rattle.ptg_base.specs.Lists.{HasNoRepeats, IsIn}
@@ -15,14 +15,14 @@ use Rattle.plan_core.specs.declared.plan.Plan.{Plan}
 use Rattle.coll_data.specs.Data.{Data}
 use Rattle.dep_shard.specs.Content.{Content}
 use Rattle.dep_iter.specs.Consistent.{IsConsistent, all_items, all_out, all_writes}
-use Rattle.dep_iter.specs.Items.{edge_of, item_flow, items, out_edges, write_backs, write_of}
+use Rattle.dep_iter.specs.Items.{edge_of, items, out_edges, write_backs, write_of}
 use Rattle.dep_iter.specs.Tasks.{IsTask, all_tasks}
 use Rattle.dep_iter.proofs.Listing.{listed}
 use Rattle.flow_meaning.specs.Backward.{ended}
 use Rattle.flow_meaning.specs.Comparing.{same_edge, same_item}
-use Rattle.flow_meaning.specs.Counting.{HasSameMembers, as_number, count, weigh}
-use Rattle.flow_meaning.specs.Ending.{has_outputs, output_tile}
-use Rattle.flow_meaning.specs.Machine.{IsQuiescent, MachineState, Sent, is_sent, same_sent, same_tile, send_count, sender}
+use Rattle.flow_meaning.specs.Counting.{as_number, count}
+use Rattle.flow_meaning.specs.Ending.{has_outputs}
+use Rattle.flow_meaning.specs.Machine.{IsQuiescent, MachineState, Sent, same_sent, same_tile, sender}
 use Rattle.flow_meaning.specs.Sound.{IsSoundState}
 use Rattle.flow_meaning.proofs.Comparing.{same_edge-decides, same_item-decides}
 use Rattle.flow_meaning.proofs.Counting.{count-le, count-some, one_le, some_passes, weigh-append}

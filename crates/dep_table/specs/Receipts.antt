@@ -1,7 +1,6 @@
 -- A receipt as contracts see it. Source: this project's own choice.
 use Rattle.std.specs.Prelude.{ℕ, Bool}
 use Rattle.plan_core.specs.declared.plan.Plan.{Plan}
-use Rattle.table_rule.specs.declared.job.Job.{Job}
 use Rattle.dep_table.specs.ClosedTables.{ClosedView}
 
 -- the plan that was run, the numbers of shards and of passes, and whether all memory was taken before the first step
