@@ -85,7 +85,7 @@ impl DepTable {
         requires { IsLastPass (id_of self) pass (moment_of (shown pass)) }
         ensures job { result.job ≡ job_of self }
         ensures passes { result.passes ≡ passes }
-        ensures at { ∥ IsClosedAt (job_of self) (moment_of (shown pass)) (shards_of result) ∥₁ }
+        ensures at { IsClosedAt (job_of self) (moment_of (shown pass)) (shards_of result) }
         ensures quiet { (shown pass).quiet ≡ true → HaveNoWork (shards_of result) }
     {
         a_pass_with_all_names_is_alone();
@@ -121,7 +121,7 @@ impl DepTable {
         requires { AreAllPasses (id_of self) passes.items }
         ensures job { result.job ≡ job_of self }
         ensures passes { result.passes ≡ length passes.items }
-        ensures at { ∥ IsClosedAt (job_of self) (joined (map shown passes.items)) (shards_of result) ∥₁ }
+        ensures at { IsClosedAt (job_of self) (joined (map shown passes.items)) (shards_of result) }
         ensures quiet { (p : PassView) → IsIn p passes.items → (shown p).quiet ≡ true → HaveNoWork (shards_of result) }
     {
         let count = passes.len();
