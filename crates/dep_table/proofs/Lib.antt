@@ -14,3 +14,4 @@ pub mod Sharing
 pub mod Working
 pub mod Scans
 pub mod Tried
+pub mod Meanings

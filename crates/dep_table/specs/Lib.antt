@@ -8,3 +8,5 @@ pub mod Opened
 pub mod Closing
 pub mod ClosedTables
 pub mod Boards
+pub mod Receipts
+pub mod ClosedMeaning
