@@ -3,8 +3,10 @@
 
 mod calls;
 pub mod closed;
+mod needs;
 mod opening;
 pub mod pass;
+mod preloaded;
 pub mod quiet;
 mod steps;
 pub mod table;

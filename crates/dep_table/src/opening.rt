@@ -1,14 +1,13 @@
 //! The opening of a table.
 
-ghost use Rattle.std.specs.Prelude.{◌≡◌, ◌<◌, ◌≤◌, [], ◌∷◌, false, List, Some, IfOk, OnOk, drop, length, map, slice_get};
+ghost use Rattle.std.specs.Prelude.{◌≡◌, ◌<◌, ◌≤◌, [], ◌∷◌, false, true, List, Some, IfOk, OnOk, drop, length, map, slice_get};
 ghost use Rattle.term_core.specs.declared.space.ClassSpace.{ClassSpace as ClassSpaceValue};
 ghost use Rattle.range_space.specs.Tasks as range;
 ghost use Rattle.plan_data.specs.Fit.{DataFit};
 ghost use Rattle.dep_iter.specs.Tasks.{IsTask, task, tasks_from};
 ghost use Rattle.table_rule.specs.Changes.{first_pass};
-ghost use Rattle.table_rule.specs.Opening.{IsOpening};
 ghost use Rattle.table_rule.specs.Placing as placing;
-ghost use Rattle.dep_table.specs.Opened.{AreNew, AreOpeningWords, Enters, EntersIn, Opens};
+ghost use Rattle.dep_table.specs.Opened.{AreNew, AreOpeningShards, AreOpeningWords, Enters, EntersIn, HaveOpeningReserve, Opens};
 ghost use Rattle.dep_table.specs.Passes.{IsPassOf};
 ghost use Rattle.dep_table.specs.Tables.{id_of, job_of};
 
@@ -56,7 +55,7 @@ fn enter(shards: &mut Vec<Shard>, k: usize, t: &TaskId, priority: i64) -> Result
 
 // The shard of a task, where there are so many.
 #[tactic(auto, unfolding(table_rule::specs::Placing::shard_of))]
-fn shard_among(m: &Matched, shards: usize, t: &TaskId) -> usize
+pub(crate) fn shard_among(m: &Matched, shards: usize, t: &TaskId) -> usize
     requires task { IsTask m.now t.now }
     requires shards { (0 < shards) × (shards ≤ 256) }
     ensures number { result ≡ placing.shard_of m.now shards t.now }
@@ -90,7 +89,7 @@ fn open_task(opening: &mut Opening, m: &Matched, t: &TaskId) -> Result<(), OutOf
 }
 
 // The space of a class.
-fn space_of(m: &Matched, class: u32) -> &ClassSpace
+pub(crate) fn space_of(m: &Matched, class: u32) -> &ClassSpace
     requires { class < length m.now.classes }
     ensures space { slice_get m.now.spaces class ≡ Some result.now }
     ensures at_most { length result.now.defs ≤ 16 }
@@ -148,19 +147,43 @@ fn opening_words(alloc: Global, shards: u32, live: u64) -> Result<Vec<u64>, OutO
     Ok(words)
 }
 
-// A table of these words and shards, and its first pass.
-fn lay(
+// The shards of a new table: each has the ready entries of its own tasks that no edge goes into.
+pub(crate) fn opened_shards(
     alloc: Global,
-    words: Vec<u64>,
+    m: &Matched,
+    shards: u32,
+) -> Result<Vec<Shard>, OutOfMemory>
+    requires { (0 < shards) × (shards ≤ 256) }
+    ensures { IfOk result (λ v. AreOpeningShards m.now shards v.items) }
+{
+    let mut opening = Opening {
+        shards: new_shards(alloc, m, shards)?,
+        left: m.roots(),
+    };
+    open_classes(&mut opening, m, 0)?;
+    let Opening {
+        shards: opened,
+        left: _left,
+    } = opening;
+    Ok(opened)
+}
+
+// A table for this job of these shards, and its first pass.
+pub(crate) fn lay(
+    alloc: Global,
     shards: Vec<Shard>,
     job: Job,
 ) -> Result<(DepTable, Pass), OutOfMemory>
-    requires opening { IsOpening job words.items shards.items }
+    requires count { (0 < job.shards) × (job.shards ≤ 256) }
+    requires shards { AreOpeningShards job.matched job.shards shards.items }
+    requires spares { job.preloaded ≡ true → HaveOpeningReserve job.matched job.shards shards.items }
     requires fit { DataFit job.matched.colls job.matched.elems job.given }
     ensures pass { IfOk result (λ r. IsPassOf (id_of r.0) r.1 × (r.1.me.0 ≡ first_pass)) }
     ensures job { IfOk result (λ r. job_of r.0 ≡ job) }
 {
     the_rule_holds_before_the_first_step();
+    let _ = job.matched.plan();
+    let words = opening_words(alloc, job.shards, job.matched.roots())?;
     let laid: Result<(Table<Shard, PassRecord, Job, Law, Global>, Seat), Refused<Shard, Global>> =
         Table::new(alloc, words.as_slice(), shards, &job);
     match laid {
@@ -183,22 +206,13 @@ impl DepTable {
         ensures pass { IfOk result (λ r. IsPassOf (id_of r.0) r.1 × (r.1.me.0 ≡ first_pass)) }
         ensures job { IfOk result (λ r. job_of r.0 ≡ record { matched = matched; given = given; shards = shards; preloaded = false }) }
     {
-        let mut opening = Opening {
-            shards: new_shards(alloc, &matched, shards)?,
-            left: matched.roots(),
-        };
-        open_classes(&mut opening, &matched, 0)?;
-        let words = opening_words(alloc, shards, matched.roots())?;
+        let opened = opened_shards(alloc, &matched, shards)?;
         let job = Job {
             matched,
             given,
             shards,
             preloaded: false,
         };
-        let Opening {
-            shards: desks,
-            left: _left,
-        } = opening;
-        lay(alloc, words, desks, job)
+        lay(alloc, opened, job)
     }
 }
