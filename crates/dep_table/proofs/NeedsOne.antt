@@ -2,8 +2,9 @@
 use Rattle.std.proofs.Common.{◌≡◌, ℕ, zero, suc, ◌+◌, ◌<◌, ◌≤◌, ◌==◌, Bool, true, false, cond, List, [], ◌∷◌, length, refl, ap, sym, ◌∙◌, subst, nat_lt, Option, Some, None, slice_get, slice_index, arith}
 use Rattle.std.proofs.lemmas.Bool.{and_parts, eqb-true, ltb-true}
 use Rattle.std.specs.List.{list_all}
-use Rattle.std.specs.Prelude.{option_map}
-use Rattle.std.specs.Option.{option_map_or}
+use Rattle.std.specs.Prelude.{IfSome, option_map}
+use Rattle.std.specs.Option.{option_copied, option_map_or}
+use denote.Ref.{Bor}
 use Rattle.ptg_base.specs.Task.{Task}
 use Rattle.ptg_base.specs.declared.edge.Edge.{Edge}
 use Rattle.ptg_base.specs.declared.edge.WriteBack.{WriteBack}
@@ -37,13 +38,17 @@ known_type types Rw n some h = ltb-true n types h
 known_type types Ctl n some h = omega (arith, eqb-true n 0 h)
 
 -- the type of a flow is one of the plan's
-pub known : (P : Plan) (t : Task) (n : ℕ) (f : FlowPlan) → IsTask P t → slice_get (flows_of P t) n ≡ Some f → f.datatype < length P.elems
+known : (P : Plan) (t : Task) (n : ℕ) (f : FlowPlan) → IsTask P t → slice_get (flows_of P t) n ≡ Some f → f.datatype < length P.elems
 known P t n f job here =
     let h = class_of P t job in
     let w = P.well_made.fit t.class h.class h.space h.class_is h.space_is in
     let among : slice_get h.class.flows n ≡ Some f = sym (ap (λ o. slice_get (option_map_or (λ (c : ClassPlan). c.flows) o []) n) h.class_is) ∙ here in
     let flow = each_at (is_flow P.classes P.spaces P.colls (length P.elems) (length h.space.defs)) h.class.flows n f w.flows among in
     known_type (length P.elems) f.kind f.datatype P.well_made.has_default (and_parts _ _ (and_parts _ _ (and_parts _ _ flow).0).0).0
+
+pub copied_known : (P : Plan) (t : Task) (n : ℕ) (o : Option (Bor FlowPlan)) → IsTask P t → option_copied o ≡ slice_get (flows_of P t) n → IfSome o (λ f. f.now.datatype < length P.elems)
+copied_known P t n None job is = tt
+copied_known P t n (Some f) job is = known P t n f.now job (sym is)
 
 -- how many tiles of a type come to a flow by one edge, and are written from it by one write-back, if there is such a flow
 abbrev pub carried : Option FlowPlan → ℕ → ℕ

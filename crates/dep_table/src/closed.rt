@@ -1,6 +1,6 @@
 //! The close of a table.
 
-ghost use Rattle.std.specs.Prelude.{◌≡◌, ◌≤◌, [], map, vec_capacity};
+ghost use Rattle.std.specs.Prelude.{◌≡◌, [], map};
 ghost use Rattle.table_rule.specs.Changes.{both};
 ghost use Rattle.table_rule.specs.Plays.{HasName};
 ghost use Rattle.table_rule.specs.Records.{joined, moment_of};
@@ -57,21 +57,24 @@ impl DepTable {
     }
 
     // The shards of a table that its last pass gives up.
-    fn end(self, pass: Pass, room: Vec<Shard>) -> Closed
-        requires last { IsLastPass (id_of self) pass (moment_of (shown pass)) }
-        requires room { (room.items ≡ []) × ((job_of self).shards ≤ vec_capacity room) }
+    fn end(self, pass: Pass) -> Closed
+        requires { IsLastPass (id_of self) pass (moment_of (shown pass)) }
         ensures job { result.job ≡ job_of self }
         ensures at { ∥ IsClosedAt (job_of self) (moment_of (shown pass)) result.shards.items ∥₁ }
     {
         a_pass_with_all_names_is_alone();
-        let DepTable { table, job } = self;
+        let DepTable {
+            table,
+            job,
+            closing,
+        } = self;
         let Pass {
             seat,
             stamp: _stamp,
         } = pass;
         let count = job.shards as usize;
         let mut closed = table.close_with(seat);
-        let mut taken = room;
+        let mut taken = closing.shards;
         for k in 0..count {
             let shard = closed.take(k);
             taken.push_reserved(shard);
@@ -80,15 +83,14 @@ impl DepTable {
         Closed { shards: taken, job }
     }
 
-    /// Closes the table, where these are all its passes. It takes no memory: the room is for the shards. What the shards then hold
-    /// is what the passes did together.
-    pub fn close(self, passes: Vec<Pass>, room: Vec<Shard>) -> Closed
-        requires passes { AreAllPasses (id_of self) passes.items }
-        requires room { (room.items ≡ []) × ((job_of self).shards ≤ vec_capacity room) }
+    /// Closes the table, where these are all its passes. It takes no memory. What the shards then hold is what the passes did
+    /// together.
+    pub fn close(self, passes: Vec<Pass>) -> Closed
+        requires { AreAllPasses (id_of self) passes.items }
         ensures job { result.job ≡ job_of self }
         ensures at { ∥ IsClosedAt (job_of self) (joined (map shown passes.items)) result.shards.items ∥₁ }
     {
         let last = self.join_all(passes);
-        self.end(last, room)
+        self.end(last)
     }
 }

@@ -3,6 +3,7 @@
 
 mod calls;
 pub mod closed;
+mod closing_room;
 mod needs;
 mod opening;
 pub mod pass;

@@ -7,10 +7,12 @@ ghost use Rattle.plan_data.specs.Fit.{DataFit};
 ghost use Rattle.dep_iter.specs.Tasks.{IsTask, task, tasks_from};
 ghost use Rattle.table_rule.specs.Changes.{first_pass};
 ghost use Rattle.table_rule.specs.Placing as placing;
+ghost use Rattle.dep_table.specs.ClosingRooms.{IsRoomFor};
 ghost use Rattle.dep_table.specs.Opened.{AreNew, AreOpeningShards, AreOpeningWords, Enters, EntersIn, HaveOpeningReserve, Opens};
 ghost use Rattle.dep_table.specs.Passes.{IsPassOf};
 ghost use Rattle.dep_table.specs.Tables.{id_of, job_of};
 
+use crate::closing_room::{ClosingRoom, closing_room};
 use crate::pass::{Pass, Seat};
 use crate::table::DepTable;
 use crate::words::{STRIDE, live_index};
@@ -168,6 +170,18 @@ pub(crate) fn opened_shards(
     Ok(opened)
 }
 
+// The room that a table for this job keeps for its close.
+fn room_for(alloc: Global, job: &Job) -> Result<ClosingRoom, OutOfMemory>
+    ensures { IfOk result (IsRoomFor job.now) }
+{
+    let rows = if job.preloaded {
+        job.matched.tasks()
+    } else {
+        0
+    };
+    closing_room(alloc, job.shards, rows)
+}
+
 // A table for this job of these shards, and its first pass.
 pub(crate) fn lay(
     alloc: Global,
@@ -184,10 +198,18 @@ pub(crate) fn lay(
     the_rule_holds_before_the_first_step();
     let _ = job.matched.plan();
     let words = opening_words(alloc, job.shards, job.matched.roots())?;
+    let closing = room_for(alloc, &job)?;
     let laid: Result<(Table<Shard, PassRecord, Job, Law, Global>, Seat), Refused<Shard, Global>> =
         Table::new(alloc, words.as_slice(), shards, &job);
     match laid {
-        Ok((table, seat)) => Ok((DepTable { table, job }, Pass { seat, stamp: 0 })),
+        Ok((table, seat)) => Ok((
+            DepTable {
+                table,
+                job,
+                closing,
+            },
+            Pass { seat, stamp: 0 },
+        )),
         Err(_refused) => Err(OutOfMemory),
     }
 }

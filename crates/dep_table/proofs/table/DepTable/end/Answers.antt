@@ -38,7 +38,7 @@ invariant_of-result c =
     record {
       ends = ∣ (
         moment_of (shown c.args.pass),
-        closes c.args.self.job i.6 (shown c.args.pass) _ items c.loop-k.taken.items c.requires.last.all c.requires.last.no_turn i.7
+        closes c.args.self.job i.6 (shown c.args.pass) _ items c.loop-k.taken.items c.requires.all c.requires.no_turn i.7
             (i.5 ∙ (ap (λ n. take n items) (omega (arith, c.loop-k-test.false, c.loop-k.auto.k-end, counts.0, i.2)) ∙ take-length items)),
       ) ∣₁;
     }
@@ -48,5 +48,5 @@ returns-clause-at c =
     let i = c.loop-k.invariant in
     let items : List Content = slots_items c.loop-k.closed.slots in
     let counts = slots_counts c.loop-k.closed.slots in
-    ∣ closes c.args.self.job i.6 (shown c.args.pass) _ items c.loop-k.taken.items c.requires.last.all c.requires.last.no_turn i.7
+    ∣ closes c.args.self.job i.6 (shown c.args.pass) _ items c.loop-k.taken.items c.requires.all c.requires.no_turn i.7
     (i.5 ∙ (ap (λ n. take n items) (omega (arith, c.loop-k-test.false, c.loop-k.auto.k-end, counts.0, i.2)) ∙ take-length items)) ∣₁
