@@ -2,8 +2,9 @@
 use Rattle.std.proofs.Common.{◌≡◌, ℕ, zero, suc, ◌+◌, ◌<◌, ◌≤◌, ◌==◌, Bool, true, false, cond, List, [], ◌∷◌, length, refl, ap, sym, ◌∙◌, subst, nat_lt, Option, Some, None, slice_get, slice_index, arith}
 use Rattle.std.proofs.lemmas.Bool.{and_parts, eqb-true, ltb-true}
 use Rattle.std.specs.List.{list_all}
-use Rattle.std.specs.Prelude.{IfSome, option_map}
-use Rattle.std.specs.Option.{option_copied, option_map_or}
+use Rattle.std.specs.Prelude.{IfSome, MatchOption, get_or, option_map}
+use Rattle.std.proofs.lemmas.Option.{slice_get-get_or}
+use Rattle.std.specs.Option.{option_map_or}
 use denote.Ref.{Bor}
 use Rattle.ptg_base.specs.Task.{Task}
 use Rattle.ptg_base.specs.declared.edge.Edge.{Edge}
@@ -46,9 +47,10 @@ known P t n f job here =
     let flow = each_at (is_flow P.classes P.spaces P.colls (length P.elems) (length h.space.defs)) h.class.flows n f w.flows among in
     known_type (length P.elems) f.kind f.datatype P.well_made.has_default (and_parts _ _ (and_parts _ _ (and_parts _ _ flow).0).0).0
 
-pub copied_known : (P : Plan) (t : Task) (n : ℕ) (o : Option (Bor FlowPlan)) → IsTask P t → option_copied o ≡ slice_get (flows_of P t) n → IfSome o (λ f. f.now.datatype < length P.elems)
-copied_known P t n None job is = tt
-copied_known P t n (Some f) job is = known P t n f.now job (sym is)
+pub found_known : (P : Plan) (t : Task) (n : ℕ) (fs : List FlowPlan) (none_is : Type 0) (some_is : Bor FlowPlan → Type 0) (o : Option (Bor FlowPlan)) → IsTask P t → fs ≡ flows_of P t
+    → MatchOption o none_is (λ f. (n < length fs) × some_is f) → IfSome o (λ f. f.now ≡ get_or fs n f.now) → IfSome o (λ f. f.now.datatype < length P.elems)
+found_known P t n fs none_is some_is None job are within is = tt
+found_known P t n fs none_is some_is (Some f) job are within is = known P t n f.now job (subst (λ l. slice_get l n ≡ Some f.now) are (slice_get-get_or fs n f.now within.0 ∙ ap (λ x. Some x) (sym is)))
 
 -- how many tiles of a type come to a flow by one edge, and are written from it by one write-back, if there is such a flow
 abbrev pub carried : Option FlowPlan → ℕ → ℕ
