@@ -6,6 +6,7 @@ ghost use Rattle.range_space.specs.Tasks as range;
 ghost use Rattle.plan_data.specs.Fit.{DataFit};
 ghost use Rattle.dep_iter.specs.Tasks.{IsTask, task, tasks_from};
 ghost use Rattle.table_rule.specs.Changes.{first_pass};
+ghost use Rattle.table_rule.specs.Opening.{IsOpening};
 ghost use Rattle.table_rule.specs.Placing as placing;
 ghost use Rattle.dep_table.specs.ClosingRooms.{IsRoomFor};
 ghost use Rattle.dep_table.specs.Opened.{AreNew, AreOpeningShards, AreOpeningWords, Enters, EntersIn, HaveOpeningReserve, Opens};
@@ -182,23 +183,21 @@ fn room_for(alloc: Global, job: &Job) -> Result<ClosingRoom, OutOfMemory>
     closing_room(alloc, job.shards, rows)
 }
 
-// A table for this job of these shards, and its first pass.
-pub(crate) fn lay(
+// A table of these words and shards, with this room for its close, and its first pass.
+fn lay(
     alloc: Global,
+    words: Vec<u64>,
     shards: Vec<Shard>,
     job: Job,
+    closing: ClosingRoom,
 ) -> Result<(DepTable, Pass), OutOfMemory>
-    requires count { (0 < job.shards) × (job.shards ≤ 256) }
-    requires shards { AreOpeningShards job.matched job.shards shards.items }
-    requires spares { job.preloaded ≡ true → HaveOpeningReserve job.matched job.shards shards.items }
+    requires opening { IsOpening job words.items shards.items }
     requires fit { DataFit job.matched.colls job.matched.elems job.given }
+    requires room { IsRoomFor job closing }
     ensures pass { IfOk result (λ r. IsPassOf (id_of r.0) r.1 × (r.1.me.0 ≡ first_pass)) }
     ensures job { IfOk result (λ r. job_of r.0 ≡ job) }
 {
     the_rule_holds_before_the_first_step();
-    let _ = job.matched.plan();
-    let words = opening_words(alloc, job.shards, job.matched.roots())?;
-    let closing = room_for(alloc, &job)?;
     let laid: Result<(Table<Shard, PassRecord, Job, Law, Global>, Seat), Refused<Shard, Global>> =
         Table::new(alloc, words.as_slice(), shards, &job);
     match laid {
@@ -212,6 +211,25 @@ pub(crate) fn lay(
         )),
         Err(_refused) => Err(OutOfMemory),
     }
+}
+
+// A table for this job of these shards, and its first pass.
+pub(crate) fn open_table(
+    alloc: Global,
+    shards: Vec<Shard>,
+    job: Job,
+) -> Result<(DepTable, Pass), OutOfMemory>
+    requires count { (0 < job.shards) × (job.shards ≤ 256) }
+    requires shards { AreOpeningShards job.matched job.shards shards.items }
+    requires spares { job.preloaded ≡ true → HaveOpeningReserve job.matched job.shards shards.items }
+    requires fit { DataFit job.matched.colls job.matched.elems job.given }
+    ensures pass { IfOk result (λ r. IsPassOf (id_of r.0) r.1 × (r.1.me.0 ≡ first_pass)) }
+    ensures job { IfOk result (λ r. job_of r.0 ≡ job) }
+{
+    let _ = job.matched.plan();
+    let words = opening_words(alloc, job.shards, job.matched.roots())?;
+    let closing = room_for(alloc, &job)?;
+    lay(alloc, words, shards, job, closing)
 }
 
 impl DepTable {
@@ -235,6 +253,6 @@ impl DepTable {
             shards,
             preloaded: false,
         };
-        lay(alloc, opened, job)
+        open_table(alloc, opened, job)
     }
 }

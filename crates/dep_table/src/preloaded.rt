@@ -14,7 +14,7 @@ ghost use Rattle.dep_table.specs.Passes.{IsPassOf};
 ghost use Rattle.dep_table.specs.Tables.{id_of, job_of};
 
 use crate::needs::Needs;
-use crate::opening::{lay, opened_shards, shard_among, space_of};
+use crate::opening::{open_table, opened_shards, shard_among, space_of};
 use crate::pass::Pass;
 use crate::table::DepTable;
 use coll_data::Given;
@@ -165,6 +165,6 @@ impl DepTable {
             shards,
             preloaded: true,
         };
-        lay(alloc, opened, job)
+        open_table(alloc, opened, job)
     }
 }
