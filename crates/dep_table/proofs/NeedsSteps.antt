@@ -1,5 +1,5 @@
 -- Needs over a walk through all tasks, and the spares of a shard that has what it needs.
-use Rattle.std.proofs.Common.{◌≡◌, ◌≢◌, ℕ, ◌+◌, ◌<◌, ◌≤◌, List, [], ◌∷◌, ◌++◌, length, refl, ap, sym, ◌∙◌, subst, zero, suc, Some, slice_get, slice_index, inl, inr, arith, append_assoc, length-append}
+use Rattle.std.proofs.Common.{◌≡◌, ℕ, ◌+◌, ◌<◌, ◌≤◌, List, [], ◌∷◌, ◌++◌, length, refl, ap, sym, ◌∙◌, subst, Some, slice_get, slice_index, inl, inr, arith, append_assoc, length-append}
 use Rattle.std.proofs.lemmas.Bool.{cases_eq}
 use Rattle.std.proofs.lemmas.List.{append-nil}
 use Rattle.ptg_base.specs.Task.{Task}
@@ -14,7 +14,7 @@ use Rattle.shard_meaning.specs.Reserve.{is_edge_of_type}
 use Rattle.shard_meaning.specs.Share.{Placement}
 use Rattle.table_rule.specs.Placing.{shard_of}
 use Rattle.dep_table.specs.declared.needs.Needs.{Needs}
-use Rattle.dep_table.specs.Needs.{AddsNeeds, AddsTaskAt, AddsTiles, AreNeedsOf, AreNoNeeds, AreReserved, FitShards, HaveTypes, IsNeedOf, IsNoNeed, IsReservedFor, ReservesAt, edge_tiles, write_tiles}
+use Rattle.dep_table.specs.Needs.{AddsNeeds, AddsTaskAt, AddsTiles, AreNeedsOf, AreNoNeeds, AreReserved, FitShards, IsNeedOf, IsNoNeed, IsReservedFor, ReservesAt, edge_tiles, write_tiles}
 use Rattle.dep_table.specs.Opened.{AreOpeningShards, HaveOpeningReserve}
 use Rattle.dep_table.proofs.NeedsCounts.{count-filter, need_other, need_own}
 use Rattle.dep_table.proofs.Opened.{snoc_at}

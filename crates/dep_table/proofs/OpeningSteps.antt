@@ -1,20 +1,17 @@
 -- The opening of a table, task by task.
-use Rattle.std.proofs.Common.{◌≡◌, ◌≢◌, ℕ, zero, suc, ◌+◌, ◌<◌, ◌≤◌, ◌==◌, ℤ, Bool, true, false, cond, List, [], ◌∷◌, ◌++◌, length, map, drop, refl, ap, sym, ◌∙◌, subst, Option, Some, None, slice_get, inl, inr, arith, append_assoc, if◌then◌else◌, ne_eqb, Result, Ok, Err, OnOk}
+use Rattle.std.proofs.Common.{◌≡◌, ◌≢◌, ℕ, zero, suc, ◌+◌, ◌<◌, ◌==◌, Bool, true, false, cond, List, [], ◌∷◌, ◌++◌, length, refl, ap, sym, ◌∙◌, subst, Option, Some, None, slice_get, inl, inr, arith, append_assoc, if◌then◌else◌, ne_eqb, Result, Ok, Err, OnOk}
 use Rattle.std.proofs.lemmas.Bool.{false≢true, cases_eq}
-use Rattle.std.proofs.lemmas.List.{append-nil, drop_all}
+use Rattle.std.proofs.lemmas.List.{append-nil}
 use Rattle.std.specs.List.{filter}
-use Rattle.ptg_base.specs.Lists.{IsIn}
 use Rattle.ptg_base.specs.Task.{Task}
 use Rattle.ptg_base.specs.TaskComparing.{same_task}
 use Rattle.ptg_base.specs.TaskLaws.{same_task-decides}
-use Rattle.term_core.specs.declared.space.ClassSpace.{ClassSpace}
-use Rattle.range_space.specs.Tasks.{tasks}
 use Rattle.range_space.proofs.MemberLists.{IsIn-append_left, IsIn-append_right, from_append}
 use Rattle.range_space.proofs.Stepping.{by_test}
 use Rattle.plan_core.specs.declared.plan.Plan.{Plan}
 use Rattle.dep_iter.specs.Edges.{goal}
 use Rattle.dep_iter.specs.Hints.{priority}
-use Rattle.dep_iter.specs.Tasks.{IsTask, all_tasks, task, tasks_from}
+use Rattle.dep_iter.specs.Tasks.{all_tasks}
 use Rattle.dep_shard.specs.Content.{Content, Entry, entry_of, fresh}
 use Rattle.shard_meaning.specs.Opening.{opening_entry}
 use Rattle.shard_meaning.specs.Share.{Placement}

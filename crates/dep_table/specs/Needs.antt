@@ -1,5 +1,5 @@
 -- What the shards of a preloaded table need for all that will come to them, counted task by task. Source: this project's own choice.
-use Rattle.std.specs.Prelude.{◌≡◌, ◌≢◌, ℕ, ◌+◌, Bool, true, false, ◌==◌, List, [], ◌∷◌, ◌++◌, length, filter, flat_map, slice_get, slice_index, Some, if◌then◌else◌}
+use Rattle.std.specs.Prelude.{◌≡◌, ◌≢◌, ℕ, ◌+◌, Bool, true, false, ◌==◌, List, ◌++◌, length, filter, flat_map, slice_get, slice_index, Some, if◌then◌else◌}
 use Rattle.ptg_base.specs.Task.{Task}
 use Rattle.ptg_base.specs.declared.edge.Edge.{Edge}
 use Rattle.ptg_base.specs.declared.edge.WriteBack.{WriteBack}

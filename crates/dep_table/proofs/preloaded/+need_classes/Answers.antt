@@ -1,4 +1,4 @@
-use Rattle.std.proofs.Common.{◌<◌, length, add-one, arith, sym, subst, suc}
+use Rattle.std.proofs.Common.{◌<◌, length, add-one, arith, subst, suc}
 use Rattle.table_rule.specs.Placing.{shard_of}
 use Rattle.dep_iter.specs.Tasks.{tasks_from}
 use Rattle.dep_table.specs.Needs.{AddsNeeds}

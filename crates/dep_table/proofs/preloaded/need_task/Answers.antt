@@ -15,4 +15,4 @@ returns c =
     let count : c.len.result ≡ length old = c.len.ensures ∙ c.args.needs.now.ok.0 in
     let here : c.shard_among-k.result ≡ of t = c.shard_among-k.ensures.number ∙ ap (λ n. shard_of P n t) count in
     let near : of t < length old = subst (λ k. k < length old) here (subst (λ n. c.shard_among-k.result < n) count c.shard_among-k.ensures.within) in
-    task_needs P of t old new near (subst (λ k. AddsTaskAt P t k old new) here c.need_at.ensures)
+    on_ok_then c.need_at.result (λ a. task_needs P of t old new near (subst (λ k. AddsTaskAt P t k old new) here a)) c.need_at.ensures

@@ -1,4 +1,4 @@
-use Rattle.std.proofs.Common.{◌∙◌, refl, length, arith}
+use Rattle.std.proofs.Common.{◌∙◌, refl, arith}
 use Rattle.dep_table.proofs.NeedsSteps.{all_needs}
 use Rattle.dep_table.proofs.preloaded.needs_of.Goals as goal
 

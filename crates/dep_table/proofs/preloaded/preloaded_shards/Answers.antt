@@ -1,7 +1,5 @@
 use Rattle.std.proofs.Common.{◌∙◌, ap, sym, subst, length}
-use Rattle.dep_iter.specs.Tasks.{all_tasks}
-use Rattle.table_rule.specs.Placing.{shard_of}
-use Rattle.dep_table.specs.Needs.{AreNeedsOf, AreReserved, FitShards}
+use Rattle.dep_table.specs.Needs.{AreReserved, FitShards}
 use Rattle.dep_table.proofs.NeedsSteps.{kept_shards, reserved_shards, types_fit}
 use Rattle.dep_table.proofs.preloaded.preloaded_shards.Goals as goal
 

@@ -1,6 +1,6 @@
-use Rattle.std.proofs.Common.{◌≡◌, ◌∙◌, sym, arith, slice_get, Some}
+use Rattle.std.proofs.Common.{◌≡◌, arith, slice_get, Some}
 use Rattle.dep_iter.proofs.Fitting.{at_index}
-use Rattle.dep_table.proofs.NeedsSteps.{all_reserved, none_reserved, reserved_more}
+use Rattle.dep_table.proofs.NeedsSteps.{all_reserved, reserved_more}
 use Rattle.dep_table.proofs.preloaded.reserve_all.Goals as goal
 
 pub loop-k-preserved : goal.loop-k-preserved

@@ -1,7 +1,5 @@
-use Rattle.std.proofs.Common.{◌≡◌, ◌∷◌, List, ap, sym, ◌∙◌, subst, refl, inl, inr}
+use Rattle.std.proofs.Common.{◌≡◌, sym, ◌∙◌, subst, refl, inl, inr}
 use Rattle.ptg_base.specs.Lists.{IsIn}
-use Rattle.ptg_base.specs.declared.edge.Edge.{Edge}
-use Rattle.plan_core.specs.declared.plan.Plan.{Plan}
 use Rattle.dep_iter.specs.Edges.{in_edges}
 use Rattle.flow_meaning.proofs.Members.{in_edge_to}
 use Rattle.dep_table.specs.Needs.{AddsTiles, edge_tiles}

@@ -1,7 +1,5 @@
-use Rattle.std.proofs.Common.{◌≡◌, ◌∷◌, List, length, ap, sym, ◌∙◌, subst, refl, inl, inr}
+use Rattle.std.proofs.Common.{◌≡◌, length, sym, ◌∙◌, subst, refl, inl, inr}
 use Rattle.ptg_base.specs.Lists.{IsIn}
-use Rattle.ptg_base.specs.declared.edge.WriteBack.{WriteBack}
-use Rattle.plan_core.specs.declared.plan.Plan.{Plan}
 use Rattle.dep_iter.specs.Items.{write_backs}
 use Rattle.dep_table.specs.Needs.{AddsTiles, write_tiles}
 use Rattle.dep_table.proofs.NeedsCounts.{write_from}
