@@ -7,3 +7,5 @@ pub mod Opened
 pub mod Needs
 pub mod Closing
 pub mod ClosedTables
+pub mod Receipts
+pub mod ClosedMeaning
