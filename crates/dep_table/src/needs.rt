@@ -10,7 +10,7 @@ ghost use Rattle.dep_iter.specs.Tasks.{IsTask};
 ghost use Rattle.flow_meaning.specs.Counting.{as_number};
 ghost use Rattle.dep_table.specs.Needs.{AddsTask, AddsTiles, IsNoNeed, edge_tiles, write_tiles};
 
-use dep_iter::{Matched, flows_of, in_edges_under, locals_of, write_backs_under};
+use dep_iter::{Matched, flows_of, in_edges_under, write_backs_under};
 use goal_count::goal_under;
 use plan_core::{FlowPlan, Plan};
 use ptg_base::{Edge, OutOfMemory, TaskId, WriteBack};
@@ -144,19 +144,24 @@ impl Needs {
         Ok(())
     }
 
-    // All that its shard needs for a task.
-    pub(crate) fn add_task(&mut self, m: &Matched, t: &TaskId) -> Result<(), OutOfMemory>
+    // All that its shard needs for a task with these locals.
+    pub(crate) fn add_task(
+        &mut self,
+        m: &Matched,
+        t: &TaskId,
+        env: &[i64],
+    ) -> Result<(), OutOfMemory>
         requires task { IsTask m.now t.now }
+        requires locals { env.now ≡ tasks.locals_of m.now t.now }
         requires types { length self.old.tiles.items ≡ length m.now.elems }
         ensures { OnOk result (AddsTask m.now t.now self.old self.new) }
     {
         let plan = m.plan();
-        let env = locals_of(plan, t);
-        if goal_under(m, t, env.as_slice()) != 0 {
+        if goal_under(m, t, env) != 0 {
             add_one(&mut self.entries)?;
         }
-        self.add_edges(plan, t, env.as_slice())?;
-        self.add_writes(plan, t, env.as_slice())?;
+        self.add_edges(plan, t, env)?;
+        self.add_writes(plan, t, env)?;
         add_one(&mut self.traps)
     }
 }

@@ -4,6 +4,7 @@ ghost use Rattle.std.specs.Prelude.{◌≡◌, ◌<◌, ◌≤◌, [], ◌∷◌
 ghost use Rattle.term_core.specs.declared.space.ClassSpace.{ClassSpace as ClassSpaceValue};
 ghost use Rattle.range_space.specs.Tasks as range;
 ghost use Rattle.plan_data.specs.Fit.{DataFit};
+ghost use Rattle.dep_iter.specs.Tasks as tasks;
 ghost use Rattle.dep_iter.specs.Tasks.{IsTask, task, tasks_from};
 ghost use Rattle.table_rule.specs.Changes.{first_pass};
 ghost use Rattle.table_rule.specs.Opening.{IsOpening};
@@ -19,9 +20,9 @@ use crate::table::DepTable;
 use crate::words::{STRIDE, live_index};
 use atomic_table::{Refused, Table};
 use coll_data::Given;
-use dep_iter::{Matched, affinity, place_number, priority};
+use dep_iter::{Matched, affinity_under, locals_of, place_number, priority_under};
 use dep_shard::Shard;
-use goal_count::goal;
+use goal_count::goal_under;
 use ptg_base::{OutOfMemory, TaskId};
 use range_space::Space;
 use std::alloc::Global;
@@ -56,16 +57,17 @@ fn enter(shards: &mut Vec<Shard>, k: usize, t: &TaskId, priority: i64) -> Result
     enter_in(&mut shards[k], t, priority)
 }
 
-// The shard of a task, where there are so many.
+// The shard of a task with these locals, where there are so many shards.
 #[tactic(auto, unfolding(table_rule::specs::Placing::shard_of))]
-pub(crate) fn shard_among(m: &Matched, shards: usize, t: &TaskId) -> usize
+pub(crate) fn shard_under(m: &Matched, shards: usize, t: &TaskId, env: &[i64]) -> usize
     requires task { IsTask m.now t.now }
+    requires locals { env.now ≡ tasks.locals_of m.now t.now }
     requires shards { (0 < shards) × (shards ≤ 256) }
     ensures number { result ≡ placing.shard_of m.now shards t.now }
     ensures within { result < shards }
 {
     let plan = m.plan();
-    let place = affinity(plan, t);
+    let place = affinity_under(plan, t, env);
     let count = shards as u64;
     let coll = u64::from(place.coll) % count;
     let number = place_number(plan, &place) % count;
@@ -81,11 +83,12 @@ fn open_task(opening: &mut Opening, m: &Matched, t: &TaskId) -> Result<(), OutOf
     if opening.left == 0 {
         return Ok(());
     }
-    if goal(m, t) != 0 {
+    let env = locals_of(m.plan(), t);
+    if goal_under(m, t, env.as_slice()) != 0 {
         return Ok(());
     }
-    let k = shard_among(m, opening.shards.len(), t);
-    let urgency = priority(m.plan(), t);
+    let k = shard_under(m, opening.shards.len(), t, env.as_slice());
+    let urgency = priority_under(m.plan(), t, env.as_slice());
     enter(&mut opening.shards, k, t, urgency)?;
     opening.left -= 1;
     Ok(())

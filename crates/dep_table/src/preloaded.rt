@@ -3,6 +3,7 @@
 ghost use Rattle.std.specs.Prelude.{◌≡◌, ◌<◌, ◌≤◌, ◌∷◌, [], List, Some, IfOk, OnOk, drop, length, map, slice_get, true};
 ghost use Rattle.term_core.specs.declared.space.ClassSpace.{ClassSpace as ClassSpaceValue};
 ghost use Rattle.range_space.specs.Tasks as range;
+ghost use Rattle.dep_iter.specs.Tasks as tasks;
 ghost use Rattle.dep_iter.specs.Tasks.{IsTask, all_tasks, task, tasks_from};
 ghost use Rattle.plan_data.specs.Fit.{DataFit};
 ghost use Rattle.dep_shard.specs.Content.{Content};
@@ -14,11 +15,11 @@ ghost use Rattle.dep_table.specs.Passes.{IsPassOf};
 ghost use Rattle.dep_table.specs.Tables.{id_of, job_of};
 
 use crate::needs::Needs;
-use crate::opening::{open_table, opened_shards, shard_among, space_of};
+use crate::opening::{open_table, opened_shards, shard_under, space_of};
 use crate::pass::Pass;
 use crate::table::DepTable;
 use coll_data::Given;
-use dep_iter::Matched;
+use dep_iter::{Matched, locals_of};
 use dep_shard::Shard;
 use ptg_base::{OutOfMemory, TaskId};
 use range_space::Space;
@@ -37,14 +38,21 @@ fn no_needs(alloc: Global, m: &Matched, shards: u32) -> Result<Vec<Needs>, OutOf
     Ok(needs)
 }
 
-// Adds what a task needs to the needs of the shard k.
-fn need_at(needs: &mut Vec<Needs>, k: usize, m: &Matched, t: &TaskId) -> Result<(), OutOfMemory>
+// Adds what a task with these locals needs to the needs of the shard k.
+fn need_at(
+    needs: &mut Vec<Needs>,
+    k: usize,
+    m: &Matched,
+    t: &TaskId,
+    env: &[i64],
+) -> Result<(), OutOfMemory>
     requires task { IsTask m.now t.now }
+    requires locals { env.now ≡ tasks.locals_of m.now t.now }
     requires within { k < length needs.old.items }
     requires types { HaveTypes (length m.now.elems) needs.old.items }
     ensures { OnOk result (AddsTaskAt m.now t.now k needs.old.items needs.new.items) }
 {
-    needs[k].add_task(m, t)
+    needs[k].add_task(m, t, env)
 }
 
 // Adds what a task needs to the needs of its shard.
@@ -54,8 +62,9 @@ fn need_task(needs: &mut Vec<Needs>, m: &Matched, t: &TaskId) -> Result<(), OutO
     requires types { HaveTypes (length m.now.elems) needs.old.items }
     ensures { OnOk result (AddsNeeds m.now (placing.shard_of m.now (length needs.old.items)) (t.now ∷ []) needs.old.items needs.new.items) }
 {
-    let k = shard_among(m, needs.len(), t);
-    need_at(needs, k, m, t)
+    let env = locals_of(m.plan(), t);
+    let k = shard_under(m, needs.len(), t, env.as_slice());
+    need_at(needs, k, m, t, env.as_slice())
 }
 
 // Adds what the tasks of a class need.

@@ -13,6 +13,6 @@ returns c =
     let new = c.need_at.new.needs.items in
     let of = shard_of P (length old) in
     let count : c.len.result ≡ length old = c.len.ensures ∙ c.args.needs.now.ok.0 in
-    let here : c.shard_among-k.result ≡ of t = c.shard_among-k.ensures.number ∙ ap (λ n. shard_of P n t) count in
-    let near : of t < length old = subst (λ k. k < length old) here (subst (λ n. c.shard_among-k.result < n) count c.shard_among-k.ensures.within) in
+    let here : c.shard_under-k.result ≡ of t = c.shard_under-k.ensures.number ∙ ap (λ n. shard_of P n t) count in
+    let near : of t < length old = subst (λ k. k < length old) here (subst (λ n. c.shard_under-k.result < n) count c.shard_under-k.ensures.within) in
     on_ok_then c.need_at.result (λ a. task_needs P of t old new near (subst (λ k. AddsTaskAt P t k old new) here a)) c.need_at.ensures
