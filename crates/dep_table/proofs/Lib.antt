@@ -1,6 +1,10 @@
 pub mod Quiets
+pub mod TaskWalks
 pub mod OpeningSteps
 pub mod Opened
+pub mod NeedsCounts
+pub mod NeedsOne
+pub mod NeedsSteps
 pub mod Closings
 pub mod Clean
 pub mod StepsAt

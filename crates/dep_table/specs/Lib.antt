@@ -5,6 +5,7 @@ pub mod ClosingRooms
 pub mod Turns
 pub mod Sending
 pub mod Opened
+pub mod Needs
 pub mod Closing
 pub mod ClosedTables
 pub mod Boards
