@@ -1,3 +1,4 @@
 pub mod Lists
 pub mod Totals
 pub mod OneType
+pub mod Places

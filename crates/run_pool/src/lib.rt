@@ -2,8 +2,12 @@
 #![tactic(auto)]
 
 mod bytes;
+mod desk;
 mod elements;
 mod settings;
+mod workers;
 
 pub use bytes::{preload_bytes, with_one_type_the_preload_is_a_product};
+pub use desk::Desk;
 pub use settings::Settings;
+pub use workers::team;
