@@ -2,3 +2,4 @@ pub mod Lists
 pub mod Totals
 pub mod OneType
 pub mod Places
+pub mod SeatedAll

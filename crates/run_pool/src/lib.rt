@@ -4,10 +4,13 @@
 mod bytes;
 mod desk;
 mod elements;
+mod prepared;
+mod seating;
 mod settings;
 mod workers;
 
 pub use bytes::{preload_bytes, with_one_type_the_preload_is_a_product};
 pub use desk::Desk;
+pub use prepared::Prepared;
 pub use settings::Settings;
 pub use workers::team;

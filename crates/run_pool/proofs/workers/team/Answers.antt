@@ -1,10 +1,7 @@
-use Rattle.std.proofs.Common.{rules, ◌<◌, length, ◌≡◌, ℕ, ◌+◌, sym, ap, subst, ◌∙◌, Some, slice_get, slice_index_or, List, Bor, MutBor}
+use Rattle.std.proofs.Common.{◌≡◌, subst, Some, slice_get}
 use denote.Param.Send.{sendable}
 use Rattle.std.proofs.Crossing.{crosses}
-use Rattle.crossbeam_utils.specs.Padded.{padded_value}
 use Rattle.dep_iter.proofs.Fitting.{at_index}
-use Rattle.run_pool.specs.Desks.{AreReady, HasWorkedAt, HaveWorked, IsReady}
-use Rattle.run_pool.proofs.Places.{lent_back}
 use Rattle.run_pool.proofs.workers.team.Goals as goal
 
 pub for_each_mut-requires-clause-accepts : goal.for_each_mut-requires-clause-accepts
