@@ -1,7 +1,5 @@
 -- Members of lists by their places.
-use Rattle.std.proofs.Common.{◌≡◌, ℕ, zero, suc, List, [], ◌∷◌, ◌++◌, length, map, refl, ap, sym, ◌∙◌, inl, inr, ◌⊎◌, Some, slice_get, arith}
-use Rattle.std.proofs.Common.{take, drop}
-use Rattle.std.proofs.lemmas.List.{append-nil, drop_all, take_all}
+use Rattle.std.proofs.Common.{◌≡◌, ℕ, zero, suc, ◌<◌, List, [], ◌∷◌, ◌++◌, length, map, refl, ap, sym, ◌∙◌, inl, inr, ◌⊎◌, Some, slice_get, slice_index_or, arith}
 use Rattle.ptg_base.specs.Lists.{IsIn}
 
 -- a member of a list with one more is one of the list, or the one more
@@ -36,8 +34,13 @@ same_looks f (x ∷ xs) (y ∷ ys) n h =
     let here = h 0 x y refl refl in
     ap (λ u. u ∷ map f ys) here ∙ ap (λ us. f x ∷ us) rest
 
--- a list that was lent whole and came back with as many members
-pub lent_back : {A : Type 0} (xs ys : List A) (n : ℕ) → n ≡ length xs → length ys ≡ length xs → take n (ys ++ drop (length ys) xs) ≡ ys
-lent_back xs ys n whole same =
-    ap (λ zs. take n (ys ++ zs)) (drop_all (length ys) xs (omega (arith, same)))
-    ∙ (ap (take n) (append-nil ys) ∙ take_all n ys (omega (arith, whole, same)))
+-- what a list has at a place
+pub below_length : {A : Type 0} (xs : List A) (k : ℕ) (x : A) → slice_get xs k ≡ Some x → k < length xs
+below_length [] k x e = absurd cc
+below_length (y ∷ ys) zero x e = omega arith
+below_length (y ∷ ys) (suc k) x e = omega (arith, below_length ys k x e)
+
+pub index_or : {A : Type 0} (xs : List A) (k : ℕ) (d x : A) → slice_get xs k ≡ Some x → slice_index_or xs k d ≡ x
+index_or [] k d x e = absurd cc
+index_or (y ∷ ys) zero d x e = cc
+index_or (y ∷ ys) (suc k) d x e = index_or ys k d x e
