@@ -1,6 +1,10 @@
 pub mod Quiets
+pub mod TaskWalks
 pub mod OpeningSteps
 pub mod Opened
+pub mod NeedsCounts
+pub mod NeedsOne
+pub mod NeedsSteps
 pub mod Closings
 pub mod Clean
 pub mod StepsAt
@@ -8,3 +12,4 @@ pub mod Sums
 pub mod Turns
 pub mod Claiming
 pub mod Ending
+pub mod Meanings

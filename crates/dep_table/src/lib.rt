@@ -3,9 +3,14 @@
 
 mod calls;
 pub mod closed;
+mod closing_room;
+mod needs;
 mod opening;
+mod outcome;
 pub mod pass;
+mod preloaded;
 pub mod quiet;
+pub mod receipt;
 mod steps;
 pub mod table;
 pub mod turn;
