@@ -1,0 +1,19 @@
+//! A run by many workers: what is made ready before it, and the team that does it.
+#![tactic(auto)]
+
+mod bytes;
+mod desk;
+mod elements;
+mod prepared;
+mod preparing;
+mod running;
+mod seating;
+mod settings;
+mod workers;
+
+pub use bytes::{preload_bytes, with_one_type_the_preload_is_a_product};
+pub use desk::Desk;
+pub use prepared::Prepared;
+pub use preparing::{PrepareFault, prepare};
+pub use settings::Settings;
+pub use workers::team;
