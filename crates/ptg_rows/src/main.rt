@@ -38,7 +38,13 @@ fn all_ways<R: Print + Files + Env + Threads + Wait + Sync + AllocGlobal>(
 ) -> io::Result<bool> {
     let at_large = all_as_wanted(rt, &Program { rt, settings: &[] })?;
     let by_bytes = all_as_wanted(rt, &ProgramByBytes { rt, settings: &ONE })?;
-    let by_many = all_as_wanted(rt, &Program { rt, settings: &MANY })?;
+    let by_many = all_as_wanted(
+        rt,
+        &Program {
+            rt,
+            settings: &MANY,
+        },
+    )?;
     Ok(at_large && by_bytes && by_many)
 }
 

@@ -20,7 +20,8 @@ pub fn with_settings(
 
 fn leaves_settings_open(words: &[Text]) -> bool {
     match words.first() {
-        Some(verb) => verb.bytes() == b"run".as_slice() && words.iter().all(|word| !is_setting(word)),
+        Some(verb) => verb.bytes() == b"run".as_slice()
+            && words.iter().all(|word| !is_setting(word)),
         None => false,
     }
 }

@@ -66,9 +66,15 @@ pub fn ptg_main<R: Threads + Wait + Sync, F: Files, O: Sink, G: Gate>(
     let host = Host { rt, alloc, gate };
     match judge(&host, words, files) {
         Ok(verdict) => match tell(&verdict, out) {
-            Ok(()) => Ended { status: status(&verdict) },
-            Err(Failed) => Ended { status: Status::WriteFault },
+            Ok(()) => Ended {
+                status: status(&verdict),
+            },
+            Err(Failed) => Ended {
+                status: Status::WriteFault,
+            },
         },
-        Err(OutOfMemory) => Ended { status: Status::OutOfMemory },
+        Err(OutOfMemory) => Ended {
+            status: Status::OutOfMemory,
+        },
     }
 }
