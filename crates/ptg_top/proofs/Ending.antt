@@ -52,6 +52,7 @@ of_texts (verdicts.Answered P (outcome.Complete count given)) h = (λ e. absurd 
 of_texts (verdicts.Answered P (outcome.Trapped rows)) h = (λ e. absurd cc, λ e. absurd cc, λ e. absurd cc)
 of_texts (verdicts.Answered P (outcome.Stalled ran total rows)) h = (λ e. absurd cc, λ e. absurd cc, λ e. absurd cc)
 of_texts (verdicts.Spelling text) h = (λ e. absurd cc, λ e. absurd cc, λ e. absurd cc)
+of_texts verdicts.Preload h = (λ e. absurd cc, λ e. absurd cc, λ e. absurd cc)
 
 not_usage : ◌≡◌ {A = Status} status.ReadFault status.Usage → ⊥
 not_usage e = absurd cc

@@ -1,4 +1,5 @@
 pub mod Requested
+pub mod Settings
 pub mod Checked
 pub mod Answered
 pub mod Carried

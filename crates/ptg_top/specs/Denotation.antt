@@ -9,13 +9,14 @@ use Rattle.ptg_top.specs.declared.verdict.Verdict.{Verdict}
 use Rattle.ptg_top.specs.declared.verdict.Verdict.TheVariants as verdicts
 
 -- The arguments form no command; the file of this name could not be read; a refusal, or a job that was found consistent; the answer
--- of a job with this plan; the canonical spelling of a JDF.
+-- of a job with this plan; the canonical spelling of a JDF; a preload that is too large.
 pub data Denotation : Type 0 where
   Usage : Denotation
   Unread : List ℕ → Denotation
   Job : JobVerdict → Denotation
   Answered : Plan → Outcome → Denotation
   Spelling : List ℕ → Denotation
+  Preload : Denotation
 
 -- the plan of the job that was run
 abbrev pub plan_of : RanBy → Plan
@@ -28,3 +29,4 @@ denoted (verdicts.Unread name) = Unread name
 denoted (verdicts.Job job) = Job job
 denoted (verdicts.Answered by outcome) = Answered (plan_of by) outcome
 denoted (verdicts.Spelling text) = Spelling text
+denoted verdicts.Preload = Preload

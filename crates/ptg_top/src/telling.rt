@@ -30,6 +30,7 @@ pub fn tell<O: Sink>(verdict: &Verdict, out: &mut O) -> Result<(), Failed>
         Verdict::Job(job) => tell_job(job, out),
         Verdict::Answered(by, outcome) => tell_answer(by, outcome, out),
         Verdict::Spelling(text) => spell(text, out),
+        Verdict::Preload => refusal(&Line::Preload, out),
     }
 }
 
@@ -53,5 +54,6 @@ pub fn status(verdict: &Verdict) -> Status
         Verdict::Job(job) => status_of_job(job),
         Verdict::Answered(_, outcome) => status_of_outcome(outcome),
         Verdict::Spelling(_) => Status::Complete,
+        Verdict::Preload => Status::PreloadTooLarge,
     }
 }

@@ -18,6 +18,8 @@ pub enum Verdict {
     Answered(RanBy, Outcome),
     /// The canonical spelling of a JDF.
     Spelling(Text),
+    /// A preload that is too large.
+    Preload,
 }
 
 /// By whom a job was run. It has the job.
