@@ -1,0 +1,6 @@
+pub mod Chains
+pub mod Weights
+pub mod Levels
+pub mod Printed
+pub mod Certificates
+pub mod Checked

@@ -1,0 +1,99 @@
+-- Edges that have come, and how many of them go to a task.
+use Rattle.std.proofs.Common.{◌≡◌, ◌+◌, ◌≤◌, List, [], ◌∷◌, ◌++◌, refl, sym, subst, inl, inr, arith}
+use Rattle.std.specs.List.{filter}
+use Rattle.ptg_base.specs.Lists.{HasNoRepeats, IsIn}
+use Rattle.ptg_base.specs.Task.{Task}
+use Rattle.ptg_base.specs.TaskComparing.{same_task}
+use Rattle.ptg_base.specs.TaskLaws.{same_task-decides}
+use Rattle.ptg_base.specs.declared.edge.Edge.{Edge}
+use Rattle.plan_core.specs.declared.plan.Plan.{Plan}
+use Rattle.range_space.proofs.MemberLists.{IsIn-append_left, IsIn-append_right, IsIn-flat_map, from_append, from_flat_map}
+use Rattle.dep_iter.specs.Tasks.{IsTask, all_tasks}
+use Rattle.dep_iter.specs.Edges.{goal, in_edges}
+use Rattle.dep_iter.specs.Items.{out_edges}
+use Rattle.dep_iter.specs.Consistent.{IsConsistent}
+use Rattle.dep_iter.proofs.Belonging.{out_edge_is}
+use Rattle.dep_iter.proofs.Listing.{listed}
+use Rattle.flow_meaning.specs.Counting.{as_number}
+use Rattle.flow_meaning.specs.Order.{IsLegalOrder}
+use Rattle.flow_meaning.proofs.Counting.{weigh-push}
+use Rattle.flow_meaning.proofs.Members.{in_edge_to}
+use Rattle.flow_meaning.proofs.Quiet.{filtered}
+use Rattle.task_order.specs.Growing.{HaveCome, MayCome, edges_to}
+use Rattle.task_order.proofs.Lists.{apart, at_most, distinct-filter, distinct_part, length-filter, once_both, once_left, onto}
+use Rattle.task_order.proofs.Orders.{legal_tasks}
+
+pub out_from : (P : Plan) (s : Task) (e : Edge) → IsIn e (out_edges P s) → e.from ≡ s
+out_from P s e h = ((out_edge_is P s e).0 h).0
+
+-- edges that have come, and the first of them
+pub come_first : (P : Plan) (order : List Task) (es fs : List Edge) → HaveCome P order (es ++ fs) → HaveCome P order es
+come_first P order es fs h = record {
+  once = once_left es fs h.once;
+  from = λ e i. h.from e (IsIn-append_left e es fs i);
+  out = λ e i. h.out e (IsIn-append_left e es fs i);
+}
+
+-- edges that have come stay so in a longer order
+pub come_longer : (P : Plan) (order more : List Task) (es : List Edge) → HaveCome P order es → HaveCome P (order ++ more) es
+come_longer P order more es h = record { once = h.once; from = λ e i. IsIn-append_left e.from order more (h.from e i); out = h.out }
+
+-- the edge behind those that have come may come
+pub may_come : (P : Plan) (order : List Task) (es : List Edge) (e : Edge) (rest : List Edge) → HaveCome P order (es ++ e ∷ rest) → MayCome P es order e
+may_come P order es e rest h =
+    let here : IsIn e (es ++ e ∷ rest) = IsIn-append_right e es (e ∷ rest) (inl refl) in
+    record { new = λ i. apart es (e ∷ rest) h.once e i (inl refl); from = h.from e here; out = h.out e here }
+
+pub come_next : (P : Plan) (order : List Task) (es : List Edge) (e : Edge) → HaveCome P order es → MayCome P es order e → HaveCome P order (es ++ e ∷ [])
+come_next P order es e h may = record {
+  once = once_both es (e ∷ []) h.once ((λ i. i), tt) (λ d i j. elim j [ inl q ↦ may.new (subst (λ x. IsIn x es) q i) | inr never ↦ never ]);
+  from = λ d i. elim (from_append d es (e ∷ []) i) [ inl old ↦ h.from d old | inr new ↦ elim new [ inl q ↦ subst (λ (x : Edge). IsIn x.from order) (sym q) may.from | inr never ↦ absurd never ] ];
+  out = λ d i. elim (from_append d es (e ∷ []) i) [ inl old ↦ h.out d old | inr new ↦ elim new [ inl q ↦ subst (λ (x : Edge). IsIn x (out_edges P x.from)) (sym q) may.out | inr never ↦ absurd never ] ];
+}
+
+pub to_push : (t : Task) (es : List Edge) (e : Edge) → edges_to t (es ++ e ∷ []) ≡ edges_to t es + as_number (same_task t e.to)
+to_push t es e = weigh-push (λ (d : Edge). as_number (same_task t d.to)) es e
+
+module _ (P : Plan) (con : IsConsistent P) where
+  -- an edge out of a task goes into a task of the job, and the other way round
+  pub goes_into : (s : Task) → IsTask P s → (e : Edge) → IsIn e (out_edges P s) → IsIn e (in_edges P e.to)
+  goes_into s job e h =
+      let p = from_flat_map (in_edges P) (all_tasks P) e ((con.same_edges e).1 (IsIn-flat_map (out_edges P) (all_tasks P) s e ((listed P s).0 job) h)) in
+      subst (λ t. IsIn e (in_edges P t)) (sym (in_edge_to P p.0 e p.2)) p.2
+
+  pub comes_from : (t : Task) → IsTask P t → (e : Edge) → IsIn e (in_edges P t) → IsIn e (out_edges P e.from)
+  comes_from t job e h =
+      let p = from_flat_map (out_edges P) (all_tasks P) e ((con.same_edges e).0 (IsIn-flat_map (in_edges P) (all_tasks P) t e ((listed P t).0 job) h)) in
+      subst (λ s. IsIn e (out_edges P s)) (sym (out_from P p.0 e p.2)) p.2
+
+  pub ins_once : (t : Task) → IsTask P t → HasNoRepeats (in_edges P t)
+  ins_once t job = distinct_part (in_edges P) (all_tasks P) con.no_in_edge_twice t ((listed P t).0 job)
+
+  pub outs_once : (t : Task) → IsTask P t → HasNoRepeats (out_edges P t)
+  outs_once t job = distinct_part (out_edges P) (all_tasks P) con.no_out_edge_twice t ((listed P t).0 job)
+
+  module _ (order : List Task) (legal : IsLegalOrder P order) (came : List Edge) (h : HaveCome P order came) (t : Task) where
+    these_in : (e : Edge) → IsIn e (filter (λ (d : Edge). same_task t d.to) came) → IsIn e (in_edges P t)
+    these_in e i =
+        let p = (filtered (λ (d : Edge). same_task t d.to) came e).0 i in
+        let to : t ≡ e.to = (same_task-decides t e.to).0 p.1 in
+        subst (λ u. IsIn e (in_edges P u)) (sym to) (goes_into e.from (legal_tasks P [] order legal e.from (h.from e p.0)) e (h.out e p.0))
+
+    -- no more have come to a task than go into it
+    pub to_at_most : edges_to t came ≤ goal P t
+    to_at_most =
+        let few = at_most (filter (λ (d : Edge). same_task t d.to) came) (in_edges P t) (distinct-filter (λ (d : Edge). same_task t d.to) came h.once) these_in in
+        omega (arith, few, length-filter (λ (d : Edge). same_task t d.to) came)
+
+    -- where as many have come, all have
+    pub all_came : goal P t ≤ edges_to t came → (e : Edge) → IsIn e (in_edges P t) → IsIn e came
+    all_came enough e i =
+        let j = onto (filter (λ (d : Edge). same_task t d.to) came) (in_edges P t) (distinct-filter (λ (d : Edge). same_task t d.to) came h.once) these_in (omega (arith, enough, length-filter (λ (d : Edge). same_task t d.to) came)) e i in
+        ((filtered (λ (d : Edge). same_task t d.to) came e).0 j).0
+
+    -- and the other way round
+    pub as_many : IsTask P t → ((e : Edge) → IsIn e (in_edges P t) → IsIn e came) → goal P t ≤ edges_to t came
+    as_many job all =
+        let few = at_most (in_edges P t) (filter (λ (d : Edge). same_task t d.to) came) (ins_once t job)
+        (λ e i. (filtered (λ (d : Edge). same_task t d.to) came e).1 (all e i, (same_task-decides t e.to).1 (sym (in_edge_to P t e i)))) in
+        omega (arith, few, length-filter (λ (d : Edge). same_task t d.to) came)

@@ -1,0 +1,8 @@
+pub mod Lists
+pub mod Orders
+pub mod Coming
+pub mod Grown
+pub mod Listing
+pub mod Passing
+pub mod Running
+pub mod Tables

@@ -1,0 +1,83 @@
+-- What legal orders are like, and greatest ones.
+use Rattle.std.proofs.Common.{List, [], ◌∷◌, ◌++◌, refl, sym, subst, append_assoc, ◌⊎◌, inl, inr}
+use Rattle.std.proofs.lemmas.List.{append-nil}
+use Rattle.ptg_base.specs.Lists.{HasNoRepeats, IsIn}
+use Rattle.ptg_base.specs.Task.{Task}
+use Rattle.ptg_base.specs.declared.edge.Edge.{Edge}
+use Rattle.plan_core.specs.declared.plan.Plan.{Plan}
+use Rattle.range_space.proofs.MemberLists.{IsIn-append_left, IsIn-append_right, from_append}
+use Rattle.dep_iter.specs.Tasks.{IsTask}
+use Rattle.dep_iter.specs.Edges.{in_edges}
+use Rattle.flow_meaning.specs.Order.{IsLegalAfter, MayFollow}
+use Rattle.task_order.specs.Greatest.{IsGreatestOrder}
+use Rattle.task_order.proofs.Lists.{member_or_not}
+
+-- one more task that may follow
+pub legal_push : (P : Plan) (before ts : List Task) (t : Task) → IsLegalAfter P before ts → MayFollow P (before ++ ts) t → IsLegalAfter P before (ts ++ t ∷ [])
+legal_push P before [] t l m = (subst (λ us. MayFollow P us t) (append-nil before) m, tt)
+legal_push P before (u ∷ us) t l m = (l.0, legal_push P (before ++ u ∷ []) us t l.1 (subst (λ vs. MayFollow P vs t) (sym (append_assoc before (u ∷ []) us)) m))
+
+-- the members are tasks of the job
+pub legal_tasks : (P : Plan) (before ts : List Task) → IsLegalAfter P before ts → (t : Task) → IsIn t ts → IsTask P t
+legal_tasks P before [] l t i = absurd i
+legal_tasks P before (u ∷ us) l t i = elim i [ inl e ↦ subst (IsTask P) (sym e) l.0.task | inr later ↦ legal_tasks P (before ++ u ∷ []) us l.1 t later ]
+
+-- and none of those that come before
+legal_apart : (P : Plan) (before ts : List Task) → IsLegalAfter P before ts → (t : Task) → IsIn t ts → IsIn t before → ⊥
+legal_apart P before [] l t i j = i
+legal_apart P before (u ∷ us) l t i j = elim i [
+  | inl e ↦ l.0.first_time (subst (λ v. IsIn v before) e j)
+  | inr later ↦ legal_apart P (before ++ u ∷ []) us l.1 t later (IsIn-append_left t before (u ∷ []) j)
+]
+
+pub legal_once : (P : Plan) (before ts : List Task) → IsLegalAfter P before ts → HasNoRepeats ts
+legal_once P before [] l = tt
+legal_once P before (u ∷ us) l = (
+  λ i. legal_apart P (before ++ u ∷ []) us l.1 u i (IsIn-append_right u before (u ∷ []) (inl refl)),
+  legal_once P (before ++ u ∷ []) us l.1,
+)
+
+-- the sources of the edges into a member are members too, or come before
+pub legal_sources : (P : Plan) (before ts : List Task) → IsLegalAfter P before ts → (t : Task) → IsIn t ts → (e : Edge) → IsIn e (in_edges P t) → IsIn e.from (before ++ ts)
+legal_sources P before [] l t i e h = absurd i
+legal_sources P before (u ∷ us) l t i e h = elim i [
+  | inl q ↦ IsIn-append_left e.from before (u ∷ us) (l.0.after_sources e (subst (λ v. IsIn e (in_edges P v)) q h))
+  | inr later ↦ subst (IsIn e.from) (append_assoc before (u ∷ []) us) (legal_sources P (before ++ u ∷ []) us l.1 t later e h)
+]
+
+module _ (P : Plan) (ts : List Task) (g : IsGreatestOrder P ts) where
+  -- a task is a member where the sources of all edges into it are
+  pub joins : (t : Task) → IsTask P t → ((e : Edge) → IsIn e (in_edges P t) → IsIn e.from ts) → IsIn t ts
+  joins t job sources = elim (member_or_not t ts) [
+    | inl i ↦ i
+    | inr absent ↦ absurd (g.greatest t (record { task = job; first_time = absent; after_sources = sources }))
+  ]
+
+  -- a legal order has no other members
+  pub has_those : (before us : List Task) → IsLegalAfter P before us → ((t : Task) → IsIn t before → IsIn t ts) → (t : Task) → IsIn t us → IsIn t ts
+  has_those before [] l has t i = absurd i
+  has_those before (u ∷ us) l has t i =
+      let here = joins u l.0.task (λ e h. has e.from (l.0.after_sources e h)) in
+      elim i [
+        | inl e ↦ subst (λ v. IsIn v ts) (sym e) here
+        | inr later ↦ has_those (before ++ u ∷ []) us l.1
+            (λ v j. elim (from_append v before (u ∷ []) j) [
+              | inl old ↦ has v old
+              | inr new ↦ elim new [ inl q ↦ subst (λ w. IsIn w ts) (sym q) here | inr never ↦ absurd never ]
+            ]) t later
+      ]
+
+  -- of edges some comes from outside, or all come from members
+  outside : (es : List Edge) → ((e : Edge) × IsIn e es × (IsIn e.from ts → ⊥)) ⊎ ((e : Edge) → IsIn e es → IsIn e.from ts)
+  outside [] = inr (λ e i. absurd i)
+  outside (d ∷ ds) = elim (member_or_not d.from ts) [
+    | inr absent ↦ inl (d, inl refl, absent)
+    | inl i ↦ elim (outside ds) [
+      | inl p ↦ inl (p.0, inr p.1, p.2)
+      | inr all ↦ inr (λ e j. elim j [ inl q ↦ subst (λ (x : Edge). IsIn x.from ts) (sym q) i | inr later ↦ all e later ])
+    ]
+  ]
+
+  -- an edge into a task outside comes from outside
+  pub from_outside : (t : Task) → IsTask P t → (IsIn t ts → ⊥) → (e : Edge) × IsIn e (in_edges P t) × (IsIn e.from ts → ⊥)
+  from_outside t job absent = elim (outside (in_edges P t)) [ inl p ↦ p | inr all ↦ absurd (absent (joins t job all)) ]

@@ -1,0 +1,145 @@
+-- Where no task traps, a greatest legal order has the tasks that run.
+use Rattle.std.proofs.Common.{◌≡◌, ℕ, zero, suc, ◌≤◌, ◌↔◌, Bool, true, false, cond, List, [], ◌∷◌, ◌++◌, length, refl, ap, sym, ◌∙◌, subst, inl, inr, Option, Some, None, Ok, Err, is_some, arith}
+use Rattle.std.proofs.lemmas.Bool.{false≢true}
+use Rattle.std.specs.List.{filter, flat_map}
+use Rattle.std.specs.Prelude.{option_map}
+use Rattle.ptg_base.specs.Lists.{HasNoRepeats, IsIn}
+use Rattle.ptg_base.specs.Task.{Task}
+use Rattle.ptg_base.specs.TaskComparing.{same_task}
+use Rattle.ptg_base.specs.TaskLaws.{same_task-decides}
+use Rattle.ptg_base.specs.TaskOrder.{in_task_order, insert_by}
+use Rattle.ptg_base.specs.declared.edge.Edge.{Edge}
+use Rattle.plan_core.specs.declared.plan.Plan.{Plan}
+use Rattle.plan_core.specs.declared.class.ClassPlan.{ClassPlan}
+use Rattle.coll_data.specs.Data.{Data}
+use Rattle.body_eval.specs.Meaning.{body_meaning}
+use Rattle.range_space.proofs.MemberLists.{IsIn-flat_map, from_append}
+use Rattle.range_space.proofs.Stepping.{by_test}
+use Rattle.dep_iter.specs.Tasks.{IsTask, all_tasks, locals_of}
+use Rattle.dep_iter.specs.Edges.{in_edges}
+use Rattle.dep_iter.specs.Consistent.{IsConsistent}
+use Rattle.dep_iter.proofs.Listing.{listed}
+use Rattle.flow_meaning.specs.declared.outcome.TrapRow.{TrapRow}
+use Rattle.flow_meaning.specs.Counting.{HasSameMembers, as_number, count}
+use Rattle.flow_meaning.specs.Starting.{starting_tiles}
+use Rattle.flow_meaning.specs.Ending.{Ended, ended_on, has_outputs}
+use Rattle.flow_meaning.specs.Backward.{ended, ended_within, has_all_sources, source_tile}
+use Rattle.flow_meaning.specs.Answer.{ran, trap_rows, trapped}
+use Rattle.flow_meaning.specs.Order.{IsLegalAfter}
+use Rattle.flow_meaning.proofs.Counting.{count-some}
+use Rattle.flow_meaning.proofs.Counts.{same_counts}
+use Rattle.flow_meaning.proofs.Enough.{fixed, with_outputs, with_some}
+use Rattle.flow_meaning.proofs.Members.{all_at, all_from, source_is_task}
+use Rattle.flow_meaning.proofs.Once.{tasks_once}
+use Rattle.flow_meaning.proofs.Quiet.{filtered}
+use Rattle.flow_meaning.proofs.Rounds.{has_sources}
+use Rattle.flow_meaning.proofs.SourceEdges.{class_of}
+use Rattle.task_order.specs.Greatest.{IsGreatestOrder}
+use Rattle.task_order.proofs.Lists.{distinct-filter, distinct_once, member_or_not}
+use Rattle.task_order.proofs.Orders.{joins, legal_once, legal_tasks}
+
+-- a list that is put in order is not empty where the list is not
+not_empty : (rows : List TrapRow) (r : TrapRow) → IsIn r rows → in_task_order (λ (x : TrapRow). x.task) rows ≡ [] → ⊥
+not_empty [] r i e = i
+not_empty (x ∷ rows) r i e = inserted (in_task_order (λ (y : TrapRow). y.task) rows) e
+  where
+    inserted : (done : List TrapRow) → insert_by (λ (y : TrapRow). y.task) x done ≡ [] → ⊥
+    inserted [] q = cc
+    inserted (y ∷ ys) q = by _ q
+      where
+        by : (b : Bool) → cond b (y ∷ insert_by (λ (z : TrapRow). z.task) x ys) (x ∷ y ∷ ys) ≡ [] → ⊥
+        by true k = cc
+        by false k = cc
+
+-- how often a task is listed
+uncounted : (t : Task) (ts : List Task) → (IsIn t ts → ⊥) → count (same_task t) ts ≡ 0
+uncounted t [] absent = refl
+uncounted t (u ∷ us) absent =
+    by_test (same_task t u)
+    (λ k. absurd (absent (inl ((same_task-decides t u).0 k))))
+    (λ k. omega (arith, ap as_number k, uncounted t us (λ i. absent (inr i))))
+
+once_each : (ts : List Task) → HasNoRepeats ts → (t : Task) → count (same_task t) ts ≤ 1
+once_each [] h t = omega arith
+once_each (u ∷ us) h t =
+    by_test (same_task t u)
+    (λ k. omega (arith, ap as_number k, uncounted t us (λ i. h.0 (subst (λ v. IsIn v us) ((same_task-decides t u).0 k) i))))
+    (λ k. omega (arith, ap as_number k, once_each us h.1 t))
+
+module _ (P : Plan) (G : Data) (con : IsConsistent P) (calm : trapped P G ≡ []) where
+  -- a task that ends has outputs
+  pub all_outputs : (t : Task) → IsTask P t → is_some (ended P G t) ≡ true → has_outputs (ended P G t) ≡ true
+  unfolding trapped
+  all_outputs t job some = by (ended P G t) refl some
+    where
+      by : (o : Option Ended) → ended P G t ≡ o → is_some o ≡ true → has_outputs o ≡ true
+      by None is h = absurd (false≢true h)
+      by (Some (Ok tiles)) is h = refl
+      by (Some (Err cause)) is h =
+          let row : TrapRow = record { task = t; cause = cause } in
+          let here : IsIn row (trap_rows t (ended P G t)) = subst (λ o. IsIn row (trap_rows t o)) (sym is) (inl refl) in
+          absurd (not_empty (flat_map (λ u. trap_rows u (ended P G u)) (all_tasks P)) row (IsIn-flat_map (λ u. trap_rows u (ended P G u)) (all_tasks P) t row ((listed P t).0 job) here) calm)
+
+  -- a task ends whose sources all have outputs
+  ends_after : (t : Task) → IsTask P t → ((e : Edge) → IsIn e (in_edges P t) → has_outputs (ended P G e.from) ≡ true) → is_some (ended P G t) ≡ true
+  unfolding ended_on
+  ends_after t job sources =
+      let all : has_all_sources P (ended P G) t ≡ true = all_from (λ (e : Edge). has_outputs (ended P G e.from)) (in_edges P t) sources in
+      let h = class_of P t job in
+      ap is_some (fixed P G con t job ∙ ap (λ b. cond b (ended_on P G (source_tile (ended P G)) t) None) all
+      ∙ ap (λ o. option_map (λ (c : ClassPlan). body_meaning c.body (locals_of P t) (starting_tiles P G (source_tile (ended P G)) t)) o) h.class_is)
+
+  -- each member of a legal order ends
+  pub legal_ends : (before ts : List Task) → IsLegalAfter P before ts → ((t : Task) → IsIn t before → is_some (ended P G t) ≡ true) → (t : Task) → IsIn t ts → is_some (ended P G t) ≡ true
+  legal_ends before [] l had t i = absurd i
+  legal_ends before (u ∷ us) l had t i =
+      let here = ends_after u l.0.task (λ e j. all_outputs e.from (source_is_task P con u l.0.task e j) (had e.from (l.0.after_sources e j))) in
+      elim i [
+        | inl e ↦ subst (λ v. is_some (ended P G v) ≡ true) (sym e) here
+        | inr later ↦ legal_ends (before ++ u ∷ []) us l.1
+            (λ v j. elim (from_append v before (u ∷ []) j) [
+              | inl old ↦ had v old
+              | inr new ↦ elim new [ inl q ↦ subst (λ w. is_some (ended P G w) ≡ true) (sym q) here | inr never ↦ absurd never ]
+            ]) t later
+      ]
+
+  module _ (ts : List Task) (g : IsGreatestOrder P ts) where
+    -- a task that ends within some rounds is a member
+    within : (n : ℕ) (t : Task) → IsTask P t → (v : Ended) → ended_within P G n t ≡ Some v → IsIn t ts
+    unfolding ended_within
+    within zero t job v e = absurd cc
+    within (suc n) t job v e =
+        let all = has_sources P G con t job (ended_within P G n) v e in
+        joins P ts g t job (λ d i.
+        let o = with_outputs (ended_within P G n d.from) (all_at (λ (d : Edge). has_outputs (ended_within P G n d.from)) (in_edges P t) all d i) in
+        within n d.from (source_is_task P con t job d i) o.0 o.1)
+
+    pub member_ends : (t : Task) → IsIn t ts → is_some (ended P G t) ≡ true
+    member_ends t i = legal_ends [] ts g.legal (λ u j. absurd j) t i
+
+    pub ends_member : (t : Task) → IsTask P t → is_some (ended P G t) ≡ true → IsIn t ts
+    unfolding ended
+    ends_member t job h = let o = with_some (ended P G t) h in within (length (all_tasks P)) t job o.0 o.1
+
+    -- the members are the tasks that run
+    pub members_ran : (t : Task) → IsIn t ts ↔ IsIn t (ran P G)
+    unfolding ran
+    members_ran t =
+        let f = filtered (λ u. is_some (ended P G u)) (all_tasks P) t in (
+          λ i. f.1 ((listed P t).0 (legal_tasks P [] ts g.legal t i), member_ends t i),
+          λ i. let p = f.0 i in ends_member t ((listed P t).1 p.0) p.1,
+        )
+
+    -- each is listed once
+    same_count : (t : Task) → count (same_task t) ts ≡ count (same_task t) (ran P G)
+    unfolding ran
+    same_count t =
+        let there = once_each (filter (λ u. is_some (ended P G u)) (all_tasks P)) (distinct-filter (λ u. is_some (ended P G u)) (all_tasks P) (distinct_once (all_tasks P) (tasks_once P))) t in
+        let here = once_each ts (legal_once P [] ts g.legal) t in
+        elim (member_or_not t ts) [
+          | inl i ↦ omega (arith, here, there, count-some (same_task t) ts t i ((same_task-decides t t).1 refl), count-some (same_task t) (ran P G) t ((members_ran t).0 i) ((same_task-decides t t).1 refl))
+          | inr absent ↦ uncounted t ts absent ∙ sym (uncounted t (ran P G) (λ i. absent ((members_ran t).1 i)))
+        ]
+
+    pub same_members : HasSameMembers ts (ran P G)
+    same_members = (same_counts same_task same_task-decides ts (ran P G)).1 same_count

@@ -1,0 +1,14 @@
+use Rattle.std.proofs.Common.{◌-◌, ◌≤◌, length, take}
+use Rattle.dep_iter.specs.Tasks.{all_tasks}
+use Rattle.task_order.specs.Growing.{HasGrown, edges_of}
+use Rattle.task_order.proofs.order.order_of.Given as goal
+
+abbrev pub invariant-loop-at : goal.invariant-loop-at
+invariant-loop-at l = record {
+  within : l.at ≤ length l.growing.order.items;
+  grown : HasGrown l.m (edges_of l.m (take l.at l.growing.order.items)) l.growing.order.items l.growing.lacking.entries;
+}
+
+-- each turn, the edges out of one more task have come
+abbrev pub decreases-loop-at : goal.decreases-loop-at
+decreases-loop-at l = length (all_tasks l.m) - l.at

@@ -1,0 +1,58 @@
+//! An order that grows as edges come.
+
+ghost use Rattle.std.specs.Prelude.{◌≡◌, [], ◌∷◌, IfOk, OnOk, List};
+ghost use Rattle.ptg_base.specs.declared.edge.Edge.{Edge as EdgeValue};
+ghost use Rattle.dep_iter.specs.Items as items;
+ghost use Rattle.task_order.specs.Growing.{GrowsBy, HasGrown, IsNext, MayCome};
+
+use crate::copying::copy_of;
+use crate::lacking::note_edge;
+use crate::roots::push_roots;
+use dep_iter::{Matched, out_edges};
+use indexmap::IndexMap;
+use ptg_base::{Edge, OutOfMemory, TaskId};
+use std::alloc::Global;
+
+// The tasks in their order, and how many edges each of the others lacks, if an edge into it has come.
+#[derive(Drop)]
+pub(crate) struct Growing {
+    pub(crate) order: Vec<TaskId>,
+    pub(crate) lacking: IndexMap<TaskId, u32>,
+}
+
+// The order before an edge has come: the tasks that no edge goes into.
+pub(crate) fn start(alloc: Global, m: &Matched) -> Result<Growing, OutOfMemory>
+    ensures { IfOk result (λ growing. HasGrown m.now [] growing.order.items growing.lacking.entries) }
+{
+    let _ = m.plan();
+    let mut order = Vec::new(alloc);
+    push_roots(&mut order, m, 0)?;
+    Ok(Growing {
+        order,
+        lacking: IndexMap::new(alloc),
+    })
+}
+
+// Lets an edge come to the task that it goes to, which joins the order if it lacks no other.
+fn let_come(growing: &mut Growing, m: &Matched, edge: &Edge) -> Result<(), OutOfMemory>
+    requires { (came : List EdgeValue) × HasGrown m.now came growing.old.order.items growing.old.lacking.entries × MayCome m.now came growing.old.order.items edge.now }
+    ensures { OnOk result (GrowsBy m.now (edge.now ∷ []) growing.old.order.items growing.old.lacking.entries growing.new.order.items growing.new.lacking.entries) }
+{
+    let _ = m.plan();
+    let left = note_edge(&mut growing.lacking, m, &edge.to)?;
+    if left == 0 {
+        growing.order.push(copy_of(&edge.to))?;
+    }
+    Ok(())
+}
+
+// Lets all edges out of a task of the order come.
+pub(crate) fn pass(growing: &mut Growing, m: &Matched, t: &TaskId) -> Result<(), OutOfMemory>
+    requires { (came : List EdgeValue) × HasGrown m.now came growing.old.order.items growing.old.lacking.entries × IsNext m.now came growing.old.order.items t.now }
+    ensures { OnOk result (GrowsBy m.now (items.out_edges m.now t.now) growing.old.order.items growing.old.lacking.entries growing.new.order.items growing.new.lacking.entries) }
+{
+    for edge in out_edges(m.plan(), t) {
+        let_come(growing, m, &edge)?;
+    }
+    Ok(())
+}

@@ -1,0 +1,15 @@
+//! A greatest legal order of the tasks of a job, from its edges alone.
+#![tactic(auto)]
+
+mod copying;
+mod growing;
+mod lacking;
+mod laws;
+mod order;
+mod roots;
+
+pub use laws::{
+    a_greatest_order_has_the_tasks_that_run, a_task_outside_has_a_source_outside,
+    no_legal_order_has_more,
+};
+pub use order::order_of;
