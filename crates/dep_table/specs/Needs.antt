@@ -37,7 +37,7 @@ AreNeedsOf P of ts ns = (k : ℕ) (n : Needs) → slice_get ns k ≡ Some n → 
 abbrev pub HaveTypes : ℕ → List Needs → Type 0
 HaveTypes types ns = (k : ℕ) (n : Needs) → slice_get ns k ≡ Some n → length n.tiles.items ≡ types
 
--- Old is what the shards need for the tasks before these, and new also has what they need for these.
+-- Where old is what the shards need for some tasks, new is what they need for those and for these.
 pub record AddsNeeds (P : Plan) (of : Placement) (ts : List Task) (old new : List Needs) : Type 0 where
   pub count : length new ≡ length old
   pub types : HaveTypes (length P.elems) old → HaveTypes (length P.elems) new
