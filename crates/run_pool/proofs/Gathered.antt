@@ -1,5 +1,5 @@
 -- The passes of workers that are done are all passes of the table, and one of them has seen quiet.
-use Rattle.std.proofs.Common.{◌≡◌, ℕ, zero, suc, ◌<◌, Bool, true, false, List, [], ◌∷◌, length, map, refl, ap, sym, ◌∙◌, subst, inl, inr, Option, Some, None, Result, Ok, Err, slice_get, slice_index_or, arith}
+use Rattle.std.proofs.Common.{◌≡◌, ℕ, Bool, true, false, List, length, map, refl, sym, ◌∙◌, subst, Option, Some, None, Result, Ok, Err, slice_get, slice_index_or}
 use Rattle.std.specs.Prelude.{IsSome}
 use Rattle.atomic_table.specs.Seated.{TableId}
 use Rattle.ptg_base.specs.Lists.{IsIn}
@@ -13,7 +13,7 @@ use Rattle.worker_core.specs.declared.worker.Worked.{Worked}
 use Rattle.table_rule.specs.Names.{AreAll, Name}
 use Rattle.dep_table.specs.Closing.{AreAllPasses}
 use Rattle.dep_table.specs.Passes.{IsPassOf}
-use Rattle.dep_table.specs.Views.{PassView, shown}
+use Rattle.dep_table.specs.Views.{shown}
 use Rattle.run_pool.specs.Desks.{AnswerSays, HasWorkedAt, HaveWorked}
 use Rattle.run_pool.specs.Seated.{AreSeated, HaveAnswered, IsDone, OneWasRefused, PaddedDesk, answer_on, pass_on, record_on}
 use Rattle.run_pool.proofs.Places.{below_length, has_both, index_or, same_looks}
