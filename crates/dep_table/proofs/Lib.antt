@@ -13,3 +13,9 @@ pub mod Turns
 pub mod Claiming
 pub mod Ending
 pub mod Meanings
+pub mod SendingTurn
+pub mod SendingAt
+pub mod Sharing
+pub mod Working
+pub mod Scans
+pub mod Tried
