@@ -12,6 +12,7 @@ pub mod Sums
 pub mod Turns
 pub mod Claiming
 pub mod Ending
+pub mod Meanings
 pub mod SendingTurn
 pub mod SendingAt
 pub mod Sharing

@@ -11,3 +11,6 @@ pub mod ClosedTables
 pub mod Boards
 pub mod Receipts
 pub mod ClosedMeaning
+pub mod Receipts
+pub mod ClosedMeaning
+pub mod Boards

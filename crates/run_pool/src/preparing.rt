@@ -65,7 +65,7 @@ fn open(
     ensures job { IfOk result (λ r. job_of r.0 ≡ (run_of m given settings).job) }
 {
     if settings.preload {
-        DepTable::new(alloc, m, given, settings.shards)
+        DepTable::new_preloaded(alloc, m, given, settings.shards)
     } else {
         DepTable::new(alloc, m, given, settings.shards)
     }

@@ -1,4 +1,3 @@
-use Rattle.std.proofs.Common.{rules}
 use Rattle.run_pool.proofs.preparing.prepare.Goals as goal
 
 pub returns-in_ok-lay_out-in-None-clause-too_large : goal.returns-in_ok-lay_out-in-None-clause-too_large

@@ -1,9 +1,9 @@
-use Rattle.std.proofs.Common.{rules, ◌≡◌, ◌+◌, ◌∙◌, [], ◌∷◌, ◌++◌, length, length-append, map, ap, sym, subst, inl, inr, refl, arith, append_assoc, Result, Ok, Err, OnErr, Option, Some}
+use Rattle.std.proofs.Common.{◌≡◌, ◌∙◌, [], ◌∷◌, ◌++◌, length, length-append, map, ap, sym, subst, inl, inr, refl, arith, append_assoc, Result, Ok, Err, OnErr}
 use Rattle.std.specs.Prelude.{IsSome}
 use Rattle.ptg_base.specs.Lists.{IsIn}
 use Rattle.dep_table.specs.Views.{PassView}
 use Rattle.run_pool.specs.declared.desk.Desk.{Desk}
-use Rattle.run_pool.specs.Seated.{IsDone, OneWasRefused, PaddedDesk, answer_on, pass_on}
+use Rattle.run_pool.specs.Seated.{IsDone, pass_on}
 use Rattle.run_pool.proofs.running.passes_of.Goals as goal
 
 on_err : {A E P : Type 0} (r : Result A E) → P → OnErr r P
