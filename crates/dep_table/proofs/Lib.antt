@@ -19,4 +19,3 @@ pub mod Sharing
 pub mod Working
 pub mod Scans
 pub mod Tried
-pub mod Meanings

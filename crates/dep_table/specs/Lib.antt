@@ -8,9 +8,6 @@ pub mod Opened
 pub mod Needs
 pub mod Closing
 pub mod ClosedTables
-pub mod Boards
-pub mod Receipts
-pub mod ClosedMeaning
 pub mod Receipts
 pub mod ClosedMeaning
 pub mod Boards
