@@ -1,0 +1,68 @@
+//! Runs jobs through the program with gates that wait or count, and prints how each run ends. Two bodies at once show that there are
+//! two threads, and a count of the bodies of each task that each is run once.
+#![tactic(auto)]
+
+mod counting;
+mod jobs;
+mod meeting;
+mod runs;
+
+use crate::counting::Counting;
+use crate::jobs::{CHOLESKY, CHOLESKY_ANSWER, CHOLESKY_DATA, PAIR, PAIR_ANSWER, PAIR_DATA};
+use crate::meeting::Meeting;
+use crate::runs::{Failure, Job, ran};
+use std::alloc::Global;
+use std::io;
+use std::sync::Wait;
+use std::thread::Threads;
+
+// Two tasks, the first of which may run its body only once the second has come.
+fn meet<R: Threads + Wait + Print + Sync>(rt: &R, alloc: Global) -> io::Result<()> {
+    let gate = Meeting::new();
+    let job = Job {
+        jdf: PAIR,
+        data: PAIR_DATA,
+        answer: PAIR_ANSWER,
+    };
+    match ran(rt, alloc, &job, "--workers 2", &gate) {
+        Ok(end) => println!(rt; "two bodies at once: {end}, the gate {}", gate.end())?,
+        Err(Failure) => println!(rt; "two bodies at once: no memory")?,
+    }
+    Ok(())
+}
+
+// Each body of the Cholesky job with four rows of tiles is counted.
+fn count<R: Threads + Wait + Print + Sync>(rt: &R, alloc: Global, options: &str) -> io::Result<()> {
+    let job = Job {
+        jdf: CHOLESKY,
+        data: CHOLESKY_DATA,
+        answer: CHOLESKY_ANSWER,
+    };
+    let Ok(gate) = Counting::new(alloc) else {
+        return println!(rt; "{options}: no memory");
+    };
+    match ran(rt, alloc, &job, options, &gate) {
+        Ok(end) => println!(rt; "{options}: {end}, {}", gate.counts())?,
+        Err(Failure) => println!(rt; "{options}: no memory")?,
+    }
+    Ok(())
+}
+
+fn main(rt: HostRuntime) -> io::Result<()> {
+    let alloc = rt.alloc();
+    meet(&rt, alloc)?;
+    for options in [
+        "--workers 1 --shards 1",
+        "--workers 1 --shards 16",
+        "--workers 4 --shards 1",
+        "--workers 4 --shards 16",
+        "--workers 64 --shards 1",
+        "--workers 64 --shards 16",
+        "--workers 1 --shards 1 --preload",
+        "--workers 4 --shards 16 --preload",
+        "--workers 64 --shards 256 --preload",
+    ] {
+        count(&rt, alloc, options)?;
+    }
+    Ok(())
+}
