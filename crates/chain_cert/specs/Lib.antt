@@ -4,3 +4,4 @@ pub mod Levels
 pub mod Printed
 pub mod Certificates
 pub mod Checked
+pub mod Checking

@@ -1,0 +1,5 @@
+pub mod Walks
+pub mod Linking
+pub mod TaskSorting
+pub mod Turning
+pub mod Unique
