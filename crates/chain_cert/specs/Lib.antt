@@ -4,3 +4,5 @@ pub mod Levels
 pub mod Printed
 pub mod Certificates
 pub mod Checked
+pub mod Checking
+pub mod Completing
