@@ -5,6 +5,7 @@ use ptg_os::{OsFiles, OsSink, words};
 use ptg_top::{Status, ptg_main};
 use std::io;
 use std::process::ExitCode;
+use worker_core::Always;
 
 fn main(rt: HostRuntime) -> ExitCode {
     let alloc = rt.alloc();
@@ -13,6 +14,6 @@ fn main(rt: HostRuntime) -> ExitCode {
     };
     let mut files = OsFiles::new(&rt, alloc);
     let mut out = OsSink::new(io::writer(&rt));
-    let status = ptg_main(alloc, words.as_slice(), &mut files, &mut out);
-    ExitCode::from(status.code())
+    let ended = ptg_main(&rt, alloc, words.as_slice(), &mut files, &mut out, &Always);
+    ExitCode::from(ended.status.code())
 }

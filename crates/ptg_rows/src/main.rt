@@ -1,11 +1,13 @@
 //! Rows of the program: each is a call of `ptg_main` with what it must print, written down in a file. The words name the
-//! files. All rows are tried twice: with reads and writes as large as may be, and with one byte a read and one a write.
-//! Prints the rows that came out otherwise.
+//! files. All rows are tried three times: with reads and writes as large as may be, with one byte a read and one a write,
+//! and with many workers and shards. Prints the rows that came out otherwise.
 #![tactic(auto)]
 
 mod bytewise;
+mod settings;
 
 use crate::bytewise::{ByteFiles, ByteSink};
+use crate::settings::with_settings;
 use ptg_base::Seq;
 use ptg_io::{MemFiles, MemSink};
 use ptg_top::ptg_main;
@@ -14,24 +16,46 @@ use std::alloc::Global;
 use std::io;
 use std::process::ExitCode;
 use std::rt::{Env, Files};
+use std::sync::Wait;
+use std::thread::Threads;
+use worker_core::Always;
+
+// One worker and one shard.
+const ONE: [&str; 4] = ["--workers", "1", "--shards", "1"];
+
+// As many workers and shards as there may be.
+const MANY: [&str; 4] = ["--workers", "64", "--shards", "256"];
 
 fn main(rt: HostRuntime) -> ExitCode {
-    match both_ways(&rt) {
+    match all_ways(&rt) {
         Ok(true) => ExitCode::SUCCESS,
         _ => ExitCode::FAILURE,
     }
 }
 
-fn both_ways<R: Print + Files + Env + AllocGlobal>(rt: &R) -> io::Result<bool> {
-    let at_large = all_as_wanted(rt, &Program)?;
-    let by_bytes = all_as_wanted(rt, &ProgramByBytes)?;
-    Ok(at_large && by_bytes)
+fn all_ways<R: Print + Files + Env + Threads + Wait + Sync + AllocGlobal>(
+    rt: &R,
+) -> io::Result<bool> {
+    let at_large = all_as_wanted(rt, &Program { rt, settings: &[] })?;
+    let by_bytes = all_as_wanted(rt, &ProgramByBytes { rt, settings: &ONE })?;
+    let by_many = all_as_wanted(
+        rt,
+        &Program {
+            rt,
+            settings: &MANY,
+        },
+    )?;
+    Ok(at_large && by_bytes && by_many)
 }
 
-// The program over files and output in memory.
-struct Program;
+// The program over files and output in memory, with settings for the rows that have none.
+#[derive(Drop)]
+struct Program<'a, R> {
+    rt: &'a R,
+    settings: &'a [&'static str],
+}
 
-impl Call for Program {
+impl<'a, R: Threads + Wait + Sync> Call for Program<'a, R> {
     fn printed(&self, alloc: Global, order: Order) -> Result<Printed, Why> {
         let Order {
             files,
@@ -39,32 +63,56 @@ impl Call for Program {
             failing_reads,
             failing_writes,
         } = order;
+        let words = with_settings(alloc, words, self.settings)?;
         let mut files = MemFiles::new(alloc, Seq::of(files), Seq::of(failing_reads))?;
         let mut out = MemSink::new(alloc, Seq::of(failing_writes));
-        let status = ptg_main(alloc, words.as_slice(), &mut files, &mut out);
+        let ended = ptg_main(
+            self.rt,
+            alloc,
+            words.as_slice(),
+            &mut files,
+            &mut out,
+            &Always,
+        );
         Ok(Printed {
             text: out.bytes().to_vec(alloc)?,
-            status: status.code(),
+            status: ended.status.code(),
         })
     }
 }
 
 // The same, byte by byte. A row in which a call fails is tried as before, since it numbers the calls of the program at large.
-struct ProgramByBytes;
+#[derive(Drop)]
+struct ProgramByBytes<'a, R> {
+    rt: &'a R,
+    settings: &'a [&'static str],
+}
 
-impl Call for ProgramByBytes {
+impl<'a, R: Threads + Wait + Sync> Call for ProgramByBytes<'a, R> {
     fn printed(&self, alloc: Global, order: Order) -> Result<Printed, Why> {
         if !order.failing_reads.is_empty() || !order.failing_writes.is_empty() {
-            return Program.printed(alloc, order);
+            let at_large = Program {
+                rt: self.rt,
+                settings: self.settings,
+            };
+            return at_large.printed(alloc, order);
         }
+        let words = with_settings(alloc, order.words, self.settings)?;
         let files = MemFiles::new(alloc, Seq::of(order.files), Seq::new(alloc))?;
         let mut files = ByteFiles { files };
         let sink = MemSink::new(alloc, Seq::new(alloc));
         let mut out = ByteSink { sink };
-        let status = ptg_main(alloc, order.words.as_slice(), &mut files, &mut out);
+        let ended = ptg_main(
+            self.rt,
+            alloc,
+            words.as_slice(),
+            &mut files,
+            &mut out,
+            &Always,
+        );
         Ok(Printed {
             text: out.sink.bytes().to_vec(alloc)?,
-            status: status.code(),
+            status: ended.status.code(),
         })
     }
 }

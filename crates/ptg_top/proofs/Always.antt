@@ -1,6 +1,6 @@
 -- Arguments and files denote a verdict.
 use Rattle.std.proofs.Common.{◌≡◌, ℕ, List, Some, refl, sym, ◌∙◌, ap, ◌⊎◌, inl, inr}
-use Rattle.std.specs.Prelude.{Option, None}
+use Rattle.std.specs.Prelude.{Option, None, if◌then◌else◌}
 use Rattle.ptg_io.specs.Files.{file_of}
 use Rattle.ptg_io.specs.Sink.{appended}
 use Rattle.ptg_words.specs.declared.order.Order.{Order}
@@ -21,6 +21,7 @@ use Rattle.ptg_top.specs.JobFiles.{Entries, ContentsDenote}
 use Rattle.ptg_top.specs.Meaning.{ContentShows, IsNoOrder, RequestDenotes, Shows, SomeMeaning}
 use Rattle.ptg_top.specs.Headline.{text_of, status_of, SomeOutput}
 use Rattle.ptg_top.specs.Answering.{IsAnswer}
+use Rattle.ptg_top.specs.Preload.{is_too_large}
 use Rattle.ptg_top.proofs.Answered.{some_on}
 use Rattle.ptg_top.proofs.Checked.{fault_refuses}
 
@@ -64,8 +65,8 @@ contents_some jdf tiles (Some text) None = elim (tree_or_fault text) [
 contents_some jdf tiles (Some text) (Some data_text) = let job = texts_some text data_text in (verdicts.Job job.0, (job.0, job.1, refl))
 
 request_some : (files : Entries) (request : Request) → (v : Denotation) × RequestDenotes files request v
-request_some files (Run jdf tiles) = let checked = contents_some jdf tiles (file_of files jdf) (file_of files tiles) in
-    let found = some_on IsAnswer (λ P given. (verdicts.Answered P (answer P given), refl)) checked.0 in
+request_some files (Run jdf tiles settings) = let checked = contents_some jdf tiles (file_of files jdf) (file_of files tiles) in
+    let found = some_on (IsAnswer settings) (λ P given. (if is_too_large settings P then verdicts.Preload else verdicts.Answered P (answer P given), refl)) checked.0 in
     (found.0, (checked.0, checked.1, found.1))
 request_some files (Show jdf) = content_shows_some jdf (file_of files jdf)
 request_some files (Check jdf tiles) = contents_some jdf tiles (file_of files jdf) (file_of files tiles)

@@ -1,10 +1,13 @@
 -- A verb that goes on from a consistent job: it has one verdict at most, and one, and what `check` says of unread files it says too.
 use Rattle.std.proofs.Common.{◌≡◌, ℕ, List, Result, Ok, Err, refl, sym, ◌∙◌, subst, inl, inr}
-use Rattle.std.specs.Prelude.{Option, Some, IfOk}
+use Rattle.std.specs.Prelude.{Option, Some, IfOk, Bool, true, false, if◌then◌else◌}
 use Rattle.ptg_base.specs.declared.memory.OutOfMemory.{OutOfMemory}
 use Rattle.coll_data.specs.Data.{Data}
 use Rattle.plan_core.specs.declared.plan.Plan.{Plan}
+use Rattle.flow_meaning.specs.Answer.{answer}
 use Rattle.job_stages.specs.declared.verdict.JobVerdict.TheVariants as jobs
+use Rattle.run_pool.specs.declared.settings.Settings.{Settings}
+use Rattle.ptg_top.specs.Preload.{is_too_large}
 use Rattle.ptg_top.specs.declared.request.Request.TheVariants.{Check, Run}
 use Rattle.ptg_top.specs.declared.verdict.Verdict.{Verdict}
 use Rattle.ptg_top.specs.Denotation as verdicts
@@ -27,21 +30,25 @@ pub kept : (Verb : Plan → Data → Denotation → Type 0) (checked : Denotatio
 kept Verb (verdicts.Job (jobs.Consistent P given)) h = absurd h
 kept Verb checked h = refl
 
--- where the verdict of `check` was on what was read, so is the answer
-answer_of_texts : (checked v : Denotation) → IsOfTexts checked → OnConsistent IsAnswer checked v → IsOfTexts v
-answer_of_texts (verdicts.Job (jobs.Consistent P given)) v of h = subst IsOfTexts (sym h) tt
-answer_of_texts checked v of h = subst IsOfTexts (sym h) of
+-- where the verdict of `check` was on what was read, so is the answer, or that the preload is too large
+answer_of_texts : (settings : Settings) (checked v : Denotation) → IsOfTexts checked → OnConsistent (IsAnswer settings) checked v → IsOfTexts v
+answer_of_texts settings (verdicts.Job (jobs.Consistent P given)) v of h = subst IsOfTexts (sym h) (either (is_too_large settings P))
+  where
+    either : (large : Bool) → IsOfTexts (if large then verdicts.Preload else verdicts.Answered P (answer P given))
+    either true = tt
+    either false = tt
+answer_of_texts settings checked v of h = subst IsOfTexts (sym h) of
 
-module _ (contents : Option Entries) (old new : List ℕ → ℕ) (jdf tiles : List ℕ) where
+module _ (contents : Option Entries) (old new : List ℕ → ℕ) (jdf tiles : List ℕ) (settings : Settings) where
   -- the verdict of `run`, from that of `check`
-  run_ends : (checked v : Denotation) → IsVerdictOnRequest contents old new (Check jdf tiles) checked → OnConsistent IsAnswer checked v → IsVerdictOnRequest contents old new (Run jdf tiles) v
-  run_ends checked v (inl (name, rose, may, e)) h = inl (name, rose, may, subst (λ (c : Denotation). OnConsistent IsAnswer c v) e h)
-  run_ends checked v (inr (of, known)) h = inr (answer_of_texts checked v of h, λ files t. (checked, known files t, h))
+  run_ends : (checked v : Denotation) → IsVerdictOnRequest contents old new (Check jdf tiles) checked → OnConsistent (IsAnswer settings) checked v → IsVerdictOnRequest contents old new (Run jdf tiles settings) v
+  run_ends checked v (inl (name, rose, may, e)) h = inl (name, rose, may, subst (λ (c : Denotation). OnConsistent (IsAnswer settings) c v) e h)
+  run_ends checked v (inr (of, known)) h = inr (answer_of_texts settings checked v of h, λ files t. (checked, known files t, h))
 
-  pub refused_ends : (checked : Denotation) → IsVerdictOnRequest contents old new (Check jdf tiles) checked → IsRefusal checked → IsVerdictOnRequest contents old new (Run jdf tiles) checked
-  refused_ends checked h refused = run_ends checked checked h (kept IsAnswer checked refused)
+  pub refused_ends : (checked : Denotation) → IsVerdictOnRequest contents old new (Check jdf tiles) checked → IsRefusal checked → IsVerdictOnRequest contents old new (Run jdf tiles settings) checked
+  refused_ends checked h refused = run_ends checked checked h (kept (IsAnswer settings) checked refused)
 
   pub answered_ends : (checked : Denotation) (P : Plan) (given : Data) (r : Result Verdict OutOfMemory) → checked ≡ verdicts.Job (jobs.Consistent P given)
-      → IsVerdictOnRequest contents old new (Check jdf tiles) checked → IfOk r (λ v. IsAnswer P given (denoted v)) → IfOk r (λ v. IsVerdictOnRequest contents old new (Run jdf tiles) (denoted v))
-  answered_ends checked P given (Ok v) e h a = run_ends checked (denoted v) h (subst (λ (c : Denotation). OnConsistent IsAnswer c (denoted v)) (sym e) a)
+      → IsVerdictOnRequest contents old new (Check jdf tiles) checked → IfOk r (λ v. IsAnswer settings P given (denoted v)) → IfOk r (λ v. IsVerdictOnRequest contents old new (Run jdf tiles settings) (denoted v))
+  answered_ends checked P given (Ok v) e h a = run_ends checked (denoted v) h (subst (λ (c : Denotation). OnConsistent (IsAnswer settings) c (denoted v)) (sym e) a)
   answered_ends checked P given (Err x) e h a = tt

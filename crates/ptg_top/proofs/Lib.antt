@@ -1,8 +1,10 @@
 pub mod Requested
+pub mod Settings
 pub mod Checked
 pub mod Answered
 pub mod Carried
 pub mod JobTexts
 pub mod Ending
+pub mod Receipts
 pub mod Once
 pub mod Always

@@ -31,9 +31,9 @@ content_shows_once name (Some text) v w h k = shows_once text v w h k
 
 -- what is asked and the files denote one verdict at most
 request_once : (files : Entries) (request : Request) (v w : Denotation) → RequestDenotes files request v → RequestDenotes files request w → v ≡ w
-request_once files (Run jdf tiles) v w (a, h, e) (b, k, d) =
-    once_on IsAnswer (λ P given x y p q. p ∙ sym q) b v w
-    (subst (λ (c : Denotation). OnConsistent IsAnswer c v) (contents_once jdf tiles (file_of files jdf) (file_of files tiles) a b h k) e) d
+request_once files (Run jdf tiles settings) v w (a, h, e) (b, k, d) =
+    once_on (IsAnswer settings) (λ P given x y p q. p ∙ sym q) b v w
+    (subst (λ (c : Denotation). OnConsistent (IsAnswer settings) c v) (contents_once jdf tiles (file_of files jdf) (file_of files tiles) a b h k) e) d
 request_once files (Show jdf) v w h k = content_shows_once jdf (file_of files jdf) v w h k
 request_once files (Check jdf tiles) v w h k = contents_once jdf tiles (file_of files jdf) (file_of files tiles) v w h k
 

@@ -1,10 +1,12 @@
 -- How a verb goes on from what `check` finds. Source: this project's own choice.
-use Rattle.std.specs.Prelude.{◌≡◌}
+use Rattle.std.specs.Prelude.{◌≡◌, if◌then◌else◌}
 use Rattle.coll_data.specs.Data.{Data}
 use Rattle.plan_core.specs.declared.plan.Plan.{Plan}
 use Rattle.flow_meaning.specs.Answer.{answer}
 use Rattle.flow_meaning.specs.declared.outcome.Outcome.{Outcome}
 use Rattle.job_stages.specs.declared.verdict.JobVerdict.TheVariants as jobs
+use Rattle.run_pool.specs.declared.settings.Settings.{Settings}
+use Rattle.ptg_top.specs.Preload.{is_too_large}
 use Rattle.ptg_top.specs.Denotation as verdicts
 use Rattle.ptg_top.specs.Denotation.{Denotation}
 
@@ -13,14 +15,16 @@ abbrev pub OnConsistent : (Plan → Data → Denotation → Type 0) → Denotati
 OnConsistent Verb (verdicts.Job (jobs.Consistent P given)) v = Verb P given v
 OnConsistent Verb checked v = v ≡ checked
 
--- the verdict is a refusal, and no consistent job
+-- a refusal of `check`: every verdict of it but a consistent job
 abbrev pub IsRefusal : Denotation → Type 0
+IsRefusal (verdicts.Unread name) = Unit {0}
 IsRefusal (verdicts.Job (jobs.Consistent P given)) = ⊥
-IsRefusal checked = Unit {0}
+IsRefusal (verdicts.Job job) = Unit {0}
+IsRefusal v = ⊥
 
--- the verdict of `run` on a consistent job: its answer
-abbrev pub IsAnswer : Plan → Data → Denotation → Type 0
-IsAnswer P given v = v ≡ verdicts.Answered P (answer P given)
+-- the verdict of `run` on a consistent job: its preload is too large, or else its answer
+abbrev pub IsAnswer : Settings → Plan → Data → Denotation → Type 0
+IsAnswer settings P given v = v ≡ (if is_too_large settings P then verdicts.Preload else verdicts.Answered P (answer P given))
 
 -- an answer of this plan, on some data
 abbrev pub IsAnswered : Plan → Outcome → Type 0

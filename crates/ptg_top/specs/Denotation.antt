@@ -4,22 +4,23 @@ use Rattle.plan_core.specs.declared.plan.Plan.{Plan}
 use Rattle.flow_meaning.specs.declared.outcome.Outcome.{Outcome}
 use Rattle.job_stages.specs.declared.verdict.JobVerdict.{JobVerdict}
 use Rattle.ptg_top.specs.declared.verdict.RanBy.{RanBy}
-use Rattle.ptg_top.specs.declared.verdict.RanBy.TheVariants.{OneThread}
+use Rattle.ptg_top.specs.declared.verdict.RanBy.TheVariants.{Table}
 use Rattle.ptg_top.specs.declared.verdict.Verdict.{Verdict}
 use Rattle.ptg_top.specs.declared.verdict.Verdict.TheVariants as verdicts
 
 -- The arguments form no command; the file of this name could not be read; a refusal, or a job that was found consistent; the answer
--- of a job with this plan; the canonical spelling of a JDF.
+-- of a job with this plan; the canonical spelling of a JDF; a preload that is too large.
 pub data Denotation : Type 0 where
   Usage : Denotation
   Unread : List ℕ → Denotation
   Job : JobVerdict → Denotation
   Answered : Plan → Outcome → Denotation
   Spelling : List ℕ → Denotation
+  Preload : Denotation
 
 -- the plan of the job that was run
 abbrev pub plan_of : RanBy → Plan
-plan_of (OneThread P) = P
+plan_of (Table receipt) = receipt.plan
 
 -- what a verdict says, whoever ran the job
 abbrev pub denoted : Verdict → Denotation
@@ -28,3 +29,4 @@ denoted (verdicts.Unread name) = Unread name
 denoted (verdicts.Job job) = Job job
 denoted (verdicts.Answered by outcome) = Answered (plan_of by) outcome
 denoted (verdicts.Spelling text) = Spelling text
+denoted verdicts.Preload = Preload

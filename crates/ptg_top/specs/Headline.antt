@@ -7,7 +7,7 @@ use Rattle.report_text.specs.Field.{line}
 use Rattle.report_text.specs.Printed.{outcome_text}
 use Rattle.report_text.specs.Puts.{HasPrefix}
 use Rattle.ptg_top.specs.declared.status.Status.{Status}
-use Rattle.ptg_top.specs.declared.status.Status.TheVariants.{Complete, Usage, JdfRefused, DataRefused, Inconsistent, Trapped, Stalled, ReadFault, WriteFault, OutOfMemory}
+use Rattle.ptg_top.specs.declared.status.Status.TheVariants.{Complete, Usage, JdfRefused, DataRefused, Inconsistent, Trapped, Stalled, ReadFault, WriteFault, OutOfMemory, PreloadTooLarge}
 use Rattle.ptg_top.specs.Denotation as verdicts
 use Rattle.ptg_top.specs.Denotation.{Denotation}
 use Rattle.ptg_top.specs.JobFiles.{Entries}
@@ -23,6 +23,10 @@ unread_line name = line (codes "unread" ∷ name ∷ [])
 abbrev pub usage_line : List ℕ
 usage_line = line (codes "usage" ∷ [])
 
+-- the line for a preload that is too large
+abbrev pub preload_line : List ℕ
+preload_line = line (codes "preload" ∷ [])
+
 -- what is printed for a verdict
 abbrev pub text_of : Denotation → List ℕ
 text_of verdicts.Usage = usage_line
@@ -30,6 +34,7 @@ text_of (verdicts.Unread name) = unread_line name
 text_of (verdicts.Job job) = job_text job
 text_of (verdicts.Answered P outcome) = outcome_text P outcome
 text_of (verdicts.Spelling text) = text
+text_of verdicts.Preload = preload_line
 
 abbrev pub status_of_outcome : Outcome → Status
 status_of_outcome (outcomes.Complete count given) = Complete
@@ -43,6 +48,7 @@ status_of (verdicts.Unread name) = ReadFault
 status_of (verdicts.Job job) = status_of_job job
 status_of (verdicts.Answered P outcome) = status_of_outcome outcome
 status_of (verdicts.Spelling text) = Complete
+status_of verdicts.Preload = PreloadTooLarge
 
 -- the statuses of a verdict, where no failed read or write and no want of memory took its place
 abbrev pub IsExact : Status → Type 0
@@ -56,6 +62,7 @@ IsExact Stalled = Unit {0}
 IsExact ReadFault = ⊥
 IsExact WriteFault = ⊥
 IsExact OutOfMemory = ⊥
+IsExact PreloadTooLarge = Unit {0}
 
 -- the sink grew by exactly the text of the verdict that the arguments and the files denote (one at most), and this is its status
 pub record Prints (words : List (List ℕ)) (files : Entries) (before after : Option (List ℕ)) (status : Status) : Type 0 where

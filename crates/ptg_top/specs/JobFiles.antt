@@ -41,3 +41,10 @@ HasFittingJob (verdicts.Unread name) = Unit {0}
 HasFittingJob (verdicts.Job job) = HasFittingData job
 HasFittingJob (verdicts.Answered P outcome) = IsAnswered P outcome
 HasFittingJob (verdicts.Spelling text) = Unit {0}
+HasFittingJob verdicts.Preload = Unit {0}
+
+-- a verdict of `check`: a file that could not be read, or what two texts come to, with data that fit a consistent job's plan
+abbrev pub IsChecked : Denotation → Type 0
+IsChecked (verdicts.Unread name) = Unit {0}
+IsChecked (verdicts.Job job) = HasFittingData job
+IsChecked v = ⊥

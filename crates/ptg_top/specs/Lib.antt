@@ -1,10 +1,13 @@
 pub mod Requests
 pub mod Denotation
+pub mod Preload
 pub mod Answering
 pub mod JobFiles
 pub mod Meaning
+pub mod Settings
 pub mod Steps
 pub mod Reports
 pub mod JobText
 pub mod Headline
+pub mod Receipts
 pub mod Codes

@@ -26,9 +26,10 @@ abbrev pub ContentShows : List ℕ → Option (List ℕ) → Denotation → Type
 ContentShows name None v = v ≡ verdicts.Unread name
 ContentShows name (Some text) v = Shows text v
 
--- What the files denote for what is asked: `run` answers a job that `check` finds consistent, and refuses what `check` refuses.
+-- What the files denote for what is asked: `run` refuses what `check` refuses; of a job that `check` finds consistent it refuses a
+-- preload that is too large, or answers the job.
 abbrev pub RequestDenotes : Entries → Request → Denotation → Type 0
-RequestDenotes files (Run jdf tiles) v = (checked : Denotation) × FilesDenote files jdf tiles checked × OnConsistent IsAnswer checked v
+RequestDenotes files (Run jdf tiles settings) v = (checked : Denotation) × FilesDenote files jdf tiles checked × OnConsistent (IsAnswer settings) checked v
 RequestDenotes files (Show jdf) v = ContentShows jdf (file_of files jdf) v
 RequestDenotes files (Check jdf tiles) v = FilesDenote files jdf tiles v
 
@@ -53,7 +54,7 @@ IsUnreadOf contents jdf tiles name =
 
 -- the names that `unread` may have for what is asked
 abbrev pub MayBeUnreadFor : Option Entries → Request → List ℕ → Type 0
-MayBeUnreadFor contents (Run jdf tiles) name = IsUnreadOf contents jdf tiles name
+MayBeUnreadFor contents (Run jdf tiles settings) name = IsUnreadOf contents jdf tiles name
 MayBeUnreadFor contents (Show jdf) name = name ≡ jdf
 MayBeUnreadFor contents (Check jdf tiles) name = IsUnreadOf contents jdf tiles name
 

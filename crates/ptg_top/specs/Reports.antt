@@ -3,6 +3,7 @@
 use Rattle.std.specs.Prelude.{◌≡◌, ◌⊎◌, ℕ, List, Option, Some}
 use Rattle.std.specs.Str.{IsUtf8}
 use Rattle.ptg_io.specs.Faults.{Rose}
+use Rattle.ptg_words.specs.Laws.{AreCounts}
 use Rattle.ptg_top.specs.declared.request.Request.{Request}
 use Rattle.ptg_top.specs.declared.request.Request.TheVariants.{Run, Show, Check}
 use Rattle.ptg_top.specs.Denotation as verdicts
@@ -18,6 +19,7 @@ IsOfTexts (verdicts.Unread name) = ⊥
 IsOfTexts (verdicts.Job job) = Unit {0}
 IsOfTexts (verdicts.Answered P outcome) = Unit {0}
 IsOfTexts (verdicts.Spelling text) = Unit {0}
+IsOfTexts verdicts.Preload = Unit {0}
 
 -- a read of the file that the verdict names failed
 abbrev pub IsReadFault : Option Entries → (List ℕ → ℕ) → (List ℕ → ℕ) → Request → Denotation → Type 0
@@ -36,8 +38,8 @@ IsVerdictOnWords words contents old new v =
     (IsNoOrder words × (v ≡ verdicts.Usage))
     ⊎ ((request : Request) × Requests words request × IsVerdictOnRequest contents old new request v)
 
--- the names in a request are UTF-8
-abbrev pub AreTexts : Request → Type 0
-AreTexts (Run jdf tiles) = IsUtf8 jdf × IsUtf8 tiles
-AreTexts (Show jdf) = IsUtf8 jdf
-AreTexts (Check jdf tiles) = IsUtf8 jdf × IsUtf8 tiles
+-- the names in a request are UTF-8, and its numbers of workers and of shards are in their ranges
+abbrev pub IsProper : Request → Type 0
+IsProper (Run jdf tiles settings) = IsUtf8 jdf × IsUtf8 tiles × AreCounts settings.workers settings.shards
+IsProper (Show jdf) = IsUtf8 jdf
+IsProper (Check jdf tiles) = IsUtf8 jdf × IsUtf8 tiles

@@ -1,15 +1,14 @@
 -- What the program carries out so far. Source: this project's own choice.
-use Rattle.std.specs.Prelude.{◌≡◌, ℕ, List, Option, Some, None, if◌then◌else◌}
+use Rattle.std.specs.Prelude.{◌≡◌, ℕ, List, Option, Some, None}
 use Rattle.ptg_words.specs.declared.order.Order.{Order}
 use Rattle.ptg_words.specs.declared.order.Order.TheVariants as order
 use Rattle.ptg_words.specs.Words.{Orders}
 use Rattle.ptg_top.specs.declared.request.Request.{Request}
 use Rattle.ptg_top.specs.declared.request.Request.TheVariants.{Run, Show, Check}
 
--- What a command asks for, where that is carried out so far: a run with `--preload` and the verbs `demo`, `trace`, `replay`, `certify`
--- and `ranks` are not, and the numbers of workers and of shards have no effect.
+-- What a command asks for, where that is carried out so far: the verbs `demo`, `trace`, `replay`, `certify` and `ranks` are not.
 abbrev pub request_of : Order → Option Request
-request_of (order.Run jdf tiles workers shards preload) = if preload then None else Some (Run jdf tiles)
+request_of (order.Run jdf tiles workers shards preload) = Some (Run jdf tiles (record { workers = workers; shards = shards; preload = preload }))
 request_of (order.Show jdf) = Some (Show jdf)
 request_of (order.Check jdf tiles) = Some (Check jdf tiles)
 request_of (order.Demo n) = None

@@ -6,7 +6,7 @@ ghost use Rattle.jdf_tree.specs.Jdf.{IsJdf};
 ghost use Rattle.jdf_tree.specs.TreeLimits.{IsWithinLimits};
 ghost use Rattle.ptg_top.specs.declared.request.Request.TheVariants as asked;
 ghost use Rattle.ptg_top.specs.Denotation.{denoted};
-ghost use Rattle.ptg_top.specs.JobFiles.{HasFittingJob};
+ghost use Rattle.ptg_top.specs.JobFiles.{IsChecked};
 ghost use Rattle.ptg_top.specs.Steps.{CheckOfDataEndsWith, CheckOfTextEndsWith};
 ghost use Rattle.ptg_top.specs.Reports.{IsVerdictOnRequest};
 
@@ -32,7 +32,7 @@ pub fn check<F: Files>(
     ensures stays { F.contents files.new ≡ F.contents files.old }
     ensures grows { (other : List ℕ) → F.faults files.old other ≤ F.faults files.new other }
     ensures verdict { IfOk result (λ v. IsVerdictOnRequest (F.contents files.old) (F.faults files.old) (F.faults files.new) (asked.Check jdf.now tiles.now) (denoted v)) }
-    ensures fit { IfOk result (λ v. HasFittingJob (denoted v)) }
+    ensures fit { IfOk result (λ v. IsChecked (denoted v)) }
 {
     match load(alloc, files, name_of(jdf)) {
         Ok(text) => check_text(alloc, text.as_slice(), tiles, files),
@@ -53,7 +53,7 @@ fn check_text<F: Files>(
     ensures stays { F.contents files.new ≡ F.contents files.old }
     ensures grows { (other : List ℕ) → F.faults files.old other ≤ F.faults files.new other }
     ensures verdict { IfOk result (λ v. CheckOfTextEndsWith (F.contents files.old) (F.faults files.old tiles.now) (F.faults files.new tiles.now) text.now tiles.now (denoted v)) }
-    ensures fit { IfOk result (λ v. HasFittingJob (denoted v)) }
+    ensures fit { IfOk result (λ v. IsChecked (denoted v)) }
 {
     match tree_of(alloc, text) {
         Ok(tree) => check_data(alloc, &tree, tiles, files),
@@ -75,7 +75,7 @@ fn check_data<F: Files>(
     ensures grows { (other : List ℕ) → F.faults files.old other ≤ F.faults files.new other }
     ensures verdict { (text : List ℕ) → IsJdf text tree.now
         → IfOk result (λ v. CheckOfDataEndsWith (F.contents files.old) (F.faults files.old tiles.now) (F.faults files.new tiles.now) text tiles.now (denoted v)) }
-    ensures fit { IfOk result (λ v. HasFittingJob (denoted v)) }
+    ensures fit { IfOk result (λ v. IsChecked (denoted v)) }
 {
     match load(alloc, files, name_of(tiles)) {
         Ok(text) => {

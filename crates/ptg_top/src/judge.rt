@@ -3,29 +3,39 @@
 ghost use Rattle.std.specs.Prelude.{◌≡◌, ◌≤◌, ℕ, List, IfOk};
 ghost use Rattle.ptg_top.specs.Denotation.{denoted};
 ghost use Rattle.ptg_top.specs.JobFiles.{HasFittingJob};
-ghost use Rattle.ptg_top.specs.Reports.{AreTexts, IsVerdictOnRequest, IsVerdictOnWords};
+ghost use Rattle.ptg_top.specs.Reports.{IsProper, IsVerdictOnRequest, IsVerdictOnWords};
+ghost use Rattle.ptg_top.specs.Receipts.{IsRunAsAsked, IsRunAsOrdered};
 
 use crate::checking::check;
+use crate::host::Host;
 use crate::request::{Request, request_of};
 use crate::running::run;
 use crate::showing::show;
 use crate::verdict::Verdict;
 use ptg_base::{OutOfMemory, Text};
 use ptg_io::Files;
-use ptg_words::{WordsRefusal, files_are_text, words};
-use std::alloc::Global;
+use ptg_words::{WordsRefusal, files_are_text, orders_have_numbers_in_range, words};
+use std::sync::Wait;
+use std::thread::Threads;
+use worker_core::Gate;
 
 /// The verdict on arguments and files.
-pub fn judge<F: Files>(alloc: Global, list: &[Text], files: &mut F) -> Result<Verdict, OutOfMemory>
+pub fn judge<R: Threads + Wait + Sync, F: Files, G: Gate>(
+    host: &Host<R, G>,
+    list: &[Text],
+    files: &mut F,
+) -> Result<Verdict, OutOfMemory>
     ensures stays { F.contents files.new ≡ F.contents files.old }
     ensures grows { (other : List ℕ) → F.faults files.old other ≤ F.faults files.new other }
     ensures judged { IfOk result (λ v. IsVerdictOnWords list.now (F.contents files.old) (F.faults files.old) (F.faults files.new) (denoted v)) }
     ensures fit { IfOk result (λ v. HasFittingJob (denoted v)) }
+    ensures ran { IfOk result (λ v. IsRunAsOrdered list.now v) }
 {
     files_are_text();
-    match words(alloc, list) {
+    orders_have_numbers_in_range();
+    match words(host.alloc, list) {
         Ok(order) => match request_of(order) {
-            Some(request) => carry_out(alloc, &request, files),
+            Some(request) => carry_out(host, &request, files),
             None => Ok(Verdict::Usage),
         },
         Err(WordsRefusal::Usage) => Ok(Verdict::Usage),
@@ -34,20 +44,21 @@ pub fn judge<F: Files>(alloc: Global, list: &[Text], files: &mut F) -> Result<Ve
 }
 
 // The verdict on a request.
-fn carry_out<F: Files>(
-    alloc: Global,
+fn carry_out<R: Threads + Wait + Sync, F: Files, G: Gate>(
+    host: &Host<R, G>,
     request: &Request,
     files: &mut F,
 ) -> Result<Verdict, OutOfMemory>
-    requires { AreTexts request.now }
+    requires proper { IsProper request.now }
     ensures stays { F.contents files.new ≡ F.contents files.old }
     ensures grows { (other : List ℕ) → F.faults files.old other ≤ F.faults files.new other }
     ensures judged { IfOk result (λ v. IsVerdictOnRequest (F.contents files.old) (F.faults files.old) (F.faults files.new) request.now (denoted v)) }
     ensures fit { IfOk result (λ v. HasFittingJob (denoted v)) }
+    ensures ran { IfOk result (λ v. IsRunAsAsked request.now v) }
 {
     match request {
-        Request::Run(jdf, tiles) => run(alloc, jdf, tiles, files),
-        Request::Show(jdf) => show(alloc, jdf, files),
-        Request::Check(jdf, tiles) => check(alloc, jdf, tiles, files),
+        Request::Run(jdf, tiles, settings) => run(host, jdf, tiles, files, *settings),
+        Request::Show(jdf) => show(host.alloc, jdf, files),
+        Request::Check(jdf, tiles) => check(host.alloc, jdf, tiles, files),
     }
 }

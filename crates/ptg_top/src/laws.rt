@@ -1,6 +1,7 @@
 //! Laws of the meaning of a command.
 
 ghost use Rattle.ptg_top.specs.Meaning.{OneMeaning, SomeMeaning};
+ghost use Rattle.ptg_top.specs.Settings.{ShardsChangeNothing, WorkersChangeNothing};
 ghost use Rattle.ptg_top.specs.Headline.{OneOutput, SomeOutput};
 
 use ptg_words::words_give_one_order;
@@ -18,3 +19,10 @@ pub fn some_meaning()
 {
     words_give_one_order();
 }
+
+/// A law: the numbers of workers and of shards change nothing in what arguments and files denote, but for whether a preload is too
+/// large, where that is asked for: and there the shards change nothing.
+pub fn settings_change_nothing_else()
+    ensures shards { ShardsChangeNothing }
+    ensures workers { WorkersChangeNothing }
+{}

@@ -3,6 +3,8 @@
 
 mod answer_telling;
 mod checking;
+mod ended;
+mod host;
 mod job_telling;
 mod judge;
 mod laws;
@@ -16,7 +18,8 @@ mod status;
 mod telling;
 mod verdict;
 
-pub use laws::{one_meaning, some_meaning};
+pub use ended::Ended;
+pub use laws::{one_meaning, settings_change_nothing_else, some_meaning};
 pub use program::ptg_main;
 pub use status::Status;
 pub use verdict::{RanBy, Verdict};

@@ -1,18 +1,26 @@
 //! The program.
 
-ghost use Rattle.std.specs.Prelude.{◌≡◌, ◌⊎◌, ◌≤◌, ℕ, List, Some};
+ghost use Rattle.std.specs.Prelude.{◌≡◌, ◌⊎◌, ◌≤◌, ℕ, List, Some, IfSome, IfNone};
 ghost use Rattle.ptg_io.specs.Faults.{Rose};
 ghost use Rattle.ptg_io.specs.Sink.{appended};
 ghost use Rattle.ptg_top.specs.JobFiles.{Entries};
 ghost use Rattle.ptg_top.specs.Meaning.{IsNoOrder, MayBeUnread};
 ghost use Rattle.ptg_top.specs.Headline.{IsExact, Prints, IsCut, unread_line, usage_line};
+ghost use Rattle.ptg_top.specs.Receipts.{HasConsistentPlan, IsAnswerStatus, IsReceiptFor, IsRun};
+ghost use Rattle.ptg_words.specs.declared.order.Order.{Order};
+ghost use Rattle.ptg_words.specs.Words.{Orders};
 
+use crate::ended::Ended;
+use crate::host::Host;
 use crate::judge::judge;
 use crate::status::Status;
-use crate::telling::{status, tell};
+use crate::telling::{receipt, status, tell};
 use ptg_base::{OutOfMemory, Text};
 use ptg_io::{Failed, Files, Sink};
 use std::alloc::Global;
+use std::sync::Wait;
+use std::thread::Threads;
+use worker_core::Gate;
 
 /// Carries out the command that the arguments form, with these files, and prints the answer.
 ///
@@ -22,45 +30,54 @@ use std::alloc::Global;
 /// prints the canonical spelling or the refusal, and for `check JDF DATA`, which prints how many tasks, edges and write-backs a
 /// consistent job has, or the first refusal of the one order: the JDF's text, the data's text, a global that the data lack, names
 /// and kinds, consistency.
-pub fn ptg_main<F: Files, O: Sink>(
+pub fn ptg_main<R: Threads + Wait + Sync, F: Files, O: Sink, G: Gate>(
+    rt: &R,
     alloc: Global,
     words: &[Text],
     files: &mut F,
     out: &mut O,
-) -> Status
+    gate: &G,
+) -> Ended
     // The files stay as they are, and no count of faults falls.
     ensures stays { F.contents files.new ≡ F.contents files.old }
     ensures read_faults { (other : List ℕ) → F.faults files.old other ≤ F.faults files.new other }
     ensures write_faults { O.faults out.old ≤ O.faults out.new }
     // Where the contents of the files are known: exactly the text and the status that arguments and files denote.
-    ensures exact { (entries : Entries) → F.contents files.old ≡ Some entries → IsExact result →
-        Prints words.now entries (O.bytes out.old) (O.bytes out.new) result }
+    ensures exact { (entries : Entries) → F.contents files.old ≡ Some entries → IsExact result.status →
+        Prints words.now entries (O.bytes out.old) (O.bytes out.new) result.status }
     // `unread,NAME` is printed only if reading NAME failed; NAME is the data file's only once the JDF was read.
-    ensures unread { result ≡ Status.ReadFault → (name : List ℕ)
+    ensures unread { result.status ≡ Status.ReadFault → (name : List ℕ)
         × Rose (F.faults files.old name) (F.faults files.new name)
         × MayBeUnread words.now (F.contents files.old) name
         × (O.bytes out.new ≡ appended (O.bytes out.old) (unread_line name)) }
     // A write fault comes only where a write failed, and then a prefix of what was due was written.
-    ensures cut { result ≡ Status.WriteFault → Rose (O.faults out.old) (O.faults out.new)
+    ensures cut { result.status ≡ Status.WriteFault → Rose (O.faults out.old) (O.faults out.new)
         × IsCut words.now (F.contents files.old) (F.faults files.old) (F.faults files.new) (O.bytes out.old) (O.bytes out.new) }
     // If memory runs out, nothing is written.
-    ensures silent { result ≡ Status.OutOfMemory → O.bytes out.new ≡ O.bytes out.old }
+    ensures silent { result.status ≡ Status.OutOfMemory → O.bytes out.new ≡ O.bytes out.old }
     // Where no read and no write failed: what arguments and files denote, unless memory runs out.
     ensures complete { (entries : Entries) → F.contents files.old ≡ Some entries
         → ((name : List ℕ) → Rose (F.faults files.old name) (F.faults files.new name) → ⊥)
         → (Rose (O.faults out.old) (O.faults out.new) → ⊥)
-        → Prints words.now entries (O.bytes out.old) (O.bytes out.new) result ⊎ (result ≡ Status.OutOfMemory) }
+        → Prints words.now entries (O.bytes out.old) (O.bytes out.new) result.status ⊎ (result.status ≡ Status.OutOfMemory) }
     // Whatever the files: usage, with its line, is the answer only to arguments that form no command, and to those nothing else is,
     // unless a write failed or memory ran out.
-    ensures usage_only { result ≡ Status.Usage → IsNoOrder words.now }
-    ensures usage_line { result ≡ Status.Usage → O.bytes out.new ≡ appended (O.bytes out.old) usage_line }
-    ensures usage { IsNoOrder words.now → (result ≡ Status.Usage) ⊎ ((result ≡ Status.WriteFault) ⊎ (result ≡ Status.OutOfMemory)) }
+    ensures usage_only { result.status ≡ Status.Usage → IsNoOrder words.now }
+    ensures usage_line { result.status ≡ Status.Usage → O.bytes out.new ≡ appended (O.bytes out.old) usage_line }
+    ensures usage { IsNoOrder words.now → (result.status ≡ Status.Usage) ⊎ ((result.status ≡ Status.WriteFault) ⊎ (result.status ≡ Status.OutOfMemory)) }
+    // The answer of a job that was run comes with the receipt of a table with the shards, the workers and the preload that were asked
+    // for, and no other status does.
+    ensures receipt { IfSome result.receipt (λ r. (o : Order) × Orders words.now o × IsReceiptFor o r × IsAnswerStatus result.status) }
+    ensures no_receipt { IfNone result.receipt ((o : Order) → Orders words.now o → IsRun o → IsAnswerStatus result.status → ⊥) }
+    // Where the contents of the files are known, the table had the job that the files denote.
+    ensures of_job { (entries : Entries) → F.contents files.old ≡ Some entries → IfSome result.receipt (λ r. HasConsistentPlan words.now entries r.plan) }
 {
-    match judge(alloc, words, files) {
+    let host = Host { rt, alloc, gate };
+    match judge(&host, words, files) {
         Ok(verdict) => match tell(&verdict, out) {
-            Ok(()) => status(&verdict),
-            Err(Failed) => Status::WriteFault,
+            Ok(()) => Ended { status: status(&verdict), receipt: receipt(verdict) },
+            Err(Failed) => Ended::without_receipt(Status::WriteFault),
         },
-        Err(OutOfMemory) => Status::OutOfMemory,
+        Err(OutOfMemory) => Ended::without_receipt(Status::OutOfMemory),
     }
 }

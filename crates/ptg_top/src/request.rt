@@ -5,29 +5,31 @@ ghost use Rattle.ptg_top.specs.Requests.{request_of};
 
 use ptg_base::Text;
 use ptg_words::Order;
+use run_pool::Settings;
 
 /// What a command asks for, where that is carried out so far.
 #[derive(Drop)]
 pub enum Request {
-    /// Run the job of this JDF file on this data file.
-    Run(Text, Text),
+    /// Run the job of this JDF file on this data file, with these settings.
+    Run(Text, Text, Settings),
     /// Print the canonical spelling of this JDF file.
     Show(Text),
     /// Check the job of this JDF file on this data file.
     Check(Text, Text),
 }
 
-/// What a command asks for: nothing where it is a run whose memory is to be taken before, or one of the verbs that come later.
+/// What a command asks for: nothing where it is one of the verbs that come later.
 pub fn request_of(order: Order) -> Option<Request>
     ensures { result ≡ request_of order }
 {
     match order {
-        Order::Run(jdf, tiles, _, _, preload) => {
-            if preload {
-                None
-            } else {
-                Some(Request::Run(jdf, tiles))
-            }
+        Order::Run(jdf, tiles, workers, shards, preload) => {
+            let settings = Settings {
+                workers,
+                shards,
+                preload,
+            };
+            Some(Request::Run(jdf, tiles, settings))
         }
         Order::Show(jdf) => Some(Request::Show(jdf)),
         Order::Check(jdf, tiles) => Some(Request::Check(jdf, tiles)),

@@ -26,6 +26,8 @@ pub enum Status {
     WriteFault,
     /// There was no memory. Nothing was written.
     OutOfMemory,
+    /// A preload was asked for, and it takes too much memory.
+    PreloadTooLarge,
 }
 
 impl Status {
@@ -44,6 +46,7 @@ impl Status {
             Status::ReadFault => 7,
             Status::WriteFault => 8,
             Status::OutOfMemory => 9,
+            Status::PreloadTooLarge => 10,
         }
     }
 }

@@ -1,14 +1,14 @@
 use Rattle.std.proofs.Common.{◌≡◌, Some, rules}
 use Rattle.ptg_top.specs.Requests.{request_of}
-use Rattle.ptg_top.proofs.Requested.{request_texts}
+use Rattle.ptg_top.proofs.Requested.{request_is_proper}
 use Rattle.ptg_top.proofs.Carried.{asked_ends}
 use Rattle.ptg_top.proofs.judge.judge.Goals as goal
 
--- the names in the request are UTF-8
-pub carry_out-requires : goal.carry_out-requires
-carry_out-requires g c =
+-- the names in the request are UTF-8, and its numbers are in their ranges
+pub carry_out-requires-clause-proper : goal.carry_out-requires-clause-proper
+carry_out-requires-clause-proper g c κs within =
     let asks : request_of c.in-Ok.order ≡ Some c.in-Some.request = search rules in
-    request_texts c.files_are_text.ensures c.args.list.now c.in-Ok.order c.in-Some.request c.in-Ok.ensures.found asks
+    request_is_proper c.files_are_text.ensures c.orders_have_numbers_in_range.ensures c.args.list.now c.in-Ok.order c.in-Some.request c.in-Ok.ensures.found asks
 
 -- the verdict on the request is the one on the arguments
 pub returns-in-Some-clause-judged : goal.returns-in-Some-clause-judged

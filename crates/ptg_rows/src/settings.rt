@@ -1,0 +1,31 @@
+//! The settings of a run that a row leaves open.
+
+use ptg_base::Text;
+use row_files::Why;
+use std::alloc::Global;
+
+/// The words, with these settings added where they run a job and set neither workers nor shards.
+pub fn with_settings(
+    alloc: Global,
+    mut words: Vec<Text>,
+    settings: &[&str],
+) -> Result<Vec<Text>, Why> {
+    if leaves_settings_open(words.as_slice()) {
+        for word in settings {
+            words.push(Text::of(alloc, word.as_bytes())?)?;
+        }
+    }
+    Ok(words)
+}
+
+fn leaves_settings_open(words: &[Text]) -> bool {
+    match words.first() {
+        Some(verb) => verb.bytes() == b"run".as_slice()
+            && words.iter().all(|word| !is_setting(word)),
+        None => false,
+    }
+}
+
+fn is_setting(word: &Text) -> bool {
+    word.bytes().starts_with(b"--workers") || word.bytes().starts_with(b"--shards")
+}

@@ -1,0 +1,52 @@
+-- What the numbers of workers and of shards change.
+use Rattle.std.proofs.Common.{◌≡◌, ℕ, List, Some, refl, sym, ◌∙◌, ap, subst, inl, inr}
+use Rattle.std.specs.Prelude.{Option, Bool, false, if◌then◌else◌}
+use Rattle.plan_core.specs.declared.plan.Plan.{Plan}
+use Rattle.flow_meaning.specs.Answer.{answer}
+use Rattle.ptg_words.specs.declared.order.Order.{Order}
+use Rattle.ptg_words.specs.declared.order.Order.TheVariants as order
+use Rattle.ptg_words.specs.Words.{Orders}
+use Rattle.run_pool.specs.declared.settings.Settings.{Settings}
+use Rattle.ptg_top.specs.declared.request.Request.{Request}
+use Rattle.ptg_top.specs.declared.request.Request.TheVariants.{Run}
+use Rattle.ptg_top.specs.Denotation as verdicts
+use Rattle.ptg_top.specs.Denotation.{Denotation}
+use Rattle.ptg_top.specs.Preload.{is_too_large}
+use Rattle.ptg_top.specs.Requests.{Requests}
+use Rattle.ptg_top.specs.JobFiles.{Entries}
+use Rattle.ptg_top.specs.Meaning.{Denotes, RequestDenotes}
+use Rattle.ptg_top.specs.Settings.{ShardsChangeNothing, WorkersChangeNothing}
+use Rattle.ptg_top.specs.Answering.{IsAnswer, OnConsistent}
+use Rattle.job_stages.specs.declared.verdict.JobVerdict.TheVariants as jobs
+use Rattle.ptg_top.proofs.Requested.{one_request}
+
+-- settings with which the same preloads are too large
+abbrev AreAlike : Settings → Settings → Type 0
+AreAlike a b = (P : Plan) → is_too_large a P ≡ is_too_large b P
+
+alike_on : (a b : Settings) → AreAlike a b → (checked v : Denotation) → OnConsistent (IsAnswer a) checked v → OnConsistent (IsAnswer b) checked v
+alike_on a b same (verdicts.Job (jobs.Consistent P given)) v h = h ∙ ap (λ (large : Bool). answered large) (same P)
+  where
+    answered : Bool → Denotation
+    answered large = if large then verdicts.Preload else verdicts.Answered P (answer P given)
+alike_on a b same checked v h = h
+
+module _ (one other : List (List ℕ)) (jdf tiles : List ℕ) (a b : Settings) (files : Entries) (v : Denotation) where
+  same_denoted : AreAlike a b → Requests one (Run jdf tiles a) → Requests other (Run jdf tiles b) → Denotes one files v → Denotes other files v
+  same_denoted same first second (inl (none, e)) = absurd (none (Run jdf tiles a) first)
+  same_denoted same first second (inr (request, asked, h)) =
+      let is : RequestDenotes files (Run jdf tiles a) v = subst (λ (r : Request). RequestDenotes files r v) (one_request one request (Run jdf tiles a) asked first) h in
+      inr (Run jdf tiles b, second, (is.0, is.1, alike_on a b same is.0 v is.2))
+
+asked : (words : List (List ℕ)) (jdf tiles : List ℕ) (w s : ℕ) (p : Bool) → Orders words (order.Run jdf tiles w s p) → Requests words (Run jdf tiles (record { workers = w; shards = s; preload = p }))
+asked words jdf tiles w s p formed = record { order = order.Run jdf tiles w s p; formed = formed; asks = refl }
+
+pub shards_change_nothing : ShardsChangeNothing
+shards_change_nothing one other jdf tiles w s t p files v first second h =
+    same_denoted one other jdf tiles (record { workers = w; shards = s; preload = p }) (record { workers = w; shards = t; preload = p }) files v
+    (λ P. refl) (asked one jdf tiles w s p first) (asked other jdf tiles w t p second) h
+
+pub workers_change_nothing : WorkersChangeNothing
+workers_change_nothing one other jdf tiles w u s t files v first second h =
+    same_denoted one other jdf tiles (record { workers = w; shards = s; preload = false }) (record { workers = u; shards = t; preload = false }) files v
+    (λ P. refl) (asked one jdf tiles w s false first) (asked other jdf tiles u t false second) h

@@ -1,0 +1,8 @@
+use Rattle.ptg_top.proofs.Settings.{shards_change_nothing, workers_change_nothing}
+use Rattle.ptg_top.proofs.laws.settings_change_nothing_else.Goals as goal
+
+pub returns-clause-shards : goal.returns-clause-shards
+returns-clause-shards c = shards_change_nothing
+
+pub returns-clause-workers : goal.returns-clause-workers
+returns-clause-workers c = workers_change_nothing

@@ -1,0 +1,21 @@
+-- What the numbers of workers and of shards change. Source: this project's own choice.
+use Rattle.std.specs.Prelude.{ℕ, Bool, false, List}
+use Rattle.ptg_words.specs.declared.order.Order.TheVariants.{Run}
+use Rattle.ptg_words.specs.Words.{Orders}
+use Rattle.ptg_top.specs.Denotation.{Denotation}
+use Rattle.ptg_top.specs.JobFiles.{Entries}
+use Rattle.ptg_top.specs.Meaning.{Denotes}
+
+-- two runs of the same files denote the same where they differ in their shards alone
+abbrev pub ShardsChangeNothing : Type 0
+ShardsChangeNothing =
+    (one other : List (List ℕ)) (jdf tiles : List ℕ) (workers shards others : ℕ) (preload : Bool) (files : Entries) (v : Denotation)
+    → Orders one (Run jdf tiles workers shards preload) → Orders other (Run jdf tiles workers others preload)
+    → Denotes one files v → Denotes other files v
+
+-- and where they differ in their workers and their shards, without a preload
+abbrev pub WorkersChangeNothing : Type 0
+WorkersChangeNothing =
+    (one other : List (List ℕ)) (jdf tiles : List ℕ) (workers more shards others : ℕ) (files : Entries) (v : Denotation)
+    → Orders one (Run jdf tiles workers shards false) → Orders other (Run jdf tiles more others false)
+    → Denotes one files v → Denotes other files v

@@ -1,0 +1,11 @@
+//! What a job is run with.
+
+use std::alloc::Global;
+
+/// The runtime that workers wait with, the memory, and the gate before each body.
+#[derive(Drop)]
+pub struct Host<'a, R, G> {
+    pub rt: &'a R,
+    pub alloc: Global,
+    pub gate: &'a G,
+}
