@@ -1,0 +1,63 @@
+-- The bytes of a preload where all tiles are of one type.
+use Rattle.std.proofs.Common.{zero-add, ◌≡◌, ℕ, ◌+◌, ◌*◌, ◌<◌, true, [], ◌∷◌, length, refl, ap, sym, ◌∙◌, subst, Option, Some, None, slice_get, slice_index, sum, option_map, arith}
+use Rattle.std.proofs.lemmas.Bool.{false≢true}
+use Rattle.ptg_base.specs.Lists.{IsIn}
+use Rattle.ptg_base.specs.Task.{Task}
+use Rattle.ptg_base.specs.declared.edge.Edge.{Edge}
+use Rattle.ptg_base.specs.declared.edge.WriteBack.{WriteBack}
+use Rattle.range_space.proofs.MemberLists.{from_flat_map}
+use Rattle.plan_core.specs.declared.flow.FlowPlan.{FlowPlan}
+use Rattle.plan_core.specs.declared.plan.Plan.{Plan}
+use Rattle.plan_core.specs.Kinds.{flow_of, is_data}
+use Rattle.dep_iter.specs.Consistent.{all_data, all_in, all_writes, is_data_edge}
+use Rattle.dep_iter.specs.Edges.{in_edges}
+use Rattle.dep_iter.specs.Items.{write_backs}
+use Rattle.dep_iter.specs.Tasks.{IsTask, all_tasks, flows_of}
+use Rattle.flow_meaning.specs.Counting.{weigh}
+use Rattle.dep_iter.proofs.Listing.{listed}
+use Rattle.shard_meaning.proofs.Destinations.{flow_is, writes_from}
+use Rattle.task_run.proofs.FlowSizes.{known}
+use Rattle.run_pool.specs.Bytes.{edge_elements, elements_of, preload_bytes, sent_elements, write_elements}
+use Rattle.run_pool.proofs.Lists.{from_filter, weigh-equal}
+use Rattle.run_pool.proofs.Totals.{into, out_of, write_item}
+
+module _ (P : Plan) (elems : ℕ) (one : P.elems ≡ elems ∷ []) where
+  -- a flow of a task of the job has tiles of that length
+  of_flow : (t : Task) (n : ℕ) (f : FlowPlan) → IsTask P t → slice_get (flows_of P t) n ≡ Some f → elements_of P (flow_of P.classes t.class n) ≡ elems
+  of_flow t n f job here =
+      let below : f.datatype < 1 = subst (λ ns. f.datatype < length ns) one (known P t n f job here) in
+      let first : f.datatype ≡ 0 = omega arith in
+      ap (elements_of P) (sym (flow_is P t n) ∙ here) ∙ ap (slice_index P.elems) first ∙ ap (λ ns. slice_index ns 0) one
+
+  some_data : (o : Option FlowPlan) → is_data (option_map (λ (f : FlowPlan). f.kind) o) ≡ true → (f : FlowPlan) × (o ≡ Some f)
+  some_data None h = absurd (false≢true h)
+  some_data (Some f) h = (f, refl)
+
+  of_edge : (e : Edge) → IsIn e (all_data P) → edge_elements P e ≡ elems
+  of_edge e i =
+      let p = from_filter (is_data_edge P) (all_in P) e i in
+      let q = from_flat_map (in_edges P) (all_tasks P) e p.0 in
+      let to : e.to ≡ q.0 = into P q.0 e q.2 in
+      let job : IsTask P e.to = subst (IsTask P) (sym to) ((listed P q.0).1 q.1) in
+      let f = some_data (flow_of P.classes e.to.class e.in_flow) p.1 in
+      of_flow e.to e.in_flow f.0 job (flow_is P e.to e.in_flow ∙ f.1)
+
+  of_write : (w : WriteBack) → IsIn w (all_writes P) → write_elements P w ≡ elems
+  of_write w i =
+      let p = from_flat_map (write_backs P) (all_tasks P) w i in
+      let from : w.from ≡ p.0 = out_of P p.0 w p.2 in
+      let job : IsTask P p.0 = (listed P p.0).1 p.1 in
+      let f = writes_from P p.0 job w (write_item P p.0 w p.2) in
+      of_flow w.from w.flow f.flow (subst (IsTask P) (sym from) job) (subst (λ t. slice_get (flows_of P t) w.flow ≡ Some f.flow) (sym from) f.here)
+
+  pub bytes_are : (workers : ℕ) → preload_bytes P workers ≡ 8 * elems * (length (all_data P) + length (all_writes P) + 8 * workers)
+  unfolding preload_bytes sent_elements
+  bytes_are workers =
+      let ins = weigh-equal (edge_elements P) elems (all_data P) of_edge in
+      let outs = weigh-equal (write_elements P) elems (all_writes P) of_write in
+      let types : sum P.elems ≡ elems = ap sum one ∙ zero-add elems in
+      ap (λ n. 8 * n) (ap (λ n. (n + weigh (write_elements P) (all_writes P)) + 8 * workers * sum P.elems) ins ∙ ap (λ n. (elems * length (all_data P) + n) + 8 * workers * sum P.elems) outs ∙ ap (λ n. (elems * length (all_data P) + elems * length (all_writes P)) + 8 * workers * n) types)
+      ∙ regroup elems (length (all_data P)) (length (all_writes P)) workers
+    where
+      regroup : (e d w n : ℕ) → 8 * ((e * d + e * w) + 8 * n * e) ≡ 8 * e * (d + w + 8 * n)
+      regroup e d w n = omega arith

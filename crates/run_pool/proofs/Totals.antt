@@ -1,0 +1,122 @@
+-- The numbers that go over edges and write-backs, all together, and how many they are at most.
+use Rattle.std.proofs.Common.{nat_le, ◌*◌, ℤ, map, drop, slice_get, subst, add-one, ◌≡◌, ℕ, zero, suc, ◌+◌, ◌≤◌, true, List, [], ◌∷◌, length, ap, sym, ◌∙◌, Option, Some, None, slice_index, sum, arith}
+use Rattle.std.proofs.Math.Nat.{mul-le-mul_left}
+use Rattle.std.proofs.lemmas.Bool.{and_parts}
+use Rattle.std.proofs.lemmas.List.{drop_all}
+use Rattle.std.proofs.lemmas.Bool.Decides.{nat_tests}
+use Rattle.std.proofs.lemmas.List.Sums.{sum_by-cons}
+use Rattle.std.specs.List.{list_all}
+use Rattle.std.specs.Prelude.{IsSomeAnd}
+use Rattle.ptg_base.specs.Lists.{IsIn}
+use Rattle.ptg_base.specs.Task.{Task}
+use Rattle.ptg_base.specs.declared.edge.Edge.{Edge}
+use Rattle.ptg_base.specs.declared.edge.WriteBack.{WriteBack}
+use Rattle.ptg_base.specs.declared.edge.Item.{Item}
+use Rattle.ptg_base.specs.declared.edge.Item.TheVariants as item
+use Rattle.term_core.specs.declared.space.ClassSpace.{ClassSpace}
+use Rattle.range_space.specs.Tasks.{tasks}
+use Rattle.plan_core.specs.declared.flow.FlowPlan.{FlowPlan}
+use Rattle.plan_core.specs.declared.plan.Plan.{Plan}
+use Rattle.plan_core.specs.WellMade.{is_tile_length}
+use Rattle.dep_iter.specs.Consistent.{IsConsistent, all_data, all_in, all_items, all_writes, is_data_edge}
+use Rattle.dep_iter.specs.Edges.{in_edges}
+use Rattle.dep_iter.specs.Items.{items, write_backs, write_of}
+use Rattle.dep_iter.specs.Tasks.{IsTask, all_tasks, task, tasks_from}
+use Rattle.dep_iter.proofs.Belonging.{in_edge_is}
+use Rattle.flow_meaning.proofs.Counting.{weigh-append}
+use Rattle.flow_meaning.proofs.Rest.{item_sender}
+use Rattle.flow_meaning.specs.Counting.{weigh}
+use Rattle.run_pool.specs.Bytes.{edge_elements, elements_of, sent_elements, write_elements}
+use Rattle.run_pool.specs.Elements.{carried_elements, in_elements, out_elements, task_elements}
+use Rattle.run_pool.proofs.Lists.{drop_at, from_filter_map, filter-fewer, filter_map-fewer, flat-fewer, weigh-at_most, weigh-filter, weigh-flat, weigh-plus}
+
+-- task by task as many numbers go over edges and write-backs as over all of them
+pub all_tasks_send : (P : Plan) → weigh (task_elements P) (all_tasks P) ≡ sent_elements P
+unfolding task_elements sent_elements
+all_tasks_send P =
+    let both = weigh-plus (in_elements P) (out_elements P) (all_tasks P) in
+    let ins = weigh-filter (is_data_edge P) (edge_elements P) (all_in P) ∙ weigh-flat (carried_elements P) (in_edges P) (all_tasks P) in
+    let outs = weigh-flat (write_elements P) (write_backs P) (all_tasks P) in
+    omega (arith, both, ins, outs)
+
+length_at_most : (n : ℕ) → is_tile_length n ≡ true → n ≤ 4096
+length_at_most n h =
+    let p : nat_le n 4096 ≡ true = (and_parts (nat_le 1 n) (nat_le n 4096) h).1 in
+    grind (arith, nat_tests)
+
+-- a tile of any type has at most so many numbers
+type_at_most : (ns : List ℕ) (k : ℕ) → list_all is_tile_length ns ≡ true → slice_index ns k ≤ 4096
+type_at_most [] k h = omega arith
+type_at_most (n ∷ ns) zero h = length_at_most n (and_parts _ _ h).0
+type_at_most (n ∷ ns) (suc k) h = type_at_most ns k (and_parts _ _ h).1
+
+elements_at_most : (P : Plan) (o : Option FlowPlan) → elements_of P o ≤ 4096
+elements_at_most P None = omega arith
+elements_at_most P (Some f) = type_at_most P.elems f.datatype P.well_made.tile_lengths
+
+-- a job has no more write-backs than items
+writes_at_most : (P : Plan) → length (all_writes P) ≤ length (all_items P)
+writes_at_most P = flat-fewer (write_backs P) (items P) (all_tasks P) (λ t. filter_map-fewer write_of (items P t))
+
+pub sent_at_most : (P : Plan) → IsConsistent P → sent_elements P ≤ 32768000000
+unfolding sent_elements
+sent_at_most P con =
+    let ins = weigh-at_most (edge_elements P) (all_data P) (λ e. elements_at_most P _) in
+    let outs = weigh-at_most (write_elements P) (all_writes P) (λ w. elements_at_most P _) in
+    let fewer = filter-fewer (is_data_edge P) (all_in P) in
+    let writes = writes_at_most P in
+    omega (arith, ins, outs, fewer, writes, con.in_edges_at_most, con.items_at_most)
+
+sum_at_most : (ns : List ℕ) → list_all is_tile_length ns ≡ true → sum ns ≤ 4096 * length ns
+sum_at_most [] h = omega arith
+sum_at_most (n ∷ ns) h =
+    let p = and_parts _ _ h in
+    let here = length_at_most n p.0 in
+    let rest = sum_at_most ns p.1 in
+    let more = sum_by-cons (λ (x : ℕ). x) n ns in
+    omega (arith, here, rest, more)
+
+pub types_at_most : (P : Plan) → sum P.elems ≤ 65536
+types_at_most P = omega (arith, sum_at_most P.elems P.well_made.tile_lengths, P.well_made.types_at_most)
+
+-- the edges into a task come to it, and its write-backs are from it
+pub into : (P : Plan) (t : Task) (e : Edge) → IsIn e (in_edges P t) → e.to ≡ t
+into P t e i = ((in_edge_is P t e).0 i).0
+
+pub write_item : (P : Plan) (t : Task) (w : WriteBack) → IsIn w (write_backs P t) → IsIn (item.Write w) (items P t)
+write_item P t w i =
+    let q = from_filter_map write_of (items P t) w i in
+    subst (λ x. IsIn x (items P t)) (the_write q.member q.gives) q.among
+  where
+    the_write : (x : Item) → write_of x ≡ Some w → x ≡ item.Write w
+    the_write (item.Edge e) h = absurd cc
+    the_write (item.Write v) h = let same : v ≡ w = cc in ap (λ u. item.Write u) same
+
+pub out_of : (P : Plan) (t : Task) (w : WriteBack) → IsIn w (write_backs P t) → w.from ≡ t
+out_of P t w i = item_sender P t (item.Write w) (write_item P t w i)
+
+-- the task of a class with parameters that the class has
+pub of_class : (P : Plan) (class : ℕ) (s : ClassSpace) (params : List ℤ) → slice_get P.spaces class ≡ Some s → IsIn params (tasks s) → IsTask P (task class params)
+of_class P class s params here i = subst (λ (o : Option ClassSpace). IsSomeAnd o (λ s. IsIn params (tasks s))) (sym here) i
+
+-- the numbers of the first of some tasks of a class, and of those after it
+pub tasks_left : (P : Plan) (class : ℕ) (all left : List (List ℤ)) (params : List ℤ) (t : Task) → all ≡ params ∷ left → t ≡ task class params
+    → weigh (task_elements P) (map (task class) all) ≡ task_elements P t + weigh (task_elements P) (map (task class) left)
+tasks_left P class all left params t split is =
+    ap (λ l. weigh (task_elements P) (map (task class) l)) split ∙ ap (λ u. task_elements P u + weigh (task_elements P) (map (task class) left)) (sym is)
+
+-- the numbers of the tasks of a class, and of those of the classes after it
+pub class_first : (P : Plan) (class : ℕ) (s : ClassSpace) → slice_get P.spaces class ≡ Some s
+    → weigh (task_elements P) (tasks_from class (drop class P.spaces)) ≡ weigh (task_elements P) (map (task class) (tasks s)) + weigh (task_elements P) (tasks_from (class + 1) (drop (class + 1) P.spaces))
+class_first P class s here =
+    let f = task_elements P in
+    let split : weigh f (tasks_from class (drop class P.spaces)) ≡ weigh f (tasks_from class (s ∷ drop (suc class) P.spaces)) = ap (λ ss. weigh f (tasks_from class ss)) (drop_at P.spaces class s here) in
+    let both = weigh-append f (map (task class) (tasks s)) (tasks_from (suc class) (drop (suc class) P.spaces)) in
+    rw add-one (split ∙ both)
+
+-- no class is left
+pub none_left : (P : Plan) (class : ℕ) → length P.spaces ≤ class → weigh (task_elements P) (tasks_from class (drop class P.spaces)) ≡ 0
+none_left P class past = ap (λ ss. weigh (task_elements P) (tasks_from class ss)) (drop_all class P.spaces past)
+
+pub benches_at_most : (workers each : ℕ) → workers ≤ 64 → each ≤ 65536 → 8 * workers * each ≤ 33554432
+benches_at_most workers each few small = omega (arith, mul-le-mul_left workers small)

@@ -1,0 +1,150 @@
+//! How many numbers go over the edges and the write-backs of a job.
+
+ghost use Rattle.std.specs.Prelude.{◌≡◌, ◌≤◌, ◌<◌, ◌^◌, Some, drop, length, map, slice_get, if◌then◌else◌};
+ghost use Rattle.std.specs.Prelude.{List};
+ghost use Rattle.term_core.specs.declared.space.ClassSpace.{ClassSpace as ClassSpaceValue};
+ghost use Rattle.range_space.specs.Tasks as range;
+ghost use Rattle.plan_core.specs.Kinds as kinds;
+ghost use Rattle.dep_iter.specs.Edges as edges;
+ghost use Rattle.dep_iter.specs.Items as items;
+ghost use Rattle.dep_iter.specs.Tasks as tasks;
+ghost use Rattle.dep_iter.specs.Tasks.{IsTask, task, tasks_from};
+ghost use Rattle.flow_meaning.specs.Counting.{weigh};
+ghost use Rattle.run_pool.specs.Bytes as bytes;
+ghost use Rattle.run_pool.specs.Elements as elements;
+
+use dep_iter::{Matched, flows_of, in_edges_under, locals_of, write_backs_under};
+use plan_core::Plan;
+use ptg_base::TaskId;
+use range_space::Space;
+use term_core::{ClassSpace, FlowKind};
+
+// Whether flows of this kind carry tiles.
+fn is_data(kind: FlowKind) -> bool
+    ensures { result ≡ kinds.is_data (Some kind) }
+{
+    match kind {
+        FlowKind::Read => true,
+        FlowKind::Write => true,
+        FlowKind::Rw => true,
+        FlowKind::Ctl => false,
+    }
+}
+
+// How many numbers a tile of this flow of a task has.
+fn flow_elements(plan: &Plan, t: &TaskId, flow: u8) -> u64
+    requires { IsTask plan.now t.now }
+    ensures { result ≡ bytes.elements_of plan.now (kinds.flow_of plan.now.classes t.now.class flow) }
+{
+    match flows_of(plan, t).get(flow as usize) {
+        Some(f) => u64::from(plan.elements(f.datatype)),
+        None => 0,
+    }
+}
+
+// Whether this flow of a task carries tiles.
+fn is_data_flow(plan: &Plan, t: &TaskId, flow: u8) -> bool
+    requires { IsTask plan.now t.now }
+    ensures { result ≡ kinds.is_data (kinds.kind_of plan.now.classes t.now.class flow) }
+{
+    match flows_of(plan, t).get(flow as usize) {
+        Some(f) => is_data(f.kind),
+        None => false,
+    }
+}
+
+// How many numbers go over an edge into this flow of a task.
+fn carried_elements(plan: &Plan, t: &TaskId, flow: u8) -> u64
+    requires { IsTask plan.now t.now }
+    ensures { result ≡ (if kinds.is_data (kinds.kind_of plan.now.classes t.now.class flow) then bytes.elements_of plan.now (kinds.flow_of plan.now.classes t.now.class flow) else 0) }
+{
+    if is_data_flow(plan, t, flow) {
+        flow_elements(plan, t, flow)
+    } else {
+        0
+    }
+}
+
+// How many numbers go over the edges into a task.
+fn in_elements(plan: &Plan, t: &TaskId, env: &[i64]) -> u64
+    requires task { IsTask plan.now t.now }
+    requires locals { env.now ≡ tasks.locals_of plan.now t.now }
+    requires at_most { elements.in_elements plan.now t.now < 2 ^ 64 }
+    ensures { result ≡ elements.in_elements plan.now t.now }
+{
+    let mut all = 0;
+    for edge in in_edges_under(plan, t, env) {
+        all += carried_elements(plan, t, edge.in_flow);
+    }
+    all
+}
+
+// How many numbers go over the write-backs of a task.
+fn out_elements(plan: &Plan, t: &TaskId, env: &[i64]) -> u64
+    requires task { IsTask plan.now t.now }
+    requires locals { env.now ≡ tasks.locals_of plan.now t.now }
+    requires at_most { elements.out_elements plan.now t.now < 2 ^ 64 }
+    ensures { result ≡ elements.out_elements plan.now t.now }
+{
+    let mut all = 0;
+    for write in write_backs_under(plan, t, env) {
+        all += flow_elements(plan, t, write.flow);
+    }
+    all
+}
+
+// How many numbers go over the edges into a task and over its write-backs.
+#[tactic(auto, unfolding(crate::specs::Elements::task_elements))]
+fn task_elements(plan: &Plan, t: &TaskId) -> u64
+    requires task { IsTask plan.now t.now }
+    requires at_most { elements.task_elements plan.now t.now < 2 ^ 64 }
+    ensures { result ≡ elements.task_elements plan.now t.now }
+{
+    let env = locals_of(plan, t);
+    in_elements(plan, t, env.as_slice()) + out_elements(plan, t, env.as_slice())
+}
+
+// The space of a class.
+fn space_of(plan: &Plan, class: u32) -> &ClassSpace
+    requires { class < length plan.now.classes }
+    ensures space { slice_get plan.now.spaces class ≡ Some result.now }
+    ensures at_most { length result.now.defs ≤ 16 }
+{
+    let _ = plan.class(class);
+    plan.space(class)
+}
+
+// How many numbers go over the edges into the tasks of a class and over their write-backs.
+fn class_elements(plan: &Plan, class: u32, space: &ClassSpace) -> u64
+    requires class { slice_get plan.now.spaces class ≡ Some space.now }
+    requires defs { length space.now.defs ≤ 16 }
+    requires at_most { weigh (elements.task_elements plan.now) (map (task class) (range.tasks space.now)) < 2 ^ 64 }
+    ensures { result ≡ weigh (elements.task_elements plan.now) (map (task class) (range.tasks space.now)) }
+{
+    let mut all = 0;
+    for params in Space::new(space) {
+        let t = TaskId::new(class, params.as_slice());
+        all += task_elements(plan, &t);
+    }
+    all
+}
+
+// The same for the classes from this number on.
+fn elements_from(plan: &Plan, class: u32) -> u64
+    requires { weigh (elements.task_elements plan.now) (tasks_from class (drop class plan.now.spaces)) < 2 ^ 64 }
+    ensures { result ≡ weigh (elements.task_elements plan.now) (tasks_from class (drop class plan.now.spaces)) }
+{
+    if class as usize >= plan.classes.len() {
+        return 0;
+    }
+    let here = class_elements(plan, class, space_of(plan, class));
+    here + elements_from(plan, class + 1)
+}
+
+// How many numbers the tiles of all data edges and all write-backs have.
+pub(crate) fn sent_elements(m: &Matched) -> u64
+    ensures same { result ≡ bytes.sent_elements m.now }
+    ensures at_most { result ≤ 32768000000 }
+{
+    elements_from(m.plan(), 0)
+}
