@@ -75,7 +75,10 @@ pub fn ptg_main<R: Threads + Wait + Sync, F: Files, O: Sink, G: Gate>(
     let host = Host { rt, alloc, gate };
     match judge(&host, words, files) {
         Ok(verdict) => match tell(&verdict, out) {
-            Ok(()) => Ended { status: status(&verdict), receipt: receipt(verdict) },
+            Ok(()) => Ended {
+                status: status(&verdict),
+                receipt: receipt(verdict),
+            },
             Err(Failed) => Ended::without_receipt(Status::WriteFault),
         },
         Err(OutOfMemory) => Ended::without_receipt(Status::OutOfMemory),

@@ -66,7 +66,7 @@ returns-in-Ok-tell-clause-receipt g c =
 
 -- and a run without one has no answer
 pub returns-in-Ok-tell-clause-no_receipt : goal.returns-in-Ok-tell-clause-no_receipt
-returns-in-Ok-tell-clause-no_receipt g c = 
+returns-in-Ok-tell-clause-no_receipt g c =
     no_receipt_no_answer c.args.words.now c.status.result c.in-Ok.verdict c.receipt.result c.in-Ok.ensures.ran c.status.ensures c.receipt.ensures
 
 -- its plan is that of the job that the files denote
