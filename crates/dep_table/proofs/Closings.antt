@@ -1,5 +1,5 @@
 -- How passes are joined, and the shards of a table that was closed.
-use Rattle.std.proofs.Common.{◌≡◌, ℕ, zero, suc, ◌+◌, ◌<◌, List, [], ◌∷◌, ◌++◌, length, map, take, sym, refl, ap, ◌∙◌, subst, arith, Some, slice_get, inl}
+use Rattle.std.proofs.Common.{◌≡◌, ℕ, zero, suc, ◌+◌, ◌<◌, List, [], ◌∷◌, ◌++◌, length, map, take, sym, refl, ap, ◌∙◌, subst, arith, Some, slice_get, ◌⊎◌, inl, inr, Bool, true, false, ◌||◌}
 use Rattle.std.proofs.lemmas.List.{append-nil}
 use Rattle.std.specs.List.{flat_map}
 use mathlib.Core.Option.{some, some-injective, some-ne-none}
@@ -7,7 +7,7 @@ use lib.ListN.{get_elem?}
 use Rattle.atomic_table.specs.Seated.{TableId}
 use Rattle.atomic_table.specs.Table.{Final, Seen}
 use Rattle.ptg_base.specs.Lists.{IsIn}
-use Rattle.range_space.proofs.MemberLists.{IsIn-append_left, IsIn-append_right}
+use Rattle.range_space.proofs.MemberLists.{IsIn-append_left, IsIn-append_right, from_append}
 use Rattle.dep_iter.proofs.Joining.{map-append}
 use Rattle.dep_shard.specs.Content.{Content}
 use Rattle.flow_meaning.specs.Counting.{HasSameMembers, weigh}
@@ -21,9 +21,10 @@ use Rattle.table_rule.specs.Records.{joined, moment_of}
 use Rattle.table_rule.specs.Rule.{Rule, Share}
 use Rattle.table_rule.proofs.AllNames.{join_all, order_all}
 use Rattle.table_rule.proofs.Alone.{alone_free, alone_parts}
-use Rattle.dep_table.specs.Closing.{AreAllPasses, IsClosedAt, IsLastPass}
+use Rattle.dep_table.specs.Closing.{AreAllPasses, HaveNoWork, IsClosedAt, IsLastPass}
 use Rattle.dep_table.specs.Passes.{IsPassOf}
 use Rattle.dep_table.specs.Views.{PassView, shown}
+use Rattle.dep_table.proofs.Quiets.{calm_closed}
 
 -- two lists at the end, or the two as one
 joined_two : {A : Type 0} (f : PassRecord → List A) (l : List PassRecord) (v w b : PassRecord) → f b ≡ f v ++ f w → flat_map f ((l ++ v ∷ []) ++ w ∷ []) ≡ flat_map f (l ++ b ∷ [])
@@ -53,6 +54,7 @@ pub record IsJoinedSoFar (table : TableId) (ps left : List PassView) (last : Pas
   pub each : (p : PassView) → IsIn p left → IsPassOf table p
   pub all : AreAll (shown last ∷ map shown left)
   pub did : joined (map shown left ++ shown last ∷ []) ≡ joined (map shown ps)
+  pub quiet : (p : PassView) → IsIn p ps → (shown p).quiet ≡ true → IsIn p left ⊎ ((shown last).quiet ≡ true)
 
 pub has_one_name : (p : PassView) (table : TableId) → IsPassOf table p → HasName (shown p)
 has_one_name p table w = omega (arith, w.clean.one_name)
@@ -67,6 +69,13 @@ passes_some table ps a = some_pass ps a.all
 last_first : (l : List PassView) (p : PassView) → HasSameMembers (map shown (l ++ p ∷ [])) (shown p ∷ map shown l)
 last_first l p = λ f. ap (weigh f) (map-append shown l (p ∷ [])) ∙ omega (arith, weigh-append f (map shown l) (shown p ∷ []))
 
+-- a pass that has seen quiet is among those that are left, or is the last one
+left_or_last : (q : PassView) (left : List PassView) (p : PassView) → (shown q).quiet ≡ true → IsIn q (left ++ p ∷ []) → IsIn q left ⊎ ((shown p).quiet ≡ true)
+left_or_last q left p k i = elim (from_append q left (p ∷ []) i) [
+  | inl there ↦ inl there
+  | inr here ↦ elim here [ inl e ↦ inr (ap (λ (x : PassView). (shown x).quiet) (sym e) ∙ k) | inr never ↦ absurd never ]
+]
+
 -- the first pass that is taken
 pub joined_first : (table : TableId) (ps left : List PassView) (p : PassView) → ps ≡ left ++ p ∷ [] → AreAllPasses table ps → IsJoinedSoFar table ps left p
 joined_first table ps left p is a =
@@ -77,7 +86,12 @@ joined_first table ps left p is a =
       each = λ q i. a.each q (subst (IsIn q) (sym is) (IsIn-append_left q left (p ∷ []) i));
       all = order_all (map shown (left ++ p ∷ [])) (shown p ∷ map shown left) (last_first left p) (subst (λ l. AreAll (map shown l)) is a.all);
       did = ap joined (sym (map-append shown left (p ∷ []))) ∙ ap (λ l. joined (map shown l)) (sym is);
+      quiet = λ q i k. left_or_last q left p k (subst (IsIn q) is i);
     }
+
+either : (a b : Bool) → b ≡ true → (a || b) ≡ true
+either true b e = refl
+either false b e = e
 
 -- one pass more
 pub joined_next : (table : TableId) (ps before left : List PassView) (p last new : PassView) → before ≡ left ++ p ∷ [] → new.table ≡ p.table → new.me ≡ (both (shown p) (shown last), p.me.1) → IsJoinedSoFar table ps before last → IsJoinedSoFar table ps left new
@@ -94,6 +108,13 @@ joined_next table ps before left p last new is of me a =
       did = ap (λ v. joined (map shown left ++ v ∷ [])) now
           ∙ (sym (both_joined (map shown left) (shown p) (shown last))
           ∙ (ap (λ l. joined (l ++ shown last ∷ [])) (sym (map-append shown left (p ∷ []))) ∙ (ap (λ l. joined (map shown l ++ shown last ∷ [])) (sym is) ∙ a.did)));
+      quiet = λ q i k. elim (a.quiet q i k) [
+        | inl there ↦ elim (left_or_last q left p k (subst (IsIn q) is there)) [
+          | inl still ↦ inl still
+          | inr one ↦ inr (ap (λ (v : PassRecord). v.quiet) now ∙ ap (λ b. b || (shown last).quiet) one)
+        ]
+        | inr other ↦ inr (ap (λ (v : PassRecord). v.quiet) now ∙ either (shown p).quiet (shown last).quiet other)
+      ];
     }
 
 pub joined_all : (table : TableId) (ps left : List PassView) (last : PassView) → left ≡ [] → IsJoinedSoFar table ps left last → IsLastPass table last (joined (map shown ps))
@@ -124,6 +145,12 @@ next_taken (x ∷ xs) (suc k) y e = ap (λ l. x ∷ l) (next_taken xs k y e)
 pub take_next : {A : Type 0} (xs : List A) (k : ℕ) (y : A) → get_elem? xs k ≡ some y → take (k + 1) xs ≡ take k xs ++ y ∷ []
 take_next xs k y e = let one : k + 1 ≡ suc k = omega arith in ap (λ n. take n xs) one ∙ next_taken xs k y e
 
+pub joined_quiet : (table : TableId) (ps left : List PassView) (last : PassView) → left ≡ [] → IsJoinedSoFar table ps left last → (p : PassView) → IsIn p ps → (shown p).quiet ≡ true → (shown last).quiet ≡ true
+joined_quiet table ps left last none a p i k = elim (a.quiet p i k) [
+  | inl there ↦ let never : IsIn p [] = subst (IsIn p) none there in absurd never
+  | inr is ↦ is
+]
+
 pub closes : (j : Job) (id : ℕ) (v : PassRecord) (ws : List ℕ) (xs ys : List Content) → AreAll (v ∷ []) → v.turns ≡ [] → Final (Seen (Rule j) id v) ws xs → ys ≡ xs → IsClosedAt j (moment_of v) ys
 closes j id v ws xs ys all none f same =
     let p = alone_parts j f.0 id v f.1.0 f.1.1 all in
@@ -139,6 +166,11 @@ closes j id v ws xs ys all none f same =
           let home = p.at_rest k (omega (arith, f.3)) (alone_free j f.0 id v f.1.0 f.1.1 all none k (omega (arith, f.3, p.slots))) in
           subst (Share j (moment_of v) k) (same_get xs k y home.0 e' (f.4 k home.0 home.1)) home.2;
     }
+
+-- where the last pass has seen quiet, no shard has work
+pub closes_quiet : (j : Job) (id : ℕ) (v : PassRecord) (ws : List ℕ) (xs ys : List Content) → AreAll (v ∷ []) → v.turns ≡ [] → Final (Seen (Rule j) id v) ws xs → ys ≡ xs → v.quiet ≡ true → HaveNoWork ys
+closes_quiet j id v ws xs ys all none f same q =
+    calm_closed j (moment_of v) ys (closes j id v ws xs ys all none f same) ((alone_parts j f.0 id v f.1.0 f.1.1 all).quieted.calm id v f.1.1 q)
 
 -- a pass that is taken is a clean one
 pub taken_pass : (table : TableId) (ps before left : List PassView) (p last : PassView) → before ≡ left ++ p ∷ [] → IsJoinedSoFar table ps before last → IsPassOf table p

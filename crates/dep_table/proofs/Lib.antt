@@ -8,3 +8,4 @@ pub mod Sums
 pub mod Turns
 pub mod Claiming
 pub mod Ending
+pub mod Meanings

@@ -5,10 +5,11 @@ use Rattle.flow_meaning.specs.Machine.{IsQuiescent}
 use Rattle.shard_meaning.specs.Calm.{IsCalm}
 use Rattle.shard_meaning.specs.Moment.{Moment}
 use Rattle.shard_meaning.proofs.Calming.{calm_by_shards, calm_quiescent, calm_shard}
+use Rattle.shard_answer.specs.Ending.{HoldAnEnd}
 use Rattle.table_rule.specs.declared.job.Job.{Job}
 use Rattle.table_rule.specs.Placing.{shard_of}
 use Rattle.table_rule.proofs.Placing.{shard_below}
-use Rattle.dep_table.specs.Closing.{HaveNoWork, IsClosedAt}
+use Rattle.dep_table.specs.Closing.{HaveNoWork, IsClosed, IsClosedAt}
 
 -- the element at an index below the length, at whatever default
 there_at : {A : Type 0} (xs : List A) (k : ℕ) (d : A) → k < length xs → slice_get xs k ≡ Some (get_or xs k d)
@@ -29,3 +30,15 @@ calm_closed j R ys c calm = λ k y e. calm_shard j.matched j.given (shard_of j.m
 
 pub closed_quiescent : (j : Job) (R : Moment) (ys : List Content) → IsClosedAt j R ys → IsCalm j.matched R → IsQuiescent j.matched j.given R.state
 closed_quiescent j R ys c calm = calm_quiescent j.matched j.given c.consistent R c.sound calm c.finished
+
+-- shards that have no work hold an end
+pub holds_an_end : (j : Job) (ys : List Content) → IsClosed j ys → HaveNoWork ys → HoldAnEnd j.matched j.given ys
+holds_an_end j ys c none = record {
+  of = shard_of j.matched j.shards;
+  moment = c.0;
+  placed = λ t task. omega (arith, shard_below j.matched j.shards t c.1.some_shards, c.1.count);
+  shares = c.1.shares;
+  sound = c.1.sound;
+  calm = closed_calm j c.0 ys c.1 none;
+  finished = c.1.finished;
+}

@@ -1,8 +1,10 @@
 -- A closed table: no pass shares it any more. Source: this project's own choice.
-use Rattle.std.specs.Prelude.{◌<◌, ◌≡◌, ℕ, List, [], ◌∷◌, map, length, slice_get, Some}
+use Rattle.std.specs.Prelude.{◌<◌, ◌≤◌, ◌≡◌, ℕ, true, List, [], ◌∷◌, map, length, slice_get, Some}
 use Rattle.atomic_table.specs.Seated.{TableId}
 use Rattle.ptg_base.specs.Lists.{IsIn}
+use Rattle.plan_data.specs.Fit.{DataFit}
 use Rattle.dep_iter.specs.Consistent.{IsConsistent}
+use Rattle.dep_iter.specs.Tasks.{all_tasks}
 use Rattle.dep_shard.specs.Content.{Content}
 use Rattle.flow_meaning.specs.Sound.{IsSoundState}
 use Rattle.shard_meaning.specs.Calm.{AreFinished, HasNoWork}
@@ -27,6 +29,12 @@ pub record IsClosedAt (j : Job) (R : Moment) (ys : List Content) : Type 0 where
 -- there is such a moment
 abbrev pub IsClosed : Job → List Content → Type 0
 IsClosed j ys = (R : Moment) × IsClosedAt j R ys
+
+-- A closed table: its shards hold their parts of such a moment, its data are those of the plan and, where all memory was taken before, it has room for a row of each task.
+pub record IsClosedTable (j : Job) (ys : List Content) (rows : ℕ) : Type 0 where
+  pub ends : IsClosed j ys
+  pub fit : DataFit j.matched.colls j.matched.elems j.given
+  pub room : j.preloaded ≡ true → length (all_tasks j.matched) ≤ rows
 
 -- clean passes of one table, and all that it has
 pub record AreAllPasses (table : TableId) (ps : List PassView) : Type 0 where

@@ -1,27 +1,50 @@
 //! The close of a table.
 
-ghost use Rattle.std.specs.Prelude.{◌≡◌, ◌≤◌, [], map, vec_capacity};
+ghost use Rattle.std.specs.Prelude.{◌≡◌, [], length, map, true};
+ghost use Rattle.ptg_base.specs.Lists.{IsIn};
 ghost use Rattle.table_rule.specs.Changes.{both};
 ghost use Rattle.table_rule.specs.Plays.{HasName};
 ghost use Rattle.table_rule.specs.Records.{joined, moment_of};
-ghost use Rattle.dep_table.specs.Closing.{AreAllPasses, IsClosed, IsClosedAt, IsLastPass};
+ghost use Rattle.dep_table.specs.ClosedTables.{shards_of};
+ghost use Rattle.dep_table.specs.Closing.{AreAllPasses, HaveNoWork, IsClosedAt, IsLastPass};
 ghost use Rattle.dep_table.specs.Tables.{id_of, job_of};
-ghost use Rattle.dep_table.specs.Views.{shown};
+ghost use Rattle.dep_table.specs.Views.{PassView, shown};
 
+use crate::closing_room::ClosingRoom;
 use crate::pass::Pass;
 use crate::table::DepTable;
 use dep_shard::Shard;
+use shard_answer::Room;
+use std::marker::Model;
 use table_rule::job::Job;
 use table_rule::law::JoinTo;
 use table_rule::rules::{a_pass_with_all_names_is_alone, all_passes_stay_all};
 use table_rule::steps::two_passes_are_joined;
 
-/// A table that no pass shares any more: its shards hold their parts of a sound moment.
+/// A table that no pass shares any more: its shards hold their parts of a sound moment. Contracts see its job, its shards, and how
+/// many passes were closed with it. `DepTable::close` alone makes one.
 #[derive(Drop)]
 pub struct Closed {
     pub(crate) shards: Vec<Shard>,
     pub(crate) job: Job,
-    ghost ends: { ∥ IsClosed job shards.items ∥₁ },
+    pub(crate) passes: usize,
+    pub(crate) rows: Room,
+}
+
+impl Model for Closed {
+    ghost use Rattle.term_core.specs.contracts.expr.Expr as expr;
+    ghost use Rattle.term_core.specs.contracts.body.Block as block;
+    ghost use Rattle.std.specs.Coded.{codes};
+    ghost use Rattle.dep_table.specs.ClosedTables.{ClosedView};
+    ghost use Rattle.dep_table.specs.Closing.{IsClosedTable};
+
+    ghost Value = { ClosedView };
+
+    ghost coded = { Prim.hlevel (codes, expr.the_row.coded, block.the_row.coded) };
+
+    ghost view = { λ c. record { job = c.job; shards = c.shards.items; passes = c.passes } };
+
+    ghost invariant = { λ c. IsClosedTable c.job c.shards.items c.rows };
 }
 
 impl DepTable {
@@ -43,10 +66,11 @@ impl DepTable {
         Pass { seat, stamp }
     }
 
-    // All passes as one.
+    // All passes as one, which has seen quiet where one of them has.
     fn join_all(&self, mut passes: Vec<Pass>) -> Pass
         requires { AreAllPasses (id_of self.now) passes.items }
-        ensures { IsLastPass (id_of self.now) result (joined (map shown passes.items)) }
+        ensures last { IsLastPass (id_of self.now) result (joined (map shown passes.items)) }
+        ensures quiet { (p : PassView) → IsIn p passes.items → (shown p).quiet ≡ true → (shown result).quiet ≡ true }
     {
         all_passes_stay_all();
         let mut last = passes.pop().unwrap();
@@ -56,39 +80,52 @@ impl DepTable {
         last
     }
 
-    // The shards of a table that its last pass gives up.
-    fn end(self, pass: Pass, room: Vec<Shard>) -> Closed
-        requires last { IsLastPass (id_of self) pass (moment_of (shown pass)) }
-        requires room { (room.items ≡ []) × ((job_of self).shards ≤ vec_capacity room) }
+    // The shards of a table that its last pass gives up, which was made of so many passes.
+    fn end(self, pass: Pass, passes: usize) -> Closed
+        requires { IsLastPass (id_of self) pass (moment_of (shown pass)) }
         ensures job { result.job ≡ job_of self }
-        ensures at { ∥ IsClosedAt (job_of self) (moment_of (shown pass)) result.shards.items ∥₁ }
+        ensures passes { result.passes ≡ passes }
+        ensures at { IsClosedAt (job_of self) (moment_of (shown pass)) (shards_of result) }
+        ensures quiet { (shown pass).quiet ≡ true → HaveNoWork (shards_of result) }
     {
         a_pass_with_all_names_is_alone();
-        let DepTable { table, job } = self;
+        let DepTable {
+            table,
+            job,
+            closing,
+        } = self;
         let Pass {
             seat,
             stamp: _stamp,
         } = pass;
+        let ClosingRoom { shards, rows } = closing;
         let count = job.shards as usize;
         let mut closed = table.close_with(seat);
-        let mut taken = room;
+        let mut taken = shards;
         for k in 0..count {
             let shard = closed.take(k);
             taken.push_reserved(shard);
         }
         closed.free();
-        Closed { shards: taken, job }
+        Closed {
+            shards: taken,
+            job,
+            passes,
+            rows,
+        }
     }
 
-    /// Closes the table, where these are all its passes. It takes no memory: the room is for the shards. What the shards then hold
-    /// is what the passes did together.
-    pub fn close(self, passes: Vec<Pass>, room: Vec<Shard>) -> Closed
-        requires passes { AreAllPasses (id_of self) passes.items }
-        requires room { (room.items ≡ []) × ((job_of self).shards ≤ vec_capacity room) }
+    /// Closes the table, where these are all its passes. It takes no memory. What the shards then hold is what the passes did
+    /// together. Where one of the passes has seen quiet, no shard has work.
+    pub fn close(self, passes: Vec<Pass>) -> Closed
+        requires { AreAllPasses (id_of self) passes.items }
         ensures job { result.job ≡ job_of self }
-        ensures at { ∥ IsClosedAt (job_of self) (joined (map shown passes.items)) result.shards.items ∥₁ }
+        ensures passes { result.passes ≡ length passes.items }
+        ensures at { IsClosedAt (job_of self) (joined (map shown passes.items)) (shards_of result) }
+        ensures quiet { (p : PassView) → IsIn p passes.items → (shown p).quiet ≡ true → HaveNoWork (shards_of result) }
     {
+        let count = passes.len();
         let last = self.join_all(passes);
-        self.end(last, room)
+        self.end(last, count)
     }
 }

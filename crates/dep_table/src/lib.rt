@@ -3,9 +3,12 @@
 
 mod calls;
 pub mod closed;
+mod closing_room;
 mod opening;
+mod outcome;
 pub mod pass;
 pub mod quiet;
+pub mod receipt;
 mod steps;
 pub mod table;
 pub mod turn;

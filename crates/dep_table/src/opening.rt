@@ -8,10 +8,12 @@ ghost use Rattle.dep_iter.specs.Tasks.{IsTask, task, tasks_from};
 ghost use Rattle.table_rule.specs.Changes.{first_pass};
 ghost use Rattle.table_rule.specs.Opening.{IsOpening};
 ghost use Rattle.table_rule.specs.Placing as placing;
+ghost use Rattle.dep_table.specs.ClosingRooms.{IsRoomFor};
 ghost use Rattle.dep_table.specs.Opened.{AreNew, AreOpeningWords, Enters, EntersIn, Opens};
 ghost use Rattle.dep_table.specs.Passes.{IsPassOf};
 ghost use Rattle.dep_table.specs.Tables.{id_of, job_of};
 
+use crate::closing_room::{ClosingRoom, closing_room};
 use crate::pass::{Pass, Seat};
 use crate::table::DepTable;
 use crate::words::{STRIDE, live_index};
@@ -148,15 +150,17 @@ fn opening_words(alloc: Global, shards: u32, live: u64) -> Result<Vec<u64>, OutO
     Ok(words)
 }
 
-// A table of these words and shards, and its first pass.
+// A table of these words and shards, with this room for its close, and its first pass.
 fn lay(
     alloc: Global,
     words: Vec<u64>,
     shards: Vec<Shard>,
     job: Job,
+    closing: ClosingRoom,
 ) -> Result<(DepTable, Pass), OutOfMemory>
     requires opening { IsOpening job words.items shards.items }
     requires fit { DataFit job.matched.colls job.matched.elems job.given }
+    requires room { IsRoomFor job closing }
     ensures pass { IfOk result (λ r. IsPassOf (id_of r.0) r.1 × (r.1.me.0 ≡ first_pass)) }
     ensures job { IfOk result (λ r. job_of r.0 ≡ job) }
 {
@@ -164,7 +168,14 @@ fn lay(
     let laid: Result<(Table<Shard, PassRecord, Job, Law, Global>, Seat), Refused<Shard, Global>> =
         Table::new(alloc, words.as_slice(), shards, &job);
     match laid {
-        Ok((table, seat)) => Ok((DepTable { table, job }, Pass { seat, stamp: 0 })),
+        Ok((table, seat)) => Ok((
+            DepTable {
+                table,
+                job,
+                closing,
+            },
+            Pass { seat, stamp: 0 },
+        )),
         Err(_refused) => Err(OutOfMemory),
     }
 }
@@ -189,6 +200,7 @@ impl DepTable {
         };
         open_classes(&mut opening, &matched, 0)?;
         let words = opening_words(alloc, shards, matched.roots())?;
+        let closing = closing_room(alloc, shards, 0)?;
         let job = Job {
             matched,
             given,
@@ -199,6 +211,6 @@ impl DepTable {
             shards: desks,
             left: _left,
         } = opening;
-        lay(alloc, words, desks, job)
+        lay(alloc, words, desks, job, closing)
     }
 }

@@ -6,27 +6,43 @@ ghost use Rattle.flow_meaning.specs.Machine.{IsQuiescent};
 ghost use Rattle.shard_meaning.specs.Calm.{IsCalm};
 ghost use Rattle.shard_meaning.specs.Moment.{Moment};
 ghost use Rattle.table_rule.specs.declared.job.Job.{Job};
+ghost use Rattle.dep_table.specs.ClosedMeaning.{HasTheMeaning};
 ghost use Rattle.dep_table.specs.ClosedTables.{shards_of};
 ghost use Rattle.dep_table.specs.Closing.{HaveNoWork, IsClosedAt};
 
 use crate::closed::Closed;
+use dep_shard::Shard;
 
 impl Closed {
     /// Whether the table was closed after the run had ended: no shard has work.
     pub fn quiet(&self) -> bool
         ensures { IsTrue result ↔ HaveNoWork (shards_of self.now) }
     {
-        for k in 0..self.shards.len() {
-            if !self.shards[k].is_calm() {
-                return false;
-            }
-        }
-        true
+        have_no_work(self.shards.as_slice())
     }
+}
+
+// Whether no shard has work.
+fn have_no_work(shards: &[Shard]) -> bool
+    ensures { IsTrue result ↔ HaveNoWork shards.now }
+{
+    for k in 0..shards.len() {
+        if !shards[k].is_calm() {
+            return false;
+        }
+    }
+    true
 }
 
 /// A law: where no shard of a closed table has work, what its passes did together is calm, and no event is possible; and then only.
 pub fn a_closed_table_without_work_is_quiescent()
     ensures calm { (j : Job) (R : Moment) (ys : List Content) → IsClosedAt j R ys → HaveNoWork ys → IsCalm j.matched R × IsQuiescent j.matched j.given R.state }
     ensures work { (j : Job) (R : Moment) (ys : List Content) → IsClosedAt j R ys → IsCalm j.matched R → HaveNoWork ys }
+{}
+
+/// A law: where no shard of a closed table has work, its passes have done what the job means. They have claimed the tasks that run,
+/// each once, and sent the items of the tasks that have outputs, each once and with the tile that its task leaves; and each claimed
+/// task was sent its inputs.
+pub fn a_quiet_close_has_the_meaning()
+    ensures { (j : Job) (R : Moment) (ys : List Content) → IsClosedAt j R ys → HaveNoWork ys → HasTheMeaning j.matched j.given R.state }
 {}

@@ -1,8 +1,11 @@
 //! The table: its shards and words, and its job.
 
 ghost use Rattle.std.specs.Prelude.{◌≡◌, ◌<◌, ◌≤◌};
+ghost use Rattle.plan_data.specs.Fit.{DataFit};
 ghost use Rattle.table_rule.specs.Words.{word_count};
+ghost use Rattle.dep_table.specs.ClosingRooms.{IsRoomFor};
 
+use crate::closing_room::ClosingRoom;
 use atomic_table::Table;
 use dep_shard::Shard;
 use std::alloc::Global;
@@ -15,6 +18,9 @@ use work_board::PassRecord;
 pub struct DepTable {
     pub(crate) table: Table<Shard, PassRecord, Job, Law, Global>,
     pub(crate) job: Job,
+    pub(crate) closing: ClosingRoom,
     ghost of_job: { job ≡ table.shared.key },
     ghost sized: { (table.shared.table_id.words ≡ word_count job.shards) × (table.shared.table_id.slots ≡ job.shards) × (0 < job.shards) × (job.shards ≤ 256) },
+    ghost fit: { DataFit job.matched.colls job.matched.elems job.given },
+    ghost room: { IsRoomFor job closing },
 }

@@ -6,7 +6,7 @@ use Rattle.std.specs.Mem.Slots.{slots_counts, slots_filled, slots_items}
 use Rattle.dep_shard.specs.Content.{Content}
 use Rattle.table_rule.specs.Records.{moment_of}
 use Rattle.dep_table.specs.Views.{shown}
-use Rattle.dep_table.proofs.Closings.{closes, take_next}
+use Rattle.dep_table.proofs.Closings.{closes, closes_quiet, take_next}
 use Rattle.dep_table.proofs.table.DepTable.end.Goals as goal
 
 pub loop-k-preserved : goal.loop-k-preserved
@@ -36,11 +36,13 @@ invariant_of-result c =
     let items : List Content = slots_items c.loop-k.closed.slots in
     let counts = slots_counts c.loop-k.closed.slots in
     record {
-      ends = ∣ (
+      ends = (
         moment_of (shown c.args.pass),
-        closes c.args.self.job i.6 (shown c.args.pass) _ items c.loop-k.taken.items c.requires.last.all c.requires.last.no_turn i.7
+        closes c.args.self.job i.6 (shown c.args.pass) _ items c.loop-k.taken.items c.requires.all c.requires.no_turn i.7
             (i.5 ∙ (ap (λ n. take n items) (omega (arith, c.loop-k-test.false, c.loop-k.auto.k-end, counts.0, i.2)) ∙ take-length items)),
-      ) ∣₁;
+      );
+      fit = c.args.self.fit;
+      room = c.args.self.room.rows;
     }
 
 pub returns-clause-at : goal.returns-clause-at
@@ -48,5 +50,13 @@ returns-clause-at c =
     let i = c.loop-k.invariant in
     let items : List Content = slots_items c.loop-k.closed.slots in
     let counts = slots_counts c.loop-k.closed.slots in
-    ∣ closes c.args.self.job i.6 (shown c.args.pass) _ items c.loop-k.taken.items c.requires.last.all c.requires.last.no_turn i.7
-    (i.5 ∙ (ap (λ n. take n items) (omega (arith, c.loop-k-test.false, c.loop-k.auto.k-end, counts.0, i.2)) ∙ take-length items)) ∣₁
+    closes c.args.self.job i.6 (shown c.args.pass) _ items c.loop-k.taken.items c.requires.all c.requires.no_turn i.7
+    (i.5 ∙ (ap (λ n. take n items) (omega (arith, c.loop-k-test.false, c.loop-k.auto.k-end, counts.0, i.2)) ∙ take-length items))
+
+pub returns-clause-quiet : goal.returns-clause-quiet
+returns-clause-quiet c =
+    let i = c.loop-k.invariant in
+    let items : List Content = slots_items c.loop-k.closed.slots in
+    let counts = slots_counts c.loop-k.closed.slots in
+    closes_quiet c.args.self.job i.6 (shown c.args.pass) _ items c.loop-k.taken.items c.requires.all c.requires.no_turn i.7
+    (i.5 ∙ (ap (λ n. take n items) (omega (arith, c.loop-k-test.false, c.loop-k.auto.k-end, counts.0, i.2)) ∙ take-length items))

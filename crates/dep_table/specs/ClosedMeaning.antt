@@ -1,0 +1,33 @@
+-- What the passes of a table have done together once a run has ended. Source: DAGuE (Parallel Computing, 2012): a task runs on what its sources gave, and then satisfies its successors.
+use Rattle.std.specs.Prelude.{◌≡◌, List, [], map, flat_map, if◌then◌else◌}
+use Rattle.ptg_base.specs.Lists.{IsIn}
+use Rattle.ptg_base.specs.Task.{Task}
+use Rattle.ptg_base.specs.declared.edge.Item.{Item}
+use Rattle.plan_core.specs.declared.plan.Plan.{Plan}
+use Rattle.coll_data.specs.Data.{Data}
+use Rattle.dep_iter.specs.Items.{item_flow, items}
+use Rattle.dep_iter.specs.Tasks.{all_tasks}
+use Rattle.flow_meaning.specs.Answer.{ran}
+use Rattle.flow_meaning.specs.Backward.{ended, inputs}
+use Rattle.flow_meaning.specs.Counting.{HasSameMembers}
+use Rattle.flow_meaning.specs.Ending.{has_outputs, output_tile}
+use Rattle.flow_meaning.specs.Machine.{MachineState, Sent, sender, sent_tile}
+use Rattle.flow_meaning.specs.Starting.{delivered_tiles}
+
+-- an item with the tile that its task leaves in the flow of the item
+abbrev pub with_its_tile : Plan → Data → Item → Sent
+with_its_tile P G i = record { item = i; tile = output_tile (ended P G (sender i)) (item_flow i) }
+
+-- what a task sends: its items with their tiles, if it has outputs
+abbrev pub sent_by : Plan → Data → Task → List Sent
+sent_by P G t = if has_outputs (ended P G t) then map (with_its_tile P G) (items P t) else []
+
+-- what all tasks send
+abbrev pub all_sent : Plan → Data → List Sent
+all_sent P G = flat_map (sent_by P G) (all_tasks P)
+
+-- The tasks that run were claimed, and what all tasks send was sent, each once. The tiles that were sent to a claimed task are its inputs.
+pub record HasTheMeaning (P : Plan) (G : Data) (S : MachineState) : Type 0 where
+  pub claims : HasSameMembers S.claims (ran P G)
+  pub sends : HasSameMembers S.sends (all_sent P G)
+  pub inputs : (t : Task) → IsIn t S.claims → delivered_tiles P (sent_tile S) t ≡ inputs P G t

@@ -1,0 +1,46 @@
+//! The answer of a closed table.
+
+ghost use Rattle.std.specs.Prelude.{◌≡◌, IfOk, IsOk, true};
+ghost use Rattle.flow_meaning.specs.Answer.{answer};
+ghost use Rattle.dep_table.specs.ClosedTables.{shards_of};
+ghost use Rattle.dep_table.specs.Closing.{HaveNoWork};
+ghost use Rattle.dep_table.specs.Receipts.{receipt_of};
+
+use crate::closed::Closed;
+use crate::receipt::Receipt;
+use flow_meaning::Outcome;
+use ptg_base::OutOfMemory;
+use shard_answer::outcome_of;
+use table_rule::job::Job;
+
+impl Closed {
+    /// The answer of the job, where the table was closed after the run had ended, and the receipt. No tile is copied. A preloaded
+    /// table has the memory.
+    pub fn outcome(self) -> Result<(Outcome, Receipt), OutOfMemory>
+        requires { HaveNoWork (shards_of self) }
+        ensures answer { IfOk result (λ r. r.0 ≡ answer self.job.matched self.job.given) }
+        ensures receipt { IfOk result (λ r. r.1 ≡ receipt_of self) }
+        ensures preloaded { self.job.preloaded ≡ true → IsOk result }
+    {
+        let Closed {
+            shards,
+            job,
+            passes,
+            rows,
+        } = self;
+        let Job {
+            matched,
+            given,
+            shards: count,
+            preloaded,
+        } = job;
+        let outcome = outcome_of(&matched, given, shards, rows)?;
+        let receipt = Receipt {
+            matched,
+            shards: count,
+            passes,
+            preloaded,
+        };
+        Ok((outcome, receipt))
+    }
+}
