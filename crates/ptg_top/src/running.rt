@@ -83,7 +83,7 @@ fn answered<R: Threads + Wait + Sync, G: Gate>(
             let (outcome, receipt) = closed.outcome()?;
             Ok(Verdict::Answered(RanBy::Table(receipt), outcome))
         }
-        Err(PrepareFault::PreloadTooLarge(_)) => Ok(Verdict::Preload),
+        Err(PrepareFault::PreloadTooLarge(_bytes)) => Ok(Verdict::Preload),
         Err(PrepareFault::OutOfMemory) => Err(OutOfMemory),
     }
 }

@@ -13,7 +13,7 @@ use crate::answer_telling::{status_of_outcome, tell_answer};
 use crate::job_telling::{status_of_job, tell_job};
 use crate::status::Status;
 use crate::verdict::{RanBy, Verdict};
-use dep_table::Receipt;
+use dep_table::receipt::Receipt;
 use ptg_base::Text;
 use ptg_io::{Failed, Sink, write_all};
 use report_text::{Line, refusal};

@@ -1,6 +1,6 @@
 //! The verdict: what a run comes to, before it is printed.
 
-use dep_table::Receipt;
+use dep_table::receipt::Receipt;
 use flow_meaning::Outcome;
 use job_stages::JobVerdict;
 use ptg_base::Text;
