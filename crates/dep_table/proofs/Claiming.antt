@@ -62,6 +62,9 @@ module _ (t : Turn) (v : PassRecord) (y z : Content) (h : IsTurnOf t v y z) (i q
     still = record { kept = record { names = refl; turns = refl; quiet = refl; halts = refl; credit = refl }; done = record { claims = refl; stamps = refl; sends = refl }; running = refl };
   })
 
+  pub gone_last : (r : List (ℕ × Content)) → q.me ≡ (turn_left i.me.0, r) → (shown q).last ≡ (t.shard, y) ∷ []
+  gone_last r me = ap (λ (m : Seated). m.0.last) me ∙ ap (λ (p : PassRecord). p.last) me0
+
   module _ (u : Task) (s : ℕ) (r : List (ℕ × Content)) (me : q.me ≡ (with_stamp (turn_left (with_own_claim i.me.0 u)) u s, r)) (idle : v.running ≡ []) where
     final : PassRecord
     final = with_stamp (turn_left (with_own_claim (with_turn v t.shard y) u)) u s
@@ -105,3 +108,6 @@ module _ (t : Turn) (v : PassRecord) (y z : Content) (h : IsTurnOf t v y z) (i q
       may_start = let m = subst (MayStart (job_of t.table.now).matched (job_of t.table.now).given u tiles) me0 starts in record { task = m.task; runs = m.runs; inputs = m.inputs; unsent = m.unsent };
       added = record { stamp = s; claims = refl; stamps = refl; running = runs_it; sends = refl; kept = record { names = refl; turns = refl; quiet = refl; halts = refl; credit = refl } };
     })
+
+    pub claim_last : (shown q).last ≡ (t.shard, y) ∷ []
+    claim_last = ap (λ (p : PassRecord). p.last) is_final

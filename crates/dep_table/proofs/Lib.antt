@@ -1,6 +1,10 @@
 pub mod Quiets
+pub mod TaskWalks
 pub mod OpeningSteps
 pub mod Opened
+pub mod NeedsCounts
+pub mod NeedsOne
+pub mod NeedsSteps
 pub mod Closings
 pub mod Clean
 pub mod StepsAt
@@ -9,3 +13,9 @@ pub mod Turns
 pub mod Claiming
 pub mod Ending
 pub mod Meanings
+pub mod SendingTurn
+pub mod SendingAt
+pub mod Sharing
+pub mod Working
+pub mod Scans
+pub mod Tried

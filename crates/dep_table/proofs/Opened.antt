@@ -15,16 +15,16 @@ use Rattle.dep_iter.proofs.Listing.{listed}
 use Rattle.dep_shard.specs.Content.{Content, Entries, IsNew, entry_in, entry_of}
 use Rattle.flow_meaning.specs.Machine.{arrived, opening_state}
 use Rattle.flow_meaning.specs.Table.{is_ready, ready_tasks}
-use Rattle.shard_meaning.specs.Opening.{HasOpeningReserve, IsOpeningShard}
+use Rattle.shard_meaning.specs.Opening.{IsOpeningShard}
 use Rattle.shard_meaning.specs.Share.{Placement}
 use Rattle.shard_meaning.proofs.Listing.{weigh-zero}
 use Rattle.table_rule.specs.declared.job.Job.{Job}
 use Rattle.table_rule.specs.Opening.{IsOpening}
 use Rattle.table_rule.specs.Placing.{shard_of}
 use Rattle.dep_table.specs.declared.opening.Opening.{Opening}
-use Rattle.dep_table.specs.Opened.{AreNew, AreOpened, AreOpeningWords, IsOpenedFor, Opens}
+use Rattle.dep_table.specs.Opened.{AreNew, AreOpened, AreOpeningShards, AreOpeningWords, HaveOpeningReserve, IsOpenedFor, Opens}
 
-snoc_at : {A : Type 0} (xs : List A) (x : A) (k : ℕ) (y : A) → slice_get (xs ++ x ∷ []) k ≡ Some y → (slice_get xs k ≡ Some y) ⊎ (x ≡ y)
+pub snoc_at : {A : Type 0} (xs : List A) (x : A) (k : ℕ) (y : A) → slice_get (xs ++ x ∷ []) k ≡ Some y → (slice_get xs k ≡ Some y) ⊎ (x ≡ y)
 snoc_at [] x zero y e = inr cc
 snoc_at [] x (suc k) y e = absurd cc
 snoc_at (z ∷ xs) x zero y e = inl e
@@ -84,22 +84,23 @@ opening_shard P of k y w = record {
   elems = w.elems;
 }
 
-pub opened : (j : Job) (words : List ℕ) (a b : Opening) → IsConsistent j.matched → 0 < j.shards → j.shards ≤ 256 → AreNew j.shards j.matched.elems a.shards.items → a.left ≡ length (roots j.matched)
-    → Opens j.matched (shard_of j.matched (length a.shards.items)) (all_tasks j.matched) a b → AreOpeningWords j.shards (length (roots j.matched)) words
-    → (j.preloaded ≡ true → (k : ℕ) (y : Content) → get_elem? b.shards.items k ≡ some y → HasOpeningReserve j.matched (shard_of j.matched j.shards) k y)
-    → IsOpening j words b.shards.items
-opened j words a b consistent least few new left opens w spares =
-    let P = j.matched in
+-- the shards after all tasks were opened
+pub opening_shards : (P : Plan) (n : ℕ) (a b : Opening) → AreNew n P.elems a.shards.items → a.left ≡ length (roots P) → Opens P (shard_of P (length a.shards.items)) (all_tasks P) a b → AreOpeningShards P n b.shards.items
+opening_shards P n a b new left opens =
     let of = shard_of P (length a.shards.items) in
-    let all : AreOpened P of (all_tasks P) b = opens.opened [] [] (sym (append-nil (all_tasks P))) (opened_none P of a j.shards new left) in
-    record {
-      consistent = consistent;
-      some_shards = least;
-      few_shards = few;
-      shard_count = opens.count ∙ new.count;
-      long = w.long;
-      zero = w.zero;
-      live = w.live ∙ sym (ready_at_opening P);
-      each = λ k y at. subst (λ n. IsOpeningShard P (shard_of P n) k y) new.count (opening_shard P of k y (all.each k y (found_both b.shards.items k y at)));
-      spares = spares;
-    }
+    let all : AreOpened P of (all_tasks P) b = opens.opened [] [] (sym (append-nil (all_tasks P))) (opened_none P of a n new left) in
+    record { count = opens.count ∙ new.count; each = λ k y at. subst (λ m. IsOpeningShard P (shard_of P m) k y) new.count (opening_shard P of k y (all.each k y at)) }
+
+pub opened : (j : Job) (words : List ℕ) (ys : List Content) → IsConsistent j.matched → 0 < j.shards → j.shards ≤ 256 → AreOpeningWords j.shards (length (roots j.matched)) words → AreOpeningShards j.matched j.shards ys
+    → (j.preloaded ≡ true → HaveOpeningReserve j.matched j.shards ys) → IsOpening j words ys
+opened j words ys consistent least few w shards spares = record {
+  consistent = consistent;
+  some_shards = least;
+  few_shards = few;
+  shard_count = shards.count;
+  long = w.long;
+  zero = w.zero;
+  live = w.live ∙ sym (ready_at_opening j.matched);
+  each = λ k y at. shards.each k y (found_both ys k y at);
+  spares = λ pre k y at. spares pre k y (found_both ys k y at);
+}

@@ -1,32 +1,30 @@
 -- The opening of a table, task by task.
-use Rattle.std.proofs.Common.{◌≡◌, ◌≢◌, ℕ, zero, suc, ◌+◌, ◌<◌, ◌≤◌, ◌==◌, ℤ, Bool, true, false, cond, List, [], ◌∷◌, ◌++◌, length, map, drop, refl, ap, sym, ◌∙◌, subst, Option, Some, None, slice_get, inl, inr, arith, append_assoc, if◌then◌else◌, ne_eqb, Result, Ok, Err, OnOk}
+use Rattle.std.proofs.Common.{◌≡◌, ◌≢◌, ℕ, zero, suc, ◌+◌, ◌<◌, ◌==◌, Bool, true, false, cond, List, [], ◌∷◌, ◌++◌, length, refl, ap, sym, ◌∙◌, subst, Option, Some, None, slice_get, inl, inr, arith, append_assoc, if◌then◌else◌, ne_eqb, Result, Ok, Err, OnOk}
 use Rattle.std.proofs.lemmas.Bool.{false≢true, cases_eq}
-use Rattle.std.proofs.lemmas.List.{append-nil, drop_all}
+use Rattle.std.proofs.lemmas.List.{append-nil}
 use Rattle.std.specs.List.{filter}
-use Rattle.ptg_base.specs.Lists.{IsIn}
 use Rattle.ptg_base.specs.Task.{Task}
 use Rattle.ptg_base.specs.TaskComparing.{same_task}
 use Rattle.ptg_base.specs.TaskLaws.{same_task-decides}
-use Rattle.term_core.specs.declared.space.ClassSpace.{ClassSpace}
-use Rattle.range_space.specs.Tasks.{tasks}
 use Rattle.range_space.proofs.MemberLists.{IsIn-append_left, IsIn-append_right, from_append}
 use Rattle.range_space.proofs.Stepping.{by_test}
 use Rattle.plan_core.specs.declared.plan.Plan.{Plan}
 use Rattle.dep_iter.specs.Edges.{goal}
 use Rattle.dep_iter.specs.Hints.{priority}
-use Rattle.dep_iter.specs.Tasks.{IsTask, all_tasks, task, tasks_from}
+use Rattle.dep_iter.specs.Tasks.{all_tasks}
 use Rattle.dep_shard.specs.Content.{Content, Entry, entry_of, fresh}
 use Rattle.shard_meaning.specs.Opening.{opening_entry}
 use Rattle.shard_meaning.specs.Share.{Placement}
 use Rattle.dep_table.specs.declared.opening.Opening.{Opening}
+use Rattle.dep_table.proofs.TaskWalks.{IsStepwise, there_is}
 use Rattle.dep_table.specs.Opened.{AreOpened, Enters, EntersIn, IsOpenedFor, Opens, roots_among}
 
 -- nothing is opened
-pub opens_none : (P : Plan) (of : Placement) (o : Opening) → Opens P of [] o o
+opens_none : (P : Plan) (of : Placement) (o : Opening) → Opens P of [] o o
 opens_none P of o = record { count = refl; opened = λ done rest all h. subst (λ l. AreOpened P of l o) (sym (append-nil done)) h }
 
 -- one part is opened after another
-pub opens_then : (P : Plan) (of : Placement) (ts us : List Task) (a b c : Opening) → Opens P of ts a b → Opens P of us b c → Opens P of (ts ++ us) a c
+opens_then : (P : Plan) (of : Placement) (ts us : List Task) (a b c : Opening) → Opens P of ts a b → Opens P of us b c → Opens P of (ts ++ us) a c
 opens_then P of ts us a b c d e = record {
   count = e.count ∙ d.count;
   opened = λ done rest all h.
@@ -34,6 +32,9 @@ opens_then P of ts us a b c d e = record {
       let second : all_tasks P ≡ ((done ++ ts) ++ us) ++ rest = first ∙ sym (append_assoc (done ++ ts) us rest) in
       subst (λ l. AreOpened P of l c) (append_assoc done ts us) (e.opened (done ++ ts) rest second (d.opened done (us ++ rest) first h));
 }
+
+pub opening_steps : (P : Plan) (of : Placement) → IsStepwise (Opens P of)
+opening_steps P of = record { none = opens_none P of; then = opens_then P of }
 
 filter_length : {A : Type 0} (q : A → Bool) (xs ys : List A) → length (filter q (xs ++ ys)) ≡ length (filter q xs) + length (filter q ys)
 filter_length q [] ys = omega arith
@@ -53,11 +54,6 @@ below : {A : Type 0} (xs : List A) (n : ℕ) (x : A) → slice_get xs n ≡ Some
 below [] n x e = absurd cc
 below (y ∷ ys) zero x e = omega arith
 below (y ∷ ys) (suc n) x e = omega (arith, below ys n x e)
-
-pub there_is : {A : Type 0} (xs : List A) (k : ℕ) → k < length xs → (x : A) × (slice_get xs k ≡ Some x)
-there_is [] k h = absurd (omega arith)
-there_is (x ∷ xs) zero h = (x, refl)
-there_is (x ∷ xs) (suc k) h = there_is xs k (omega arith)
 
 module _ (P : Plan) (of : Placement) (t : Task) where
   -- how many of one task no edge goes into
@@ -178,55 +174,3 @@ module _ (P : Plan) (of : Placement) (t : Task) where
 pub on_ok_then : {X E : Type 0} {Q R : Type 0} (r : Result X E) → (Q → R) → OnOk r Q → OnOk r R
 on_ok_then (Ok x) f h = f h
 on_ok_then (Err e) f h = h
-
--- how far a walk over tasks has come
-pub record IsOpenedSoFar (P : Plan) (of : Placement) (ts left : List Task) (old new : Opening) : Type 0 where
-  pub tasks : List Task
-  pub split : ts ≡ tasks ++ left
-  pub opened : Opens P of tasks old new
-
-pub nothing_yet : (P : Plan) (of : Placement) (ts : List Task) (o : Opening) → IsOpenedSoFar P of ts ts o o
-nothing_yet P of ts o = record { tasks = []; split = refl; opened = opens_none P of o }
-
-pub one_more : (P : Plan) (of : Placement) (ts left : List Task) (t : Task) (a b c : Opening) → IsOpenedSoFar P of ts (t ∷ left) a b → Opens P of (t ∷ []) b c → IsOpenedSoFar P of ts left a c
-one_more P of ts left t a b c w d = record {
-  tasks = w.tasks ++ t ∷ [];
-  split = w.split ∙ sym (append_assoc w.tasks (t ∷ []) left);
-  opened = opens_then P of w.tasks (t ∷ []) a b c w.opened d;
-}
-
-pub all_done : (P : Plan) (of : Placement) (ts : List Task) (a b : Opening) → IsOpenedSoFar P of ts [] a b → Opens P of ts a b
-all_done P of ts a b w =
-    let tasks : w.tasks ≡ ts = sym (append-nil w.tasks) ∙ sym w.split in
-    subst (λ l. Opens P of l a b) tasks w.opened
-
--- a task that a walk through the space of a class comes to is one of the job
-pub walked_task : (P : Plan) (class : ℕ) (s : ClassSpace) → slice_get P.spaces class ≡ Some s → (all left : List (List ℤ)) (ps : List ℤ) → all ≡ tasks s → (done : List Task) → map (task class) all ≡ done ++ map (task class) (ps ∷ left) → IsTask P (task class ps)
-walked_task P class s here all left ps is done split =
-    let i : IsIn (task class ps) (map (task class) all) = subst (IsIn (task class ps)) (sym split) (IsIn-append_right (task class ps) done (map (task class) (ps ∷ left)) (inl refl)) in
-    let p = from_task class (tasks s) ps (subst (λ l. IsIn (task class ps) (map (task class) l)) is i) in
-    subst (λ (o : Option ClassSpace). Rattle.std.specs.Prelude.IsSomeAnd o (λ s. IsIn ps (tasks s))) (sym here) p
-  where
-    from_task : (n : ℕ) (l : List (List ℤ)) (qs : List ℤ) → IsIn (task n qs) (map (task n) l) → IsIn qs l
-    from_task n [] qs i = absurd i
-    from_task n (x ∷ xs) qs i = elim i [ inl e ↦ inl (ap (λ (u : Task). u.params) e) | inr j ↦ inr (from_task n xs qs j) ]
-
-drop_at : {A : Type 0} (xs : List A) (k : ℕ) (x : A) → slice_get xs k ≡ Some x → drop k xs ≡ x ∷ drop (suc k) xs
-drop_at [] k x h = cc
-drop_at (y ∷ xs) zero x h = let e : y ≡ x = cc in ap (λ z. z ∷ xs) e
-drop_at (y ∷ xs) (suc k) x h = drop_at xs k x h
-
--- the tasks of a class, and those of the classes after it
-pub class_then : (P : Plan) (of : Placement) (class : ℕ) (ss : List ClassSpace) (a b c : Opening) → class < length P.spaces → drop class P.spaces ≡ ss
-    → ((s : ClassSpace) → slice_get P.spaces class ≡ Some s → Opens P of (map (task class) (tasks s)) a b)
-    → ((later : List ClassSpace) → drop (suc class) P.spaces ≡ later → Opens P of (tasks_from (suc class) later) b c) → Opens P of (tasks_from class ss) a c
-class_then P of class ss a b c lt e first later =
-    let found = there_is P.spaces class lt in
-    let split : found.0 ∷ drop (suc class) P.spaces ≡ ss = sym (drop_at P.spaces class found.0 found.1) ∙ e in
-    let more = drop (suc class) P.spaces in
-    subst (λ l. Opens P of (tasks_from class l) a c) split
-    (opens_then P of (map (task class) (tasks found.0)) (tasks_from (suc class) more) a b c (first found.0 found.1) (later more refl))
-
--- no class is left
-pub no_class : (P : Plan) (of : Placement) (class : ℕ) (ss : List ClassSpace) (o : Opening) → length P.spaces ≤ class → drop class P.spaces ≡ ss → Opens P of (tasks_from class ss) o o
-no_class P of class ss o past e = subst (λ l. Opens P of (tasks_from class l) o o) (sym (drop_all class P.spaces past) ∙ e) (opens_none P of o)

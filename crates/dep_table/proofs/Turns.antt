@@ -65,3 +65,6 @@ module _ (t : Turn) (v : PassRecord) (y z : Content) (h : IsTurnOf t v y z) (i q
     took = record { look = refl; looks = refl; last = refl };
     still = record { kept = record { names = refl; turns = refl; quiet = refl; halts = refl; credit = refl }; done = record { claims = refl; stamps = refl; sends = refl }; running = refl };
   })
+
+  pub left_last : (shown q).last ≡ (t.shard, y) ∷ []
+  left_last = ap (λ (m : Seated). m.0.last) left_me

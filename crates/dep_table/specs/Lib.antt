@@ -3,8 +3,11 @@ pub mod Passes
 pub mod Tables
 pub mod ClosingRooms
 pub mod Turns
+pub mod Sending
 pub mod Opened
+pub mod Needs
 pub mod Closing
 pub mod ClosedTables
 pub mod Receipts
 pub mod ClosedMeaning
+pub mod Boards

@@ -7,8 +7,9 @@ use Rattle.dep_iter.specs.Edges.{goal}
 use Rattle.dep_iter.specs.Consistent.{roots}
 use Rattle.dep_iter.specs.Tasks.{all_tasks}
 use Rattle.dep_shard.specs.Content.{Content, Entry, IsNew, KeepsAllButEntries, Updates, entry_of, fresh}
-use Rattle.shard_meaning.specs.Opening.{opening_entry}
+use Rattle.shard_meaning.specs.Opening.{HasOpeningReserve, IsOpeningShard, opening_entry}
 use Rattle.shard_meaning.specs.Share.{Placement}
+use Rattle.table_rule.specs.Placing.{shard_of}
 use Rattle.table_rule.specs.Words.{live_word, word_count}
 use Rattle.dep_table.specs.declared.opening.Opening.{Opening}
 
@@ -58,3 +59,12 @@ pub record AreOpeningWords (n ready : ℕ) (words : List ℕ) : Type 0 where
   pub long : length words ≡ word_count n
   pub live : slice_index words (live_word n) ≡ ready
   pub zero : (i : ℕ) → i ≢ live_word n → slice_index words i ≡ 0
+
+-- the shards of a new table, so many: each has the ready entries of its own tasks that no edge goes into
+pub record AreOpeningShards (P : Plan) (n : ℕ) (ys : List Content) : Type 0 where
+  pub count : length ys ≡ n
+  pub each : (k : ℕ) (y : Content) → slice_get ys k ≡ Some y → IsOpeningShard P (shard_of P n) k y
+
+-- each of so many shards of a new table has spares for all that will come to it
+abbrev pub HaveOpeningReserve : Plan → ℕ → List Content → Type 0
+HaveOpeningReserve P n ys = (k : ℕ) (y : Content) → slice_get ys k ≡ Some y → HasOpeningReserve P (shard_of P n) k y

@@ -31,6 +31,13 @@ pub record IsTurnOf (t : Turn) (v : PassRecord) (y₀ y : Content) : Type 0 wher
 abbrev pub IsTurn : Turn → Type 0
 IsTurn t = (v : PassRecord) × (y₀ : Content) × (y : Content) × IsTurnOf t v y₀ y
 
+-- the pass looked into the shard whose turn it holds: nothing changed but spares of the shard that grew
+pub record HasLooked (k : ℕ) (before : Content) (m n : Seated) : Type 0 where
+  pub after : Content
+  pub me : n ≡ (m.0, (k, after) ∷ [])
+  pub same : IsUnchanged before after
+  pub spares : Uses before.spare after.spare 0 None 0 0
+
 -- what a pass may give a turn back with: nothing but spares that grew, or a ready entry that was taken out
 pub record Leaves (k : ℕ) (m : Seated) : Type 0 where
   pub before : Content

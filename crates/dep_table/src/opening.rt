@@ -1,15 +1,16 @@
 //! The opening of a table.
 
-ghost use Rattle.std.specs.Prelude.{◌≡◌, ◌<◌, ◌≤◌, [], ◌∷◌, false, List, Some, IfOk, OnOk, drop, length, map, slice_get};
+ghost use Rattle.std.specs.Prelude.{◌≡◌, ◌<◌, ◌≤◌, [], ◌∷◌, false, true, List, Some, IfOk, OnOk, drop, length, map, slice_get};
 ghost use Rattle.term_core.specs.declared.space.ClassSpace.{ClassSpace as ClassSpaceValue};
 ghost use Rattle.range_space.specs.Tasks as range;
 ghost use Rattle.plan_data.specs.Fit.{DataFit};
+ghost use Rattle.dep_iter.specs.Tasks as tasks;
 ghost use Rattle.dep_iter.specs.Tasks.{IsTask, task, tasks_from};
 ghost use Rattle.table_rule.specs.Changes.{first_pass};
 ghost use Rattle.table_rule.specs.Opening.{IsOpening};
 ghost use Rattle.table_rule.specs.Placing as placing;
 ghost use Rattle.dep_table.specs.ClosingRooms.{IsRoomFor};
-ghost use Rattle.dep_table.specs.Opened.{AreNew, AreOpeningWords, Enters, EntersIn, Opens};
+ghost use Rattle.dep_table.specs.Opened.{AreNew, AreOpeningShards, AreOpeningWords, Enters, EntersIn, HaveOpeningReserve, Opens};
 ghost use Rattle.dep_table.specs.Passes.{IsPassOf};
 ghost use Rattle.dep_table.specs.Tables.{id_of, job_of};
 
@@ -19,9 +20,9 @@ use crate::table::DepTable;
 use crate::words::{STRIDE, live_index};
 use atomic_table::{Refused, Table};
 use coll_data::Given;
-use dep_iter::{Matched, affinity, place_number, priority};
+use dep_iter::{Matched, affinity_under, locals_of, place_number, priority_under};
 use dep_shard::Shard;
-use goal_count::goal;
+use goal_count::goal_under;
 use ptg_base::{OutOfMemory, TaskId};
 use range_space::Space;
 use std::alloc::Global;
@@ -56,16 +57,17 @@ fn enter(shards: &mut Vec<Shard>, k: usize, t: &TaskId, priority: i64) -> Result
     enter_in(&mut shards[k], t, priority)
 }
 
-// The shard of a task, where there are so many.
+// The shard of a task with these locals, where there are so many shards.
 #[tactic(auto, unfolding(table_rule::specs::Placing::shard_of))]
-fn shard_among(m: &Matched, shards: usize, t: &TaskId) -> usize
+pub(crate) fn shard_under(m: &Matched, shards: usize, t: &TaskId, env: &[i64]) -> usize
     requires task { IsTask m.now t.now }
+    requires locals { env.now ≡ tasks.locals_of m.now t.now }
     requires shards { (0 < shards) × (shards ≤ 256) }
     ensures number { result ≡ placing.shard_of m.now shards t.now }
     ensures within { result < shards }
 {
     let plan = m.plan();
-    let place = affinity(plan, t);
+    let place = affinity_under(plan, t, env);
     let count = shards as u64;
     let coll = u64::from(place.coll) % count;
     let number = place_number(plan, &place) % count;
@@ -81,18 +83,19 @@ fn open_task(opening: &mut Opening, m: &Matched, t: &TaskId) -> Result<(), OutOf
     if opening.left == 0 {
         return Ok(());
     }
-    if goal(m, t) != 0 {
+    let env = locals_of(m.plan(), t);
+    if goal_under(m, t, env.as_slice()) != 0 {
         return Ok(());
     }
-    let k = shard_among(m, opening.shards.len(), t);
-    let urgency = priority(m.plan(), t);
+    let k = shard_under(m, opening.shards.len(), t, env.as_slice());
+    let urgency = priority_under(m.plan(), t, env.as_slice());
     enter(&mut opening.shards, k, t, urgency)?;
     opening.left -= 1;
     Ok(())
 }
 
 // The space of a class.
-fn space_of(m: &Matched, class: u32) -> &ClassSpace
+pub(crate) fn space_of(m: &Matched, class: u32) -> &ClassSpace
     requires { class < length m.now.classes }
     ensures space { slice_get m.now.spaces class ≡ Some result.now }
     ensures at_most { length result.now.defs ≤ 16 }
@@ -150,6 +153,39 @@ fn opening_words(alloc: Global, shards: u32, live: u64) -> Result<Vec<u64>, OutO
     Ok(words)
 }
 
+// The shards of a new table: each has the ready entries of its own tasks that no edge goes into.
+pub(crate) fn opened_shards(
+    alloc: Global,
+    m: &Matched,
+    shards: u32,
+) -> Result<Vec<Shard>, OutOfMemory>
+    requires { (0 < shards) × (shards ≤ 256) }
+    ensures { IfOk result (λ v. AreOpeningShards m.now shards v.items) }
+{
+    let mut opening = Opening {
+        shards: new_shards(alloc, m, shards)?,
+        left: m.roots(),
+    };
+    open_classes(&mut opening, m, 0)?;
+    let Opening {
+        shards: opened,
+        left: _left,
+    } = opening;
+    Ok(opened)
+}
+
+// The room that a table for this job keeps for its close.
+fn room_for(alloc: Global, job: &Job) -> Result<ClosingRoom, OutOfMemory>
+    ensures { IfOk result (IsRoomFor job.now) }
+{
+    let rows = if job.preloaded {
+        job.matched.tasks()
+    } else {
+        0
+    };
+    closing_room(alloc, job.shards, rows)
+}
+
 // A table of these words and shards, with this room for its close, and its first pass.
 fn lay(
     alloc: Global,
@@ -180,6 +216,25 @@ fn lay(
     }
 }
 
+// A table for this job of these shards, and its first pass.
+pub(crate) fn open_table(
+    alloc: Global,
+    shards: Vec<Shard>,
+    job: Job,
+) -> Result<(DepTable, Pass), OutOfMemory>
+    requires count { (0 < job.shards) × (job.shards ≤ 256) }
+    requires shards { AreOpeningShards job.matched job.shards shards.items }
+    requires spares { job.preloaded ≡ true → HaveOpeningReserve job.matched job.shards shards.items }
+    requires fit { DataFit job.matched.colls job.matched.elems job.given }
+    ensures pass { IfOk result (λ r. IsPassOf (id_of r.0) r.1 × (r.1.me.0 ≡ first_pass)) }
+    ensures job { IfOk result (λ r. job_of r.0 ≡ job) }
+{
+    let _ = job.matched.plan();
+    let words = opening_words(alloc, job.shards, job.matched.roots())?;
+    let closing = room_for(alloc, &job)?;
+    lay(alloc, words, shards, job, closing)
+}
+
 impl DepTable {
     /// A table for a job, with from 1 to 256 shards, and its first pass.
     pub fn new(
@@ -194,23 +249,13 @@ impl DepTable {
         ensures pass { IfOk result (λ r. IsPassOf (id_of r.0) r.1 × (r.1.me.0 ≡ first_pass)) }
         ensures job { IfOk result (λ r. job_of r.0 ≡ record { matched = matched; given = given; shards = shards; preloaded = false }) }
     {
-        let mut opening = Opening {
-            shards: new_shards(alloc, &matched, shards)?,
-            left: matched.roots(),
-        };
-        open_classes(&mut opening, &matched, 0)?;
-        let words = opening_words(alloc, shards, matched.roots())?;
-        let closing = closing_room(alloc, shards, 0)?;
+        let opened = opened_shards(alloc, &matched, shards)?;
         let job = Job {
             matched,
             given,
             shards,
             preloaded: false,
         };
-        let Opening {
-            shards: desks,
-            left: _left,
-        } = opening;
-        lay(alloc, words, desks, job, closing)
+        open_table(alloc, opened, job)
     }
 }

@@ -1,6 +1,8 @@
 //! The table: its shards and words, and its job.
 
 ghost use Rattle.std.specs.Prelude.{◌≡◌, ◌<◌, ◌≤◌};
+ghost use Rattle.std.proofs.Props.{props};
+ghost use Rattle.coll_data.specs.WellMade.{IsWellMade};
 ghost use Rattle.plan_data.specs.Fit.{DataFit};
 ghost use Rattle.table_rule.specs.Words.{word_count};
 ghost use Rattle.dep_table.specs.ClosingRooms.{IsRoomFor};
@@ -22,5 +24,6 @@ pub struct DepTable {
     ghost of_job: { job ≡ table.shared.key },
     ghost sized: { (table.shared.table_id.words ≡ word_count job.shards) × (table.shared.table_id.slots ≡ job.shards) × (0 < job.shards) × (job.shards ≤ 256) },
     ghost fit: { DataFit job.matched.colls job.matched.elems job.given },
+    ghost well_made: { IsWellMade job.given } by { Prim.hlevel props },
     ghost room: { IsRoomFor job closing },
 }

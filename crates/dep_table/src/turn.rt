@@ -1,7 +1,7 @@
 //! A turn that was taken: the one pass that holds it may read and write its shard.
 
-ghost use Rattle.std.specs.Prelude.{IsOk, OnErr, OnOk, ◌≡◌, ◌<◌, IfErr, IfNone, IfSome, IfOk, true, []};
-ghost use Rattle.dep_shard.specs.Content.{Content, HasNoReady, IsBest};
+ghost use Rattle.std.specs.Prelude.{IsOk, OnErr, OnOk, ◌≡◌, ◌<◌, IfErr, IfNone, IfSome, IfOk, true, [], ◌∷◌};
+ghost use Rattle.dep_shard.specs.Content.{Content};
 ghost use Rattle.work_board.specs.Claims.{FoundGone, HasClaimed};
 ghost use Rattle.work_board.specs.Records.{FoundBusy, OnlyTook};
 ghost use Rattle.work_board.specs.Word as word;
@@ -60,6 +60,7 @@ impl<'a> Turn<'a> {
         requires turn { IsTurn self }
         ensures pass { IsPassOf (id_of self.entry.table.now) self.exit.1.0.now }
         ensures left { (v : PassRecord) (y z : Content) → IsTurnOf self.entry v y z → OnlyTook self.entry.shard v (shown self.exit.1.0.now) }
+        ensures last { (v : PassRecord) (y z : Content) → IsTurnOf self.entry v y z → (shown self.exit.1.0.now).last ≡ (self.entry.shard, y) ∷ [] }
     {
         let Turn { table, pass, shard } = self;
         table.give(&mut pass.seat, shard);
@@ -74,6 +75,7 @@ impl<'a> Turn<'a> {
         ensures pass { IsPassOf (id_of self.entry.table.now) self.exit.1.0.now }
         ensures some { IfSome result (λ tiles. (v : PassRecord) (y z : Content) → IsTurnOf self.entry v y z → HasClaimed (job_of self.entry.table.now).matched (job_of self.entry.table.now).given self.entry.shard t.now tiles v (shown self.exit.1.0.now)) }
         ensures none { IfNone result ((v : PassRecord) (y z : Content) → IsTurnOf self.entry v y z → FoundGone self.entry.shard t.now v (shown self.exit.1.0.now)) }
+        ensures last { (v : PassRecord) (y z : Content) → IsTurnOf self.entry v y z → (shown self.exit.1.0.now).last ≡ (self.entry.shard, y) ∷ [] }
     {
         let Turn { table, pass, shard } = self;
         let desk = pass.seat.slot_mut(&table.table.shared, shard as usize);

@@ -1,3 +1,6 @@
 pub mod Lists
 pub mod Totals
 pub mod OneType
+pub mod Places
+pub mod Gathered
+pub mod SeatedAll

@@ -1,2 +1,5 @@
 pub mod Bytes
 pub mod Elements
+pub mod Desks
+pub mod Seated
+pub mod Runs

@@ -2,8 +2,19 @@
 #![tactic(auto)]
 
 mod bytes;
+mod desk;
 mod elements;
+mod prepared;
+mod preparing;
+mod running;
+mod seating;
 mod settings;
+mod workers;
 
 pub use bytes::{preload_bytes, with_one_type_the_preload_is_a_product};
+pub use desk::Desk;
+pub use prepared::Prepared;
+pub use preparing::{PrepareFault, prepare};
+pub use running::run;
 pub use settings::Settings;
+pub use workers::team;

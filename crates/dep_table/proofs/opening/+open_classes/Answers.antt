@@ -2,7 +2,8 @@ use Rattle.std.proofs.Common.{◌<◌, length, add-one, arith, subst, suc}
 use Rattle.table_rule.specs.Placing.{shard_of}
 use Rattle.dep_iter.specs.Tasks.{tasks_from}
 use Rattle.dep_table.specs.Opened.{Opens}
-use Rattle.dep_table.proofs.OpeningSteps.{class_then, on_ok_then, there_is}
+use Rattle.dep_table.proofs.OpeningSteps.{on_ok_then, opening_steps}
+use Rattle.dep_table.proofs.TaskWalks.{class_then, there_is}
 use Rattle.dep_table.proofs.opening.+open_classes.Goals as goal
 
 pub open_classes-requires : goal.open_classes-requires
@@ -26,5 +27,5 @@ returns t c =
     let b = c.open_class.new.opening in
     let z = c.open_classes.new.opening in
     on_ok_then c.open_classes.result
-    (λ later ss e. class_then P (shard_of P (length a.shards.items)) c.args.class ss a b z lt e c.in_ok-open_class.ensures
+    (λ later ss e. class_then (Opens P (shard_of P (length a.shards.items))) (opening_steps P (shard_of P (length a.shards.items))) P c.args.class ss a b z lt e c.in_ok-open_class.ensures
     (λ rest f. subst (λ m. Opens P (shard_of P m) (tasks_from (suc c.args.class) rest) b z) done.count (later rest f))) more

@@ -3,7 +3,8 @@ use Rattle.range_space.specs.Tasks.{tasks}
 use Rattle.dep_iter.specs.Tasks.{IsTask, task}
 use Rattle.table_rule.specs.Placing.{shard_of}
 use Rattle.dep_table.specs.Opened.{Opens}
-use Rattle.dep_table.proofs.OpeningSteps.{IsOpenedSoFar, all_done, one_more, walked_task}
+use Rattle.dep_table.proofs.OpeningSteps.{opening_steps}
+use Rattle.dep_table.proofs.TaskWalks.{IsSoFar, all_done, one_more, walked_task}
 use Rattle.dep_table.proofs.opening.open_class.Goals as goal
 
 pub open_task-requires-clause-task : goal.open_task-requires-clause-task
@@ -12,7 +13,7 @@ open_task-requires-clause-task c =
     let class = c.args.class in
     let of = shard_of P (length c.args.opening.now.shards.items) in
     let all = c.into_iter-params-iterator.result in
-    let w = subst (λ l. IsOpenedSoFar P of (map (task class) all) (map (task class) l) c.args.opening.now c.loop-params.opening) c.in-Some.ensures.steps c.loop-params.invariant.so_far in
+    let w = subst (λ l. IsSoFar (Opens P of) (map (task class) all) (map (task class) l) c.args.opening.now c.loop-params.opening) c.in-Some.ensures.steps c.loop-params.invariant.so_far in
     subst (IsTask P) (sym (c.new-t.ensures ∙ ap (task class) c.as_slice.ensures.same))
     (walked_task P class c.space_of-space.result.now c.space_of-space.ensures.space all c.next.new.self c.in-Some.params (c.into_iter-params-iterator.ensures.into_iter_gives ∙ c.new-params-items.ensures) w.tasks w.split)
 
@@ -22,14 +23,14 @@ loop-params-preserved c =
     let class = c.args.class in
     let of = shard_of P (length c.args.opening.now.shards.items) in
     let all = map (task class) c.into_iter-params-iterator.result in
-    let w = subst (λ l. IsOpenedSoFar P of all (map (task class) l) c.args.opening.now c.loop-params.opening) c.in-Some.ensures.steps c.loop-params.invariant.so_far in
+    let w = subst (λ l. IsSoFar (Opens P of) all (map (task class) l) c.args.opening.now c.loop-params.opening) c.in-Some.ensures.steps c.loop-params.invariant.so_far in
     let here : c.new-t.result ≡ task class c.in-Some.params = c.new-t.ensures ∙ ap (task class) c.as_slice.ensures.same in
     let one = subst (λ t. Opens P (shard_of P (length c.loop-params.opening.shards.items)) (t ∷ []) c.loop-params.opening c.open_task.new.opening) here c.in_ok-open_task.ensures in
-    let done = subst (λ n. Opens P (shard_of P n) (task class c.in-Some.params ∷ []) c.loop-params.opening c.open_task.new.opening) w.opened.count one in
+    let done = subst (λ n. Opens P (shard_of P n) (task class c.in-Some.params ∷ []) c.loop-params.opening c.open_task.new.opening) w.done.count one in
     record {
       can_next = tt;
       is_finite = tt;
-      so_far = one_more P of all (map (task class) c.next.new.self) (task class c.in-Some.params) c.args.opening.now c.loop-params.opening c.open_task.new.opening w done;
+      so_far = one_more (Opens P of) (opening_steps P of) all (map (task class) c.next.new.self) (task class c.in-Some.params) c.args.opening.now c.loop-params.opening c.open_task.new.opening w done;
     }
 
 pub returns : goal.returns
@@ -41,5 +42,5 @@ returns c = λ s here.
     let space = c.space_of-space.ensures.space in
     let same : c.space_of-space.result.now ≡ s = cc in
     let q = c.into_iter-params-iterator.ensures.into_iter_gives ∙ c.new-params-items.ensures ∙ ap tasks same in
-    let w = subst (λ l. IsOpenedSoFar P of all (map (task class) l) c.args.opening.now c.loop-params.opening) c.in-None.ensures.steps.0 c.loop-params.invariant.so_far in
-    subst (λ l. Opens P of (map (task class) l) c.args.opening.now c.loop-params.opening) q (all_done P of all c.args.opening.now c.loop-params.opening w)
+    let w = subst (λ l. IsSoFar (Opens P of) all (map (task class) l) c.args.opening.now c.loop-params.opening) c.in-None.ensures.steps.0 c.loop-params.invariant.so_far in
+    subst (λ l. Opens P of (map (task class) l) c.args.opening.now c.loop-params.opening) q (all_done (Opens P of) (opening_steps P of) all c.args.opening.now c.loop-params.opening w)

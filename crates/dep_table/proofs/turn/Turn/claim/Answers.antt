@@ -14,7 +14,7 @@ use Rattle.dep_table.specs.Tables.{job_of}
 use Rattle.dep_table.specs.Turns.{IsTurnOf}
 use Rattle.dep_table.specs.Passes.{IsPassOf}
 use Rattle.dep_table.specs.Views.{PassView, shown}
-use Rattle.dep_table.proofs.Claiming.{claim_done, claim_pass, desk_is, entry_numbers, gone, unstamped}
+use Rattle.dep_table.proofs.Claiming.{claim_done, claim_last, claim_pass, desk_is, entry_numbers, gone, gone_last, unstamped}
 use Rattle.dep_table.proofs.Turns.{left_pass}
 use Rattle.dep_table.proofs.turn.Turn.claim.Goals as goal
 use Rattle.dep_table.proofs.turn.Turn.claim.Goals.{in-None, in-Some}
@@ -55,4 +55,12 @@ returns-clause-none c = elim c.match-take_ready.branch [
   | in-Some w ↦ subst (λ o. IfNone o (Gone c.args.self c.args.t.now c.match-take_ready.pass)) (sym w.result-is) tt
   | in-None w ↦ subst (λ o. IfNone o (Gone c.args.self c.args.t.now c.match-take_ready.pass)) (sym w.result-is) (λ v y z h.
       gone _ v y z h _ c.match-take_ready.pass c.pass.view_is _ (desk_is _ _ _ _ h _ c.pass.view_is _ _ _ c.slot_mut-desk.ensures.value) _ w.in-None.ensures.none _ (ap (λ (p : PassView). p.me) w.pass-is ∙ w.give.ensures.me))
+]
+
+pub returns-clause-last : goal.returns-clause-last
+returns-clause-last c = λ v y z h. elim c.match-take_ready.branch [
+  | in-Some w ↦ claim_last _ v y z h _ c.match-take_ready.pass c.pass.view_is _ _ _
+      (ap (λ (p : PassView). p.me) w.pass-is ∙ w.draw_stamp-pass-inside.ensures.me ∙ (λ k. (with_stamp (w.give_claim.ensures.me k).0 c.args.t.now w.draw_stamp-pass-inside.result, (w.give_claim.ensures.me k).1)))
+      (sym (ap (λ (m : Seated). m.0.running) h.me) ∙ c.requires.idle)
+  | in-None w ↦ gone_last _ v y z h _ c.match-take_ready.pass c.pass.view_is _ (ap (λ (p : PassView). p.me) w.pass-is ∙ w.give.ensures.me)
 ]

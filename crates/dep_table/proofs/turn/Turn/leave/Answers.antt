@@ -1,5 +1,5 @@
 use Rattle.std.proofs.Common.{refl}
-use Rattle.dep_table.proofs.Turns.{leaves_turn, left_pass, only_took}
+use Rattle.dep_table.proofs.Turns.{leaves_turn, left_last, left_pass, only_took}
 use Rattle.dep_table.proofs.turn.Turn.leave.Goals as goal
 
 pub give-requires-clause-leaves : goal.give-requires-clause-leaves
@@ -10,3 +10,6 @@ returns-clause-pass c = let h = c.requires.turn in let e = c.give.ensures in lef
 
 pub returns-clause-left : goal.returns-clause-left
 returns-clause-left c = λ v y z h. let e = c.give.ensures in only_took _ v y z h _ _ c.pass.view_is e.of refl e.me
+
+pub returns-clause-last : goal.returns-clause-last
+returns-clause-last c = λ v y z h. let e = c.give.ensures in left_last _ v y z h _ _ c.pass.view_is e.of refl e.me

@@ -1,0 +1,41 @@
+use Rattle.std.proofs.Common.{◌<◌, length, add-one, arith, subst, suc}
+use Rattle.table_rule.specs.Placing.{shard_of}
+use Rattle.dep_iter.specs.Tasks.{tasks_from}
+use Rattle.dep_table.specs.Needs.{AddsNeeds}
+use Rattle.dep_table.proofs.OpeningSteps.{on_ok_then}
+use Rattle.dep_table.proofs.NeedsSteps.{needs_steps}
+use Rattle.dep_table.proofs.TaskWalks.{class_then, no_class, there_is}
+use Rattle.dep_table.proofs.preloaded.+need_classes.Goals as goal
+
+pub returns-then-class-len : goal.returns-then-class-len
+returns-then-class-len t c = λ ss e.
+    let P = c.args.m.now in
+    let n = P.well_made.one_space_each in
+    let k = rw c.plan.ensures.same at c.len.ensures in
+    let of = shard_of P (length c.args.needs.now.items) in
+    no_class (AddsNeeds P of) (needs_steps P of) P c.args.class ss c.args.needs.now.items (omega (arith, c.if-class-len.true)) e
+
+pub need_classes-requires : goal.need_classes-requires
+need_classes-requires t c =
+    let n = c.args.m.now.well_made.one_space_each in
+    let k = rw c.plan.ensures.same at c.len.ensures in
+    let found = there_is c.args.m.now.spaces c.args.class (omega arith) in
+    let done = c.in_ok-need_class.ensures found.0 found.1 in
+    (omega (arith, c.decreases), ((omega (arith, done.count, c.requires.shards.0), omega (arith, done.count, c.requires.shards.1)), done.types c.requires.types))
+
+pub returns : goal.returns
+returns t c =
+    let P = c.args.m.now in
+    let n = P.well_made.one_space_each in
+    let k = rw c.plan.ensures.same at c.len.ensures in
+    let lt : c.args.class < length P.spaces = omega arith in
+    let found = there_is P.spaces c.args.class lt in
+    let done = c.in_ok-need_class.ensures found.0 found.1 in
+    let more = rw add-one at c.need_classes.ensures in
+    let a = c.args.needs.now.items in
+    let b = c.need_class.new.needs.items in
+    let z = c.need_classes.new.needs.items in
+    let of = shard_of P (length a) in
+    on_ok_then c.need_classes.result
+    (λ later ss e. class_then (AddsNeeds P of) (needs_steps P of) P c.args.class ss a b z lt e c.in_ok-need_class.ensures
+    (λ rest f. subst (λ m. AddsNeeds P (shard_of P m) (tasks_from (suc c.args.class) rest) b z) done.count (later rest f))) more

@@ -1,0 +1,16 @@
+use Rattle.std.proofs.Common.{◌≡◌, ◌⊎◌, inl, inr, refl}
+use Rattle.work_board.specs.declared.answers.Sent.{Sent}
+use Rattle.work_board.specs.declared.answers.Sent.TheVariants as answer
+use Rattle.work_board.specs.declared.record.PassRecord.{PassRecord}
+use Rattle.dep_table.specs.Sending.{credited}
+use Rattle.dep_table.proofs.table.DepTable.raise_for.Goals as goal
+
+-- only where the target fires there is a credit
+no_credit : (a : Sent) (v : PassRecord) → (a ≡ answer.Waits) ⊎ ((a ≡ answer.Kept) ⊎ (a ≡ answer.Busy)) → v ≡ credited a v
+no_credit answer.Waits v h = refl
+no_credit answer.Kept v h = refl
+no_credit answer.Busy v h = refl
+no_credit answer.Fired v h = elim h [ inl q ↦ cc | inr r ↦ elim r [ inl q ↦ cc | inr q ↦ cc ] ]
+
+pub returns-in-Waits : goal.returns-in-Waits
+returns-in-Waits c = record { of = refl; me = λ k. (no_credit c.args.answer c.args.seat.now.me.0 c.in-Waits.is k, c.args.seat.now.me.1) }

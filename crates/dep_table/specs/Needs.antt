@@ -1,0 +1,110 @@
+-- What the shards of a preloaded table need for all that will come to them, counted task by task. Source: this project's own choice.
+use Rattle.std.specs.Prelude.{◌≡◌, ◌≢◌, ℕ, ◌+◌, Bool, true, false, ◌==◌, List, ◌++◌, length, filter, flat_map, slice_get, slice_index, Some, if◌then◌else◌}
+use Rattle.ptg_base.specs.Task.{Task}
+use Rattle.ptg_base.specs.declared.edge.Edge.{Edge}
+use Rattle.ptg_base.specs.declared.edge.WriteBack.{WriteBack}
+use Rattle.plan_core.specs.declared.plan.Plan.{Plan}
+use Rattle.dep_iter.specs.Consistent.{is_data_edge}
+use Rattle.dep_iter.specs.Edges.{goal, in_edges}
+use Rattle.dep_iter.specs.Items.{write_backs}
+use Rattle.dep_shard.specs.Content.{Content, HasSpares, IsUnchanged}
+use Rattle.flow_meaning.specs.Counting.{as_number, count}
+use Rattle.shard_meaning.specs.Opening.{is_edge_to, is_to_enter, is_write_from}
+use Rattle.shard_meaning.specs.Reserve.{is_edge_of_type, is_write_of_type}
+use Rattle.shard_meaning.specs.Share.{Placement, is_of}
+use Rattle.dep_table.specs.declared.needs.Needs.{Needs}
+
+-- the edges into these tasks that carry a tile, and the write-backs of these tasks; of all tasks they are those of the job
+abbrev pub data_into : Plan → List Task → List Edge
+data_into P ts = filter (is_data_edge P) (flat_map (in_edges P) ts)
+
+abbrev pub writes_of : Plan → List Task → List WriteBack
+writes_of P ts = flat_map (write_backs P) ts
+
+-- What the shard k needs for these tasks: an entry for each of its own that edges go into, a tile of its type for each data edge to one of its own and each write-back of one, a place for each such write-back, and a row for each of its own
+pub record IsNeedOf (P : Plan) (of : Placement) (k : ℕ) (ts : List Task) (n : Needs) : Type 0 where
+  pub entries : n.entries ≡ count (is_to_enter P of k) ts
+  pub types : length n.tiles.items ≡ length P.elems
+  pub tiles : (datatype : ℕ) → slice_index n.tiles.items datatype ≡ count (is_edge_to P of k datatype) (data_into P ts) + count (is_write_from P of k datatype) (writes_of P ts)
+  pub writes : n.writes ≡ count (λ (w : WriteBack). is_of of k w.from) (writes_of P ts)
+  pub traps : n.traps ≡ count (is_of of k) ts
+
+-- what each shard needs for these tasks
+abbrev pub AreNeedsOf : Plan → Placement → List Task → List Needs → Type 0
+AreNeedsOf P of ts ns = (k : ℕ) (n : Needs) → slice_get ns k ≡ Some n → IsNeedOf P of k ts n
+
+-- there are counts for so many types
+abbrev pub HaveTypes : ℕ → List Needs → Type 0
+HaveTypes types ns = (k : ℕ) (n : Needs) → slice_get ns k ≡ Some n → length n.tiles.items ≡ types
+
+-- Old is what the shards need for the tasks before these, and new also has what they need for these.
+pub record AddsNeeds (P : Plan) (of : Placement) (ts : List Task) (old new : List Needs) : Type 0 where
+  pub count : length new ≡ length old
+  pub types : HaveTypes (length P.elems) old → HaveTypes (length P.elems) new
+  pub needs : (done : List Task) → AreNeedsOf P of done old → AreNeedsOf P of (done ++ ts) new
+
+-- so many tiles of each type and so many write-backs more
+pub record AddsTiles (of_type : ℕ → ℕ) (places : ℕ) (old new : Needs) : Type 0 where
+  pub entries : new.entries ≡ old.entries
+  pub types : length new.tiles.items ≡ length old.tiles.items
+  pub tiles : (datatype : ℕ) → slice_index new.tiles.items datatype ≡ slice_index old.tiles.items datatype + of_type datatype
+  pub writes : new.writes ≡ old.writes + places
+  pub traps : new.traps ≡ old.traps
+
+-- how many tiles of a type these edges carry, and these write-backs
+abbrev pub edge_tiles : Plan → List Edge → ℕ → ℕ
+edge_tiles P es datatype = count (is_edge_of_type P datatype) (filter (is_data_edge P) es)
+
+abbrev pub write_tiles : Plan → List WriteBack → ℕ → ℕ
+write_tiles P ws datatype = count (is_write_of_type P datatype) ws
+
+-- whether edges go into a task, so that its entry is still to come
+abbrev pub has_edges : Plan → Task → Bool
+has_edges P t = if goal P t == 0 then false else true
+
+-- what the shard of a task needs for it is added
+pub record AddsTask (P : Plan) (t : Task) (old new : Needs) : Type 0 where
+  pub entries : new.entries ≡ old.entries + as_number (has_edges P t)
+  pub types : length new.tiles.items ≡ length old.tiles.items
+  pub tiles : (datatype : ℕ) → slice_index new.tiles.items datatype ≡ slice_index old.tiles.items datatype + (edge_tiles P (in_edges P t) datatype + write_tiles P (write_backs P t) datatype)
+  pub writes : new.writes ≡ old.writes + length (write_backs P t)
+  pub traps : new.traps ≡ old.traps + 1
+
+-- the same for the needs of the shard k, and those of the other shards stay
+pub record AddsTaskAt (P : Plan) (t : Task) (k : ℕ) (old new : List Needs) : Type 0 where
+  pub count : length new ≡ length old
+  pub others : (i : ℕ) → i ≢ k → slice_get new i ≡ slice_get old i
+  pub here : (m n : Needs) → slice_get old k ≡ Some m → slice_get new k ≡ Some n → AddsTask P t m n
+
+-- nothing is needed, where there are so many types
+pub record IsNoNeed (types : ℕ) (n : Needs) : Type 0 where
+  pub entries : n.entries ≡ 0
+  pub types_count : length n.tiles.items ≡ types
+  pub tiles : (datatype : ℕ) → slice_index n.tiles.items datatype ≡ 0
+  pub writes : n.writes ≡ 0
+  pub traps : n.traps ≡ 0
+
+-- so many needs of shards, of nothing, for this number of types
+pub record AreNoNeeds (shards types : ℕ) (ns : List Needs) : Type 0 where
+  pub count : length ns ≡ shards
+  pub each : (k : ℕ) (n : Needs) → slice_get ns k ≡ Some n → IsNoNeed types n
+
+-- The shard has spares for all that it needs, and nothing but its spares has changed.
+pub record IsReservedFor (n : Needs) (old new : Content) : Type 0 where
+  pub same : IsUnchanged old new
+  pub spares : HasSpares new.spare n.entries n.tiles.items n.writes n.traps
+
+-- The same for the shard k, and the other shards stay.
+pub record ReservesAt (k : ℕ) (n : Needs) (old new : List Content) : Type 0 where
+  pub count : length new ≡ length old
+  pub others : (i : ℕ) → i ≢ k → slice_get new i ≡ slice_get old i
+  pub here : (y z : Content) → slice_get old k ≡ Some y → slice_get new k ≡ Some z → IsReservedFor n y z
+
+-- the same for each shard
+pub record AreReserved (ns : List Needs) (old new : List Content) : Type 0 where
+  pub count : length new ≡ length old
+  pub each : (k : ℕ) (n : Needs) (y z : Content) → slice_get ns k ≡ Some n → slice_get old k ≡ Some y → slice_get new k ≡ Some z → IsReservedFor n y z
+
+-- the needs and the shards are of as many types
+abbrev pub FitShards : List Needs → List Content → Type 0
+FitShards ns ys = (k : ℕ) (n : Needs) (y : Content) → slice_get ns k ≡ Some n → slice_get ys k ≡ Some y → length n.tiles.items ≡ length y.elems

@@ -1,0 +1,100 @@
+//! The table is a board for workers.
+
+ghost use Rattle.std.specs.Prelude.{◌≡◌, []};
+ghost use Rattle.table_rule.specs.Placing as placing;
+ghost use Rattle.dep_table.specs.declared.table.DepTable.{DepTable as TableValue};
+ghost use Rattle.dep_table.specs.Boards.{IsWorkerPass};
+ghost use Rattle.dep_table.specs.Passes.{IsPassOf};
+ghost use Rattle.dep_table.specs.Tables.{id_of, job_of};
+ghost use Rattle.dep_table.specs.Views as views;
+ghost use Rattle.dep_table.specs.Views.{PassView};
+
+use crate::pass::Pass;
+use crate::table::DepTable;
+use coll_data::Given;
+use dep_iter::Matched;
+use ptg_base::{Item, OutOfMemory, TaskId, Tile};
+use term_core::Trap;
+use work_board::{Board, Claim, Scan, Sent};
+
+impl Board for DepTable {
+    type Pass = Pass;
+
+    ghost shown = { views.shown };
+
+    ghost is_pass = { IsWorkerPass };
+
+    ghost plan = { λ (b : TableValue). (job_of b).matched };
+
+    ghost job_data = { λ (b : TableValue). (job_of b).given };
+
+    ghost placement = { λ (b : TableValue). placing.shard_of (job_of b).matched (job_of b).shards };
+
+    ghost shard_count = { λ (b : TableValue). (job_of b).shards };
+
+    ghost preloaded = { λ (b : TableValue). (job_of b).preloaded };
+
+    ghost clean = { λ b p h. h.of.clean.clean };
+
+    fn matched(&self) -> &Matched {
+        DepTable::matched(self)
+    }
+
+    fn given(&self) -> &Given {
+        DepTable::given(self)
+    }
+
+    fn shards(&self) -> u32 {
+        DepTable::shards(self)
+    }
+
+    fn is_preloaded(&self) -> bool {
+        DepTable::is_preloaded(self)
+    }
+
+    fn try_claim(&self, pass: &mut Pass, t: &TaskId) -> Claim {
+        self.claim_once(pass, t)
+    }
+
+    fn try_scan(&self, pass: &mut Pass, shard: u32) -> Scan {
+        self.scan_once(pass, shard)
+    }
+
+    fn try_send(
+        &self,
+        pass: &mut Pass,
+        item: &Item,
+        tile: Option<&Tile>,
+    ) -> Result<Sent, OutOfMemory> {
+        self.send_once(pass, item, tile)
+    }
+
+    fn try_end(&self, pass: &mut Pass, t: &TaskId) -> bool {
+        self.end_once(pass, t)
+    }
+
+    fn try_trap(&self, pass: &mut Pass, t: &TaskId, cause: Trap) -> Result<bool, OutOfMemory> {
+        self.trap_once(pass, t, cause)
+    }
+
+    fn see_quiet(&self, pass: &mut Pass) -> bool {
+        DepTable::see_quiet(self, pass)
+    }
+
+    fn halt(&self, pass: &mut Pass) {
+        DepTable::halt(self, pass);
+    }
+
+    fn halted(&self, pass: &mut Pass) -> bool {
+        DepTable::halted(self, pass)
+    }
+
+    fn stamp(&self, pass: &Pass) -> u64 {
+        DepTable::stamp(self, pass)
+    }
+}
+
+/// A law: a clean pass of a table that runs nothing is a worker's pass of it.
+pub fn an_idle_pass_is_a_workers_pass()
+    ensures { (table : TableValue) (p : PassView) → IsPassOf (id_of table) p → (views.shown p).running ≡ [] → IsWorkerPass table p }
+{}

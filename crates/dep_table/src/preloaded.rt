@@ -1,0 +1,179 @@
+//! The opening of a table that takes all memory before the first step.
+
+ghost use Rattle.std.specs.Prelude.{◌≡◌, ◌<◌, ◌≤◌, ◌∷◌, [], List, Some, IfOk, OnOk, drop, length, map, slice_get, true};
+ghost use Rattle.term_core.specs.declared.space.ClassSpace.{ClassSpace as ClassSpaceValue};
+ghost use Rattle.range_space.specs.Tasks as range;
+ghost use Rattle.dep_iter.specs.Tasks as tasks;
+ghost use Rattle.dep_iter.specs.Tasks.{IsTask, all_tasks, task, tasks_from};
+ghost use Rattle.plan_data.specs.Fit.{DataFit};
+ghost use Rattle.dep_shard.specs.Content.{Content};
+ghost use Rattle.table_rule.specs.Changes.{first_pass};
+ghost use Rattle.table_rule.specs.Placing as placing;
+ghost use Rattle.dep_table.specs.Needs.{AddsNeeds, AddsTaskAt, AreNeedsOf, AreNoNeeds, AreReserved, FitShards, HaveTypes, IsReservedFor, ReservesAt};
+ghost use Rattle.dep_table.specs.Opened.{AreOpeningShards, HaveOpeningReserve};
+ghost use Rattle.dep_table.specs.Passes.{IsPassOf};
+ghost use Rattle.dep_table.specs.Tables.{id_of, job_of};
+
+use crate::needs::Needs;
+use crate::opening::{open_table, opened_shards, shard_under, space_of};
+use crate::pass::Pass;
+use crate::table::DepTable;
+use coll_data::Given;
+use dep_iter::{Matched, locals_of};
+use dep_shard::Shard;
+use ptg_base::{OutOfMemory, TaskId};
+use range_space::Space;
+use std::alloc::Global;
+use table_rule::job::Job;
+
+// Needs of nothing, for so many shards.
+fn no_needs(alloc: Global, m: &Matched, shards: u32) -> Result<Vec<Needs>, OutOfMemory>
+    ensures { IfOk result (λ v. AreNoNeeds shards (length m.now.elems) v.items) }
+{
+    let types = m.plan().elems.len();
+    let mut needs = Vec::new(alloc);
+    for _ in 0..shards {
+        needs.push(Needs::new(alloc, types)?)?;
+    }
+    Ok(needs)
+}
+
+// Adds what a task with these locals needs to the needs of the shard k.
+fn need_at(
+    needs: &mut Vec<Needs>,
+    k: usize,
+    m: &Matched,
+    t: &TaskId,
+    env: &[i64],
+) -> Result<(), OutOfMemory>
+    requires task { IsTask m.now t.now }
+    requires locals { env.now ≡ tasks.locals_of m.now t.now }
+    requires within { k < length needs.old.items }
+    requires types { HaveTypes (length m.now.elems) needs.old.items }
+    ensures { OnOk result (AddsTaskAt m.now t.now k needs.old.items needs.new.items) }
+{
+    needs[k].add_task(m, t, env)
+}
+
+// Adds what a task needs to the needs of its shard.
+fn need_task(needs: &mut Vec<Needs>, m: &Matched, t: &TaskId) -> Result<(), OutOfMemory>
+    requires task { IsTask m.now t.now }
+    requires shards { (0 < length needs.old.items) × (length needs.old.items ≤ 256) }
+    requires types { HaveTypes (length m.now.elems) needs.old.items }
+    ensures { OnOk result (AddsNeeds m.now (placing.shard_of m.now (length needs.old.items)) (t.now ∷ []) needs.old.items needs.new.items) }
+{
+    let env = locals_of(m.plan(), t);
+    let k = shard_under(m, needs.len(), t, env.as_slice());
+    need_at(needs, k, m, t, env.as_slice())
+}
+
+// Adds what the tasks of a class need.
+fn need_class(needs: &mut Vec<Needs>, m: &Matched, class: u32) -> Result<(), OutOfMemory>
+    requires class { class < length m.now.classes }
+    requires shards { (0 < length needs.old.items) × (length needs.old.items ≤ 256) }
+    requires types { HaveTypes (length m.now.elems) needs.old.items }
+    ensures { OnOk result ((s : ClassSpaceValue) → slice_get m.now.spaces class ≡ Some s → AddsNeeds m.now (placing.shard_of m.now (length needs.old.items)) (map (task class) (range.tasks s)) needs.old.items needs.new.items) }
+{
+    let space = space_of(m, class);
+    for params in Space::new(space) {
+        let t = TaskId::new(class, params.as_slice());
+        need_task(needs, m, &t)?;
+    }
+    Ok(())
+}
+
+// Adds what the tasks of the classes from this number on need.
+fn need_classes(needs: &mut Vec<Needs>, m: &Matched, class: u32) -> Result<(), OutOfMemory>
+    requires shards { (0 < length needs.old.items) × (length needs.old.items ≤ 256) }
+    requires types { HaveTypes (length m.now.elems) needs.old.items }
+    ensures { OnOk result ((ss : List ClassSpaceValue) → drop class m.now.spaces ≡ ss → AddsNeeds m.now (placing.shard_of m.now (length needs.old.items)) (tasks_from class ss) needs.old.items needs.new.items) }
+{
+    if class as usize >= m.plan().classes.len() {
+        return Ok(());
+    }
+    need_class(needs, m, class)?;
+    need_classes(needs, m, class + 1)
+}
+
+// What each of so many shards needs for all tasks.
+fn needs_of(alloc: Global, m: &Matched, shards: u32) -> Result<Vec<Needs>, OutOfMemory>
+    requires { (0 < shards) × (shards ≤ 256) }
+    ensures count { IfOk result (λ v. length v.items ≡ shards) }
+    ensures needs { IfOk result (λ v. AreNeedsOf m.now (placing.shard_of m.now shards) (all_tasks m.now) v.items) }
+{
+    let mut needs = no_needs(alloc, m, shards)?;
+    need_classes(&mut needs, m, 0)?;
+    Ok(needs)
+}
+
+// Takes the spares that a shard needs.
+fn reserve_for(shard: &mut Shard, needs: &Needs) -> Result<(), OutOfMemory>
+    requires { length needs.now.tiles.items ≡ length shard.old.elems }
+    ensures { OnOk result (IsReservedFor needs.now shard.old shard.new) }
+{
+    shard.reserve(
+        needs.entries,
+        needs.tiles.as_slice(),
+        needs.writes,
+        needs.traps,
+    )
+}
+
+// Takes the spares that the shard k needs.
+fn reserve_at(shards: &mut Vec<Shard>, k: usize, needs: &Needs) -> Result<(), OutOfMemory>
+    requires within { k < length shards.old.items }
+    requires types { (y : Content) → slice_get shards.old.items k ≡ Some y → length needs.now.tiles.items ≡ length y.elems }
+    ensures { OnOk result (ReservesAt k needs.now shards.old.items shards.new.items) }
+{
+    reserve_for(&mut shards[k], needs)
+}
+
+// Takes the spares that each shard needs.
+fn reserve_all(shards: &mut Vec<Shard>, needs: &[Needs]) -> Result<(), OutOfMemory>
+    requires count { length needs.now ≡ length shards.old.items }
+    requires types { FitShards needs.now shards.old.items }
+    ensures { OnOk result (AreReserved needs.now shards.old.items shards.new.items) }
+{
+    for k in 0..needs.len() {
+        reserve_at(shards, k, &needs[k])?;
+    }
+    Ok(())
+}
+
+// The shards of a new table, each with spares for all that will come to it.
+fn preloaded_shards(alloc: Global, m: &Matched, shards: u32) -> Result<Vec<Shard>, OutOfMemory>
+    requires { (0 < shards) × (shards ≤ 256) }
+    ensures shards { IfOk result (λ v. AreOpeningShards m.now shards v.items) }
+    ensures spares { IfOk result (λ v. HaveOpeningReserve m.now shards v.items) }
+{
+    let mut opened = opened_shards(alloc, m, shards)?;
+    let needs = needs_of(alloc, m, shards)?;
+    reserve_all(&mut opened, needs.as_slice())?;
+    Ok(opened)
+}
+
+impl DepTable {
+    /// A table for a job, with from 1 to 256 shards, and its first pass. All memory that a run of it needs is taken: each shard has
+    /// spares for all that will come to it.
+    pub fn new_preloaded(
+        alloc: Global,
+        matched: Matched,
+        given: Given,
+        shards: u32,
+    ) -> Result<(DepTable, Pass), OutOfMemory>
+        requires fit { DataFit matched.colls matched.elems given }
+        requires some_shards { 0 < shards }
+        requires few_shards { shards ≤ 256 }
+        ensures pass { IfOk result (λ r. IsPassOf (id_of r.0) r.1 × (r.1.me.0 ≡ first_pass)) }
+        ensures job { IfOk result (λ r. job_of r.0 ≡ record { matched = matched; given = given; shards = shards; preloaded = true }) }
+    {
+        let opened = preloaded_shards(alloc, &matched, shards)?;
+        let job = Job {
+            matched,
+            given,
+            shards,
+            preloaded: true,
+        };
+        open_table(alloc, opened, job)
+    }
+}

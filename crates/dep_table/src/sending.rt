@@ -1,0 +1,47 @@
+//! The send of an item on a turn.
+
+ghost use Rattle.std.specs.Prelude.{◌≡◌, true, IfOk, IsOk, OnErr};
+ghost use Rattle.std.specs.Option.{option_copied};
+ghost use Rattle.dep_shard.specs.Content.{Content};
+ghost use Rattle.work_board.specs.Records.{OnlyTook};
+ghost use Rattle.work_board.specs.Sends.{HasSent, IsNext, shard_of_item};
+ghost use Rattle.work_board.specs.declared.record.PassRecord.{PassRecord};
+ghost use Rattle.table_rule.specs.Placing as placing;
+ghost use Rattle.dep_table.specs.Passes.{IsPassOf};
+ghost use Rattle.dep_table.specs.Tables.{id_of, job_of};
+ghost use Rattle.dep_table.specs.Turns.{IsTurn, IsTurnOf};
+ghost use Rattle.dep_table.specs.Views.{shown};
+
+use crate::delivery::take_item;
+use crate::turn::Turn;
+use ptg_base::{Item, OutOfMemory, Tile};
+use work_board::Sent;
+
+impl<'a> Turn<'a> {
+    /// Sends an item of the task that the pass runs, with its tile, and gives the turn back: Fired exactly where the edge was the
+    /// last that its target waits for, Waits where not, Kept for a write-back. All memory is taken first. Without it the turn is
+    /// given back, and nothing else happens; a preloaded table has the memory.
+    pub fn send(self, item: &Item, tile: Option<&Tile>) -> Result<Sent, OutOfMemory>
+        requires turn { IsTurn self }
+        requires item { IsNext (job_of self.table.now).matched (job_of self.table.now).given item.now (option_copied tile) (shown self.pass.now) }
+        requires shard { shard_of_item (placing.shard_of (job_of self.table.now).matched (job_of self.table.now).shards) item.now ≡ self.shard }
+        ensures pass { IsPassOf (id_of self.entry.table.now) self.exit.1.0.now }
+        ensures sent { IfOk result (λ a. (v : PassRecord) (y z : Content) → IsTurnOf self.entry v y z → HasSent (job_of self.entry.table.now).matched self.entry.shard item.now (option_copied tile.entry) a v (shown self.exit.1.0.now)) }
+        ensures left { OnErr result ((v : PassRecord) (y z : Content) → IsTurnOf self.entry v y z → OnlyTook self.entry.shard v (shown self.exit.1.0.now)) }
+        ensures preloaded { (job_of self.entry.table.now).preloaded ≡ true → IsOk result }
+    {
+        let Turn { table, pass, shard } = self;
+        let desk = pass.seat.slot_mut(&table.table.shared, shard as usize);
+        match take_item(desk, &table.job.matched, item, tile) {
+            Ok(answer) => {
+                table.raise_for(&mut pass.seat, answer);
+                table.give_send(&mut pass.seat, shard, item, tile);
+                Ok(answer)
+            }
+            Err(OutOfMemory) => {
+                table.give(&mut pass.seat, shard);
+                Err(OutOfMemory)
+            }
+        }
+    }
+}

@@ -1,0 +1,144 @@
+//! The calls of a pass that go for the turn of one shard, once.
+
+ghost use Rattle.std.specs.Prelude.{◌≡◌, ◌<◌, [], true, IsOk, IfOk, OnErr};
+ghost use Rattle.std.specs.Option.{option_copied};
+ghost use Rattle.ptg_base.specs.Lists.{IsIn};
+ghost use Rattle.dep_iter.specs.Items.{items};
+ghost use Rattle.dep_iter.specs.Tasks.{IsTask};
+ghost use Rattle.flow_meaning.specs.Machine.{sender};
+ghost use Rattle.work_board.specs.Claims.{Claimed, Scanned};
+ghost use Rattle.work_board.specs.Records.{OnlyTook};
+ghost use Rattle.work_board.specs.Sends.{EndedIf, IsNext, MayEnd, MayTrap, SentAs, shard_of_item};
+ghost use Rattle.table_rule.specs.Placing as placing;
+ghost use Rattle.dep_table.specs.Passes.{IsPassOf};
+ghost use Rattle.dep_table.specs.Tables.{id_of, job_of};
+ghost use Rattle.dep_table.specs.Views.{shown};
+
+use crate::pass::Pass;
+use crate::table::DepTable;
+use crate::turn::Busy;
+use ptg_base::{Item, OutOfMemory, TaskId, Tile};
+use term_core::Trap;
+use work_board::{Claim, Scan, Sent};
+
+impl DepTable {
+    // Claims a task: `Gone` exactly where its shard has no ready entry of it.
+    pub(crate) fn claim_once(&self, pass: &mut Pass, t: &TaskId) -> Claim
+        requires pass { IsPassOf (id_of self.now) pass.old }
+        requires task { IsTask (job_of self.now).matched t.now }
+        requires idle { (shown pass.old).running ≡ [] }
+        ensures pass { IsPassOf (id_of self.now) pass.new }
+        ensures claim { Claimed (job_of self.now).matched (job_of self.now).given (placing.shard_of (job_of self.now).matched (job_of self.now).shards t.now) t.now result (shown pass.old) (shown pass.new) }
+    {
+        let shard = self.shard_of(t);
+        match self.try_turn(pass, shard) {
+            Ok(turn) => match turn.claim(t) {
+                Some(arrivals) => Claim::Got(arrivals),
+                None => Claim::Gone,
+            },
+            Err(Busy { pass: _pass }) => Claim::Busy,
+        }
+    }
+
+    // Claims the best ready task of a shard: `Empty` exactly where none is ready.
+    pub(crate) fn scan_once(&self, pass: &mut Pass, shard: u32) -> Scan
+        requires pass { IsPassOf (id_of self.now) pass.old }
+        requires shard { shard < (job_of self.now).shards }
+        requires idle { (shown pass.old).running ≡ [] }
+        ensures pass { IsPassOf (id_of self.now) pass.new }
+        ensures scan { Scanned (job_of self.now).matched (job_of self.now).given (placing.shard_of (job_of self.now).matched (job_of self.now).shards) shard result (shown pass.old) (shown pass.new) }
+    {
+        match self.try_turn(pass, shard) {
+            Ok(mut turn) => match turn.best_ready() {
+                Some(t) => {
+                    let arrivals = turn.claim_best(&t);
+                    Scan::Got(t, arrivals)
+                }
+                None => {
+                    turn.leave();
+                    Scan::Empty
+                }
+            },
+            Err(Busy { pass: _pass }) => Scan::Busy,
+        }
+    }
+
+    // The number of the shard where an item of a task of the job is handled.
+    fn shard_for(&self, item: &Item) -> u32
+        requires task { IsTask (job_of self.now).matched (sender item.now) }
+        requires item { IsIn item.now (items (job_of self.now).matched (sender item.now)) }
+        ensures number { result ≡ shard_of_item (placing.shard_of (job_of self.now).matched (job_of self.now).shards) item.now }
+        ensures within { result < (job_of self.now).shards }
+    {
+        let _plan = self.job.matched.plan();
+        match item {
+            Item::Edge(edge) => self.shard_of(&edge.to),
+            Item::Write(write) => self.shard_of(&write.from),
+        }
+    }
+
+    // Sends an item of the task that the pass runs, with the tile that the task leaves in its flow.
+    pub(crate) fn send_once(
+        &self,
+        pass: &mut Pass,
+        item: &Item,
+        tile: Option<&Tile>,
+    ) -> Result<Sent, OutOfMemory>
+        requires pass { IsPassOf (id_of self.now) pass.old }
+        requires task { IsTask (job_of self.now).matched (sender item.now) }
+        requires item { IsNext (job_of self.now).matched (job_of self.now).given item.now (option_copied tile) (shown pass.old) }
+        ensures pass { IsPassOf (id_of self.now) pass.new }
+        ensures sent { IfOk result (λ a. SentAs (job_of self.now).matched (shard_of_item (placing.shard_of (job_of self.now).matched (job_of self.now).shards) item.now) item.now (option_copied tile.entry) a (shown pass.old) (shown pass.new)) }
+        ensures err { OnErr result (OnlyTook (shard_of_item (placing.shard_of (job_of self.now).matched (job_of self.now).shards) item.now) (shown pass.old) (shown pass.new)) }
+        ensures preloaded { (job_of self.now).preloaded ≡ true → IsOk result }
+    {
+        let shard = self.shard_for(item);
+        match self.try_turn(pass, shard) {
+            Ok(turn) => turn.send(item, tile),
+            Err(Busy { pass: _pass }) => Ok(Sent::Busy),
+        }
+    }
+
+    // Ends the task that the pass runs, whose items were all sent. False only where the turn was taken.
+    pub(crate) fn end_once(&self, pass: &mut Pass, t: &TaskId) -> bool
+        requires pass { IsPassOf (id_of self.now) pass.old }
+        requires is_task { IsTask (job_of self.now).matched t.now }
+        requires task { MayEnd (job_of self.now).matched (job_of self.now).given t.now (shown pass.old) }
+        ensures pass { IsPassOf (id_of self.now) pass.new }
+        ensures ended { EndedIf result (placing.shard_of (job_of self.now).matched (job_of self.now).shards t.now) (shown pass.old) (shown pass.new) }
+    {
+        let shard = self.shard_of(t);
+        match self.try_turn(pass, shard) {
+            Ok(turn) => {
+                turn.end(t);
+                true
+            }
+            Err(Busy { pass: _pass }) => false,
+        }
+    }
+
+    // Notes that the task that the pass runs trapped with this cause. False only where the turn was taken.
+    pub(crate) fn trap_once(
+        &self,
+        pass: &mut Pass,
+        t: &TaskId,
+        cause: Trap,
+    ) -> Result<bool, OutOfMemory>
+        requires pass { IsPassOf (id_of self.now) pass.old }
+        requires is_task { IsTask (job_of self.now).matched t.now }
+        requires task { MayTrap (job_of self.now).matched (job_of self.now).given t.now cause (shown pass.old) }
+        ensures pass { IsPassOf (id_of self.now) pass.new }
+        ensures ended { IfOk result (λ a. EndedIf a (placing.shard_of (job_of self.now).matched (job_of self.now).shards t.now) (shown pass.old) (shown pass.new)) }
+        ensures err { OnErr result (OnlyTook (placing.shard_of (job_of self.now).matched (job_of self.now).shards t.now) (shown pass.old) (shown pass.new)) }
+        ensures preloaded { (job_of self.now).preloaded ≡ true → IsOk result }
+    {
+        let shard = self.shard_of(t);
+        match self.try_turn(pass, shard) {
+            Ok(turn) => {
+                turn.trap(t, cause)?;
+                Ok(true)
+            }
+            Err(Busy { pass: _pass }) => Ok(false),
+        }
+    }
+}

@@ -1,0 +1,95 @@
+-- The passes of workers that are done are all passes of the table, and one of them has seen quiet.
+use Rattle.std.proofs.Common.{[], ◌∷◌, arith, inl, ◌<◌, ◌≡◌, ℕ, Bool, true, false, List, length, map, refl, sym, ◌∙◌, subst, Option, Some, None, Result, Ok, Err, slice_get, slice_index_or}
+use Rattle.std.specs.Prelude.{IsSome}
+use Rattle.ptg_base.specs.Lists.{IsIn}
+use Rattle.ptg_base.specs.declared.memory.OutOfMemory.{OutOfMemory}
+use Rattle.range_space.proofs.MemberLists.{IsIn-map, from_map}
+use Rattle.dep_iter.proofs.Joining.{map-map}
+use Rattle.plan_core.specs.declared.plan.Plan.{Plan}
+use Rattle.crossbeam_utils.specs.Padded.{padded_value}
+use Rattle.work_board.specs.declared.record.PassRecord.{PassRecord}
+use Rattle.worker_core.specs.declared.worker.Worked.{Worked}
+use Rattle.table_rule.specs.Names.{AreAll, Name}
+use Rattle.dep_table.specs.declared.table.DepTable.{DepTable}
+use Rattle.dep_table.specs.Boards.{IsWorkerPass}
+use Rattle.dep_table.specs.Closing.{AreAllPasses}
+use Rattle.dep_table.specs.Tables.{id_of}
+use Rattle.dep_table.specs.Passes.{IsPassOf}
+use Rattle.dep_table.specs.Views.{PassView, shown}
+use Rattle.run_pool.specs.Desks.{AnswerSays, HasWorkedAt, HaveWorked}
+use Rattle.run_pool.specs.Seated.{AreSeated, HaveAnswered, IsDone, OneWasRefused, PaddedDesk, answer_on, pass_on, record_on}
+use Rattle.run_pool.proofs.Places.{below_length, has_both, index_or, same_looks}
+
+abbrev names_of : PassRecord → List Name
+names_of v = v.names
+
+-- one of these passes has seen quiet
+pub record OneSawQuiet (ps : List PassView) : Type 0 where
+  pub pass : PassView
+  pub among : IsIn pass ps
+  pub quiet : (shown pass).quiet ≡ true
+
+first_in : (es : List PaddedDesk) → 0 < length es → (e : PaddedDesk) × IsIn e es
+first_in [] some = absurd (omega arith)
+first_in (e ∷ es) some = (e, inl refl)
+
+module _ (T : DepTable) (plan : Plan) (preloaded : Bool) (ds es : List PaddedDesk) (count : length es ≡ length ds) (w : HaveWorked (IsWorkerPass T) shown preloaded ds es) where
+  -- what the worker at a place has done
+  at : (k : ℕ) (d e : PaddedDesk) → slice_get ds k ≡ Some d → slice_get es k ≡ Some e → HasWorkedAt (IsWorkerPass T) shown preloaded (padded_value d) (padded_value e)
+  at k d e before after =
+      let h = w k d (below_length ds k d before) in
+      subst (λ x. HasWorkedAt (IsWorkerPass T) shown preloaded (padded_value d) (padded_value x)) (index_or es k d e after)
+      (subst (λ x. HasWorkedAt (IsWorkerPass T) shown preloaded (padded_value x) (padded_value (slice_index_or es k d))) (index_or ds k d d before) h)
+
+  -- what a worker has done
+  worked_at : (e : PaddedDesk) → IsIn e es → (d : PaddedDesk) × HasWorkedAt (IsWorkerPass T) shown preloaded (padded_value d) (padded_value e)
+  worked_at e i =
+      let b = has_both ds es e count i in
+      (b.other, at b.place b.other e b.before b.after)
+
+  says_some : (v : PassRecord) (o : Option (Result Worked OutOfMemory)) → AnswerSays (IsWorkerPass T) shown preloaded v o → IsSome o
+  says_some v None h = absurd h
+  says_some v (Some r) h = refl
+
+  pub have_answered : HaveAnswered es
+  have_answered e i = let p = worked_at e i in says_some (record_on e) (answer_on e) p.1.answer
+
+  -- a preloaded run wants no memory
+  not_preloaded : (v : PassRecord) (o : Option (Result Worked OutOfMemory)) (out : OutOfMemory) → o ≡ Some (Err out) → AnswerSays (IsWorkerPass T) shown preloaded v o → preloaded ≡ false
+  not_preloaded v None out e h = absurd h
+  not_preloaded v (Some (Ok worked)) out e h = absurd cc
+  not_preloaded v (Some (Err out₂)) out e h = h.1
+
+  pub refused_unloaded : OneWasRefused es → preloaded ≡ false
+  refused_unloaded r = let p = worked_at r.desk r.among in not_preloaded (record_on r.desk) (answer_on r.desk) r.refused r.answer p.1.answer
+
+  -- a worker that is done has seen quiet
+  has_seen : (v : PassRecord) (o : Option (Result Worked OutOfMemory)) (worked : Worked) → o ≡ Some (Ok worked) → AnswerSays (IsWorkerPass T) shown preloaded v o → v.quiet ≡ true
+  has_seen v None worked e h = absurd h
+  has_seen v (Some (Ok worked₂)) worked e h = h.0
+  has_seen v (Some (Err out)) worked e h = absurd cc
+
+  pub saw_quiet : (e : PaddedDesk) → IsIn e es → IsDone e → (record_on e).quiet ≡ true
+  saw_quiet e i done = let p = worked_at e i in has_seen (record_on e) (answer_on e) done.worked done.answer p.1.answer
+
+  same_names : map names_of (map record_on es) ≡ map names_of (map record_on ds)
+  same_names =
+      map-map names_of record_on es
+      ∙ same_looks (λ d. names_of (record_on d)) ds es count (λ k d e before after. (at k d e before after).later.names)
+      ∙ sym (map-map names_of record_on ds)
+
+  pub all_passes : ((vs ws : List PassRecord) → map (λ (w : PassRecord). w.names) ws ≡ map (λ (v : PassRecord). v.names) vs → AreAll vs → AreAll ws)
+      → AreSeated (id_of T) plan ds → AreAllPasses (id_of T) (map pass_on es)
+  all_passes names seated = record {
+    each = λ p i.
+        let q = from_map pass_on es p i in
+        let at = worked_at q.0 q.1 in
+        subst (IsPassOf (id_of T)) (sym q.2) at.1.pass.of;
+    all = subst AreAll (sym (map-map shown pass_on es)) (names (map record_on ds) (map record_on es) same_names seated.all);
+  }
+
+  -- where each worker is done, one of them has seen quiet
+  pub one_saw_quiet : 0 < length ds → ((e : PaddedDesk) → IsIn e es → IsDone e) → OneSawQuiet (map pass_on es)
+  one_saw_quiet some done =
+      let e = first_in es (omega (arith, count)) in
+      record { pass = pass_on e.0; among = IsIn-map pass_on es e.0 e.1; quiet = saw_quiet e.0 e.1 (done e.0 e.1) }

@@ -1,0 +1,46 @@
+use Rattle.std.proofs.Common.{◌≡◌, ◌∙◌, false, ap, sym, subst}
+use Rattle.std.proofs.lemmas.Bool.{false≢true}
+use denote.Param.Send.{sendable}
+use Rattle.crossbeam_utils.specs.Padded.{padded_value}
+use Rattle.ptg_base.specs.Lists.{IsIn}
+use Rattle.dep_table.specs.Closing.{AreAllPasses}
+use Rattle.dep_table.specs.Tables.{id_of, job_of}
+use Rattle.dep_table.proofs.Sharing.{pass_send, table_sync}
+use Rattle.run_pool.specs.Runs.{Run}
+use Rattle.run_pool.proofs.Gathered.{all_passes, have_answered, one_saw_quiet, refused_unloaded}
+use Rattle.run_pool.proofs.running.run.Goals as goal
+
+pub team-requires-send-B-Pass : goal.team-requires-send-B-Pass
+team-requires-send-B-Pass g c κs within = search (sendable, pass_send) depth 10
+
+pub team-requires-sync-B : goal.team-requires-sync-B
+team-requires-sync-B g c κs within = search (sendable, table_sync) depth 10
+
+pub team-requires-clause-ready : goal.team-requires-clause-ready
+team-requires-clause-ready g c κs within = λ k d at.
+    let r = c.prepared.invariant.0.ready k d at in
+    record { pass = c.an_idle_pass_is_a_workers_pass.ensures c.prepared.inside.table (padded_value d).pass r.pass r.idle; idle = r.idle; bench = r.bench }
+
+pub passes_of-requires-clause-answered : goal.passes_of-requires-clause-answered
+passes_of-requires-clause-answered g c =
+    let job = job_of c.prepared.inside.table in
+    have_answered c.prepared.inside.table job.matched job.preloaded c.prepared.inside.desks.items c.team.new.desks.items c.team.ensures.count c.team.ensures.worked
+
+pub returns-in_err-passes-clause-preloaded : goal.returns-in_err-passes-clause-preloaded
+returns-in_err-passes-clause-preloaded g c = λ yes.
+    let job = job_of c.prepared.inside.table in
+    let no : job.preloaded ≡ false = refused_unloaded c.prepared.inside.table job.matched job.preloaded c.prepared.inside.desks.items c.team.new.desks.items c.team.ensures.count c.team.ensures.worked c.in_err-passes.ensures.refused in
+    let same : job.preloaded ≡ c.args.prepared.job.preloaded = ap (λ (r : Run). r.job.preloaded) c.prepared.view_is in
+    absurd (false≢true (sym no ∙ (same ∙ yes)))
+
+pub close-requires : goal.close-requires
+close-requires g c =
+    let job = job_of c.prepared.inside.table in
+    subst (AreAllPasses (id_of c.prepared.inside.table)) (sym c.in_ok-passes.ensures.passes)
+    (all_passes c.prepared.inside.table job.matched job.preloaded c.prepared.inside.desks.items c.team.new.desks.items c.team.ensures.count c.team.ensures.worked c.all_passes_stay_all.ensures.names c.prepared.invariant.0)
+
+pub returns-clause-quiet : goal.returns-clause-quiet
+returns-clause-quiet g c =
+    let job = job_of c.prepared.inside.table in
+    let one = one_saw_quiet c.prepared.inside.table job.matched job.preloaded c.prepared.inside.desks.items c.team.new.desks.items c.team.ensures.count c.team.ensures.worked c.prepared.invariant.1 c.in_ok-passes.ensures.done in
+    c.close.ensures.quiet one.pass (subst (IsIn one.pass) (sym c.in_ok-passes.ensures.passes) one.among) one.quiet

@@ -1,0 +1,39 @@
+-- What the desks of workers hold, before a run and after it. Source: this project's own choice.
+use Rattle.std.specs.Prelude.{◌≡◌, ℕ, ◌<◌, Bool, true, false, List, [], length, slice_get, slice_index_or, Option, Some, None, Result, Ok, Err}
+use Rattle.crossbeam_utils.specs.declared.cache_padded.CachePadded.{CachePadded}
+use Rattle.crossbeam_utils.specs.Padded.{padded_value}
+use Rattle.ptg_base.specs.declared.memory.OutOfMemory.{OutOfMemory}
+use Rattle.plan_core.specs.declared.plan.Plan.{Plan}
+use Rattle.task_run.specs.Bench.{IsBenchOf}
+use Rattle.work_board.specs.Looks.{KnowsHalted}
+use Rattle.work_board.specs.Records.{IsLaterRecord}
+use Rattle.work_board.specs.declared.record.PassRecord.{PassRecord}
+use Rattle.worker_core.specs.declared.worker.Worked.{Worked}
+use Rattle.run_pool.specs.declared.desk.Desk.{Desk}
+
+module _ {P : Type 0} (is_pass : P → Type 0) (shown : P → PassRecord) where
+  -- a worker may begin: its pass is clean and runs nothing, and its bench is for tasks of this plan
+  pub record IsReady (plan : Plan) (d : Desk P) : Type 0 where
+    pub pass : is_pass d.pass
+    pub idle : (shown d.pass).running ≡ []
+    pub bench : IsBenchOf plan d.bench
+
+  -- what the answer of a worker's work says of its pass: it has seen quiet and runs nothing, or the board is halted, which a preloaded board never is
+  abbrev pub AnswerSays : Bool → PassRecord → Option (Result Worked OutOfMemory) → Type 0
+  AnswerSays preloaded w None = ⊥
+  AnswerSays preloaded w (Some (Ok worked)) = (w.quiet ≡ true) × (w.running ≡ [])
+  AnswerSays preloaded w (Some (Err refused)) = KnowsHalted w × (preloaded ≡ false)
+
+  -- a worker has worked: its pass is clean and has what it had and maybe more, and its answer is on the desk
+  pub record HasWorkedAt (preloaded : Bool) (d e : Desk P) : Type 0 where
+    pub pass : is_pass e.pass
+    pub later : IsLaterRecord (shown d.pass) (shown e.pass)
+    pub answer : AnswerSays preloaded (shown e.pass) e.answer
+
+  -- each desk is ready
+  abbrev pub AreReady : Plan → List (CachePadded (Desk P)) → Type 0
+  AreReady plan ds = (k : ℕ) (d : CachePadded (Desk P)) → slice_get ds k ≡ Some d → IsReady plan (padded_value d)
+
+  -- each worker has worked
+  abbrev pub HaveWorked : Bool → List (CachePadded (Desk P)) → List (CachePadded (Desk P)) → Type 0
+  HaveWorked preloaded ds es = (k : ℕ) (d : CachePadded (Desk P)) → k < length ds → HasWorkedAt preloaded (padded_value (slice_index_or ds k d)) (padded_value (slice_index_or es k d))

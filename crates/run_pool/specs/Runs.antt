@@ -1,0 +1,29 @@
+-- A run that is ready, as contracts see it, and when a preload is too large. Source: this project's own choice.
+use Rattle.std.specs.Prelude.{◌≡◌, ◌<◌, ◌≤◌, ◌^◌, ℕ, true}
+use Rattle.plan_core.specs.declared.plan.Plan.{Plan}
+use Rattle.coll_data.specs.Data.{Data}
+use Rattle.table_rule.specs.declared.job.Job.{Job}
+use Rattle.run_pool.specs.declared.settings.Settings.{Settings}
+use Rattle.run_pool.specs.Bytes.{preload_bytes}
+
+-- its job, and how many workers it has
+pub record Run : Type 0 where
+  pub job : Job
+  pub workers : ℕ
+
+-- the run of this job that is asked for
+abbrev pub run_of : Plan → Data → Settings → Run
+run_of P G s = record { job = record { matched = P; given = G; shards = s.shards; preloaded = s.preload }; workers = s.workers }
+
+-- the settings are within their limits
+pub record AreSettings (s : Settings) : Type 0 where
+  pub some_workers : 1 ≤ s.workers
+  pub few_workers : s.workers ≤ 64
+  pub some_shards : 1 ≤ s.shards
+  pub few_shards : s.shards ≤ 256
+
+-- a preload is asked for, and takes so many bytes, which are too many
+pub record IsTooLarge (P : Plan) (s : Settings) (bytes : ℕ) : Type 0 where
+  pub asked : s.preload ≡ true
+  pub are : bytes ≡ preload_bytes P s.workers
+  pub many : 2 ^ 30 < bytes

@@ -1,0 +1,51 @@
+-- The desks of the workers of one table. Source: this project's own choice.
+use Rattle.std.specs.Prelude.{◌≡◌, List, map, Option, Some, Result, Ok, Err, IsSome}
+use Rattle.atomic_table.specs.Seated.{TableId}
+use Rattle.crossbeam_utils.specs.declared.cache_padded.CachePadded.{CachePadded}
+use Rattle.crossbeam_utils.specs.Padded.{padded_value}
+use Rattle.ptg_base.specs.Lists.{IsIn}
+use Rattle.ptg_base.specs.declared.memory.OutOfMemory.{OutOfMemory}
+use Rattle.plan_core.specs.declared.plan.Plan.{Plan}
+use Rattle.work_board.specs.declared.record.PassRecord.{PassRecord}
+use Rattle.worker_core.specs.declared.worker.Worked.{Worked}
+use Rattle.table_rule.specs.Names.{AreAll}
+use Rattle.dep_table.specs.Passes.{IsPassOf}
+use Rattle.dep_table.specs.Views.{PassView, shown}
+use Rattle.run_pool.specs.declared.desk.Desk.{Desk}
+use Rattle.run_pool.specs.Desks.{AreReady}
+
+-- a desk whose pass is one of a table
+abbrev pub PaddedDesk : Type 0
+PaddedDesk = CachePadded (Desk PassView)
+
+-- the pass on a desk, and its record
+abbrev pub pass_on : PaddedDesk → PassView
+pass_on d = (padded_value d).pass
+
+abbrev pub record_on : PaddedDesk → PassRecord
+record_on d = shown (pass_on d)
+
+-- the desks are ready for tasks of this plan, and the passes on them are all passes of this table
+pub record AreSeated (table : TableId) (plan : Plan) (ds : List PaddedDesk) : Type 0 where
+  pub ready : AreReady (IsPassOf table) shown plan ds
+  pub all : AreAll (map record_on ds)
+
+-- the answer on a desk
+abbrev pub answer_on : PaddedDesk → Option (Result Worked OutOfMemory)
+answer_on d = (padded_value d).answer
+
+-- each worker has answered
+abbrev pub HaveAnswered : List PaddedDesk → Type 0
+HaveAnswered ds = (d : PaddedDesk) → IsIn d ds → IsSome (answer_on d)
+
+-- a worker did its work
+pub record IsDone (d : PaddedDesk) : Type 0 where
+  pub worked : Worked
+  pub answer : answer_on d ≡ Some (Ok worked)
+
+-- one of the workers had want of memory
+pub record OneWasRefused (ds : List PaddedDesk) : Type 0 where
+  pub desk : PaddedDesk
+  pub among : IsIn desk ds
+  pub refused : OutOfMemory
+  pub answer : answer_on desk ≡ Some (Err refused)

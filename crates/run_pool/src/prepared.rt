@@ -1,0 +1,44 @@
+//! A run that is ready.
+
+ghost use Rattle.std.specs.Prelude.{◌≡◌};
+
+use crate::seating::Seat;
+use dep_table::pass::Pass;
+use dep_table::table::DepTable;
+use std::marker::Model;
+
+/// A run that is ready: its table, a desk for each worker, and room for the passes that the table is closed with. Contracts see its
+/// job and how many workers it has.
+#[derive(Drop)]
+pub struct Prepared {
+    pub(crate) table: DepTable,
+    pub(crate) desks: Vec<Seat>,
+    pub(crate) room: Vec<Pass>,
+}
+
+impl Model for Prepared {
+    ghost use Rattle.std.specs.Prelude.{◌≡◌, ◌<◌, ◌≤◌, [], length, vec_capacity};
+    ghost use Rattle.std.specs.Coded.{codes};
+    ghost use Rattle.term_core.specs.contracts.expr.Expr as expr;
+    ghost use Rattle.term_core.specs.contracts.body.Block as block;
+    ghost use Rattle.dep_table.specs.Tables.{id_of, job_of};
+    ghost use Rattle.run_pool.specs.Runs.{Run};
+    ghost use Rattle.run_pool.specs.Seated.{AreSeated};
+
+    ghost Value = { Run };
+
+    ghost coded = { Prim.hlevel (codes, expr.the_row.coded, block.the_row.coded) };
+
+    ghost view = { λ p. record { job = job_of p.table; workers = length p.desks.items } };
+
+    ghost invariant = { λ p. AreSeated (id_of p.table) (job_of p.table).matched p.desks.items × (0 < length p.desks.items) × (p.room.items ≡ []) × (length p.desks.items ≤ vec_capacity p.room) };
+}
+
+impl Prepared {
+    /// Whether all memory was taken, so that the run asks for none.
+    pub fn preloaded(&self) -> bool
+        ensures { result ≡ self.now.job.preloaded }
+    {
+        self.table.is_preloaded()
+    }
+}

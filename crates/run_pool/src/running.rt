@@ -1,0 +1,65 @@
+//! A run by many workers, from the first task to the close of its table.
+
+ghost use Rattle.std.specs.Prelude.{◌≡◌, ◌≤◌, [], true, length, map, vec_capacity, IfOk, IsOk, OnErr, OnOk};
+ghost use Rattle.ptg_base.specs.Lists.{IsIn};
+ghost use Rattle.dep_table.specs.Closing.{HaveNoWork};
+ghost use Rattle.run_pool.specs.Seated.{HaveAnswered, IsDone, OneWasRefused, PaddedDesk, pass_on};
+
+use crate::desk::Desk;
+use crate::prepared::Prepared;
+use crate::seating::Seat;
+use crate::workers::team;
+use dep_table::an_idle_pass_is_a_workers_pass;
+use dep_table::closed::Closed;
+use dep_table::pass::Pass;
+use ptg_base::OutOfMemory;
+use std::sync::Wait;
+use std::thread::Threads;
+use table_rule::rules::all_passes_stay_all;
+use worker_core::Gate;
+
+// The passes of workers that have answered. Want of memory exactly where one of them had it.
+fn passes_of(desks: Vec<Seat>, room: Vec<Pass>) -> Result<Vec<Pass>, OutOfMemory>
+    requires answered { HaveAnswered desks.items }
+    requires room { (room.items ≡ []) × (length desks.items ≤ vec_capacity room) }
+    ensures passes { IfOk result (λ passes. passes.items ≡ map pass_on desks.items) }
+    ensures done { OnOk result ((d : PaddedDesk) → IsIn d desks.items → IsDone d) }
+    ensures refused { OnErr result (OneWasRefused desks.items) }
+{
+    let mut passes = room;
+    for desk in desks {
+        let Desk {
+            pass,
+            hands: _hands,
+            bench: _bench,
+            answer,
+        } = desk.into_inner();
+        let _worked = answer.unwrap()?;
+        passes.push_reserved(pass);
+    }
+    Ok(passes)
+}
+
+/// Runs a job by as many workers as were made ready, and closes its table, with a pass for each worker. No shard has work then. A
+/// preloaded run never wants memory. It may wait.
+pub fn run<R: Threads + Wait + Sync, G: Gate>(
+    rt: &R,
+    prepared: Prepared,
+    gate: &G,
+) -> Result<Closed, OutOfMemory>
+    ensures job { IfOk result (λ closed. closed.job ≡ prepared.job) }
+    ensures passes { IfOk result (λ closed. closed.passes ≡ prepared.workers) }
+    ensures quiet { IfOk result (λ closed. HaveNoWork closed.shards) }
+    ensures preloaded { prepared.job.preloaded ≡ true → IsOk result }
+{
+    all_passes_stay_all();
+    an_idle_pass_is_a_workers_pass();
+    let Prepared {
+        table,
+        mut desks,
+        room,
+    } = prepared;
+    team(rt, &table, &mut desks, gate);
+    let passes = passes_of(desks, room)?;
+    Ok(table.close(passes))
+}

@@ -1,0 +1,62 @@
+//! The desks of the workers of a run.
+
+ghost use Rattle.std.specs.Prelude.{◌≡◌, ◌<◌, None, IfOk, length};
+ghost use Rattle.crossbeam_utils.specs.Padded.{padded_value};
+ghost use Rattle.task_run.specs.Bench.{IsBenchOf};
+ghost use Rattle.table_rule.specs.Changes.{first_pass};
+ghost use Rattle.dep_table.specs.Passes.{IsPassOf};
+ghost use Rattle.dep_table.specs.Tables.{id_of, job_of};
+ghost use Rattle.dep_table.specs.Views.{shown};
+ghost use Rattle.run_pool.specs.Seated.{AreSeated};
+
+use crate::desk::Desk;
+use crossbeam_utils::CachePadded;
+use dep_iter::Matched;
+use dep_table::pass::Pass;
+use dep_table::table::DepTable;
+use ptg_base::OutOfMemory;
+use ready_deques::Hands;
+use std::alloc::Global;
+use table_rule::rules::all_passes_stay_all;
+use task_run::Bench;
+
+pub(crate) type Seat = CachePadded<Desk<Pass>>;
+
+// A desk with this pass and these hands, for tasks of a plan.
+fn new_desk(alloc: Global, m: &Matched, pass: Pass, hands: Hands) -> Result<Seat, OutOfMemory>
+    ensures pass { IfOk result (λ d. (padded_value d).pass ≡ pass) }
+    ensures bench { IfOk result (λ d. IsBenchOf m.now (padded_value d).bench) }
+{
+    let bench = Bench::new(alloc, m)?;
+    Ok(CachePadded::new(Desk {
+        pass,
+        hands,
+        bench,
+        answer: None,
+    }))
+}
+
+// A desk for each of these workers: with the first pass of a table, or with one that is split off it.
+pub(crate) fn seat_workers(
+    alloc: Global,
+    table: &DepTable,
+    first: Pass,
+    hands: Vec<Hands>,
+) -> Result<Vec<Seat>, OutOfMemory>
+    requires workers { 0 < length hands.items }
+    requires pass { IsPassOf (id_of table.now) first × (shown first ≡ first_pass) }
+    ensures seated { IfOk result (λ desks. AreSeated (id_of table.now) (job_of table.now).matched desks.items) }
+    ensures count { IfOk result (λ desks. length desks.items ≡ length hands.items) }
+{
+    all_passes_stay_all();
+    let mut first = first;
+    let mut others = hands;
+    let own = others.pop().unwrap();
+    let mut desks = Vec::new(alloc);
+    for hands in others {
+        let pass = table.split(&mut first);
+        desks.push(new_desk(alloc, table.matched(), pass, hands)?)?;
+    }
+    desks.push(new_desk(alloc, table.matched(), first, own)?)?;
+    Ok(desks)
+}

@@ -1,0 +1,64 @@
+//! The workers of a run, each in a thread of its own where one can be made.
+
+ghost use Rattle.std.specs.Prelude.{◌≡◌, ◌<◌, length};
+ghost use Rattle.crossbeam_utils.specs.Padded.{padded_value};
+ghost use Rattle.run_pool.specs.Desks.{AreReady, HasWorkedAt, HaveWorked, IsReady};
+
+use crate::desk::Desk;
+use crossbeam_utils::CachePadded;
+use std::marker::Send;
+use std::sync::Wait;
+use std::thread::{Threads, for_each_mut};
+use work_board::Board;
+use worker_core::{Gate, work};
+
+// A worker works at its desk, and leaves its answer there.
+fn work_at<R: Threads + Wait + Sync, B: Board, G: Gate>(
+    rt: &R,
+    board: &B,
+    desk: &mut Desk<B::Pass>,
+    gate: &G,
+)
+    requires { IsReady (B.is_pass board.now) B.shown (B.plan board.now) desk.old }
+    ensures { HasWorkedAt (B.is_pass board.now) B.shown (B.preloaded board.now) desk.old desk.new }
+{
+    let worker = desk.hands.number();
+    let answer = work(
+        rt,
+        worker,
+        board,
+        &mut desk.pass,
+        &mut desk.hands,
+        gate,
+        &mut desk.bench,
+    );
+    desk.answer = Some(answer);
+}
+
+/// Lets a worker work at each desk until all is quiet, in as many threads as desks where so many can be made.
+pub fn team<R: Threads + Wait + Sync, B: Board, G: Gate>(
+    rt: &R,
+    board: &B,
+    desks: &mut Vec<CachePadded<Desk<B::Pass>>>,
+    gate: &G,
+)
+where
+    B::Pass: Send,
+    requires some { 0 < length desks.old.items }
+    requires ready { AreReady (B.is_pass board.now) B.shown (B.plan board.now) desks.old.items }
+    ensures count { length desks.new.items ≡ length desks.old.items }
+    ensures worked { HaveWorked (B.is_pass board.now) B.shown (B.preloaded board.now) desks.old.items desks.new.items }
+{
+    let threads = desks.len();
+    for_each_mut(
+        rt,
+        desks.as_mut_slice(),
+        threads,
+        &|_at: usize, desk: &mut CachePadded<Desk<B::Pass>>|
+            requires { IsReady (B.is_pass board.now) B.shown (B.plan board.now) (padded_value desk.old) }
+            ensures { HasWorkedAt (B.is_pass board.entry.now) B.shown (B.preloaded board.entry.now) (padded_value desk.old) (padded_value desk.new) }
+        {
+            work_at(rt, board, &mut **desk, gate);
+        },
+    );
+}
