@@ -1,7 +1,7 @@
 -- The answer of a run that was made ready, and when its preload is too large.
 use Rattle.std.proofs.Common.{◌≡◌, ℕ, ◌<◌, refl, sym, ◌∙◌, ap, subst}
-use Rattle.std.specs.Prelude.{Bool, true, false, ◌&&◌, not, nat_le, if◌then◌else◌}
-use Rattle.std.proofs.lemmas.Bool.{and_from, and_parts, false_from_ne_true, leb-false, lt-leb, not_from_false, not_from_true}
+use Rattle.std.specs.Prelude.{Bool, true, false, not, nat_le, if◌then◌else◌}
+use Rattle.std.proofs.lemmas.Bool.{and_from, and_parts, false_from_ne_true, leb-false, lt-leb, not_from_false}
 use Rattle.coll_data.specs.Data.{Data}
 use Rattle.plan_core.specs.declared.plan.Plan.{Plan}
 use Rattle.flow_meaning.specs.Answer.{answer}

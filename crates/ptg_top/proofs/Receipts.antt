@@ -1,5 +1,5 @@
 -- The receipt of a verdict: it is what was asked for, and its plan is the one that the files denote.
-use Rattle.std.proofs.Common.{◌≡◌, ℕ, List, Some, refl, sym, ◌∙◌, ap, subst, inl, inr}
+use Rattle.std.proofs.Common.{◌≡◌, ℕ, List, Some, refl, sym, subst, inl, inr}
 use Rattle.std.specs.Prelude.{Option, None, IfSome, IfNone, Bool, true, false, if◌then◌else◌}
 use Rattle.coll_data.specs.Data.{Data}
 use Rattle.plan_core.specs.declared.plan.Plan.{Plan}
@@ -11,7 +11,6 @@ use Rattle.dep_table.specs.Receipts.{ReceiptView}
 use Rattle.ptg_words.specs.declared.order.Order.{Order}
 use Rattle.ptg_words.specs.declared.order.Order.TheVariants as order
 use Rattle.ptg_words.specs.Words.{Orders}
-use Rattle.job_stages.specs.declared.verdict.JobVerdict.{JobVerdict}
 use Rattle.job_stages.specs.declared.verdict.JobVerdict.TheVariants as jobs
 use Rattle.run_pool.specs.declared.settings.Settings.{Settings}
 use Rattle.ptg_top.specs.declared.request.Request.{Request}
@@ -27,7 +26,7 @@ use Rattle.ptg_top.specs.Preload.{is_too_large}
 use Rattle.ptg_top.specs.JobFiles.{Entries, ContentsDenote, FilesDenote}
 use Rattle.ptg_top.specs.Meaning.{ContentShows, Denotes, RequestDenotes}
 use Rattle.ptg_top.specs.Reports.{IsVerdictOnWords}
-use Rattle.ptg_top.specs.Requests.{Requests, request_of}
+use Rattle.ptg_top.specs.Requests.{request_of}
 use Rattle.ptg_top.specs.Headline.{status_of, status_of_outcome}
 use Rattle.ptg_top.specs.Receipts.{FindsPlan, HasConsistentPlan, IsAnswerStatus, IsOfRun, IsReceiptFor, IsRun, IsRunAsAsked, IsRunAsOrdered, receipt_of}
 use Rattle.ptg_top.proofs.Ending.{is_denoted}

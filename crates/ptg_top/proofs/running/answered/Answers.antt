@@ -1,4 +1,4 @@
-use Rattle.std.proofs.Common.{◌≡◌, ℕ, Result, Ok, Err, ap}
+use Rattle.std.proofs.Common.{Err, ap}
 use Rattle.ptg_top.proofs.Preloads.{closed_answer, fitting_is_answer, refused_is_answer}
 use Rattle.ptg_top.proofs.running.answered.Goals as goal
 
