@@ -15,7 +15,7 @@ use Rattle.ptg_top.specs.Reports.{IsOfTexts, IsVerdictOnWords}
 use Rattle.ptg_top.specs.Headline.{text_of, status_of, unread_line, usage_line, IsExact, Prints}
 
 -- arguments and files denote the verdict, unless it is a read fault
-is_denoted : (words : List (List ℕ)) (files : Entries) (contents : Option Entries) (old new : List ℕ → ℕ) (v : Denotation) → IsVerdictOnWords words contents old new v → contents ≡ Some files → ((name : List ℕ) → v ≡ verdicts.Unread name → Rose (old name) (new name) → ⊥) → Denotes words files v
+pub is_denoted : (words : List (List ℕ)) (files : Entries) (contents : Option Entries) (old new : List ℕ → ℕ) (v : Denotation) → IsVerdictOnWords words contents old new v → contents ≡ Some files → ((name : List ℕ) → v ≡ verdicts.Unread name → Rose (old name) (new name) → ⊥) → Denotes words files v
 is_denoted words files contents old new v (inl h) t read = inl h
 is_denoted words files contents old new v (inr (request, asked, inl (name, rose, may, e))) t read = absurd (read name e rose)
 is_denoted words files contents old new v (inr (request, asked, inr (of, known))) t read = inr (request, asked, known files t)

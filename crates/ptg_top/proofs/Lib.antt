@@ -2,8 +2,10 @@ pub mod Requested
 pub mod Settings
 pub mod Checked
 pub mod Answered
+pub mod Preloads
 pub mod Carried
 pub mod JobTexts
 pub mod Ending
+pub mod Receipts
 pub mod Once
 pub mod Always

@@ -4,7 +4,7 @@ use Rattle.plan_core.specs.declared.plan.Plan.{Plan}
 use Rattle.flow_meaning.specs.declared.outcome.Outcome.{Outcome}
 use Rattle.job_stages.specs.declared.verdict.JobVerdict.{JobVerdict}
 use Rattle.ptg_top.specs.declared.verdict.RanBy.{RanBy}
-use Rattle.ptg_top.specs.declared.verdict.RanBy.TheVariants.{OneThread}
+use Rattle.ptg_top.specs.declared.verdict.RanBy.TheVariants.{Table}
 use Rattle.ptg_top.specs.declared.verdict.Verdict.{Verdict}
 use Rattle.ptg_top.specs.declared.verdict.Verdict.TheVariants as verdicts
 
@@ -20,7 +20,7 @@ pub data Denotation : Type 0 where
 
 -- the plan of the job that was run
 abbrev pub plan_of : RanBy → Plan
-plan_of (OneThread P) = P
+plan_of (Table receipt) = receipt.plan
 
 -- what a verdict says, whoever ran the job
 abbrev pub denoted : Verdict → Denotation

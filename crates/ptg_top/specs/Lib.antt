@@ -9,4 +9,5 @@ pub mod Steps
 pub mod Reports
 pub mod JobText
 pub mod Headline
+pub mod Receipts
 pub mod Codes

@@ -21,7 +21,7 @@ fn plan_of(by: &RanBy) -> &Plan
     ensures { result.now ≡ plan_of by.now }
 {
     match by {
-        RanBy::OneThread(matched) => matched.plan(),
+        RanBy::Table(receipt) => receipt.matched().plan(),
     }
 }
 

@@ -1,10 +1,28 @@
 //! How a run of the program ended.
 
+ghost use Rattle.std.specs.Prelude.{◌≡◌, None};
+
 use crate::status::Status;
+use dep_table::receipt::Receipt;
 
 /// How a run of the program ended.
-#[derive(Clone, Copy, Debug)]
+#[derive(Drop)]
 pub struct Ended {
     /// Its status.
     pub status: Status,
+    /// The receipt of the table that ran its job, where a job was run and its answer printed.
+    pub receipt: Option<Receipt>,
+}
+
+impl Ended {
+    // An end without the answer of a job.
+    pub(crate) fn without_receipt(status: Status) -> Ended
+        ensures status { result.status ≡ status }
+        ensures receipt { result.receipt ≡ None }
+    {
+        Ended {
+            status,
+            receipt: None,
+        }
+    }
 }

@@ -4,6 +4,7 @@ ghost use Rattle.std.specs.Prelude.{◌≡◌, ◌≤◌, ℕ, List, IfOk};
 ghost use Rattle.ptg_top.specs.Denotation.{denoted};
 ghost use Rattle.ptg_top.specs.JobFiles.{HasFittingJob};
 ghost use Rattle.ptg_top.specs.Reports.{IsProper, IsVerdictOnRequest, IsVerdictOnWords};
+ghost use Rattle.ptg_top.specs.Receipts.{IsRunAsAsked, IsRunAsOrdered};
 
 use crate::checking::check;
 use crate::host::Host;
@@ -28,6 +29,7 @@ pub fn judge<R: Threads + Wait + Sync, F: Files, G: Gate>(
     ensures grows { (other : List ℕ) → F.faults files.old other ≤ F.faults files.new other }
     ensures judged { IfOk result (λ v. IsVerdictOnWords list.now (F.contents files.old) (F.faults files.old) (F.faults files.new) (denoted v)) }
     ensures fit { IfOk result (λ v. HasFittingJob (denoted v)) }
+    ensures ran { IfOk result (λ v. IsRunAsOrdered list.now v) }
 {
     files_are_text();
     orders_have_numbers_in_range();
@@ -52,6 +54,7 @@ fn carry_out<R: Threads + Wait + Sync, F: Files, G: Gate>(
     ensures grows { (other : List ℕ) → F.faults files.old other ≤ F.faults files.new other }
     ensures judged { IfOk result (λ v. IsVerdictOnRequest (F.contents files.old) (F.faults files.old) (F.faults files.new) request.now (denoted v)) }
     ensures fit { IfOk result (λ v. HasFittingJob (denoted v)) }
+    ensures ran { IfOk result (λ v. IsRunAsAsked request.now v) }
 {
     match request {
         Request::Run(jdf, tiles, settings) => run(host, jdf, tiles, files, *settings),

@@ -1,17 +1,20 @@
 //! The program.
 
-ghost use Rattle.std.specs.Prelude.{◌≡◌, ◌⊎◌, ◌≤◌, ℕ, List, Some};
+ghost use Rattle.std.specs.Prelude.{◌≡◌, ◌⊎◌, ◌≤◌, ℕ, List, Some, IfSome, IfNone};
 ghost use Rattle.ptg_io.specs.Faults.{Rose};
 ghost use Rattle.ptg_io.specs.Sink.{appended};
 ghost use Rattle.ptg_top.specs.JobFiles.{Entries};
 ghost use Rattle.ptg_top.specs.Meaning.{IsNoOrder, MayBeUnread};
 ghost use Rattle.ptg_top.specs.Headline.{IsExact, Prints, IsCut, unread_line, usage_line};
+ghost use Rattle.ptg_top.specs.Receipts.{HasConsistentPlan, IsAnswerStatus, IsReceiptFor, IsRun};
+ghost use Rattle.ptg_words.specs.declared.order.Order.{Order};
+ghost use Rattle.ptg_words.specs.Words.{Orders};
 
 use crate::ended::Ended;
 use crate::host::Host;
 use crate::judge::judge;
 use crate::status::Status;
-use crate::telling::{status, tell};
+use crate::telling::{receipt, status, tell};
 use ptg_base::{OutOfMemory, Text};
 use ptg_io::{Failed, Files, Sink};
 use std::alloc::Global;
@@ -62,19 +65,22 @@ pub fn ptg_main<R: Threads + Wait + Sync, F: Files, O: Sink, G: Gate>(
     ensures usage_only { result.status ≡ Status.Usage → IsNoOrder words.now }
     ensures usage_line { result.status ≡ Status.Usage → O.bytes out.new ≡ appended (O.bytes out.old) usage_line }
     ensures usage { IsNoOrder words.now → (result.status ≡ Status.Usage) ⊎ ((result.status ≡ Status.WriteFault) ⊎ (result.status ≡ Status.OutOfMemory)) }
+    // The answer of a job that was run comes with the receipt of a table with the shards, the workers and the preload that were asked
+    // for, and no other status does.
+    ensures receipt { IfSome result.receipt (λ r. (o : Order) × Orders words.now o × IsReceiptFor o r × IsAnswerStatus result.status) }
+    ensures no_receipt { IfNone result.receipt ((o : Order) → Orders words.now o → IsRun o → IsAnswerStatus result.status → ⊥) }
+    // Where the contents of the files are known, the table had the job that the files denote.
+    ensures of_job { (entries : Entries) → F.contents files.old ≡ Some entries → IfSome result.receipt (λ r. HasConsistentPlan words.now entries r.plan) }
 {
     let host = Host { rt, alloc, gate };
     match judge(&host, words, files) {
         Ok(verdict) => match tell(&verdict, out) {
             Ok(()) => Ended {
                 status: status(&verdict),
+                receipt: receipt(verdict),
             },
-            Err(Failed) => Ended {
-                status: Status::WriteFault,
-            },
+            Err(Failed) => Ended::without_receipt(Status::WriteFault),
         },
-        Err(OutOfMemory) => Ended {
-            status: Status::OutOfMemory,
-        },
+        Err(OutOfMemory) => Ended::without_receipt(Status::OutOfMemory),
     }
 }

@@ -10,25 +10,21 @@ ghost use Rattle.ptg_top.specs.Denotation as verdicts;
 ghost use Rattle.ptg_top.specs.Denotation.{denoted};
 ghost use Rattle.ptg_top.specs.Answering.{IsAnswer, IsRefusal};
 ghost use Rattle.ptg_top.specs.JobFiles.{HasFittingJob, IsChecked};
-ghost use Rattle.ptg_top.specs.Preload.{is_too_large};
 ghost use Rattle.ptg_top.specs.Reports.{IsVerdictOnRequest};
+ghost use Rattle.ptg_top.specs.Receipts.{IsOfRun};
 
 use crate::checking::check;
 use crate::host::Host;
 use crate::verdict::{RanBy, Verdict};
 use coll_data::Given;
 use dep_iter::Matched;
-use flow_core::run_one;
 use job_stages::JobVerdict;
 use ptg_base::{OutOfMemory, Text};
 use ptg_io::Files;
-use run_pool::{Settings, preload_bytes};
+use run_pool::{PrepareFault, Settings, prepare, run as run_prepared};
 use std::sync::Wait;
 use std::thread::Threads;
 use worker_core::Gate;
-
-// The bytes that may be taken before a run.
-const PRELOAD_LIMIT: u64 = 1_073_741_824;
 
 /// The verdict of `run` on a JDF file and a data file: of a job that `check` finds consistent, that its preload is too large, or its
 /// answer; else the verdict of `check`.
@@ -46,6 +42,7 @@ pub fn run<R: Threads + Wait + Sync, F: Files, G: Gate>(
     ensures grows { (other : List ℕ) → F.faults files.old other ≤ F.faults files.new other }
     ensures verdict { IfOk result (λ v. IsVerdictOnRequest (F.contents files.old) (F.faults files.old) (F.faults files.new) (asked.Run jdf.now tiles.now settings) (denoted v)) }
     ensures fit { IfOk result (λ v. HasFittingJob (denoted v)) }
+    ensures ran { IfOk result (λ v. IsOfRun settings v) }
 {
     let checked = check(host.alloc, jdf, tiles, files)?;
     match consistent_job(checked) {
@@ -67,15 +64,7 @@ fn consistent_job(checked: Verdict) -> Result<(Matched, Given), Verdict>
     }
 }
 
-// Whether a preload is asked for that is too large.
-fn is_too_large(matched: &Matched, settings: Settings) -> bool
-    requires { settings.workers ≤ 64 }
-    ensures { result ≡ is_too_large settings matched.now }
-{
-    settings.preload && preload_bytes(matched, settings.workers) > PRELOAD_LIMIT
-}
-
-// The answer of a job, run by one thread, unless its preload is too large.
+// The answer of a job, run by the workers of a table, unless its preload is too large.
 fn answered<R: Threads + Wait + Sync, G: Gate>(
     host: &Host<R, G>,
     matched: Matched,
@@ -86,10 +75,15 @@ fn answered<R: Threads + Wait + Sync, G: Gate>(
     requires counts { AreCounts settings.workers settings.shards }
     ensures answer { IfOk result (λ v. IsAnswer settings matched given (denoted v)) }
     ensures fit { IfOk result (λ v. HasFittingJob (denoted v)) }
+    ensures ran { IfOk result (λ v. IsOfRun settings v) }
 {
-    if is_too_large(&matched, settings) {
-        return Ok(Verdict::Preload);
+    match prepare(host.alloc, matched, given, settings) {
+        Ok(prepared) => {
+            let closed = run_prepared(host.rt, prepared, host.gate)?;
+            let (outcome, receipt) = closed.outcome()?;
+            Ok(Verdict::Answered(RanBy::Table(receipt), outcome))
+        }
+        Err(PrepareFault::PreloadTooLarge(_bytes)) => Ok(Verdict::Preload),
+        Err(PrepareFault::OutOfMemory) => Err(OutOfMemory),
     }
-    let outcome = run_one(host.alloc, &matched, given)?;
-    Ok(Verdict::Answered(RanBy::OneThread(matched), outcome))
 }

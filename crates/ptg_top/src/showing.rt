@@ -1,12 +1,13 @@
 //! A JDF file and its canonical spelling.
 
-ghost use Rattle.std.specs.Prelude.{◌≡◌, ◌≤◌, ℕ, List, IfOk};
+ghost use Rattle.std.specs.Prelude.{◌≡◌, ◌≤◌, ℕ, List, IfOk, None};
 ghost use Rattle.std.specs.Str.{IsUtf8};
 ghost use Rattle.ptg_top.specs.declared.request.Request.TheVariants as asked;
 ghost use Rattle.ptg_top.specs.Denotation.{denoted};
 ghost use Rattle.ptg_top.specs.JobFiles.{HasFittingJob};
 ghost use Rattle.ptg_top.specs.Meaning.{Shows};
 ghost use Rattle.ptg_top.specs.Reports.{IsOfTexts, IsVerdictOnRequest};
+ghost use Rattle.ptg_top.specs.Receipts.{receipt_of};
 
 use crate::reading::{name_of, unread};
 use crate::verdict::Verdict;
@@ -24,6 +25,7 @@ pub fn show<F: Files>(alloc: Global, jdf: &Text, files: &mut F) -> Result<Verdic
     ensures grows { (other : List ℕ) → F.faults files.old other ≤ F.faults files.new other }
     ensures verdict { IfOk result (λ v. IsVerdictOnRequest (F.contents files.old) (F.faults files.old) (F.faults files.new) (asked.Show jdf.now) (denoted v)) }
     ensures fit { IfOk result (λ v. HasFittingJob (denoted v)) }
+    ensures not_run { IfOk result (λ v. receipt_of v ≡ None) }
 {
     match load(alloc, files, name_of(jdf)) {
         Ok(text) => shown(alloc, text.as_slice()),
@@ -38,6 +40,7 @@ fn shown(alloc: Global, text: &[u8]) -> Result<Verdict, OutOfMemory>
     ensures shows { IfOk result (λ v. Shows text.now (denoted v)) }
     ensures of_texts { IfOk result (λ v. IsOfTexts (denoted v)) }
     ensures fit { IfOk result (λ v. HasFittingJob (denoted v)) }
+    ensures not_run { IfOk result (λ v. receipt_of v ≡ None) }
 {
     match tree_of(alloc, text) {
         Ok(tree) => {

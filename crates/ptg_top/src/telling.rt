@@ -7,11 +7,13 @@ ghost use Rattle.report_text.specs.Puts.{HasPrefix};
 ghost use Rattle.ptg_top.specs.Denotation.{denoted};
 ghost use Rattle.ptg_top.specs.JobFiles.{HasFittingJob};
 ghost use Rattle.ptg_top.specs.Headline.{text_of, status_of};
+ghost use Rattle.ptg_top.specs.Receipts.{receipt_of};
 
 use crate::answer_telling::{status_of_outcome, tell_answer};
 use crate::job_telling::{status_of_job, tell_job};
 use crate::status::Status;
-use crate::verdict::Verdict;
+use crate::verdict::{RanBy, Verdict};
+use dep_table::receipt::Receipt;
 use ptg_base::Text;
 use ptg_io::{Failed, Sink, write_all};
 use report_text::{Line, refusal};
@@ -55,5 +57,17 @@ pub fn status(verdict: &Verdict) -> Status
         Verdict::Answered(_, outcome) => status_of_outcome(outcome),
         Verdict::Spelling(_) => Status::Complete,
         Verdict::Preload => Status::PreloadTooLarge,
+    }
+}
+
+/// The receipt of a verdict that was printed, if its job was run.
+pub fn receipt(verdict: Verdict) -> Option<Receipt>
+    ensures { result ≡ receipt_of verdict }
+{
+    match verdict {
+        Verdict::Answered(by, _outcome) => match by {
+            RanBy::Table(receipt) => Some(receipt),
+        },
+        _ => None,
     }
 }

@@ -1,6 +1,6 @@
 //! The verdict: what a run comes to, before it is printed.
 
-use dep_iter::Matched;
+use dep_table::receipt::Receipt;
 use flow_meaning::Outcome;
 use job_stages::JobVerdict;
 use ptg_base::Text;
@@ -25,6 +25,6 @@ pub enum Verdict {
 /// By whom a job was run. It has the job.
 #[derive(Drop)]
 pub enum RanBy {
-    /// By one thread.
-    OneThread(Matched),
+    /// By the workers of a table, whose receipt this is.
+    Table(Receipt),
 }

@@ -2,6 +2,7 @@ use Rattle.std.proofs.Common.{ap, sym, ◌∙◌, inl}
 use Rattle.ptg_io.specs.Sink.{appended}
 use Rattle.ptg_top.specs.Denotation.{denoted}
 use Rattle.ptg_top.proofs.Ending.{exact_prints, complete_prints, usage_is_its_line, usage_is_no_order, no_order_is_usage, read_fault_names, no_write_fault}
+use Rattle.ptg_top.proofs.Receipts.{receipt_is_asked, no_receipt_no_answer, receipt_has_plan}
 use Rattle.ptg_top.proofs.program.ptg_main.Goals as goal
 
 -- a verdict that was printed whole is exact where its status is no fault's
@@ -56,3 +57,20 @@ returns-in-Ok-tell-clause-usage g c none =
     ∙ no_order_is_usage c.args.words.now (g.F.Files.contents c.args.files.now) (g.F.Files.faults c.args.files.now) (g.F.Files.faults c.judge.new.files)
     (denoted c.in-Ok.verdict) c.in-Ok.ensures.judged none
     )
+
+-- the receipt of an answer is the one that was asked for
+pub returns-in-Ok-tell-clause-receipt : goal.returns-in-Ok-tell-clause-receipt
+returns-in-Ok-tell-clause-receipt g c =
+    receipt_is_asked c.args.words.now (g.F.Files.contents c.args.files.now) (g.F.Files.faults c.args.files.now) (g.F.Files.faults c.judge.new.files)
+    c.in-Ok.verdict c.status.result c.receipt.result c.in-Ok.ensures.judged c.in-Ok.ensures.ran c.status.ensures c.receipt.ensures
+
+-- and a run without one has no answer
+pub returns-in-Ok-tell-clause-no_receipt : goal.returns-in-Ok-tell-clause-no_receipt
+returns-in-Ok-tell-clause-no_receipt g c =
+    no_receipt_no_answer c.args.words.now c.status.result c.in-Ok.verdict c.receipt.result c.in-Ok.ensures.ran c.status.ensures c.receipt.ensures
+
+-- its plan is that of the job that the files denote
+pub returns-in-Ok-tell-clause-of_job : goal.returns-in-Ok-tell-clause-of_job
+returns-in-Ok-tell-clause-of_job g c entries known =
+    receipt_has_plan c.args.words.now entries (g.F.Files.contents c.args.files.now) (g.F.Files.faults c.args.files.now) (g.F.Files.faults c.judge.new.files)
+    c.in-Ok.verdict c.receipt.result c.in-Ok.ensures.judged known c.receipt.ensures

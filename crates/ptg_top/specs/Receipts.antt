@@ -1,0 +1,69 @@
+-- When the program ends with a receipt of the table that ran its job, and what the receipt shows. Source: this project's own choice.
+use Rattle.std.specs.Prelude.{◌≡◌, ℕ, List, Option, Some, None}
+use Rattle.coll_data.specs.Data.{Data}
+use Rattle.plan_core.specs.declared.plan.Plan.{Plan}
+use Rattle.dep_table.specs.Receipts.{ReceiptView}
+use Rattle.ptg_words.specs.declared.order.Order.{Order}
+use Rattle.ptg_words.specs.declared.order.Order.TheVariants as order
+use Rattle.ptg_words.specs.Words.{Orders}
+use Rattle.job_stages.specs.declared.verdict.JobVerdict.TheVariants as jobs
+use Rattle.run_pool.specs.declared.settings.Settings.{Settings}
+use Rattle.ptg_top.specs.declared.request.Request.{Request}
+use Rattle.ptg_top.specs.declared.request.Request.TheVariants.{Run}
+use Rattle.ptg_top.specs.declared.status.Status.{Status}
+use Rattle.ptg_top.specs.declared.status.Status.TheVariants as status
+use Rattle.ptg_top.specs.declared.verdict.RanBy.TheVariants.{Table}
+use Rattle.ptg_top.specs.declared.verdict.Verdict.{Verdict}
+use Rattle.ptg_top.specs.declared.verdict.Verdict.TheVariants.{Answered}
+use Rattle.ptg_top.specs.Denotation as verdicts
+use Rattle.ptg_top.specs.Denotation.{denoted}
+use Rattle.ptg_top.specs.JobFiles.{Entries, FilesDenote}
+use Rattle.ptg_top.specs.Headline.{status_of}
+use Rattle.ptg_top.specs.Requests.{Requests}
+
+-- the command runs a job
+abbrev pub IsRun : Order → Type 0
+IsRun (order.Run jdf tiles workers shards preload) = Unit {0}
+IsRun o = ⊥
+
+-- The receipt is of a table with as many shards as the command says, a pass for each of its workers, and a preload if it asks for one.
+abbrev pub IsReceiptFor : Order → ReceiptView → Type 0
+IsReceiptFor (order.Run jdf tiles workers shards preload) r = (r.shards ≡ shards) × (r.passes ≡ workers) × (r.preloaded ≡ preload)
+IsReceiptFor o r = ⊥
+
+-- the status of a job's answer
+abbrev pub IsAnswerStatus : Status → Type 0
+IsAnswerStatus status.Complete = Unit {0}
+IsAnswerStatus status.Trapped = Unit {0}
+IsAnswerStatus status.Stalled = Unit {0}
+IsAnswerStatus s = ⊥
+
+-- the files that the command names denote a consistent job with this plan
+abbrev pub FindsPlan : Entries → Order → Plan → Type 0
+FindsPlan files (order.Run jdf tiles workers shards preload) P = (given : Data) × FilesDenote files jdf tiles (verdicts.Job (jobs.Consistent P given))
+FindsPlan files o P = ⊥
+
+-- the arguments form a command, and the files that it names denote a consistent job with this plan
+abbrev pub HasConsistentPlan : List (List ℕ) → Entries → Plan → Type 0
+HasConsistentPlan words files P = (o : Order) × Orders words o × FindsPlan files o P
+
+-- ---- of verdicts
+
+-- the receipt of the table that ran the job of a verdict
+abbrev pub receipt_of : Verdict → Option ReceiptView
+receipt_of (Answered (Table receipt) outcome) = Some receipt
+receipt_of v = None
+
+-- A verdict on a run with these settings: an answer by a table with these settings, or one without the status of an answer.
+abbrev pub IsOfRun : Settings → Verdict → Type 0
+IsOfRun settings (Answered (Table r) outcome) = (r.shards ≡ settings.shards) × (r.passes ≡ settings.workers) × (r.preloaded ≡ settings.preload)
+IsOfRun settings v = IsAnswerStatus (status_of (denoted v)) → ⊥
+
+-- A verdict on what is asked: on a run with its settings, or without a receipt.
+abbrev pub IsRunAsAsked : Request → Verdict → Type 0
+IsRunAsAsked (Run jdf tiles settings) v = IsOfRun settings v
+IsRunAsAsked request v = receipt_of v ≡ None
+
+-- the same, of what the arguments ask
+abbrev pub IsRunAsOrdered : List (List ℕ) → Verdict → Type 0
+IsRunAsOrdered words v = (request : Request) → Requests words request → IsRunAsAsked request v
