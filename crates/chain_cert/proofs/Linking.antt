@@ -1,8 +1,8 @@
 -- What chains and cycles are like.
-use Rattle.std.proofs.Common.{◌≡◌, ℕ, zero, suc, ◌<◌, ◌≤◌, ◌↔◌, Bool, true, false, cond, List, [], ◌∷◌, ◌++◌, length, map, refl, ap, sym, ◌∙◌, subst, ◌⊎◌, inl, inr, IsTrue, Option, None, arith}
+use Rattle.std.proofs.Common.{◌≡◌, ℕ, zero, suc, ◌↔◌, Bool, true, false, cond, List, [], ◌∷◌, ◌++◌, length, refl, ap, sym, ◌∙◌, subst, inl, inr, IsTrue, Option, None, arith}
 use Rattle.std.proofs.lemmas.Bool.{false≢true, false_from_ne_true}
 use Rattle.std.specs.Prelude.{◌||◌}
-use Rattle.std.specs.List.{list_all, list_any}
+use Rattle.std.specs.List.{list_any}
 use Rattle.ptg_base.specs.Lists.{HasNoRepeats, IsIn}
 use Rattle.ptg_base.specs.Task.{Task}
 use Rattle.ptg_base.specs.TaskComparing.{same_task}
@@ -13,12 +13,12 @@ use Rattle.coll_data.specs.Data.{Data}
 use Rattle.range_space.proofs.MemberLists.{IsIn-append_right, from_map}
 use Rattle.range_space.proofs.Stepping.{by_test}
 use Rattle.dep_iter.specs.Tasks.{IsTask, all_tasks}
-use Rattle.dep_iter.specs.Edges.{in_edges, sources}
+use Rattle.dep_iter.specs.Edges.{in_edges}
 use Rattle.flow_meaning.specs.Ending.{Ended, has_outputs, ended_on}
-use Rattle.flow_meaning.specs.Backward.{ended, ended_after, ended_within, has_all_sources, source_tile}
+use Rattle.flow_meaning.specs.Backward.{ended, ended_within, has_all_sources, source_tile}
 use Rattle.flow_meaning.proofs.Members.{all_at}
-use Rattle.chain_cert.specs.Chains.{BeginsWith, EndsWith, IsChain, IsCycle, IsSourceOf, MayComeBefore}
-use Rattle.chain_cert.specs.Checking.{IsLinked, LeadsTo}
+use Rattle.chain_cert.specs.Chains.{BeginsWith, IsChain, IsCycle, IsSourceOf}
+use Rattle.chain_cert.specs.Checking.{IsLinked}
 
 -- a chain, from its first task and the others
 pub linked_then : (P : Plan) (t : Task) (ts : List Task) → IsLinked P (t ∷ ts) → IsChain P ts → IsChain P (t ∷ ts)

@@ -1,5 +1,5 @@
 -- What is found among rows in task order by halves.
-use Rattle.std.proofs.Common.{◌≡◌, ℕ, ◌<◌, IsTrue, slice_index_or, add-one, Option, Some, None, MatchOption, zero, suc, take, drop, length, append_assoc, arith, ◌+◌, ◌≤◌, ◌↔◌, true, List, [], ◌∷◌, ◌++◌, map, refl, ap, sym, ◌∙◌, subst, ◌⊎◌, inl, inr}
+use Rattle.std.proofs.Common.{◌≡◌, ℕ, ◌<◌, IsTrue, slice_index_or, add-one, Option, Some, None, MatchOption, zero, suc, take, drop, length, append_assoc, arith, ◌+◌, ◌↔◌, true, List, [], ◌∷◌, ◌++◌, refl, ap, sym, ◌∙◌, subst, inl, inr}
 use Rattle.std.specs.Prelude.{nat_le}
 use Rattle.std.proofs.lemmas.Bool.{leb-true, le-leb}
 use Rattle.std.proofs.lemmas.List.{append-nil}
@@ -12,7 +12,7 @@ use Rattle.plan_core.specs.declared.plan.Plan.{Plan}
 use Rattle.dep_iter.specs.Edges.{in_edges}
 use Rattle.chain_cert.specs.Chains.{IsSourceOf}
 use Rattle.chain_cert.specs.Checking.{IsAboveSource, IsRising, tasks_of}
-use Rattle.chain_cert.proofs.TaskSorting.{before_then, not_both, not_itself}
+use Rattle.chain_cert.proofs.TaskSorting.{not_both, not_itself}
 
 row_task : (t : Task) (k : ℕ) (rows : List (Task × ℕ)) → IsIn (t, k) rows → IsIn t (tasks_of rows)
 row_task t k rows i = IsIn-map (λ (row : Task × ℕ). row.0) rows (t, k) i

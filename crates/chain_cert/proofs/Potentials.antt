@@ -1,5 +1,5 @@
 -- Levels that are high enough bound the weights of all chains.
-use Rattle.std.proofs.Common.{◌≡◌, ℕ, nat_eq, Bool, false, IsTrue, ◌+◌, ◌≤◌, ◌↔◌, List, [], ◌∷◌, map, max, refl, ap, sym, ◌∙◌, subst, ◌⊎◌, inl, inr, arith}
+use Rattle.std.proofs.Common.{◌≡◌, ℕ, nat_eq, Bool, false, IsTrue, ◌+◌, ◌≤◌, ◌↔◌, List, [], ◌∷◌, ap, sym, ◌∙◌, subst, inl, inr, arith}
 use Rattle.std.proofs.lemmas.Bool.{eq-eqb, eqb-true, false≢true}
 use Rattle.ptg_base.specs.Lists.{IsIn}
 use Rattle.ptg_base.specs.Task.{Task}
@@ -7,10 +7,10 @@ use Rattle.plan_core.specs.declared.plan.Plan.{Plan}
 use Rattle.range_space.proofs.MemberLists.{from_map}
 use Rattle.dep_iter.specs.Tasks.{IsTask}
 use Rattle.chain_cert.specs.Certificates.{HasTasksInOrder}
-use Rattle.chain_cert.specs.Chains.{IsChain, IsSourceOf}
+use Rattle.chain_cert.specs.Chains.{IsChain}
 use Rattle.chain_cert.specs.Weights.{chain_weight, weight}
 use Rattle.chain_cert.specs.Checked.{ShowsHeaviest, greatest_level}
-use Rattle.chain_cert.specs.Checking.{AreHighEnough, IsHighEnough, tasks_of}
+use Rattle.chain_cert.specs.Checking.{AreHighEnough}
 use Rattle.chain_cert.proofs.TaskSorting.{order_task}
 
 -- no row has more than the greatest level

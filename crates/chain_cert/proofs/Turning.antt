@@ -5,12 +5,12 @@ use Rattle.ptg_base.specs.Lists.{HasNoRepeats, IsIn}
 use Rattle.ptg_base.specs.Task.{Task}
 use Rattle.ptg_base.specs.declared.edge.Edge.{Edge}
 use Rattle.plan_core.specs.declared.plan.Plan.{Plan}
-use Rattle.range_space.proofs.MemberLists.{IsIn-append_left, IsIn-append_right, from_append, from_map}
+use Rattle.range_space.proofs.MemberLists.{from_map}
 use Rattle.dep_iter.specs.Tasks.{IsTask}
 use Rattle.dep_iter.specs.Edges.{in_edges}
 use Rattle.dep_iter.specs.Consistent.{IsConsistent}
-use Rattle.task_order.proofs.Lists.{once_both, once_right}
-use Rattle.chain_cert.specs.Chains.{BeginsWith, EndsWith, IsChain, IsCycle, IsSourceOf, MayComeBefore}
+use Rattle.task_order.proofs.Lists.{once_right}
+use Rattle.chain_cert.specs.Chains.{BeginsWith, IsChain, IsCycle, IsSourceOf}
 use Rattle.chain_cert.specs.Printed.{IsPrintedCycle, IsWalkBack, IsWalkedBack}
 
 -- a list turned round, one element after another

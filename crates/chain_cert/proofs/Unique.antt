@@ -1,17 +1,16 @@
 -- A job and its weights have one certificate.
-use Rattle.std.proofs.Common.{◌≡◌, ℕ, ◌+◌, ◌≤◌, ◌↔◌, true, false, List, [], ◌∷◌, ◌++◌, map, reverse, refl, ap, sym, ◌∙◌, subst, append_assoc, ◌⊎◌, inl, inr, arith}
+use Rattle.std.proofs.Common.{◌≡◌, ℕ, List, [], ◌∷◌, ◌++◌, reverse, refl, ap, sym, ◌∙◌, subst, append_assoc, ◌⊎◌, inl, inr, arith}
 use Rattle.std.proofs.lemmas.Bool.{false≢true}
 use Rattle.std.proofs.lemmas.List.{append-nil}
 use Rattle.ptg_base.specs.Lists.{HasNoRepeats, IsIn}
 use Rattle.ptg_base.specs.Task.{Task}
-use Rattle.ptg_base.specs.TaskOrder.{task_before}
 use Rattle.plan_core.specs.declared.plan.Plan.{Plan}
 use Rattle.coll_data.specs.Data.{Data}
-use Rattle.range_space.proofs.MemberLists.{IsIn-append_left, IsIn-append_right}
+use Rattle.range_space.proofs.MemberLists.{IsIn-append_right}
 use Rattle.dep_iter.specs.Tasks.{IsTask, all_tasks}
 use Rattle.dep_iter.specs.Consistent.{IsConsistent}
 use Rattle.dep_iter.proofs.Listing.{listed}
-use Rattle.flow_meaning.specs.Answer.{ran, trapped}
+use Rattle.flow_meaning.specs.Answer.{ran}
 use Rattle.task_order.proofs.Lists.{apart}
 use Rattle.chain_cert.specs.declared.certificate.Certificate.{Certificate}
 use Rattle.chain_cert.specs.declared.certificate.Certificate.TheVariants.{Chain, Cycle, Trapped}
@@ -19,7 +18,6 @@ use Rattle.chain_cert.specs.Certificates.{AreLevels, IsCertificate}
 use Rattle.chain_cert.specs.Checking.{tasks_of}
 use Rattle.chain_cert.specs.Levels.{IsLevel}
 use Rattle.chain_cert.specs.Printed.{IsChainBack, IsHeaviestSource, HasGreatestLevel, IsLeast, IsPrintedChain, IsPrintedCycle, IsSourceLeft, IsTaskLeft, IsTracedBack, IsWalkBack, IsWalkedBack}
-use Rattle.chain_cert.specs.Weights.{chain_weight}
 use Rattle.chain_cert.proofs.TaskSorting.{Before, Same, After, ordered}
 use Rattle.chain_cert.proofs.Turning.{printed_is_cycle}
 

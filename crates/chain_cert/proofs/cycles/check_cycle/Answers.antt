@@ -1,10 +1,9 @@
-use Rattle.std.proofs.Common.{◌↔◌, List, sym, ◌∙◌, subst, IsTrue}
+use Rattle.std.proofs.Common.{◌↔◌, sym, ◌∙◌, subst, IsTrue}
 use Rattle.std.proofs.lemmas.Bool.{false≢true}
 use Rattle.plan_core.specs.declared.plan.Plan.{Plan}
-use Rattle.ptg_base.specs.Lists.{HasNoRepeats}
 use Rattle.dep_iter.specs.Tasks.{IsTask}
 use Rattle.chain_cert.specs.Chains.{IsChain, IsSourceOf}
-use Rattle.chain_cert.proofs.Linking.{by_once, never_ends, no_chain, no_link, no_task}
+use Rattle.chain_cert.proofs.Linking.{by_once, never_ends, no_chain, no_link}
 use Rattle.chain_cert.proofs.cycles.check_cycle.Goals as goal
 
 pub returns-then-not-is_link-clause-exact : goal.returns-then-not-is_link-clause-exact

@@ -1,4 +1,4 @@
-use Rattle.std.proofs.Common.{◌≡◌, ◌↔◌, nat_eq, List, sym, ◌∙◌, subst, IsTrue}
+use Rattle.std.proofs.Common.{◌≡◌, ◌↔◌, nat_eq, sym, ◌∙◌, subst, IsTrue}
 use Rattle.std.proofs.lemmas.Bool.{false≢true}
 use Rattle.plan_core.specs.declared.plan.Plan.{Plan}
 use Rattle.chain_cert.specs.Chains.{IsChain}

@@ -1,4 +1,4 @@
-use Rattle.std.proofs.Common.{◌≡◌, ℕ, ◌↔◌, ◌/◌, length, ◌++◌, ◌∷◌, ap, sym, ◌∙◌, subst, refl, arith}
+use Rattle.std.proofs.Common.{◌≡◌, ◌↔◌, ◌/◌, length, ◌++◌, ◌∷◌, sym, subst, refl, arith}
 use Rattle.ptg_base.specs.Lists.{IsIn}
 use Rattle.chain_cert.specs.Checking.{IsRising, tasks_of}
 use Rattle.chain_cert.proofs.Lookups.{LevelIs, at_row, left_of, level_moves, right_of, rising_left, rising_right, split_rows}

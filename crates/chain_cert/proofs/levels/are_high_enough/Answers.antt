@@ -1,4 +1,4 @@
-use Rattle.std.proofs.Common.{ℕ, ◌≤◌, ◌↔◌, ◌∷◌, [], length, take, refl, sym, ◌∙◌, subst, ◌⊎◌, inl, inr, IsTrue, arith}
+use Rattle.std.proofs.Common.{ℕ, ◌≤◌, ◌↔◌, ◌∷◌, [], length, take, refl, sym, ◌∙◌, subst, inl, inr, IsTrue, arith}
 use Rattle.std.proofs.lemmas.Bool.{false≢true}
 use Rattle.ptg_base.specs.Lists.{IsIn}
 use Rattle.ptg_base.specs.Task.{Task}

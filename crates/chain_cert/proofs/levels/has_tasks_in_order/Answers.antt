@@ -1,4 +1,4 @@
-use Rattle.std.proofs.Common.{◌≡◌, ◌↔◌, length, sym, subst, IsTrue, arith}
+use Rattle.std.proofs.Common.{◌≡◌, ◌↔◌, length, subst, IsTrue, arith}
 use Rattle.plan_core.specs.declared.plan.Plan.{Plan}
 use Rattle.dep_iter.specs.Tasks.{all_tasks}
 use Rattle.chain_cert.specs.Checking.{AreInPlace, tasks_of}

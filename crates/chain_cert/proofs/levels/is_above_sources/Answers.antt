@@ -1,4 +1,4 @@
-use Rattle.std.proofs.Common.{◌∷◌, refl, sym, ◌∙◌, subst}
+use Rattle.std.proofs.Common.{refl, sym, ◌∙◌, subst}
 use Rattle.std.proofs.lemmas.Bool.{false≢true}
 use Rattle.chain_cert.proofs.Lookups.{AboveSoFar, above_end, above_next, above_source}
 use Rattle.chain_cert.proofs.levels.is_above_sources.Goals as goal
