@@ -12,9 +12,8 @@ class Verb:
     operands: dict
     numbers: tuple = ()
     flags: tuple = ()
-    # whether it is carried out, and which of its flags are not
+    # whether it is carried out
     carried_out: bool = True
-    later: tuple = ()
 
     def options(self):
         return [name for name, _ in self.numbers] + list(self.flags)
@@ -26,7 +25,7 @@ class Verb:
 
 FILE = None
 VERBS = {
-    "run": Verb("runs a job on its data", {"JDF": FILE, "DATA": FILE}, (WORKERS, SHARDS), ("--preload",), later=("--preload",)),
+    "run": Verb("runs a job on its data", {"JDF": FILE, "DATA": FILE}, (WORKERS, SHARDS), ("--preload",)),
     "check": Verb("checks that a job is consistent, and counts its tasks, edges and write-backs", {"JDF": FILE, "DATA": FILE}),
     "show": Verb("prints the canonical spelling of a JDF", {"JDF": FILE}),
     "demo": Verb("runs a made job of N rows of tiles, N from 1 to 96", {"N": (1, 96)}, carried_out=False),
@@ -111,8 +110,7 @@ def judge(it, verb):
         wanted = zip(it.operands, verb.operands.values())
         it.wrong += [f"`{shown(text)}` is no number from {kind[0]} to {kind[1]}" for text, kind in wanted if kind is not FILE and not is_number(text, *kind)]
     if not it.wrong:
-        later = [it.verb] * (not verb.carried_out) + [name for name, _ in it.options if name in verb.later]
-        it.wrong += [f"`{name}` is read and checked, and not carried out yet" for name in later]
+        it.wrong += [f"`{it.verb}` is read and checked, and not carried out yet"] * (not verb.carried_out)
 
 
 def is_improper(word):
