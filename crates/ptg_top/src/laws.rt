@@ -20,8 +20,8 @@ pub fn some_meaning()
     words_give_one_order();
 }
 
-/// A law: the numbers of workers and of shards change nothing in what arguments and files denote, but for whether a preload is too
-/// large, where that is asked for: and there the shards change nothing.
+/// A law: the number of shards changes nothing in what arguments and files denote. Without a preload the number of workers does not
+/// either.
 pub fn settings_change_nothing_else()
     ensures shards { ShardsChangeNothing }
     ensures workers { WorkersChangeNothing }

@@ -35,7 +35,7 @@ impl Model for Prepared {
 }
 
 impl Prepared {
-    /// Whether all memory was taken, so that the run asks for none.
+    /// Whether a preload was asked for: then the run never wants memory.
     pub fn preloaded(&self) -> bool
         ensures { result ≡ self.now.job.preloaded }
     {

@@ -1,4 +1,4 @@
-//! What is made ready before a run: all memory that it needs is taken here.
+//! What is made ready before a run: with a preload, all memory whose refusal could end it.
 
 ghost use Rattle.std.specs.Prelude.{◌≡◌, ◌↔◌, ℕ, Err, IfOk, MatchOption};
 ghost use Rattle.plan_data.specs.Fit.{DataFit};
