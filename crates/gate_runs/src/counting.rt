@@ -41,11 +41,14 @@ fn digit(params: &[i64], at: usize) -> usize {
     }
 }
 
-// The number of a task.
+// The number of a task: its class and its digits, each below 4.
 fn number_of(task: &TaskId) -> usize {
     let params = task.params();
-    let class = (task.class() % 4) as usize;
-    ((class * 4 + digit(params, 0)) * 4 + digit(params, 1)) * 4 + digit(params, 2)
+    let mut number = (task.class() % 4) as usize;
+    for at in 0..3 {
+        number = number.wrapping_mul(4).wrapping_add(digit(params, at));
+    }
+    number
 }
 
 impl Counting {
@@ -63,12 +66,12 @@ impl Counting {
 
     /// What was counted.
     pub fn counts(&self) -> Counts {
-        let mut once = 0;
+        let mut once: u64 = 0;
         let mut beside = self.others.load(Ordering::SeqCst);
         for count in &self.bodies {
             match count.load(Ordering::SeqCst) {
                 0 => {}
-                1 => once += 1,
+                1 => once = once.saturating_add(1),
                 more => beside = beside.saturating_add(more),
             }
         }

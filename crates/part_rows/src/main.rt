@@ -11,6 +11,8 @@ use ptg_io::File;
 use row_files::{Call, Order, Printed, Why, all_as_wanted};
 use std::alloc::Global;
 use std::process::ExitCode;
+use std::sync::Wait;
+use std::thread::Threads;
 
 fn main(rt: HostRuntime) -> ExitCode {
     match all_as_wanted(&rt, &Parts) {
@@ -23,7 +25,12 @@ fn main(rt: HostRuntime) -> ExitCode {
 struct Parts;
 
 impl Call for Parts {
-    fn printed(&self, alloc: Global, order: Order) -> Result<Printed, Why> {
+    fn printed<R: Threads + Wait + Sync>(
+        &self,
+        _rt: &R,
+        alloc: Global,
+        order: Order,
+    ) -> Result<Printed, Why> {
         let files = order.files.as_slice();
         let [word, words @ ..] = order.words.as_slice() else {
             return Err(Why("no word that says what is called"));

@@ -36,27 +36,25 @@ fn main(rt: HostRuntime) -> ExitCode {
 fn all_ways<R: Print + Files + Env + Threads + Wait + Sync + AllocGlobal>(
     rt: &R,
 ) -> io::Result<bool> {
-    let at_large = all_as_wanted(rt, &Program { rt, settings: &[] })?;
-    let by_bytes = all_as_wanted(rt, &ProgramByBytes { rt, settings: &ONE })?;
-    let by_many = all_as_wanted(
-        rt,
-        &Program {
-            rt,
-            settings: &MANY,
-        },
-    )?;
+    let at_large = all_as_wanted(rt, &Program { settings: &[] })?;
+    let by_bytes = all_as_wanted(rt, &ProgramByBytes { settings: &ONE })?;
+    let by_many = all_as_wanted(rt, &Program { settings: &MANY })?;
     Ok(at_large && by_bytes && by_many)
 }
 
 // The program over files and output in memory, with settings for the rows that have none.
 #[derive(Drop)]
-struct Program<'a, R> {
-    rt: &'a R,
+struct Program<'a> {
     settings: &'a [&'static str],
 }
 
-impl<'a, R: Threads + Wait + Sync> Call for Program<'a, R> {
-    fn printed(&self, alloc: Global, order: Order) -> Result<Printed, Why> {
+impl<'a> Call for Program<'a> {
+    fn printed<R: Threads + Wait + Sync>(
+        &self,
+        rt: &R,
+        alloc: Global,
+        order: Order,
+    ) -> Result<Printed, Why> {
         let Order {
             files,
             words,
@@ -66,14 +64,7 @@ impl<'a, R: Threads + Wait + Sync> Call for Program<'a, R> {
         let words = with_settings(alloc, words, self.settings)?;
         let mut files = MemFiles::new(alloc, Seq::of(files), Seq::of(failing_reads))?;
         let mut out = MemSink::new(alloc, Seq::of(failing_writes));
-        let ended = ptg_main(
-            self.rt,
-            alloc,
-            words.as_slice(),
-            &mut files,
-            &mut out,
-            &Always,
-        );
+        let ended = ptg_main(rt, alloc, words.as_slice(), &mut files, &mut out, &Always);
         Ok(Printed {
             text: out.bytes().to_vec(alloc)?,
             status: ended.status.code(),
@@ -83,33 +74,29 @@ impl<'a, R: Threads + Wait + Sync> Call for Program<'a, R> {
 
 // The same, byte by byte. A row in which a call fails is tried as before, since it numbers the calls of the program at large.
 #[derive(Drop)]
-struct ProgramByBytes<'a, R> {
-    rt: &'a R,
+struct ProgramByBytes<'a> {
     settings: &'a [&'static str],
 }
 
-impl<'a, R: Threads + Wait + Sync> Call for ProgramByBytes<'a, R> {
-    fn printed(&self, alloc: Global, order: Order) -> Result<Printed, Why> {
+impl<'a> Call for ProgramByBytes<'a> {
+    fn printed<R: Threads + Wait + Sync>(
+        &self,
+        rt: &R,
+        alloc: Global,
+        order: Order,
+    ) -> Result<Printed, Why> {
         if !order.failing_reads.is_empty() || !order.failing_writes.is_empty() {
             let at_large = Program {
-                rt: self.rt,
                 settings: self.settings,
             };
-            return at_large.printed(alloc, order);
+            return at_large.printed(rt, alloc, order);
         }
         let words = with_settings(alloc, order.words, self.settings)?;
         let files = MemFiles::new(alloc, Seq::of(order.files), Seq::new(alloc))?;
         let mut files = ByteFiles { files };
         let sink = MemSink::new(alloc, Seq::new(alloc));
         let mut out = ByteSink { sink };
-        let ended = ptg_main(
-            self.rt,
-            alloc,
-            words.as_slice(),
-            &mut files,
-            &mut out,
-            &Always,
-        );
+        let ended = ptg_main(rt, alloc, words.as_slice(), &mut files, &mut out, &Always);
         Ok(Printed {
             text: out.sink.bytes().to_vec(alloc)?,
             status: ended.status.code(),

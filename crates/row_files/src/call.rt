@@ -3,9 +3,16 @@
 use crate::why::Why;
 use crate::worked_row::{Order, Printed};
 use std::alloc::Global;
+use std::sync::Wait;
+use std::thread::Threads;
 
 /// What a row calls with its words and files.
 pub trait Call {
-    /// What the call that a row orders prints, and its status.
-    fn printed(&self, alloc: Global, order: Order) -> Result<Printed, Why>;
+    /// What the call that a row orders prints, and its status. It may start threads, and wait.
+    fn printed<R: Threads + Wait + Sync>(
+        &self,
+        rt: &R,
+        alloc: Global,
+        order: Order,
+    ) -> Result<Printed, Why>;
 }

@@ -9,7 +9,8 @@ use std::io;
 /// Prints a line for each row that is not as wanted or can't be read, and counts.
 #[derive(Drop)]
 pub struct Report<'a, R: Print> {
-    rt: &'a R,
+    /// What rows are tried with.
+    pub rt: &'a R,
     /// What rows take their memory from.
     pub alloc: Global,
     /// How many rows came out as wanted.

@@ -8,6 +8,8 @@ use crate::why::Why;
 use crate::worked_row::WorkedRow;
 use std::alloc::Global;
 use std::rt::{Env, Files};
+use std::sync::Wait;
+use std::thread::Threads;
 use std::{env, fs, io};
 
 // What is read so far of a file.
@@ -23,7 +25,7 @@ struct Reading<'a> {
 
 /// Tries the rows of the files that the program's arguments name, and prints a line for each that came out otherwise, and
 /// at the end how many came out as wanted. Answers whether all did.
-pub fn all_as_wanted<R: Print + Files + Env + AllocGlobal, C: Call>(
+pub fn all_as_wanted<R: Print + Files + Env + AllocGlobal + Threads + Wait + Sync, C: Call>(
     rt: &R,
     call: &C,
 ) -> io::Result<bool> {
@@ -41,7 +43,7 @@ pub fn all_as_wanted<R: Print + Files + Env + AllocGlobal, C: Call>(
 }
 
 // Tries the rows of a file.
-fn try_rows<R: Print, C: Call>(
+fn try_rows<R: Print + Threads + Wait + Sync, C: Call>(
     report: &mut Report<'_, R>,
     call: &C,
     file: &str,
@@ -95,7 +97,7 @@ impl<'a> Reading<'a> {
     }
 
     // Tries the row that was read to its end, where there is one.
-    fn finish<R: Print, C: Call>(
+    fn finish<R: Print + Threads + Wait + Sync, C: Call>(
         &mut self,
         report: &mut Report<'_, R>,
         call: &C,
@@ -106,20 +108,21 @@ impl<'a> Reading<'a> {
         };
         let line = row.line;
         let name = row.name;
-        match tried(report.alloc, call, row, &self.all) {
+        match tried(report.rt, report.alloc, call, row, &self.all) {
             Ok(tried) => report.tried(file, line, name, &tried),
             Err(why) => report.unread(file, line, why),
         }
     }
 }
 
-fn tried<'a, C: Call>(
+fn tried<'a, R: Threads + Wait + Sync, C: Call>(
+    rt: &R,
     alloc: Global,
     call: &C,
     row: WorkedRow<'a>,
     all: &WorkedRow<'a>,
 ) -> Result<Tried, Why> {
     let (order, wanted) = row.order(alloc, all)?;
-    let came = call.printed(alloc, order)?;
+    let came = call.printed(rt, alloc, order)?;
     Ok(Tried { wanted, came })
 }
