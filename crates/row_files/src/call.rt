@@ -1,5 +1,7 @@
 //! What a program of rows calls.
 
+ghost use Rattle.std.specs.Thread.{IsSync};
+
 use crate::why::Why;
 use crate::worked_row::{Order, Printed};
 use std::alloc::Global;
@@ -14,5 +16,6 @@ pub trait Call {
         rt: &R,
         alloc: Global,
         order: Order,
-    ) -> Result<Printed, Why>;
+    ) -> Result<Printed, Why>
+        requires { IsSync R.row };
 }
