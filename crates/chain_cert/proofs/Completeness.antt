@@ -56,7 +56,7 @@ pub record Repeats (xs : List Task) : Type 0 where
   pub split : xs ≡ before ++ twice ∷ (between ++ twice ∷ after)
   pub once : HasNoRepeats (twice ∷ between)
 
-repeats_or_not : (xs : List Task) → HasNoRepeats xs ⊎ Repeats xs
+pub repeats_or_not : (xs : List Task) → HasNoRepeats xs ⊎ Repeats xs
 repeats_or_not [] = inl tt
 repeats_or_not (x ∷ xs) = elim (repeats_or_not xs) [
   | inr r ↦ inr (record { before = x ∷ r.before; twice = r.twice; between = r.between; after = r.after; split = ap (λ l. x ∷ l) r.split; once = r.once })
@@ -108,7 +108,7 @@ module _ (P : Plan) (con : IsConsistent P) where
   back_tasks t (s ∷ ss) job b u i = elim i [ inl e ↦ subst (IsTask P) (sym e) job | inr later ↦ back_tasks s ss (source_task P con s t job b.0) b.1 u later ]
 
   -- a walk back over more tasks than there are has a cycle
-  long_walk : (t : Task) (ss : List Task) → IsTask P t → IsBackFrom P con t ss → length (all_tasks P) ≤ length ss → (c : List Task) × IsCycle P c
+  pub long_walk : (t : Task) (ss : List Task) → IsTask P t → IsBackFrom P con t ss → length (all_tasks P) ≤ length ss → (c : List Task) × IsCycle P c
   long_walk t ss job b long = elim (repeats_or_not (t ∷ ss)) [
     | inl once ↦ let few = at_most (t ∷ ss) (all_tasks P) once (λ u i. (listed P u).0 (back_tasks t ss job b u i)) in absurd (omega (arith, few, long))
     | inr r ↦ loops t ss job b r

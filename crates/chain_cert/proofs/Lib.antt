@@ -6,3 +6,11 @@ pub mod Potentials
 pub mod Turning
 pub mod Unique
 pub mod Completeness
+pub mod TableLevels
+pub mod Leasts
+pub mod Tracing
+pub mod Whole
+pub mod WalkingBack
+pub mod Accepting
+pub mod Found
+pub mod Weighing

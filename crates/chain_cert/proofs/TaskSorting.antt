@@ -158,7 +158,7 @@ in_place P [] up job = tt
 in_place P (t ∷ ts) up job = ((job t (inl refl), before_first t ts up.0), in_place P ts up.1 (λ u i. job u (inr i)))
 
 module _ (P : Plan) where
-  all_once : HasNoRepeats (all_tasks P)
+  pub all_once : HasNoRepeats (all_tasks P)
   all_once = distinct_once (all_tasks P) (tasks_once P)
 
   pub sorted_task : (t : Task) → IsIn t (tasks_in_order P) ↔ IsTask P t

@@ -74,7 +74,7 @@ module _ (P : Plan) (ws : List ℕ) where
   levels_one xs ys a b = rows_one xs ys (a.tasks ∙ sym b.tasks) a.each b.each
 
 -- the last of a list, if it has one
-last_or_none : {A : Type 0} (xs : List A) → (xs ≡ []) ⊎ ((front : List A) × (x : A) × (xs ≡ front ++ x ∷ []))
+pub last_or_none : {A : Type 0} (xs : List A) → (xs ≡ []) ⊎ ((front : List A) × (x : A) × (xs ≡ front ++ x ∷ []))
 last_or_none [] = inl refl
 last_or_none (x ∷ xs) = elim (last_or_none xs) [
   | inl e ↦ inr ([], x, ap (λ l. x ∷ l) e)

@@ -6,3 +6,4 @@ pub mod Certificates
 pub mod Checked
 pub mod Checking
 pub mod Completing
+pub mod Finding

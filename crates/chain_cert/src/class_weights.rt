@@ -2,6 +2,7 @@
 
 ghost use Rattle.std.specs.Prelude.{◌≡◌, ◌++◌, IfOk, codes, map, take};
 ghost use Rattle.name_table.specs.Names.{value_named};
+ghost use Rattle.chain_cert.specs.Checking.{AreWeights};
 ghost use Rattle.chain_cert.specs.Weights as weighing;
 
 use coll_data::Given;
@@ -46,10 +47,11 @@ fn class_weight(alloc: Global, class: &ClassPlan, given: &Given) -> Result<u64, 
     }
 }
 
-/// The weights of the classes of a job, by number: the integer `weight_CLASS` of the data, whether the JDF declares it or not, from
-/// 0 to 1,000,000, and 1 where there is none.
+/// The weights of the classes of a job, by number: the integer `weight_CLASS` of the data, whether the JDF declares it or
+/// not, cut to 0 .. 1,000,000, and 1 where there is none.
 pub fn weights(alloc: Global, plan: &Plan, given: &Given) -> Result<Seq<u64>, OutOfMemory>
-    ensures { IfOk result (λ ws. ws ≡ weighing.class_weights plan.now given.now) }
+    ensures weights { IfOk result (λ ws. ws ≡ weighing.class_weights plan.now given.now) }
+    ensures bounded { IfOk result AreWeights }
 {
     let mut weights = Seq::new(alloc);
     for class in plan.classes.as_slice() {

@@ -40,8 +40,8 @@ fn are_different(tasks: &[TaskId]) -> bool
     true
 }
 
-/// Whether tasks are a cycle of the job: a chain of different tasks whose last is the source of an edge into its first. None of
-/// them ever ends. It takes no memory, and time according to the pairs of tasks.
+/// Whether tasks are a cycle of the job: a chain of different tasks whose last is the source of an edge into its first.
+/// None of them ever ends. It takes no memory, and time according to the pairs of tasks.
 pub fn check_cycle(m: &Matched, cycle: &[TaskId]) -> bool
     ensures exact { IsTrue result ↔ IsCycle m.now cycle.now }
     ensures dead { IsTrue result → (G : Data) (t : Task) → IsIn t cycle.now → ended m.now G t ≡ None }

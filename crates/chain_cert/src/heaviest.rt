@@ -1,6 +1,6 @@
 //! Whether levels show that no chain is heavier than a given one.
 
-ghost use Rattle.std.specs.Prelude.{◌≡◌, ◌≤◌, ◌↔◌, List, IsTrue, IfOk, length};
+ghost use Rattle.std.specs.Prelude.{◌≡◌, ◌≤◌, ◌↔◌, List, IsTrue, IfOk, IsOk};
 ghost use Rattle.ptg_base.specs.Task.{Task};
 ghost use Rattle.chain_cert.specs.Chains.{IsChain};
 ghost use Rattle.chain_cert.specs.Checked as checked;
@@ -36,15 +36,18 @@ fn greatest_level(rows: &[(TaskId, u64)]) -> u64
     greatest
 }
 
-/// Whether the levels show that no chain is heavier than this one: they are all tasks in task order, each level is at least the
-/// weight of its task and at least the level of each source and that weight, and the chain weighs the greatest level.
+/// Whether the levels show that no chain is heavier than this one: they are all tasks in task order, each level is at
+/// least the weight of its task and at least the level of each source and that weight, and the chain weighs the greatest
+/// level.
 pub fn check_chain(
     m: &Matched,
     weights: &[u64],
     chain: &[TaskId],
     levels: &[(TaskId, u64)],
 ) -> Result<bool, OutOfMemory>
-    requires { AreWeights weights.now × (length weights.now ≡ length m.now.classes) }
+    requires { AreWeights weights.now }
+    // It takes no memory.
+    ensures answers { IsOk result }
     ensures exact { IfOk result (λ shows. IsTrue shows ↔ ShowsHeaviest m.now weights.now chain.now levels.now) }
     ensures heaviest { IfOk result (λ shows. IsTrue shows → (ts : List Task) → IsChain m.now ts → weighing.chain_weight weights.now ts ≤ weighing.chain_weight weights.now chain.now) }
 {

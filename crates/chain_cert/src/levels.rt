@@ -16,7 +16,7 @@ use ptg_base::TaskId;
 use std::cmp::Ordering;
 
 // Whether a task is before another in task order.
-fn is_before(t: &TaskId, u: &TaskId) -> bool
+pub(crate) fn is_before(t: &TaskId, u: &TaskId) -> bool
     ensures { result ≡ task_before t.now u.now }
 {
     match t.cmp(u) {

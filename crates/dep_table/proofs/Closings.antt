@@ -7,6 +7,7 @@ use lib.ListN.{get_elem?}
 use Rattle.atomic_table.specs.Seated.{TableId}
 use Rattle.atomic_table.specs.Table.{Final, Seen}
 use Rattle.ptg_base.specs.Lists.{IsIn}
+use Rattle.ptg_base.specs.Task.{Task}
 use Rattle.range_space.proofs.MemberLists.{IsIn-append_left, IsIn-append_right, from_append}
 use Rattle.dep_iter.proofs.Joining.{map-append}
 use Rattle.dep_shard.specs.Content.{Content}
@@ -20,11 +21,13 @@ use Rattle.table_rule.specs.Plays.{HasName}
 use Rattle.table_rule.specs.Records.{joined, moment_of}
 use Rattle.table_rule.specs.Rule.{Rule, Share}
 use Rattle.table_rule.proofs.AllNames.{join_all, order_all}
-use Rattle.table_rule.proofs.Alone.{alone_free, alone_parts}
+use Rattle.table_rule.proofs.Alone.{alone_free, alone_parts, alone_stamps}
 use Rattle.dep_table.specs.Closing.{AreAllPasses, HaveNoWork, IsClosedAt, IsLastPass}
 use Rattle.dep_table.specs.Passes.{IsPassOf}
+use Rattle.dep_table.specs.StampOrders.{AreInStampOrder, IsClaimOrder, joined_stamps}
 use Rattle.dep_table.specs.Views.{PassView, shown}
 use Rattle.dep_table.proofs.Quiets.{calm_closed}
+use Rattle.dep_table.proofs.StampOrders.{stamp_order}
 
 -- two lists at the end, or the two as one
 joined_two : {A : Type 0} (f : PassRecord → List A) (l : List PassRecord) (v w b : PassRecord) → f b ≡ f v ++ f w → flat_map f ((l ++ v ∷ []) ++ w ∷ []) ≡ flat_map f (l ++ b ∷ [])
@@ -40,6 +43,19 @@ both_joined l v w = λ i. record {
   running = joined_two (λ (u : PassRecord). u.running) l v w (both v w) refl i;
 }
 
+-- each claim of a pass has a stamp
+abbrev HasStamps : PassRecord → Type 0
+HasStamps v = (t : Task) → IsIn t v.claims → (stamp : ℕ) × IsIn (t, stamp) v.stamps
+
+both_stamped : (v w : PassRecord) → HasStamps v → HasStamps w → HasStamps (both v w)
+both_stamped v w a b t i = elim (from_append t v.claims w.claims i) [
+  | inl one ↦ let s = a t one in (s.0, IsIn-append_left (t, s.0) v.stamps w.stamps s.1)
+  | inr other ↦ let s = b t other in (s.0, IsIn-append_right (t, s.0) v.stamps w.stamps s.1)
+]
+
+both_drew : (l : List PassRecord) (v w : PassRecord) → joined_stamps ((l ++ v ∷ []) ++ w ∷ []) ≡ joined_stamps (l ++ both v w ∷ [])
+both_drew l v w = joined_two (λ (u : PassRecord). u.stamps) l v w (both v w) refl
+
 one_joined : (v : PassRecord) → joined (v ∷ []) ≡ moment_of v
 one_joined v = λ i. record {
   state = record { claims = append-nil v.claims i; sends = append-nil v.sends i };
@@ -54,6 +70,8 @@ pub record IsJoinedSoFar (table : TableId) (ps left : List PassView) (last : Pas
   pub each : (p : PassView) → IsIn p left → IsPassOf table p
   pub all : AreAll (shown last ∷ map shown left)
   pub did : joined (map shown left ++ shown last ∷ []) ≡ joined (map shown ps)
+  pub drew : joined_stamps (map shown left ++ shown last ∷ []) ≡ joined_stamps (map shown ps)
+  pub stamped : HasStamps (shown last)
   pub quiet : (p : PassView) → IsIn p ps → (shown p).quiet ≡ true → IsIn p left ⊎ ((shown last).quiet ≡ true)
 
 pub has_one_name : (p : PassView) (table : TableId) → IsPassOf table p → HasName (shown p)
@@ -86,6 +104,8 @@ joined_first table ps left p is a =
       each = λ q i. a.each q (subst (IsIn q) (sym is) (IsIn-append_left q left (p ∷ []) i));
       all = order_all (map shown (left ++ p ∷ [])) (shown p ∷ map shown left) (last_first left p) (subst (λ l. AreAll (map shown l)) is a.all);
       did = ap joined (sym (map-append shown left (p ∷ []))) ∙ ap (λ l. joined (map shown l)) (sym is);
+      drew = ap joined_stamps (sym (map-append shown left (p ∷ []))) ∙ ap (λ l. joined_stamps (map shown l)) (sym is);
+      stamped = w.clean.clean.stamped;
       quiet = λ q i k. left_or_last q left p k (subst (IsIn q) is i);
     }
 
@@ -108,6 +128,10 @@ joined_next table ps before left p last new is of me a =
       did = ap (λ v. joined (map shown left ++ v ∷ [])) now
           ∙ (sym (both_joined (map shown left) (shown p) (shown last))
           ∙ (ap (λ l. joined (l ++ shown last ∷ [])) (sym (map-append shown left (p ∷ []))) ∙ (ap (λ l. joined (map shown l ++ shown last ∷ [])) (sym is) ∙ a.did)));
+      drew = ap (λ v. joined_stamps (map shown left ++ v ∷ [])) now
+          ∙ (sym (both_drew (map shown left) (shown p) (shown last))
+          ∙ (ap (λ l. joined_stamps (l ++ shown last ∷ [])) (sym (map-append shown left (p ∷ []))) ∙ (ap (λ l. joined_stamps (map shown l ++ shown last ∷ [])) (sym is) ∙ a.drew)));
+      stamped = subst HasStamps (sym now) (both_stamped (shown p) (shown last) w.clean.clean.stamped a.stamped);
       quiet = λ q i k. elim (a.quiet q i k) [
         | inl there ↦ elim (left_or_last q left p k (subst (IsIn q) is there)) [
           | inl still ↦ inl still
@@ -117,13 +141,15 @@ joined_next table ps before left p last new is of me a =
       ];
     }
 
-pub joined_all : (table : TableId) (ps left : List PassView) (last : PassView) → left ≡ [] → IsJoinedSoFar table ps left last → IsLastPass table last (joined (map shown ps))
+pub joined_all : (table : TableId) (ps left : List PassView) (last : PassView) → left ≡ [] → IsJoinedSoFar table ps left last → IsLastPass table last (joined (map shown ps)) (joined_stamps (map shown ps))
 joined_all table ps left last none a = record {
   of = a.of;
   no_shard = a.no_shard;
   no_turn = a.no_turn;
   all = subst (λ l. AreAll (shown last ∷ map shown l)) none a.all;
   did = sym (one_joined (shown last)) ∙ (ap (λ l. joined (map shown l ++ shown last ∷ [])) (sym none) ∙ a.did);
+  drew = sym (append-nil (shown last).stamps) ∙ (ap (λ l. joined_stamps (map shown l ++ shown last ∷ [])) (sym none) ∙ a.drew);
+  stamped = a.stamped;
 }
 
 -- the shards of a table that was closed
@@ -166,6 +192,11 @@ closes j id v ws xs ys all none f same =
           let home = p.at_rest k (omega (arith, f.3)) (alone_free j f.0 id v f.1.0 f.1.1 all none k (omega (arith, f.3, p.slots))) in
           subst (Share j (moment_of v) k) (same_get xs k y home.0 e' (f.4 k home.0 home.1)) home.2;
     }
+
+-- its claims in the order of their stamps are a legal order
+pub closes_order : (j : Job) (id : ℕ) (v : PassRecord) (ws : List ℕ) (xs : List Content) → AreAll (v ∷ []) → HasStamps v → Final (Seen (Rule j) id v) ws xs → (ts : List Task) → AreInStampOrder v.stamps ts → IsClaimOrder j.matched (moment_of v).state ts
+closes_order j id v ws xs all stamped f ts o =
+    stamp_order j.matched j.given (moment_of v) v.stamps _ (alone_parts j f.0 id v f.1.0 f.1.1 all).sound (alone_stamps j f.0 id v f.1.0 f.1.1 all) (λ t. (f.1.0.1.live.each id v f.1.1).stamps t) stamped ts o
 
 -- where the last pass has seen quiet, no shard has work
 pub closes_quiet : (j : Job) (id : ℕ) (v : PassRecord) (ws : List ℕ) (xs ys : List Content) → AreAll (v ∷ []) → v.turns ≡ [] → Final (Seen (Rule j) id v) ws xs → ys ≡ xs → v.quiet ≡ true → HaveNoWork ys

@@ -128,6 +128,9 @@ module _ (t : Turn) (v : PassRecord) (y z : Content) (h : IsTurnOf t v y z) (u :
         kept = record { names = refl; turns = refl; quiet = refl; halts = refl; credit = same_credit };
       })
 
+      pub end_last : (shown q).last ≡ (t.shard, y) ∷ []
+      end_last = ap (λ (p : PassRecord). p.last) is_final
+
 -- a preloaded shard has a row for a task that runs
 pub trap_spare : (t : Turn) (v : PassRecord) (y z : Content) → IsTurnOf t v y z → (u : Task) → v.running ≡ u ∷ [] → shard_of (job_of t.table.now).matched (job_of t.table.now).shards u ≡ t.shard → (job_of t.table.now).preloaded ≡ true → (d : Content) → d ≡ z → 0 < d.spare.traps
 trap_spare t v y z h u runs at pre d is =

@@ -5,6 +5,7 @@ pub mod Opened
 pub mod NeedsCounts
 pub mod NeedsOne
 pub mod NeedsSteps
+pub mod StampOrders
 pub mod Closings
 pub mod Clean
 pub mod StepsAt

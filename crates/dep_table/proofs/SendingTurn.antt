@@ -274,3 +274,6 @@ module _ (t : Turn) (v : PassRecord) (y z : Content) (h : IsTurnOf t v y z) wher
           answer = answers_along job.matched i a y d (ap (λ (c : Content). c.entries) here ∙ h.same.entries) answers;
           added = record { sends = refl; claims = refl; stamps = refl; running = refl; kept = record { names = refl; turns = refl; quiet = refl; halts = refl; credit = sym h.clean.no_credit } };
         })
+
+        pub send_last : (shown q).last ≡ (t.shard, y) ∷ []
+        send_last = ap (λ (u : PassRecord). u.last) is_final

@@ -2,6 +2,7 @@
 use Rattle.std.specs.Prelude.{◌<◌, ◌≤◌, ◌≡◌, ℕ, true, List, [], ◌∷◌, map, length, slice_get, Some}
 use Rattle.atomic_table.specs.Seated.{TableId}
 use Rattle.ptg_base.specs.Lists.{IsIn}
+use Rattle.ptg_base.specs.Task.{Task}
 use Rattle.plan_data.specs.Fit.{DataFit}
 use Rattle.dep_iter.specs.Consistent.{IsConsistent}
 use Rattle.dep_iter.specs.Tasks.{all_tasks}
@@ -11,6 +12,7 @@ use Rattle.shard_meaning.specs.Calm.{AreFinished, HasNoWork}
 use Rattle.shard_meaning.specs.Moment.{Moment}
 use Rattle.shard_meaning.specs.Share.{IsShardOf}
 use Rattle.table_rule.specs.declared.job.Job.{Job}
+use Rattle.table_rule.specs.Live.{Stamp}
 use Rattle.table_rule.specs.Names.{AreAll}
 use Rattle.table_rule.specs.Placing.{shard_of}
 use Rattle.table_rule.specs.Records.{moment_of}
@@ -41,13 +43,15 @@ pub record AreAllPasses (table : TableId) (ps : List PassView) : Type 0 where
   pub each : (p : PassView) → IsIn p ps → IsPassOf table p
   pub all : AreAll (map shown ps)
 
--- A pass to which all others were joined: it holds no turn, and what it did is this.
-pub record IsLastPass (table : TableId) (p : PassView) (R : Moment) : Type 0 where
+-- A pass to which all others were joined: it holds no turn, what it did is this, and it has these stamps, among them one for each of its claims.
+pub record IsLastPass (table : TableId) (p : PassView) (R : Moment) (stamps : List Stamp) : Type 0 where
   pub of : p.table ≡ table
   pub no_shard : p.me.1 ≡ []
   pub no_turn : (shown p).turns ≡ []
   pub all : AreAll (shown p ∷ [])
   pub did : moment_of (shown p) ≡ R
+  pub drew : (shown p).stamps ≡ stamps
+  pub stamped : (t : Task) → IsIn t (shown p).claims → (stamp : ℕ) × IsIn (t, stamp) (shown p).stamps
 
 -- no shard has work
 abbrev pub HaveNoWork : List Content → Type 0

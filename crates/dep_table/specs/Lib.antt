@@ -6,6 +6,7 @@ pub mod Turns
 pub mod Sending
 pub mod Opened
 pub mod Needs
+pub mod StampOrders
 pub mod Closing
 pub mod ClosedTables
 pub mod Receipts

@@ -1,12 +1,14 @@
 //! The close of a table.
 
-ghost use Rattle.std.specs.Prelude.{◌≡◌, [], length, map, true};
+ghost use Rattle.std.specs.Prelude.{◌≡◌, List, [], length, map, true};
 ghost use Rattle.ptg_base.specs.Lists.{IsIn};
+ghost use Rattle.ptg_base.specs.Task.{Task};
 ghost use Rattle.table_rule.specs.Changes.{both};
 ghost use Rattle.table_rule.specs.Plays.{HasName};
 ghost use Rattle.table_rule.specs.Records.{joined, moment_of};
 ghost use Rattle.dep_table.specs.ClosedTables.{shards_of};
 ghost use Rattle.dep_table.specs.Closing.{AreAllPasses, HaveNoWork, IsClosedAt, IsLastPass};
+ghost use Rattle.dep_table.specs.StampOrders.{AreInStampOrder, IsClaimOrder, joined_stamps};
 ghost use Rattle.dep_table.specs.Tables.{id_of, job_of};
 ghost use Rattle.dep_table.specs.Views.{PassView, shown};
 
@@ -69,7 +71,7 @@ impl DepTable {
     // All passes as one, which has seen quiet where one of them has.
     fn join_all(&self, mut passes: Vec<Pass>) -> Pass
         requires { AreAllPasses (id_of self.now) passes.items }
-        ensures last { IsLastPass (id_of self.now) result (joined (map shown passes.items)) }
+        ensures last { IsLastPass (id_of self.now) result (joined (map shown passes.items)) (joined_stamps (map shown passes.items)) }
         ensures quiet { (p : PassView) → IsIn p passes.items → (shown p).quiet ≡ true → (shown result).quiet ≡ true }
     {
         all_passes_stay_all();
@@ -82,10 +84,11 @@ impl DepTable {
 
     // The shards of a table that its last pass gives up, which was made of so many passes.
     fn end(self, pass: Pass, passes: usize) -> Closed
-        requires { IsLastPass (id_of self) pass (moment_of (shown pass)) }
+        requires { IsLastPass (id_of self) pass (moment_of (shown pass)) (shown pass).stamps }
         ensures job { result.job ≡ job_of self }
         ensures passes { result.passes ≡ passes }
         ensures at { IsClosedAt (job_of self) (moment_of (shown pass)) (shards_of result) }
+        ensures order { (ts : List Task) → AreInStampOrder (shown pass).stamps ts → IsClaimOrder (job_of self).matched (moment_of (shown pass)).state ts }
         ensures quiet { (shown pass).quiet ≡ true → HaveNoWork (shards_of result) }
     {
         a_pass_with_all_names_is_alone();
@@ -116,12 +119,14 @@ impl DepTable {
     }
 
     /// Closes the table, where these are all its passes. It takes no memory. What the shards then hold is what the passes did
-    /// together. Where one of the passes has seen quiet, no shard has work.
+    /// together. All their claims, in the order of their stamps, are a legal order of the plan. Where one of the passes has seen
+    /// quiet, no shard has work.
     pub fn close(self, passes: Vec<Pass>) -> Closed
         requires { AreAllPasses (id_of self) passes.items }
         ensures job { result.job ≡ job_of self }
         ensures passes { result.passes ≡ length passes.items }
         ensures at { IsClosedAt (job_of self) (joined (map shown passes.items)) (shards_of result) }
+        ensures order { (ts : List Task) → AreInStampOrder (joined_stamps (map shown passes.items)) ts → IsClaimOrder (job_of self).matched (joined (map shown passes.items)).state ts }
         ensures quiet { (p : PassView) → IsIn p passes.items → (shown p).quiet ≡ true → HaveNoWork (shards_of result) }
     {
         let count = passes.len();

@@ -153,8 +153,8 @@ fn preloaded_shards(alloc: Global, m: &Matched, shards: u32) -> Result<Vec<Shard
 }
 
 impl DepTable {
-    /// A table for a job, with from 1 to 256 shards, and its first pass. All memory that a run of it needs is taken: each shard has
-    /// spares for all that will come to it.
+    /// A table for a job, with from 1 to 256 shards, and its first pass. Each shard has spares for all that will come to it, and the
+    /// table has room for its close, so none of its calls wants memory.
     pub fn new_preloaded(
         alloc: Global,
         matched: Matched,

@@ -1,6 +1,7 @@
 //! Whether a run had ended when its table was closed.
 
 ghost use Rattle.std.specs.Prelude.{◌↔◌, List, IsTrue};
+ghost use Rattle.ptg_base.specs.Task.{Task};
 ghost use Rattle.dep_shard.specs.Content.{Content};
 ghost use Rattle.flow_meaning.specs.Machine.{IsQuiescent};
 ghost use Rattle.shard_meaning.specs.Calm.{IsCalm};
@@ -9,6 +10,7 @@ ghost use Rattle.table_rule.specs.declared.job.Job.{Job};
 ghost use Rattle.dep_table.specs.ClosedMeaning.{HasTheMeaning};
 ghost use Rattle.dep_table.specs.ClosedTables.{shards_of};
 ghost use Rattle.dep_table.specs.Closing.{HaveNoWork, IsClosedAt};
+ghost use Rattle.dep_table.specs.StampOrders.{IsClaimOrder, IsRanOrder};
 
 use crate::closed::Closed;
 use dep_shard::Shard;
@@ -45,4 +47,9 @@ pub fn a_closed_table_without_work_is_quiescent()
 /// task was sent its inputs.
 pub fn a_quiet_close_has_the_meaning()
     ensures { (j : Job) (R : Moment) (ys : List Content) → IsClosedAt j R ys → HaveNoWork ys → HasTheMeaning j.matched j.given R.state }
+{}
+
+/// A law: where no shard of a closed table has work, a legal order of the claims of its passes is one of the tasks that run.
+pub fn a_quiet_close_has_an_order_of_what_ran()
+    ensures { (j : Job) (R : Moment) (ys : List Content) (ts : List Task) → IsClosedAt j R ys → HaveNoWork ys → IsClaimOrder j.matched R.state ts → IsRanOrder j.matched j.given ts }
 {}

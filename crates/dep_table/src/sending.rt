@@ -1,6 +1,6 @@
 //! The send of an item on a turn.
 
-ghost use Rattle.std.specs.Prelude.{◌≡◌, true, IfOk, IsOk, OnErr};
+ghost use Rattle.std.specs.Prelude.{◌≡◌, [], ◌∷◌, true, IfOk, IsOk, OnErr};
 ghost use Rattle.std.specs.Option.{option_copied};
 ghost use Rattle.dep_shard.specs.Content.{Content};
 ghost use Rattle.work_board.specs.Records.{OnlyTook};
@@ -28,6 +28,7 @@ impl<'a> Turn<'a> {
         ensures pass { IsPassOf (id_of self.entry.table.now) self.exit.1.0.now }
         ensures sent { IfOk result (λ a. (v : PassRecord) (y z : Content) → IsTurnOf self.entry v y z → HasSent (job_of self.entry.table.now).matched self.entry.shard item.now (option_copied tile.entry) a v (shown self.exit.1.0.now)) }
         ensures left { OnErr result ((v : PassRecord) (y z : Content) → IsTurnOf self.entry v y z → OnlyTook self.entry.shard v (shown self.exit.1.0.now)) }
+        ensures last { (v : PassRecord) (y z : Content) → IsTurnOf self.entry v y z → (shown self.exit.1.0.now).last ≡ (self.entry.shard, y) ∷ [] }
         ensures preloaded { (job_of self.entry.table.now).preloaded ≡ true → IsOk result }
     {
         let Turn { table, pass, shard } = self;

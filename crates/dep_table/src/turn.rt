@@ -101,6 +101,7 @@ impl<'a> Turn<'a> {
         requires shard { placing.shard_of (job_of self.table.now).matched (job_of self.table.now).shards t.now ≡ self.shard }
         ensures pass { IsPassOf (id_of self.entry.table.now) self.exit.1.0.now }
         ensures ended { (v : PassRecord) (y z : Content) → IsTurnOf self.entry v y z → HasEnded self.entry.shard v (shown self.exit.1.0.now) }
+        ensures last { (v : PassRecord) (y z : Content) → IsTurnOf self.entry v y z → (shown self.exit.1.0.now).last ≡ (self.entry.shard, y) ∷ [] }
     {
         let _task = t;
         let Turn { table, pass, shard } = self;
@@ -121,6 +122,7 @@ impl<'a> Turn<'a> {
         ensures pass { IsPassOf (id_of self.entry.table.now) self.exit.1.0.now }
         ensures ended { OnOk result ((v : PassRecord) (y z : Content) → IsTurnOf self.entry v y z → HasEnded self.entry.shard v (shown self.exit.1.0.now)) }
         ensures left { OnErr result ((v : PassRecord) (y z : Content) → IsTurnOf self.entry v y z → OnlyTook self.entry.shard v (shown self.exit.1.0.now)) }
+        ensures last { (v : PassRecord) (y z : Content) → IsTurnOf self.entry v y z → (shown self.exit.1.0.now).last ≡ (self.entry.shard, y) ∷ [] }
         ensures preloaded { (job_of self.entry.table.now).preloaded ≡ true → IsOk result }
     {
         let Turn { table, pass, shard } = self;

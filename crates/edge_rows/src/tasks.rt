@@ -4,10 +4,8 @@ ghost use Rattle.std.specs.Prelude.{◌<◌, ◌≤◌, length};
 ghost use Rattle.dep_iter.specs.Tasks.{IsTask};
 
 use crate::names::{add_flow, add_place, add_task};
-use dep_iter::{
-    Matched, Source, affinity, data_source, flows_of, in_edges, is_task, out_edges, priority,
-    write_backs,
-};
+use dep_iter::{Matched, Source, affinity, data_source, flows_of, is_task, priority};
+use edge_walk::{Far, ties_of};
 use goal_count::goal;
 use plan_core::Plan;
 use ptg_base::TaskId;
@@ -101,45 +99,54 @@ fn add_source(text: &mut String, plan: &Plan, task: &TaskId, number: u8) -> Resu
     Ok(())
 }
 
+// A line for each edge into the task.
 fn add_ins(text: &mut String, plan: &Plan, task: &TaskId) -> Result<(), Why>
     requires { IsTask plan.now task.now }
 {
-    for edge in in_edges(plan, task) {
-        text.push_str("  ")?;
-        add_flow(text, plan, edge.to.class(), edge.in_flow)?;
-        text.push_str(" <- ")?;
-        add_flow(text, plan, edge.from.class(), edge.out_flow)?;
-        text.push(' ')?;
-        add_task(text, plan, &edge.from)?;
-        text.push('\n')?;
+    for tie in ties_of(plan, task, true) {
+        if let Far::Flow(from, out_flow) = &tie.far {
+            text.push_str("  ")?;
+            add_flow(text, plan, task.class(), tie.flow)?;
+            text.push_str(" <- ")?;
+            add_flow(text, plan, from.class(), *out_flow)?;
+            text.push(' ')?;
+            add_task(text, plan, from)?;
+            text.push('\n')?;
+        }
     }
     Ok(())
 }
 
+// A line for each edge out of the task.
 fn add_outs(text: &mut String, plan: &Plan, task: &TaskId) -> Result<(), Why>
     requires { IsTask plan.now task.now }
 {
-    for edge in out_edges(plan, task) {
-        text.push_str("  ")?;
-        add_flow(text, plan, edge.from.class(), edge.out_flow)?;
-        text.push_str(" -> ")?;
-        add_flow(text, plan, edge.to.class(), edge.in_flow)?;
-        text.push(' ')?;
-        add_task(text, plan, &edge.to)?;
-        text.push('\n')?;
+    for tie in ties_of(plan, task, false) {
+        if let Far::Flow(to, in_flow) = &tie.far {
+            text.push_str("  ")?;
+            add_flow(text, plan, task.class(), tie.flow)?;
+            text.push_str(" -> ")?;
+            add_flow(text, plan, to.class(), *in_flow)?;
+            text.push(' ')?;
+            add_task(text, plan, to)?;
+            text.push('\n')?;
+        }
     }
     Ok(())
 }
 
+// A line for each write-back of the task.
 fn add_writes(text: &mut String, plan: &Plan, task: &TaskId) -> Result<(), Why>
     requires { IsTask plan.now task.now }
 {
-    for write in write_backs(plan, task) {
-        text.push_str("  ")?;
-        add_flow(text, plan, task.class(), write.flow)?;
-        text.push_str(" -> ")?;
-        add_place(text, plan, &write.place)?;
-        text.push('\n')?;
+    for tie in ties_of(plan, task, false) {
+        if let Far::Place(place) = &tie.far {
+            text.push_str("  ")?;
+            add_flow(text, plan, task.class(), tie.flow)?;
+            text.push_str(" -> ")?;
+            add_place(text, plan, place)?;
+            text.push('\n')?;
+        }
     }
     Ok(())
 }

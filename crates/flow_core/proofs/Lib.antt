@@ -8,4 +8,5 @@ pub mod Rows
 pub mod Writes
 pub mod RunningTasks
 pub mod OneThread
+pub mod Turning
 pub mod Quiet

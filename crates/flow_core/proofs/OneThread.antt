@@ -135,7 +135,7 @@ same_running r i false = refl
 -- after a call of `send` for an item, which gave this answer
 module _ (P : Plan) (G : Data) (con : IsConsistent P) (r : RunState) (fits : Fits P G r) (i : Item) where
   -- an item that is owed was sent, now or before
-  owed_sent : (b : Bool) → IsTrue b ↔ MaySendNow P G r i → (js : List Item) → OwesOnly P (i ∷ js) r → OwesOnly P js (cond b (with_send i r) r)
+  pub owed_sent : (b : Bool) → IsTrue b ↔ MaySendNow P G r i → (js : List Item) → OwesOnly P (i ∷ js) r → OwesOnly P js (cond b (with_send i r) r)
   owed_sent true exact js h t tiles end j mine = elim (h t tiles end j mine) [
     | inl s ↦ inl (sends_stay r i j s)
     | inr k ↦ elim k [ inl same ↦ inl (subst (λ x. is_sent (machine (with_send i r)) x ≡ true) (sym same) (sends_it r i)) | inr later ↦ inr later ]

@@ -1,5 +1,5 @@
 -- Arguments and files denote a verdict.
-use Rattle.std.proofs.Common.{◌≡◌, ℕ, List, Some, refl, sym, ◌∙◌, ap, ◌⊎◌, inl, inr}
+use Rattle.std.proofs.Common.{◌≡◌, ℕ, List, Some, refl, sym, ◌∙◌, ap, subst, ◌⊎◌, inl, inr}
 use Rattle.std.specs.Prelude.{Option, None, if◌then◌else◌}
 use Rattle.ptg_io.specs.Files.{file_of}
 use Rattle.ptg_io.specs.Sink.{appended}
@@ -13,17 +13,26 @@ use Rattle.jdf_read.proofs.Either.{tree_or_fault}
 use Rattle.job_stages.specs.declared.verdict.JobVerdict.TheVariants as jobs
 use Rattle.job_stages.proofs.Always.{texts_some}
 use Rattle.ptg_top.specs.declared.request.Request.{Request}
-use Rattle.ptg_top.specs.declared.request.Request.TheVariants.{Run, Show, Check}
+use Rattle.ptg_top.specs.declared.request.Request.TheVariants.{Run, Show, Check, Demo, Certify}
 use Rattle.ptg_top.specs.Denotation as verdicts
 use Rattle.ptg_top.specs.Denotation.{Denotation}
 use Rattle.ptg_top.specs.Requests.{Requests, request_of}
-use Rattle.ptg_top.specs.JobFiles.{Entries, ContentsDenote}
+use Rattle.job_gen.specs.Job.{data_text, jdf_text}
+use Rattle.ptg_top.specs.JobFiles.{Entries, ContentsDenote, JobTextsDenote}
 use Rattle.ptg_top.specs.Meaning.{ContentShows, IsNoOrder, RequestDenotes, Shows, SomeMeaning}
 use Rattle.ptg_top.specs.Headline.{text_of, status_of, SomeOutput}
 use Rattle.ptg_top.specs.Answering.{IsAnswer}
+use Rattle.coll_data.specs.Data.{Data}
+use Rattle.plan_core.specs.declared.plan.Plan.{Plan}
+use Rattle.dep_iter.specs.Consistent.{IsConsistent}
+use Rattle.chain_cert.specs.Weights.{class_weights}
+use Rattle.chain_exists.proofs.Existing.{some_certificate}
+use Rattle.ptg_top.specs.Certify.{IsCertified, certified}
+use Rattle.ptg_top.specs.Demo.{DemoDenotes, IsSummary, summed}
+use Rattle.ptg_top.specs.declared.verdict.Finding.TheVariants.{Answer}
 use Rattle.ptg_top.specs.Preload.{is_too_large}
 use Rattle.ptg_top.proofs.Answered.{some_on}
-use Rattle.ptg_top.proofs.Checked.{fault_refuses}
+use Rattle.ptg_top.proofs.Checked.{contents_consistent, fault_refuses}
 
 -- ---- what is asked
 
@@ -56,20 +65,45 @@ content_shows_some : (name : List ℕ) (content : Option (List ℕ)) → (v : De
 content_shows_some name None = (verdicts.Unread name, refl)
 content_shows_some name (Some text) = shows_some text
 
+job_texts_some : (text data_text : List ℕ) → (v : Denotation) × JobTextsDenote text data_text v
+job_texts_some text data_text = let job = texts_some text data_text in (verdicts.Job job.0, (job.0, job.1, refl))
+
 contents_some : (jdf tiles : List ℕ) (a b : Option (List ℕ)) → (v : Denotation) × ContentsDenote jdf tiles a b v
 contents_some jdf tiles None b = (verdicts.Unread jdf, refl)
 contents_some jdf tiles (Some text) None = elim (tree_or_fault text) [
   | inl tree ↦ (verdicts.Unread tiles, inr (tree.0, tree.1, refl))
   | inr w ↦ (verdicts.Job (jobs.Jdf w.0), inl (fault_refuses text w.0 w.1))
 ]
-contents_some jdf tiles (Some text) (Some data_text) = let job = texts_some text data_text in (verdicts.Job job.0, (job.0, job.1, refl))
+contents_some jdf tiles (Some text) (Some data_text) = job_texts_some text data_text
+
+demo_some : (n : ℕ) → (v : Denotation) × DemoDenotes n v
+demo_some n =
+    let checked = job_texts_some jdf_text (data_text n) in
+    let found = some_on (IsSummary n) checked.0 (λ P given is. (verdicts.Ran P (summed n (answer P given)), refl)) in
+    (found.0, (checked.0, checked.1, found.1))
+
+certified_some : (P : Plan) (given : Data) → IsConsistent P → (v : Denotation) × IsCertified P given v
+certified_some P given con =
+    let ws = class_weights P given in
+    let c = some_certificate P given ws con in
+    (verdicts.Ran P (certified ws (answer P given) c.0), (c.0, c.1, refl))
+
+certify_some : (files : Entries) (jdf tiles : List ℕ) → (v : Denotation) × RequestDenotes files (Certify jdf tiles) v
+certify_some files jdf tiles =
+    let a = file_of files jdf in
+    let b = file_of files tiles in
+    let checked = contents_some jdf tiles a b in
+    let found = some_on IsCertified checked.0 (λ P given is. certified_some P given (contents_consistent jdf tiles a b P given (subst (ContentsDenote jdf tiles a b) is checked.1))) in
+    (found.0, (checked.0, checked.1, found.1))
 
 request_some : (files : Entries) (request : Request) → (v : Denotation) × RequestDenotes files request v
 request_some files (Run jdf tiles settings) = let checked = contents_some jdf tiles (file_of files jdf) (file_of files tiles) in
-    let found = some_on (IsAnswer settings) (λ P given. (if is_too_large settings P then verdicts.Preload else verdicts.Answered P (answer P given), refl)) checked.0 in
+    let found = some_on (IsAnswer settings) checked.0 (λ P given is. (if is_too_large settings P then verdicts.Preload else verdicts.Ran P (Answer (answer P given)), refl)) in
     (found.0, (checked.0, checked.1, found.1))
 request_some files (Show jdf) = content_shows_some jdf (file_of files jdf)
 request_some files (Check jdf tiles) = contents_some jdf tiles (file_of files jdf) (file_of files tiles)
+request_some files (Demo rows) = demo_some rows
+request_some files (Certify jdf tiles) = certify_some files jdf tiles
 
 -- ---- arguments and files
 

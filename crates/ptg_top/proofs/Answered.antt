@@ -8,47 +8,92 @@ use Rattle.flow_meaning.specs.Answer.{answer}
 use Rattle.job_stages.specs.declared.verdict.JobVerdict.TheVariants as jobs
 use Rattle.run_pool.specs.declared.settings.Settings.{Settings}
 use Rattle.ptg_top.specs.Preload.{is_too_large}
-use Rattle.ptg_top.specs.declared.request.Request.TheVariants.{Check, Run}
+use Rattle.ptg_top.specs.declared.request.Request.{Request}
+use Rattle.ptg_top.specs.declared.request.Request.TheVariants.{Certify, Check, Run}
+use Rattle.ptg_top.specs.declared.verdict.Finding.TheVariants.{Answer}
 use Rattle.ptg_top.specs.declared.verdict.Verdict.{Verdict}
 use Rattle.ptg_top.specs.Denotation as verdicts
 use Rattle.ptg_top.specs.Denotation.{Denotation, denoted}
 use Rattle.ptg_top.specs.Answering.{IsAnswer, IsRefusal, OnConsistent}
-use Rattle.ptg_top.specs.JobFiles.{Entries}
+use Rattle.ptg_top.specs.Certify.{IsCertified}
+use Rattle.ptg_top.specs.JobFiles.{Entries, FilesDenote}
+use Rattle.ptg_top.specs.Meaning.{IsUnreadOf, MayBeUnreadFor, RequestDenotes}
 use Rattle.ptg_top.specs.Reports.{IsOfTexts, IsVerdictOnRequest}
 
-pub once_on : (Verb : Plan → Data → Denotation → Type 0) → ((P : Plan) (given : Data) (v w : Denotation) → Verb P given v → Verb P given w → v ≡ w) → (checked v w : Denotation)
-    → OnConsistent Verb checked v → OnConsistent Verb checked w → v ≡ w
-once_on Verb once (verdicts.Job (jobs.Consistent P given)) v w h k = once P given v w h k
-once_on Verb once checked v w h k = h ∙ sym k
+module _ (Verb : Plan → Data → Denotation → Type 0) where
+  pub once_on : (checked v w : Denotation) → ((P : Plan) (given : Data) → checked ≡ verdicts.Job (jobs.Consistent P given) → Verb P given v → Verb P given w → v ≡ w)
+      → OnConsistent Verb checked v → OnConsistent Verb checked w → v ≡ w
+  once_on (verdicts.Job (jobs.Consistent P given)) v w once h k = once P given refl h k
+  once_on checked v w once h k = h ∙ sym k
 
-pub some_on : (Verb : Plan → Data → Denotation → Type 0) → ((P : Plan) (given : Data) → (v : Denotation) × Verb P given v) → (checked : Denotation) → (v : Denotation) × OnConsistent Verb checked v
-some_on Verb some (verdicts.Job (jobs.Consistent P given)) = some P given
-some_on Verb some checked = (checked, refl)
+  pub some_on : (checked : Denotation) → ((P : Plan) (given : Data) → checked ≡ verdicts.Job (jobs.Consistent P given) → (v : Denotation) × Verb P given v) → (v : Denotation) × OnConsistent Verb checked v
+  some_on (verdicts.Job (jobs.Consistent P given)) some = some P given refl
+  some_on checked some = (checked, refl)
 
--- a refusal stays as it is
-pub kept : (Verb : Plan → Data → Denotation → Type 0) (checked : Denotation) → IsRefusal checked → OnConsistent Verb checked checked
-kept Verb (verdicts.Job (jobs.Consistent P given)) h = absurd h
-kept Verb checked h = refl
+  -- a refusal stays as it is
+  pub kept : (checked : Denotation) → IsRefusal checked → OnConsistent Verb checked checked
+  kept (verdicts.Job (jobs.Consistent P given)) h = absurd h
+  kept checked h = refl
 
--- where the verdict of `check` was on what was read, so is the answer, or that the preload is too large
-answer_of_texts : (settings : Settings) (checked v : Denotation) → IsOfTexts checked → OnConsistent (IsAnswer settings) checked v → IsOfTexts v
-answer_of_texts settings (verdicts.Job (jobs.Consistent P given)) v of h = subst IsOfTexts (sym h) (either (is_too_large settings P))
+  -- what the verb makes of a consistent job is on what was read
+  abbrev pub IsVerbOfTexts : Type 0
+  IsVerbOfTexts = (P : Plan) (given : Data) (v : Denotation) → Verb P given v → IsOfTexts v
+
+  -- where the verdict of `check` was on what was read, so is that of the verb
+  pub on_texts : IsVerbOfTexts → (checked v : Denotation) → IsOfTexts checked → OnConsistent Verb checked v → IsOfTexts v
+  on_texts verb (verdicts.Job (jobs.Consistent P given)) v of h = verb P given v h
+  on_texts verb checked v of h = subst IsOfTexts (sym h) of
+
+-- the answer is on what was read, or that the preload is too large
+answer_of_texts : (settings : Settings) → IsVerbOfTexts (IsAnswer settings)
+answer_of_texts settings P given v h = subst IsOfTexts (sym h) (either (is_too_large settings P))
   where
-    either : (large : Bool) → IsOfTexts (if large then verdicts.Preload else verdicts.Answered P (answer P given))
+    either : (large : Bool) → IsOfTexts (if large then verdicts.Preload else verdicts.Ran P (Answer (answer P given)))
     either true = tt
     either false = tt
-answer_of_texts settings checked v of h = subst IsOfTexts (sym h) of
 
-module _ (contents : Option Entries) (old new : List ℕ → ℕ) (jdf tiles : List ℕ) (settings : Settings) where
+-- the request asks for a verb that goes on from the check of two files
+record GoesOn (request : Request) (jdf tiles : List ℕ) (Verb : Plan → Data → Denotation → Type 0) : Type 0 where
+  unread : (contents : Option Entries) (name : List ℕ) → IsUnreadOf contents jdf tiles name → MayBeUnreadFor contents request name
+  denotes : (files : Entries) (checked v : Denotation) → FilesDenote files jdf tiles checked → OnConsistent Verb checked v → RequestDenotes files request v
+  of_texts : IsVerbOfTexts Verb
+
+run_goes_on : (jdf tiles : List ℕ) (settings : Settings) → GoesOn (Run jdf tiles settings) jdf tiles (IsAnswer settings)
+run_goes_on jdf tiles settings =
+    record { unread = λ contents name h. h; denotes = λ files checked v h k. (checked, h, k); of_texts = answer_of_texts settings }
+
+certify_goes_on : (jdf tiles : List ℕ) → GoesOn (Certify jdf tiles) jdf tiles IsCertified
+certify_goes_on jdf tiles =
+    record { unread = λ contents name h. h; denotes = λ files checked v h k. (checked, h, k); of_texts = λ P given v h. subst IsOfTexts (sym h.2) tt }
+
+module _ (contents : Option Entries) (old new : List ℕ → ℕ) (jdf tiles : List ℕ) where
+  module _ (request : Request) (Verb : Plan → Data → Denotation → Type 0) (on : GoesOn request jdf tiles Verb) where
+    -- the verdict of a verb, from that of `check`
+    verb_ends : (checked v : Denotation) → IsVerdictOnRequest contents old new (Check jdf tiles) checked → OnConsistent Verb checked v → IsVerdictOnRequest contents old new request v
+    verb_ends checked v (inl (name, rose, may, e)) h = inl (name, rose, on.unread contents name may, subst (λ (c : Denotation). OnConsistent Verb c v) e h)
+    verb_ends checked v (inr (of, known)) h = inr (on_texts Verb on.of_texts checked v of h, λ files t. on.denotes files checked v (known files t) h)
+
+    verb_refuses : (checked : Denotation) → IsVerdictOnRequest contents old new (Check jdf tiles) checked → IsRefusal checked → IsVerdictOnRequest contents old new request checked
+    verb_refuses checked h refused = verb_ends checked checked h (kept Verb checked refused)
+
+    verb_finds : (checked : Denotation) (P : Plan) (given : Data) (r : Result Verdict OutOfMemory) → checked ≡ verdicts.Job (jobs.Consistent P given)
+        → IsVerdictOnRequest contents old new (Check jdf tiles) checked → IfOk r (λ v. Verb P given (denoted v)) → IfOk r (λ v. IsVerdictOnRequest contents old new request (denoted v))
+    verb_finds checked P given (Ok v) e h a = verb_ends checked (denoted v) h (subst (λ (c : Denotation). OnConsistent Verb c (denoted v)) (sym e) a)
+    verb_finds checked P given (Err x) e h a = tt
+
   -- the verdict of `run`, from that of `check`
-  run_ends : (checked v : Denotation) → IsVerdictOnRequest contents old new (Check jdf tiles) checked → OnConsistent (IsAnswer settings) checked v → IsVerdictOnRequest contents old new (Run jdf tiles settings) v
-  run_ends checked v (inl (name, rose, may, e)) h = inl (name, rose, may, subst (λ (c : Denotation). OnConsistent (IsAnswer settings) c v) e h)
-  run_ends checked v (inr (of, known)) h = inr (answer_of_texts settings checked v of h, λ files t. (checked, known files t, h))
+  module _ (settings : Settings) where
+    pub refused_ends : (checked : Denotation) → IsVerdictOnRequest contents old new (Check jdf tiles) checked → IsRefusal checked → IsVerdictOnRequest contents old new (Run jdf tiles settings) checked
+    refused_ends = verb_refuses (Run jdf tiles settings) (IsAnswer settings) (run_goes_on jdf tiles settings)
 
-  pub refused_ends : (checked : Denotation) → IsVerdictOnRequest contents old new (Check jdf tiles) checked → IsRefusal checked → IsVerdictOnRequest contents old new (Run jdf tiles settings) checked
-  refused_ends checked h refused = run_ends checked checked h (kept (IsAnswer settings) checked refused)
+    pub answered_ends : (checked : Denotation) (P : Plan) (given : Data) (r : Result Verdict OutOfMemory) → checked ≡ verdicts.Job (jobs.Consistent P given)
+        → IsVerdictOnRequest contents old new (Check jdf tiles) checked → IfOk r (λ v. IsAnswer settings P given (denoted v)) → IfOk r (λ v. IsVerdictOnRequest contents old new (Run jdf tiles settings) (denoted v))
+    answered_ends = verb_finds (Run jdf tiles settings) (IsAnswer settings) (run_goes_on jdf tiles settings)
 
-  pub answered_ends : (checked : Denotation) (P : Plan) (given : Data) (r : Result Verdict OutOfMemory) → checked ≡ verdicts.Job (jobs.Consistent P given)
-      → IsVerdictOnRequest contents old new (Check jdf tiles) checked → IfOk r (λ v. IsAnswer settings P given (denoted v)) → IfOk r (λ v. IsVerdictOnRequest contents old new (Run jdf tiles settings) (denoted v))
-  answered_ends checked P given (Ok v) e h a = run_ends checked (denoted v) h (subst (λ (c : Denotation). OnConsistent (IsAnswer settings) c (denoted v)) (sym e) a)
-  answered_ends checked P given (Err x) e h a = tt
+  -- the verdict of `certify`, from that of `check`
+  pub certify_refuses : (checked : Denotation) → IsVerdictOnRequest contents old new (Check jdf tiles) checked → IsRefusal checked → IsVerdictOnRequest contents old new (Certify jdf tiles) checked
+  certify_refuses = verb_refuses (Certify jdf tiles) IsCertified (certify_goes_on jdf tiles)
+
+  pub certify_finds : (checked : Denotation) (P : Plan) (given : Data) (r : Result Verdict OutOfMemory) → checked ≡ verdicts.Job (jobs.Consistent P given)
+      → IsVerdictOnRequest contents old new (Check jdf tiles) checked → IfOk r (λ v. IsCertified P given (denoted v)) → IfOk r (λ v. IsVerdictOnRequest contents old new (Certify jdf tiles) (denoted v))
+  certify_finds = verb_finds (Certify jdf tiles) IsCertified (certify_goes_on jdf tiles)

@@ -9,18 +9,21 @@ use Rattle.jdf_lex.specs.declared.fault.JdfCode.TheVariants as jdf_codes
 use Rattle.jdf_tree.specs.declared.tree.Jdf.{Jdf}
 use Rattle.jdf_tree.specs.Jdf.{IsJdf}
 use Rattle.jdf_tree.specs.Fault.{IsJdfFault, first_spot}
+use Rattle.coll_data.specs.Data.{Data}
 use Rattle.coll_data.specs.declared.fault.DataFault.{DataFault}
+use Rattle.plan_core.specs.declared.plan.Plan.{Plan}
 use Rattle.jdf_read.proofs.Once.{not_both}
 use Rattle.job_stages.specs.declared.verdict.JobVerdict.{JobVerdict}
 use Rattle.job_stages.specs.declared.verdict.JobVerdict.TheVariants as jobs
 use Rattle.job_stages.specs.DataText.{too_long}
+use Rattle.dep_iter.specs.Consistent.{IsConsistent}
 use Rattle.job_stages.specs.Verdict.{TextsDenote}
 use Rattle.job_stages.proofs.Once.{jdf_text_once, texts_once}
 use Rattle.ptg_top.specs.declared.request.Request.TheVariants.{Check}
 use Rattle.ptg_top.specs.Denotation as verdicts
 use Rattle.ptg_top.specs.declared.verdict.Verdict.{Verdict}
 use Rattle.ptg_top.specs.Denotation.{Denotation, denoted}
-use Rattle.ptg_top.specs.JobFiles.{Entries, RefusesText, ContentsDenote, FilesDenote}
+use Rattle.ptg_top.specs.JobFiles.{Entries, RefusesText, ContentsDenote, FilesDenote, JobTextsDenote}
 use Rattle.ptg_top.specs.Steps.{CheckOfDataEndsWith, CheckOfTextEndsWith}
 use Rattle.ptg_top.specs.Reports.{IsOfTexts, IsVerdictOnRequest}
 
@@ -117,11 +120,29 @@ refused_once text v w (job, h, e) (other, k, d) = e ∙ (ap verdicts.Job (jdf_te
 pub refused_or_read : (text : List ℕ) (v : Denotation) (J : Jdf) → RefusesText text v → IsJdf text J → ⊥
 refused_or_read text v J (job, (f, first, is), e) tree = not_both text J f tree first
 
+pub job_texts_once : (text data_text : List ℕ) (v w : Denotation) → JobTextsDenote text data_text v → JobTextsDenote text data_text w → v ≡ w
+job_texts_once text data_text v w (job, h, e) (other, k, d) = e ∙ (ap verdicts.Job (texts_once text data_text job other h k) ∙ sym d)
+
 pub contents_once : (jdf tiles : List ℕ) (a b : Option (List ℕ)) (v w : Denotation) → ContentsDenote jdf tiles a b v → ContentsDenote jdf tiles a b w → v ≡ w
 contents_once jdf tiles None b v w h k = h ∙ sym k
 contents_once jdf tiles (Some text) None v w (inl h) (inl k) = refused_once text v w h k
 contents_once jdf tiles (Some text) None v w (inl h) (inr (J, tree, d)) = absurd (refused_or_read text v J h tree)
 contents_once jdf tiles (Some text) None v w (inr (J, tree, d)) (inl h) = absurd (refused_or_read text w J h tree)
 contents_once jdf tiles (Some text) None v w (inr h) (inr k) = h.2 ∙ sym k.2
-contents_once jdf tiles (Some text) (Some data_text) v w (job, h, e) (other, k, d) =
-    e ∙ (ap verdicts.Job (texts_once text data_text job other h k) ∙ sym d)
+contents_once jdf tiles (Some text) (Some data_text) v w h k = job_texts_once text data_text v w h k
+
+-- ---- what is found consistent is
+texts_consistent : (text data_text : List ℕ) (P : Plan) (given : Data) → TextsDenote text data_text (jobs.Consistent P given) → IsConsistent P
+texts_consistent text data_text P given (inl (fault, h, e)) = absurd cc
+texts_consistent text data_text P given (inr (inl (J, fault, tree, h, e))) = absurd cc
+texts_consistent text data_text P given (inr (inr (job, has, plan))) = plan.1
+
+same_job : (a b : JobVerdict) → verdicts.Job a ≡ verdicts.Job b → a ≡ b
+same_job a b e = cc
+
+pub contents_consistent : (jdf tiles : List ℕ) (a b : Option (List ℕ)) (P : Plan) (given : Data) → ContentsDenote jdf tiles a b (verdicts.Job (jobs.Consistent P given)) → IsConsistent P
+contents_consistent jdf tiles None b P given e = absurd cc
+contents_consistent jdf tiles (Some text) None P given (inl (job, (fault, h, is), e)) = absurd cc
+contents_consistent jdf tiles (Some text) None P given (inr (J, tree, e)) = absurd cc
+contents_consistent jdf tiles (Some text) (Some data_text) P given (job, h, e) =
+    texts_consistent text data_text P given (subst (TextsDenote text data_text) (sym (same_job (jobs.Consistent P given) job e)) h)

@@ -7,6 +7,7 @@ use Rattle.flow_meaning.specs.declared.outcome.Outcome.TheVariants as outcome
 use Rattle.job_stages.specs.declared.verdict.JobVerdict.TheVariants as jobs
 use Rattle.ptg_top.specs.declared.status.Status.{Status}
 use Rattle.ptg_top.specs.declared.status.Status.TheVariants as status
+use Rattle.ptg_top.specs.declared.verdict.Finding.TheVariants as findings
 use Rattle.ptg_top.specs.Denotation as verdicts
 use Rattle.ptg_top.specs.Denotation.{Denotation}
 use Rattle.ptg_top.specs.JobFiles.{Entries}
@@ -48,9 +49,12 @@ of_texts (verdicts.Job (jobs.Jdf fault)) h = (λ e. absurd cc, λ e. absurd cc, 
 of_texts (verdicts.Job (jobs.Data fault)) h = (λ e. absurd cc, λ e. absurd cc, λ e. absurd cc)
 of_texts (verdicts.Job (jobs.Inconsistent P fault)) h = (λ e. absurd cc, λ e. absurd cc, λ e. absurd cc)
 of_texts (verdicts.Job (jobs.Consistent P given)) h = (λ e. absurd cc, λ e. absurd cc, λ e. absurd cc)
-of_texts (verdicts.Answered P (outcome.Complete count given)) h = (λ e. absurd cc, λ e. absurd cc, λ e. absurd cc)
-of_texts (verdicts.Answered P (outcome.Trapped rows)) h = (λ e. absurd cc, λ e. absurd cc, λ e. absurd cc)
-of_texts (verdicts.Answered P (outcome.Stalled ran total rows)) h = (λ e. absurd cc, λ e. absurd cc, λ e. absurd cc)
+of_texts (verdicts.Ran P (findings.Answer (outcome.Complete count given))) h = (λ e. absurd cc, λ e. absurd cc, λ e. absurd cc)
+of_texts (verdicts.Ran P (findings.Answer (outcome.Trapped rows))) h = (λ e. absurd cc, λ e. absurd cc, λ e. absurd cc)
+of_texts (verdicts.Ran P (findings.Answer (outcome.Stalled ran total rows))) h = (λ e. absurd cc, λ e. absurd cc, λ e. absurd cc)
+of_texts (verdicts.Ran P (findings.Summary found)) h = (λ e. absurd cc, λ e. absurd cc, λ e. absurd cc)
+of_texts (verdicts.Ran P (findings.Chain found)) h = (λ e. absurd cc, λ e. absurd cc, λ e. absurd cc)
+of_texts (verdicts.Ran P (findings.Cycle found)) h = (λ e. absurd cc, λ e. absurd cc, λ e. absurd cc)
 of_texts (verdicts.Spelling text) h = (λ e. absurd cc, λ e. absurd cc, λ e. absurd cc)
 of_texts verdicts.Preload h = (λ e. absurd cc, λ e. absurd cc, λ e. absurd cc)
 

@@ -2,7 +2,10 @@ pub mod Requested
 pub mod Settings
 pub mod Checked
 pub mod Answered
+pub mod Summed
 pub mod Preloads
+pub mod TableRuns
+pub mod Certified
 pub mod Carried
 pub mod JobTexts
 pub mod Ending

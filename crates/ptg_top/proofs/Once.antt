@@ -7,16 +7,26 @@ use Rattle.jdf_tree.specs.declared.tree.Jdf.{Jdf}
 use Rattle.jdf_print.specs.Spelling.{spelling}
 use Rattle.jdf_read.proofs.Once.{one_tree}
 use Rattle.ptg_top.specs.declared.request.Request.{Request}
-use Rattle.ptg_top.specs.declared.request.Request.TheVariants.{Run, Show, Check}
+use Rattle.ptg_top.specs.declared.request.Request.TheVariants.{Run, Show, Check, Demo, Certify}
 use Rattle.ptg_top.specs.Denotation as verdicts
 use Rattle.ptg_top.specs.Denotation.{Denotation}
-use Rattle.ptg_top.specs.JobFiles.{Entries}
+use Rattle.ptg_top.specs.JobFiles.{Entries, ContentsDenote}
+use Rattle.job_gen.specs.Job.{data_text, jdf_text}
 use Rattle.ptg_top.specs.Meaning.{Shows, ContentShows, RequestDenotes, OneMeaning}
 use Rattle.ptg_top.specs.Headline.{text_of, status_of, OneOutput}
 use Rattle.ptg_top.specs.Answering.{IsAnswer, OnConsistent}
+use Rattle.coll_data.specs.Data.{Data}
+use Rattle.plan_core.specs.declared.plan.Plan.{Plan}
+use Rattle.dep_iter.specs.Consistent.{IsConsistent}
+use Rattle.flow_meaning.specs.Answer.{answer}
+use Rattle.chain_cert.specs.Weights.{class_weights}
+use Rattle.chain_cert.specs.declared.certificate.Certificate.{Certificate}
+use Rattle.chain_cert.proofs.Unique.{one}
+use Rattle.ptg_top.specs.Certify.{IsCertified, certified}
+use Rattle.ptg_top.specs.Demo.{DemoDenotes, IsSummary}
 use Rattle.ptg_top.proofs.Answered.{once_on}
 use Rattle.ptg_top.proofs.Requested.{one_request}
-use Rattle.ptg_top.proofs.Checked.{refused_once, refused_or_read, contents_once}
+use Rattle.ptg_top.proofs.Checked.{refused_once, refused_or_read, contents_consistent, contents_once, job_texts_once}
 
 shows_once : (text : List ℕ) (v w : Denotation) → Shows text v → Shows text w → v ≡ w
 shows_once text v w (inl h) (inl k) = refused_once text v w h k
@@ -29,13 +39,34 @@ content_shows_once : (name : List ℕ) (content : Option (List ℕ)) (v w : Deno
 content_shows_once name None v w h k = h ∙ sym k
 content_shows_once name (Some text) v w h k = shows_once text v w h k
 
+demo_once : (n : ℕ) (v w : Denotation) → DemoDenotes n v → DemoDenotes n w → v ≡ w
+demo_once n v w (a, h, e) (b, k, d) =
+    once_on (IsSummary n) b v w (λ P given is p q. p ∙ sym q)
+    (subst (λ (c : Denotation). OnConsistent (IsSummary n) c v) (job_texts_once jdf_text (data_text n) a b h k) e) d
+
+-- a consistent job has one certificate
+certified_once : (P : Plan) (given : Data) (v w : Denotation) → IsConsistent P → IsCertified P given v → IsCertified P given w → v ≡ w
+certified_once P given v w con (c, h, e) (d, k, q) =
+    let ws = class_weights P given in
+    e ∙ (ap (λ (x : Certificate). verdicts.Ran P (certified ws (answer P given) x)) (one P given ws c d con h k) ∙ sym q)
+
+certify_once : (files : Entries) (jdf tiles : List ℕ) (v w : Denotation) → RequestDenotes files (Certify jdf tiles) v → RequestDenotes files (Certify jdf tiles) w → v ≡ w
+certify_once files jdf tiles v w (a, h, e) (b, k, d) =
+    let a_file = file_of files jdf in
+    let b_file = file_of files tiles in
+    once_on IsCertified b v w
+    (λ P given is. certified_once P given v w (contents_consistent jdf tiles a_file b_file P given (subst (ContentsDenote jdf tiles a_file b_file) is k)))
+    (subst (λ (c : Denotation). OnConsistent IsCertified c v) (contents_once jdf tiles a_file b_file a b h k) e) d
+
 -- what is asked and the files denote one verdict at most
 request_once : (files : Entries) (request : Request) (v w : Denotation) → RequestDenotes files request v → RequestDenotes files request w → v ≡ w
 request_once files (Run jdf tiles settings) v w (a, h, e) (b, k, d) =
-    once_on (IsAnswer settings) (λ P given x y p q. p ∙ sym q) b v w
+    once_on (IsAnswer settings) b v w (λ P given is p q. p ∙ sym q)
     (subst (λ (c : Denotation). OnConsistent (IsAnswer settings) c v) (contents_once jdf tiles (file_of files jdf) (file_of files tiles) a b h k) e) d
 request_once files (Show jdf) v w h k = content_shows_once jdf (file_of files jdf) v w h k
 request_once files (Check jdf tiles) v w h k = contents_once jdf tiles (file_of files jdf) (file_of files tiles) v w h k
+request_once files (Demo rows) v w h k = demo_once rows v w h k
+request_once files (Certify jdf tiles) v w h k = certify_once files jdf tiles v w h k
 
 pub one_meaning : OneMeaning
 one_meaning words files v w (inl h) (inl k) = h.1 ∙ sym k.1

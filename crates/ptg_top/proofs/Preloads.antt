@@ -1,17 +1,14 @@
--- The answer of a run that was made ready, and when its preload is too large.
-use Rattle.std.proofs.Common.{◌≡◌, ℕ, ◌<◌, refl, sym, ◌∙◌, ap, subst}
+-- When the preload of a run is too large.
+use Rattle.std.proofs.Common.{◌≡◌, ℕ, ◌<◌, refl, sym, subst}
 use Rattle.std.specs.Prelude.{Bool, true, false, not, nat_le, if◌then◌else◌}
 use Rattle.std.proofs.lemmas.Bool.{and_from, and_parts, false_from_ne_true, leb-false, lt-leb, not_from_false}
 use Rattle.coll_data.specs.Data.{Data}
 use Rattle.plan_core.specs.declared.plan.Plan.{Plan}
 use Rattle.flow_meaning.specs.Answer.{answer}
-use Rattle.flow_meaning.specs.declared.outcome.Outcome.{Outcome}
-use Rattle.table_rule.specs.declared.job.Job.{Job}
-use Rattle.dep_table.specs.ClosedTables.{ClosedView}
-use Rattle.dep_table.specs.Receipts.{ReceiptView, receipt_of}
 use Rattle.run_pool.specs.Bytes.{preload_bytes}
-use Rattle.run_pool.specs.Runs.{IsTooLarge, Run, run_of}
+use Rattle.run_pool.specs.Runs.{IsTooLarge}
 use Rattle.run_pool.specs.declared.settings.Settings.{Settings}
+use Rattle.ptg_top.specs.declared.verdict.Finding.TheVariants.{Answer}
 use Rattle.ptg_top.specs.Answering.{IsAnswer}
 use Rattle.ptg_top.specs.Denotation as verdicts
 use Rattle.ptg_top.specs.Denotation.{Denotation}
@@ -37,19 +34,10 @@ module _ (P : Plan) (s : Settings) where
     -- a preload that is refused
     pub refused_is_answer : (bytes : ℕ) → IsTooLarge P s bytes → IsAnswer s P G verdicts.Preload
     refused_is_answer bytes h =
-        subst (λ (large : Bool). verdicts.Preload ≡ (if large then verdicts.Preload else verdicts.Answered P (answer P G))) (sym (found_too_large bytes h)) refl
+        subst (λ (large : Bool). verdicts.Preload ≡ (if large then verdicts.Preload else verdicts.Ran P (Answer (answer P G)))) (sym (found_too_large bytes h)) refl
 
     -- an answer, where none was refused
-    pub fitting_is_answer : (v : Denotation) → ((bytes : ℕ) → IsTooLarge P s bytes → ⊥) → v ≡ verdicts.Answered P (answer P G) → IsAnswer s P G v
+    pub fitting_is_answer : (v : Denotation) → ((bytes : ℕ) → IsTooLarge P s bytes → ⊥) → v ≡ verdicts.Ran P (Answer (answer P G)) → IsAnswer s P G v
     fitting_is_answer v none e =
         let fits : is_too_large s P ≡ false = false_from_ne_true (is_too_large s P) (λ large. none (preload_bytes P s.workers) (is_found large)) in
-        subst (λ (large : Bool). v ≡ (if large then verdicts.Preload else verdicts.Answered P (answer P G))) (sym fits) e
-
-    -- the answer of a closed table is that of the job that was made ready
-    pub closed_answer : (p : Run) (t : ClosedView) (r : ReceiptView) (outcome : Outcome) → p ≡ run_of P G s → t.job ≡ p.job → r ≡ receipt_of t → outcome ≡ answer t.job.matched t.job.given
-        → verdicts.Answered r.plan outcome ≡ verdicts.Answered P (answer P G)
-    closed_answer p t r outcome run job receipt ended =
-        let same : t.job ≡ (run_of P G s).job = job ∙ ap (λ (q : Run). q.job) run in
-        let plan : r.plan ≡ P = ap (λ (x : ReceiptView). x.plan) receipt ∙ ap (λ (j : Job). j.matched) same in
-        let out : outcome ≡ answer P G = ended ∙ ap (λ (j : Job). answer j.matched j.given) same in
-        ap (λ (Q : Plan). verdicts.Answered Q outcome) plan ∙ ap (λ (x : Outcome). verdicts.Answered P x) out
+        subst (λ (large : Bool). v ≡ (if large then verdicts.Preload else verdicts.Ran P (Answer (answer P G)))) (sym fits) e

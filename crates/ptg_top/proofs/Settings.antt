@@ -8,6 +8,7 @@ use Rattle.ptg_words.specs.Words.{Orders}
 use Rattle.run_pool.specs.declared.settings.Settings.{Settings}
 use Rattle.ptg_top.specs.declared.request.Request.{Request}
 use Rattle.ptg_top.specs.declared.request.Request.TheVariants.{Run}
+use Rattle.ptg_top.specs.declared.verdict.Finding.TheVariants.{Answer}
 use Rattle.ptg_top.specs.Denotation as verdicts
 use Rattle.ptg_top.specs.Denotation.{Denotation}
 use Rattle.ptg_top.specs.Preload.{is_too_large}
@@ -27,7 +28,7 @@ alike_on : (a b : Settings) → AreAlike a b → (checked v : Denotation) → On
 alike_on a b same (verdicts.Job (jobs.Consistent P given)) v h = h ∙ ap (λ (large : Bool). answered large) (same P)
   where
     answered : Bool → Denotation
-    answered large = if large then verdicts.Preload else verdicts.Answered P (answer P given)
+    answered large = if large then verdicts.Preload else verdicts.Ran P (Answer (answer P given))
 alike_on a b same checked v h = h
 
 module _ (one other : List (List ℕ)) (jdf tiles : List ℕ) (a b : Settings) (files : Entries) (v : Denotation) where

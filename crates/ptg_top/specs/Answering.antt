@@ -3,9 +3,9 @@ use Rattle.std.specs.Prelude.{◌≡◌, if◌then◌else◌}
 use Rattle.coll_data.specs.Data.{Data}
 use Rattle.plan_core.specs.declared.plan.Plan.{Plan}
 use Rattle.flow_meaning.specs.Answer.{answer}
-use Rattle.flow_meaning.specs.declared.outcome.Outcome.{Outcome}
 use Rattle.job_stages.specs.declared.verdict.JobVerdict.TheVariants as jobs
 use Rattle.run_pool.specs.declared.settings.Settings.{Settings}
+use Rattle.ptg_top.specs.declared.verdict.Finding.TheVariants.{Answer}
 use Rattle.ptg_top.specs.Preload.{is_too_large}
 use Rattle.ptg_top.specs.Denotation as verdicts
 use Rattle.ptg_top.specs.Denotation.{Denotation}
@@ -24,8 +24,4 @@ IsRefusal v = ⊥
 
 -- the verdict of `run` on a consistent job: its preload is too large, or else its answer
 abbrev pub IsAnswer : Settings → Plan → Data → Denotation → Type 0
-IsAnswer settings P given v = v ≡ (if is_too_large settings P then verdicts.Preload else verdicts.Answered P (answer P given))
-
--- an answer of this plan, on some data
-abbrev pub IsAnswered : Plan → Outcome → Type 0
-IsAnswered P outcome = (given : Data) × (outcome ≡ answer P given)
+IsAnswer settings P given v = v ≡ (if is_too_large settings P then verdicts.Preload else verdicts.Ran P (Answer (answer P given)))

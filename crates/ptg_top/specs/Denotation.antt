@@ -1,20 +1,20 @@
 -- The verdict of a run of the program, without those who own its parts. Source: this project's own choice.
 use Rattle.std.specs.Prelude.{ℕ, List}
 use Rattle.plan_core.specs.declared.plan.Plan.{Plan}
-use Rattle.flow_meaning.specs.declared.outcome.Outcome.{Outcome}
 use Rattle.job_stages.specs.declared.verdict.JobVerdict.{JobVerdict}
+use Rattle.ptg_top.specs.declared.verdict.Finding.{Finding}
 use Rattle.ptg_top.specs.declared.verdict.RanBy.{RanBy}
 use Rattle.ptg_top.specs.declared.verdict.RanBy.TheVariants.{Table}
 use Rattle.ptg_top.specs.declared.verdict.Verdict.{Verdict}
 use Rattle.ptg_top.specs.declared.verdict.Verdict.TheVariants as verdicts
 
--- The arguments form no command; the file of this name could not be read; a refusal, or a job that was found consistent; the answer
--- of a job with this plan; the canonical spelling of a JDF; a preload that is too large.
+-- The arguments form no command; the file of this name could not be read; a refusal, or a job that was found consistent; what is
+-- found of the answer of a job with this plan; the canonical spelling of a JDF; a preload that is too large.
 pub data Denotation : Type 0 where
   Usage : Denotation
   Unread : List ℕ → Denotation
   Job : JobVerdict → Denotation
-  Answered : Plan → Outcome → Denotation
+  Ran : Plan → Finding → Denotation
   Spelling : List ℕ → Denotation
   Preload : Denotation
 
@@ -27,6 +27,6 @@ abbrev pub denoted : Verdict → Denotation
 denoted verdicts.Usage = Usage
 denoted (verdicts.Unread name) = Unread name
 denoted (verdicts.Job job) = Job job
-denoted (verdicts.Answered by outcome) = Answered (plan_of by) outcome
+denoted (verdicts.Ran by finding) = Ran (plan_of by) finding
 denoted (verdicts.Spelling text) = Spelling text
 denoted verdicts.Preload = Preload

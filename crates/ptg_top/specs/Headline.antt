@@ -1,15 +1,13 @@
 -- What is printed for a verdict, and what a run of the program promises. Source: this project's own choice of lines and statuses.
 use Rattle.std.specs.Prelude.{◌≡◌, ℕ, List, [], ◌∷◌, Option, codes}
 use Rattle.ptg_io.specs.Sink.{appended}
-use Rattle.flow_meaning.specs.declared.outcome.Outcome.{Outcome}
-use Rattle.flow_meaning.specs.declared.outcome.Outcome.TheVariants as outcomes
 use Rattle.report_text.specs.Field.{line}
-use Rattle.report_text.specs.Printed.{outcome_text}
 use Rattle.report_text.specs.Puts.{HasPrefix}
 use Rattle.ptg_top.specs.declared.status.Status.{Status}
 use Rattle.ptg_top.specs.declared.status.Status.TheVariants.{Complete, Usage, JdfRefused, DataRefused, Inconsistent, Trapped, Stalled, ReadFault, WriteFault, OutOfMemory, PreloadTooLarge}
 use Rattle.ptg_top.specs.Denotation as verdicts
 use Rattle.ptg_top.specs.Denotation.{Denotation}
+use Rattle.ptg_top.specs.Findings.{finding_text, status_of_finding}
 use Rattle.ptg_top.specs.JobFiles.{Entries}
 use Rattle.ptg_top.specs.Meaning.{Denotes}
 use Rattle.ptg_top.specs.Reports.{IsVerdictOnWords}
@@ -32,21 +30,16 @@ abbrev pub text_of : Denotation → List ℕ
 text_of verdicts.Usage = usage_line
 text_of (verdicts.Unread name) = unread_line name
 text_of (verdicts.Job job) = job_text job
-text_of (verdicts.Answered P outcome) = outcome_text P outcome
+text_of (verdicts.Ran P finding) = finding_text P finding
 text_of (verdicts.Spelling text) = text
 text_of verdicts.Preload = preload_line
-
-abbrev pub status_of_outcome : Outcome → Status
-status_of_outcome (outcomes.Complete count given) = Complete
-status_of_outcome (outcomes.Trapped rows) = Trapped
-status_of_outcome (outcomes.Stalled ran total rows) = Stalled
 
 -- and its status
 abbrev pub status_of : Denotation → Status
 status_of verdicts.Usage = Usage
 status_of (verdicts.Unread name) = ReadFault
 status_of (verdicts.Job job) = status_of_job job
-status_of (verdicts.Answered P outcome) = status_of_outcome outcome
+status_of (verdicts.Ran P finding) = status_of_finding finding
 status_of (verdicts.Spelling text) = Complete
 status_of verdicts.Preload = PreloadTooLarge
 

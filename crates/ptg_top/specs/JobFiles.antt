@@ -9,7 +9,7 @@ use Rattle.job_stages.specs.Fitting.{HasFittingData}
 use Rattle.job_stages.specs.Verdict.{JdfTextDenotes, TextsDenote}
 use Rattle.ptg_top.specs.Denotation as verdicts
 use Rattle.ptg_top.specs.Denotation.{Denotation}
-use Rattle.ptg_top.specs.Answering.{IsAnswered}
+use Rattle.ptg_top.specs.Findings.{IsFindingOf}
 
 -- files by name
 abbrev pub Entries : Type 0
@@ -23,23 +23,27 @@ TreeAt files name J = (text : List ℕ) × (file_of files name ≡ Some text) ×
 abbrev pub RefusesText : List ℕ → Denotation → Type 0
 RefusesText text v = (job : JobVerdict) × JdfTextDenotes text job × (v ≡ verdicts.Job job)
 
+-- the text of a JDF and the text of its data denote this verdict
+abbrev pub JobTextsDenote : List ℕ → List ℕ → Denotation → Type 0
+JobTextsDenote text data_text v = (job : JobVerdict) × TextsDenote text data_text job × (v ≡ verdicts.Job job)
+
 -- The contents of a JDF file and of a data file with these names denote this verdict: that the JDF file is not there; else, where the
 -- data file is not there, the first fault of the JDF's text, or that the data file is not there; else what the two texts denote.
 abbrev pub ContentsDenote : List ℕ → List ℕ → Option (List ℕ) → Option (List ℕ) → Denotation → Type 0
 ContentsDenote jdf tiles None other v = v ≡ verdicts.Unread jdf
 ContentsDenote jdf tiles (Some text) None v = RefusesText text v ⊎ ((J : Jdf) × IsJdf text J × (v ≡ verdicts.Unread tiles))
-ContentsDenote jdf tiles (Some text) (Some data_text) v = (job : JobVerdict) × TextsDenote text data_text job × (v ≡ verdicts.Job job)
+ContentsDenote jdf tiles (Some text) (Some data_text) v = JobTextsDenote text data_text v
 
 -- the files of these names denote this verdict
 abbrev pub FilesDenote : Entries → List ℕ → List ℕ → Denotation → Type 0
 FilesDenote files jdf tiles v = ContentsDenote jdf tiles (file_of files jdf) (file_of files tiles) v
 
--- The data of a consistent job fit its plan, and an answer is that of its plan on some data.
+-- The data of a consistent job fit its plan, and what is found of a job that was run is of its plan.
 abbrev pub HasFittingJob : Denotation → Type 0
 HasFittingJob verdicts.Usage = Unit {0}
 HasFittingJob (verdicts.Unread name) = Unit {0}
 HasFittingJob (verdicts.Job job) = HasFittingData job
-HasFittingJob (verdicts.Answered P outcome) = IsAnswered P outcome
+HasFittingJob (verdicts.Ran P finding) = IsFindingOf P finding
 HasFittingJob (verdicts.Spelling text) = Unit {0}
 HasFittingJob verdicts.Preload = Unit {0}
 

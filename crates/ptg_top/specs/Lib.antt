@@ -1,8 +1,12 @@
 pub mod Requests
 pub mod Denotation
+pub mod Tables
+pub mod Findings
 pub mod Preload
 pub mod Answering
 pub mod JobFiles
+pub mod Demo
+pub mod Certify
 pub mod Meaning
 pub mod Settings
 pub mod Steps

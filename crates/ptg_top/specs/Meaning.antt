@@ -6,12 +6,14 @@ use Rattle.jdf_tree.specs.declared.tree.Jdf.{Jdf}
 use Rattle.jdf_tree.specs.Jdf.{IsJdf}
 use Rattle.jdf_print.specs.Spelling.{spelling}
 use Rattle.ptg_top.specs.declared.request.Request.{Request}
-use Rattle.ptg_top.specs.declared.request.Request.TheVariants.{Run, Show, Check}
+use Rattle.ptg_top.specs.declared.request.Request.TheVariants.{Run, Show, Check, Demo, Certify}
 use Rattle.ptg_top.specs.Denotation as verdicts
 use Rattle.ptg_top.specs.Denotation.{Denotation}
 use Rattle.ptg_top.specs.Requests.{Requests}
 use Rattle.ptg_top.specs.JobFiles.{Entries, TreeAt, RefusesText, FilesDenote}
 use Rattle.ptg_top.specs.Answering.{IsAnswer, OnConsistent}
+use Rattle.ptg_top.specs.Certify.{IsCertified}
+use Rattle.ptg_top.specs.Demo.{DemoDenotes}
 
 -- the arguments form no command that is carried out
 abbrev pub IsNoOrder : List (List ℕ) → Type 0
@@ -27,11 +29,14 @@ ContentShows name None v = v ≡ verdicts.Unread name
 ContentShows name (Some text) v = Shows text v
 
 -- What the files denote for what is asked: `run` refuses what `check` refuses; of a job that `check` finds consistent it refuses a
--- preload that is too large, or answers the job.
+-- preload that is too large, or answers the job. `certify` refuses what `check` refuses, and finds the certificate of a consistent job.
+-- `demo` reads no file.
 abbrev pub RequestDenotes : Entries → Request → Denotation → Type 0
 RequestDenotes files (Run jdf tiles settings) v = (checked : Denotation) × FilesDenote files jdf tiles checked × OnConsistent (IsAnswer settings) checked v
 RequestDenotes files (Show jdf) v = ContentShows jdf (file_of files jdf) v
 RequestDenotes files (Check jdf tiles) v = FilesDenote files jdf tiles v
+RequestDenotes files (Demo rows) v = DemoDenotes rows v
+RequestDenotes files (Certify jdf tiles) v = (checked : Denotation) × FilesDenote files jdf tiles checked × OnConsistent IsCertified checked v
 
 -- The arguments and the files denote this verdict: usage, if the arguments form no command; else what the files denote for what
 -- the arguments ask.
@@ -57,6 +62,8 @@ abbrev pub MayBeUnreadFor : Option Entries → Request → List ℕ → Type 0
 MayBeUnreadFor contents (Run jdf tiles settings) name = IsUnreadOf contents jdf tiles name
 MayBeUnreadFor contents (Show jdf) name = name ≡ jdf
 MayBeUnreadFor contents (Check jdf tiles) name = IsUnreadOf contents jdf tiles name
+MayBeUnreadFor contents (Demo rows) name = ⊥
+MayBeUnreadFor contents (Certify jdf tiles) name = IsUnreadOf contents jdf tiles name
 
 -- the names that `unread` may have: the JDF file's, or the data file's if the JDF is the text of a tree, where the contents are known
 abbrev pub MayBeUnread : List (List ℕ) → Option Entries → List ℕ → Type 0

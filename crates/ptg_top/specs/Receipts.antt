@@ -9,26 +9,32 @@ use Rattle.ptg_words.specs.Words.{Orders}
 use Rattle.job_stages.specs.declared.verdict.JobVerdict.TheVariants as jobs
 use Rattle.run_pool.specs.declared.settings.Settings.{Settings}
 use Rattle.ptg_top.specs.declared.request.Request.{Request}
-use Rattle.ptg_top.specs.declared.request.Request.TheVariants.{Run}
+use Rattle.ptg_top.specs.declared.request.Request.TheVariants.{Run, Demo, Certify}
 use Rattle.ptg_top.specs.declared.status.Status.{Status}
 use Rattle.ptg_top.specs.declared.status.Status.TheVariants as status
 use Rattle.ptg_top.specs.declared.verdict.RanBy.TheVariants.{Table}
 use Rattle.ptg_top.specs.declared.verdict.Verdict.{Verdict}
-use Rattle.ptg_top.specs.declared.verdict.Verdict.TheVariants.{Answered}
+use Rattle.ptg_top.specs.declared.verdict.Verdict.TheVariants.{Ran}
 use Rattle.ptg_top.specs.Denotation as verdicts
 use Rattle.ptg_top.specs.Denotation.{denoted}
+use Rattle.ptg_top.specs.Demo.{MadeTextsDenote}
 use Rattle.ptg_top.specs.JobFiles.{Entries, FilesDenote}
 use Rattle.ptg_top.specs.Headline.{status_of}
 use Rattle.ptg_top.specs.Requests.{Requests}
+use Rattle.ptg_top.specs.Tables.{IsRunWith, ShowsSettings, usual_settings}
 
 -- the command runs a job
 abbrev pub IsRun : Order → Type 0
 IsRun (order.Run jdf tiles workers shards preload) = Unit {0}
+IsRun (order.Demo rows) = Unit {0}
+IsRun (order.Certify jdf tiles) = Unit {0}
 IsRun o = ⊥
 
--- The receipt is of a table with as many shards as the command says, a pass for each of its workers, and a preload if it asks for one.
+-- The receipt is of a table with the settings that the command says, or with the usual ones where it has no options for them.
 abbrev pub IsReceiptFor : Order → ReceiptView → Type 0
-IsReceiptFor (order.Run jdf tiles workers shards preload) r = (r.shards ≡ shards) × (r.passes ≡ workers) × (r.preloaded ≡ preload)
+IsReceiptFor (order.Run jdf tiles workers shards preload) r = ShowsSettings (record { workers = workers; shards = shards; preload = preload }) r
+IsReceiptFor (order.Demo rows) r = ShowsSettings usual_settings r
+IsReceiptFor (order.Certify jdf tiles) r = ShowsSettings usual_settings r
 IsReceiptFor o r = ⊥
 
 -- the status of a job's answer
@@ -38,12 +44,14 @@ IsAnswerStatus status.Trapped = Unit {0}
 IsAnswerStatus status.Stalled = Unit {0}
 IsAnswerStatus s = ⊥
 
--- the files that the command names denote a consistent job with this plan
+-- the files that the command names, or the texts that it makes, denote a consistent job with this plan
 abbrev pub FindsPlan : Entries → Order → Plan → Type 0
 FindsPlan files (order.Run jdf tiles workers shards preload) P = (given : Data) × FilesDenote files jdf tiles (verdicts.Job (jobs.Consistent P given))
+FindsPlan files (order.Demo rows) P = (given : Data) × MadeTextsDenote rows (verdicts.Job (jobs.Consistent P given))
+FindsPlan files (order.Certify jdf tiles) P = (given : Data) × FilesDenote files jdf tiles (verdicts.Job (jobs.Consistent P given))
 FindsPlan files o P = ⊥
 
--- the arguments form a command, and the files that it names denote a consistent job with this plan
+-- the arguments form a command, and its job is consistent and has this plan
 abbrev pub HasConsistentPlan : List (List ℕ) → Entries → Plan → Type 0
 HasConsistentPlan words files P = (o : Order) × Orders words o × FindsPlan files o P
 
@@ -51,17 +59,20 @@ HasConsistentPlan words files P = (o : Order) × Orders words o × FindsPlan fil
 
 -- the receipt of the table that ran the job of a verdict
 abbrev pub receipt_of : Verdict → Option ReceiptView
-receipt_of (Answered (Table receipt) outcome) = Some receipt
+receipt_of (Ran (Table receipt) finding) = Some receipt
 receipt_of v = None
 
--- A verdict on a run with these settings: an answer by a table with these settings, or one without the status of an answer.
+-- A verdict on a run with these settings: what is found of a job that a table with these settings ran, or one without the status of
+-- an answer.
 abbrev pub IsOfRun : Settings → Verdict → Type 0
-IsOfRun settings (Answered (Table r) outcome) = (r.shards ≡ settings.shards) × (r.passes ≡ settings.workers) × (r.preloaded ≡ settings.preload)
+IsOfRun settings (Ran by finding) = IsRunWith settings by
 IsOfRun settings v = IsAnswerStatus (status_of (denoted v)) → ⊥
 
 -- A verdict on what is asked: on a run with its settings, or without a receipt.
 abbrev pub IsRunAsAsked : Request → Verdict → Type 0
 IsRunAsAsked (Run jdf tiles settings) v = IsOfRun settings v
+IsRunAsAsked (Demo rows) v = IsOfRun usual_settings v
+IsRunAsAsked (Certify jdf tiles) v = IsOfRun usual_settings v
 IsRunAsAsked request v = receipt_of v ≡ None
 
 -- the same, of what the arguments ask

@@ -1,11 +1,11 @@
 -- The verdicts on a request, and on the arguments, where a read may fail; `old` and `new` count the failed reads of each name.
 -- Source: this project's own choice.
-use Rattle.std.specs.Prelude.{◌≡◌, ◌⊎◌, ℕ, List, Option, Some}
+use Rattle.std.specs.Prelude.{◌≡◌, ◌≤◌, ◌⊎◌, ℕ, List, Option, Some}
 use Rattle.std.specs.Str.{IsUtf8}
 use Rattle.ptg_io.specs.Faults.{Rose}
 use Rattle.ptg_words.specs.Laws.{AreCounts}
 use Rattle.ptg_top.specs.declared.request.Request.{Request}
-use Rattle.ptg_top.specs.declared.request.Request.TheVariants.{Run, Show, Check}
+use Rattle.ptg_top.specs.declared.request.Request.TheVariants.{Run, Show, Check, Demo, Certify}
 use Rattle.ptg_top.specs.Denotation as verdicts
 use Rattle.ptg_top.specs.Denotation.{Denotation}
 use Rattle.ptg_top.specs.Requests.{Requests}
@@ -17,7 +17,7 @@ abbrev pub IsOfTexts : Denotation → Type 0
 IsOfTexts verdicts.Usage = ⊥
 IsOfTexts (verdicts.Unread name) = ⊥
 IsOfTexts (verdicts.Job job) = Unit {0}
-IsOfTexts (verdicts.Answered P outcome) = Unit {0}
+IsOfTexts (verdicts.Ran P finding) = Unit {0}
 IsOfTexts (verdicts.Spelling text) = Unit {0}
 IsOfTexts verdicts.Preload = Unit {0}
 
@@ -38,8 +38,10 @@ IsVerdictOnWords words contents old new v =
     (IsNoOrder words × (v ≡ verdicts.Usage))
     ⊎ ((request : Request) × Requests words request × IsVerdictOnRequest contents old new request v)
 
--- the names in a request are UTF-8, and its numbers of workers and of shards are in their ranges
+-- the names in a request are UTF-8, and its numbers are in their ranges
 abbrev pub IsProper : Request → Type 0
 IsProper (Run jdf tiles settings) = IsUtf8 jdf × IsUtf8 tiles × AreCounts settings.workers settings.shards
 IsProper (Show jdf) = IsUtf8 jdf
 IsProper (Check jdf tiles) = IsUtf8 jdf × IsUtf8 tiles
+IsProper (Demo rows) = (1 ≤ rows) × (rows ≤ 96)
+IsProper (Certify jdf tiles) = IsUtf8 jdf × IsUtf8 tiles

@@ -6,11 +6,13 @@ ghost use Rattle.ptg_top.specs.JobFiles.{HasFittingJob};
 ghost use Rattle.ptg_top.specs.Reports.{IsProper, IsVerdictOnRequest, IsVerdictOnWords};
 ghost use Rattle.ptg_top.specs.Receipts.{IsRunAsAsked, IsRunAsOrdered};
 
+use crate::certifying::certify;
 use crate::checking::check;
 use crate::host::Host;
 use crate::request::{Request, request_of};
 use crate::running::run;
 use crate::showing::show;
+use crate::summing::demo;
 use crate::verdict::Verdict;
 use ptg_base::{OutOfMemory, Text};
 use ptg_io::Files;
@@ -60,5 +62,7 @@ fn carry_out<R: Threads + Wait + Sync, F: Files, G: Gate>(
         Request::Run(jdf, tiles, settings) => run(host, jdf, tiles, files, *settings),
         Request::Show(jdf) => show(host.alloc, jdf, files),
         Request::Check(jdf, tiles) => check(host.alloc, jdf, tiles, files),
+        Request::Demo(rows) => demo(host, *rows),
+        Request::Certify(jdf, tiles) => certify(host, jdf, tiles, files),
     }
 }

@@ -1,9 +1,11 @@
 //! The whole program, over files and a sink that it is handed.
 #![tactic(auto)]
 
-mod answer_telling;
+mod certifying;
 mod checking;
+mod consistent;
 mod ended;
+mod finding_telling;
 mod host;
 mod job_telling;
 mod judge;
@@ -15,6 +17,8 @@ mod request;
 mod running;
 mod showing;
 mod status;
+mod summing;
+mod table_run;
 mod telling;
 mod verdict;
 
@@ -22,4 +26,4 @@ pub use ended::Ended;
 pub use laws::{one_meaning, settings_change_nothing_else, some_meaning};
 pub use program::ptg_main;
 pub use status::Status;
-pub use verdict::{RanBy, Verdict};
+pub use verdict::{Finding, RanBy, Verdict};

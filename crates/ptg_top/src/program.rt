@@ -27,9 +27,11 @@ use worker_core::Gate;
 /// Whatever the JDF, the data, the number of workers and the number of shards, `run JDF DATA` prints exactly the answer of the
 /// sequential dataflow meaning, with its status: the refusal, the final collections, all trapped tasks, or a stall with its waiting
 /// discovered tasks. Only a counted fault of reading or writing, want of memory, or a preload above 2^30 bytes takes its place. The
-/// same holds for `show JDF`, which prints the canonical spelling or the refusal, and for `check JDF DATA`, which prints how many
+/// same holds for `show JDF`, which prints the canonical spelling or the refusal; for `check JDF DATA`, which prints how many
 /// tasks, edges and write-backs a consistent job has, or the first refusal of the one order: the JDF's text, the data's text, a
-/// global that the data lack, names and kinds, consistency. It may wait, as workers wait for each other.
+/// global that the data lack, names and kinds, consistency; for `demo N`, which runs the made job of N rows of tiles and prints the
+/// number of its tasks and the sum of all elements; and for `certify JDF DATA`, which runs a job and prints a heaviest chain of its
+/// tasks with the level of each, or a cycle where it stalled, or its traps. It may wait, as workers wait for each other.
 pub fn ptg_main<R: Threads + Wait + Sync, F: Files, O: Sink, G: Gate>(
     rt: &R,
     alloc: Global,

@@ -16,6 +16,10 @@ pub enum Request {
     Show(Text),
     /// Check the job of this JDF file on this data file.
     Check(Text, Text),
+    /// Run the made job with this many rows of tiles.
+    Demo(u32),
+    /// Run the job of this JDF file on this data file, and find its certificate.
+    Certify(Text, Text),
 }
 
 /// What a command asks for: nothing where it is one of the verbs that come later.
@@ -33,10 +37,10 @@ pub fn request_of(order: Order) -> Option<Request>
         }
         Order::Show(jdf) => Some(Request::Show(jdf)),
         Order::Check(jdf, tiles) => Some(Request::Check(jdf, tiles)),
-        Order::Demo(_) => None,
+        Order::Demo(rows) => Some(Request::Demo(rows)),
         Order::Trace(_, _, _, _) => None,
         Order::Replay(_, _, _) => None,
-        Order::Certify(_, _) => None,
+        Order::Certify(jdf, tiles) => Some(Request::Certify(jdf, tiles)),
         Order::Ranks(_, _, _, _) => None,
     }
 }

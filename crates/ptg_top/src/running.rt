@@ -1,27 +1,26 @@
 //! The run of a job's two files.
 
-ghost use Rattle.std.specs.Prelude.{◌≡◌, ◌≤◌, ℕ, List, IfOk, IfErr};
+ghost use Rattle.std.specs.Prelude.{◌≡◌, ◌≤◌, ℕ, List, IfOk};
 ghost use Rattle.std.specs.Str.{IsUtf8};
 ghost use Rattle.plan_data.specs.Fit.{DataFit};
 ghost use Rattle.ptg_words.specs.Laws.{AreCounts};
-ghost use Rattle.job_stages.specs.declared.verdict.JobVerdict.TheVariants as jobs;
 ghost use Rattle.ptg_top.specs.declared.request.Request.TheVariants as asked;
-ghost use Rattle.ptg_top.specs.Denotation as verdicts;
 ghost use Rattle.ptg_top.specs.Denotation.{denoted};
-ghost use Rattle.ptg_top.specs.Answering.{IsAnswer, IsRefusal};
-ghost use Rattle.ptg_top.specs.JobFiles.{HasFittingJob, IsChecked};
+ghost use Rattle.ptg_top.specs.Answering.{IsAnswer};
+ghost use Rattle.ptg_top.specs.JobFiles.{HasFittingJob};
 ghost use Rattle.ptg_top.specs.Reports.{IsVerdictOnRequest};
 ghost use Rattle.ptg_top.specs.Receipts.{IsOfRun};
 
 use crate::checking::check;
+use crate::consistent::consistent_job;
 use crate::host::Host;
-use crate::verdict::{RanBy, Verdict};
+use crate::table_run::run_prepared;
+use crate::verdict::{Finding, Verdict};
 use coll_data::Given;
 use dep_iter::Matched;
-use job_stages::JobVerdict;
 use ptg_base::{OutOfMemory, Text};
 use ptg_io::Files;
-use run_pool::{PrepareFault, Settings, prepare, run as run_prepared};
+use run_pool::{PrepareFault, Settings, prepare};
 use std::sync::Wait;
 use std::thread::Threads;
 use worker_core::Gate;
@@ -51,19 +50,6 @@ pub fn run<R: Threads + Wait + Sync, F: Files, G: Gate>(
     }
 }
 
-// The consistent job that `check` found, with its data; a refusal is handed back.
-fn consistent_job(checked: Verdict) -> Result<(Matched, Given), Verdict>
-    requires { IsChecked (denoted checked) }
-    ensures found { IfOk result (λ job. denoted checked ≡ verdicts.Job (jobs.Consistent job.0 job.1)) }
-    ensures fit { IfOk result (λ job. DataFit job.0.colls job.0.elems job.1) }
-    ensures refused { IfErr result (λ v. (v ≡ checked) × IsRefusal (denoted v)) }
-{
-    match checked {
-        Verdict::Job(JobVerdict::Consistent(matched, given)) => Ok((matched, given)),
-        refused => Err(refused),
-    }
-}
-
 // The answer of a job, run by the workers of a table, unless its preload is too large.
 fn answered<R: Threads + Wait + Sync, G: Gate>(
     host: &Host<R, G>,
@@ -79,9 +65,8 @@ fn answered<R: Threads + Wait + Sync, G: Gate>(
 {
     match prepare(host.alloc, matched, given, settings) {
         Ok(prepared) => {
-            let closed = run_prepared(host.rt, prepared, host.gate)?;
-            let (outcome, receipt) = closed.outcome()?;
-            Ok(Verdict::Answered(RanBy::Table(receipt), outcome))
+            let (by, outcome) = run_prepared(host, prepared)?;
+            Ok(Verdict::Ran(by, Finding::Answer(outcome)))
         }
         Err(PrepareFault::PreloadTooLarge(_bytes)) => Ok(Verdict::Preload),
         Err(PrepareFault::OutOfMemory) => Err(OutOfMemory),

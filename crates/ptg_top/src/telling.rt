@@ -9,7 +9,7 @@ ghost use Rattle.ptg_top.specs.JobFiles.{HasFittingJob};
 ghost use Rattle.ptg_top.specs.Headline.{text_of, status_of};
 ghost use Rattle.ptg_top.specs.Receipts.{receipt_of};
 
-use crate::answer_telling::{status_of_outcome, tell_answer};
+use crate::finding_telling::{status_of_finding, tell_finding};
 use crate::job_telling::{status_of_job, tell_job};
 use crate::status::Status;
 use crate::verdict::{RanBy, Verdict};
@@ -30,7 +30,7 @@ pub fn tell<O: Sink>(verdict: &Verdict, out: &mut O) -> Result<(), Failed>
         Verdict::Usage => refusal(&Line::Usage, out),
         Verdict::Unread(name) => refusal(&Line::Unread(name.bytes()), out),
         Verdict::Job(job) => tell_job(job, out),
-        Verdict::Answered(by, outcome) => tell_answer(by, outcome, out),
+        Verdict::Ran(by, finding) => tell_finding(by, finding, out),
         Verdict::Spelling(text) => spell(text, out),
         Verdict::Preload => refusal(&Line::Preload, out),
     }
@@ -54,7 +54,7 @@ pub fn status(verdict: &Verdict) -> Status
         Verdict::Usage => Status::Usage,
         Verdict::Unread(_) => Status::ReadFault,
         Verdict::Job(job) => status_of_job(job),
-        Verdict::Answered(_, outcome) => status_of_outcome(outcome),
+        Verdict::Ran(_, finding) => status_of_finding(finding),
         Verdict::Spelling(_) => Status::Complete,
         Verdict::Preload => Status::PreloadTooLarge,
     }
@@ -65,7 +65,7 @@ pub fn receipt(verdict: Verdict) -> Option<Receipt>
     ensures { result ≡ receipt_of verdict }
 {
     match verdict {
-        Verdict::Answered(by, _outcome) => match by {
+        Verdict::Ran(by, _finding) => match by {
             RanBy::Table(receipt) => Some(receipt),
         },
         _ => None,

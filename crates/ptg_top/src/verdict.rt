@@ -4,6 +4,7 @@ use dep_table::receipt::Receipt;
 use flow_meaning::Outcome;
 use job_stages::JobVerdict;
 use ptg_base::Text;
+use report_text::{FoundCycle, HeaviestChain, Summary};
 
 /// What a run comes to, before it is printed.
 #[derive(Drop)]
@@ -14,8 +15,8 @@ pub enum Verdict {
     Unread(Text),
     /// The refusal of a job or of a JDF, or a job that was found consistent.
     Job(JobVerdict),
-    /// The answer of a job, and by whom it was run.
-    Answered(RanBy, Outcome),
+    /// A job was run: by whom, and what is found of its answer.
+    Ran(RanBy, Finding),
     /// The canonical spelling of a JDF.
     Spelling(Text),
     /// A preload that is too large.
@@ -27,4 +28,17 @@ pub enum Verdict {
 pub enum RanBy {
     /// By the workers of a table, whose receipt this is.
     Table(Receipt),
+}
+
+/// What a command finds of the answer of a job that was run.
+#[derive(Drop)]
+pub enum Finding {
+    /// The answer itself.
+    Answer(Outcome),
+    /// The summary of a made job that is complete.
+    Summary(Summary),
+    /// A heaviest chain of a complete job, with the level of each task.
+    Chain(HeaviestChain),
+    /// A cycle of a job that stalled.
+    Cycle(FoundCycle),
 }

@@ -57,11 +57,11 @@ module _ {A : Type 0} (key : A → Task) where
 some_is : {A : Type 0} (x y : A) → Some x ≡ Some y → x ≡ y
 some_is x y e = ap (λ o. unwrap_or o y) e
 
-module _ (P : Plan) (G : Data) where
-  -- the class of a task of the job is one of the plan's
-  has_class : (t : Task) → IsTask P t → HasClass P t
-  has_class t task = let c = class_of P t task in slice_get_within P.classes t.class c.class c.class_is
+-- the class of a task of the job is one of the plan's
+pub has_class : (P : Plan) (t : Task) → IsTask P t → HasClass P t
+has_class P t task = let c = class_of P t task in slice_get_within P.classes t.class c.class c.class_is
 
+module _ (P : Plan) (G : Data) where
   -- what traps has one of these words
   abbrev EndAllowed : ClassPlan → Option Ended → Type 0
   EndAllowed c o = (cause : Trap) → o ≡ Some (Err cause) → IsAllowed (length c.trap_words) cause
@@ -113,7 +113,7 @@ module _ (P : Plan) (G : Data) where
       let m = from_flat_map (λ t. rows_of_end t (ended P G t)) (all_tasks P) row (in_ordered (λ (r : TrapRow). r.task) rows row i) in
       let r = trap_row_in m.0 (ended P G m.0) row m.2 in
       let task = (listed P m.0).1 m.1 in
-      subst (IsTrapOf P) (sym r.2) (record { class = has_class m.0 task; word = cause_allowed m.0 r.0 task r.1 }))
+      subst (IsTrapOf P) (sym r.2) (record { class = has_class P m.0 task; word = cause_allowed m.0 r.0 task r.1 }))
 
   wait_choice : (t : Task) (b : Bool) (row one : WaitRow) → IsIn row (if b then one ∷ [] else []) → row ≡ one
   wait_choice t true row one i = elim i [ inl e ↦ e | inr n ↦ absurd n ]
@@ -128,7 +128,7 @@ module _ (P : Plan) (G : Data) where
   waits_allowed = all_members (λ (row : WaitRow). HasClass P row.task) (waiting P G) (λ row i.
       let rows = flat_map (λ t. wait_rows P G t (ended P G t)) (all_tasks P) in
       let m = from_flat_map (λ t. wait_rows P G t (ended P G t)) (all_tasks P) row (in_ordered (λ (r : WaitRow). r.task) rows row i) in
-      subst (HasClass P) (sym (wait_row_in m.0 (ended P G m.0) row m.2)) (has_class m.0 ((listed P m.0).1 m.1)))
+      subst (HasClass P) (sym (wait_row_in m.0 (ended P G m.0) row m.2)) (has_class P m.0 ((listed P m.0).1 m.1)))
 
   by_traps : (rows : List TrapRow) → All (IsTrapOf P) rows → HasRowsOf P (answer_by P G rows)
   by_traps (r ∷ rows) h = h

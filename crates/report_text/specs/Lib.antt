@@ -4,4 +4,5 @@ pub mod Places
 pub mod Rows
 pub mod Codes
 pub mod Printed
+pub mod Found
 pub mod Refusal

@@ -16,6 +16,8 @@ pub enum Field<'a> {
     Word(&'a [u8]),
     /// A number in decimal.
     Number(u64),
+    /// An integer in decimal.
+    Integer(i128),
     /// Integers in decimal, a field each.
     Integers(&'a [i64]),
 }
@@ -52,6 +54,7 @@ fn put_field<O: Sink>(sink: &mut O, out: &mut Pieces, field: &Field) -> Result<(
     match field {
         Field::Word(word) => put_word_field(sink, out, word),
         Field::Number(n) => put_number_field(sink, out, *n),
+        Field::Integer(n) => put_integer_field(sink, out, *n),
         Field::Integers(integers) => put_integers(sink, out, integers),
     }
 }
@@ -78,13 +81,13 @@ fn put_integers<O: Sink>(sink: &mut O, out: &mut Pieces, numbers: &[i64]) -> Res
         (flat_map (λ n. 44 ∷ signed_decimal n) numbers.now) }
 {
     for n in numbers {
-        put_integer_field(sink, out, *n)?;
+        put_integer_field(sink, out, i128::from(*n))?;
     }
     Ok(())
 }
 
 // Puts an integer after a comma.
-fn put_integer_field<O: Sink>(sink: &mut O, out: &mut Pieces, n: i64) -> Result<(), Failed>
+fn put_integer_field<O: Sink>(sink: &mut O, out: &mut Pieces, n: i128) -> Result<(), Failed>
     ensures { Puts O.bytes O.faults result sink.old out.old sink.new out.new (44 ∷ signed_decimal n) }
 {
     put_byte(sink, out, b',')?;

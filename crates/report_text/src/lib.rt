@@ -1,10 +1,14 @@
-//! What the program prints: the text of an answer or of a refusal, in pieces of 4,096 bytes. It takes no memory.
+//! What the program prints: the text of an answer or of what else is found of a job, or of a refusal, in pieces of 4,096 bytes. It
+//! takes no memory.
 #![tactic(auto)]
 
 mod answer;
+mod certificate;
 mod codes;
+mod demo_line;
 mod fields;
 mod laws;
+mod links;
 mod numbers;
 mod pieces;
 mod refusal_line;
@@ -12,5 +16,7 @@ mod rows;
 mod tiles;
 
 pub use answer::{consistent, report};
-pub use laws::answers_have_rows_of_their_plan;
+pub use certificate::{FoundCycle, HeaviestChain, found_cycle, heaviest_chain};
+pub use demo_line::{Summary, summary_line};
+pub use laws::{answers_have_rows_of_their_plan, tasks_have_classes_of_their_plan};
 pub use refusal_line::{Line, refusal};

@@ -14,7 +14,8 @@ pub fn named_file(alloc: Global, item: &Item) -> Result<File, Why> {
     file_of(alloc, name.as_slice(), item.text(alloc, rest)?)
 }
 
-fn file_of(alloc: Global, name: &[u8], bytes: Vec<u8>) -> Result<File, Why> {
+/// A file of this name with these bytes.
+pub fn file_of(alloc: Global, name: &[u8], bytes: Vec<u8>) -> Result<File, Why> {
     if name.is_empty() {
         return Err(Why("a text without a name"));
     }

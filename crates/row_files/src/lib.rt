@@ -5,6 +5,7 @@ mod call;
 mod escapes;
 mod files;
 mod items;
+mod prefixes;
 mod report;
 mod session;
 mod shown;
@@ -16,3 +17,6 @@ pub use call::Call;
 pub use session::all_as_wanted;
 pub use why::Why;
 pub use worked_row::{Order, Printed};
+
+#[cfg(test)]
+mod tests;

@@ -37,16 +37,25 @@ impl<'a, R: Print> Report<'a, R> {
         println!(rt; "{file}:{line}: can't be read: {why}")
     }
 
-    /// Prints how a row came out, if it is not as wanted.
-    pub fn tried(&mut self, file: &str, line: usize, name: &str, tried: &Tried) -> io::Result<()> {
-        if tried.is_as_wanted() {
+    /// Counts a row, and prints how it came out otherwise, if it did.
+    pub fn tried(
+        &mut self,
+        file: &str,
+        line: usize,
+        name: &str,
+        other: Option<Tried>,
+    ) -> io::Result<()> {
+        let Some(tried) = other else {
             self.as_wanted = self.as_wanted.saturating_add(1);
             return Ok(());
-        }
+        };
         self.others = self.others.saturating_add(1);
         let rt = self.rt;
-        let difference = difference(self.alloc, tried)?;
-        println!(rt; "{file}:{line}: {name}: {difference}")
+        let difference = difference(self.alloc, &tried)?;
+        match tried.length {
+            None => println!(rt; "{file}:{line}: {name}: {difference}"),
+            Some(length) => println!(rt; "{file}:{line}: {name}, {length} bytes: {difference}"),
+        }
     }
 
     /// The last line.

@@ -2,10 +2,11 @@
 
 use crate::call::Call;
 use crate::items::{Item, items};
+use crate::prefixes::{Prefixes, wanted_of};
 use crate::report::Report;
 use crate::tried::Tried;
 use crate::why::Why;
-use crate::worked_row::WorkedRow;
+use crate::worked_row::{Order, Wanted, WorkedRow};
 use std::alloc::Global;
 use std::rt::{Env, Files};
 use std::sync::Wait;
@@ -23,7 +24,7 @@ struct Reading<'a> {
     is_head: bool,
 }
 
-/// Tries the rows of the files that the program's arguments name, and prints a line for each that came out otherwise, and
+/// Tries the rows of the files that the program's arguments name. Prints a line for each that came out otherwise, and
 /// at the end how many came out as wanted. Answers whether all did.
 pub fn all_as_wanted<R: Print + Files + Env + AllocGlobal + Threads + Wait + Sync, C: Call>(
     rt: &R,
@@ -109,20 +110,57 @@ impl<'a> Reading<'a> {
         let line = row.line;
         let name = row.name;
         match tried(report.rt, report.alloc, call, row, &self.all) {
-            Ok(tried) => report.tried(file, line, name, &tried),
+            Ok(other) => report.tried(file, line, name, other),
             Err(why) => report.unread(file, line, why),
         }
     }
 }
 
-fn tried<'a, R: Threads + Wait + Sync, C: Call>(
+/// How a row came out, if not as wanted.
+pub fn tried<'a, R: Threads + Wait + Sync, C: Call>(
     rt: &R,
     alloc: Global,
     call: &C,
     row: WorkedRow<'a>,
     all: &WorkedRow<'a>,
-) -> Result<Tried, Why> {
+) -> Result<Option<Tried>, Why> {
     let (order, wanted) = row.order(alloc, all)?;
-    let came = call.printed(rt, alloc, order)?;
-    Ok(Tried { wanted, came })
+    match wanted {
+        Wanted::Text(wanted) => {
+            let came = call.printed(rt, alloc, order)?;
+            let tried = Tried {
+                wanted,
+                came,
+                length: None,
+            };
+            Ok(tried.if_other())
+        }
+        Wanted::Status(status, prefixes) => {
+            tried_with_each(rt, alloc, call, &order, status, &prefixes)
+        }
+    }
+}
+
+// How a row came out with the shortest beginning of a file with which it did not come out as wanted.
+fn tried_with_each<R: Threads + Wait + Sync, C: Call>(
+    rt: &R,
+    alloc: Global,
+    call: &C,
+    whole: &Order,
+    status: u8,
+    prefixes: &Prefixes,
+) -> Result<Option<Tried>, Why> {
+    for length in prefixes.from..prefixes.to {
+        let order = prefixes.order(alloc, whole, length)?;
+        let came = call.printed(rt, alloc, order)?;
+        let tried = Tried {
+            wanted: wanted_of(alloc, status, &came)?,
+            came,
+            length: Some(length),
+        };
+        if let Some(other) = tried.if_other() {
+            return Ok(Some(other));
+        }
+    }
+    Ok(None)
 }

@@ -7,12 +7,18 @@ use crate::worked_row::Printed;
 pub struct Tried {
     pub wanted: Printed,
     pub came: Printed,
+    /// How many bytes the file had, where the row is tried with beginnings of it.
+    pub length: Option<usize>,
 }
 
 impl Tried {
-    /// Whether the status and the text are as wanted.
-    pub fn is_as_wanted(&self) -> bool {
-        self.wanted.status == self.came.status
+    /// The same, but for status and text that are as wanted.
+    pub fn if_other(self) -> Option<Tried> {
+        if self.wanted.status == self.came.status
             && self.wanted.text.as_slice() == self.came.text.as_slice()
+        {
+            return None;
+        }
+        Some(self)
     }
 }

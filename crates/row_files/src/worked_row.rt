@@ -2,6 +2,7 @@
 
 use crate::files::{change, copies, named_file, put, spelled};
 use crate::items::{Item, first_word};
+use crate::prefixes::Prefixes;
 use crate::why::Why;
 use ptg_base::Text;
 use ptg_io::File;
@@ -23,6 +24,8 @@ pub struct WorkedRow<'a> {
     // How many bytes of the text are printed, where not all of them.
     cut: Option<usize>,
     status: Option<u8>,
+    // The beginnings of a file with which it is tried, where it is tried with any.
+    prefixes: Option<Prefixes>,
 }
 
 /// What a row calls: words, the files that there are, and which of the calls that read or write fail.
@@ -43,6 +46,15 @@ pub struct Printed {
     pub status: u8,
 }
 
+/// What must come.
+#[derive(Drop)]
+pub enum Wanted {
+    /// This text and status.
+    Text(Printed),
+    /// This status with each of these beginnings of a file, and of statuses 1 to 4 one line.
+    Status(u8, Prefixes),
+}
+
 impl<'a> WorkedRow<'a> {
     /// A row that says nothing yet.
     pub fn new(alloc: Global) -> WorkedRow<'a> {
@@ -57,6 +69,7 @@ impl<'a> WorkedRow<'a> {
             prints: None,
             cut: None,
             status: None,
+            prefixes: None,
         }
     }
 
@@ -92,6 +105,7 @@ impl<'a> WorkedRow<'a> {
             "words" => set(&mut self.words, item.rest),
             "failing" => self.add_failing(item.rest),
             "cut" => set(&mut self.cut, number(item.rest)?),
+            "prefixes" => set(&mut self.prefixes, Prefixes::of(alloc, item.rest)?),
             "status" => set(&mut self.status, status(item.rest)?),
             _ => Err(Why("a keyword that is none")),
         }
@@ -106,16 +120,13 @@ impl<'a> WorkedRow<'a> {
     }
 
     /// What the row calls and what must come, where it is whole. Words and status may be those of all rows.
-    pub fn order(self, alloc: Global, all: &WorkedRow<'a>) -> Result<(Order, Printed), Why> {
+    pub fn order(self, alloc: Global, all: &WorkedRow<'a>) -> Result<(Order, Wanted), Why> {
         let (Some(list), Some(status)) = (self.words.or(all.words), self.status.or(all.status))
         else {
             return Err(Why("a row without words or status"));
         };
-        let (Some(mut text), true) = (self.prints, self.shows || all.shows) else {
-            return Err(Why("a row without shows or prints"));
-        };
-        if let Some(length) = self.cut {
-            text.truncate(length);
+        if !self.shows && !all.shows {
+            return Err(Why("a row without shows"));
         }
         let order = Order {
             files: self.files,
@@ -123,7 +134,32 @@ impl<'a> WorkedRow<'a> {
             failing_reads: self.failing_reads,
             failing_writes: self.failing_writes,
         };
-        Ok((order, Printed { text, status }))
+        let wanted = what_is_wanted(&order, status, self.prefixes, self.prints, self.cut)?;
+        Ok((order, wanted))
+    }
+}
+
+// What must come of a call: a status with each of some beginnings of a file, or a text, which may be cut, and a status.
+fn what_is_wanted(
+    order: &Order,
+    status: u8,
+    prefixes: Option<Prefixes>,
+    prints: Option<Vec<u8>>,
+    cut: Option<usize>,
+) -> Result<Wanted, Why> {
+    match (prefixes, prints) {
+        (None, Some(mut text)) => {
+            if let Some(length) = cut {
+                text.truncate(length);
+            }
+            Ok(Wanted::Text(Printed { text, status }))
+        }
+        (Some(prefixes), None) if cut.is_none() => {
+            prefixes.belong_to(order)?;
+            Ok(Wanted::Status(status, prefixes))
+        }
+        (None, None) => Err(Why("a row without prints")),
+        _ => Err(Why("a row with prefixes, and with prints or cut")),
     }
 }
 

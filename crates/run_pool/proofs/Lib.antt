@@ -4,3 +4,4 @@ pub mod OneType
 pub mod Places
 pub mod Gathered
 pub mod SeatedAll
+pub mod Traced

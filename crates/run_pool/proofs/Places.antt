@@ -44,3 +44,8 @@ pub index_or : {A : Type 0} (xs : List A) (k : ℕ) (d x : A) → slice_get xs k
 index_or [] k d x e = absurd cc
 index_or (y ∷ ys) zero d x e = cc
 index_or (y ∷ ys) (suc k) d x e = index_or ys k d x e
+
+pub is_member : {A : Type 0} (xs : List A) (k : ℕ) (x : A) → slice_get xs k ≡ Some x → IsIn x xs
+is_member [] k x e = absurd cc
+is_member (y ∷ ys) zero x e = inl cc
+is_member (y ∷ ys) (suc k) x e = inr (is_member ys k x e)

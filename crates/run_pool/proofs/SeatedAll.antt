@@ -2,6 +2,8 @@
 use Rattle.std.proofs.Common.{◌≡◌, List, [], ◌∷◌, ◌++◌, map, ap, sym, ◌∙◌, subst, inl, inr, arith}
 use Rattle.atomic_table.specs.Seated.{TableId}
 use Rattle.crossbeam_utils.specs.Padded.{padded_value}
+use Rattle.ptg_base.specs.Lists.{IsIn}
+use Rattle.range_space.proofs.MemberLists.{from_append}
 use Rattle.plan_core.specs.declared.plan.Plan.{Plan}
 use Rattle.dep_iter.proofs.Joining.{map-append}
 use Rattle.flow_meaning.specs.Counting.{HasSameMembers}
@@ -12,7 +14,7 @@ use Rattle.table_rule.specs.Names.{AreAll}
 use Rattle.dep_table.specs.Passes.{IsPassOf}
 use Rattle.dep_table.specs.Views.{PassView, shown}
 use Rattle.run_pool.specs.Desks.{AreReady, IsReady}
-use Rattle.run_pool.specs.Seated.{PaddedDesk, pass_on, record_on}
+use Rattle.run_pool.specs.Seated.{IsFresh, PaddedDesk, pass_on, record_on}
 use Rattle.run_pool.proofs.Places.{among_more}
 
 -- one ready desk more
@@ -44,3 +46,10 @@ ready_desk table plan d p on pass idle bench = record {
   idle = ap (λ (q : PassView). (shown q).running) on ∙ idle;
   bench = bench;
 }
+
+-- one fresh desk more
+pub fresh_more : (ds : List PaddedDesk) (d : PaddedDesk) (es : List PaddedDesk) → ((x : PaddedDesk) → IsIn x ds → IsFresh x) → IsFresh d → es ≡ ds ++ d ∷ [] → (x : PaddedDesk) → IsIn x es → IsFresh x
+fresh_more ds d es all one is x i = elim (from_append x ds (d ∷ []) (subst (IsIn x) is i)) [
+  | inl before ↦ all x before
+  | inr last ↦ elim last [ inl same ↦ subst IsFresh (sym same) one | inr never ↦ absurd never ]
+]

@@ -1,5 +1,5 @@
 -- The numbers that go over edges and write-backs, all together, and how many they are at most.
-use Rattle.std.proofs.Common.{nat_le, ◌*◌, ℤ, map, drop, slice_get, subst, add-one, ◌≡◌, ℕ, zero, suc, ◌+◌, ◌≤◌, true, List, [], ◌∷◌, length, ap, sym, ◌∙◌, Option, Some, None, slice_index, sum, arith}
+use Rattle.std.proofs.Common.{nat_le, ◌*◌, ℤ, map, drop, slice_get, subst, add-one, ◌≡◌, ℕ, zero, suc, ◌+◌, ◌≤◌, ◌<◌, true, List, [], ◌∷◌, length, ap, sym, ◌∙◌, Option, Some, None, slice_index, sum, arith}
 use Rattle.std.proofs.Math.Nat.{mul-le-mul_left}
 use Rattle.std.proofs.lemmas.Bool.{and_parts}
 use Rattle.std.proofs.lemmas.List.{drop_all}
@@ -118,5 +118,5 @@ class_first P class s here =
 pub none_left : (P : Plan) (class : ℕ) → length P.spaces ≤ class → weigh (task_elements P) (tasks_from class (drop class P.spaces)) ≡ 0
 none_left P class past = ap (λ ss. weigh (task_elements P) (tasks_from class ss)) (drop_all class P.spaces past)
 
-pub benches_at_most : (workers each : ℕ) → workers ≤ 64 → each ≤ 65536 → 8 * workers * each ≤ 33554432
+pub benches_at_most : (workers each : ℕ) → workers < 4294967296 → each ≤ 65536 → 8 * workers * each ≤ 2251799813685248
 benches_at_most workers each few small = omega (arith, mul-le-mul_left workers small)

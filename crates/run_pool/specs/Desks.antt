@@ -9,6 +9,7 @@ use Rattle.work_board.specs.Looks.{KnowsHalted}
 use Rattle.work_board.specs.Records.{IsLaterRecord}
 use Rattle.work_board.specs.declared.record.PassRecord.{PassRecord}
 use Rattle.worker_core.specs.declared.worker.Worked.{Worked}
+use Rattle.worker_core.specs.Working.{HasLogged}
 use Rattle.run_pool.specs.declared.desk.Desk.{Desk}
 
 module _ {P : Type 0} (is_pass : P → Type 0) (shown : P → PassRecord) where
@@ -37,3 +38,12 @@ module _ {P : Type 0} (is_pass : P → Type 0) (shown : P → PassRecord) where
   -- each worker has worked
   abbrev pub HaveWorked : Bool → List (CachePadded (Desk P)) → List (CachePadded (Desk P)) → Type 0
   HaveWorked preloaded ds es = (k : ℕ) (d : CachePadded (Desk P)) → k < length ds → HasWorkedAt preloaded (padded_value (slice_index_or ds k d)) (padded_value (slice_index_or es k d))
+
+module _ {P : Type 0} (shown : P → PassRecord) where
+  -- the log on a worker's desk has gained the claims of its pass, each with its stamp
+  abbrev pub HasLoggedAt : Desk P → Desk P → Type 0
+  HasLoggedAt d e = HasLogged (shown d.pass) (shown e.pass) d.log.items e.log.items
+
+  -- the same of each worker
+  abbrev pub HaveLogged : List (CachePadded (Desk P)) → List (CachePadded (Desk P)) → Type 0
+  HaveLogged ds es = (k : ℕ) (d : CachePadded (Desk P)) → k < length ds → HasLoggedAt (padded_value (slice_index_or ds k d)) (padded_value (slice_index_or es k d))

@@ -3,3 +3,4 @@ pub mod Elements
 pub mod Desks
 pub mod Seated
 pub mod Runs
+pub mod Traces

@@ -1,9 +1,10 @@
 -- The desks of the workers of one table. Source: this project's own choice.
-use Rattle.std.specs.Prelude.{◌≡◌, List, map, Option, Some, Result, Ok, Err, IsSome}
+use Rattle.std.specs.Prelude.{◌≡◌, ℕ, List, [], map, Option, Some, Result, Ok, Err, IsSome}
 use Rattle.atomic_table.specs.Seated.{TableId}
 use Rattle.crossbeam_utils.specs.declared.cache_padded.CachePadded.{CachePadded}
 use Rattle.crossbeam_utils.specs.Padded.{padded_value}
 use Rattle.ptg_base.specs.Lists.{IsIn}
+use Rattle.ptg_base.specs.Task.{Task}
 use Rattle.ptg_base.specs.declared.memory.OutOfMemory.{OutOfMemory}
 use Rattle.plan_core.specs.declared.plan.Plan.{Plan}
 use Rattle.work_board.specs.declared.record.PassRecord.{PassRecord}
@@ -25,9 +26,19 @@ pass_on d = (padded_value d).pass
 abbrev pub record_on : PaddedDesk → PassRecord
 record_on d = shown (pass_on d)
 
--- the desks are ready for tasks of this plan, and the passes on them are all passes of this table
+-- what the log on a desk has
+abbrev pub log_on : PaddedDesk → List (ℕ × Task)
+log_on d = (padded_value d).log.items
+
+-- the pass on a desk has drawn no stamp, and the log has nothing
+pub record IsFresh (d : PaddedDesk) : Type 0 where
+  pub no_stamp : (record_on d).stamps ≡ []
+  pub no_log : log_on d ≡ []
+
+-- the desks are fresh and ready for tasks of this plan, and the passes on them are all passes of this table
 pub record AreSeated (table : TableId) (plan : Plan) (ds : List PaddedDesk) : Type 0 where
   pub ready : AreReady (IsPassOf table) shown plan ds
+  pub fresh : (d : PaddedDesk) → IsIn d ds → IsFresh d
   pub all : AreAll (map record_on ds)
 
 -- the answer on a desk

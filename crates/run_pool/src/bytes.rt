@@ -1,6 +1,6 @@
 //! How much memory a preload takes.
 
-ghost use Rattle.std.specs.Prelude.{◌≡◌, ◌≤◌, ◌<◌, ◌+◌, ◌*◌, ◌^◌, ℕ, [], ◌∷◌, length, sum};
+ghost use Rattle.std.specs.Prelude.{◌≡◌, ◌<◌, ◌+◌, ◌*◌, ◌^◌, ℕ, [], ◌∷◌, length, sum};
 ghost use Rattle.plan_core.specs.declared.plan.Plan.{Plan as PlanValue};
 ghost use Rattle.dep_iter.specs.Consistent.{all_data, all_writes};
 ghost use Rattle.run_pool.specs.Bytes as bytes;
@@ -24,7 +24,6 @@ fn type_elements(plan: &Plan) -> u64
 /// The bytes that a preload takes for so many workers: a tile for each data edge and each write-back, and for each worker eight
 /// tiles of each type. It takes no memory.
 pub fn preload_bytes(m: &Matched, workers: u32) -> u64
-    requires { workers ≤ 64 }
     ensures { result ≡ bytes.preload_bytes m.now workers }
 {
     let sent = sent_elements(m);

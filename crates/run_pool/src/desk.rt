@@ -1,15 +1,17 @@
 //! What one worker works with.
 
-use ptg_base::OutOfMemory;
+use ptg_base::{OutOfMemory, TaskId};
 use ready_deques::Hands;
 use task_run::Bench;
 use worker_core::Worked;
 
-/// A worker's desk: its pass of a board, its ends of the deques, its bench, and a place for the answer of its work.
+/// A worker's desk: its pass of a board, its ends of the deques, its bench, a place for the answer of its work, and the log of its
+/// claims, each with its stamp, which only a traced run keeps.
 #[derive(Drop)]
 pub struct Desk<P> {
     pub pass: P,
     pub hands: Hands,
     pub bench: Bench,
     pub answer: Option<Result<Worked, OutOfMemory>>,
+    pub log: Vec<(u64, TaskId)>,
 }

@@ -9,6 +9,7 @@ mod preparing;
 mod running;
 mod seating;
 mod settings;
+mod tracing;
 mod workers;
 
 pub use bytes::{preload_bytes, with_one_type_the_preload_is_a_product};
@@ -17,4 +18,5 @@ pub use prepared::Prepared;
 pub use preparing::{PrepareFault, prepare};
 pub use running::run;
 pub use settings::Settings;
+pub use tracing::run_traced;
 pub use workers::team;

@@ -19,7 +19,7 @@ use table_rule::rules::all_passes_stay_all;
 use worker_core::Gate;
 
 // The passes of workers that have answered. Want of memory exactly where one of them had it.
-fn passes_of(desks: Vec<Seat>, room: Vec<Pass>) -> Result<Vec<Pass>, OutOfMemory>
+pub(crate) fn passes_of(desks: Vec<Seat>, room: Vec<Pass>) -> Result<Vec<Pass>, OutOfMemory>
     requires answered { HaveAnswered desks.items }
     requires room { (room.items ≡ []) × (length desks.items ≤ vec_capacity room) }
     ensures passes { IfOk result (λ passes. passes.items ≡ map pass_on desks.items) }
@@ -33,6 +33,7 @@ fn passes_of(desks: Vec<Seat>, room: Vec<Pass>) -> Result<Vec<Pass>, OutOfMemory
             hands: _hands,
             bench: _bench,
             answer,
+            log: _log,
         } = desk.into_inner();
         let _worked = answer.unwrap()?;
         passes.push_reserved(pass);
@@ -59,7 +60,7 @@ pub fn run<R: Threads + Wait + Sync, G: Gate>(
         mut desks,
         room,
     } = prepared;
-    team(rt, &table, &mut desks, gate);
+    team(rt, &table, &mut desks, gate, false);
     let passes = passes_of(desks, room)?;
     Ok(table.close(passes))
 }

@@ -1,13 +1,13 @@
 //! The desks of the workers of a run.
 
-ghost use Rattle.std.specs.Prelude.{◌≡◌, ◌<◌, None, IfOk, length};
+ghost use Rattle.std.specs.Prelude.{◌≡◌, ◌<◌, [], None, IfOk, length};
 ghost use Rattle.crossbeam_utils.specs.Padded.{padded_value};
 ghost use Rattle.task_run.specs.Bench.{IsBenchOf};
 ghost use Rattle.table_rule.specs.Changes.{first_pass};
 ghost use Rattle.dep_table.specs.Passes.{IsPassOf};
 ghost use Rattle.dep_table.specs.Tables.{id_of, job_of};
 ghost use Rattle.dep_table.specs.Views.{shown};
-ghost use Rattle.run_pool.specs.Seated.{AreSeated};
+ghost use Rattle.run_pool.specs.Seated.{AreSeated, log_on};
 
 use crate::desk::Desk;
 use crossbeam_utils::CachePadded;
@@ -26,6 +26,7 @@ pub(crate) type Seat = CachePadded<Desk<Pass>>;
 fn new_desk(alloc: Global, m: &Matched, pass: Pass, hands: Hands) -> Result<Seat, OutOfMemory>
     ensures pass { IfOk result (λ d. (padded_value d).pass ≡ pass) }
     ensures bench { IfOk result (λ d. IsBenchOf m.now (padded_value d).bench) }
+    ensures log { IfOk result (λ d. log_on d ≡ []) }
 {
     let bench = Bench::new(alloc, m)?;
     Ok(CachePadded::new(Desk {
@@ -33,6 +34,7 @@ fn new_desk(alloc: Global, m: &Matched, pass: Pass, hands: Hands) -> Result<Seat
         hands,
         bench,
         answer: None,
+        log: Vec::new(alloc),
     }))
 }
 

@@ -111,7 +111,7 @@ takes_turn j n id m k near named s rule wide me _ = let R : Moment = rule.0 in l
       takes k y,
       home.1,
       (R, taken j s id v R r me k y near named free home.2 (λ pre. same_home (Reserve j R k) s.homes y home.1 ((r.reserved pre).at_rest k close free))),
-      ((λ _. (y, refl, record { table = s; rule = rule; id = id; mine = me; home = home.1 })), λ held. absurd (held free)),
+      (refl, (λ _. (y, refl, record { table = s; rule = rule; id = id; mine = me; home = home.1 })), λ held. absurd (held free)),
     ))
     (λ held. let found : ℕ = get_or s.words (turn_word k) 0 in
     let is_one : found ≡ 1 = omega (arith, r.turns.single k (omega (arith, r.slots))) in
@@ -120,7 +120,7 @@ takes_turn j n id m k near named s rule wide me _ = let R : Moment = rule.0 in l
       keeps,
       tt,
       subst (λ (words : List ℕ). Rule j (board words s.homes (set s.views id (with_look v (Turn k) found)))) (sym same_words) (R, looked j s id v R r me (Turn k) found),
-      ((λ free. absurd (held free)), λ _. refl),
+      (refl, (λ free. absurd (held free)), λ _. refl),
     ))
   where
     same_home : (Q : Content → Type 0) (slots : List (mathlib.Core.Option.Option Content)) (y : Content) → get_elem? slots k ≡ some (some y) → (z : Content) × (get_elem? slots k ≡ some (some z)) × Q z → Q y
@@ -133,5 +133,5 @@ reads_halt j n id m s rule wide me _ = let found : ℕ = get_or s.words (halt_wo
   keeps,
   tt,
   subst (λ (words : List ℕ). Rule j (board words s.homes (set s.views id (with_look m.0 Halt found)))) (sym (set-get_or s.words (halt_word j.shards) 0)) (rule.0, looked j s id m.0 rule.0 rule.1 me Halt found),
-  (refl, λ pre. (rule.1.reserved pre).halt),
+  (omega (arith, wide, rule.1.slots), refl, λ pre. (rule.1.reserved pre).halt),
 )

@@ -66,7 +66,7 @@ raises_halt j n id m late s rule wide me _ = let R : Moment = rule.0 in let r = 
           halt = λ pre. let never : true ≡ false = sym pre ∙ late in cc;
         }),
       ),
-      refl,
+      (omega (arith, wide, r.slots), refl),
     )
 
 pub mod_up : (x : ℕ) → x + 1 < 2 ^ 64 → (x + 1) % 2 ^ 64 ≡ x + 1
@@ -173,14 +173,14 @@ reads_live j n id m s rule wide me _ = let R : Moment = rule.0 in let r = rule.1
       keeps,
       tt,
       subst (λ (words : List ℕ). Rule j (board words s.homes (set s.views id w))) (sym same) after,
-      ((λ _. (refl, record { table = board s.words s.homes (set s.views id w); rule = after; id = id; mine = set_here s.views id w (at_index_near s.views id v me) })), λ nz. absurd (nz none_left)),
+      (omega (arith, wide, r.slots), (λ _. (refl, record { table = board s.words s.homes (set s.views id w); rule = after; id = id; mine = set_here s.views id w (at_index_near s.views id v me) })), λ nz. absurd (nz none_left)),
     ))
     (λ more. (
       with_look v Live found,
       keeps,
       tt,
       subst (λ (words : List ℕ). Rule j (board words s.homes (set s.views id (with_look v Live found)))) (sym same) (R, looked j s id v R r me Live found),
-      ((λ z. absurd (more z)), λ _. refl),
+      (omega (arith, wide, r.slots), (λ z. absurd (more z)), λ _. refl),
     ))
   where
     at_index_near : (vs : List PassRecord) (i : ℕ) (u : PassRecord) → get_elem? vs i ≡ some u → i < length vs

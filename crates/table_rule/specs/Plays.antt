@@ -17,6 +17,7 @@ use Rattle.work_board.specs.declared.record.PassRecord.{PassRecord}
 use Rattle.table_rule.specs.declared.job.Job.{Job}
 use Rattle.table_rule.specs.Changes.{turn_left, with_credit, with_halt, with_look, with_own_claim, with_own_end, with_own_send, with_quiet, with_stamp, with_turn, without_credit}
 use Rattle.table_rule.specs.Rule.{Rule, Table}
+use Rattle.table_rule.specs.Words.{halt_word, live_word, turn_word}
 
 -- a pass as its seat has it: its record, and the shards whose turns it holds, as they are now
 abbrev pub Seated : Type 0
@@ -57,10 +58,11 @@ abbrev pub Tells : Option Job → (Job → Type 0) → Type 0
 Tells None told = Unit {0}
 Tells (Some j) told = told j
 
--- a turn is taken, or was found taken
+-- a turn is taken, or was found taken: the step is on the turn word of that shard, and what it found there is the pass's look
 abbrev pub took : Option Job → ℕ → Step Content → Seated → ℕ → Seated → Type 0
 took j k st m r n =
-    (r ≡ 0 → (y : Content) × (n ≡ (with_turn m.0 k y, (k, y) ∷ m.1)) × Tells j (λ (i : Job). WasSeen i k m.0 y))
+    (st.word ≡ turn_word k)
+    × (r ≡ 0 → (y : Content) × (n ≡ (with_turn m.0 k y, (k, y) ∷ m.1)) × Tells j (λ (i : Job). WasSeen i k m.0 y))
     × (r ≢ 0 → n ≡ (with_look m.0 (Turn k) r, m.1))
 
 -- a turn is given back: with nothing else, with a claim, with a send, with the end of the running task
@@ -76,14 +78,14 @@ gave_send x st m r n = n ≡ (turn_left (with_own_send m.0 x), rest m.1)
 abbrev pub gave_end : Step Content → Seated → ℕ → Seated → Type 0
 gave_end st m r n = n ≡ (turn_left (with_own_end m.0), rest m.1)
 
--- the halt word is raised, or read: in a preloaded table it is 0
+-- the halt word is raised, or read: in a preloaded table it is 0. The step is on the halt word, which stands behind the turn words of the slots
 abbrev pub raised_halt : Step Content → Seated → ℕ → Seated → Type 0
-raised_halt st m r n = n ≡ (with_halt m.0, m.1)
+raised_halt st m r n = (st.word ≡ halt_word st.slots) × (n ≡ (with_halt m.0, m.1))
 
 abbrev pub read_halt : Option Job → Step Content → Seated → ℕ → Seated → Type 0
-read_halt j st m r n = (n ≡ (with_look m.0 Halt r, m.1)) × Tells j (λ (i : Job). i.preloaded ≡ true → r ≡ 0)
+read_halt j st m r n = (st.word ≡ halt_word st.slots) × (n ≡ (with_look m.0 Halt r, m.1)) × Tells j (λ (i : Job). i.preloaded ≡ true → r ≡ 0)
 
--- the live word is raised, lowered, or read: 0 is quiet
+-- the live word is raised, lowered, or read: 0 is quiet. What is read, and becomes the pass's look, stands in the live word
 abbrev pub raised_live : Step Content → Seated → ℕ → Seated → Type 0
 raised_live st m r n = n ≡ (with_credit m.0, m.1)
 
@@ -92,7 +94,8 @@ lowered_live st m r n = n ≡ (without_credit m.0, m.1)
 
 abbrev pub read_live : Option Job → Step Content → Seated → ℕ → Seated → Type 0
 read_live j st m r n =
-    (r ≡ 0 → (n ≡ (with_quiet (with_look m.0 Live r), m.1)) × Tells j (λ (i : Job). WasPass i (with_quiet (with_look m.0 Live r))))
+    (st.word ≡ live_word st.slots)
+    × (r ≡ 0 → (n ≡ (with_quiet (with_look m.0 Live r), m.1)) × Tells j (λ (i : Job). WasPass i (with_quiet (with_look m.0 Live r))))
     × (r ≢ 0 → n ≡ (with_look m.0 Live r, m.1))
 
 -- a stamp is drawn for a task

@@ -54,7 +54,7 @@ at_least_one [] k h = absurd (omega arith)
 at_least_one (x ∷ xs) zero h = (x, refl)
 at_least_one (x ∷ xs) (suc k) h = at_least_one xs k (omega arith)
 
-drop_at : {A : Type 0} (xs : List A) (k : ℕ) (x : A) → slice_get xs k ≡ Some x → drop k xs ≡ x ∷ drop (suc k) xs
+pub drop_at : {A : Type 0} (xs : List A) (k : ℕ) (x : A) → slice_get xs k ≡ Some x → drop k xs ≡ x ∷ drop (suc k) xs
 drop_at [] k x h = cc
 drop_at (y ∷ xs) zero x h = let e : y ≡ x = cc in ap (λ z. z ∷ xs) e
 drop_at (y ∷ xs) (suc k) x h = drop_at xs k x h

@@ -59,7 +59,7 @@ uncounted t (u ∷ us) absent =
     (λ k. absurd (absent (inl ((same_task-decides t u).0 k))))
     (λ k. omega (arith, ap as_number k, uncounted t us (λ i. absent (inr i))))
 
-once_each : (ts : List Task) → HasNoRepeats ts → (t : Task) → count (same_task t) ts ≤ 1
+pub once_each : (ts : List Task) → HasNoRepeats ts → (t : Task) → count (same_task t) ts ≤ 1
 once_each [] h t = omega arith
 once_each (u ∷ us) h t =
     by_test (same_task t u)

@@ -1,5 +1,5 @@
 -- A worker's tasks, one after another.
-use Rattle.std.proofs.Common.{◌≡◌, ℕ, ◌+◌, List, [], ◌∷◌, ◌++◌, length, refl, ap, sym, ◌∙◌, subst, append_assoc, Bool, true, IsTrue, inl, inr, ◌⊎◌, nat_lt, arith}
+use Rattle.std.proofs.Common.{◌≡◌, ℕ, ◌+◌, List, [], ◌∷◌, ◌++◌, length, refl, ap, sym, ◌∙◌, subst, append_assoc, Bool, true, IsTrue, inl, inr, ◌⊎◌, nat_lt, arith, IsSome}
 use Rattle.std.proofs.lemmas.Bool.Decides.{nat_tests}
 use Rattle.std.proofs.lemmas.List.{append-nil, map-append}
 use Rattle.ptg_base.specs.Lists.{IsIn}
@@ -7,6 +7,7 @@ use Rattle.ptg_base.specs.Task.{Task}
 use Rattle.ptg_base.specs.declared.edge.Item.{Item}
 use Rattle.plan_core.specs.declared.plan.Plan.{Plan}
 use Rattle.coll_data.specs.Data.{Data}
+use Rattle.flow_meaning.specs.Backward.{ended}
 use Rattle.flow_meaning.specs.Counting.{as_number}
 use Rattle.flow_meaning.specs.Comparing.{same_item}
 use Rattle.flow_meaning.specs.Machine.{Sent, is_sent, send_count}
@@ -74,7 +75,7 @@ module _ (P : Plan) (G : Data) (lets : Task → Type 0) (keeps : Bool) where
     more = [];
     claimed = record { more_sends = []; names = refl; claims = sym (append-nil v.claims); stamps = sym (append-nil v.stamps); sends = sym (append-nil v.sends) };
     counted = refl;
-    followed = record { let_through = λ t h. absurd h; finished = λ t h. absurd h };
+    followed = record { ends = λ t h. absurd h; let_through = λ t h. absurd h; finished = λ t h. absurd h };
     idle = idle;
     gained = λ k. sym (append-nil log);
   }
@@ -105,6 +106,7 @@ module _ (P : Plan) (G : Data) (lets : Task → Type 0) (keeps : Bool) where
         claimed = claimed_more far.more f v w x y old mid new far.claimed got some;
         counted = counted ∙ ap (λ n. n + 1) far.counted;
         followed = record {
+          ends = λ t h. elim (from_push t (tasks_of far.more) f.task (subst (λ l. IsIn t l) tasks h)) [ inl k ↦ far.followed.ends t k | inr e ↦ subst (λ s. IsSome (ended P G s)) (sym e) got.got.may_start.runs ];
           let_through = λ t h. elim (from_push t (tasks_of far.more) f.task (subst (λ l. IsIn t l) tasks h)) [ inl k ↦ far.followed.let_through t k | inr e ↦ subst lets (sym e) through ];
           finished = λ t h. elim (from_push t (tasks_of far.more) f.task (subst (λ l. IsIn t l) tasks h)) [
             | inl k ↦ finished_stays P G t w y some.more_sends sends (far.followed.finished t k)

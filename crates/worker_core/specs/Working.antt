@@ -1,9 +1,10 @@
 -- What a worker has done. Source: this project's own choice.
-use Rattle.std.specs.Prelude.{◌≡◌, ℕ, List, [], ◌++◌, length, map, true, Bool}
+use Rattle.std.specs.Prelude.{◌≡◌, ℕ, List, [], ◌++◌, length, map, true, Bool, IsSome}
 use Rattle.ptg_base.specs.Lists.{IsIn}
 use Rattle.ptg_base.specs.Task.{Task}
 use Rattle.plan_core.specs.declared.plan.Plan.{Plan}
 use Rattle.coll_data.specs.Data.{Data}
+use Rattle.flow_meaning.specs.Backward.{ended}
 use Rattle.flow_meaning.specs.Machine.{Sent}
 use Rattle.flow_meaning.specs.Sound.{IsFinished}
 use Rattle.work_board.specs.declared.record.PassRecord.{PassRecord}
@@ -24,8 +25,9 @@ pub record HasClaimedMore (more : Stamped) (v w : PassRecord) : Type 0 where
   pub stamps : w.stamps ≡ v.stamps ++ more
   pub sends : w.sends ≡ v.sends ++ more_sends
 
--- Each of these tasks was let through the gate, and the pass has sent all its items, or it traps.
+-- Each of these tasks ends in this job, it was let through the gate, and the pass has sent all its items, or it traps.
 pub record AreFollowed (P : Plan) (G : Data) (lets : Task → Type 0) (tasks : List Task) (w : PassRecord) : Type 0 where
+  pub ends : (t : Task) → IsIn t tasks → IsSome (ended P G t)
   pub let_through : (t : Task) → IsIn t tasks → lets t
   pub finished : (t : Task) → IsIn t tasks → IsFinished P G (done_by w) t
 

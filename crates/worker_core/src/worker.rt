@@ -168,6 +168,7 @@ pub fn work_logged<R: Threads + Wait + Sync, B: Board, G: Gate>(
     ensures pass { B.is_pass board.now pass.new }
     ensures hands { SameWorker hands.old hands.new }
     ensures bench { IsBenchOf (B.plan board.now) bench.new }
+    ensures later { IsLaterRecord (B.shown pass.old) (B.shown pass.new) }
     ensures worked { IfOk result (λ worked. HasWorked (B.plan board.now) (B.job_data board.now) (G.lets gate.now worker) worked.ran (B.shown pass.old) (B.shown pass.new)) }
     ensures quiet { OnOk result ((B.shown pass.new).quiet ≡ true) }
     ensures logged { HasLogged (B.shown pass.old) (B.shown pass.new) log.old.items log.new.items }

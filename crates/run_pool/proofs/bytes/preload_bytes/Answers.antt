@@ -1,13 +1,13 @@
-use Rattle.std.proofs.Common.{◌≤◌, ◌*◌, ◌+◌, ◌∙◌, ap, sum, arith}
+use Rattle.std.proofs.Common.{◌≤◌, ◌<◌, ◌*◌, ◌+◌, ◌∙◌, ap, sum, arith}
 use Rattle.plan_core.specs.declared.plan.Plan.{Plan}
 use Rattle.run_pool.specs.Bytes.{preload_bytes, sent_elements}
 use Rattle.run_pool.proofs.Totals.{benches_at_most, types_at_most}
 use Rattle.run_pool.proofs.bytes.preload_bytes.Goals as goal
 
-few : (c : goal.After-from) → 8 * c.from.result * c.type_elements-each.result ≤ 33554432
+few : (c : goal.After-from) → 8 * c.from.result * c.type_elements-each.result ≤ 2251799813685248
 few c =
     let each : c.type_elements-each.result ≤ 65536 = omega (arith, c.type_elements-each.ensures, types_at_most c.plan.result.now) in
-    let workers : c.from.result ≤ 64 = omega (arith, c.from.ensures, c.requires) in
+    let workers : c.from.result < 4294967296 = omega (arith, c.from.ensures) in
     benches_at_most c.from.result c.type_elements-each.result workers each
 
 pub type_elements-each-requires : goal.type_elements-each-requires

@@ -6,9 +6,9 @@ use Rattle.work_board.specs.declared.record.PassRecord.{PassRecord}
 use Rattle.table_rule.specs.Changes.{after_split, split_off}
 use Rattle.table_rule.specs.Names.{AreAll}
 use Rattle.dep_table.specs.Tables.{id_of, job_of}
-use Rattle.dep_table.specs.Views.{shown}
+use Rattle.dep_table.specs.Views.{PassView, shown}
 use Rattle.run_pool.specs.Seated.{record_on}
-use Rattle.run_pool.proofs.SeatedAll.{all_more, all_seated, ready_desk, ready_more}
+use Rattle.run_pool.proofs.SeatedAll.{all_more, all_seated, fresh_more, ready_desk, ready_more}
 use Rattle.run_pool.proofs.seating.seat_workers.Goals as goal
 
 pub loop-hands-preserved : goal.loop-hands-preserved
@@ -33,6 +33,8 @@ loop-hands-preserved c =
       pass = c.split-pass.ensures.pass;
       idle = ap (λ (w : PassRecord). w.running) now ∙ c.loop-hands.invariant.idle;
       ready = ready_more table plan ds d es c.loop-hands.invariant.ready one pushed;
+      unused = ap (λ (w : PassRecord). w.stamps) now ∙ c.loop-hands.invariant.unused;
+      fresh = fresh_more ds d es c.loop-hands.invariant.fresh (record { no_stamp = ap (λ (q : PassView). (shown q).stamps) on ∙ ap (λ (w : PassRecord). w.stamps) off; no_log = c.in_ok-new_desk.ensures.log }) pushed;
       all = subst (λ (w : PassRecord). AreAll (w ∷ map record_on es)) (sym now) (all_more c.all_passes_stay_all.ensures.order (after_split v) (split_off v) ds d es both (ap shown on ∙ off) pushed);
       count = omega (arith, steps, longer, c.loop-hands.invariant.count);
     }
@@ -49,5 +51,6 @@ returns-clause-seated c =
     let one = ready_desk table plan d c.loop-hands.first on c.loop-hands.invariant.pass c.loop-hands.invariant.idle (subst (λ (P : Plan). IsBenchOf P (padded_value d).bench) c.matched-2.ensures c.in_ok-new_desk-2.ensures.bench) in
     record {
       ready = ready_more table plan ds d es c.loop-hands.invariant.ready one pushed;
+      fresh = fresh_more ds d es c.loop-hands.invariant.fresh (record { no_stamp = ap (λ (q : PassView). (shown q).stamps) on ∙ c.loop-hands.invariant.unused; no_log = c.in_ok-new_desk-2.ensures.log }) pushed;
       all = all_seated c.all_passes_stay_all.ensures.order (shown c.loop-hands.first) ds d es c.loop-hands.invariant.all (ap shown on) pushed;
     }

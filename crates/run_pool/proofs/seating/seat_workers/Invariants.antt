@@ -1,10 +1,11 @@
 use Rattle.std.proofs.Common.{◌≡◌, ◌+◌, [], ◌∷◌, length, map}
+use Rattle.ptg_base.specs.Lists.{IsIn}
 use Rattle.table_rule.specs.Names.{AreAll}
 use Rattle.dep_table.specs.Passes.{IsPassOf}
 use Rattle.dep_table.specs.Tables.{id_of, job_of}
 use Rattle.dep_table.specs.Views.{shown}
 use Rattle.run_pool.specs.Desks.{AreReady}
-use Rattle.run_pool.specs.Seated.{record_on}
+use Rattle.run_pool.specs.Seated.{IsFresh, PaddedDesk, record_on}
 use Rattle.run_pool.proofs.seating.seat_workers.Given as goal
 
 abbrev pub invariant-loop-hands : goal.invariant-loop-hands
@@ -14,6 +15,8 @@ invariant-loop-hands l = record {
   pass : IsPassOf (id_of l.table) l.first;
   idle : (shown l.first).running ≡ [];
   ready : AreReady (IsPassOf (id_of l.table)) shown (job_of l.table).matched l.desks.items;
+  unused : (shown l.first).stamps ≡ [];
+  fresh : (d : PaddedDesk) → IsIn d l.desks.items → IsFresh d;
   all : AreAll (shown l.first ∷ map record_on l.desks.items);
   count : length l.desks.items + length l.hands-iterator.rest.items + 1 ≡ length l.fn.hands.items;
 }

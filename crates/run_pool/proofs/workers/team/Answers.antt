@@ -6,4 +6,4 @@ use Rattle.run_pool.proofs.workers.team.Goals as goal
 
 pub for_each_mut-requires-clause-accepts : goal.for_each_mut-requires-clause-accepts
 for_each_mut-requires-clause-accepts g c κs within = λ i p below is.
-    (c.requires.ready i p.now (subst (λ xs. slice_get xs i ≡ Some p.now) c.as_mut_slice.ensures.value (at_index c.as_mut_slice.result.now i p.now below is)), search (sendable, crosses))
+    (c.requires.ready i p.now (subst (λ xs. slice_get xs i ≡ Some p.now) c.as_mut_slice.ensures.value (at_index c.as_mut_slice.result.now i p.now below is)), (c.requires.traced, search (sendable, crosses)))

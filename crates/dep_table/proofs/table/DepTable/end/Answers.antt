@@ -6,7 +6,7 @@ use Rattle.std.specs.Mem.Slots.{slots_counts, slots_filled, slots_items}
 use Rattle.dep_shard.specs.Content.{Content}
 use Rattle.table_rule.specs.Records.{moment_of}
 use Rattle.dep_table.specs.Views.{shown}
-use Rattle.dep_table.proofs.Closings.{closes, closes_quiet, take_next}
+use Rattle.dep_table.proofs.Closings.{closes, closes_order, closes_quiet, take_next}
 use Rattle.dep_table.proofs.table.DepTable.end.Goals as goal
 
 pub loop-k-preserved : goal.loop-k-preserved
@@ -60,3 +60,6 @@ returns-clause-quiet c =
     let counts = slots_counts c.loop-k.closed.slots in
     closes_quiet c.args.self.job i.6 (shown c.args.pass) _ items c.loop-k.taken.items c.requires.all c.requires.no_turn i.7
     (i.5 ∙ (ap (λ n. take n items) (omega (arith, c.loop-k-test.false, c.loop-k.auto.k-end, counts.0, i.2)) ∙ take-length items))
+
+pub returns-clause-order : goal.returns-clause-order
+returns-clause-order c = let i = c.loop-k.invariant in closes_order c.args.self.job i.6 (shown c.args.pass) _ _ c.requires.all c.requires.stamped i.7

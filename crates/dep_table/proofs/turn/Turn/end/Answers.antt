@@ -6,7 +6,7 @@ use Rattle.work_board.specs.Sends.{MayEnd}
 use Rattle.dep_table.specs.Tables.{job_of}
 use Rattle.dep_table.specs.Views.{PassView}
 use Rattle.dep_table.proofs.Claiming.{desk_is}
-use Rattle.dep_table.proofs.Ending.{end_bound, end_pass, end_running, ends_task, has_ended}
+use Rattle.dep_table.proofs.Ending.{end_bound, end_last, end_pass, end_running, ends_task, has_ended}
 use Rattle.dep_table.proofs.turn.Turn.end.Goals as goal
 
 pub end-requires-clause-running : goal.end-requires-clause-running
@@ -25,3 +25,6 @@ returns-clause-pass c = let h = c.requires.turn in end_pass _ _ _ _ h.3 _ (sym (
 
 pub returns-clause-ended : goal.returns-clause-ended
 returns-clause-ended c = λ v y z h. has_ended _ v y z h _ (sym (ap (λ (m : Seated). m.0.running) h.me) ∙ c.requires.task.runs) _ c.pass.view_is (record { table = c.lower_live.new.seat.table_id; me = c.lower_live.new.seat.me; stamp = c.pass.inside.stamp }) _ (c.lower_live.ensures.me ∙ (λ k. (without_credit (c.give_end.ensures.me k).0, (c.give_end.ensures.me k).1)))
+
+pub returns-clause-last : goal.returns-clause-last
+returns-clause-last c = λ v y z h. end_last _ v y z h _ (sym (ap (λ (m : Seated). m.0.running) h.me) ∙ c.requires.task.runs) _ c.pass.view_is (record { table = c.lower_live.new.seat.table_id; me = c.lower_live.new.seat.me; stamp = c.pass.inside.stamp }) _ (c.lower_live.ensures.me ∙ (λ k. (without_credit (c.give_end.ensures.me k).0, (c.give_end.ensures.me k).1)))

@@ -17,8 +17,8 @@ use Rattle.dep_table.specs.Tables.{job_of}
 use Rattle.dep_table.specs.Turns.{IsTurnOf}
 use Rattle.dep_table.specs.Views.{PassView, shown}
 use Rattle.dep_table.proofs.Claiming.{desk_is}
-use Rattle.dep_table.proofs.SendingTurn.{has_sent, refused, send_may, send_named, send_pass, send_room, send_spare, sends_item}
-use Rattle.dep_table.proofs.Turns.{left_pass, only_took}
+use Rattle.dep_table.proofs.SendingTurn.{has_sent, refused, send_last, send_may, send_named, send_pass, send_room, send_spare, sends_item}
+use Rattle.dep_table.proofs.Turns.{left_last, left_pass, only_took}
 use Rattle.dep_table.proofs.turn.Turn.send.Goals as goal
 use Rattle.dep_table.proofs.turn.Turn.send.Goals.{in-Err, in-Ok}
 
@@ -70,4 +70,11 @@ pub returns-clause-preloaded : goal.returns-clause-preloaded
 returns-clause-preloaded c = λ pre. let h = c.requires.turn in elim c.match-take_item.branch [
   | in-Ok w ↦ subst IsOk (sym w.result-is) refl
   | in-Err w ↦ absurd (false≢true (subst IsOk w.in-Err.is (c.take_item.ensures.succeeds (send_spare _ _ _ _ h.3 _ _ c.requires.item c.requires.shard pre _ (desk_is _ _ _ _ h.3 _ c.pass.view_is _ _ _ c.slot_mut-desk.ensures.value)))))
+]
+
+pub returns-clause-last : goal.returns-clause-last
+returns-clause-last c = λ v y z h. elim c.match-take_item.branch [
+  | in-Ok w ↦ send_last _ v y z h _ _ c.requires.item c.requires.shard _ c.pass.view_is w.in-Ok.answer c.match-take_item.pass _
+      (ap (λ (p : PassView). p.me) w.pass-is ∙ w.give_send.ensures.me ∙ (λ k. (turn_left (with_own_send (w.raise_for.ensures.me k).0 record { item = c.args.item.now; tile = option_copied c.args.tile }), rest (w.raise_for.ensures.me k).1)))
+  | in-Err w ↦ left_last _ v y z h _ c.match-take_item.pass c.pass.view_is (ap (λ (p : PassView). p.table) w.pass-is ∙ w.give.ensures.of) (ap (λ (p : PassView). p.stamp) w.pass-is) (ap (λ (p : PassView). p.me) w.pass-is ∙ w.give.ensures.me)
 ]

@@ -13,8 +13,8 @@ use Rattle.dep_table.specs.Tables.{job_of}
 use Rattle.dep_table.specs.Turns.{IsTurnOf}
 use Rattle.dep_table.specs.Views.{PassView, shown}
 use Rattle.dep_table.proofs.Claiming.{desk_is}
-use Rattle.dep_table.proofs.Ending.{end_bound, end_pass, end_running, has_ended, trap_spare, traps_task}
-use Rattle.dep_table.proofs.Turns.{left_pass, only_took}
+use Rattle.dep_table.proofs.Ending.{end_bound, end_last, end_pass, end_running, has_ended, trap_spare, traps_task}
+use Rattle.dep_table.proofs.Turns.{left_last, left_pass, only_took}
 use Rattle.dep_table.proofs.turn.Turn.trap.Goals as goal
 use Rattle.dep_table.proofs.turn.Turn.trap.Goals.{in-Err, in-Ok}
 
@@ -59,4 +59,11 @@ pub returns-clause-preloaded : goal.returns-clause-preloaded
 returns-clause-preloaded c = λ pre. let h = c.requires.turn in elim c.match-trap.branch [
   | in-Ok w ↦ subst IsOk (sym w.result-is) refl
   | in-Err w ↦ absurd (false≢true (subst IsOk w.in-Err.is (c.trap.ensures.succeeds (trap_spare _ _ _ _ h.3 _ (sym (ap (λ (m : Seated). m.0.running) h.3.me) ∙ c.requires.task.runs) c.requires.shard pre _ (desk_is _ _ _ _ h.3 _ c.pass.view_is _ _ _ c.slot_mut-desk.ensures.value)))))
+]
+
+pub returns-clause-last : goal.returns-clause-last
+returns-clause-last c = λ v y z h. elim c.match-trap.branch [
+  | in-Ok w ↦ end_last _ v y z h _ (sym (ap (λ (m : Seated). m.0.running) h.me) ∙ c.requires.task.runs) _ c.pass.view_is c.match-trap.pass _
+      (ap (λ (p : PassView). p.me) w.pass-is ∙ w.lower_live.ensures.me ∙ (λ k. (without_credit (w.give_end.ensures.me k).0, (w.give_end.ensures.me k).1)))
+  | in-Err w ↦ left_last _ v y z h _ c.match-trap.pass c.pass.view_is (ap (λ (p : PassView). p.table) w.pass-is ∙ w.give.ensures.of) (ap (λ (p : PassView). p.stamp) w.pass-is) (ap (λ (p : PassView). p.me) w.pass-is ∙ w.give.ensures.me)
 ]

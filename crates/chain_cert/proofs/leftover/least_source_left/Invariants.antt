@@ -1,0 +1,10 @@
+use Rattle.chain_cert.specs.Finding.{is_left}
+use Rattle.chain_cert.proofs.Leasts.{LeastSoFar}
+use Rattle.chain_cert.proofs.leftover.least_source_left.Given as goal
+
+abbrev pub invariant-loop-edge : goal.invariant-loop-edge
+invariant-loop-edge l = record {
+  can_next : (goal.iterator-loop-edge).can_next l.edge-iterator;
+  is_finite : (goal.iterator-loop-edge).is_finite l.edge-iterator;
+  least : LeastSoFar (is_left l.table.entries) l.initial.edge-iterator l.edge-iterator l.least;
+}

@@ -1,0 +1,5 @@
+pub mod Growing
+pub mod Rows
+pub mod Backward
+pub mod Existing
+pub mod Fitting

@@ -1,0 +1,41 @@
+-- The claims of the passes of a table, put in the order of their stamps. Source: the usual topological order; the stamps are this project's own choice.
+use Rattle.std.specs.Prelude.{◌≡◌, ℕ, List, map}
+use Rattle.std.specs.List.{flat_map}
+use Rattle.std.specs.List.Sorted.{IsNonDecreasingBy}
+use Rattle.ptg_base.specs.Task.{Task}
+use Rattle.plan_core.specs.declared.plan.Plan.{Plan}
+use Rattle.coll_data.specs.Data.{Data}
+use Rattle.flow_meaning.specs.Answer.{ran}
+use Rattle.flow_meaning.specs.Counting.{HasSameMembers}
+use Rattle.flow_meaning.specs.Machine.{MachineState}
+use Rattle.flow_meaning.specs.Order.{IsLegalOrder}
+use Rattle.work_board.specs.declared.record.PassRecord.{PassRecord}
+use Rattle.table_rule.specs.Live.{Stamp}
+
+-- the stamps that these passes drew, one pass after the other
+abbrev pub joined_stamps : List PassRecord → List Stamp
+joined_stamps vs = flat_map (λ (v : PassRecord). v.stamps) vs
+
+-- the task of a stamp, and its number
+abbrev pub task_of : Stamp → Task
+task_of x = x.0
+
+abbrev pub number_of : Stamp → ℕ
+number_of x = x.1
+
+-- The tasks of these stamps, in the order of the stamps.
+pub record AreInStampOrder (stamps : List Stamp) (ts : List Task) : Type 0 where
+  pub ordered : List Stamp
+  pub same : HasSameMembers ordered stamps
+  pub rise : IsNonDecreasingBy number_of ordered
+  pub tasks : ts ≡ map task_of ordered
+
+-- A legal order of the tasks that were claimed.
+pub record IsClaimOrder (P : Plan) (S : MachineState) (ts : List Task) : Type 0 where
+  pub legal : IsLegalOrder P ts
+  pub claims : HasSameMembers ts S.claims
+
+-- A legal order of the tasks that run.
+pub record IsRanOrder (P : Plan) (G : Data) (ts : List Task) : Type 0 where
+  pub legal : IsLegalOrder P ts
+  pub ran : HasSameMembers ts (ran P G)

@@ -1,0 +1,107 @@
+-- What the active dependences of a task name, each with the numbers of its flow and of its dependence. Source: DAGuE
+-- (Parallel Computing, 2012) and PaRSEC (2013), as the edges of a task.
+use Rattle.std.specs.Prelude.{ℕ, suc, ℤ, List, [], ◌∷◌, ◌++◌, map, flat_map, Bool, true, false, Option, Some, None}
+use Rattle.ptg_base.specs.Task.{Task}
+use Rattle.ptg_base.specs.declared.edge.Edge.{Edge}
+use Rattle.ptg_base.specs.declared.edge.Item.{Item}
+use Rattle.ptg_base.specs.declared.edge.Item.TheVariants as item
+use Rattle.plan_core.specs.declared.flow.DepPlan.{DepPlan}
+use Rattle.plan_core.specs.declared.flow.FlowPlan.{FlowPlan}
+use Rattle.plan_core.specs.declared.plan.Plan.{Plan}
+use Rattle.plan_core.specs.declared.target.Target.{Target}
+use Rattle.plan_core.specs.declared.target.Target.TheVariants as target
+use Rattle.dep_iter.specs.Active.{held_target, takes_first}
+use Rattle.dep_iter.specs.Arguments.{combinations, place_of}
+use Rattle.dep_iter.specs.Edges.{edge}
+use Rattle.dep_iter.specs.Tasks.{flows_of, locals_of, task}
+use Rattle.edge_walk.specs.declared.tie.Far.{Far}
+use Rattle.edge_walk.specs.declared.tie.Far.TheVariants as far
+use Rattle.edge_walk.specs.declared.tie.Tie.{Tie}
+
+-- an active dependence: the numbers of its flow and of itself, and its target
+pub record Numbered : Type 0 where
+  pub flow : ℕ
+  pub dependence : ℕ
+  pub target : Target
+
+-- the target of dependence k, if it holds, before the targets of the later ones; where the first that holds counts
+-- alone, without them
+abbrev pub numbered_then : Bool → ℕ → Option Target → List (ℕ × Target) → List (ℕ × Target)
+numbered_then first_only k None later = later
+numbered_then true k (Some x) later = (k, x) ∷ []
+numbered_then false k (Some x) later = (k, x) ∷ later
+
+-- the targets of these dependences that hold, which are numbered from k on, each with its number; where the first that
+-- holds counts alone, that of the first
+abbrev pub numbered_targets : Bool → ℕ → List DepPlan → List ℤ → List (ℕ × Target)
+numbered_targets first_only k [] env = []
+numbered_targets first_only k (d ∷ ds) env =
+    numbered_then first_only k (held_target d env) (numbered_targets first_only (suc k) ds env)
+
+-- the targets of a flow's active dependences: its in dependences where `inward` is true, else its out dependences
+abbrev pub numbered_flow : Bool → List ℤ → FlowPlan → List (ℕ × Target)
+numbered_flow true env f = numbered_targets (takes_first f.kind) 0 f.ins env
+numbered_flow false env f = numbered_targets false 0 f.outs env
+
+abbrev pub numbered : ℕ → ℕ × Target → Numbered
+numbered n x = record { flow = n; dependence = x.0; target = x.1 }
+
+-- the active dependences of these flows, which are numbered from n on
+abbrev pub active_from : Bool → List ℤ → ℕ → List FlowPlan → List Numbered
+active_from inward env n [] = []
+active_from inward env n (f ∷ fs) = map (numbered n) (numbered_flow inward env f) ++ active_from inward env (suc n) fs
+
+-- what a target names that is no task
+abbrev pub single : List ℤ → Target → Option Far
+single env (target.Task class flow args) = None
+single env (target.Element coll indices) = Some (far.Place (place_of coll indices env))
+single env target.New = Some far.New
+single env target.Null = Some far.Null
+
+abbrev pub tie : ℕ → ℕ → Far → Tie
+tie n k x = record { flow = n; dependence = k; far = x }
+
+abbrev pub single_ties : ℕ → ℕ → Option Far → List Tie
+single_ties n k None = []
+single_ties n k (Some x) = tie n k x ∷ []
+
+-- the tie with a flow of the task of a class with these parameters
+abbrev pub task_tie : ℕ → ℕ → ℕ → ℕ → List ℤ → Tie
+task_tie n k class flow params = tie n k (far.Flow (task class params) flow)
+
+-- the ties of dependence k of flow n by a target: with each task that it names, one for each combination of values of
+-- its arguments, or with the one thing that it names
+abbrev pub ties_to : List ℤ → ℕ → ℕ → Target → List Tie
+ties_to env n k (target.Task class flow args) = map (task_tie n k class flow) (combinations args env)
+ties_to env n k (target.Element coll indices) = tie n k (far.Place (place_of coll indices env)) ∷ []
+ties_to env n k target.New = tie n k far.New ∷ []
+ties_to env n k target.Null = tie n k far.Null ∷ []
+
+-- the ties of these active dependences
+abbrev pub all_ties : List ℤ → List Numbered → List Tie
+all_ties env actives = flat_map (λ (a : Numbered). ties_to env a.flow a.dependence a.target) actives
+
+-- all ties of a task: inward those of its in dependences, else those of its out dependences
+abbrev pub ties : Plan → Task → Bool → List Tie
+ties P t inward = all_ties (locals_of P t) (active_from inward (locals_of P t) 0 (flows_of P t))
+
+-- the edge into flow n of the task t that what a dependence of the flow names is, if it is one
+abbrev pub edge_from : Task → ℕ → Far → Option Edge
+edge_from t n (far.Flow s flow) = Some (edge s flow t n)
+edge_from t n (far.Place p) = None
+edge_from t n far.New = None
+edge_from t n far.Null = None
+
+-- what flow n of the task t sends to what a dependence of the flow names, if anything
+abbrev pub item_to : Task → ℕ → Far → Option Item
+item_to t n (far.Flow s flow) = Some (item.Edge (edge t n s flow))
+item_to t n (far.Place p) = Some (item.Write (record { from = t; flow = n; place = p }))
+item_to t n far.New = None
+item_to t n far.Null = None
+
+-- the edge into a task that a tie of its in dependences is, and what a task sends by a tie of its out dependences
+abbrev pub edge_by_in : Task → Tie → Option Edge
+edge_by_in t x = edge_from t x.flow x.far
+
+abbrev pub item_by_out : Task → Tie → Option Item
+item_by_out t x = item_to t x.flow x.far

@@ -1,0 +1,12 @@
+use Rattle.std.proofs.Common.{map}
+use Rattle.ptg_base.specs.declared.edge.WriteBack.{WriteBack}
+use Rattle.ptg_base.specs.declared.edge.Item.TheVariants as item
+use Rattle.flow_core.proofs.Turning.{IsSentTo}
+use Rattle.flow_core.proofs.turns.send_its_writes.Given as goal
+
+abbrev pub invariant-loop-write : goal.invariant-loop-write
+invariant-loop-write l = record {
+  can_next : (goal.iterator-loop-write).can_next l.write-iterator;
+  is_finite : (goal.iterator-loop-write).is_finite l.write-iterator;
+  so_far : IsSentTo l.m (map (λ (x : WriteBack). item.Write x) l.initial.write-iterator) (map (λ (x : WriteBack). item.Write x) l.write-iterator) l.initial.run l.run;
+}

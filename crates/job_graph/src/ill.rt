@@ -1,0 +1,67 @@
+//! Which dependence of a task needs an expression that has no value.
+
+use dep_iter::{arg_steps, takes_first};
+use plan_core::{Arg, DepPlan, FlowPlan, Target};
+use term_core::{Expr, eval};
+
+/// Whether the first such dependence of a flow is an in dependence, and its number among those of its direction.
+pub fn ill_dependence(flow: &FlowPlan, env: &[i64]) -> Option<(bool, usize)> {
+    match first_ill(takes_first(flow.kind), flow.ins.as_slice(), env) {
+        Some(number) => Some((true, number)),
+        None => Some((false, first_ill(false, flow.outs.as_slice(), env)?)),
+    }
+}
+
+// The number of the first of these dependences that is so; where the first that holds counts alone, none after it is
+// looked at.
+fn first_ill(first_only: bool, deps: &[DepPlan], env: &[i64]) -> Option<usize> {
+    for (number, dependence) in deps.iter().enumerate() {
+        match target_of(dependence, env) {
+            Err(()) => return Some(number),
+            Ok(Some(target)) if !has_values(target, env) => return Some(number),
+            Ok(Some(_)) if first_only => return None,
+            _ => {}
+        }
+    }
+    None
+}
+
+// The target of a dependence, if it holds; an Err where its guard has no value.
+fn target_of<'a>(dependence: &'a DepPlan, env: &[i64]) -> Result<Option<&'a Target>, ()> {
+    let holds = match &dependence.guard {
+        Some(guard) => eval(guard, env).map_err(|_| ())? != 0,
+        None => true,
+    };
+    Ok(if holds {
+        Some(&dependence.yes)
+    } else {
+        dependence.no.as_ref()
+    })
+}
+
+fn has_values(target: &Target, env: &[i64]) -> bool {
+    match target {
+        Target::Task(_, _, args) => all_have_values(args.as_slice(), env),
+        Target::Element(_, indices) => all_are_numbers(indices.as_slice(), env),
+        Target::New => true,
+        Target::Null => true,
+    }
+}
+
+fn all_have_values(args: &[Arg], env: &[i64]) -> bool {
+    for arg in args {
+        if arg_steps(arg, env).is_none() {
+            return false;
+        }
+    }
+    true
+}
+
+fn all_are_numbers(indices: &[Expr], env: &[i64]) -> bool {
+    for index in indices {
+        if eval(index, env).is_err() {
+            return false;
+        }
+    }
+    true
+}

@@ -1,0 +1,61 @@
+//! Classes, flows, tasks and places by their names.
+
+use crate::failure::Failure;
+use crate::lines::Lines;
+use plan_core::Plan;
+use ptg_base::{Place, TaskId, Text};
+use std::io::Write;
+
+/// A name, or `-` for one that is no text.
+pub fn name_of(name: &Text) -> &str {
+    str::from_utf8(name.bytes()).unwrap_or("-")
+}
+
+/// The name of a class, or `-` where there is none.
+pub fn class_name(plan: &Plan, class: u32) -> &str {
+    match plan.classes.as_slice().get(class as usize) {
+        Some(class) => name_of(&class.name),
+        None => "-",
+    }
+}
+
+/// The name of a flow of a class, or `-` where there is none.
+pub fn flow_name(plan: &Plan, class: u32, flow: u8) -> &str {
+    let Some(class) = plan.classes.as_slice().get(class as usize) else {
+        return "-";
+    };
+    match class.flows.as_slice().get(flow as usize) {
+        Some(flow) => name_of(&flow.name),
+        None => "-",
+    }
+}
+
+/// Adds the class and the parameters of a task.
+pub fn add_task<W: Write + Drop>(
+    lines: &mut Lines<W>,
+    plan: &Plan,
+    task: &TaskId,
+) -> Result<(), Failure> {
+    lines.field(&class_name(plan, task.class()))?;
+    for value in task.params() {
+        lines.field(value)?;
+    }
+    Ok(())
+}
+
+/// Adds the collection and the indices of a place.
+pub fn add_place<W: Write + Drop>(
+    lines: &mut Lines<W>,
+    plan: &Plan,
+    place: &Place,
+) -> Result<(), Failure> {
+    let Some(shape) = plan.colls.as_slice().get(place.coll as usize) else {
+        return lines.field(&"-");
+    };
+    lines.field(&name_of(&shape.name))?;
+    lines.field(&place.i)?;
+    match shape.cols {
+        Some(_) => lines.field(&place.j),
+        None => Ok(()),
+    }
+}

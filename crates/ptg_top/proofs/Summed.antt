@@ -1,0 +1,57 @@
+-- The verdict of `demo`: how its steps make what it denotes.
+use Rattle.std.proofs.Common.{◌≡◌, ℕ, List, Result, Ok, Err, refl, sym, subst, inr}
+use Rattle.std.specs.Prelude.{Option, IfOk}
+use Rattle.ptg_base.specs.declared.memory.OutOfMemory.{OutOfMemory}
+use Rattle.coll_data.specs.Data.{Data}
+use Rattle.plan_core.specs.declared.plan.Plan.{Plan}
+use Rattle.flow_meaning.specs.declared.outcome.Outcome.{Outcome}
+use Rattle.flow_meaning.specs.declared.outcome.Outcome.TheVariants as outcomes
+use Rattle.job_gen.specs.Job.{data_text, jdf_text}
+use Rattle.job_stages.specs.Verdict.{TextsDenote}
+use Rattle.job_stages.specs.declared.verdict.JobVerdict.{JobVerdict}
+use Rattle.job_stages.specs.declared.verdict.JobVerdict.TheVariants as jobs
+use Rattle.ptg_top.specs.declared.request.Request.{Request}
+use Rattle.ptg_top.specs.declared.request.Request.TheVariants.{Demo}
+use Rattle.ptg_top.specs.declared.verdict.Verdict.{Verdict}
+use Rattle.ptg_top.specs.Answering.{IsRefusal, OnConsistent}
+use Rattle.ptg_top.specs.Demo.{DemoDenotes, IsSummary, MadeTextsDenote, summed}
+use Rattle.ptg_top.specs.Denotation as verdicts
+use Rattle.ptg_top.specs.Denotation.{Denotation, denoted}
+use Rattle.ptg_top.specs.Findings.{IsAnswered, IsFindingOf}
+use Rattle.ptg_top.specs.JobFiles.{Entries}
+use Rattle.ptg_top.specs.Reports.{IsOfTexts, IsVerdictOnRequest}
+use Rattle.ptg_top.proofs.Answered.{kept, on_texts}
+use Rattle.ptg_top.proofs.Checked.{job_is_of_texts}
+
+-- what is found of an answer is of its plan
+pub summed_is_finding : (n : ℕ) (P : Plan) (outcome : Outcome) → IsAnswered P outcome → IsFindingOf P (summed n outcome)
+summed_is_finding n P (outcomes.Complete count final) h = tt
+summed_is_finding n P (outcomes.Trapped rows) h = h
+summed_is_finding n P (outcomes.Stalled ran total rows) h = h
+
+module _ (n : ℕ) where
+  -- texts that are those of the made job denote what these denote
+  pub made_denoted : (text data_text_of : List ℕ) (job : JobVerdict) → text ≡ jdf_text → data_text_of ≡ data_text n → TextsDenote text data_text_of job → MadeTextsDenote n (verdicts.Job job)
+  made_denoted text data_text_of job e d h =
+      let made : TextsDenote text (data_text n) job = subst (λ (t : List ℕ). TextsDenote text t job) d h in
+      (job, subst (λ (t : List ℕ). TextsDenote t (data_text n) job) e made, refl)
+
+  -- what refuses the made texts
+  pub refused_denoted : (checked : Denotation) → MadeTextsDenote n checked → IsRefusal checked → DemoDenotes n checked
+  refused_denoted checked h refused = (checked, h, kept (IsSummary n) checked refused)
+
+  -- what is found of the job of the made texts
+  pub summary_denoted : (checked : Denotation) (P : Plan) (given : Data) (r : Result Verdict OutOfMemory) → checked ≡ verdicts.Job (jobs.Consistent P given) → MadeTextsDenote n checked
+      → IfOk r (λ v. IsSummary n P given (denoted v)) → IfOk r (λ v. DemoDenotes n (denoted v))
+  summary_denoted checked P given (Ok v) e h s = (checked, h, subst (λ (c : Denotation). OnConsistent (IsSummary n) c (denoted v)) (sym e) s)
+  summary_denoted checked P given (Err x) e h s = tt
+
+  demo_of_texts : (v : Denotation) → DemoDenotes n v → IsOfTexts v
+  demo_of_texts v (checked, (job, h, e), k) = on_texts (IsSummary n) (λ P given w s. subst IsOfTexts (sym s) tt) checked v (job_is_of_texts checked job e) k
+
+  -- what is denoted is a verdict on the request, whatever the files are
+  pub demo_ends : (contents : Option Entries) (old new : List ℕ → ℕ) (request : Request) (r : Result Verdict OutOfMemory) → request ≡ Demo n → IfOk r (λ v. DemoDenotes n (denoted v))
+      → IfOk r (λ v. IsVerdictOnRequest contents old new request (denoted v))
+  demo_ends contents old new request (Ok v) e h =
+      subst (λ (q : Request). IsVerdictOnRequest contents old new q (denoted v)) (sym e) (inr (demo_of_texts (denoted v) h, λ files t. h))
+  demo_ends contents old new request (Err x) e h = tt

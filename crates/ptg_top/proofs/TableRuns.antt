@@ -1,0 +1,45 @@
+-- The run of a job by a table: its answer, and what is found of it.
+use Rattle.std.proofs.Common.{◌≡◌, refl, sym, ◌∙◌, ap, subst}
+use Rattle.std.specs.Prelude.{Bool}
+use Rattle.coll_data.specs.Data.{Data}
+use Rattle.plan_core.specs.declared.plan.Plan.{Plan}
+use Rattle.flow_meaning.specs.Answer.{answer}
+use Rattle.flow_meaning.specs.declared.outcome.Outcome.{Outcome}
+use Rattle.table_rule.specs.declared.job.Job.{Job}
+use Rattle.dep_table.specs.ClosedTables.{ClosedView}
+use Rattle.dep_table.specs.Receipts.{ReceiptView, receipt_of}
+use Rattle.run_pool.specs.Runs.{Run, run_of}
+use Rattle.run_pool.specs.declared.settings.Settings.{Settings}
+use Rattle.ptg_top.specs.declared.verdict.Finding.{Finding}
+use Rattle.ptg_top.specs.declared.verdict.RanBy.{RanBy}
+use Rattle.ptg_top.specs.declared.verdict.RanBy.TheVariants.{Table}
+use Rattle.ptg_top.specs.Denotation as verdicts
+use Rattle.ptg_top.specs.Denotation.{plan_of}
+use Rattle.ptg_top.specs.Findings.{IsAnswered}
+use Rattle.ptg_top.specs.Tables.{IsRunOf}
+
+module _ (s : Settings) (P : Plan) (G : Data) where
+  -- a table that was closed when it was quiet ran the job that was made ready
+  pub closed_is_run : (p : Run) (t : ClosedView) (r : ReceiptView) (outcome : Outcome) → p ≡ run_of P G s → t.job ≡ p.job → t.passes ≡ p.workers → r ≡ receipt_of t
+      → outcome ≡ answer t.job.matched t.job.given → IsRunOf s P G (Table r) outcome
+  closed_is_run p t r outcome run job passes receipt ended =
+      let same : t.job ≡ (run_of P G s).job = job ∙ ap (λ (q : Run). q.job) run in
+      record {
+        plan = ap (λ (x : ReceiptView). x.plan) receipt ∙ ap (λ (j : Job). j.matched) same;
+        settings = (
+          ap (λ (x : ReceiptView). x.shards) receipt ∙ ap (λ (j : Job). j.shards) same,
+          ap (λ (x : ReceiptView). x.passes) receipt ∙ (passes ∙ ap (λ (q : Run). q.workers) run),
+          ap (λ (x : ReceiptView). x.preloaded) receipt ∙ ap (λ (j : Job). j.preloaded) same,
+        );
+        answered = ended ∙ ap (λ (j : Job). answer j.matched j.given) same;
+      }
+
+  module _ (by : RanBy) (outcome : Outcome) (h : IsRunOf s P G by outcome) where
+    -- what is found of its answer
+    pub found_of_run : (find : Outcome → Finding) (finding : Finding) → finding ≡ find outcome → verdicts.Ran (plan_of by) finding ≡ verdicts.Ran P (find (answer P G))
+    found_of_run find finding is =
+        ap (λ (Q : Plan). verdicts.Ran Q finding) h.plan ∙ ap (λ (f : Finding). verdicts.Ran P f) (is ∙ ap find h.answered)
+
+    -- which is the answer of the plan that the table has
+    pub run_is_answered : IsAnswered (plan_of by) outcome
+    run_is_answered = (G, h.answered ∙ ap (λ (Q : Plan). answer Q G) (sym h.plan))

@@ -1,0 +1,29 @@
+-- The run of a job by a table. Source: this project's own choice.
+use Rattle.std.specs.Prelude.{◌≡◌, false}
+use Rattle.coll_data.specs.Data.{Data}
+use Rattle.plan_core.specs.declared.plan.Plan.{Plan}
+use Rattle.dep_table.specs.Receipts.{ReceiptView}
+use Rattle.flow_meaning.specs.Answer.{answer}
+use Rattle.flow_meaning.specs.declared.outcome.Outcome.{Outcome}
+use Rattle.run_pool.specs.declared.settings.Settings.{Settings}
+use Rattle.ptg_top.specs.declared.verdict.RanBy.{RanBy}
+use Rattle.ptg_top.specs.declared.verdict.RanBy.TheVariants.{Table}
+use Rattle.ptg_top.specs.Denotation.{plan_of}
+
+-- the settings of a command that has no options for them
+abbrev pub usual_settings : Settings
+usual_settings = record { workers = 4; shards = 16; preload = false }
+
+-- the receipt is of a table with these settings: with as many shards, a pass for each worker, and a preload if one is asked for
+abbrev pub ShowsSettings : Settings → ReceiptView → Type 0
+ShowsSettings s r = (r.shards ≡ s.shards) × (r.passes ≡ s.workers) × (r.preloaded ≡ s.preload)
+
+-- a table with these settings ran the job
+abbrev pub IsRunWith : Settings → RanBy → Type 0
+IsRunWith s (Table r) = ShowsSettings s r
+
+-- a table with these settings ran the job of this plan on these data, and this is its answer
+pub record IsRunOf (s : Settings) (P : Plan) (given : Data) (by : RanBy) (outcome : Outcome) : Type 0 where
+  pub plan : plan_of by ≡ P
+  pub settings : IsRunWith s by
+  pub answered : outcome ≡ answer P given

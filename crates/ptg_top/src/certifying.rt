@@ -1,0 +1,144 @@
+//! The run of a job's two files, and its certificate.
+
+ghost use Rattle.std.specs.Prelude.{◌≡◌, ◌≤◌, ℕ, List, IfOk};
+ghost use Rattle.std.specs.Str.{IsUtf8};
+ghost use Rattle.coll_data.specs.Data.{Data};
+ghost use Rattle.plan_core.specs.declared.plan.Plan.{Plan};
+ghost use Rattle.plan_data.specs.Fit.{DataFit};
+ghost use Rattle.flow_meaning.specs.Answer.{answer};
+ghost use Rattle.chain_cert.specs.Certificates.{IsCertificate};
+ghost use Rattle.chain_cert.specs.Checked as checking;
+ghost use Rattle.chain_cert.specs.Checked.{ShowsHeaviest};
+ghost use Rattle.chain_cert.specs.declared.certificate.Certificate.TheVariants as certificates;
+ghost use Rattle.chain_cert.specs.Checking.{AreWeights};
+ghost use Rattle.chain_cert.specs.Finding.{IsAccepted};
+ghost use Rattle.ptg_top.specs.declared.request.Request.TheVariants as asked;
+ghost use Rattle.ptg_top.specs.Certify.{IsCertified, certified};
+ghost use Rattle.ptg_top.specs.Denotation.{denoted, plan_of};
+ghost use Rattle.ptg_top.specs.JobFiles.{HasFittingJob};
+ghost use Rattle.ptg_top.specs.Reports.{IsVerdictOnRequest};
+ghost use Rattle.ptg_top.specs.Receipts.{IsOfRun};
+ghost use Rattle.ptg_top.specs.Tables.{usual_settings};
+
+use crate::checking::check;
+use crate::consistent::consistent_job;
+use crate::host::Host;
+use crate::table_run::run_as_usual;
+use crate::verdict::{Finding, RanBy, Verdict};
+use chain_cert::{Certificate, certify as certificate_of, weights};
+use coll_data::Given;
+use dep_iter::Matched;
+use flow_meaning::Outcome;
+use ptg_base::{OutOfMemory, Seq, TaskId, Text};
+use ptg_io::Files;
+use report_text::{FoundCycle, HeaviestChain};
+use std::alloc::Global;
+use std::sync::Wait;
+use std::thread::Threads;
+use worker_core::Gate;
+
+/// The verdict of `certify` on a JDF file and a data file: of a job that `check` finds consistent, its certificate, or its answer
+/// where a task trapped; else the verdict of `check`.
+pub fn certify<R: Threads + Wait + Sync, F: Files, G: Gate>(
+    host: &Host<R, G>,
+    jdf: &Text,
+    tiles: &Text,
+    files: &mut F,
+) -> Result<Verdict, OutOfMemory>
+    requires jdf_text { IsUtf8 jdf.now }
+    requires tiles_text { IsUtf8 tiles.now }
+    ensures stays { F.contents files.new ≡ F.contents files.old }
+    ensures grows { (other : List ℕ) → F.faults files.old other ≤ F.faults files.new other }
+    ensures verdict { IfOk result (λ v. IsVerdictOnRequest (F.contents files.old) (F.faults files.old) (F.faults files.new) (asked.Certify jdf.now tiles.now) (denoted v)) }
+    ensures fit { IfOk result (λ v. HasFittingJob (denoted v)) }
+    ensures ran { IfOk result (λ v. IsOfRun usual_settings v) }
+{
+    let checked = check(host.alloc, jdf, tiles, files)?;
+    match consistent_job(checked) {
+        Ok((matched, given)) => certificate_found(host, matched, given),
+        Err(refused) => Ok(refused),
+    }
+}
+
+// The verdict of `certify` on a consistent job.
+fn certificate_found<R: Threads + Wait + Sync, G: Gate>(
+    host: &Host<R, G>,
+    matched: Matched,
+    given: Given,
+) -> Result<Verdict, OutOfMemory>
+    requires { DataFit matched.colls matched.elems given }
+    ensures certified { IfOk result (λ v. IsCertified matched given (denoted v)) }
+    ensures fit { IfOk result (λ v. HasFittingJob (denoted v)) }
+    ensures ran { IfOk result (λ v. IsOfRun usual_settings v) }
+{
+    let weights = weights(host.alloc, matched.plan(), &given)?;
+    let (by, outcome) = run_as_usual(host, matched, given)?;
+    let certificate = certificate_by(host.alloc, &by, &outcome, weights.as_slice())?;
+    Ok(Verdict::Ran(by, certified(outcome, certificate)))
+}
+
+// The certificate of a job that was run.
+fn certificate_by(
+    alloc: Global,
+    by: &RanBy,
+    outcome: &Outcome,
+    weights: &[u64],
+) -> Result<Certificate, OutOfMemory>
+    requires { AreWeights weights.now }
+    ensures certificate { IfOk result (λ c. (G : Data) → outcome.now ≡ answer (plan_of by.now) G → IsCertificate (plan_of by.now) G weights.now c) }
+    ensures accepted { IfOk result (IsAccepted (plan_of by.now) weights.now) }
+{
+    match by {
+        RanBy::Table(receipt) => certificate_of(alloc, receipt.matched(), outcome, weights),
+    }
+}
+
+// What is found of an answer and of the certificate of its job.
+fn certified(outcome: Outcome, certificate: Certificate) -> Finding
+    ensures { (P : Plan) (ws : List ℕ) → IsAccepted P ws certificate → result ≡ certified ws outcome certificate }
+{
+    match certificate {
+        Certificate::Chain(chain, levels) => with_chain(outcome, chain, levels),
+        Certificate::Cycle(cycle) => with_cycle(outcome, cycle),
+        Certificate::Trapped => Finding::Answer(outcome),
+    }
+}
+
+// What is found of an answer and a heaviest chain, which weighs the greatest level.
+fn with_chain(outcome: Outcome, chain: Seq<TaskId>, levels: Seq<(TaskId, u64)>) -> Finding
+    ensures { (P : Plan) (ws : List ℕ) → ShowsHeaviest P ws chain levels → result ≡ certified ws outcome (certificates.Chain chain levels) }
+{
+    match outcome {
+        Outcome::Complete(tasks, _) => {
+            let weight = greatest_level(levels.as_slice());
+            Finding::Chain(HeaviestChain {
+                tasks,
+                weight,
+                chain,
+                levels,
+            })
+        }
+        outcome => Finding::Answer(outcome),
+    }
+}
+
+// What is found of an answer and a cycle.
+fn with_cycle(outcome: Outcome, cycle: Seq<TaskId>) -> Finding
+    ensures { (ws : List ℕ) → result ≡ certified ws outcome (certificates.Cycle cycle) }
+{
+    match outcome {
+        Outcome::Stalled(ran, tasks, _) => Finding::Cycle(FoundCycle { ran, tasks, cycle }),
+        outcome => Finding::Answer(outcome),
+    }
+}
+
+// The greatest level of these rows, 0 where there is none.
+fn greatest_level(rows: &[(TaskId, u64)]) -> u64
+    ensures { result ≡ checking.greatest_level rows.now }
+{
+    let mut greatest = 0;
+    for row in rows {
+        greatest = row.1.max(greatest);
+    }
+    greatest
+}

@@ -1,0 +1,78 @@
+//! Prints what is found of a job that was run; its status.
+
+ghost use Rattle.std.specs.Prelude.{◌≡◌, ◌≤◌, OnOk, OnErr};
+ghost use Rattle.ptg_io.specs.Faults.{Rose};
+ghost use Rattle.ptg_io.specs.Sink.{appended};
+ghost use Rattle.report_text.specs.Printed.{outcome_text};
+ghost use Rattle.report_text.specs.Puts.{HasPrefix};
+ghost use Rattle.ptg_top.specs.Denotation.{plan_of};
+ghost use Rattle.ptg_top.specs.Findings.{IsAnswered, IsFindingOf, finding_text, status_of_finding, status_of_outcome};
+
+use crate::status::Status;
+use crate::verdict::{Finding, RanBy};
+use flow_meaning::Outcome;
+use plan_core::Plan;
+use ptg_io::{Failed, Sink};
+use report_text::{
+    answers_have_rows_of_their_plan, found_cycle, heaviest_chain, report, summary_line,
+};
+
+// The plan of the job that was run.
+fn plan_of(by: &RanBy) -> &Plan
+    ensures { result.now ≡ plan_of by.now }
+{
+    match by {
+        RanBy::Table(receipt) => receipt.matched().plan(),
+    }
+}
+
+/// Prints what is found of a job that was run. On `Err` a prefix of its text was written.
+pub fn tell_finding<O: Sink>(by: &RanBy, finding: &Finding, out: &mut O) -> Result<(), Failed>
+    requires { IsFindingOf (plan_of by.now) finding.now }
+    ensures ok { OnOk result (O.bytes out.new ≡ appended (O.bytes out.old) (finding_text (plan_of by.now) finding.now)) }
+    ensures prefix { OnErr result (HasPrefix (O.bytes out.old) (O.bytes out.new) (finding_text (plan_of by.now) finding.now)) }
+    ensures grows { O.faults out.old ≤ O.faults out.new }
+    ensures failed { OnErr result (Rose (O.faults out.old) (O.faults out.new)) }
+{
+    match finding {
+        Finding::Answer(outcome) => tell_answer(plan_of(by), outcome, out),
+        Finding::Summary(found) => summary_line(found, out),
+        Finding::Chain(found) => heaviest_chain(plan_of(by), found, out),
+        Finding::Cycle(found) => found_cycle(plan_of(by), found, out),
+    }
+}
+
+// Prints the answer of a job. On `Err` a prefix of its text was written.
+fn tell_answer<O: Sink>(plan: &Plan, outcome: &Outcome, out: &mut O) -> Result<(), Failed>
+    requires { IsAnswered plan.now outcome.now }
+    ensures ok { OnOk result (O.bytes out.new ≡ appended (O.bytes out.old) (outcome_text plan.now outcome.now)) }
+    ensures prefix { OnErr result (HasPrefix (O.bytes out.old) (O.bytes out.new) (outcome_text plan.now outcome.now)) }
+    ensures grows { O.faults out.old ≤ O.faults out.new }
+    ensures failed { OnErr result (Rose (O.faults out.old) (O.faults out.new)) }
+{
+    answers_have_rows_of_their_plan();
+    report(plan, outcome, out)
+}
+
+/// The status of a job that was run.
+pub fn status_of_finding(finding: &Finding) -> Status
+    ensures { result ≡ status_of_finding finding.now }
+{
+    match finding {
+        Finding::Answer(outcome) => status_of_outcome(outcome),
+        Finding::Summary(_) => Status::Complete,
+        Finding::Chain(_) => Status::Complete,
+        Finding::Cycle(_) => Status::Stalled,
+    }
+}
+
+// The status of an answer.
+fn status_of_outcome(outcome: &Outcome) -> Status
+    ensures { result ≡ status_of_outcome outcome.now }
+{
+    match outcome {
+        Outcome::Complete(_, _) => Status::Complete,
+        Outcome::Trapped(_) => Status::Trapped,
+        Outcome::Stalled(_, _, _) => Status::Stalled,
+    }
+}

@@ -1,0 +1,84 @@
+//! The run of the made job, and its summary.
+
+ghost use Rattle.std.specs.Prelude.{◌≡◌, ◌≤◌, IfOk};
+ghost use Rattle.plan_data.specs.Fit.{DataFit};
+ghost use Rattle.ptg_top.specs.Denotation.{denoted};
+ghost use Rattle.ptg_top.specs.Demo.{DemoDenotes, IsSummary, MadeTextsDenote, summed};
+ghost use Rattle.ptg_top.specs.JobFiles.{HasFittingJob, IsChecked};
+ghost use Rattle.ptg_top.specs.Receipts.{IsOfRun};
+ghost use Rattle.ptg_top.specs.Tables.{usual_settings};
+
+use crate::consistent::consistent_job;
+use crate::host::Host;
+use crate::table_run::run_as_usual;
+use crate::verdict::{Finding, Verdict};
+use coll_data::Given;
+use dep_iter::Matched;
+use flow_meaning::Outcome;
+use job_gen::make;
+use job_stages::judge_texts;
+use ptg_base::OutOfMemory;
+use report_text::Summary;
+use std::alloc::Global;
+use std::sync::Wait;
+use std::thread::Threads;
+use worker_core::Gate;
+
+/// The verdict of `demo` on a number of rows of tiles: of the made job that is complete, its summary; else the verdict of `run` on
+/// the made texts.
+pub fn demo<R: Threads + Wait + Sync, G: Gate>(
+    host: &Host<R, G>,
+    rows: u32,
+) -> Result<Verdict, OutOfMemory>
+    requires { (1 ≤ rows) × (rows ≤ 96) }
+    ensures denotes { IfOk result (λ v. DemoDenotes rows (denoted v)) }
+    ensures fit { IfOk result (λ v. HasFittingJob (denoted v)) }
+    ensures ran { IfOk result (λ v. IsOfRun usual_settings v) }
+{
+    let checked = check_made(host.alloc, rows)?;
+    match consistent_job(checked) {
+        Ok((matched, given)) => summary_of(host, rows, matched, given),
+        Err(refused) => Ok(refused),
+    }
+}
+
+// The verdict of `check` on the texts of the made job.
+fn check_made(alloc: Global, rows: u32) -> Result<Verdict, OutOfMemory>
+    requires { (1 ≤ rows) × (rows ≤ 96) }
+    ensures denotes { IfOk result (λ v. MadeTextsDenote rows (denoted v)) }
+    ensures fit { IfOk result (λ v. IsChecked (denoted v)) }
+{
+    let (jdf, tiles) = make(alloc, rows)?;
+    let job = judge_texts(alloc, jdf.bytes(), tiles.bytes())?;
+    Ok(Verdict::Job(job))
+}
+
+// The verdict of `demo` on a consistent job.
+fn summary_of<R: Threads + Wait + Sync, G: Gate>(
+    host: &Host<R, G>,
+    rows: u32,
+    matched: Matched,
+    given: Given,
+) -> Result<Verdict, OutOfMemory>
+    requires { DataFit matched.colls matched.elems given }
+    ensures summary { IfOk result (λ v. IsSummary rows matched given (denoted v)) }
+    ensures fit { IfOk result (λ v. HasFittingJob (denoted v)) }
+    ensures ran { IfOk result (λ v. IsOfRun usual_settings v) }
+{
+    let (by, outcome) = run_as_usual(host, matched, given)?;
+    Ok(Verdict::Ran(by, summed(rows, outcome)))
+}
+
+// What is found of the answer of the made job.
+fn summed(rows: u32, outcome: Outcome) -> Finding
+    ensures { result ≡ summed rows outcome }
+{
+    match outcome {
+        Outcome::Complete(tasks, given) => Finding::Summary(Summary {
+            rows,
+            tasks,
+            sum: given.element_sum(),
+        }),
+        outcome => Finding::Answer(outcome),
+    }
+}

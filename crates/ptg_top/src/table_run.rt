@@ -1,0 +1,60 @@
+//! The run of a consistent job by the workers of a table.
+
+ghost use Rattle.std.specs.Prelude.{◌≡◌, IfOk};
+ghost use Rattle.coll_data.specs.Data.{Data};
+ghost use Rattle.plan_core.specs.declared.plan.Plan.{Plan};
+ghost use Rattle.plan_data.specs.Fit.{DataFit};
+ghost use Rattle.run_pool.specs.Runs.{run_of};
+ghost use Rattle.run_pool.specs.declared.settings.Settings.{Settings as SettingsValue};
+ghost use Rattle.ptg_top.specs.Tables.{IsRunOf, usual_settings};
+
+use crate::host::Host;
+use crate::verdict::RanBy;
+use coll_data::Given;
+use dep_iter::Matched;
+use flow_meaning::Outcome;
+use ptg_base::OutOfMemory;
+use run_pool::{PrepareFault, Prepared, Settings, prepare, run};
+use std::sync::Wait;
+use std::thread::Threads;
+use worker_core::Gate;
+
+/// Runs a job that was made ready, and gives its answer with the receipt of its table.
+pub fn run_prepared<R: Threads + Wait + Sync, G: Gate>(
+    host: &Host<R, G>,
+    prepared: Prepared,
+) -> Result<(RanBy, Outcome), OutOfMemory>
+    ensures { (P : Plan) (given : Data) (settings : SettingsValue) → prepared ≡ run_of P given settings
+        → IfOk result (λ ran. IsRunOf settings P given ran.0 ran.1) }
+{
+    let closed = run(host.rt, prepared, host.gate)?;
+    let (outcome, receipt) = closed.outcome()?;
+    Ok((RanBy::Table(receipt), outcome))
+}
+
+// The settings of a command that has no options for them.
+fn usual_settings() -> Settings
+    ensures { result ≡ usual_settings }
+{
+    Settings {
+        workers: 4,
+        shards: 16,
+        preload: false,
+    }
+}
+
+/// Runs a job with the usual settings, and gives its answer with the receipt of its table.
+pub fn run_as_usual<R: Threads + Wait + Sync, G: Gate>(
+    host: &Host<R, G>,
+    matched: Matched,
+    given: Given,
+) -> Result<(RanBy, Outcome), OutOfMemory>
+    requires { DataFit matched.colls matched.elems given }
+    ensures { IfOk result (λ ran. IsRunOf usual_settings matched given ran.0 ran.1) }
+{
+    match prepare(host.alloc, matched, given, usual_settings()) {
+        Ok(prepared) => run_prepared(host, prepared),
+        Err(PrepareFault::PreloadTooLarge(_bytes)) => unreachable!(),
+        Err(PrepareFault::OutOfMemory) => Err(OutOfMemory),
+    }
+}

@@ -1,0 +1,117 @@
+-- The items of a task: those within its rank, and its edges to other ranks.
+use Rattle.std.proofs.Common.{◌≡◌, ◌⊎◌, ℕ, not, List, [], ◌∷◌, map, refl, ap, sym, ◌∙◌, subst, inl, inr}
+use Rattle.std.specs.List.{filter_map, flat_map}
+use Rattle.ptg_base.specs.Lists.{HasNoRepeats, IsIn}
+use Rattle.ptg_base.specs.Task.{Task}
+use Rattle.ptg_base.specs.declared.edge.Edge.{Edge}
+use Rattle.ptg_base.specs.declared.edge.WriteBack.{WriteBack}
+use Rattle.ptg_base.specs.declared.edge.Item.{Item}
+use Rattle.ptg_base.specs.declared.edge.Item.TheVariants as item
+use Rattle.plan_core.specs.declared.plan.Plan.{Plan}
+use Rattle.dep_iter.specs.Consistent.{IsConsistent}
+use Rattle.dep_iter.specs.Items.{edge_of, items, out_edges, write_backs, write_of}
+use Rattle.dep_iter.specs.Tasks.{IsTask, all_tasks}
+use Rattle.dep_iter.proofs.Belonging.{out_edge_is}
+use Rattle.dep_iter.proofs.Listing.{listed}
+use Rattle.range_space.proofs.MemberLists.{IsIn-append_left, IsIn-append_right, IsIn-map, from_append, from_map}
+use Rattle.range_space.proofs.Stepping.{by_test}
+use Rattle.flow_meaning.proofs.Quiet.{filtered}
+use Rattle.rank_core.specs.World.{edges_between, edges_within, is_between, items_within}
+use Rattle.rank_core.proofs.Lists.{distinct-append, distinct-filter, distinct-from_map, distinct-map, distinct-part}
+
+-- edges and write-backs among items
+edge_item : (is : List Item) (e : Edge) → IsIn e (filter_map edge_of is) → IsIn (item.Edge e) is
+edge_item [] e h = absurd h
+edge_item (item.Edge d ∷ is) e h = elim h [ inl q ↦ inl (ap (λ (x : Edge). item.Edge x) q) | inr t ↦ inr (edge_item is e t) ]
+edge_item (item.Write w ∷ is) e h = inr (edge_item is e h)
+
+item_edge : (is : List Item) (e : Edge) → IsIn (item.Edge e) is → IsIn e (filter_map edge_of is)
+item_edge [] e h = absurd h
+item_edge (item.Edge d ∷ is) e h = elim h [ inl q ↦ inl (same e d q) | inr t ↦ inr (item_edge is e t) ]
+  where
+    same : (a b : Edge) → item.Edge a ≡ item.Edge b → a ≡ b
+    same a b q = cc
+item_edge (item.Write w ∷ is) e h = elim h [ inl q ↦ absurd cc | inr t ↦ item_edge is e t ]
+
+write_item : (is : List Item) (w : WriteBack) → IsIn w (filter_map write_of is) → IsIn (item.Write w) is
+write_item [] w h = absurd h
+write_item (item.Edge e ∷ is) w h = inr (write_item is w h)
+write_item (item.Write v ∷ is) w h = elim h [ inl q ↦ inl (ap (λ (x : WriteBack). item.Write x) q) | inr t ↦ inr (write_item is w t) ]
+
+item_write : (is : List Item) (w : WriteBack) → IsIn (item.Write w) is → IsIn w (filter_map write_of is)
+item_write [] w h = absurd h
+item_write (item.Edge e ∷ is) w h = elim h [ inl q ↦ absurd cc | inr t ↦ item_write is w t ]
+item_write (item.Write v ∷ is) w h = elim h [ inl q ↦ inl (same w v q) | inr t ↦ inr (item_write is w t) ]
+  where
+    same : (a b : WriteBack) → item.Write a ≡ item.Write b → a ≡ b
+    same a b q = cc
+
+one_edge : (a b : Edge) → item.Edge a ≡ item.Edge b → a ≡ b
+one_edge a b q = cc
+
+one_write : (a b : WriteBack) → item.Write a ≡ item.Write b → a ≡ b
+one_write a b q = cc
+
+module _ (P : Plan) (t : Task) where
+  -- an edge out of a task is one of its items, and the other way round
+  pub out_is_item : (e : Edge) → IsIn e (out_edges P t) → IsIn (item.Edge e) (items P t)
+  out_is_item e h = edge_item (items P t) e h
+
+  pub item_is_out : (e : Edge) → IsIn (item.Edge e) (items P t) → IsIn e (out_edges P t)
+  item_is_out e h = item_edge (items P t) e h
+
+  pub out_from : (e : Edge) → IsIn e (out_edges P t) → e.from ≡ t
+  out_from e h = ((out_edge_is P t e).0 h).0
+
+  module _ (r : ℕ) where
+    pub between_is_out : (e : Edge) → IsIn e (edges_between P r t) → IsIn e (out_edges P t)
+    between_is_out e h = ((filtered (is_between P r) (out_edges P t) e).0 h).0
+
+    -- an item within the rank is one of the task's
+    pub within_is_item : (i : Item) → IsIn i (items_within P r t) → IsIn i (items P t)
+    within_is_item i h = elim (from_append i (map item.Write (write_backs P t)) (map item.Edge (edges_within P r t)) h) [
+      | inl left ↦
+          let p = from_map (λ (w : WriteBack). item.Write w) (write_backs P t) i left in
+          subst (λ j. IsIn j (items P t)) (sym p.2) (write_item (items P t) p.0 p.1)
+      | inr right ↦
+          let p = from_map (λ (e : Edge). item.Edge e) (edges_within P r t) i right in
+          subst (λ j. IsIn j (items P t)) (sym p.2) (edge_item (items P t) p.0 ((filtered (λ e. not (is_between P r e)) (out_edges P t) p.0).0 p.1).0)
+    ]
+
+    -- an item of a task that is not within its rank is an edge to another rank
+    pub record IsBetween (i : Item) : Type 0 where
+      pub edge : Edge
+      pub is : i ≡ item.Edge edge
+      pub among : IsIn edge (edges_between P r t)
+
+    pub within_or_between : (i : Item) → IsIn i (items P t) → IsIn i (items_within P r t) ⊎ IsBetween i
+    within_or_between (item.Write w) h =
+        inl (IsIn-append_left (item.Write w) (map item.Write (write_backs P t)) (map item.Edge (edges_within P r t)) (IsIn-map (λ (v : WriteBack). item.Write v) (write_backs P t) w (item_write (items P t) w h)))
+    within_or_between (item.Edge e) h =
+        by_test (is_between P r e)
+        (λ k. inr (record { edge = e; is = refl; among = (filtered (is_between P r) (out_edges P t) e).1 (item_is_out e h, k) }))
+        (λ k.
+        inl (IsIn-append_right (item.Edge e) (map item.Write (write_backs P t)) (map item.Edge (edges_within P r t)) (IsIn-map (λ (d : Edge). item.Edge d) (edges_within P r t) e ((filtered (λ d. not (is_between P r d)) (out_edges P t) e).1 (item_is_out e h, ap not k)))))
+
+module _ (P : Plan) (con : IsConsistent P) (t : Task) (job : IsTask P t) where
+  -- no edge and no item of a task occurs twice
+  pub outs_once : HasNoRepeats (out_edges P t)
+  outs_once = distinct-part (out_edges P) (all_tasks P) con.no_out_edge_twice t ((listed P t).0 job)
+
+  writes_once : HasNoRepeats (write_backs P t)
+  writes_once = distinct-part (write_backs P) (all_tasks P) (distinct-from_map (λ (w : WriteBack). w.place) (flat_map (write_backs P) (all_tasks P)) con.written_once) t ((listed P t).0 job)
+
+  pub between_once : (r : ℕ) → HasNoRepeats (edges_between P r t)
+  between_once r = distinct-filter (is_between P r) (out_edges P t) outs_once
+
+  pub within_once : (r : ℕ) → HasNoRepeats (items_within P r t)
+  within_once r =
+      distinct-append (map item.Write (write_backs P t)) (map item.Edge (edges_within P r t)) (distinct-map (λ (w : WriteBack). item.Write w) one_write (write_backs P t) writes_once)
+      (distinct-map (λ (e : Edge). item.Edge e) one_edge (edges_within P r t) (distinct-filter (λ e. not (is_between P r e)) (out_edges P t) outs_once))
+      (λ i left right.
+      let p = from_map (λ (w : WriteBack). item.Write w) (write_backs P t) i left in
+      let q = from_map (λ (e : Edge). item.Edge e) (edges_within P r t) i right in
+      apart p.0 q.0 (sym p.2 ∙ q.2))
+    where
+      apart : (w : WriteBack) (e : Edge) → item.Write w ≡ item.Edge e → ⊥
+      apart w e q = absurd cc

@@ -1,0 +1,6 @@
+pub mod Lists
+pub mod Items
+pub mod Running
+pub mod Worlds
+pub mod Quiet
+pub mod Messages

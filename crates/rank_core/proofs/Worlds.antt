@@ -1,0 +1,136 @@
+-- What each event of a world keeps.
+use Rattle.std.proofs.Common.{◌≡◌, ◌<◌, ℕ, zero, suc, Bool, true, false, cond, List, [], ◌∷◌, ◌++◌, length, refl, ap, sym, ◌∙◌, subst, inl, inr, Some, slice_get, arith}
+use Rattle.std.proofs.lemmas.Bool.{ltb-true, lt-ltb}
+use Rattle.std.proofs.lemmas.List.{append-nil}
+use Rattle.std.proofs.lemmas.Grind.{flat_map-append}
+use Rattle.std.specs.List.{flat_map}
+use Rattle.std.specs.Option.{option_map_or}
+use Rattle.ptg_base.specs.Lists.{IsIn}
+use Rattle.ptg_base.specs.Task.{Task}
+use Rattle.ptg_base.specs.declared.edge.Item.{Item}
+use Rattle.ptg_base.specs.declared.edge.Item.TheVariants as item
+use Rattle.plan_core.specs.declared.plan.Plan.{Plan}
+use Rattle.coll_data.specs.Data.{Data}
+use Rattle.range_space.proofs.MemberLists.{IsIn-append_right, IsIn-map, from_append}
+use Rattle.dep_iter.specs.Consistent.{IsConsistent}
+use Rattle.flow_meaning.specs.Backward.{ended}
+use Rattle.flow_meaning.specs.Comparing.{same_item}
+use Rattle.flow_meaning.specs.Counting.{as_number}
+use Rattle.flow_meaning.specs.Ending.{has_outputs}
+use Rattle.flow_meaning.specs.Machine.{Event, Happen, MachineState, MayClaim, Sent, end_in, is_sent, opening_state, send_count}
+use Rattle.flow_meaning.specs.Order.{IsLegalOrder}
+use Rattle.flow_meaning.proofs.Counting.{weigh-append}
+use Rattle.flow_meaning.proofs.Events.{happen_sound, member_send, opening_sound}
+use Rattle.flow_meaning.proofs.Orders.{happen_legal}
+use Rattle.rank_core.specs.declared.message.Message.{Message}
+use Rattle.rank_core.specs.World.{Deliver, HappenIn, IsPossibleIn, Run, WorldEvent, WorldState, after_delivery, after_run, item_from, items_by, items_within, messages_by, opening_world, stands, with_message, world_after}
+use Rattle.rank_core.specs.Sound.{IsSoundWorld}
+use Rattle.rank_core.proofs.Running.{delivered, happen-append, items_with, run_ends, run_happens}
+
+-- what was sent is sent later
+still_sent : (S : MachineState) (claims : List Task) (more : List Sent) (i : Item) → is_sent S i ≡ true → is_sent (record { claims = claims; sends = S.sends ++ more }) i ≡ true
+still_sent S claims more i h =
+    let some = ltb-true 0 (send_count S i) h in
+    let T : MachineState = record { claims = claims; sends = S.sends ++ more } in
+    lt-ltb 0 (send_count (record { claims = claims; sends = S.sends ++ more }) i) (omega (arith, weigh-append (λ (x : Sent). as_number (same_item i x.item)) S.sends more))
+
+-- a delivery changes no claim, and undoes nothing
+pub delivery_claims : (S : MachineState) (m : Message) → (with_message S m).claims ≡ S.claims
+delivery_claims S m = by (stands S m)
+  where
+    by : (b : Bool) → (cond b S (record { claims = S.claims; sends = S.sends ++ record { item = item.Edge m.edge; tile = m.tile } ∷ [] })).claims ≡ S.claims
+    by true = refl
+    by false = refl
+
+pub delivery_keeps : (S : MachineState) (m : Message) (i : Item) → is_sent S i ≡ true → is_sent (with_message S m) i ≡ true
+delivery_keeps S m i h = by (stands S m)
+  where
+    by : (b : Bool) → is_sent (cond b S (record { claims = S.claims; sends = S.sends ++ record { item = item.Edge m.edge; tile = m.tile } ∷ [] })) i ≡ true
+    by true = h
+    by false = still_sent S S.claims (record { item = item.Edge m.edge; tile = m.tile } ∷ []) i h
+
+-- the member at an index
+pub at : {A : Type 0} (xs : List A) (n : ℕ) → n < length xs → (x : A) × (slice_get xs n ≡ Some x) × IsIn x xs
+at [] n h = absurd (omega arith)
+at (x ∷ xs) zero h = (x, refl, inl refl)
+at (x ∷ xs) (suc n) h = let p = at xs n (omega arith) in (p.0, p.1, inr p.2)
+
+module _ (P : Plan) (G : Data) (con : IsConsistent P) (r : ℕ) where
+  module _ (w : WorldState) (sound : IsSoundWorld P G r w) where
+    module _ (t : Task) (may : MayClaim P w.machine t) where
+      within_then : (u : Task) (i : Item) → IsIn u (w.machine.claims ++ t ∷ []) → has_outputs (ended P G u) ≡ true → IsIn i (items_within P r u) → is_sent (after_run P G r w t).machine i ≡ true
+      within_then u i c o h = elim (from_append u w.machine.claims (t ∷ []) c) [
+        | inl before ↦ still_sent w.machine (w.machine.claims ++ t ∷ []) (items_by P r t (end_in P G w.machine t)) i (sound.within u i before o h)
+        | inr now ↦ elim now [
+          | inl e ↦
+              let ends = run_ends P G con r w sound t may in
+              let outputs : has_outputs (end_in P G w.machine t) ≡ true = ap has_outputs (sym ends) ∙ ap (λ v. has_outputs (ended P G v)) (sym e) ∙ o in
+              let x : Sent = item_from (end_in P G w.machine t) i in
+              let among : IsIn (item_from (end_in P G w.machine t) i) (items_by P r t (end_in P G w.machine t)) =
+              subst (λ xs. IsIn (item_from (end_in P G w.machine t) i) xs) (sym (items_with P r t (end_in P G w.machine t) outputs))
+              (IsIn-map (item_from (end_in P G w.machine t)) (items_within P r t) i (subst (λ v. IsIn i (items_within P r v)) e h)) in
+              member_send (after_run P G r w t).machine (item_from (end_in P G w.machine t) i) (IsIn-append_right (item_from (end_in P G w.machine t) i) w.machine.sends (items_by P r t (end_in P G w.machine t)) among)
+          | inr never ↦ absurd never
+        ]
+      ]
+
+      run_sound : IsSoundWorld P G r (after_run P G r w t)
+      run_sound =
+          let h = run_happens P G con r w sound t may in
+          let by : Task → List Message = λ u. messages_by P r u (ended P G u) in
+          record {
+            state = happen_sound P G con h.0 w.machine (after_run P G r w t).machine sound.state h.1;
+            within = within_then;
+            messages = ap (λ ms. ms ++ messages_by P r t (end_in P G w.machine t)) sound.messages
+                ∙ ap (λ end. flat_map (λ u. messages_by P r u (ended P G u)) w.machine.claims ++ messages_by P r t end) (sym (run_ends P G con r w sound t may))
+                ∙ sym (
+                flat_map-append (λ u. messages_by P r u (ended P G u)) w.machine.claims (t ∷ [])
+                ∙ ap (λ ms. flat_map (λ u. messages_by P r u (ended P G u)) w.machine.claims ++ ms) (append-nil (messages_by P r t (ended P G t)))
+                );
+          }
+
+    message_sound : (m : Message) → IsIn m w.messages → IsSoundWorld P G r (record { machine = with_message w.machine m; messages = w.messages })
+    message_sound m h =
+        let d = delivered P G con r w sound m h in
+        let same = delivery_claims w.machine m in
+        record {
+          state = happen_sound P G con d.0 w.machine (with_message w.machine m) sound.state d.1;
+          within = λ u i c o k. delivery_keeps w.machine m i (sound.within u i (subst (λ cs. IsIn u cs) same c) o k);
+          messages = sound.messages ∙ ap (flat_map (λ u. messages_by P r u (ended P G u))) (sym same);
+        }
+
+    -- a delivery is that of a message
+    delivery_is : (n : ℕ) (m : Message) → slice_get w.messages n ≡ Some m → after_delivery w n ≡ record { machine = with_message w.machine m; messages = w.messages }
+    delivery_is n m e = λ k. record { machine = option_map_or (with_message w.machine) (e k) w.machine; messages = w.messages }
+
+    pub event_sound : (e : WorldEvent) → IsPossibleIn P w e → IsSoundWorld P G r (world_after P G r w e)
+    event_sound (Run t) may = run_sound t may
+    event_sound (Deliver n) h = let p = at w.messages n h in subst (IsSoundWorld P G r) (sym (delivery_is n p.0 p.1)) (message_sound p.0 p.2)
+
+    -- what happens is what some events of the event machine do
+    pub event_happens : (e : WorldEvent) → IsPossibleIn P w e → (es : List Event) × Happen P G es w.machine (world_after P G r w e).machine
+    event_happens (Run t) may = run_happens P G con r w sound t may
+    event_happens (Deliver n) h =
+        let p = at w.messages n h in
+        subst (λ (v : WorldState). (es : List Event) × Happen P G es w.machine v.machine) (sym (delivery_is n p.0 p.1)) (delivered P G con r w sound p.0 p.2)
+
+  pub events_sound : (es : List WorldEvent) (w v : WorldState) → IsSoundWorld P G r w → HappenIn P G r es w v → IsSoundWorld P G r v
+  events_sound [] w v sound h = subst (IsSoundWorld P G r) h sound
+  events_sound (e ∷ es) w v sound h = events_sound es (world_after P G r w e) v (event_sound w sound e h.0) h.1
+
+  pub events_happen : (es : List WorldEvent) (w v : WorldState) → IsSoundWorld P G r w → HappenIn P G r es w v → (fs : List Event) × Happen P G fs w.machine v.machine
+  events_happen [] w v sound h = ([], ap (λ (u : WorldState). u.machine) h)
+  events_happen (e ∷ es) w v sound h =
+      let first = event_happens w sound e h.0 in
+      let later = events_happen es (world_after P G r w e) v (event_sound w sound e h.0) h.1 in
+      (first.0 ++ later.0, happen-append P G first.0 later.0 w.machine (world_after P G r w e).machine v.machine first.1 later.1)
+
+-- nothing has happened yet, so nothing is wrong
+pub opening_sound_world : (P : Plan) (G : Data) (r : ℕ) → IsSoundWorld P G r opening_world
+opening_sound_world P G r = record { state = opening_sound P G; within = λ t i c o h. absurd c; messages = refl }
+
+-- the tasks ran in a legal order
+pub runs_legal : (P : Plan) (G : Data) (r : ℕ) (es : List WorldEvent) (w : WorldState) → IsConsistent P → HappenIn P G r es opening_world w → IsLegalOrder P w.machine.claims
+runs_legal P G r es w con h =
+    let p = events_happen P G con r es opening_world w (opening_sound_world P G r) h in
+    happen_legal P G con p.0 opening_state w.machine (opening_sound P G) tt p.1

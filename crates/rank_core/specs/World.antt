@@ -1,0 +1,104 @@
+-- A world of ranks: the tasks of a job are shared out to ranks by their affinity, and an edge between two ranks is a message. Source: PaRSEC (2013), where a task runs on the rank that has the data of its affinity, and the runtime sends a message for an edge between ranks; that a rank is a remainder, and that a message may come late, twice and in any order, is this project's own choice.
+use Rattle.std.specs.Prelude.{◌≡◌, ℕ, ◌+◌, ◌%◌, ◌<◌, ◌==◌, List, [], ◌∷◌, ◌++◌, map, filter, length, slice_get, Bool, not, IsTrue, Option, if◌then◌else◌}
+use Rattle.std.specs.Option.{option_map_or}
+use Rattle.ptg_base.specs.Lists.{IsIn}
+use Rattle.ptg_base.specs.Task.{Task}
+use Rattle.ptg_base.specs.declared.edge.Edge.{Edge}
+use Rattle.ptg_base.specs.declared.edge.Item.{Item}
+use Rattle.ptg_base.specs.declared.edge.Item.TheVariants as item
+use Rattle.ptg_base.specs.declared.place.Place.{Place}
+use Rattle.plan_core.specs.declared.plan.Plan.{Plan}
+use Rattle.coll_data.specs.Data.{Data}
+use Rattle.dep_iter.specs.Hints.{affinity, place_number}
+use Rattle.dep_iter.specs.Items.{item_flow, out_edges, write_backs}
+use Rattle.flow_meaning.specs.Ending.{Ended, has_outputs, output_tile}
+use Rattle.flow_meaning.specs.Machine.{MachineState, MayClaim, Sent, end_in, is_sent, opening_state}
+use Rattle.rank_core.specs.declared.message.Message.{Message}
+
+-- the rank of a place, where there are r ranks: collections are counted from 0, and so are the places of each
+abbrev pub rank_of_place : Plan → ℕ → Place → ℕ
+rank_of_place P r p = (p.coll + place_number P p) % r
+
+-- the rank of a task: that of the place of its affinity
+unfoldable pub rank_of : Plan → ℕ → Task → ℕ
+rank_of P r t = rank_of_place P r (affinity P t)
+
+-- whether an edge goes from one rank to another
+abbrev pub is_between : Plan → ℕ → Edge → Bool
+is_between P r e = not (rank_of P r e.from == rank_of P r e.to)
+
+-- the edges out of a task to its own rank, and those to other ranks, in the text's order
+abbrev pub edges_within : Plan → ℕ → Task → List Edge
+edges_within P r t = filter (λ e. not (is_between P r e)) (out_edges P t)
+
+abbrev pub edges_between : Plan → ℕ → Task → List Edge
+edges_between P r t = filter (is_between P r) (out_edges P t)
+
+-- the items of a task that need no message: its write-backs, and its edges to its own rank
+abbrev pub items_within : Plan → ℕ → Task → List Item
+items_within P r t = map item.Write (write_backs P t) ++ map item.Edge (edges_within P r t)
+
+-- an item, or a message of an edge, with the tile that its task leaves in the flow where the task ends so
+abbrev pub item_from : Option Ended → Item → Sent
+item_from end i = record { item = i; tile = output_tile end (item_flow i) }
+
+abbrev pub message_from : Option Ended → Edge → Message
+message_from end e = record { edge = e; tile = output_tile end e.out_flow }
+
+-- the items of a task that stand as soon as it has ended so, and the messages that it sends: none where it traps
+abbrev pub items_by : Plan → ℕ → Task → Option Ended → List Sent
+items_by P r t end = if has_outputs end then map (item_from end) (items_within P r t) else []
+
+abbrev pub messages_by : Plan → ℕ → Task → Option Ended → List Message
+messages_by P r t end = if has_outputs end then map (message_from end) (edges_between P r t) else []
+
+-- a world: the state of the event machine that it stands for, whose claimed tasks are those that ran and whose sent items are those that stand; and the messages that were sent, numbered from 0
+pub record WorldState : Type 0 where
+  pub machine : MachineState
+  pub messages : List Message
+
+-- nothing has happened
+abbrev pub opening_world : WorldState
+opening_world = record { machine = opening_state; messages = [] }
+
+-- a task runs, or the network delivers the message of a number
+pub data WorldEvent : Type 0 where
+  Run : Task → WorldEvent
+  Deliver : ℕ → WorldEvent
+
+-- a task may run that has not run, once all edges into it stand; a message may be delivered that was ever sent, as often as it may be
+abbrev pub IsPossibleIn : Plan → WorldState → WorldEvent → Type 0
+IsPossibleIn P w (Run t) = MayClaim P w.machine t
+IsPossibleIn P w (Deliver n) = n < length w.messages
+
+-- after a task has run, its items within its rank stand and its edges to other ranks are messages, if its body has outputs on the tiles that stand
+abbrev pub after_run : Plan → Data → ℕ → WorldState → Task → WorldState
+after_run P G r w t = record {
+  machine = record { claims = w.machine.claims ++ t ∷ []; sends = w.machine.sends ++ items_by P r t (end_in P G w.machine t) };
+  messages = w.messages ++ messages_by P r t (end_in P G w.machine t);
+}
+
+-- whether the edge of a message stands
+abbrev pub stands : MachineState → Message → Bool
+stands S m = is_sent S (item.Edge m.edge)
+
+-- after a message has come, its edge stands with its tile; where it stood before, nothing changes
+abbrev pub with_message : MachineState → Message → MachineState
+with_message S m = if stands S m then S else record { claims = S.claims; sends = S.sends ++ record { item = item.Edge m.edge; tile = m.tile } ∷ [] }
+
+abbrev pub after_delivery : WorldState → ℕ → WorldState
+after_delivery w n = record { machine = option_map_or (with_message w.machine) (slice_get w.messages n) w.machine; messages = w.messages }
+
+abbrev pub world_after : Plan → Data → ℕ → WorldState → WorldEvent → WorldState
+world_after P G r w (Run t) = after_run P G r w t
+world_after P G r w (Deliver n) = after_delivery w n
+
+-- these events happen in a world of r ranks one after another, each where it is possible, and lead from one state to another
+abbrev pub HappenIn : Plan → Data → ℕ → List WorldEvent → WorldState → WorldState → Type 0
+HappenIn P G r [] w v = w ≡ v
+HappenIn P G r (e ∷ es) w v = IsPossibleIn P w e × HappenIn P G r es (world_after P G r w e) v
+
+-- a quiescent world: no task may run, and the edge of each message stands
+pub record IsQuiet (P : Plan) (w : WorldState) : Type 0 where
+  pub none_may_run : (t : Task) → MayClaim P w.machine t → ⊥
+  pub all_stand : (m : Message) → IsIn m w.messages → IsTrue (stands w.machine m)

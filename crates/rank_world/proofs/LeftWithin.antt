@@ -1,0 +1,190 @@
+-- What a task leaves within its rank, item after item, and the room for it.
+use Rattle.std.proofs.Common.{◌≡◌, ◌<◌, ◌≤◌, nat_eq, ℕ, ℤ, suc, Bool, true, false, not, cond, List, [], ◌∷◌, ◌++◌, length, map, refl, ap, sym, ◌∙◌, subst, append_assoc, inl, Option, Some, None, is_some, arith}
+use Rattle.std.proofs.lemmas.List.{append-nil, map-append}
+use Rattle.std.specs.List.{filter}
+use Rattle.ptg_base.specs.Lists.{IsIn}
+use Rattle.ptg_base.specs.declared.edge.Edge.{Edge}
+use Rattle.ptg_base.specs.declared.edge.WriteBack.{WriteBack}
+use Rattle.ptg_base.specs.declared.edge.Item.TheVariants as item
+use Rattle.range_space.proofs.MemberLists.{IsIn-append_right}
+use Rattle.range_space.proofs.Stepping.{by_test}
+use Rattle.plan_core.specs.declared.plan.Plan.{Plan}
+use Rattle.dep_iter.specs.Items.{out_edges, write_backs}
+use Rattle.dep_iter.specs.Tasks.{IsTask}
+use Rattle.dep_shard.specs.Content.{Content, entry_of}
+use Rattle.dep_shard.specs.Stock.{tiles_used}
+use Rattle.flow_meaning.specs.Backward.{ended}
+use Rattle.flow_meaning.specs.Ending.{has_outputs, output_tile}
+use Rattle.rank_core.specs.World.{is_between}
+use Rattle.rank_core.proofs.Items.{out_from}
+use Rattle.rank_world.specs.declared.visit.Visit.{Visit}
+use Rattle.rank_world.specs.Sending.{HasRoomFor, MayTakeEdge, MayTakeWrite, TakesEdge, TakesWrite}
+use Rattle.rank_world.specs.Visits.{HoldsAt, IsVisit, data_of, its_writes, part_way, plan_of, within_among}
+use Rattle.rank_world.proofs.Parts.{by_task, edge_holds, may_edge, may_write, write_holds}
+
+filter-append : {A : Type 0} (p : A → Bool) (xs ys : List A) → filter p (xs ++ ys) ≡ filter p xs ++ filter p ys
+filter-append p [] ys = refl
+filter-append p (x ∷ xs) ys =
+    by_test (p x)
+    (λ k. ap (λ b. cond b (x ∷ filter p (xs ++ ys)) (filter p (xs ++ ys))) k ∙ ap (λ l. x ∷ l) (filter-append p xs ys) ∙ ap (λ b. cond b (x ∷ filter p xs) (filter p xs) ++ filter p ys) (sym k))
+    (λ k. ap (λ b. cond b (x ∷ filter p (xs ++ ys)) (filter p (xs ++ ys))) k ∙ filter-append p xs ys ∙ ap (λ b. cond b (x ∷ filter p xs) (filter p xs) ++ filter p ys) (sym k))
+
+one_tile : (d k : ℕ) → tiles_used (Some d) k ≤ 1
+one_tile d k = by (nat_eq d k)
+  where
+    by : (b : Bool) → cond b 1 0 ≤ 1
+    by true = omega arith
+    by false = omega arith
+
+some_tile : (b : Bool) (d k : ℕ) → tiles_used (cond b (Some d) None) k ≤ 1
+some_tile true d k = one_tile d k
+some_tile false d k = omega arith
+
+one_entry : (b : Bool) → cond b 0 1 ≤ 1
+one_entry true = omega arith
+one_entry false = omega arith
+
+-- the room that one write-back and one edge leave
+pub room_write : (n m : ℕ) (w : WriteBack) (tile : Option (List ℤ)) (y z : Content) → HasRoomFor n (suc m) y → TakesWrite w tile y z → HasRoomFor n m z
+room_write n m w tile y z room takes =
+    let u = takes.uses.1 in
+    record {
+      entries = omega (arith, room.entries, u.entries);
+      tiles = λ k small. omega (arith, room.tiles k (subst (λ l. k < length l) takes.rest.elems small), u.tiles k, one_tile takes.uses.0 k);
+      writes = omega (arith, room.writes, u.writes);
+      trap = omega (arith, room.trap, u.traps);
+    }
+
+pub room_edge : (P : Plan) (n m : ℕ) (e : Edge) (tile : Option (List ℤ)) (y z : Content) → HasRoomFor (suc n) m y → TakesEdge P e tile y z → HasRoomFor n m z
+room_edge P n m e tile y z room takes =
+    let u = takes.uses.1 in
+    record {
+      entries = omega (arith, room.entries, u.entries, one_entry (is_some (entry_of y e.to)));
+      tiles = λ k small. omega (arith, room.tiles k (subst (λ l. k < length l) takes.rest.elems small), u.tiles k, some_tile (is_some tile) takes.uses.0 k);
+      writes = omega (arith, room.writes, u.writes);
+      trap = omega (arith, room.trap, u.traps);
+    }
+
+pub less_room : (n m a b : ℕ) (y : Content) → HasRoomFor n m y → a ≤ n → b ≤ m → HasRoomFor a b y
+less_room n m a b y room few less = record {
+  entries = omega (arith, room.entries);
+  tiles = λ k small. omega (arith, room.tiles k small);
+  writes = omega (arith, room.writes);
+  trap = room.trap;
+}
+
+-- the write-backs that are left
+pub record WritesLeft (v : Visit) (whole left : List WriteBack) (a y : Content) : Type 0 where
+  pub done : List WriteBack
+  pub split : whole ≡ done ++ left
+  pub holds : HoldsAt v (part_way v (map item.Write done)) y
+  pub room : (n : ℕ) → HasRoomFor n (length whole) a → HasRoomFor n (length left) y
+
+-- the edges that are left
+pub record EdgesLeft (v : Visit) (whole left : List Edge) (y : Content) : Type 0 where
+  pub done : List Edge
+  pub split : whole ≡ done ++ left
+  pub holds : HoldsAt v (part_way v (its_writes v ++ map item.Edge (within_among v done))) y
+  pub room : HasRoomFor (length (within_among v left)) 0 y
+
+module _ (v : Visit) (h : IsVisit v) (outputs : has_outputs (ended (plan_of v) (data_of v) v.task.now) ≡ true) where
+  pub writes_first : (whole : List WriteBack) (a : Content) → HoldsAt v (part_way v []) a → WritesLeft v whole whole a a
+  writes_first whole a holds = record { done = []; split = refl; holds = holds; room = λ n r. r }
+
+  module _ (whole : List WriteBack) (are : whole ≡ write_backs (plan_of v) v.task.now) (w : WriteBack) (left : List WriteBack) (a y : Content) (l : WritesLeft v whole (w ∷ left) a y) where
+    write_split : map item.Write l.done ++ item.Write w ∷ (map item.Write left ++ map item.Edge (within_among v (out_edges (plan_of v) v.task.now))) ≡ its_writes v ++ map item.Edge (within_among v (out_edges (plan_of v) v.task.now))
+    write_split =
+        sym (append_assoc (map item.Write l.done) (item.Write w ∷ map item.Write left) (map item.Edge (within_among v (out_edges (plan_of v) v.task.now))))
+        ∙ ap (λ is. is ++ map item.Edge (within_among v (out_edges (plan_of v) v.task.now))) (sym (map-append (λ (x : WriteBack). item.Write x) l.done (w ∷ left)) ∙ ap (map (λ (x : WriteBack). item.Write x)) (sym l.split ∙ are))
+
+    pub write_from : w.from ≡ v.task.now
+    write_from = by_task v h outputs (map item.Write l.done) (item.Write w) (map item.Write left ++ map item.Edge (within_among v (out_edges (plan_of v) v.task.now))) write_split
+
+    pub write_may : MayTakeWrite (plan_of v) w (output_tile (ended (plan_of v) (data_of v) w.from) w.flow) y
+    write_may = may_write v h outputs (map item.Write l.done) w (map item.Write left ++ map item.Edge (within_among v (out_edges (plan_of v) v.task.now))) write_split y l.holds
+
+    pub write_then : (z : Content) → TakesWrite w (output_tile (ended (plan_of v) (data_of v) w.from) w.flow) y z → WritesLeft v whole left a z
+    write_then z takes = record {
+      done = l.done ++ w ∷ [];
+      split = l.split ∙ sym (append_assoc l.done (w ∷ []) left);
+      holds = subst (λ is. HoldsAt v (part_way v is) z) (sym (map-append (λ (x : WriteBack). item.Write x) l.done (w ∷ [])))
+          (write_holds v h outputs (map item.Write l.done) w (map item.Write left ++ map item.Edge (within_among v (out_edges (plan_of v) v.task.now))) write_split y z l.holds takes);
+      room = λ n r. room_write n (length left) w (output_tile (ended (plan_of v) (data_of v) w.from) w.flow) y z (l.room n r) takes;
+    }
+
+  pub writes_last : (whole : List WriteBack) → whole ≡ write_backs (plan_of v) v.task.now → (a y : Content) → WritesLeft v whole [] a y → HoldsAt v (part_way v (its_writes v)) y
+  writes_last whole are a y l = subst (λ ws. HoldsAt v (part_way v (map item.Write ws)) y) (sym (append-nil l.done) ∙ sym l.split ∙ are) l.holds
+
+  pub edges_first : (whole : List Edge) (y : Content) → HoldsAt v (part_way v (its_writes v)) y → HasRoomFor (length (within_among v whole)) 0 y → EdgesLeft v whole whole y
+  edges_first whole y holds room = record { done = []; split = refl; holds = subst (λ is. HoldsAt v (part_way v is) y) (sym (append-nil (its_writes v))) holds; room = room }
+
+  module _ (whole : List Edge) (are : whole ≡ out_edges (plan_of v) v.task.now) (e : Edge) (left : List Edge) (y : Content) (l : EdgesLeft v whole (e ∷ left) y) where
+    pub edge_among : IsIn e (out_edges (plan_of v) v.task.now)
+    edge_among = subst (IsIn e) (sym l.split ∙ are) (IsIn-append_right e l.done (e ∷ left) (inl refl))
+
+    pub edge_from : e.from ≡ v.task.now
+    edge_from = out_from (plan_of v) v.task.now e edge_among
+
+    pub edge_to : IsTask (plan_of v) e.to
+    edge_to = (h.consistent.connected v.task.now h.may.task).to_tasks e edge_among
+
+    module _ (within : is_between (plan_of v) v.ranks e ≡ false) where
+      kept : within_among v (e ∷ left) ≡ e ∷ within_among v left
+      kept = ap (λ b. cond (not b) (e ∷ within_among v left) (within_among v left)) within
+
+      edge_split : (its_writes v ++ map item.Edge (within_among v l.done)) ++ item.Edge e ∷ map item.Edge (within_among v left) ≡ its_writes v ++ map item.Edge (within_among v (out_edges (plan_of v) v.task.now))
+      edge_split =
+          append_assoc (its_writes v) (map item.Edge (within_among v l.done)) (item.Edge e ∷ map item.Edge (within_among v left))
+          ∙ ap (λ is. its_writes v ++ is) (
+          sym (map-append (λ (x : Edge). item.Edge x) (within_among v l.done) (e ∷ within_among v left))
+          ∙ ap (map (λ (x : Edge). item.Edge x)) (
+          ap (λ es. within_among v l.done ++ es) (sym kept)
+          ∙ sym (filter-append (λ x. not (is_between (plan_of v) v.ranks x)) l.done (e ∷ left))
+          ∙ ap (within_among v) (sym l.split ∙ are)
+          )
+          )
+
+      pub edge_may : MayTakeEdge (plan_of v) e (output_tile (ended (plan_of v) (data_of v) e.from) e.out_flow) y
+      edge_may = may_edge v h outputs (its_writes v ++ map item.Edge (within_among v l.done)) e (map item.Edge (within_among v left)) edge_split within y l.holds
+
+      pub edge_room : HasRoomFor 1 0 y
+      edge_room = less_room (length (within_among v (e ∷ left))) 0 1 0 y l.room (omega (arith, ap length kept)) (omega arith)
+
+      pub edge_then : (z : Content) → TakesEdge (plan_of v) e (output_tile (ended (plan_of v) (data_of v) e.from) e.out_flow) y z → EdgesLeft v whole left z
+      edge_then z takes = record {
+        done = l.done ++ e ∷ [];
+        split = l.split ∙ sym (append_assoc l.done (e ∷ []) left);
+        holds = subst (λ is. HoldsAt v (part_way v is) z)
+            (append_assoc (its_writes v) (map item.Edge (within_among v l.done)) (item.Edge e ∷ [])
+            ∙ ap (λ is. its_writes v ++ is) (
+            sym (map-append (λ (x : Edge). item.Edge x) (within_among v l.done) (e ∷ []))
+            ∙ ap (map (λ (x : Edge). item.Edge x)) (
+            ap (λ es. within_among v l.done ++ es) (sym (ap (λ b. cond (not b) (e ∷ []) []) within))
+            ∙ sym (filter-append (λ x. not (is_between (plan_of v) v.ranks x)) l.done (e ∷ []))
+            )
+            ))
+            (edge_holds v h outputs (its_writes v ++ map item.Edge (within_among v l.done)) e (map item.Edge (within_among v left)) edge_split within y z l.holds takes);
+        room = room_edge (plan_of v) (length (within_among v left)) 0 e (output_tile (ended (plan_of v) (data_of v) e.from) e.out_flow) y z (subst (λ es. HasRoomFor (length es) 0 y) kept l.room) takes;
+      }
+
+    pub edge_passed : is_between (plan_of v) v.ranks e ≡ true → EdgesLeft v whole left y
+    edge_passed between =
+        let dropped : within_among v (e ∷ left) ≡ within_among v left = ap (λ b. cond (not b) (e ∷ within_among v left) (within_among v left)) between in
+        let same : within_among v (l.done ++ e ∷ []) ≡ within_among v l.done =
+        filter-append (λ x. not (is_between (plan_of v) v.ranks x)) l.done (e ∷ []) ∙ ap (λ es. within_among v l.done ++ es) (ap (λ b. cond (not b) (e ∷ []) []) between) ∙ append-nil (within_among v l.done) in
+        record {
+          done = l.done ++ e ∷ [];
+          split = l.split ∙ sym (append_assoc l.done (e ∷ []) left);
+          holds = subst (λ es. HoldsAt v (part_way v (its_writes v ++ map item.Edge es)) y) (sym same) l.holds;
+          room = subst (λ es. HasRoomFor (length es) 0 y) dropped l.room;
+        }
+
+    pub edge_next : (z : Content)
+        → (is_between (plan_of v) v.ranks e ≡ false → TakesEdge (plan_of v) e (output_tile (ended (plan_of v) (data_of v) e.from) e.out_flow) y z)
+        → (is_between (plan_of v) v.ranks e ≡ true → z ≡ y) → EdgesLeft v whole left z
+    edge_next z takes same =
+        by_test (is_between (plan_of v) v.ranks e) (λ k. subst (EdgesLeft v whole left) (sym (same k)) (edge_passed k)) (λ k. edge_then k z (takes k))
+
+  pub edges_last : (whole : List Edge) → whole ≡ out_edges (plan_of v) v.task.now → (y : Content) → EdgesLeft v whole [] y
+      → HoldsAt v (part_way v (its_writes v ++ map item.Edge (within_among v (out_edges (plan_of v) v.task.now)))) y
+  edges_last whole are y l = subst (λ es. HoldsAt v (part_way v (its_writes v ++ map item.Edge (within_among v es))) y) (sym (append-nil l.done) ∙ sym l.split ∙ are) l.holds

@@ -1,0 +1,14 @@
+pub mod Sums
+pub mod TaskWalks
+pub mod OpeningSteps
+pub mod Opened
+pub mod Keeping
+pub mod Delivering
+pub mod Parts
+pub mod Posted
+pub mod Types
+pub mod Outgoings
+pub mod LeftWithin
+pub mod Kept
+pub mod Ran
+pub mod Setting

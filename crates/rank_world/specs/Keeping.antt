@@ -1,0 +1,49 @@
+-- What a world keeps beside what has happened: its ranks, and the messages that are under way. Source: this project's own choice.
+use Rattle.std.specs.Prelude.{◌≡◌, ◌<◌, ◌≤◌, nat_eq, ℕ, List, [], Option, Some, None, length, slice_get, if◌then◌else◌}
+use Rattle.std.specs.Map.{lookup}
+use Rattle.plan_core.specs.declared.plan.Plan.{Plan}
+use Rattle.coll_data.specs.Data.{Data}
+use Rattle.plan_data.specs.Fit.{DataFit}
+use Rattle.dep_iter.specs.Consistent.{IsConsistent}
+use Rattle.dep_shard.specs.Content.{Content}
+use Rattle.flow_meaning.specs.Machine.{MachineState}
+use Rattle.shard_meaning.specs.Moment.{Moment}
+use Rattle.shard_meaning.specs.Share.{IsShardOf}
+use Rattle.task_run.specs.Bench.{IsBenchOf, Laid}
+use Rattle.rank_core.specs.declared.message.Message.{Message}
+use Rattle.rank_core.specs.Sound.{IsSoundWorld}
+use Rattle.rank_core.specs.World.{WorldState, rank_of, stands}
+use Rattle.rank_world.specs.declared.mail.Mail.{Mail}
+
+-- a world between two events: no task runs
+abbrev pub at_rest : MachineState → Moment
+at_rest S = record { state = S; running = [] }
+
+-- a message that was sent, if its edge does not stand
+abbrev pub unless_it_stands : MachineState → Option Message → Option Message
+unless_it_stands S None = None
+unless_it_stands S (Some m) = if stands S m then None else Some m
+
+-- under way are the messages whose edges do not stand, each by its number
+abbrev pub IsUnderWay : MachineState → List Message → List (ℕ × Message) → Type 0
+IsUnderWay S messages table = (n : ℕ) → lookup (nat_eq n) table ≡ unless_it_stands S (slice_get messages n)
+
+-- the mail of a world in this state: the messages that are under way, and how many were sent
+pub record IsMailOf (w : WorldState) (m : Mail) : Type 0 where
+  pub under_way : IsUnderWay w.machine w.messages m.under_way.entries
+  pub sent : m.sent ≡ length w.messages
+
+-- each rank holds its share of the state, as a shard of a table does at rest
+abbrev pub HoldShares : Plan → Data → WorldState → List Content → Type 0
+HoldShares P G w ys = (k : ℕ) (y : Content) → slice_get ys k ≡ Some y → IsShardOf P G (rank_of P (length ys)) k (at_rest w.machine) y
+
+-- what a world keeps for its job and what has happened
+pub record Keeps (P : Plan) (G : Data) (w : WorldState) (ys : List Content) (laid : Laid) (letters : Mail) : Type 0 where
+  pub consistent : IsConsistent P
+  pub fit : DataFit P.colls P.elems G
+  pub some_ranks : 0 < length ys
+  pub few_ranks : length ys ≤ 64
+  pub sound : IsSoundWorld P G (length ys) w
+  pub shares : HoldShares P G w ys
+  pub bench : IsBenchOf P laid
+  pub mail : IsMailOf w letters

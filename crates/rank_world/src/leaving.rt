@@ -1,0 +1,86 @@
+//! What a task leaves within its rank: its write-backs, and its edges to tasks of the rank.
+
+ghost use Rattle.std.specs.Prelude.{◌≡◌, ◌++◌, [], Ok, Some, ℕ, false, true, length, map};
+ghost use Rattle.ptg_base.specs.declared.edge.Edge.{Edge as EdgeValue};
+ghost use Rattle.ptg_base.specs.declared.edge.Item.TheVariants as item;
+ghost use Rattle.dep_iter.specs.Items as items;
+ghost use Rattle.dep_iter.specs.Tasks.{IsTask};
+ghost use Rattle.flow_meaning.specs.Backward.{ended};
+ghost use Rattle.flow_meaning.specs.Ending.{output_tile};
+ghost use Rattle.rank_core.specs.World.{is_between};
+ghost use Rattle.rank_world.specs.Sending.{HasRoomFor, MayTakeEdge, MayTakeWrite, TakesEdge, TakesWrite};
+ghost use Rattle.rank_world.specs.Visits.{HoldsAt, IsVisit, data_of, its_writes, part_way, plan_of, within_among};
+
+use crate::delivery::{take_edge, take_write};
+use crate::room::goes_away;
+use crate::visit::Visit;
+use dep_iter::{out_edges_under, write_backs_under};
+use dep_shard::Shard;
+use ptg_base::{Edge, WriteBack};
+use task_run::Bench;
+
+// Keeps a write-back of the task of a visit in its rank, which has room for it.
+fn leave_write(at: &Visit, desk: &mut Shard, bench: &Bench, write: &WriteBack)
+    requires tiles { ended (plan_of at.now) (data_of at.now) write.now.from ≡ Some (Ok bench.now.tiles) }
+    requires may { MayTakeWrite (plan_of at.now) write.now (output_tile (ended (plan_of at.now) (data_of at.now) write.now.from) write.now.flow) desk.old }
+    requires room { HasRoomFor 0 1 desk.old }
+    ensures { TakesWrite write.now (output_tile (ended (plan_of at.now) (data_of at.now) write.now.from) write.now.flow) desk.old desk.new }
+{
+    take_write(desk, at.matched, write, bench.tile(write.flow)).unwrap();
+}
+
+// Keeps the write-backs of the task of a visit in its rank.
+fn leave_writes(at: &Visit, desk: &mut Shard, bench: &Bench)
+    requires visit { IsVisit at.now }
+    requires tiles { ended (plan_of at.now) (data_of at.now) at.now.task.now ≡ Some (Ok bench.now.tiles) }
+    requires holds { HoldsAt at.now (part_way at.now []) desk.old }
+    requires room { HasRoomFor 0 (length (items.write_backs (plan_of at.now) at.now.task.now)) desk.old }
+    ensures holds { HoldsAt at.now (part_way at.now (its_writes at.now)) desk.new }
+    ensures room { (n : ℕ) → HasRoomFor n (length (items.write_backs (plan_of at.now) at.now.task.now)) desk.old → HasRoomFor n 0 desk.new }
+{
+    for write in write_backs_under(at.matched.plan(), at.task, at.locals) {
+        leave_write(at, desk, bench, &write);
+    }
+}
+
+// Brings an edge of the task of a visit to its target, if that is of the same rank, which has room for it.
+fn leave_edge(at: &Visit, desk: &mut Shard, bench: &Bench, edge: &Edge)
+    requires visit { IsVisit at.now }
+    requires from { edge.now.from ≡ at.now.task.now }
+    requires to { IsTask (plan_of at.now) edge.now.to }
+    requires tiles { ended (plan_of at.now) (data_of at.now) edge.now.from ≡ Some (Ok bench.now.tiles) }
+    requires may { is_between (plan_of at.now) at.now.ranks edge.now ≡ false → MayTakeEdge (plan_of at.now) edge.now (output_tile (ended (plan_of at.now) (data_of at.now) edge.now.from) edge.now.out_flow) desk.old }
+    requires room { is_between (plan_of at.now) at.now.ranks edge.now ≡ false → HasRoomFor 1 0 desk.old }
+    ensures takes { is_between (plan_of at.now) at.now.ranks edge.now ≡ false → TakesEdge (plan_of at.now) edge.now (output_tile (ended (plan_of at.now) (data_of at.now) edge.now.from) edge.now.out_flow) desk.old desk.new }
+    ensures same { is_between (plan_of at.now) at.now.ranks edge.now ≡ true → desk.new ≡ desk.old }
+{
+    if goes_away(at, edge) {
+        return;
+    }
+    take_edge(desk, at.matched, edge, bench.tile(edge.out_flow)).unwrap();
+}
+
+// Brings the edges of the task of a visit that stay within its rank to their targets.
+fn leave_edges(at: &Visit, desk: &mut Shard, bench: &Bench)
+    requires visit { IsVisit at.now }
+    requires tiles { ended (plan_of at.now) (data_of at.now) at.now.task.now ≡ Some (Ok bench.now.tiles) }
+    requires holds { HoldsAt at.now (part_way at.now (its_writes at.now)) desk.old }
+    requires room { HasRoomFor (length (within_among at.now (items.out_edges (plan_of at.now) at.now.task.now))) 0 desk.old }
+    ensures { HoldsAt at.now (part_way at.now (its_writes at.now ++ map item.Edge (within_among at.now (items.out_edges (plan_of at.now) at.now.task.now)))) desk.new }
+{
+    for edge in out_edges_under(at.matched.plan(), at.task, at.locals) {
+        leave_edge(at, desk, bench, &edge);
+    }
+}
+
+// Leaves what stays within its rank of the task of a visit: its write-backs, and then its edges.
+pub(crate) fn leave_within(at: &Visit, desk: &mut Shard, bench: &Bench)
+    requires visit { IsVisit at.now }
+    requires tiles { ended (plan_of at.now) (data_of at.now) at.now.task.now ≡ Some (Ok bench.now.tiles) }
+    requires holds { HoldsAt at.now (part_way at.now []) desk.old }
+    requires room { HasRoomFor (length (within_among at.now (items.out_edges (plan_of at.now) at.now.task.now))) (length (items.write_backs (plan_of at.now) at.now.task.now)) desk.old }
+    ensures { HoldsAt at.now (part_way at.now (its_writes at.now ++ map item.Edge (within_among at.now (items.out_edges (plan_of at.now) at.now.task.now)))) desk.new }
+{
+    leave_writes(at, desk, bench);
+    leave_edges(at, desk, bench);
+}

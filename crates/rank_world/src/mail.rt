@@ -1,0 +1,11 @@
+//! The messages of a world that are under way.
+
+use indexmap::IndexMap;
+use rank_core::Message;
+
+// The messages whose edges do not stand, by number, and how many were sent. A message goes once it has come.
+#[derive(Drop)]
+pub struct Mail {
+    pub(crate) under_way: IndexMap<u64, Message>,
+    pub(crate) sent: u64,
+}

@@ -1,0 +1,174 @@
+//! The memory of a run, taken before it.
+
+ghost use Rattle.std.specs.Prelude.{◌≡◌, ◌+◌, ◌<◌, true, false, IfOk, IfSome, None, OnOk, Some, length, option_map, slice_get, slice_index, if◌then◌else◌};
+ghost use Rattle.std.specs.Option.{option_copied};
+ghost use Rattle.plan_core.specs.Kinds as kinds;
+ghost use Rattle.dep_iter.specs.Items as items;
+ghost use Rattle.dep_iter.specs.Tasks as tasks;
+ghost use Rattle.dep_iter.specs.Tasks.{IsTask};
+ghost use Rattle.dep_shard.specs.Content.{IsUnchanged};
+ghost use Rattle.rank_core.specs.World.{is_between};
+ghost use Rattle.rank_world.specs.Outgoings.{AddsBlank, AddsWithin};
+ghost use Rattle.rank_world.specs.Sending.{HasRoomFor};
+ghost use Rattle.rank_world.specs.Visits.{AreBlank, IsShapeOf, IsVisit, between_among, plan_of, within_among};
+
+use crate::placing::rank_at;
+use crate::visit::Visit;
+use dep_iter::{Matched, flows_of, out_edges_under, write_backs_under};
+use dep_shard::Shard;
+use plan_core::{FlowPlan, Plan};
+use ptg_base::{Edge, OutOfMemory, TaskId, Tile};
+use rank_core::Message;
+use std::alloc::Global;
+use term_core::FlowKind;
+
+// What a task will send: the messages to other ranks, whose tiles are still blank, and how many edges stay within its
+// rank.
+#[derive(Drop)]
+pub(crate) struct Outgoing {
+    pub(crate) messages: Vec<Message>,
+    pub(crate) within: u64,
+}
+
+// One more. No memory holds as much as a count that does not fit.
+fn one_more(count: u64) -> Result<u64, OutOfMemory>
+    ensures { IfOk result (λ more. more ≡ count + 1) }
+{
+    match count.checked_add(1) {
+        Some(more) => Ok(more),
+        None => Err(OutOfMemory),
+    }
+}
+
+// Whether flows of this kind carry tiles.
+fn is_data(kind: FlowKind) -> bool
+    ensures { result ≡ kinds.is_data (Some kind) }
+{
+    match kind {
+        FlowKind::Read => true,
+        FlowKind::Write => true,
+        FlowKind::Rw => true,
+        FlowKind::Ctl => false,
+    }
+}
+
+// A tile for a flow of this kind and type, whose numbers are any. None for a CTL flow.
+fn blank_tile(alloc: Global, m: &Matched, flow: &FlowPlan) -> Result<Option<Tile>, OutOfMemory>
+    requires { flow.now.datatype < length m.now.elems }
+    ensures { IfOk result (λ tile. option_map length tile ≡ (if kinds.is_data (Some flow.now.kind) then Some (slice_index m.now.elems flow.now.datatype) else None)) }
+{
+    if !is_data(flow.kind) {
+        return Ok(None);
+    }
+    let elems = m.plan().elems.as_slice()[flow.datatype as usize];
+    Ok(Some(Tile::zeros(alloc, elems)?))
+}
+
+// The flow of a task with this number, if it has one. Its type is one of the plan's.
+fn flow_at<'a>(plan: &'a Plan, t: &TaskId, number: u8) -> Option<&'a FlowPlan>
+    requires { IsTask plan.now t.now }
+    ensures flow { option_copied result ≡ slice_get (tasks.flows_of plan.now t.now) number }
+    ensures known { IfSome result (λ flow. flow.now.datatype < length plan.now.elems) }
+{
+    flows_of(plan, t).get(number as usize)
+}
+
+// A tile for the flow that an edge goes to, whose numbers are any. None for a CTL flow.
+fn blank_for(alloc: Global, m: &Matched, edge: &Edge) -> Result<Option<Tile>, OutOfMemory>
+    requires { IsTask m.now edge.now.to }
+    ensures { IfOk result (IsShapeOf m.now edge.now) }
+{
+    match flow_at(m.plan(), &edge.to, edge.in_flow) {
+        Some(flow) => blank_tile(alloc, m, flow),
+        None => Ok(None),
+    }
+}
+
+// A message of an edge to a task, with a blank tile.
+fn blank(alloc: Global, m: &Matched, edge: Edge) -> Result<Message, OutOfMemory>
+    requires { IsTask m.now edge.to }
+    ensures edge { IfOk result (λ message. message.edge ≡ edge) }
+    ensures shape { IfOk result (λ message. IsShapeOf m.now message.edge message.tile) }
+{
+    let tile = blank_for(alloc, m, &edge)?;
+    Ok(Message { edge, tile })
+}
+
+// Whether an edge out of the task of a visit goes to another rank.
+pub(crate) fn goes_away(at: &Visit, edge: &Edge) -> bool
+    requires visit { IsVisit at.now }
+    requires from { edge.now.from ≡ at.now.task.now }
+    requires to { IsTask (plan_of at.now) edge.now.to }
+    ensures { result ≡ is_between (plan_of at.now) at.now.ranks edge.now }
+{
+    rank_at(at.matched, at.ranks, &edge.to) != at.rank
+}
+
+// Adds an edge out of the task of a visit to what it will send.
+fn add_edge(
+    alloc: Global,
+    at: &Visit,
+    outgoing: &mut Outgoing,
+    edge: Edge,
+) -> Result<(), OutOfMemory>
+    requires visit { IsVisit at.now }
+    requires from { edge.from ≡ at.now.task.now }
+    requires to { IsTask (plan_of at.now) edge.to }
+    ensures between { OnOk result (is_between (plan_of at.now) at.now.ranks edge ≡ true → AddsBlank (plan_of at.now) edge outgoing.old outgoing.new) }
+    ensures within { OnOk result (is_between (plan_of at.now) at.now.ranks edge ≡ false → AddsWithin outgoing.old outgoing.new) }
+{
+    if goes_away(at, &edge) {
+        outgoing.messages.push(blank(alloc, at.matched, edge)?)?;
+        return Ok(());
+    }
+    outgoing.within = one_more(outgoing.within)?;
+    Ok(())
+}
+
+// What the task of a visit will send, if it has outputs.
+pub(crate) fn outgoing_of(alloc: Global, at: &Visit) -> Result<Outgoing, OutOfMemory>
+    requires { IsVisit at.now }
+    ensures messages { IfOk result (λ o. AreBlank (plan_of at.now) (between_among at.now (items.out_edges (plan_of at.now) at.now.task.now)) o.messages.items) }
+    ensures within { IfOk result (λ o. o.within ≡ length (within_among at.now (items.out_edges (plan_of at.now) at.now.task.now))) }
+{
+    let mut outgoing = Outgoing {
+        messages: Vec::new(alloc),
+        within: 0,
+    };
+    for edge in out_edges_under(at.matched.plan(), at.task, at.locals) {
+        add_edge(alloc, at, &mut outgoing, edge)?;
+    }
+    Ok(outgoing)
+}
+
+// How many write-backs the task of a visit has.
+pub(crate) fn count_writes(at: &Visit) -> Result<u64, OutOfMemory>
+    requires { IsVisit at.now }
+    ensures { IfOk result (λ n. n ≡ length (items.write_backs (plan_of at.now) at.now.task.now)) }
+{
+    let mut count = 0;
+    for _write in write_backs_under(at.matched.plan(), at.task, at.locals) {
+        count = one_more(count)?;
+    }
+    Ok(count)
+}
+
+// Takes memory in a rank for so many edges and write-backs of whatever types, and for a trap.
+pub(crate) fn make_room(
+    alloc: Global,
+    m: &Matched,
+    desk: &mut Shard,
+    edges: u64,
+    writes: u64,
+) -> Result<(), OutOfMemory>
+    requires { desk.old.elems ≡ m.now.elems }
+    ensures ok { OnOk result (HasRoomFor edges writes desk.new) }
+    ensures same { IsUnchanged desk.old desk.new }
+{
+    let Some(most) = edges.checked_add(writes) else {
+        return Err(OutOfMemory);
+    };
+    let types = m.plan().elems.as_slice().len();
+    let tiles = vec![in alloc; most; types]?;
+    desk.reserve(edges, tiles.as_slice(), writes, 1)
+}

@@ -1,0 +1,263 @@
+//! The run of a task.
+
+ghost use Rattle.std.specs.Prelude.{◌≡◌, ◌≢◌, ◌<◌, ◌≤◌, ◌↔◌, [], Err, IfErr, IfOk, IsTrue, None, Ok, OnErr, OnOk, Some, false, if◌then◌else◌, length, slice_get, ℕ};
+ghost use Rattle.ptg_base.specs.Task.{Task};
+ghost use Rattle.indexmap.specs.IndexMap.{spare};
+ghost use Rattle.dep_iter.specs.Items as items;
+ghost use Rattle.dep_iter.specs.Tasks as tasks;
+ghost use Rattle.rank_core.specs.World as world;
+ghost use Rattle.dep_shard.specs.Content.{Content, Entry as EntryValue, IsReady, entry_of};
+ghost use Rattle.flow_meaning.specs.Backward.{ended};
+ghost use Rattle.flow_meaning.specs.Machine.{MayClaim};
+ghost use Rattle.task_run.specs.Bench.{IsBenchOf};
+ghost use Rattle.rank_world.specs.Keeping.{IsMailOf, at_rest};
+ghost use Rattle.rank_world.specs.Sending.{HasRoomFor};
+ghost use Rattle.rank_world.specs.Views.{with_run};
+ghost use Rattle.rank_world.specs.Visits.{AreBlank, HoldsAt, IsVisit, after, before, between_among, data_of, part_way, plan_of, within_among};
+
+use crate::history::{History, Number};
+use crate::leaving::leave_within;
+use crate::mail::Mail;
+use crate::placing::rank_under;
+use crate::posting::post_all;
+use crate::room::{Outgoing, count_writes, make_room, outgoing_of};
+use crate::visit::Visit;
+use crate::world::World;
+use dep_iter::task_locals;
+use dep_shard::Shard;
+use ptg_base::{OutOfMemory, TaskId};
+use rank_core::Message;
+use std::alloc::Global;
+use task_run::{Bench, Start};
+use term_core::Trap;
+
+// Whether the entry at this index is ready.
+fn is_ready_at(desk: &Shard, index: usize) -> bool
+    ensures { (e : EntryValue) (t : Task) → slice_get desk.now.entries index ≡ Some (t, e) → IsTrue result ↔ IsReady e }
+{
+    match desk.entry(index) {
+        Some((_task, entry)) => entry.arrived() == entry.goal(),
+        None => false,
+    }
+}
+
+// Whether a task has a ready entry.
+fn is_ready(desk: &Shard, t: &TaskId) -> bool
+    ensures { IsTrue result ↔ ((e : EntryValue) × (entry_of desk.now t.now ≡ Some e) × IsReady e) }
+{
+    match desk.index_of(t) {
+        Some(index) => is_ready_at(desk, index),
+        None => false,
+    }
+}
+
+// Runs the body of the task of a visit, which its rank has ready. The task runs from then on.
+fn begin(at: &Visit, desk: &mut Shard, bench: &mut Bench) -> Result<(), Trap>
+    requires visit { IsVisit at.now }
+    requires bench { IsBenchOf (plan_of at.now) bench.old }
+    requires holds { HoldsAt at.now (at_rest (before at.now).machine) desk.old }
+    ensures holds { HoldsAt at.now (part_way at.now []) desk.new }
+    ensures room { (n m : ℕ) → HasRoomFor n m desk.old → HasRoomFor n m desk.new }
+    ensures elems { bench.new.elems ≡ bench.old.elems }
+    ensures ok { OnOk result (ended (plan_of at.now) (data_of at.now) at.now.task.now ≡ Some (Ok bench.new.tiles)) }
+    ensures trap { IfErr result (λ cause. ended (plan_of at.now) (data_of at.now) at.now.task.now ≡ Some (Err cause)) }
+{
+    let arrivals = desk.take_ready(at.task).unwrap();
+    let start = Start {
+        plan: at.matched.plan(),
+        given: at.given,
+        task: at.task,
+        locals: at.locals,
+    };
+    bench.run(&start, arrivals)
+}
+
+// Ends the task of a visit, which has outputs, after what it leaves.
+fn end_with_outputs(
+    at: &Visit,
+    desk: &mut Shard,
+    mail: &mut Mail,
+    bench: &Bench,
+    messages: Vec<Message>,
+)
+    requires visit { IsVisit at.now }
+    requires tiles { ended (plan_of at.now) (data_of at.now) at.now.task.now ≡ Some (Ok bench.now.tiles) }
+    requires holds { HoldsAt at.now (part_way at.now []) desk.old }
+    requires room { HasRoomFor (length (within_among at.now (items.out_edges (plan_of at.now) at.now.task.now))) (length (items.write_backs (plan_of at.now) at.now.task.now)) desk.old }
+    requires blank { AreBlank (plan_of at.now) (between_among at.now (items.out_edges (plan_of at.now) at.now.task.now)) messages.items }
+    requires mail { IsMailOf (before at.now) mail.old }
+    requires mail_room { length messages.items ≤ spare mail.old.under_way }
+    ensures holds { HoldsAt at.now (at_rest (after at.now).machine) desk.new }
+    ensures mail { IsMailOf (after at.now) mail.new }
+{
+    leave_within(at, desk, bench);
+    post_all(at, mail, bench, messages);
+    desk.end();
+}
+
+// Ends the task of a visit by a trap.
+fn end_by_trap(at: &Visit, desk: &mut Shard, cause: Trap)
+    requires visit { IsVisit at.now }
+    requires trap { ended (plan_of at.now) (data_of at.now) at.now.task.now ≡ Some (Err cause) }
+    requires holds { HoldsAt at.now (part_way at.now []) desk.old }
+    requires room { (n : ℕ) × (m : ℕ) × HasRoomFor n m desk.old }
+    ensures { HoldsAt at.now (at_rest (after at.now).machine) desk.new }
+{
+    desk.trap(at.task, cause).unwrap();
+}
+
+// Ends the task of a visit, whose body has ended so.
+fn end_run(
+    at: &Visit,
+    desk: &mut Shard,
+    mail: &mut Mail,
+    bench: &Bench,
+    outcome: (Result<(), Trap>, Vec<Message>),
+)
+    requires visit { IsVisit at.now }
+    requires ok { OnOk outcome.0 (ended (plan_of at.now) (data_of at.now) at.now.task.now ≡ Some (Ok bench.now.tiles)) }
+    requires trap { IfErr outcome.0 (λ cause. ended (plan_of at.now) (data_of at.now) at.now.task.now ≡ Some (Err cause)) }
+    requires holds { HoldsAt at.now (part_way at.now []) desk.old }
+    requires room { HasRoomFor (length (within_among at.now (items.out_edges (plan_of at.now) at.now.task.now))) (length (items.write_backs (plan_of at.now) at.now.task.now)) desk.old }
+    requires blank { AreBlank (plan_of at.now) (between_among at.now (items.out_edges (plan_of at.now) at.now.task.now)) outcome.1.items }
+    requires mail { IsMailOf (before at.now) mail.old }
+    requires mail_room { length outcome.1.items ≤ spare mail.old.under_way }
+    ensures holds { HoldsAt at.now (at_rest (after at.now).machine) desk.new }
+    ensures mail { IsMailOf (after at.now) mail.new }
+{
+    let (end, messages) = outcome;
+    if let Err(cause) = end {
+        end_by_trap(at, desk, cause);
+        return;
+    }
+    end_with_outputs(at, desk, mail, bench, messages);
+}
+
+// Runs the task of a visit. All memory was taken before.
+fn run_visit(
+    at: &Visit,
+    desk: &mut Shard,
+    mail: &mut Mail,
+    bench: &mut Bench,
+    messages: Vec<Message>,
+)
+    requires visit { IsVisit at.now }
+    requires bench { IsBenchOf (plan_of at.now) bench.old }
+    requires holds { HoldsAt at.now (at_rest (before at.now).machine) desk.old }
+    requires room { HasRoomFor (length (within_among at.now (items.out_edges (plan_of at.now) at.now.task.now))) (length (items.write_backs (plan_of at.now) at.now.task.now)) desk.old }
+    requires blank { AreBlank (plan_of at.now) (between_among at.now (items.out_edges (plan_of at.now) at.now.task.now)) messages.items }
+    requires mail { IsMailOf (before at.now) mail.old }
+    requires mail_room { length messages.items ≤ spare mail.old.under_way }
+    ensures holds { HoldsAt at.now (at_rest (after at.now).machine) desk.new }
+    ensures mail { IsMailOf (after at.now) mail.new }
+    ensures bench { IsBenchOf (plan_of at.now) bench.new }
+{
+    let end = begin(at, desk, bench);
+    end_run(at, desk, mail, bench, (end, messages));
+    bench.clear();
+}
+
+// Takes the memory for the task of a visit, and runs it. Without memory nothing but spares changes.
+fn run_desk(
+    alloc: Global,
+    at: &Visit,
+    desk: &mut Shard,
+    mail: &mut Mail,
+    bench: &mut Bench,
+) -> Result<(), OutOfMemory>
+    requires visit { IsVisit at.now }
+    requires bench { IsBenchOf (plan_of at.now) bench.old }
+    requires holds { HoldsAt at.now (at_rest (before at.now).machine) desk.old }
+    requires mail { IsMailOf (before at.now) mail.old }
+    ensures holds { OnOk result (HoldsAt at.now (at_rest (after at.now).machine) desk.new) }
+    ensures mail { OnOk result (IsMailOf (after at.now) mail.new) }
+    ensures same { OnErr result (HoldsAt at.now (at_rest (before at.now).machine) desk.new) }
+    ensures kept { OnErr result (IsMailOf (before at.now) mail.new) }
+    ensures bench { IsBenchOf (plan_of at.now) bench.new }
+{
+    let Outgoing { messages, within } = outgoing_of(alloc, at)?;
+    let writes = count_writes(at)?;
+    make_room(alloc, at.matched, desk, within, writes)?;
+    mail.under_way.reserve(messages.len())?;
+    run_visit(at, desk, mail, bench, messages);
+    Ok(())
+}
+
+// The same in the rank of the visit.
+fn run_at(
+    alloc: Global,
+    at: &Visit,
+    ranks: &mut Vec<Shard>,
+    mail: &mut Mail,
+    bench: &mut Bench,
+) -> Result<(), OutOfMemory>
+    requires visit { IsVisit at.now }
+    requires within { at.now.rank < length ranks.old.items }
+    requires bench { IsBenchOf (plan_of at.now) bench.old }
+    requires holds { (y : Content) → slice_get ranks.old.items at.now.rank ≡ Some y → HoldsAt at.now (at_rest (before at.now).machine) y }
+    requires mail { IsMailOf (before at.now) mail.old }
+    ensures others { (i : ℕ) → i ≢ at.now.rank → slice_get ranks.new.items i ≡ slice_get ranks.old.items i }
+    ensures count { length ranks.new.items ≡ length ranks.old.items }
+    ensures holds { OnOk result ((z : Content) → slice_get ranks.new.items at.now.rank ≡ Some z → HoldsAt at.now (at_rest (after at.now).machine) z) }
+    ensures mail { OnOk result (IsMailOf (after at.now) mail.new) }
+    ensures same { OnErr result ((z : Content) → slice_get ranks.new.items at.now.rank ≡ Some z → HoldsAt at.now (at_rest (before at.now).machine) z) }
+    ensures kept { OnErr result (IsMailOf (before at.now) mail.new) }
+    ensures bench { IsBenchOf (plan_of at.now) bench.new }
+{
+    run_desk(alloc, at, &mut ranks[at.rank], mail, bench)
+}
+
+impl<'m> World<'m> {
+    // Runs a task that may run, with these locals and of this rank. All memory is taken first.
+    fn run_ready(&mut self, t: &TaskId, locals: &[i64], rank: usize) -> Result<(), OutOfMemory>
+        requires may { MayClaim self.old.plan self.old.state.machine t.now }
+        requires locals { locals.now ≡ tasks.locals_of self.old.plan t.now }
+        requires rank { rank ≡ world.rank_of self.old.plan self.old.ranks t.now }
+        ensures ok { OnOk result (self.new ≡ with_run t.now self.old) }
+        ensures err { OnErr result (self.new ≡ self.old) }
+    {
+        let _ = self.given.colls();
+        let at = Visit {
+            matched: self.matched,
+            given: &self.given,
+            history: &self.history,
+            ranks: self.ranks.len(),
+            task: t,
+            locals,
+            rank,
+        };
+        run_at(
+            self.alloc,
+            &at,
+            &mut self.ranks,
+            &mut self.mail,
+            &mut self.bench,
+        )?;
+        let ranks = Number {
+            value: self.ranks.len() as u64,
+        };
+        self.history = History::with_run(&self.history, self.matched, &self.given, &ranks, t);
+        Ok(())
+    }
+
+    /// Runs a task: true exactly if it is a task of the job, has not run, and all edges into it stand. Then its body
+    /// is run on the tiles that stand; where it has outputs, its write-backs and its edges to its own rank stand at
+    /// once, and its edges to other ranks become messages in the text's order. Else nothing changes, nor does it
+    /// without memory.
+    pub fn run(&mut self, t: &TaskId) -> Result<bool, OutOfMemory>
+        ensures exact { IfOk result (λ ran. IsTrue ran ↔ MayClaim self.old.plan self.old.state.machine t.now) }
+        ensures state { IfOk result (λ ran. self.new ≡ (if ran then with_run t.now self.old else self.old)) }
+        ensures err { OnErr result (self.new ≡ self.old) }
+    {
+        let plan = self.matched.plan();
+        let Some(locals) = task_locals(plan, t) else {
+            return Ok(false);
+        };
+        let rank = rank_under(self.matched, self.ranks.len(), t, locals.as_slice());
+        if !is_ready(&self.ranks[rank], t) {
+            return Ok(false);
+        }
+        self.run_ready(t, locals.as_slice(), rank)?;
+        Ok(true)
+    }
+}

@@ -1,0 +1,201 @@
+//! A world of ranks.
+
+ghost use Rattle.std.specs.Prelude.{◌≡◌, ◌<◌, ◌≤◌, ◌↔◌, ℕ, IfOk, IfNone, IfSome, IsTrue, IsFalse, OnErr, OnOk, Some, length, slice_get};
+ghost use Rattle.ptg_base.specs.Task.{Task};
+ghost use Rattle.plan_data.specs.Fit.{DataFit};
+ghost use Rattle.dep_iter.specs.Tasks.{IsTask};
+ghost use Rattle.dep_shard.specs.Content.{Content, HasNoReady, IsBest};
+ghost use Rattle.flow_meaning.specs.Answer as meaning;
+ghost use Rattle.flow_meaning.specs.Machine.{MayClaim};
+ghost use Rattle.shard_meaning.specs.Calm.{HasNoWork};
+ghost use Rattle.rank_core.specs.declared.message.Message.{Message as MessageValue};
+ghost use Rattle.rank_core.specs.World as world;
+ghost use Rattle.rank_core.specs.World.{IsQuiet, stands};
+ghost use Rattle.rank_world.specs.Changes.{StaysAt, TakesEdgeAt};
+ghost use Rattle.rank_world.specs.Sending.{MayTakeEdge};
+ghost use Rattle.rank_world.specs.Views.{opened, with_delivery};
+
+use crate::delivery::take_edge;
+use crate::history::{History, Number};
+use crate::mail::Mail;
+use crate::opening::opened_ranks;
+use crate::placing::rank_at;
+use coll_data::Given;
+use dep_iter::Matched;
+use dep_shard::Shard;
+use flow_meaning::Outcome;
+use indexmap::IndexMap;
+use ptg_base::{OutOfMemory, TaskId};
+use rank_core::Message;
+use shard_answer::{Room, outcome_of};
+use std::alloc::Global;
+use std::marker::Model;
+use task_run::Bench;
+
+/// A world of ranks that runs a job in one thread: each rank has the entries of its own tasks, and an edge between
+/// two ranks is a message, which may be delivered late, twice and in any order. Contracts see the job, the number of
+/// ranks and what has happened.
+#[derive(Drop)]
+pub struct World<'m> {
+    pub(crate) alloc: Global,
+    pub(crate) matched: &'m Matched,
+    pub(crate) given: Given,
+    pub(crate) ranks: Vec<Shard>,
+    pub(crate) bench: Bench,
+    pub(crate) mail: Mail,
+    pub(crate) history: History,
+}
+
+impl<'m> Model for World<'m> {
+    ghost use Rattle.std.specs.Prelude.{length};
+    ghost use Rattle.std.specs.Coded.{codes};
+    ghost use Rattle.term_core.specs.contracts.body.Block as block;
+    ghost use Rattle.term_core.specs.contracts.expr.Expr as expr;
+    ghost use Rattle.rank_world.specs.Keeping.{Keeps};
+    ghost use Rattle.rank_world.specs.Views.{WorldView};
+
+    ghost Value = { WorldView };
+
+    ghost coded = { Prim.hlevel (codes, expr.the_row.coded, block.the_row.coded) };
+
+    ghost view = { λ w. record { plan = w.matched.now; given = w.given; ranks = length w.ranks.items; state = w.history.state } };
+
+    ghost invariant = { λ w. Keeps w.matched.now w.given w.history.state w.ranks.items w.bench w.mail };
+}
+
+// The rank k takes an edge in, with its tile.
+fn take_edge_at(
+    ranks: &mut Vec<Shard>,
+    k: usize,
+    m: &Matched,
+    message: &Message,
+) -> Result<(), OutOfMemory>
+    requires within { k < length ranks.old.items }
+    requires may { (y : Content) → slice_get ranks.old.items k ≡ Some y → MayTakeEdge m.now message.now.edge message.now.tile y }
+    ensures ok { OnOk result (TakesEdgeAt m.now message.now k ranks.old.items ranks.new.items) }
+    ensures err { OnErr result (StaysAt k ranks.old.items ranks.new.items) }
+{
+    take_edge(&mut ranks[k], m, &message.edge, message.tile.as_ref())
+}
+
+// The best ready task of the rank k.
+fn best_at(ranks: &mut Vec<Shard>, k: usize) -> Option<TaskId>
+    requires { k < length ranks.old.items }
+    ensures same { StaysAt k ranks.old.items ranks.new.items }
+    ensures none { IfNone result ((y : Content) → slice_get ranks.old.items k ≡ Some y → HasNoReady y.entries) }
+    ensures some { IfSome result (λ t. (y : Content) → slice_get ranks.old.items k ≡ Some y → IsBest y.entries t) }
+{
+    ranks[k].best_ready()
+}
+
+// Whether no rank has work.
+fn are_calm(ranks: &[Shard]) -> bool
+    ensures { IsTrue result ↔ ((k : ℕ) (y : Content) → slice_get ranks.now k ≡ Some y → HasNoWork y) }
+{
+    for k in 0..ranks.len() {
+        if !ranks[k].is_calm() {
+            return false;
+        }
+    }
+    true
+}
+
+impl<'m> World<'m> {
+    /// A world of from 1 to 64 ranks for a job and its data, in which nothing has happened.
+    pub fn new(
+        alloc: Global,
+        m: &'m Matched,
+        given: Given,
+        ranks: u32,
+    ) -> Result<World<'m>, OutOfMemory>
+        requires fit { DataFit m.now.colls m.now.elems given }
+        requires ranks { (0 < ranks) × (ranks ≤ 64) }
+        ensures { IfOk result (λ w. w ≡ opened m.now given ranks) }
+    {
+        let shards = opened_ranks(alloc, m, ranks)?;
+        let bench = Bench::new(alloc, m)?;
+        let _ = m.plan();
+        Ok(World {
+            alloc,
+            matched: m,
+            given,
+            ranks: shards,
+            bench,
+            mail: Mail {
+                under_way: IndexMap::new(alloc),
+                sent: 0,
+            },
+            history: History::new(),
+        })
+    }
+
+    /// The rank of a task.
+    pub fn rank_of(&self, t: &TaskId) -> u32
+        requires { IsTask self.now.plan t.now }
+        ensures rank { result ≡ world.rank_of self.now.plan self.now.ranks t.now }
+        ensures within { result < self.now.ranks }
+    {
+        rank_at(self.matched, self.ranks.len(), t) as u32
+    }
+
+    /// How many messages were sent.
+    pub fn messages(&self) -> u64
+        ensures { result ≡ length self.now.state.messages }
+    {
+        self.mail.sent
+    }
+
+    /// A task of a rank that may run: the best by priority, and of equal ones the first in task order. `None` exactly
+    /// where there is none. Looking drops what is stale and changes nothing that contracts see.
+    pub fn ready(&mut self, rank: u32) -> Option<TaskId>
+        requires { rank < self.old.ranks }
+        ensures same { self.new ≡ self.old }
+        ensures some { IfSome result (λ t. MayClaim self.old.plan self.old.state.machine t × (world.rank_of self.old.plan self.old.ranks t ≡ rank)) }
+        ensures none { IfNone result ((t : Task) → world.rank_of self.old.plan self.old.ranks t ≡ rank → MayClaim self.old.plan self.old.state.machine t → ⊥) }
+    {
+        best_at(&mut self.ranks, rank as usize)
+    }
+
+    /// Whether no task may run and the edge of each message stands.
+    pub fn quiescent(&self) -> bool
+        ensures { IsTrue result ↔ IsQuiet self.now.plan self.now.state }
+    {
+        self.mail.under_way.is_empty() && are_calm(self.ranks.as_slice())
+    }
+
+    /// Delivers the message of a number: true exactly where its edge did not stand, which then stands with the
+    /// message's tile. Else nothing changes, nor does it without memory.
+    pub fn deliver(&mut self, n: u64) -> Result<bool, OutOfMemory>
+        requires { n < length self.old.state.messages }
+        ensures exact { IfOk result (λ stood_not. (m : MessageValue) → slice_get self.old.state.messages n ≡ Some m → IsTrue stood_not ↔ IsFalse (stands self.old.state.machine m)) }
+        ensures state { OnOk result (self.new ≡ with_delivery n self.old) }
+        ensures err { OnErr result (self.new ≡ self.old) }
+    {
+        let _ = self.given.colls();
+        let Some(message) = self.mail.under_way.get(&n) else {
+            return Ok(false);
+        };
+        let k = rank_at(self.matched, self.ranks.len(), &message.edge.to);
+        take_edge_at(&mut self.ranks, k, self.matched, message)?;
+        let _message = self.mail.under_way.swap_remove(&n);
+        self.history = History::with_delivery(&self.history, &Number { value: n });
+        Ok(true)
+    }
+
+    /// The answer of the job.
+    pub fn answer(self) -> Result<Outcome, OutOfMemory>
+        requires { IsQuiet self.plan self.state }
+        ensures { IfOk result (λ outcome. outcome ≡ meaning.answer self.entry.plan self.entry.given) }
+    {
+        let World {
+            alloc,
+            matched,
+            given,
+            ranks,
+            bench: _bench,
+            mail: _mail,
+            history: _history,
+        } = self;
+        outcome_of(matched, given, ranks, Room::new(alloc))
+    }
+}

@@ -1,0 +1,46 @@
+-- What is printed of what a command finds of a job that was run, beside its answer. Source: this project's own choice.
+use Rattle.std.specs.Prelude.{ℕ, List, [], ◌∷◌, ◌++◌, length, map, flat_map, codes, All}
+use Rattle.std.specs.Fmt.{decimal, signed_decimal}
+use Rattle.ptg_base.specs.Task.{Task}
+use Rattle.plan_core.specs.declared.plan.Plan.{Plan}
+use Rattle.report_text.specs.Field.{line}
+use Rattle.report_text.specs.Rows.{HasClass, class_name}
+use Rattle.report_text.specs.declared.demo_line.Summary.{Summary}
+use Rattle.report_text.specs.declared.certificate.HeaviestChain.{HeaviestChain}
+use Rattle.report_text.specs.declared.certificate.FoundCycle.{FoundCycle}
+
+-- what is printed of a made job that is complete: how many rows of tiles and how many tasks it has, and the sum of all elements
+abbrev pub summary_text : Summary → List ℕ
+summary_text s = line (codes "demo" ∷ decimal s.rows ∷ decimal s.tasks ∷ signed_decimal s.sum ∷ [])
+
+-- the line of a task of a chain or of a cycle: its class and its parameters
+abbrev pub link_line : Plan → Task → List ℕ
+link_line plan t = line (codes "link" ∷ class_name plan t.class ∷ map signed_decimal t.params)
+
+-- the line of a task with its level
+abbrev pub level_line : Plan → Task × ℕ → List ℕ
+level_line plan row = line (codes "level" ∷ class_name plan row.0.class ∷ (map signed_decimal row.0.params ++ decimal row.1 ∷ []))
+
+-- the first two lines of a heaviest chain: how many tasks the job has, and the chain's length and weight
+abbrev pub chain_head : HeaviestChain → List ℕ
+chain_head found = line (codes "complete" ∷ decimal found.tasks ∷ []) ++ line (codes "chain" ∷ decimal (length found.chain) ∷ decimal found.weight ∷ [])
+
+-- what is printed of a heaviest chain: those, its tasks, and the level of each task of the job
+abbrev pub chain_text : Plan → HeaviestChain → List ℕ
+chain_text plan found = chain_head found ++ (flat_map (link_line plan) found.chain ++ flat_map (level_line plan) found.levels)
+
+-- the first two lines of a cycle: how many tasks ran, of how many, and the cycle's length
+abbrev pub cycle_head : FoundCycle → List ℕ
+cycle_head found = line (codes "stalled" ∷ decimal found.ran ∷ decimal found.tasks ∷ []) ++ line (codes "cycle" ∷ decimal (length found.cycle) ∷ [])
+
+-- what is printed of a cycle: those, and its tasks
+abbrev pub cycle_text : Plan → FoundCycle → List ℕ
+cycle_text plan found = cycle_head found ++ flat_map (link_line plan) found.cycle
+
+-- the class of each task is one of the plan's
+pub record HasClassesOfChain (plan : Plan) (found : HeaviestChain) : Type 0 where
+  pub links : All (HasClass plan) found.chain
+  pub levels : All (λ (row : Task × ℕ). HasClass plan row.0) found.levels
+
+abbrev pub HasClassesOfCycle : Plan → FoundCycle → Type 0
+HasClassesOfCycle plan found = All (HasClass plan) found.cycle

@@ -1,0 +1,127 @@
+//! The lines of a certificate: a heaviest chain with the levels of all tasks, or a cycle.
+
+ghost use Rattle.std.specs.Prelude.{◌≡◌, ◌≤◌, OnOk, OnErr};
+ghost use Rattle.ptg_io.specs.Faults.{Rose};
+ghost use Rattle.ptg_io.specs.Sink.{appended};
+ghost use Rattle.report_text.specs.Puts.{Puts, HasPrefix};
+ghost use Rattle.report_text.specs.Found.{HasClassesOfChain, HasClassesOfCycle, chain_head, chain_text, cycle_head, cycle_text};
+
+use crate::fields::{Field, put_line};
+use crate::links::{put_levels, put_links};
+use crate::pieces::{Pieces, flush};
+use plan_core::Plan;
+use ptg_base::{Seq, TaskId};
+use ptg_io::{Failed, Sink};
+
+/// What is found of a complete job without a cycle.
+#[derive(Drop)]
+pub struct HeaviestChain {
+    /// How many tasks the job has.
+    pub tasks: u64,
+    /// The weight of the chain.
+    pub weight: u64,
+    /// The chain, from its first task on.
+    pub chain: Seq<TaskId>,
+    /// All tasks with their levels, in task order.
+    pub levels: Seq<(TaskId, u64)>,
+}
+
+/// What is found of a job that stalled.
+#[derive(Drop)]
+pub struct FoundCycle {
+    /// How many tasks ran.
+    pub ran: u64,
+    /// How many tasks the job has.
+    pub tasks: u64,
+    /// The cycle, each task before one that needs it.
+    pub cycle: Seq<TaskId>,
+}
+
+/// Prints a heaviest chain and the levels of all tasks. On `Err` some first bytes of it went out.
+pub fn heaviest_chain<O: Sink>(
+    plan: &Plan,
+    found: &HeaviestChain,
+    sink: &mut O,
+) -> Result<(), Failed>
+    requires { HasClassesOfChain plan.now found.now }
+    ensures ok { OnOk result (O.bytes sink.new ≡ appended (O.bytes sink.old) (chain_text plan.now found.now)) }
+    ensures prefix { OnErr result (HasPrefix (O.bytes sink.old) (O.bytes sink.new) (chain_text plan.now found.now)) }
+    ensures grows { O.faults sink.old ≤ O.faults sink.new }
+    ensures failed { OnErr result (Rose (O.faults sink.old) (O.faults sink.new)) }
+{
+    let mut out = Pieces::new();
+    put_chain(sink, &mut out, plan, found)?;
+    flush(sink, &mut out)
+}
+
+/// Prints a cycle. On `Err` some first bytes of it went out.
+pub fn found_cycle<O: Sink>(plan: &Plan, found: &FoundCycle, sink: &mut O) -> Result<(), Failed>
+    requires { HasClassesOfCycle plan.now found.now }
+    ensures ok { OnOk result (O.bytes sink.new ≡ appended (O.bytes sink.old) (cycle_text plan.now found.now)) }
+    ensures prefix { OnErr result (HasPrefix (O.bytes sink.old) (O.bytes sink.new) (cycle_text plan.now found.now)) }
+    ensures grows { O.faults sink.old ≤ O.faults sink.new }
+    ensures failed { OnErr result (Rose (O.faults sink.old) (O.faults sink.new)) }
+{
+    let mut out = Pieces::new();
+    put_cycle(sink, &mut out, plan, found)?;
+    flush(sink, &mut out)
+}
+
+// Puts the text of a heaviest chain.
+fn put_chain<O: Sink>(
+    sink: &mut O,
+    out: &mut Pieces,
+    plan: &Plan,
+    found: &HeaviestChain,
+) -> Result<(), Failed>
+    requires { HasClassesOfChain plan.now found.now }
+    ensures { Puts O.bytes O.faults result sink.old out.old sink.new out.new (chain_text plan.now found.now) }
+{
+    let chain = found.chain.as_slice();
+    let levels = found.levels.as_slice();
+    put_chain_head(sink, out, found)?;
+    put_links(sink, out, plan, chain)?;
+    put_levels(sink, out, plan, levels)
+}
+
+// Puts the first two lines of a heaviest chain.
+fn put_chain_head<O: Sink>(
+    sink: &mut O,
+    out: &mut Pieces,
+    found: &HeaviestChain,
+) -> Result<(), Failed>
+    ensures { Puts O.bytes O.faults result sink.old out.old sink.new out.new (chain_head found.now) }
+{
+    put_line(sink, out, b"complete", &[Field::Number(found.tasks)])?;
+    let length = Field::Number(found.chain.len() as u64);
+    put_line(sink, out, b"chain", &[length, Field::Number(found.weight)])
+}
+
+// Puts the text of a cycle.
+fn put_cycle<O: Sink>(
+    sink: &mut O,
+    out: &mut Pieces,
+    plan: &Plan,
+    found: &FoundCycle,
+) -> Result<(), Failed>
+    requires { HasClassesOfCycle plan.now found.now }
+    ensures { Puts O.bytes O.faults result sink.old out.old sink.new out.new (cycle_text plan.now found.now) }
+{
+    let cycle = found.cycle.as_slice();
+    put_cycle_head(sink, out, found)?;
+    put_links(sink, out, plan, cycle)
+}
+
+// Puts the first two lines of a cycle.
+fn put_cycle_head<O: Sink>(sink: &mut O, out: &mut Pieces, found: &FoundCycle) -> Result<(), Failed>
+    ensures { Puts O.bytes O.faults result sink.old out.old sink.new out.new (cycle_head found.now) }
+{
+    let counts = [Field::Number(found.ran), Field::Number(found.tasks)];
+    put_line(sink, out, b"stalled", &counts)?;
+    put_line(
+        sink,
+        out,
+        b"cycle",
+        &[Field::Number(found.cycle.len() as u64)],
+    )
+}

@@ -1,0 +1,46 @@
+//! The line of the summary of a made job.
+
+ghost use Rattle.std.specs.Prelude.{◌≡◌, ◌≤◌, OnOk, OnErr};
+ghost use Rattle.ptg_io.specs.Faults.{Rose};
+ghost use Rattle.ptg_io.specs.Sink.{appended};
+ghost use Rattle.report_text.specs.Puts.{HasPrefix, Puts};
+ghost use Rattle.report_text.specs.Found.{summary_text};
+
+use crate::fields::{Field, put_line};
+use crate::pieces::{Pieces, flush};
+use ptg_io::{Failed, Sink};
+
+/// What is found of a made job that is complete.
+#[derive(Clone, Copy, Debug, PartialEq, Eq)]
+pub struct Summary {
+    /// How many rows of tiles it has.
+    pub rows: u32,
+    /// How many tasks it has.
+    pub tasks: u64,
+    /// The sum of all elements of its collections at the end.
+    pub sum: i128,
+}
+
+/// Prints the summary of a made job. On `Err` some first bytes of it went out.
+pub fn summary_line<O: Sink>(found: &Summary, sink: &mut O) -> Result<(), Failed>
+    ensures ok { OnOk result (O.bytes sink.new ≡ appended (O.bytes sink.old) (summary_text found.now)) }
+    ensures prefix { OnErr result (HasPrefix (O.bytes sink.old) (O.bytes sink.new) (summary_text found.now)) }
+    ensures grows { O.faults sink.old ≤ O.faults sink.new }
+    ensures failed { OnErr result (Rose (O.faults sink.old) (O.faults sink.new)) }
+{
+    let mut out = Pieces::new();
+    put_summary(sink, &mut out, found)?;
+    flush(sink, &mut out)
+}
+
+// Puts the summary of a made job.
+fn put_summary<O: Sink>(sink: &mut O, out: &mut Pieces, found: &Summary) -> Result<(), Failed>
+    ensures { Puts O.bytes O.faults result sink.old out.old sink.new out.new (summary_text found.now) }
+{
+    let counts = [
+        Field::Number(u64::from(found.rows)),
+        Field::Number(found.tasks),
+        Field::Integer(found.sum),
+    ];
+    put_line(sink, out, b"demo", &counts)
+}

@@ -1,0 +1,56 @@
+use Rattle.std.proofs.Common.{◌∙◌, flat_map, ap, map, refl, sym, subst}
+use denote.Param.Send.{sendable}
+use Rattle.crossbeam_utils.specs.Padded.{padded_value}
+use Rattle.ptg_base.specs.Lists.{IsIn}
+use Rattle.dep_table.specs.Closing.{AreAllPasses}
+use Rattle.dep_table.specs.StampOrders.{AreInStampOrder, joined_stamps}
+use Rattle.dep_table.specs.Tables.{id_of, job_of}
+use Rattle.dep_table.proofs.Sharing.{pass_send, table_sync}
+use Rattle.run_pool.specs.Runs.{Run}
+use Rattle.run_pool.specs.Seated.{log_on, record_on}
+use Rattle.run_pool.proofs.Gathered.{all_passes, have_answered, one_saw_quiet}
+use Rattle.run_pool.proofs.Traced.{logs_are, ran_order, trace_of}
+use Rattle.run_pool.proofs.tracing.run_traced.Goals as goal
+
+pub team-requires-send-B-Pass : goal.team-requires-send-B-Pass
+team-requires-send-B-Pass g c κs within = search (sendable, pass_send) depth 10
+
+pub team-requires-sync-B : goal.team-requires-sync-B
+team-requires-sync-B g c κs within = search (sendable, table_sync) depth 10
+
+pub team-requires-clause-ready : goal.team-requires-clause-ready
+team-requires-clause-ready g c κs within = λ k d at.
+    let r = c.prepared.invariant.0.ready k d at in
+    record { pass = c.an_idle_pass_is_a_workers_pass.ensures c.prepared.inside.table (padded_value d).pass r.pass r.idle; idle = r.idle; bench = r.bench }
+
+pub team-requires-clause-traced : goal.team-requires-clause-traced
+team-requires-clause-traced g c κs within = λ _. ap (λ (r : Run). r.job.preloaded) c.prepared.view_is ∙ c.requires
+
+pub passes_of-requires-clause-answered : goal.passes_of-requires-clause-answered
+passes_of-requires-clause-answered g c =
+    let job = job_of c.prepared.inside.table in
+    have_answered c.prepared.inside.table job.matched job.preloaded c.prepared.inside.desks.items c.team.new.desks.items c.team.ensures.count c.team.ensures.worked
+
+pub close-requires : goal.close-requires
+close-requires g c =
+    let job = job_of c.prepared.inside.table in
+    subst (AreAllPasses (id_of c.prepared.inside.table)) (sym c.in_ok-passes.ensures.passes)
+    (all_passes c.prepared.inside.table job.matched job.preloaded c.prepared.inside.desks.items c.team.new.desks.items c.team.ensures.count c.team.ensures.worked c.all_passes_stay_all.ensures.names c.prepared.invariant.0)
+
+pub returns-clause-quiet : goal.returns-clause-quiet
+returns-clause-quiet g c =
+    let job = job_of c.prepared.inside.table in
+    let one = one_saw_quiet c.prepared.inside.table job.matched job.preloaded c.prepared.inside.desks.items c.team.new.desks.items c.team.ensures.count c.team.ensures.worked c.prepared.invariant.1 c.in_ok-passes.ensures.done in
+    c.close.ensures.quiet one.pass (subst (IsIn one.pass) (sym c.in_ok-passes.ensures.passes) one.among) one.quiet
+
+pub returns-clause-trace : goal.returns-clause-trace
+returns-clause-trace g c =
+    let ds = c.prepared.inside.desks.items in
+    let es = c.team.new.desks.items in
+    let l = logs_are ds es c.team.ensures.count (c.team.ensures.logged refl) c.prepared.invariant.0.fresh in
+    let sorted : AreInStampOrder (joined_stamps (map record_on es)) c.in_ok-tasks.tasks.items = c.in_ok-tasks.ensures (joined_stamps (map record_on es)) (c.in_ok-log.ensures ∙ (ap (flat_map log_on) c.as_slice.ensures.value ∙ l)) in
+    trace_of (job_of c.prepared.inside.table) c.close.result _ es c.in_ok-tasks.tasks.items c.close.ensures.job c.in_ok-passes.ensures.passes c.close.ensures.at c.close.ensures.order sorted
+
+pub returns-clause-order : goal.returns-clause-order
+returns-clause-order g c =
+    ran_order c.a_quiet_close_has_an_order_of_what_ran.ensures _ c.close.result c.in_ok-tasks.tasks.items (c.close.ensures.job ∙ ap (λ (r : Run). r.job) c.prepared.view_is) (returns-clause-trace g c) (returns-clause-quiet g c)

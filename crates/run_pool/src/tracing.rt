@@ -1,0 +1,108 @@
+//! A run that tells in which order its tasks were claimed.
+
+ghost use Rattle.std.specs.Prelude.{◌≡◌, ◌++◌, ℕ, List, false, map, IfOk};
+ghost use Rattle.std.specs.List.{flat_map};
+ghost use Rattle.ptg_base.specs.Task.{Task};
+ghost use Rattle.worker_core.specs.Working.{logged};
+ghost use Rattle.table_rule.specs.Live.{Stamp};
+ghost use Rattle.dep_table.specs.Closing.{HaveNoWork};
+ghost use Rattle.dep_table.specs.StampOrders.{AreInStampOrder, IsRanOrder};
+ghost use Rattle.run_pool.specs.Seated.{log_on};
+ghost use Rattle.run_pool.specs.Traces.{IsTraceOf};
+
+use crate::prepared::Prepared;
+use crate::running::passes_of;
+use crate::seating::Seat;
+use crate::workers::team;
+use dep_table::an_idle_pass_is_a_workers_pass;
+use dep_table::closed::Closed;
+use dep_table::quiet::a_quiet_close_has_an_order_of_what_ran;
+use ptg_base::{OutOfMemory, TaskId};
+use std::alloc::Global;
+use std::sync::Wait;
+use std::thread::Threads;
+use table_rule::rules::all_passes_stay_all;
+use worker_core::Gate;
+
+// A copy of a task.
+fn copy_of(t: &TaskId) -> TaskId
+    ensures { result ≡ t.now }
+{
+    TaskId::new(t.class(), t.params())
+}
+
+// A log with copies of further entries.
+fn with_entries(
+    log: Vec<(u64, TaskId)>,
+    more: &[(u64, TaskId)],
+) -> Result<Vec<(u64, TaskId)>, OutOfMemory>
+    ensures { IfOk result (λ r. r.items ≡ log.items ++ more.now) }
+{
+    let mut log = log;
+    for entry in more {
+        log.push((entry.0, copy_of(&entry.1)))?;
+    }
+    Ok(log)
+}
+
+// The entries of the logs of all desks.
+fn logs_of(alloc: Global, desks: &[Seat]) -> Result<Vec<(u64, TaskId)>, OutOfMemory>
+    ensures { IfOk result (λ r. r.items ≡ flat_map log_on desks.now) }
+{
+    let mut log = Vec::new(alloc);
+    for desk in desks {
+        log = with_entries(log, (**desk).log.as_slice())?;
+    }
+    Ok(log)
+}
+
+// The tasks of a log.
+fn tasks_of(alloc: Global, log: Vec<(u64, TaskId)>) -> Result<Vec<TaskId>, OutOfMemory>
+    ensures { IfOk result (λ r. r.items ≡ map (λ (e : ℕ × Task). e.1) log.items) }
+{
+    let mut tasks = Vec::new(alloc);
+    for entry in log {
+        let (_stamp, task) = entry;
+        tasks.push(task)?;
+    }
+    Ok(tasks)
+}
+
+// The tasks of a log, in the order of their stamps.
+fn in_stamp_order(alloc: Global, log: Vec<(u64, TaskId)>) -> Result<Vec<TaskId>, OutOfMemory>
+    ensures { IfOk result (λ r. (stamps : List Stamp) → log.items ≡ logged stamps → AreInStampOrder stamps r.items) }
+{
+    let mut log = log;
+    log.sort_unstable_by_key(|entry| entry.0);
+    tasks_of(alloc, log)
+}
+
+/// The same as `run`, for a run that is not preloaded, with all claims of its passes in the order of their stamps: a legal order of
+/// the tasks that run. It may wait.
+pub fn run_traced<R: Threads + Wait + Sync, G: Gate>(
+    alloc: Global,
+    rt: &R,
+    prepared: Prepared,
+    gate: &G,
+) -> Result<(Vec<TaskId>, Closed), OutOfMemory>
+    requires { prepared.job.preloaded ≡ false }
+    ensures job { IfOk result (λ r. r.1.job ≡ prepared.job) }
+    ensures passes { IfOk result (λ r. r.1.passes ≡ prepared.workers) }
+    ensures quiet { IfOk result (λ r. HaveNoWork r.1.shards) }
+    ensures trace { IfOk result (λ r. IsTraceOf r.1 r.0.items) }
+    ensures order { IfOk result (λ r. IsRanOrder prepared.job.matched prepared.job.given r.0.items) }
+{
+    all_passes_stay_all();
+    an_idle_pass_is_a_workers_pass();
+    a_quiet_close_has_an_order_of_what_ran();
+    let Prepared {
+        table,
+        mut desks,
+        room,
+    } = prepared;
+    team(rt, &table, &mut desks, gate, true);
+    let log = logs_of(alloc, desks.as_slice())?;
+    let passes = passes_of(desks, room)?;
+    let tasks = in_stamp_order(alloc, log)?;
+    Ok((tasks, table.close(passes)))
+}

@@ -1,0 +1,105 @@
+-- The numbers and the rows with which a text begins.
+use Rattle.std.proofs.Common.{◌≡◌, ◌≢◌, ◌↔◌, ℕ, suc, ◌+◌, ◌<◌, ◌≤◌, ℤ, Bool, true, false, ◌&&◌, List, [], ◌∷◌, ◌++◌, codes, length, refl, ap, sym, ◌∙◌, subst, length-append, arith}
+use Rattle.std.specs.List.{list_all}
+use Rattle.std.specs.Fmt.{signed_decimal}
+use Rattle.std.proofs.lemmas.Bool.{eqb-true, false≢true}
+use Rattle.range_space.proofs.MemberLists.{and_left, and_right}
+use Rattle.trace_core.specs.Cutting.{IsCut, opens_with}
+use Rattle.trace_core.specs.Rows.{AreNumbers, BeginsWithNumber, BeginsWithRow, HasNoNumber, IsOfNumbers, IsRowOf, number_field, number_fields, row_content}
+use Rattle.trace_core.specs.Spelling.{HasNoRow, IsSpelled, fits_64, is_name}
+use Rattle.trace_core.specs.Text.{Entry, row_line}
+use Rattle.trace_core.proofs.Cuts.{both, cut_once}
+use Rattle.trace_core.proofs.Spelled.{fields_open, name_free, row_free, row_split, same_number, signed_free}
+
+-- the field after a comma is no number, or is one
+pub field_none : (text rest field later : List ℕ) → text ≡ 44 ∷ rest → IsCut 44 rest field later → ((n : ℤ) → fits_64 n ≡ true → field ≢ signed_decimal n) → HasNoNumber text
+field_none text rest field later is cut none n more w =
+    let whole : 44 ∷ (field ++ later) ≡ 44 ∷ (signed_decimal n ++ more) = ap (λ t. 44 ∷ t) (sym cut.split) ∙ sym is ∙ w.split in
+    let tail : field ++ later ≡ signed_decimal n ++ more = cc in
+    none n w.fits (cut_once 44 field (signed_decimal n) later more cut.free (signed_free 44 n w.fits refl refl) cut.next w.next tail).0
+
+pub field_some : (text rest field later : List ℕ) (n : ℤ) → text ≡ 44 ∷ rest → IsCut 44 rest field later → fits_64 n ≡ true → field ≡ signed_decimal n → BeginsWithNumber text n later
+field_some text rest field later n is cut fits same = record { split = is ∙ ap (λ t. 44 ∷ t) (cut.split ∙ ap (λ t. t ++ later) same); fits = fits; next = cut.next }
+
+pub other_first : (text rest : List ℕ) (b : ℕ) → text ≡ b ∷ rest → b ≢ 44 → HasNoNumber text
+other_first text rest b is other n more w = let whole : b ∷ rest ≡ 44 ∷ (signed_decimal n ++ more) = sym is ∙ w.split in other cc
+
+pub nothing_first : (text : List ℕ) → text ≡ [] → HasNoNumber text
+nothing_first text is n more w = let whole : [] ≡ 44 ∷ (signed_decimal n ++ more) = sym is ∙ w.split in cc
+
+-- numbers are a first one and those after it
+pub numbers_next : (text later : List ℕ) (n : ℤ) (ns : List ℤ) → BeginsWithNumber text n later → AreNumbers text ns → (ms : List ℤ) × (ns ≡ n ∷ ms) × AreNumbers later ms
+numbers_next text later n [] w a = let whole : 44 ∷ (signed_decimal n ++ later) ≡ [] = sym w.split ∙ a.spelled in absurd cc
+numbers_next text later n (m ∷ ms) w a =
+    let fits = and_left (fits_64 m) (list_all fits_64 ms) a.fit in
+    let whole : 44 ∷ (signed_decimal n ++ later) ≡ 44 ∷ (signed_decimal m ++ number_fields ms) = sym w.split ∙ a.spelled in
+    let tail : signed_decimal n ++ later ≡ signed_decimal m ++ number_fields ms = cc in
+    let r = cut_once 44 (signed_decimal n) (signed_decimal m) later (number_fields ms) (signed_free 44 n w.fits refl refl) (signed_free 44 m fits refl refl) w.next (fields_open ms) tail in
+    let same = same_number n m w.fits fits r.0 in
+    (ms, (λ i. sym same i ∷ ms), record { spelled = r.1; fit = and_right (fits_64 m) (list_all fits_64 ms) a.fit })
+
+pub numbers_more : (text later : List ℕ) (n : ℤ) → BeginsWithNumber text n later → IsOfNumbers later ↔ IsOfNumbers text
+numbers_more text later n w = (
+  λ p. (n ∷ p.0, record { spelled = w.split ∙ ap (λ t. number_field n ++ t) p.1.spelled; fit = both (fits_64 n) (list_all fits_64 p.0) w.fits p.1.fit }),
+  λ p. let q = numbers_next text later n p.0 w p.1 in (q.0, q.2),
+)
+
+-- no number comes first: then there are none
+pub none_left : (text : List ℕ) (ns : List ℤ) → HasNoNumber text → AreNumbers text ns → ns ≡ []
+none_left text [] none a = refl
+none_left text (m ∷ ms) none a = absurd (none m (number_fields ms) (record { split = a.spelled; fits = and_left (fits_64 m) (list_all fits_64 ms) a.fit; next = fields_open ms }))
+
+pub not_numbers : (text : List ℕ) → HasNoNumber text → (text ≡ [] → ⊥) → IsOfNumbers text → ⊥
+not_numbers text none some p = let e = none_left text p.0 none p.1 in some (p.1.spelled ∙ ap number_fields e)
+
+pub no_numbers : (text : List ℕ) → text ≡ [] → IsOfNumbers text
+no_numbers text is = ([], record { spelled = is; fit = refl })
+
+pub fewer : (text later : List ℕ) (n : ℤ) → BeginsWithNumber text n later → length later < length text
+fewer text later n w = let l = ap length w.split in omega (arith, l, length-append (signed_decimal n) later)
+
+-- the parts of a row
+module _ (line fields name numbers : List ℕ) (word : line ≡ codes "ran," ++ fields) (cut : IsCut 44 fields name numbers) where
+  pub parts_some : is_name name ≡ true → IsOfNumbers numbers → (e : Entry) × IsRowOf e name numbers × (line ≡ row_content e)
+  parts_some named p =
+      let e : Entry = record { name = name; params = p.0 } in (
+        e,
+        record { spelled = record { name = named; params = p.1.fit }; same_name = refl; same_numbers = p.1.spelled },
+        word ∙ ap (λ t. codes "ran," ++ t) (cut.split ∙ ap (λ t. name ++ t) p.1.spelled),
+      )
+
+  pub parts_are : (e : Entry) → IsSpelled e → line ≡ row_content e → (name ≡ e.name) × (numbers ≡ number_fields e.params)
+  parts_are e s is =
+      let whole : codes "ran," ++ fields ≡ codes "ran," ++ (e.name ++ number_fields e.params) = sym word ∙ is in
+      let same : fields ≡ e.name ++ number_fields e.params = cc in
+      cut_once 44 name e.name numbers (number_fields e.params) cut.free (name_free 44 refl e.name s.name) cut.next (fields_open e.params) (sym cut.split ∙ same)
+
+  pub parts_none : (is_name name ≡ true → IsOfNumbers numbers → ⊥) → (e : Entry) → IsSpelled e → line ≡ row_content e → ⊥
+  parts_none none e s is =
+      let r = parts_are e s is in
+      none (ap is_name r.0 ∙ s.name) (e.params, record { spelled = r.1; fit = s.params })
+
+pub no_word : (line : List ℕ) → ((rest : List ℕ) → line ≡ codes "ran," ++ rest → ⊥) → (e : Entry) → IsSpelled e → line ≡ row_content e → ⊥
+no_word line none e s is = none (e.name ++ number_fields e.params) is
+
+-- a row is what comes before the first LF, if there is one
+pub no_lf : (text line rest : List ℕ) → IsCut 10 text line rest → rest ≡ [] → HasNoRow text
+no_lf text line rest cut is e later s h =
+    let whole : line ++ rest ≡ row_content e ++ 10 ∷ later = sym cut.split ∙ h ∙ row_split e later in
+    let r = cut_once 10 line (row_content e) rest (10 ∷ later) cut.free (row_free e s) cut.next refl whole in
+    let never : [] ≡ 10 ∷ later = sym is ∙ r.1 in
+    cc
+
+pub lf_first : (text line rest : List ℕ) (b : ℕ) (later : List ℕ) → IsCut 10 text line rest → rest ≡ b ∷ later → text ≡ line ++ 10 ∷ later
+lf_first text line rest b later cut is =
+    let lf : b ≡ 10 = eqb-true b 10 (subst (λ l. opens_with 10 l ≡ true) is cut.next) in
+    cut.split ∙ ap (λ t. line ++ t) (is ∙ (λ i. lf i ∷ later))
+
+pub no_row : (text line rest : List ℕ) (b : ℕ) (later : List ℕ) → IsCut 10 text line rest → rest ≡ b ∷ later → ((e : Entry) → IsSpelled e → line ≡ row_content e → ⊥) → HasNoRow text
+no_row text line rest b later cut is none e more s h =
+    let whole : line ++ rest ≡ row_content e ++ 10 ∷ more = sym cut.split ∙ h ∙ row_split e more in
+    none e s (cut_once 10 line (row_content e) rest (10 ∷ more) cut.free (row_free e s) cut.next refl whole).0
+
+pub a_row : (text line rest : List ℕ) (b : ℕ) (later name numbers : List ℕ) → IsCut 10 text line rest → rest ≡ b ∷ later → (e : Entry) × IsRowOf e name numbers × (line ≡ row_content e) → BeginsWithRow text name numbers later
+a_row text line rest b later name numbers cut is p =
+    record { entry = p.0; row = p.1; split = lf_first text line rest b later cut is ∙ ap (λ t. t ++ 10 ∷ later) p.2 ∙ sym (row_split p.0 later) }

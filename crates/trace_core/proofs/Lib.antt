@@ -1,0 +1,13 @@
+pub mod Cuts
+pub mod Words
+pub mod Spelled
+pub mod Fields
+pub mod Heads
+pub mod Named
+pub mod ReadRows
+pub mod Texts
+pub mod OneText
+pub mod OneFault
+pub mod Lists
+pub mod Wholes
+pub mod ReadFaults

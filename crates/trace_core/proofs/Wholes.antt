@@ -1,0 +1,166 @@
+-- Orders in which tasks may run, and whole orders.
+use Rattle.std.proofs.Common.{◌≡◌, ℕ, ◌+◌, ◌<◌, ◌≤◌, ◌↔◌, Bool, true, false, cond, List, [], ◌∷◌, ◌++◌, map, length, refl, ap, sym, ◌∙◌, subst, ◌⊎◌, inl, inr, append_assoc, Option, Some, None, is_some, arith}
+use Rattle.std.specs.Prelude.{option_map}
+use Rattle.std.specs.List.{AllByRecursion, filter}
+use Rattle.std.proofs.lemmas.Bool.{false≢true}
+use Rattle.std.proofs.lemmas.List.{append-nil}
+use Rattle.ptg_base.specs.Lists.{HasNoRepeats, IsIn}
+use Rattle.ptg_base.specs.Task.{Task}
+use Rattle.ptg_base.specs.TaskComparing.{same_task}
+use Rattle.ptg_base.specs.TaskLaws.{same_task-decides}
+use Rattle.ptg_base.specs.declared.edge.Edge.{Edge}
+use Rattle.plan_core.specs.declared.class.ClassPlan.{ClassPlan}
+use Rattle.plan_core.specs.declared.plan.Plan.{Plan}
+use Rattle.coll_data.specs.Data.{Data}
+use Rattle.body_eval.specs.Meaning.{body_meaning}
+use Rattle.range_space.proofs.Stepping.{by_test}
+use Rattle.dep_iter.specs.Tasks.{IsTask, all_tasks, locals_of}
+use Rattle.dep_iter.specs.Edges.{in_edges}
+use Rattle.dep_iter.specs.Consistent.{IsConsistent}
+use Rattle.dep_iter.proofs.Listing.{listed}
+use Rattle.flow_meaning.specs.Answer.{ran}
+use Rattle.flow_meaning.specs.Backward.{ended, has_all_sources, source_tile}
+use Rattle.flow_meaning.specs.Counting.{HasSameMembers, as_number, count}
+use Rattle.flow_meaning.specs.Ending.{ended_on, has_outputs}
+use Rattle.flow_meaning.specs.Order.{IsLegalAfter}
+use Rattle.flow_meaning.specs.Starting.{starting_tiles}
+use Rattle.flow_meaning.proofs.Counting.{count-some, some_passes}
+use Rattle.flow_meaning.proofs.Counts.{same_counts}
+use Rattle.flow_meaning.proofs.Enough.{fixed, with_some}
+use Rattle.flow_meaning.proofs.Members.{all_at, all_from}
+use Rattle.flow_meaning.proofs.Once.{tasks_once}
+use Rattle.flow_meaning.proofs.Quiet.{filtered}
+use Rattle.flow_meaning.proofs.Rounds.{has_sources}
+use Rattle.flow_meaning.proofs.SourceEdges.{class_of}
+use Rattle.task_order.proofs.Lists.{at_most, distinct-filter, distinct_once, member_or_not}
+use Rattle.task_order.proofs.Orders.{legal_once, legal_tasks}
+use Rattle.trace_core.specs.Faults.{IsMissing}
+use Rattle.trace_core.specs.Orders.{IsWholeOrder, MayAllRunAfter, MayRunAfter}
+
+-- one more task that may run
+pub may_push : (P : Plan) (G : Data) (acc ts : List Task) (t : Task) → MayAllRunAfter P G acc ts → MayRunAfter P G (acc ++ ts) t → MayAllRunAfter P G acc (ts ++ t ∷ [])
+may_push P G acc [] t h m = (subst (λ l. MayRunAfter P G l t) (append-nil acc) m, tt)
+may_push P G acc (u ∷ us) t h m = (h.0, may_push P G (acc ++ u ∷ []) us t h.1 (subst (λ l. MayRunAfter P G l t) (sym (append_assoc acc (u ∷ []) us)) m))
+
+pub may_legal : (P : Plan) (G : Data) (acc ts : List Task) → MayAllRunAfter P G acc ts → IsLegalAfter P acc ts
+may_legal P G acc [] h = tt
+may_legal P G acc (t ∷ ts) h = (h.0.follows, may_legal P G (acc ++ t ∷ []) ts h.1)
+
+-- of edges, all come from these tasks and their sources have outputs, or one does not
+pub all_or_missing : (P : Plan) (G : Data) (before : List Task) (es : List Edge) → ((e : Edge) → IsIn e es → IsIn e.from before × (has_outputs (ended P G e.from) ≡ true)) ⊎ ((x : Edge) × IsIn x es × IsMissing P G before x)
+all_or_missing P G before [] = inl (λ e i. absurd i)
+all_or_missing P G before (d ∷ ds) = elim (member_or_not d.from before) [
+  | inr absent ↦ inr (d, inl refl, inl absent)
+  | inl here ↦
+      by_test (has_outputs (ended P G d.from))
+      (λ o. elim (all_or_missing P G before ds) [
+        | inl all ↦ inl (λ e i. elim i [
+          | inl q ↦ (subst (λ (x : Edge). IsIn x.from before) (sym q) here, subst (λ (x : Edge). has_outputs (ended P G x.from) ≡ true) (sym q) o)
+          | inr later ↦ all e later
+        ])
+        | inr p ↦ inr (p.0, inr p.1, p.2)
+      ])
+      (λ o. inr (d, inl refl, inr o))
+]
+
+-- of tasks, all are among these, or one is not
+pub all_or_absent : (ts us : List Task) → ((t : Task) → IsIn t us → IsIn t ts) ⊎ ((t : Task) × IsIn t us × (IsIn t ts → ⊥))
+all_or_absent ts [] = inl (λ t i. absurd i)
+all_or_absent ts (u ∷ us) = elim (member_or_not u ts) [
+  | inr absent ↦ inr (u, inl refl, absent)
+  | inl here ↦ elim (all_or_absent ts us) [
+    | inl all ↦ inl (λ t i. elim i [ inl q ↦ subst (λ v. IsIn v ts) (sym q) here | inr later ↦ all t later ])
+    | inr p ↦ inr (p.0, inr p.1, p.2)
+  ]
+]
+
+-- how often a task is listed
+uncounted : (t : Task) (ts : List Task) → (IsIn t ts → ⊥) → count (same_task t) ts ≡ 0
+uncounted t [] absent = refl
+uncounted t (u ∷ us) absent =
+    by_test (same_task t u)
+    (λ k. absurd (absent (inl ((same_task-decides t u).0 k))))
+    (λ k. omega (arith, ap as_number k, uncounted t us (λ i. absent (inr i))))
+
+once_each : (ts : List Task) → HasNoRepeats ts → (t : Task) → count (same_task t) ts ≤ 1
+once_each [] h t = omega arith
+once_each (u ∷ us) h t =
+    by_test (same_task t u)
+    (λ k. omega (arith, ap as_number k, uncounted t us (λ i. h.0 (subst (λ v. IsIn v us) ((same_task-decides t u).0 k) i))))
+    (λ k. omega (arith, ap as_number k, once_each us h.1 t))
+
+module _ (P : Plan) (G : Data) (con : IsConsistent P) where
+  -- a task ends whose sources all have outputs, and the other way round
+  pub it_ends : (t : Task) → IsTask P t → ((e : Edge) → IsIn e (in_edges P t) → has_outputs (ended P G e.from) ≡ true) → is_some (ended P G t) ≡ true
+  unfolding ended_on
+  it_ends t job sources =
+      let all : has_all_sources P (ended P G) t ≡ true = all_from (λ (e : Edge). has_outputs (ended P G e.from)) (in_edges P t) sources in
+      let h = class_of P t job in
+      ap is_some (fixed P G con t job ∙ ap (λ b. cond b (ended_on P G (source_tile (ended P G)) t) None) all
+      ∙ ap (λ o. option_map (λ (c : ClassPlan). body_meaning c.body (locals_of P t) (starting_tiles P G (source_tile (ended P G)) t)) o) h.class_is)
+
+  pub sources_end : (t : Task) → IsTask P t → is_some (ended P G t) ≡ true → (e : Edge) → IsIn e (in_edges P t) → has_outputs (ended P G e.from) ≡ true
+  sources_end t job some e i =
+      let o = with_some (ended P G t) some in
+      let all = has_sources P G con t job (ended P G) o.0 (sym (fixed P G con t job) ∙ o.1) in
+      all_at (λ (d : Edge). has_outputs (ended P G d.from)) (in_edges P t) all e i
+
+  -- the tasks that run are those that end
+  pub ran_ends : (t : Task) → IsIn t (ran P G) ↔ (IsTask P t × (is_some (ended P G t) ≡ true))
+  unfolding ran
+  ran_ends t =
+      let f = filtered (λ u. is_some (ended P G u)) (all_tasks P) t in
+      (λ i. let p = f.0 i in ((listed P t).1 p.0, p.1), λ p. f.1 ((listed P t).0 p.0, p.1))
+
+  -- tasks that may run in their order run
+  pub may_ran : (acc ts : List Task) → MayAllRunAfter P G acc ts → (t : Task) → IsIn t ts → IsIn t (ran P G)
+  may_ran acc [] h t i = absurd i
+  may_ran acc (u ∷ us) h t i = elim i [
+    | inl e ↦ subst (λ v. IsIn v (ran P G)) (sym e) ((ran_ends u).1 (h.0.follows.task, it_ends u h.0.follows.task h.0.have_outputs))
+    | inr later ↦ may_ran (acc ++ u ∷ []) us h.1 t later
+  ]
+
+  same_count : (ts : List Task) → HasNoRepeats ts → ((t : Task) → IsIn t ts ↔ IsIn t (ran P G)) → (t : Task) → count (same_task t) ts ≡ count (same_task t) (ran P G)
+  unfolding ran
+  same_count ts once same t =
+      let there = once_each (filter (λ u. is_some (ended P G u)) (all_tasks P)) (distinct-filter (λ u. is_some (ended P G u)) (all_tasks P) (distinct_once (all_tasks P) (tasks_once P))) t in
+      let here = once_each ts once t in
+      elim (member_or_not t ts) [
+        | inl i ↦ omega (arith, here, there, count-some (same_task t) ts t i ((same_task-decides t t).1 refl), count-some (same_task t) (ran P G) t ((same t).0 i) ((same_task-decides t t).1 refl))
+        | inr absent ↦ uncounted t ts absent ∙ sym (uncounted t (ran P G) (λ i. absent ((same t).1 i)))
+      ]
+
+  -- tasks that may run in their order are a whole order where no task that runs is missing
+  pub whole : (ts : List Task) → MayAllRunAfter P G [] ts → ((t : Task) → IsIn t (ran P G) → IsIn t ts) → IsWholeOrder P G ts
+  whole ts may all =
+      let legal = may_legal P G [] ts may in
+      record { legal = legal; all = (same_counts same_task same_task-decides ts (ran P G)).1 (same_count ts (legal_once P [] ts legal) (λ t. (may_ran [] ts may t, all t))) }
+
+  -- and the other way round
+  pub members : (ts : List Task) → HasSameMembers ts (ran P G) → (t : Task) → IsIn t ts ↔ IsIn t (ran P G)
+  members ts same t =
+      let counts : count (same_task t) ts ≡ count (same_task t) (ran P G) = same (λ u. as_number (same_task t u)) in (
+        λ i. found (ran P G) (omega (arith, counts, count-some (same_task t) ts t i ((same_task-decides t t).1 refl))),
+        λ i. found ts (omega (arith, counts, count-some (same_task t) (ran P G) t i ((same_task-decides t t).1 refl))),
+      )
+    where
+      found : (us : List Task) → 0 < count (same_task t) us → IsIn t us
+      found us h = let p = some_passes (same_task t) us h in subst (λ u. IsIn u us) (sym ((same_task-decides t p.0).0 p.2)) p.1
+
+  legal_may : (acc ts : List Task) → IsLegalAfter P acc ts → ((t : Task) → IsIn t ts → IsIn t (ran P G)) → MayAllRunAfter P G acc ts
+  legal_may acc [] l all = tt
+  legal_may acc (t ∷ ts) l all =
+      let r = (ran_ends t).0 (all t (inl refl)) in
+      (record { follows = l.0; have_outputs = sources_end t r.0 r.1 }, legal_may (acc ++ t ∷ []) ts l.1 (λ u i. all u (inr i)))
+
+  pub whole_may : (ts : List Task) → IsWholeOrder P G ts → MayAllRunAfter P G [] ts
+  whole_may ts w = legal_may [] ts w.legal (λ t i. (members ts w.all t).0 i)
+
+  pub whole_all : (ts : List Task) → IsWholeOrder P G ts → (t : Task) → IsIn t (ran P G) → IsIn t ts
+  whole_all ts w t i = (members ts w.all t).1 i
+
+  pub whole_length : (ts : List Task) → IsWholeOrder P G ts → length ts ≤ 1000000
+  whole_length ts w =
+      let few = at_most ts (all_tasks P) (legal_once P [] ts w.legal) (λ t i. (listed P t).0 (legal_tasks P [] ts w.legal t i)) in
+      let limit = con.tasks_at_most in
+      omega arith

@@ -1,0 +1,10 @@
+use Rattle.std.proofs.Common.{◌≡◌, sym, ◌∙◌, ap, nat_eq}
+use Rattle.std.proofs.lemmas.Bool.{false≢true}
+use Rattle.trace_core.proofs.Named.{later_class}
+use Rattle.trace_core.proofs.Words.{equal_bytes}
+use Rattle.trace_core.proofs.naming.+class_among.Goals as goal
+
+pub returns : goal.returns
+returns t c =
+    later_class c.args.classes.now c.in-Some.later.now c.in-Some.first.now c.args.name.now c.args.n c.class_among.result c.in-Some.ensures.cases.0
+    (λ e. false≢true (c.if-eq.ensures ∙ equal_bytes c.bytes.result.now c.args.name.now (c.bytes.ensures ∙ e))) c.class_among.ensures

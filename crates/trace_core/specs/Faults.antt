@@ -1,0 +1,57 @@
+-- The first fault of a text as a trace of a job: of its length, else of how it is spelled, else of the first row whose task may not run then. Source: this project's own choice.
+use Rattle.std.specs.Prelude.{◌≡◌, ◌⊎◌, ◌+◌, ◌<◌, ◌≤◌, ℕ, List, [], ◌∷◌, ◌++◌, IsFalse, length, map}
+use Rattle.ptg_base.specs.Lists.{IsIn}
+use Rattle.ptg_base.specs.Task.{Task}
+use Rattle.ptg_base.specs.declared.edge.Edge.{Edge}
+use Rattle.plan_core.specs.declared.plan.Plan.{Plan}
+use Rattle.coll_data.specs.Data.{Data}
+use Rattle.dep_iter.specs.Edges.{in_edges}
+use Rattle.flow_meaning.specs.Answer.{ran}
+use Rattle.flow_meaning.specs.Backward.{ended}
+use Rattle.flow_meaning.specs.Ending.{has_outputs}
+use Rattle.trace_core.specs.declared.fault.TraceCode.{TraceCode}
+use Rattle.trace_core.specs.declared.fault.TraceCode.TheVariants.{TooLong, BadTrace, UnknownTask, RanTwice, TooEarly, Unfinished}
+use Rattle.trace_core.specs.declared.fault.TraceFault.{TraceFault}
+use Rattle.trace_core.specs.Naming.{IsNamingFault, Names}
+use Rattle.trace_core.specs.Orders.{MayAllRunAfter}
+use Rattle.trace_core.specs.Spelling.{IsBadRow, IsWellSpelled}
+use Rattle.trace_core.specs.Text.{Entry, entry_of}
+
+-- the source of an edge is none of these tasks, or traps
+abbrev pub IsMissing : Plan → Data → List Task → Edge → Type 0
+IsMissing P G before e = (IsIn e.from before → ⊥) ⊎ IsFalse (has_outputs (ended P G e.from))
+
+-- the code of a row whose task may not run after those of the rows before it
+abbrev pub IsRowFault : Plan → Data → List Task → Entry → TraceCode → Type 0
+IsRowFault P G before e UnknownTask = IsNamingFault P before e UnknownTask
+IsRowFault P G before e RanTwice = IsNamingFault P before e RanTwice
+IsRowFault P G before e TooEarly =
+    (t : Task) × Names P e t × (IsIn t before → ⊥) × (x : Edge) × IsIn x (in_edges P t) × IsMissing P G before x
+IsRowFault P G before e TooLong = ⊥
+IsRowFault P G before e BadTrace = ⊥
+IsRowFault P G before e Unfinished = ⊥
+
+-- the rows before this one are those of tasks that may run in their order, and the fault is that of this row
+pub record IsFaultOfRow (P : Plan) (G : Data) (es : List Entry) (f : TraceFault) : Type 0 where
+  pub before : List Task
+  pub failed : Entry
+  pub later : List Entry
+  pub split : es ≡ map (entry_of P) before ++ failed ∷ later
+  pub may_run : MayAllRunAfter P G [] before
+  pub code : IsRowFault P G before failed f.code
+  pub row : f.row ≡ length before + 2
+
+-- all rows are those of tasks that may run in their order, and a task that runs has none
+pub record IsUnfinished (P : Plan) (G : Data) (es : List Entry) (f : TraceFault) : Type 0 where
+  pub tasks : List Task
+  pub all : es ≡ map (entry_of P) tasks
+  pub may_run : MayAllRunAfter P G [] tasks
+  pub missing : (t : Task) × IsIn t (ran P G) × (IsIn t tasks → ⊥)
+  pub code : f.code ≡ Unfinished
+  pub row : f.row ≡ length es + 2
+
+-- the first fault of a text
+pub data IsTraceFault (P : Plan) (G : Data) (text : List ℕ) (f : TraceFault) : Type 0 where
+  too_long : 16777216 < length text → f.row ≡ 0 → f.code ≡ TooLong → IsTraceFault P G text f
+  bad_trace : length text ≤ 16777216 → IsBadRow text f.row → f.code ≡ BadTrace → IsTraceFault P G text f
+  of_tasks : (es : List Entry) → length text ≤ 16777216 → IsWellSpelled text es → IsFaultOfRow P G es f ⊎ IsUnfinished P G es f → IsTraceFault P G text f

@@ -1,0 +1,46 @@
+-- Which texts are spelled as a trace, whatever their rows name, and which row is the first that is not. Source: this project's own choice.
+use Rattle.std.specs.Prelude.{◌≡◌, ◌≢◌, ◌+◌, ◌<◌, ◌≤◌, ℕ, ℤ, pos, negsuc, nat_lt, Bool, false, ◌&&◌, IsTrue, List, [], ◌∷◌, ◌++◌, length}
+use Rattle.std.specs.List.{AllByRecursion, list_all}
+use Rattle.jdf_lex.specs.Spelling.{is_letter, is_part}
+use Rattle.trace_core.specs.Text.{Entry, head_line, row_line, rows_text}
+
+-- a name as in a JDF, reserved words among them: a letter or `_`, then letters, digits and `_`
+abbrev pub is_name : List ℕ → Bool
+is_name [] = false
+is_name (b ∷ bs) = is_letter b && list_all is_part bs
+
+-- whether a number fits 64 bits
+abbrev pub fits_64 : ℤ → Bool
+fits_64 (pos n) = nat_lt n 9223372036854775808
+fits_64 (negsuc n) = nat_lt n 9223372036854775808
+
+-- what a row may say: any name, and any number of numbers that fit 64 bits
+pub record IsSpelled (e : Entry) : Type 0 where
+  pub name : IsTrue (is_name e.name)
+  pub params : IsTrue (list_all fits_64 e.params)
+
+-- a text begins with the head of a trace of n rows, and with these rows; `rest` follows them
+pub record BeginsWith (text : List ℕ) (n : ℕ) (es : List Entry) (rest : List ℕ) : Type 0 where
+  pub at_most : n ≤ 1000000
+  pub split : text ≡ head_line n ++ (rows_text es ++ rest)
+  pub spelled : AllByRecursion IsSpelled es
+
+-- a text has as many rows as its head says, these, and nothing after them
+abbrev pub IsWellSpelled : List ℕ → List Entry → Type 0
+IsWellSpelled text es = BeginsWith text (length es) es []
+
+-- a text does not begin with the head of a trace, or not with a row
+abbrev pub HasNoHead : List ℕ → Type 0
+HasNoHead text = (n : ℕ) (rest : List ℕ) → n ≤ 1000000 → text ≡ head_line n ++ rest → ⊥
+
+abbrev pub HasNoRow : List ℕ → Type 0
+HasNoRow text = (e : Entry) (rest : List ℕ) → IsSpelled e → text ≡ row_line e ++ rest → ⊥
+
+-- the row of this number, counted from 1, is the first that is not well spelled
+pub data IsBadRow (text : List ℕ) (row : ℕ) : Type 0 where
+  -- the head
+  bad_head : HasNoHead text → row ≡ 1 → IsBadRow text row
+  -- a row of those that the head says, which is missing or not spelled as one
+  bad_row : (n : ℕ) (es : List Entry) (rest : List ℕ) → BeginsWith text n es rest → length es < n → HasNoRow rest → row ≡ length es + 2 → IsBadRow text row
+  -- what follows them
+  row_too_many : (n : ℕ) (es : List Entry) (rest : List ℕ) → BeginsWith text n es rest → length es ≡ n → rest ≢ [] → row ≡ length es + 2 → IsBadRow text row

@@ -1,0 +1,32 @@
+-- The text of a trace: a line with the number of its rows, and a row for each task in the order in which they ran. Source: this project's own choice.
+use Rattle.std.specs.Prelude.{ℕ, ℤ, List, [], ◌∷◌, ◌++◌, codes, flat_map, length, map}
+use Rattle.std.specs.Fmt.{decimal, signed_decimal}
+use Rattle.ptg_base.specs.Line.{line}
+use Rattle.ptg_base.specs.Task.{Task}
+use Rattle.plan_core.specs.ClassName.{class_name}
+use Rattle.plan_core.specs.declared.plan.Plan.{Plan}
+
+-- what a row says: the name of a class, and numbers, whatever task they name
+pub record Entry : Type 0 where
+  pub name : List ℕ
+  pub params : List ℤ
+
+-- the first line of a text with so many rows after it
+abbrev pub head_line : ℕ → List ℕ
+head_line n = line (codes "trace" ∷ decimal n ∷ [])
+
+-- the line of a row
+abbrev pub row_line : Entry → List ℕ
+row_line e = line (codes "ran" ∷ e.name ∷ map signed_decimal e.params)
+
+-- the lines of rows, one after another
+abbrev pub rows_text : List Entry → List ℕ
+rows_text es = flat_map row_line es
+
+-- what the row of a task says: the name of its class, and its parameters
+abbrev pub entry_of : Plan → Task → Entry
+entry_of P t = record { name = class_name P t.class; params = t.params }
+
+-- the text of tasks in this order
+unfoldable pub trace_text : Plan → List Task → List ℕ
+trace_text P ts = head_line (length ts) ++ rows_text (map (entry_of P) ts)

@@ -1,0 +1,19 @@
+//! Traces: the text of the tasks of a job in an order in which they ran, how it is read, and its first fault.
+#![tactic(auto)]
+
+mod cutting;
+mod fault;
+mod laws;
+mod naming;
+mod numbers;
+mod reading;
+mod rows;
+mod spelling;
+mod text;
+
+pub use fault::{TraceCode, TraceFault, TraceRefusal};
+pub use laws::{
+    a_text_has_one_first_fault, a_text_is_that_of_one_list, the_text_of_a_whole_order_has_no_fault,
+};
+pub use reading::{Reading, read_rows, read_trace};
+pub use text::trace_text;

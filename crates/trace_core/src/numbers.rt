@@ -1,0 +1,81 @@
+//! Numbers as the fields of a row.
+
+ghost use Rattle.std.specs.Prelude.{◌≡◌, ◌≢◌, ◌≤◌, ◌<◌, ◌+◌, ◌++◌, ◌↔◌, List, ℤ, IsTrue, IsFalse, MatchOption, length};
+ghost use Rattle.std.specs.List.{list_all};
+ghost use Rattle.std.specs.Fmt.{signed_decimal};
+ghost use Rattle.trace_core.specs.Rows.{AreNumbers, BeginsWithNumber, HasNoNumber, IsOfNumbers};
+ghost use Rattle.trace_core.specs.Spelling.{fits_64};
+
+use crate::cutting::cut;
+use itoa::Buffer;
+use range_space::Numbers;
+
+// The number that std reads from a field, whatever it is spelled like, if it fits 64 bits.
+fn read_number(field: &[u8]) -> Option<i64>
+    ensures { (n : ℤ) → IsTrue (fits_64 n) → field.now ≡ signed_decimal n → MatchOption result ⊥ (λ read. read ≡ n) }
+{
+    let Ok(text) = str::from_utf8(field) else {
+        return None;
+    };
+    match i64::from_str_radix(text, 10) {
+        Ok(n) => Some(n),
+        Err(_) => None,
+    }
+}
+
+// The number of which a field is the spelling, if it fits 64 bits.
+pub(crate) fn number(field: &[u8]) -> Option<i64>
+    ensures { MatchOption result ((n : ℤ) → IsTrue (fits_64 n) → field.now ≢ signed_decimal n) (λ n. IsTrue (fits_64 n) × (field.now ≡ signed_decimal n)) }
+{
+    let Some(n) = read_number(field) else {
+        return None;
+    };
+    let mut buffer = Buffer::new();
+    if buffer.format(n).as_bytes() != field {
+        return None;
+    }
+    Some(n)
+}
+
+// The number with which fields begin, and the fields after it.
+fn next_number(fields: &[u8]) -> Option<(i64, &[u8])>
+    ensures { MatchOption result (HasNoNumber fields.now) (λ found. BeginsWithNumber fields.now found.0 found.1.now) }
+{
+    let Some((first, rest)) = fields.split_first() else {
+        return None;
+    };
+    if *first != b',' {
+        return None;
+    }
+    let (field, later) = cut(rest, b',');
+    match number(field) {
+        Some(n) => Some((n, later)),
+        None => None,
+    }
+}
+
+// Whether all fields are numbers, however many.
+pub(crate) fn are_numbers(fields: &[u8]) -> bool
+    ensures { IsTrue result ↔ IsOfNumbers fields.now }
+{
+    let mut left = fields;
+    'numbers: while let Some((_, later)) = next_number(left) {
+        left = later;
+    }
+    left.is_empty()
+}
+
+// Adds the numbers of these fields. False where they are more than there is room for.
+pub(crate) fn push_numbers(fields: &[u8], numbers: &mut Numbers<8>) -> bool
+    ensures all { (ns : List ℤ) → AreNumbers fields.now ns → IsTrue result → numbers.new ≡ numbers.old ++ ns }
+    ensures more { (ns : List ℤ) → AreNumbers fields.now ns → IsFalse result → 8 < length numbers.old + length ns }
+{
+    let Some((n, later)) = next_number(fields) else {
+        return true;
+    };
+    if numbers.as_slice().len() == 8 {
+        return false;
+    }
+    numbers.push(n);
+    push_numbers(later, numbers)
+}

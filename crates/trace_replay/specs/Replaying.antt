@@ -1,0 +1,42 @@
+-- Tasks that run one after another, in the order of a list, and the verdict on rows. Source: this project's own choice.
+use Rattle.std.specs.Prelude.{◌≡◌, ◌⊎◌, ℕ, List, [], ◌∷◌, ◌++◌, length, Result, Ok, Err}
+use Rattle.std.specs.Map.{keys_of}
+use Rattle.ptg_base.specs.Lists.{IsIn}
+use Rattle.ptg_base.specs.Task.{Task}
+use Rattle.plan_core.specs.declared.plan.Plan.{Plan}
+use Rattle.coll_data.specs.Data.{Data}
+use Rattle.flow_meaning.specs.declared.outcome.Outcome.{Outcome}
+use Rattle.flow_meaning.specs.Answer.{answer, ran}
+use Rattle.flow_core.specs.RunState.{RunState}
+use Rattle.flow_core.specs.Turns.{IsBetweenTurns}
+use Rattle.trace_core.specs.declared.fault.TraceFault.{TraceFault}
+use Rattle.trace_core.specs.Faults.{IsFaultOfRow, IsUnfinished}
+use Rattle.trace_core.specs.Naming.{AreRowsOf}
+use Rattle.trace_core.specs.Orders.{IsWholeOrder, MayAllRunAfter, MayRunAfter}
+use Rattle.trace_core.specs.Text.{Entry}
+
+-- a run between two turns in which these tasks have run, one after another
+pub record HasRunInOrder (P : Plan) (G : Data) (ts : List Task) (r : RunState) : Type 0 where
+  pub between : IsBetweenTurns P G r
+  pub claims : keys_of r.claims ≡ ts
+  pub may_run : MayAllRunAfter P G [] ts
+
+-- the task at this index of a list may not run after those before it, which may
+pub record StopsAt (P : Plan) (G : Data) (ts : List Task) (index : ℕ) : Type 0 where
+  pub before : List Task
+  pub stopped : Task
+  pub later : List Task
+  pub split : ts ≡ before ++ stopped ∷ later
+  pub may_run : MayAllRunAfter P G [] before
+  pub early : MayRunAfter P G before stopped → ⊥
+  pub is_index : index ≡ length before
+
+-- the verdict on a run that has had these tasks: the answer, where each task that runs is one of them, else this fault
+abbrev pub IsEndOf : Plan → Data → List Task → TraceFault → Result Outcome TraceFault → Type 0
+IsEndOf P G ts unfinished (Ok o) = (o ≡ answer P G) × ((t : Task) → IsIn t (ran P G) → IsIn t ts)
+IsEndOf P G ts unfinished (Err f) = (f ≡ unfinished) × ((t : Task) × IsIn t (ran P G) × (IsIn t ts → ⊥))
+
+-- the verdict on rows, of which these tasks were read: their first fault; or the answer, where the tasks are those of all rows and a whole order
+abbrev pub IsVerdictOn : Plan → Data → List Entry → List Task → Result Outcome TraceFault → Type 0
+IsVerdictOn P G es ts (Err f) = IsFaultOfRow P G es f ⊎ IsUnfinished P G es f
+IsVerdictOn P G es ts (Ok o) = (o ≡ answer P G) × AreRowsOf P es ts × IsWholeOrder P G ts

@@ -1,0 +1,173 @@
+"""The graph of a job, as the program `job_graph` prints it: crates/job_graph/README.md has its lines. Nothing of a JDF is evaluated here."""
+import os
+import shutil
+import subprocess
+import sys
+from dataclasses import dataclass, field
+
+TOP = os.path.dirname(os.path.dirname(os.path.dirname(os.path.realpath(__file__))))
+PROGRAM = os.path.join(TOP, "crates", "job_graph", "out", "job_graph")
+# A graph of more lines, or one that takes longer, is not looked at as a whole.
+MOST_LINES = 300_000
+MOST_SECONDS = 60
+# So many tasks are asked for one by one.
+MOST_ASKED = 6
+
+
+@dataclass
+class Tie:
+    """An active dependence of a task with one of the things that it names."""
+
+    inward: bool
+    flow: str
+    kind: str
+    # the number of the dependence among those of its flow, from 1, and its line
+    number: int
+    line: int
+    # flow, place, new or null, with the flow and the task, or with the collection and the indices
+    what: str
+    far: tuple = ()
+
+    def is_edge(self):
+        return self.what == "flow"
+
+    def is_place(self):
+        return self.what == "place"
+
+    def far_flow(self):
+        return self.far[0]
+
+    def far_task(self):
+        return self.far[1:]
+
+
+@dataclass
+class Task:
+    ties: list = field(default_factory=list)
+    # the place of the affinity, with its line
+    at: tuple = ()
+    # the flow and the dependence that need an expression without a value, with its line
+    ill: tuple = ()
+
+    def into(self, flow=None):
+        return [it for it in self.ties if it.inward and flow in (None, it.flow)]
+
+    def out(self, flow=None):
+        return [it for it in self.ties if not it.inward and flow in (None, it.flow)]
+
+
+def newest(folder):
+    """When a file of a crate was last changed."""
+    times = [0.0]
+    for part in ("src", "specs", "proofs"):
+        for at, _, names in os.walk(os.path.join(folder, part)):
+            times += [os.path.getmtime(os.path.join(at, name)) for name in names]
+    return max(times)
+
+
+def is_new():
+    """Whether the program is there and newer than all that it is made from."""
+    lines = {}
+    with open(os.path.join(TOP, "crates.txt"), encoding="utf-8") as file:
+        for line in file:
+            name, _, libraries = line.split("#")[0].partition(":")
+            if name.strip():
+                lines[name.split()[0]] = libraries.split()
+    if not os.access(PROGRAM, os.X_OK):
+        return False
+    found = ["job_graph"]
+    for name in found:
+        found += [it for it in lines.get(name, []) if it in lines and it not in found]
+    made = os.path.getmtime(PROGRAM)
+    return all(newest(os.path.join(TOP, "crates", name)) <= made for name in found)
+
+
+def can_be_built():
+    folder = os.path.join(TOP, "crates", "job_graph")
+    out = os.path.join(folder, "out")
+    return bool(shutil.which("rt")) and os.access(out if os.path.isdir(out) else folder, os.W_OK)
+
+
+def program():
+    """The program `job_graph`, which is built where that is needed and possible, or None. PTG_JOB_GRAPH names another one."""
+    if os.environ.get("PTG_JOB_GRAPH"):
+        return os.environ["PTG_JOB_GRAPH"]
+    try:
+        if is_new():
+            return PROGRAM
+        if not can_be_built():
+            return None
+        print("job_graph, which lists the edges of a job, is proved and built first", file=sys.stderr, flush=True)
+        if subprocess.run([os.path.join(TOP, "tools", "build"), "job_graph"], stdin=subprocess.DEVNULL, check=False).returncode:
+            return None
+        # (a program that sums found unchanged is as new as what it is made from)
+        os.utime(PROGRAM)
+    except OSError:
+        return None
+    return PROGRAM
+
+
+def tie_of(fields):
+    return Tie(fields[0] == "in", fields[1], fields[2], int(fields[3]), int(fields[4]), fields[5], tuple(fields[6:]))
+
+
+class Unknown(Exception):
+    """What was asked of the graph can't be told."""
+
+
+class Graph:
+    """The graph of a job: all of it, where that is not too large, or what is asked for."""
+
+    def __init__(self, jdf, data):
+        self.jdf, self.data, self.program, self.known, self.all = jdf, data, program(), {}, None
+
+    def lines(self, most, *task):
+        """The lines that the program prints, each as its fields."""
+        if self.program is None:
+            raise Unknown
+        words = [self.program, self.jdf, self.data, str(most), *task]
+        try:
+            ran = subprocess.run(words, stdin=subprocess.DEVNULL, stdout=subprocess.PIPE, stderr=subprocess.DEVNULL, timeout=MOST_SECONDS, check=False)
+        except (OSError, subprocess.TimeoutExpired) as why:
+            raise Unknown from why
+        if ran.returncode:
+            raise Unknown
+        return [line.split(",") for line in ran.stdout.decode("utf-8", "replace").splitlines()]
+
+    def tasks(self):
+        """All tasks by their names, in walk order."""
+        if self.all is None:
+            lines = self.lines(MOST_LINES)
+            self.all = tasks_of(lines) if len(lines) < MOST_LINES else False
+        if self.all is False:
+            raise Unknown
+        return self.all
+
+    def task(self, name):
+        """One task, or None where the job has no such task. The first few are asked for one by one, and then all."""
+        if self.all:
+            return self.all.get(name)
+        if name not in self.known:
+            if len(self.known) == MOST_ASKED:
+                return self.tasks().get(name)
+            self.known[name] = tasks_of(self.lines(MOST_LINES, ",".join(name))).get(name)
+        return self.known[name]
+
+    def why_none(self, name):
+        """The line of the first definition that does not allow a task, if there is one."""
+        lines = self.lines(2, ",".join(name))
+        return lines[1] if len(lines) == 2 and lines[0][0] == "none" else None
+
+
+def tasks_of(lines):
+    found, task = {}, None
+    for fields in lines:
+        if fields[0] == "task":
+            task = found.setdefault(tuple(fields[1:]), Task())
+        elif fields[0] == "at":
+            task.at = tuple(fields[1:])
+        elif fields[0] == "ill":
+            task.ill = tuple(fields[1:])
+        elif fields[0] in ("in", "out"):
+            task.ties.append(tie_of(fields))
+    return found
