@@ -1,0 +1,6 @@
+//! What a well task has, said apart from the walk that looks for a fault.
+#![tactic(auto)]
+
+mod laws;
+
+pub use laws::{a_well_task_has_its_values, the_active_targets_are_those_that_are_reached};
