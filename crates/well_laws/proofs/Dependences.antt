@@ -201,7 +201,7 @@ module _ (env : List ℤ) where
     | inr there ↦ later_active first_only d ds x (held_target d env) refl there.1 (reached_active first_only ds x e there.0 at)
   ]
 
--- in a list of which none is passed over each is reached
+-- where not only the first counts, each is reached
 pub each_reached : (env : List ℤ) (ds : List DepPlan) (d : DepPlan) → IsIn d ds → IsReachedIn false env ds d
 each_reached env [] d among = absurd among
 each_reached env (e ∷ es) d among = elim among [

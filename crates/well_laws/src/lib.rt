@@ -1,4 +1,4 @@
-//! What a well task has, said apart from the walk that looks for a fault.
+//! A well task has a value for each expression that it needs, stated apart from the walk that looks for a fault.
 #![tactic(auto)]
 
 mod laws;

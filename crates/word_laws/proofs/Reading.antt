@@ -111,7 +111,7 @@ module _ (verb : Verb) where
     by on true false at n k = on k
     by on false y at n k = on k
 
-  -- a list that lacks a value lacks it behind more words
+  -- a list that lacks a value also lacks it after more words
   from_lacks : (before : List (List ℕ)) (option : List ℕ) (rest : List (List ℕ)) → IsTrue (takes_next verb option) → NoValueFollows rest → lacks verb (before ++ option ∷ rest) ≡ true
   from_lacks [] option rest takes none =
       ap (λ x. (x && none_next verb rest) || lacks verb rest) (sym (taking verb option) ∙ takes)

@@ -47,7 +47,7 @@ pub record LacksValue (verb : Verb) (words : List (List ℕ)) : Type 0 where
   pub takes : IsTrue (takes_next verb option)
   pub none_follows : NoValueFollows after
 
--- each word, behind the word before it; before the first one stands the empty word
+-- each word with the word before it; the first one has the empty word before it
 abbrev pub with_previous : List (List ℕ) → List (List ℕ × List ℕ)
 with_previous words = zip ([] ∷ words) words
 
