@@ -1,0 +1,4 @@
+pub mod Resolved
+pub mod Types
+pub mod Targets
+pub mod Flows

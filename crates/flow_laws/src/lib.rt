@@ -1,0 +1,8 @@
+//! The type check refuses no more than its rules.
+#![tactic(auto)]
+
+mod laws;
+
+pub use laws::{
+    a_flow_that_fits_has_no_fault, types_of_one_number_have_one_name, what_is_resolved_has_no_fault,
+};

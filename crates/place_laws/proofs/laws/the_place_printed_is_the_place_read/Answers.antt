@@ -1,0 +1,12 @@
+use Rattle.report_text.proofs.Placing.{length_placed}
+use Rattle.place_laws.proofs.Rows.{length_places}
+use Rattle.place_laws.proofs.Listing.{nth_index, beside_place}
+use Rattle.place_laws.proofs.laws.the_place_printed_is_the_place_read.Goals as goal
+
+pub returns : goal.returns
+returns c = record {
+  count = length_places;
+  nth = nth_index;
+  beside = beside_place;
+  all = length_placed;
+}

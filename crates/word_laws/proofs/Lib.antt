@@ -1,0 +1,3 @@
+pub mod Cutting
+pub mod Forms
+pub mod Reading

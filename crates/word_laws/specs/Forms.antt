@@ -1,0 +1,60 @@
+-- The words after a verb, each by itself and with its neighbours. Source: this project's own choice; the forms of options are those of
+-- GNU's long options.
+use Rattle.std.specs.Prelude.{◌≡◌, ◌&&◌, ◌||◌, not, ℕ, Bool, true, false, IsTrue, List, [], ◌∷◌, ◌++◌, codes}
+use Rattle.std.specs.List.{zip}
+use Rattle.std.specs.Str.{bytes_eq}
+use Rattle.ptg_words.specs.Words.{Verb, run, trace}
+
+-- the first character is `-`
+abbrev pub begins_with_dash : List ℕ → Bool
+begins_with_dash [] = false
+begins_with_dash (b ∷ bs) = bytes_eq (b ∷ []) (codes "-")
+
+-- `run` and `trace` have `--workers` and `--shards`, and `run` has `--preload`
+abbrev pub has_numbers : Verb → Bool
+has_numbers run = true
+has_numbers trace = true
+has_numbers _ = false
+
+abbrev pub has_flag : Verb → Bool
+has_flag run = true
+has_flag _ = false
+
+-- a word of a form that the verb has: an operand or a value, which begins with no `-`, or an option of the verb
+pub data HasForm (verb : Verb) (word : List ℕ) : Type 0 where
+  operand_or_value : begins_with_dash word ≡ false → HasForm verb word
+  workers_alone : has_numbers verb ≡ true → word ≡ codes "--workers" → HasForm verb word
+  shards_alone : has_numbers verb ≡ true → word ≡ codes "--shards" → HasForm verb word
+  workers_with : (text : List ℕ) → has_numbers verb ≡ true → word ≡ codes "--workers=" ++ text → HasForm verb word
+  shards_with : (text : List ℕ) → has_numbers verb ≡ true → word ≡ codes "--shards=" ++ text → HasForm verb word
+  preload_alone : has_flag verb ≡ true → word ≡ codes "--preload" → HasForm verb word
+
+-- an option of the verb that takes a value, without `=`: the next word is its value, unless that begins with `-`
+abbrev pub takes_next : Verb → List ℕ → Bool
+takes_next verb word = has_numbers verb && (bytes_eq word (codes "--workers") || bytes_eq word (codes "--shards"))
+
+-- no word follows that can be a value: none at all, or one that begins with `-`
+abbrev pub NoValueFollows : List (List ℕ) → Type 0
+NoValueFollows [] = Unit {0}
+NoValueFollows (word ∷ words) = IsTrue (begins_with_dash word)
+
+-- an option that takes the next word as its value is followed by none
+pub record LacksValue (verb : Verb) (words : List (List ℕ)) : Type 0 where
+  pub before : List (List ℕ)
+  pub option : List ℕ
+  pub after : List (List ℕ)
+  pub listed : words ≡ before ++ option ∷ after
+  pub takes : IsTrue (takes_next verb option)
+  pub none_follows : NoValueFollows after
+
+-- each word with the word before it; the first one has the empty word before it
+abbrev pub with_previous : List (List ℕ) → List (List ℕ × List ℕ)
+with_previous words = zip ([] ∷ words) words
+
+-- a value: a word that begins with no `-` and comes right after an option that takes it
+abbrev pub is_value : Verb → List ℕ × List ℕ → Bool
+is_value verb p = takes_next verb p.0 && not (begins_with_dash p.1)
+
+-- neither an option nor a value
+abbrev pub is_other : Verb → List ℕ × List ℕ → Bool
+is_other verb p = not (takes_next verb p.0) && not (begins_with_dash p.1)

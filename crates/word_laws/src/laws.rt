@@ -1,0 +1,25 @@
+//! Laws of the words after a verb: which are stray, which lack a value, and which are operands.
+
+ghost use Rattle.std.specs.Prelude.{◌≡◌, ◌↔◌, ◌+◌, ℕ, IsTrue, List, length, map};
+ghost use Rattle.std.specs.List.{filter, list_any};
+ghost use Rattle.ptg_base.specs.Lists.{IsIn};
+ghost use Rattle.ptg_words.specs.Parts.{is_lacking, is_stray, operands, parts};
+ghost use Rattle.ptg_words.specs.Words.{Verb, options_of};
+ghost use Rattle.word_laws.specs.Forms.{HasForm, LacksValue, begins_with_dash, is_other, is_value, with_previous};
+
+/// A law: there is a stray option exactly where some word has a form that the verb does not have.
+pub fn a_stray_option_has_no_form_of_the_verb()
+    ensures { (verb : Verb) (words : List (List ℕ)) → IsTrue (list_any is_stray (parts (options_of verb) words)) ↔ ((word : List ℕ) × IsIn word words × (HasForm verb word → ⊥)) }
+{}
+
+/// A law: a value is lacking exactly where an option that takes one is last, or is followed by a word that begins with `-`.
+pub fn a_value_is_lacking_where_none_follows()
+    ensures { (verb : Verb) (words : List (List ℕ)) → IsTrue (list_any is_lacking (parts (options_of verb) words)) ↔ LacksValue verb words }
+{}
+
+/// A law: the operands are the words that are neither options nor values, in their order. So they are as many as the words less the
+/// options and the values.
+pub fn the_other_words_are_the_operands()
+    ensures which { (verb : Verb) (words : List (List ℕ)) → operands (parts (options_of verb) words) ≡ map (λ (p : List ℕ × List ℕ). p.1) (filter (is_other verb) (with_previous words)) }
+    ensures count { (verb : Verb) (words : List (List ℕ)) → length (operands (parts (options_of verb) words)) + (length (filter begins_with_dash words) + length (filter (is_value verb) (with_previous words))) ≡ length words }
+{}

@@ -1,0 +1,9 @@
+//! The rules of the command line over the words themselves.
+#![tactic(auto)]
+
+mod laws;
+
+pub use laws::{
+    a_stray_option_has_no_form_of_the_verb, a_value_is_lacking_where_none_follows,
+    the_other_words_are_the_operands,
+};
