@@ -28,7 +28,7 @@ once-tasks n (s ∷ ss) well =
     let b = class_from (suc n) ss t k in
     omega arith)
 
-well_space : (P : Plan) (k : ℕ) (s : ClassSpace) → slice_get P.spaces k ≡ Some s → IsWellSpace s
+pub well_space : (P : Plan) (k : ℕ) (s : ClassSpace) → slice_get P.spaces k ≡ Some s → IsWellSpace s
 well_space P k s h =
     let n = P.well_made.one_space_each in
     let l = slice_get_within P.spaces k s h in
