@@ -1,7 +1,6 @@
 -- A plan whose marks pass is consistent.
-use Rattle.std.proofs.Common.{◌≡◌, ◌≢◌, ◌↔◌, ℕ, suc, ◌+◌, ◌≤◌, ℤ, List, [], ◌∷◌, ◌++◌, length, map, refl, ap, sym, ◌∙◌, subst, add-zero, zero-add, Option, Some, None, slice_get, inl, inr, arith}
-use Rattle.std.proofs.lemmas.Option.{slice_get_within}
-use Rattle.std.specs.List.{AllByRecursion, filter_map, flat_map}
+use Rattle.std.proofs.Common.{◌≡◌, ◌≢◌, ◌↔◌, ℕ, suc, ◌+◌, ◌≤◌, ℤ, List, [], ◌∷◌, ◌++◌, length, refl, ap, sym, ◌∙◌, subst, add-zero, zero-add, Option, Some, None, slice_get, inl, inr, arith}
+use Rattle.std.specs.List.{AllByRecursion, filter_map}
 use Rattle.std.specs.Option.{option_map_or}
 use Rattle.ptg_base.specs.Lists.{HasNoRepeats, IsIn}
 use Rattle.ptg_base.specs.Task.{Task}
@@ -9,20 +8,16 @@ use Rattle.ptg_base.specs.declared.edge.Edge.{Edge}
 use Rattle.ptg_base.specs.declared.edge.Item.{Item}
 use Rattle.ptg_base.specs.declared.edge.Item.TheVariants as item
 use Rattle.ptg_base.specs.declared.edge.WriteBack.{WriteBack}
-use Rattle.term_core.specs.declared.space.ClassSpace.{ClassSpace}
-use Rattle.term_core.specs.WellSpace.{IsWellSpace}
 use Rattle.plan_core.specs.declared.flow.FlowPlan.{FlowPlan}
 use Rattle.plan_core.specs.declared.plan.Plan.{Plan}
 use Rattle.plan_core.specs.declared.target.Target.{Target}
 use Rattle.plan_core.specs.declared.target.Target.TheVariants as target
 use Rattle.plan_core.specs.Place.{HasPlace}
 use Rattle.range_space.specs.Sound.{IsSound, prefix_total}
-use Rattle.range_space.specs.Tasks.{tasks}
-use Rattle.range_space.proofs.Distinct.{distinct_tasks}
 use Rattle.range_space.proofs.MemberLists.{from_append, from_flat_map, from_map, IsIn-flat_map}
 use Rattle.dep_iter.specs.declared.source.Source.{Source}
 use Rattle.dep_iter.specs.declared.source.Source.TheVariants as source
-use Rattle.dep_iter.specs.Tasks.{IsTask, all_tasks, flows_of, locals_of, task, tasks_from}
+use Rattle.dep_iter.specs.Tasks.{IsTask, all_tasks, flows_of, locals_of, task}
 use Rattle.dep_iter.specs.Active.{flow_ins, flow_outs}
 use Rattle.dep_iter.specs.Arguments.{combinations}
 use Rattle.dep_iter.specs.Consistent.{IsConsistent, IsWellConnected, all_in, all_out}
@@ -31,63 +26,12 @@ use Rattle.dep_iter.specs.Items.{edge_of, item_flow, items, items_to, out_edges,
 use Rattle.dep_iter.proofs.Belonging.{in_edge_is, out_edge_is}
 use Rattle.dep_iter.proofs.Joining.{filter_map-append}
 use Rattle.dep_iter.proofs.Listing.{listed}
+use Rattle.edge_accept.proofs.Lists.{once-append, once-flat_map}
+use Rattle.edge_accept.proofs.TaskLists.{once-all_tasks}
 use Rattle.edge_match.specs.declared.phase.Phase.TheVariants.{Connecting, Matching}
 use Rattle.edge_match.specs.Marks.{AllPass, Before, add_all, edges_into_flow, flow_marks, flow_start, flows_marks, in_marks, item_marks, items_of_flow, marks, nothing, phase_marks, task_marks, task_start}
 use Rattle.edge_match.proofs.Added.{in_edges-flows, ins_of_flows, items-by_flow, items_of_flows, phase-adds}
 use Rattle.edge_match.proofs.Passing.{IsWithinLimits, ItemExists, limits_kept, match_in, match_out, once_in, once_out, pass_flow, pass_in, pass_item, pass_left, pass_part, pass_right}
-use Rattle.edge_match.proofs.Walks.{at_least_one}
-
--- lists without repeats
-once-append : {A : Type 0} (xs ys : List A) → HasNoRepeats xs → HasNoRepeats ys → ((x : A) → IsIn x xs → IsIn x ys → ⊥) → HasNoRepeats (xs ++ ys)
-once-append [] ys w u apart = u
-once-append (x ∷ xs) ys w u apart = (
-  λ t. elim (from_append x xs ys t) [ inl l ↦ w.0 l | inr r ↦ apart x (inl refl) r ],
-  once-append xs ys w.1 u (λ z h k. apart z (inr h) k),
-)
-
-once-flat_map : {A B : Type 0} (f : A → List B) (vs : List A) → HasNoRepeats vs → ((v : A) → IsIn v vs → HasNoRepeats (f v)) → ((v w : A) (x : B) → IsIn x (f v) → IsIn x (f w) → v ≡ w) → HasNoRepeats (flat_map f vs)
-once-flat_map f [] w each apart = tt
-once-flat_map f (v ∷ vs) w each apart =
-    once-append (f v) (flat_map f vs) (each v (inl refl)) (once-flat_map f vs w.1 (λ z h. each z (inr h)) apart) (λ x h k.
-    let p = from_flat_map f vs x k in
-    let same = apart v p.0 x h p.2 in
-    w.0 (subst (λ z. IsIn z vs) (sym same) p.1))
-
-once-map : {A B : Type 0} (f : A → B) (xs : List A) → HasNoRepeats xs → ((x y : A) → f x ≡ f y → x ≡ y) → HasNoRepeats (map f xs)
-once-map f [] w one = tt
-once-map f (x ∷ xs) w one = (
-  λ t. let p = from_map f xs (f x) t in
-      let same = one x p.0 p.2 in
-      w.0 (subst (λ z. IsIn z xs) (sym same) p.1),
-  once-map f xs w.1 one,
-)
-
--- the tasks of a plan
-class_from : (n : ℕ) (ss : List ClassSpace) (t : Task) → IsIn t (tasks_from n ss) → n ≤ t.class
-class_from n [] t h = absurd h
-class_from n (s ∷ ss) t h = elim (from_append t (map (task n) (tasks s)) (tasks_from (suc n) ss) h) [
-  | inl a ↦ let p = from_map (task n) (tasks s) t a in let e : t.class ≡ n = ap (λ (t : Task). t.class) p.2 in omega arith
-  | inr b ↦ let k = class_from (suc n) ss t b in omega arith
-]
-
-once-tasks : (n : ℕ) (ss : List ClassSpace) → ((k : ℕ) (s : ClassSpace) → slice_get ss k ≡ Some s → IsWellSpace s) → HasNoRepeats (tasks_from n ss)
-once-tasks n [] well = tt
-once-tasks n (s ∷ ss) well =
-    once-append (map (task n) (tasks s)) (tasks_from (suc n) ss) (once-map (task n) (tasks s) (distinct_tasks s (well 0 s refl)) (λ x y e. ap (λ (t : Task). t.params) e)) (once-tasks (suc n) ss (λ k z h. well (suc k) z h)) (λ t h k.
-    let p = from_map (task n) (tasks s) t h in
-    let e : t.class ≡ n = ap (λ (t : Task). t.class) p.2 in
-    let b = class_from (suc n) ss t k in
-    omega arith)
-
-pub well_space : (P : Plan) (k : ℕ) (s : ClassSpace) → slice_get P.spaces k ≡ Some s → IsWellSpace s
-well_space P k s h =
-    let n = P.well_made.one_space_each in
-    let l = slice_get_within P.spaces k s h in
-    let c = at_least_one P.classes k (omega arith) in
-    (P.well_made.fit k c.0 s c.1 h).space
-
-once-all_tasks : (P : Plan) → HasNoRepeats (all_tasks P)
-once-all_tasks P = once-tasks 0 P.spaces (well_space P)
 
 -- which flow an edge goes into, and which flow sends an item
 into_is : (t : Task) (env : List ℤ) (n : ℕ) (x : Target) (e : Edge) → IsIn e (edges_into t env n x) → e.in_flow ≡ n

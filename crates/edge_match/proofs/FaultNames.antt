@@ -30,7 +30,7 @@ use Rattle.edge_match.specs.Faults.{space_fault}
 use Rattle.edge_match.specs.FirstFault.{IsFirstFailure, IsFirstFault, IsTaskFault, flow_at}
 use Rattle.edge_match.specs.Marks.{Before, Check, CountsIn, CountsItem, HasIn, HasInput, HasOut, HasSource, HasTile, IsNewEdge, IsNewPlace, IsOfJob, IsPlace, Mark, edges_into_flow, flow_marks, flow_start, in_marks, item_marks, items_of_flow, mark, marks, nothing, phase_marks, task_start}
 use Rattle.edge_match.proofs.NoFault.{each_task}
-use Rattle.edge_match.proofs.PlaceBits.{some_of}
+use Rattle.edge_accept.proofs.PlaceBits.{some_of}
 
 -- a mark is at a task of the job, and the flow of its fault, if it is one's, is one of that task
 pub record IsNamed (P : Plan) (m : Mark) : Type 0 where

@@ -2,7 +2,6 @@ pub mod Parts
 pub mod Tallies
 pub mod InEdges
 pub mod SentItems
-pub mod PlaceBits
 pub mod Walks
 pub mod Added
 pub mod Roots
@@ -13,4 +12,3 @@ pub mod OneFault
 pub mod Decided
 pub mod Either
 pub mod FaultNames
-pub mod WordBits

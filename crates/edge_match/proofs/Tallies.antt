@@ -21,7 +21,7 @@ use Rattle.edge_match.proofs.Parts.{checked_fail, checked_pass}
 use Rattle.plan_core.specs.Place.{HasPlace}
 use Rattle.ptg_base.specs.declared.place.Place.{Place}
 use Rattle.range_space.proofs.MemberLists.{IsIn-append_left, IsIn-append_right, from_append}
-use Rattle.edge_match.specs.Written.{FitsShapes, is_written}
+use Rattle.edge_accept.specs.Written.{FitsShapes, is_written}
 use Rattle.edge_match.specs.Marks.{Before, CountsIn, CountsItem, IsNewPlace, add, mark}
 
 kind_here : (o : Option ClassPlan) (n : ℕ) (f : FlowPlan) → slice_get (option_map_or (λ (c : ClassPlan). c.flows) o []) n ≡ Some f → option_map (λ (f : FlowPlan). f.kind) (option_and_then (λ (c : ClassPlan). slice_get c.flows n) o) ≡ Some f.kind

@@ -17,7 +17,7 @@ use Rattle.edge_match.specs.declared.phase.Phase.{Phase}
 use Rattle.edge_match.specs.declared.phase.Phase.TheVariants.{Connecting, Matching}
 use Rattle.edge_match.specs.Marks.{Before, Mark, AllPass, add_all}
 use Rattle.edge_match.specs.FirstFault.{IsFirstFailure, IsFirstFault}
-use Rattle.edge_match.specs.Written.{FitsShapes, is_written}
+use Rattle.edge_accept.specs.Written.{FitsShapes, is_written}
 
 -- the counts are those of what came before
 pub record IsCounted (P : Plan) (c : Counted) (b : Before) : Type 0 where

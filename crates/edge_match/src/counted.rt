@@ -2,7 +2,7 @@
 
 ghost use Rattle.std.specs.Prelude.{◌≤◌};
 
-use crate::written::Written;
+use edge_accept::Written;
 
 /// How many edges into tasks and items were counted, how many of those edges carry a tile, and which places are written.
 #[derive(Drop)]

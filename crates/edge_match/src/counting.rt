@@ -4,7 +4,7 @@ ghost use Rattle.std.specs.Prelude.{◌≡◌, ◌↔◌, ◌+◌, ◌<◌, ◌�
 ghost use Rattle.ptg_base.specs.declared.place.Place.{Place as PlaceValue};
 ghost use Rattle.plan_core.specs.declared.shape.Shape.{Shape as ShapeValue};
 ghost use Rattle.plan_core.specs.Place.{HasPlace};
-ghost use Rattle.edge_match.specs.Written.{FitsShapes, is_written};
+ghost use Rattle.edge_accept.specs.Written.{FitsShapes, is_written};
 
 use crate::counted::Counted;
 use ptg_base::Place;

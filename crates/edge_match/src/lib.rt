@@ -2,7 +2,6 @@
 #![tactic(auto)]
 
 mod at;
-mod bits;
 mod counted;
 mod counting;
 mod ends;
@@ -19,7 +18,6 @@ mod refusing;
 mod sending;
 mod task_at;
 mod tasks;
-mod written;
 
 pub use fault::{MatchCode, MatchFault, MatchRefusal};
 pub use laws::{

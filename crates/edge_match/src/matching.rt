@@ -8,7 +8,7 @@ ghost use Rattle.edge_match.specs.Counted.{AreCounts, Checked, CountsRoots, IsCo
 ghost use Rattle.edge_match.specs.Faults as faults;
 ghost use Rattle.edge_match.specs.FirstFault.{IsFirstFailure, IsFirstFault};
 ghost use Rattle.edge_match.specs.Marks.{AllPass, marks, nothing, phase_marks};
-ghost use Rattle.edge_match.specs.Written.{FitsShapes, is_written};
+ghost use Rattle.edge_accept.specs.Written.{FitsShapes, is_written};
 ghost use Rattle.edge_match.specs.declared.fault.MatchFault.{MatchFault as MatchFaultValue};
 ghost use Rattle.edge_match.specs.declared.fault.MatchRefusal.TheVariants as refusal;
 ghost use Rattle.ptg_base.specs.declared.place.Place.{Place as PlaceValue};
@@ -21,8 +21,8 @@ use crate::laws::{
 };
 use crate::phase::Phase;
 use crate::tasks::check_classes;
-use crate::written::Written;
 use dep_iter::{Counts, Matched, all_tasks_are_listed};
+use edge_accept::{Written, accepts};
 use plan_core::Plan;
 use range_space::{Numbers, SpaceFault, space_size};
 use std::alloc::Global;
@@ -95,7 +95,7 @@ fn check_tasks(plan: &Plan, tasks: u64, mut counted: Counted) -> Result<Counts, 
     Ok(counts)
 }
 
-// Checks a plan and gives its counts.
+// Checks a plan and gives its counts. Most consistent plans are accepted in one walk; of any other plan the phases find the first fault.
 fn check_plan(alloc: Global, plan: &Plan) -> Result<Counts, MatchRefusal>
     ensures consistent { IfOk result (λ counts. IsConsistent plan.now × HasCounts plan.now counts) }
     ensures refused { IfErr result (IsRefusalOf plan.now) }
@@ -106,6 +106,11 @@ fn check_plan(alloc: Global, plan: &Plan) -> Result<Counts, MatchRefusal>
         Ok(tasks) => tasks,
         Err(fault) => return Err(MatchRefusal::Fault(space_fault(fault))),
     };
+    match accepts(alloc, plan, tasks) {
+        Ok(Some(counts)) => return Ok(counts),
+        Ok(None) => (),
+        Err(_) => return Err(MatchRefusal::OutOfMemory),
+    }
     let Ok(written) = Written::new(alloc, plan.colls.as_slice()) else {
         return Err(MatchRefusal::OutOfMemory);
     };

@@ -7,7 +7,7 @@ use Rattle.dep_iter.specs.Tasks.{task, tasks_from}
 use Rattle.edge_match.specs.Marks.{task_marks}
 use Rattle.edge_match.proofs.Parts.{checked_stop, checked_then}
 use Rattle.edge_match.proofs.Roots.{counts_then}
-use Rattle.edge_match.proofs.Walks.{at_least_one, drop_at, flat_map-append}
+use Rattle.edge_accept.proofs.Lists.{at_least_one, drop_at, flat_map-append}
 use Rattle.edge_match.proofs.tasks.+check_classes.Goals as goal
 
 pub check_class-requires-clause-room : goal.check_class-requires-clause-room

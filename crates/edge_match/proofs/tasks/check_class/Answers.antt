@@ -4,7 +4,8 @@ use Rattle.std.proofs.lemmas.List.{length-map}
 use Rattle.range_space.specs.Tasks.{tasks}
 use Rattle.dep_iter.specs.Tasks.{task}
 use Rattle.edge_match.specs.Marks.{task_marks}
-use Rattle.edge_match.proofs.Walks.{all_done, at_hand, stopped}
+use Rattle.edge_accept.proofs.TaskLists.{at_hand}
+use Rattle.edge_match.proofs.Walks.{all_done, stopped}
 use Rattle.edge_match.proofs.Roots.{AreCountedSoFar, counted_all, counted_more, counted_nothing, room_next}
 use Rattle.edge_match.proofs.tasks.check_class.Goals as goal
 

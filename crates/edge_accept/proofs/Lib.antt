@@ -1,0 +1,14 @@
+pub mod PlaceBits
+pub mod Places
+pub mod WordBits
+pub mod Capped
+pub mod Lists
+pub mod Pigeonhole
+pub mod TaskLists
+pub mod TaskFlows
+pub mod Taking
+pub mod SoundSources
+pub mod SentCounts
+pub mod TaskSends
+pub mod Walking
+pub mod Conclusion

@@ -1,0 +1,4 @@
+pub mod Bits
+pub mod Written
+pub mod Flows
+pub mod Tallies

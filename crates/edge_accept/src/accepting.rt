@@ -1,0 +1,48 @@
+//! Whether one walk over the tasks of a plan shows that it is consistent.
+
+ghost use Rattle.std.specs.Prelude.{◌≡◌, ◌≤◌, IfOk, IfSome, length};
+ghost use Rattle.std.specs.List.{AllByRecursion};
+ghost use Rattle.range_space.specs.Sound.{IsSound, prefix_total};
+ghost use Rattle.dep_iter.specs.Consistent.{HasCounts, IsConsistent};
+ghost use Rattle.dep_iter.specs.Tasks.{all_tasks};
+
+use crate::ins::Ins;
+use crate::tally::Tally;
+use crate::tasks::accept_classes;
+use crate::written::Written;
+use dep_iter::Counts;
+use plan_core::Plan;
+use ptg_base::OutOfMemory;
+use std::alloc::Global;
+
+/// The counts of a plan whose spaces are sound and have so many tasks, if one walk over its tasks shows that it is consistent. None says nothing.
+///
+/// Each edge into a task is looked up among those out of its sender, and none occurs twice; the edges out of tasks are only counted. Where both are as many,
+/// each edge out of a task is one into a task, and none of them occurs twice either.
+pub fn accepts(alloc: Global, plan: &Plan, tasks: u64) -> Result<Option<Counts>, OutOfMemory>
+    requires sound { AllByRecursion IsSound plan.now.spaces }
+    requires tasks { tasks ≡ length (all_tasks plan.now) }
+    requires tasks_at_most { tasks ≤ 1000000 }
+    requires prefixes_at_most { prefix_total plan.now.spaces ≤ 16000000 }
+    ensures { IfOk result (λ accepted. IfSome accepted (λ counts. IsConsistent plan.now × HasCounts plan.now counts)) }
+{
+    let mut tally = Tally {
+        ins: Ins::new(),
+        outs: 0,
+        writes: 0,
+        written: Written::new(alloc, plan.colls.as_slice())?,
+    };
+    if !accept_classes(plan, 0, &mut tally) {
+        return Ok(None);
+    }
+    if tally.ins.edges != tally.outs {
+        return Ok(None);
+    }
+    Ok(Some(Counts {
+        tasks,
+        roots: tasks - tally.ins.receivers,
+        edges: tally.ins.edges,
+        data_edges: tally.ins.data_edges,
+        writes: tally.writes,
+    }))
+}

@@ -1,0 +1,32 @@
+//! A task and a flow of it, with the task's locals.
+
+ghost use Rattle.std.specs.Prelude.{◌≡◌, ◌&&◌, IsTrue, Some, slice_get};
+ghost use Rattle.dep_iter.specs.Tasks.{flows_of, locals_of};
+ghost use Rattle.dep_iter.specs.Links.{dependences_fit};
+ghost use Rattle.dep_iter.specs.Well.{is_well_flow};
+
+use plan_core::{FlowPlan, Plan};
+use ptg_base::TaskId;
+
+/// A task of the job, with its locals.
+#[derive(Drop)]
+pub(crate) struct TaskAt<'a> {
+    pub(crate) plan: &'a Plan,
+    pub(crate) task: &'a TaskId,
+    pub(crate) env: &'a [i64],
+    pub(crate) ghost locals: { env.now ≡ locals_of plan.now task.now },
+}
+
+/// A flow of a task of the job, with the task's locals.
+#[derive(Drop)]
+pub(crate) struct FlowAt<'a> {
+    pub(crate) plan: &'a Plan,
+    pub(crate) task: &'a TaskId,
+    pub(crate) env: &'a [i64],
+    pub(crate) number: u8,
+    pub(crate) flow: &'a FlowPlan,
+    pub(crate) ghost locals: { env.now ≡ locals_of plan.now task.now },
+    pub(crate) ghost here: { slice_get (flows_of plan.now task.now) number ≡ Some flow.now },
+    pub(crate) ghost fit: { IsTrue (dependences_fit plan.now flow.now.ins && dependences_fit plan.now flow.now.outs) },
+    pub(crate) ghost well: { IsTrue (is_well_flow env.now flow.now) },
+}

@@ -1,0 +1,129 @@
+//! The walk over all tasks.
+
+ghost use Rattle.std.specs.Prelude.{◌≡◌, ◌+◌, ◌<◌, ◌≤◌, ◌∷◌, [], IsTrue, List, Some, drop, length, map, slice_get};
+ghost use Rattle.std.specs.Bool.{OnTrue};
+ghost use Rattle.term_core.specs.declared.space.ClassSpace.{ClassSpace as ClassSpaceValue};
+ghost use Rattle.term_core.specs.WellSpace.{IsWellSpace};
+ghost use Rattle.plan_core.specs.Place.{HasPlace};
+ghost use Rattle.range_space.specs.Tasks as range;
+ghost use Rattle.dep_iter.specs.Hints as hints;
+ghost use Rattle.dep_iter.specs.Tasks.{IsTask, task, tasks_from};
+ghost use Rattle.dep_iter.specs.Well.{IsWellTask};
+ghost use Rattle.edge_accept.specs.Flows.{TakesIns};
+ghost use Rattle.edge_accept.specs.Tallies.{Sends, WentOver};
+
+use crate::at::TaskAt;
+use crate::flows::take_flows;
+use crate::ins::Ins;
+use crate::sending::flows_sent;
+use crate::tally::Tally;
+use crate::writes::write_places;
+use dep_iter::{affinity_under, flows_of, locals_of, well_task_under};
+use plan_core::Plan;
+use ptg_base::TaskId;
+use range_space::Space;
+use term_core::ClassSpace;
+
+// Whether each expression that the task needs has a value, and the place of its affinity exists.
+fn is_sound(task: &TaskAt) -> bool
+    requires of_job { IsTask task.now.plan.now task.now.task.now }
+    ensures well { OnTrue result (IsWellTask task.now.plan.now task.now.task.now) }
+    ensures place { OnTrue result (HasPlace task.now.plan.now.colls (hints.affinity task.now.plan.now task.now.task.now)) }
+{
+    if well_task_under(task.plan, task.task, task.env).is_err() {
+        return false;
+    }
+    task.plan
+        .has_place(&affinity_under(task.plan, task.task, task.env))
+}
+
+// Counts the edges into a task, if each is sent, and it as a receiver if there is one.
+fn take_ins(task: &TaskAt, ins: &mut Ins) -> bool
+    requires of_job { IsTask task.now.plan.now task.now.task.now }
+    requires well { IsWellTask task.now.plan.now task.now.task.now }
+    ensures { OnTrue result (TakesIns task.now.plan.now task.now.task.now ins.old ins.new) }
+{
+    let before = ins.edges;
+    if !take_flows(task, 0, flows_of(task.plan, task.task), ins) {
+        return false;
+    }
+    if ins.edges == before {
+        return true;
+    }
+    ins.add_receiver();
+    true
+}
+
+// Counts what a task sends, if it is not too much and each place that it writes exists and was not written before.
+fn send(task: &TaskAt, tally: &mut Tally) -> bool
+    requires of_job { IsTask task.now.plan.now task.now.task.now }
+    requires well { IsWellTask task.now.plan.now task.now.task.now }
+    ensures { OnTrue result (Sends task.now.plan.now task.now.task.now tally.old tally.new) }
+{
+    let sent = flows_sent(flows_of(task.plan, task.task), task.env);
+    if !tally.add_sent(sent) {
+        return false;
+    }
+    if sent.writes == 0 {
+        return true;
+    }
+    write_places(task, &mut tally.written)
+}
+
+// Whether the task is sound; its edges and write-backs are counted.
+fn accept_task(plan: &Plan, t: &TaskId, tally: &mut Tally) -> bool
+    requires { IsTask plan.now t.now }
+    ensures { OnTrue result (WentOver plan.now tally.old tally.new (t.now ∷ [])) }
+{
+    let locals = locals_of(plan, t);
+    let task = TaskAt {
+        plan,
+        task: t,
+        env: locals.as_slice(),
+    };
+    if !is_sound(&task) {
+        return false;
+    }
+    if !take_ins(&task, &mut tally.ins) {
+        return false;
+    }
+    send(&task, tally)
+}
+
+// The space of a class.
+fn space_of(plan: &Plan, class: u32) -> &ClassSpace
+    requires { class < length plan.now.classes }
+    ensures space { slice_get plan.now.spaces class ≡ Some result.now }
+    ensures well { IsWellSpace result.now }
+{
+    let _ = plan.class(class);
+    plan.space(class)
+}
+
+// Goes over the tasks of a class, in walk order.
+fn accept_class(plan: &Plan, class: u32, tally: &mut Tally) -> bool
+    requires { class < length plan.now.classes }
+    ensures { OnTrue result ((s : ClassSpaceValue) → slice_get plan.now.spaces class ≡ Some s → WentOver plan.now tally.old tally.new (map (task class) (range.tasks s))) }
+{
+    let space = space_of(plan, class);
+    for params in Space::new(space) {
+        let t = TaskId::new(class, params.as_slice());
+        if !accept_task(plan, &t, tally) {
+            return false;
+        }
+    }
+    true
+}
+
+// Goes over the tasks of the classes from this number on, in walk order.
+pub(crate) fn accept_classes(plan: &Plan, class: u32, tally: &mut Tally) -> bool
+    ensures { OnTrue result ((ss : List ClassSpaceValue) → drop class plan.now.spaces ≡ ss → WentOver plan.now tally.old tally.new (tasks_from class ss)) }
+{
+    if class as usize >= plan.classes.len() {
+        return true;
+    }
+    if !accept_class(plan, class, tally) {
+        return false;
+    }
+    accept_classes(plan, class + 1, tally)
+}
