@@ -28,7 +28,7 @@ use Rattle.rank_core.specs.Sound.{IsSoundWorld}
 use Rattle.rank_core.proofs.Running.{delivered, happen-append, items_with, run_ends, run_happens}
 
 -- what was sent is sent later
-still_sent : (S : MachineState) (claims : List Task) (more : List Sent) (i : Item) → is_sent S i ≡ true → is_sent (record { claims = claims; sends = S.sends ++ more }) i ≡ true
+pub still_sent : (S : MachineState) (claims : List Task) (more : List Sent) (i : Item) → is_sent S i ≡ true → is_sent (record { claims = claims; sends = S.sends ++ more }) i ≡ true
 still_sent S claims more i h =
     let some = ltb-true 0 (send_count S i) h in
     let T : MachineState = record { claims = claims; sends = S.sends ++ more } in

@@ -12,3 +12,4 @@ pub mod LeftWithin
 pub mod Kept
 pub mod Ran
 pub mod Setting
+pub mod Turns

@@ -5,3 +5,5 @@ pub mod Sending
 pub mod Visits
 pub mod Outgoings
 pub mod Changes
+pub mod Driving
+pub mod Choices

@@ -1,7 +1,10 @@
 //! Worlds of ranks that send one another messages, run in one thread.
 #![tactic(auto)]
 
+mod answering;
+mod choices;
 mod delivery;
+mod driving;
 mod history;
 mod leaving;
 mod mail;
@@ -13,4 +16,6 @@ mod running;
 mod visit;
 mod world;
 
+pub use answering::ranks_of;
+pub use driving::drive;
 pub use world::World;

@@ -5,6 +5,7 @@ ghost use Rattle.ptg_base.specs.Task.{Task};
 ghost use Rattle.indexmap.specs.IndexMap.{spare};
 ghost use Rattle.dep_iter.specs.Items as items;
 ghost use Rattle.dep_iter.specs.Tasks as tasks;
+ghost use Rattle.rank_core.specs.Sound.{IsSoundWorld};
 ghost use Rattle.rank_core.specs.World as world;
 ghost use Rattle.dep_shard.specs.Content.{Content, Entry as EntryValue, IsReady, entry_of};
 ghost use Rattle.flow_meaning.specs.Backward.{ended};
@@ -215,6 +216,7 @@ impl<'m> World<'m> {
         requires rank { rank ≡ world.rank_of self.old.plan self.old.ranks t.now }
         ensures ok { OnOk result (self.new ≡ with_run t.now self.old) }
         ensures err { OnErr result (self.new ≡ self.old) }
+        ensures sound { IsSoundWorld self.new.plan self.new.given self.new.ranks self.new.state }
     {
         let _ = self.given.colls();
         let at = Visit {
@@ -248,6 +250,7 @@ impl<'m> World<'m> {
         ensures exact { IfOk result (λ ran. IsTrue ran ↔ MayClaim self.old.plan self.old.state.machine t.now) }
         ensures state { IfOk result (λ ran. self.new ≡ (if ran then with_run t.now self.old else self.old)) }
         ensures err { OnErr result (self.new ≡ self.old) }
+        ensures sound { IsSoundWorld self.new.plan self.new.given self.new.ranks self.new.state }
     {
         let plan = self.matched.plan();
         let Some(locals) = task_locals(plan, t) else {

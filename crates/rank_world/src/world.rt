@@ -1,6 +1,7 @@
 //! A world of ranks.
 
 ghost use Rattle.std.specs.Prelude.{◌≡◌, ◌<◌, ◌≤◌, ◌↔◌, ℕ, IfOk, IfNone, IfSome, IsTrue, IsFalse, OnErr, OnOk, Some, length, slice_get};
+ghost use Rattle.ptg_base.specs.Lists.{IsIn};
 ghost use Rattle.ptg_base.specs.Task.{Task};
 ghost use Rattle.plan_data.specs.Fit.{DataFit};
 ghost use Rattle.dep_iter.specs.Tasks.{IsTask};
@@ -9,6 +10,7 @@ ghost use Rattle.flow_meaning.specs.Answer as meaning;
 ghost use Rattle.flow_meaning.specs.Machine.{MayClaim};
 ghost use Rattle.shard_meaning.specs.Calm.{HasNoWork};
 ghost use Rattle.rank_core.specs.declared.message.Message.{Message as MessageValue};
+ghost use Rattle.rank_core.specs.Sound.{IsSoundWorld, message_count};
 ghost use Rattle.rank_core.specs.World as world;
 ghost use Rattle.rank_core.specs.World.{IsQuiet, stands};
 ghost use Rattle.rank_world.specs.Changes.{StaysAt, TakesEdgeAt};
@@ -110,7 +112,8 @@ impl<'m> World<'m> {
     ) -> Result<World<'m>, OutOfMemory>
         requires fit { DataFit m.now.colls m.now.elems given }
         requires ranks { (0 < ranks) × (ranks ≤ 64) }
-        ensures { IfOk result (λ w. w ≡ opened m.now given ranks) }
+        ensures opened { IfOk result (λ w. w ≡ opened m.now given ranks) }
+        ensures sound { IfOk result (λ w. IsSoundWorld w.plan w.given w.ranks w.state) }
     {
         let shards = opened_ranks(alloc, m, ranks)?;
         let bench = Bench::new(alloc, m)?;
@@ -138,11 +141,37 @@ impl<'m> World<'m> {
         rank_at(self.matched, self.ranks.len(), t) as u32
     }
 
-    /// How many messages were sent.
+    /// How many ranks there are.
+    pub fn ranks(&self) -> u32
+        ensures number { result ≡ self.now.ranks }
+        ensures some { 0 < result }
+        ensures few { result ≤ 64 }
+    {
+        self.ranks.len() as u32
+    }
+
+    /// How many messages were sent. In a quiescent world they are as many as the job has at so many ranks.
     pub fn messages(&self) -> u64
-        ensures { result ≡ length self.now.state.messages }
+        ensures sent { result ≡ length self.now.state.messages }
+        ensures all { IsQuiet self.now.plan self.now.state → result ≡ message_count self.now.plan self.now.given self.now.ranks }
     {
         self.mail.sent
+    }
+
+    /// The number of a message whose edge does not stand; if there are several, the pick says which. `None` exactly
+    /// where there is none.
+    pub fn late_message(&self, pick: u64) -> Option<u64>
+        ensures some { IfSome result (λ n. (m : MessageValue) × (slice_get self.now.state.messages n ≡ Some m) × IsFalse (stands self.now.state.machine m)) }
+        ensures none { IfNone result ((m : MessageValue) → IsIn m self.now.state.messages → IsTrue (stands self.now.state.machine m)) }
+    {
+        let late = self.mail.under_way.len() as u64;
+        if late == 0 {
+            return None;
+        }
+        let Some((number, _message)) = self.mail.under_way.get_index((pick % late) as usize) else {
+            return None;
+        };
+        Some(*number)
     }
 
     /// A task of a rank that may run: the best by priority, and of equal ones the first in task order. `None` exactly
@@ -170,6 +199,7 @@ impl<'m> World<'m> {
         ensures exact { IfOk result (λ stood_not. (m : MessageValue) → slice_get self.old.state.messages n ≡ Some m → IsTrue stood_not ↔ IsFalse (stands self.old.state.machine m)) }
         ensures state { OnOk result (self.new ≡ with_delivery n self.old) }
         ensures err { OnErr result (self.new ≡ self.old) }
+        ensures sound { IsSoundWorld self.new.plan self.new.given self.new.ranks self.new.state }
     {
         let _ = self.given.colls();
         let Some(message) = self.mail.under_way.get(&n) else {

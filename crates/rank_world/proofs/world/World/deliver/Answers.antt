@@ -45,3 +45,15 @@ invariant_of-self-2 c =
     let few = subst (λ (w : WorldView). c.args.n < length w.state.messages) (sym c.self.view_is) c.requires in
     delivered i.matched.now i.given i.history.state i.ranks.items i.bench i.mail c.self.invariant c.args.n m is.0 is.1 c.take_edge_at.new.ranks.items (record { under_way = c.swap_remove-message.new.self; sent = i.mail.sent }) c.with_delivery-self-inside.result.state
     c.with_delivery-self-inside.ensures few (subst (λ k. TakesEdgeAt i.matched.now m k i.ranks.items c.take_edge_at.new.ranks.items) number c.in_ok-take_edge_at.ensures.ok) (λ k. i.mail.sent) c.swap_remove-message.ensures.updates.0
+
+pub returns-clause-sound : goal.returns-clause-sound
+returns-clause-sound c =
+    let i = c.self.inside in
+    let m = c.in-Some.message.now in
+    let found = sym (ap option_copied c.in-Some.is) ∙ c.get.ensures.value ∙ c.self.invariant.mail.under_way c.args.n in
+    let is = under_way_some i.history.state.machine (slice_get i.history.state.messages c.args.n) m found in
+    let count : c.len.result ≡ length i.ranks.items = c.len.ensures ∙ i.ranks.ok.0 in
+    let number : c.rank_at-k.result ≡ rank_of i.matched.now (length i.ranks.items) m.edge.to = c.rank_at-k.ensures.number ∙ ap (λ r. rank_of i.matched.now r m.edge.to) count in
+    let few = subst (λ (w : WorldView). c.args.n < length w.state.messages) (sym c.self.view_is) c.requires in
+    (delivered i.matched.now i.given i.history.state i.ranks.items i.bench i.mail c.self.invariant c.args.n m is.0 is.1 c.take_edge_at.new.ranks.items (record { under_way = c.swap_remove-message.new.self; sent = i.mail.sent }) c.with_delivery-self-inside.result.state
+    c.with_delivery-self-inside.ensures few (subst (λ k. TakesEdgeAt i.matched.now m k i.ranks.items c.take_edge_at.new.ranks.items) number c.in_ok-take_edge_at.ensures.ok) (λ k. i.mail.sent) c.swap_remove-message.ensures.updates.0).sound

@@ -71,3 +71,26 @@ invariant_of-self-2 c =
     let again : c.len-2.result ≡ c.len.result = c.len-2.ensures ∙ c.run_at.new.ranks.ok.0 ∙ e.count ∙ sym count in
     ran v h i.ranks.items count i.bench i.mail k c.run_at.new.ranks.items e.count e.others c.run_at.new.bench e.bench c.run_at.new.mail c.with_run-self-inside.result.state
     (c.with_run-self-inside.ensures ∙ ap (λ r. after_run i.matched.now i.given r i.history.state c.args.t.now) again) e.holds e.mail
+
+pub returns-clause-sound : goal.returns-clause-sound
+returns-clause-sound c =
+    let i = c.self.inside in
+    let k = c.self.invariant in
+    let count : c.len.result ≡ length i.ranks.items = c.len.ensures ∙ i.ranks.ok.0 in
+    let is : c.args.rank ≡ rank_of i.matched.now (length i.ranks.items) c.args.t.now = subst (λ (w : WorldView). c.args.rank ≡ rank_of w.plan w.ranks c.args.t.now) (sym c.self.view_is) c.requires.rank in
+    let v : Visit = record { matched = i.matched; given = record { ref_ptr = c.args.t.ref_ptr; now = i.given }; history = record { ref_ptr = c.args.t.ref_ptr; now = i.history }; ranks = c.len.result; task = c.args.t; locals = c.args.locals; rank = c.args.rank } in
+    let h : IsVisit (record { matched = i.matched; given = record { ref_ptr = c.args.t.ref_ptr; now = i.given }; history = record { ref_ptr = c.args.t.ref_ptr; now = i.history }; ranks = c.len.result; task = c.args.t; locals = c.args.locals; rank = c.args.rank }) = record {
+      consistent = k.consistent;
+      fit = k.fit;
+      well = c.colls.ensures.well_made;
+      some_ranks = omega (arith, count, k.some_ranks);
+      few_ranks = omega (arith, count, k.few_ranks);
+      sound = subst (λ r. IsSoundWorld i.matched.now i.given r i.history.state) (sym count) k.sound;
+      may = subst (λ (w : WorldView). MayClaim w.plan w.state.machine c.args.t.now) (sym c.self.view_is) c.requires.may;
+      locals_are = subst (λ (w : WorldView). c.args.locals.now ≡ locals_of w.plan c.args.t.now) (sym c.self.view_is) c.requires.locals;
+      rank_is = is ∙ ap (λ r. rank_of i.matched.now r c.args.t.now) (sym count);
+    } in
+    let e = c.in_ok-run_at.ensures in
+    let again : c.len-2.result ≡ c.len.result = c.len-2.ensures ∙ c.run_at.new.ranks.ok.0 ∙ e.count ∙ sym count in
+    (ran v h i.ranks.items count i.bench i.mail k c.run_at.new.ranks.items e.count e.others c.run_at.new.bench e.bench c.run_at.new.mail c.with_run-self-inside.result.state
+    (c.with_run-self-inside.ensures ∙ ap (λ r. after_run i.matched.now i.given r i.history.state c.args.t.now) again) e.holds e.mail).sound

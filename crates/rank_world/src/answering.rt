@@ -1,0 +1,34 @@
+//! The answer of a job that is run by ranks.
+
+ghost use Rattle.std.specs.Prelude.{◌≡◌, ◌<◌, ◌≤◌, IfOk};
+ghost use Rattle.plan_data.specs.Fit.{DataFit};
+ghost use Rattle.flow_meaning.specs.Answer as meaning;
+ghost use Rattle.rank_core.specs.Sound.{message_count};
+
+use crate::driving::drive;
+use crate::world::World;
+use coll_data::Given;
+use dep_iter::Matched;
+use flow_meaning::Outcome;
+use ptg_base::OutOfMemory;
+use std::alloc::Global;
+
+/// How many messages a run of a job by so many ranks sends, and the job's answer, from a world that is driven in the
+/// order of a seed.
+pub fn ranks_of(
+    alloc: Global,
+    m: &Matched,
+    given: Given,
+    ranks: u32,
+    seed: u64,
+) -> Result<(u64, Outcome), OutOfMemory>
+    requires fit { DataFit m.now.colls m.now.elems given }
+    requires ranks { (0 < ranks) × (ranks ≤ 64) }
+    ensures messages { IfOk result (λ r. r.0 ≡ message_count m.now given ranks) }
+    ensures answer { IfOk result (λ r. r.1 ≡ meaning.answer m.now given) }
+{
+    let mut world = World::new(alloc, m, given, ranks)?;
+    drive(&mut world, seed)?;
+    let messages = world.messages();
+    Ok((messages, world.answer()?))
+}

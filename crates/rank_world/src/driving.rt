@@ -1,0 +1,135 @@
+//! A world that is driven until nothing more can happen.
+
+ghost use Rattle.std.specs.Prelude.{◌≡◌, ◌<◌, ◌≤◌, IfNone, IfOk, IfSome, IsFalse, IsTrue, OnOk};
+ghost use Rattle.ptg_base.specs.Lists.{IsIn};
+ghost use Rattle.ptg_base.specs.Task.{Task};
+ghost use Rattle.flow_meaning.specs.Machine.{MayClaim};
+ghost use Rattle.rank_core.specs.declared.message.Message.{Message};
+ghost use Rattle.rank_core.specs.World.{IsQuiet, rank_of, stands};
+ghost use Rattle.rank_world.specs.Driving.{LeadsTo, turns_left};
+
+use crate::choices::{next_choice, pick_of, prefers_task, repeats};
+use crate::world::World;
+use ptg_base::{OutOfMemory, TaskId};
+
+// A task that may run of the ranks from the first on, up to the end.
+fn ready_among(world: &mut World<'_>, first: u32, end: u32) -> Option<TaskId>
+    requires { end ≤ world.old.ranks }
+    ensures same { world.new ≡ world.old }
+    ensures some { IfSome result (λ t. MayClaim world.old.plan world.old.state.machine t) }
+    ensures none { IfNone result ((t : Task) → first ≤ rank_of world.old.plan world.old.ranks t → rank_of world.old.plan world.old.ranks t < end → MayClaim world.old.plan world.old.state.machine t → ⊥) }
+{
+    for rank in first..end {
+        let task = world.ready(rank);
+        if task.is_some() {
+            return task;
+        }
+    }
+    None
+}
+
+// A task that may run. The ranks are looked through in a circle that begins at the first.
+fn ready_from(world: &mut World<'_>, first: u32) -> Option<TaskId>
+    requires { first < world.old.ranks }
+    ensures same { world.new ≡ world.old }
+    ensures some { IfSome result (λ t. MayClaim world.old.plan world.old.state.machine t) }
+    ensures none { IfNone result ((t : Task) → MayClaim world.old.plan world.old.state.machine t → ⊥) }
+{
+    let ranks = world.ranks();
+    let task = ready_among(world, first, ranks);
+    if task.is_some() {
+        return task;
+    }
+    ready_among(world, 0, first)
+}
+
+// Runs a task that may run, if there is one.
+fn run_some(world: &mut World<'_>, pick: u64) -> Result<bool, OutOfMemory>
+    ensures events { LeadsTo world.old world.new }
+    ensures fewer { IfOk result (λ ran. IsTrue ran → turns_left world.new < turns_left world.old) }
+    ensures same { IfOk result (λ ran. IsFalse ran → world.new ≡ world.old) }
+    ensures none { IfOk result (λ ran. IsFalse ran → (t : Task) → MayClaim world.old.plan world.old.state.machine t → ⊥) }
+{
+    let first = (pick % u64::from(world.ranks())) as u32;
+    match ready_from(world, first) {
+        Some(t) => world.run(&t),
+        None => Ok(false),
+    }
+}
+
+// Delivers a message whose edge does not stand, if there is one.
+fn deliver_some(world: &mut World<'_>, pick: u64) -> Result<bool, OutOfMemory>
+    ensures events { LeadsTo world.old world.new }
+    ensures fewer { IfOk result (λ came. IsTrue came → turns_left world.new < turns_left world.old) }
+    ensures same { IfOk result (λ came. IsFalse came → world.new ≡ world.old) }
+    ensures none { IfOk result (λ came. IsFalse came → (m : Message) → IsIn m world.old.state.messages → IsTrue (stands world.old.state.machine m)) }
+{
+    match world.late_message(pick) {
+        Some(number) => world.deliver(number),
+        None => Ok(false),
+    }
+}
+
+// Now and then delivers a message of all that were sent, mostly one that was delivered before.
+fn deliver_again(world: &mut World<'_>, x: u64) -> Result<(), OutOfMemory>
+    ensures events { LeadsTo world.old world.new }
+    ensures no_more { turns_left world.new ≤ turns_left world.old }
+{
+    let sent = world.messages();
+    if !repeats(x) || sent == 0 {
+        return Ok(());
+    }
+    let _stood_not = world.deliver(pick_of(x) % sent)?;
+    Ok(())
+}
+
+// Delivers a message whose edge does not stand; if there is none, runs a task that may run.
+fn message_first(world: &mut World<'_>, pick: u64) -> Result<bool, OutOfMemory>
+    ensures events { LeadsTo world.old world.new }
+    ensures fewer { IfOk result (λ more. IsTrue more → turns_left world.new < turns_left world.old) }
+    ensures quiet { IfOk result (λ more. IsFalse more → IsQuiet world.new.plan world.new.state) }
+{
+    if deliver_some(world, pick)? {
+        return Ok(true);
+    }
+    run_some(world, pick)
+}
+
+// The same, with the task first.
+fn task_first(world: &mut World<'_>, pick: u64) -> Result<bool, OutOfMemory>
+    ensures events { LeadsTo world.old world.new }
+    ensures fewer { IfOk result (λ more. IsTrue more → turns_left world.new < turns_left world.old) }
+    ensures quiet { IfOk result (λ more. IsFalse more → IsQuiet world.new.plan world.new.state) }
+{
+    if run_some(world, pick)? {
+        return Ok(true);
+    }
+    deliver_some(world, pick)
+}
+
+// One turn with a number of the generator: now and then an old message comes again, then a task runs or a message
+// comes whose edge does not stand. False only if nothing more can happen.
+fn take_turn(world: &mut World<'_>, x: u64) -> Result<bool, OutOfMemory>
+    ensures events { LeadsTo world.old world.new }
+    ensures fewer { IfOk result (λ more. IsTrue more → turns_left world.new < turns_left world.old) }
+    ensures quiet { IfOk result (λ more. IsFalse more → IsQuiet world.new.plan world.new.state) }
+{
+    deliver_again(world, x)?;
+    if prefers_task(x) {
+        return task_first(world, pick_of(x));
+    }
+    message_first(world, pick_of(x))
+}
+
+/// Runs tasks and delivers messages until the world is quiescent, in an order that a seed chooses; now and then an old
+/// message comes again. Without memory the world is left after the events so far.
+pub fn drive(world: &mut World<'_>, seed: u64) -> Result<(), OutOfMemory>
+    ensures events { LeadsTo world.old world.new }
+    ensures quiet { OnOk result (IsQuiet world.new.plan world.new.state) }
+{
+    let mut x = next_choice(seed);
+    'turns: while take_turn(world, x)? {
+        x = next_choice(x);
+    }
+    Ok(())
+}
