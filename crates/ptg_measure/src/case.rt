@@ -4,6 +4,7 @@ use crate::count::{Count, Failure};
 use crate::data_files::{ints, long_tiles, short_tiles};
 use crate::edges::{edges, job, star_edges};
 use crate::names::names;
+use crate::sizes::{size_of_line, size_of_square, size_with_sum};
 use crate::spaces::space;
 use crate::texts::tokens_of_text;
 use std::alloc::Global;
@@ -13,6 +14,12 @@ use std::alloc::Global;
 pub enum Case {
     /// A walk through a space of so many tasks, and the count of them by `space_size`.
     Space,
+    /// The count of so many tasks in one range, by `space_size` alone.
+    Size,
+    /// The same in two nested ranges of so many values each.
+    SizeOfSquare,
+    /// The same with a third definition that is derived.
+    SizeWithSum,
     /// A body run that makes so many turns of a loop.
     Body,
     /// The tokens of a JDF text of so many tokens.
@@ -38,6 +45,9 @@ impl Case {
     pub fn of(name: &str) -> Option<Case> {
         match name {
             "space" => Some(Case::Space),
+            "size" => Some(Case::Size),
+            "size_of_square" => Some(Case::SizeOfSquare),
+            "size_with_sum" => Some(Case::SizeWithSum),
             "body" => Some(Case::Body),
             "tokens" => Some(Case::Tokens),
             "long_tiles" => Some(Case::LongTiles),
@@ -56,6 +66,9 @@ impl Case {
 pub fn measure(alloc: Global, case: Case, size: u32) -> Result<Vec<Count>, Failure> {
     match case {
         Case::Space => space(alloc, size),
+        Case::Size => size_of_line(alloc, size),
+        Case::SizeOfSquare => size_of_square(alloc, size),
+        Case::SizeWithSum => size_with_sum(alloc, size),
         Case::Body => body(alloc, size),
         Case::Tokens => tokens_of_text(alloc, size),
         Case::LongTiles => long_tiles(alloc, size),

@@ -8,6 +8,7 @@ mod data_files;
 mod edges;
 mod jobs;
 mod names;
+mod sizes;
 mod spaces;
 mod texts;
 
@@ -17,8 +18,9 @@ use std::alloc::Global;
 use std::process::ExitCode;
 use std::{env, io};
 
-const USAGE: &str =
-    "usage: ptg_measure (space|body|tokens|long_tiles|short_tiles|ints|names|job|edges|star SIZE)..";
+const USAGE: &str = "usage: ptg_measure (CASE SIZE)..
+CASE is space, size, size_of_square, size_with_sum, body, tokens, long_tiles, short_tiles, ints, names, job, edges or
+star";
 
 // The case and the size that two words name.
 fn wanted(case: &String, size: &String) -> Option<(Case, u32)> {

@@ -1,0 +1,72 @@
+//! Counts of the tasks of a class by `space_size` alone.
+ghost use Rattle.std.specs.Prelude.{◌≤◌, IfOk, length};
+
+use crate::count::{Count, Failure};
+use ptg_base::Seq;
+use range_space::space_size;
+use std::alloc::Global;
+use term_core::{BinOp, ClassSpace, Def, Expr, Params, Range};
+
+// The values from 0 to below a count.
+fn below(count: u32) -> Def {
+    Def::Span(Range {
+        lo: Expr::num(0),
+        hi: Expr::num(i64::from(count) - 1),
+        step: None,
+    })
+}
+
+// `T(a)`: `a = 0 .. count - 1`.
+fn line(alloc: Global, count: u32) -> Result<ClassSpace, Failure>
+    ensures { IfOk result (λ space. length space.defs ≤ 16) }
+{
+    Ok(ClassSpace {
+        defs: Seq::of(vec![in alloc; below(count)]?),
+        params: Params::new(&[0]),
+    })
+}
+
+// `T(a, b)`: `a` and `b` are `0 .. side - 1` each.
+fn square(alloc: Global, side: u32) -> Result<ClassSpace, Failure>
+    ensures { IfOk result (λ space. length space.defs ≤ 16) }
+{
+    Ok(ClassSpace {
+        defs: Seq::of(vec![in alloc; below(side), below(side)]?),
+        params: Params::new(&[0, 1]),
+    })
+}
+
+// The same with a third definition, `c = a + b`.
+fn square_with_sum(alloc: Global, side: u32) -> Result<ClassSpace, Failure>
+    ensures { IfOk result (λ space. length space.defs ≤ 16) }
+{
+    let sum = Expr::binary(alloc, BinOp::Add, Expr::local(0), Expr::local(1))?;
+    Ok(ClassSpace {
+        defs: Seq::of(vec![in alloc; below(side), below(side), Def::Value(sum)]?),
+        params: Params::new(&[0, 1]),
+    })
+}
+
+// How many tasks a class has.
+fn counted(alloc: Global, class: ClassSpace) -> Result<Vec<Count>, Failure>
+    requires { length class.defs ≤ 16 }
+{
+    let classes = vec![in alloc; class]?;
+    let count = space_size(classes.as_slice()).map_err(|_| Failure::TooLarge)?;
+    Ok(vec![in alloc; Count::of("counted", count)]?)
+}
+
+/// A class of so many tasks in one range.
+pub fn size_of_line(alloc: Global, count: u32) -> Result<Vec<Count>, Failure> {
+    counted(alloc, line(alloc, count)?)
+}
+
+/// A class of two ranges of so many values each.
+pub fn size_of_square(alloc: Global, side: u32) -> Result<Vec<Count>, Failure> {
+    counted(alloc, square(alloc, side)?)
+}
+
+/// The same with a third definition, which is the sum of the two.
+pub fn size_with_sum(alloc: Global, side: u32) -> Result<Vec<Count>, Failure> {
+    counted(alloc, square_with_sum(alloc, side)?)
+}
