@@ -30,7 +30,7 @@ VERBS = {
     "show": Verb("prints the canonical spelling of a JDF", {"JDF": FILE}),
     "demo": Verb("runs a made job of N rows of tiles, N from 1 to 96", {"N": (1, 96)}),
     "trace": Verb("runs a job and prints its trace", {"JDF": FILE, "DATA": FILE}, (WORKERS, SHARDS), carried_out=False),
-    "replay": Verb("replays a trace of a job", {"JDF": FILE, "DATA": FILE, "TRACE": FILE}, carried_out=False),
+    "replay": Verb("runs a job in the order of a trace", {"JDF": FILE, "DATA": FILE, "TRACE": FILE}),
     "certify": Verb("runs a job, and prints a heaviest chain of its tasks, or a cycle", {"JDF": FILE, "DATA": FILE}),
     "ranks": Verb("runs a job on R ranks, R from 1 to 64", {"JDF": FILE, "DATA": FILE, "R": (1, 64), "SEED": (0, 2**64 - 1)}, carried_out=False),
 }
@@ -55,6 +55,9 @@ class Command:
 
     def data(self):
         return next(iter(self.files()[1:]), None)
+
+    def trace(self):
+        return next(iter(self.files()[2:]), None)
 
 
 def is_number(text, least, most):

@@ -13,7 +13,7 @@ use Rattle.jdf_read.proofs.Either.{tree_or_fault}
 use Rattle.job_stages.specs.declared.verdict.JobVerdict.TheVariants as jobs
 use Rattle.job_stages.proofs.Always.{texts_some}
 use Rattle.ptg_top.specs.declared.request.Request.{Request}
-use Rattle.ptg_top.specs.declared.request.Request.TheVariants.{Run, Show, Check, Demo, Certify}
+use Rattle.ptg_top.specs.declared.request.Request.TheVariants.{Run, Show, Check, Demo, Replay, Certify}
 use Rattle.ptg_top.specs.Denotation as verdicts
 use Rattle.ptg_top.specs.Denotation.{Denotation}
 use Rattle.ptg_top.specs.Requests.{Requests, request_of}
@@ -28,6 +28,8 @@ use Rattle.dep_iter.specs.Consistent.{IsConsistent}
 use Rattle.chain_cert.specs.Weights.{class_weights}
 use Rattle.chain_exists.proofs.Existing.{some_certificate}
 use Rattle.ptg_top.specs.Certify.{IsCertified, certified}
+use Rattle.trace_exists.proofs.Either.{fault_or_trace}
+use Rattle.ptg_top.specs.Replay.{IsReplayed}
 use Rattle.ptg_top.specs.Demo.{DemoDenotes, IsSummary, summed}
 use Rattle.ptg_top.specs.declared.verdict.Finding.TheVariants.{Answer}
 use Rattle.ptg_top.specs.Preload.{is_too_large}
@@ -96,6 +98,22 @@ certify_some files jdf tiles =
     let found = some_on IsCertified checked.0 (λ P given is. certified_some P given (contents_consistent jdf tiles a b P given (subst (ContentsDenote jdf tiles a b) is checked.1))) in
     (found.0, (checked.0, checked.1, found.1))
 
+replayed_some : (trace : List ℕ) (content : Option (List ℕ)) (P : Plan) (given : Data) → IsConsistent P → (v : Denotation) × IsReplayed trace content P given v
+replayed_some trace None P given con = (verdicts.Unread trace, refl)
+replayed_some trace (Some text) P given con = elim (fault_or_trace P given con text) [
+  | inl p ↦ (verdicts.Trace p.0, inl (p.0, p.1, refl))
+  | inr found ↦ (verdicts.Ran P (Answer (answer P given)), inr (found, refl))
+]
+
+replay_some : (files : Entries) (jdf tiles trace : List ℕ) → (v : Denotation) × RequestDenotes files (Replay jdf tiles trace) v
+replay_some files jdf tiles trace =
+    let a = file_of files jdf in
+    let b = file_of files tiles in
+    let content = file_of files trace in
+    let checked = contents_some jdf tiles a b in
+    let found = some_on (IsReplayed trace content) checked.0 (λ P given is. replayed_some trace content P given (contents_consistent jdf tiles a b P given (subst (ContentsDenote jdf tiles a b) is checked.1))) in
+    (found.0, (checked.0, checked.1, found.1))
+
 request_some : (files : Entries) (request : Request) → (v : Denotation) × RequestDenotes files request v
 request_some files (Run jdf tiles settings) = let checked = contents_some jdf tiles (file_of files jdf) (file_of files tiles) in
     let found = some_on (IsAnswer settings) checked.0 (λ P given is. (if is_too_large settings P then verdicts.Preload else verdicts.Ran P (Answer (answer P given)), refl)) in
@@ -103,6 +121,7 @@ request_some files (Run jdf tiles settings) = let checked = contents_some jdf ti
 request_some files (Show jdf) = content_shows_some jdf (file_of files jdf)
 request_some files (Check jdf tiles) = contents_some jdf tiles (file_of files jdf) (file_of files tiles)
 request_some files (Demo rows) = demo_some rows
+request_some files (Replay jdf tiles trace) = replay_some files jdf tiles trace
 request_some files (Certify jdf tiles) = certify_some files jdf tiles
 
 -- ---- arguments and files

@@ -7,10 +7,9 @@ use Rattle.ptg_base.specs.Task.{Task}
 use Rattle.coll_data.specs.Data.{Data}
 use Rattle.plan_core.specs.declared.plan.Plan.{Plan}
 use Rattle.range_space.proofs.MemberLists.{IsIn-map}
-use Rattle.dep_iter.specs.Tasks.{IsTask}
 use Rattle.flow_meaning.specs.Answer.{answer}
 use Rattle.flow_meaning.specs.declared.outcome.Outcome.{Outcome}
-use Rattle.flow_meaning.specs.declared.outcome.Outcome.TheVariants.{Complete, Stalled, Trapped}
+use Rattle.flow_meaning.specs.declared.outcome.Outcome.TheVariants.{Complete, Stalled}
 use Rattle.report_text.specs.Rows.{HasClass}
 use Rattle.report_text.proofs.PlanRows.{has_class}
 use Rattle.run_pool.specs.declared.settings.Settings.{Settings}

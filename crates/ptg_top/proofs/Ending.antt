@@ -57,6 +57,7 @@ of_texts (verdicts.Ran P (findings.Chain found)) h = (λ e. absurd cc, λ e. abs
 of_texts (verdicts.Ran P (findings.Cycle found)) h = (λ e. absurd cc, λ e. absurd cc, λ e. absurd cc)
 of_texts (verdicts.Spelling text) h = (λ e. absurd cc, λ e. absurd cc, λ e. absurd cc)
 of_texts verdicts.Preload h = (λ e. absurd cc, λ e. absurd cc, λ e. absurd cc)
+of_texts (verdicts.Trace fault) h = (λ e. absurd cc, λ e. absurd cc, λ e. absurd cc)
 
 not_usage : ◌≡◌ {A = Status} status.ReadFault status.Usage → ⊥
 not_usage e = absurd cc

@@ -2,6 +2,7 @@ pub mod Requested
 pub mod Settings
 pub mod Checked
 pub mod Answered
+pub mod Replayed
 pub mod Summed
 pub mod Preloads
 pub mod TableRuns

@@ -7,7 +7,7 @@ use Rattle.jdf_tree.specs.declared.tree.Jdf.{Jdf}
 use Rattle.jdf_print.specs.Spelling.{spelling}
 use Rattle.jdf_read.proofs.Once.{one_tree}
 use Rattle.ptg_top.specs.declared.request.Request.{Request}
-use Rattle.ptg_top.specs.declared.request.Request.TheVariants.{Run, Show, Check, Demo, Certify}
+use Rattle.ptg_top.specs.declared.request.Request.TheVariants.{Run, Show, Check, Demo, Replay, Certify}
 use Rattle.ptg_top.specs.Denotation as verdicts
 use Rattle.ptg_top.specs.Denotation.{Denotation}
 use Rattle.ptg_top.specs.JobFiles.{Entries, ContentsDenote}
@@ -24,6 +24,9 @@ use Rattle.chain_cert.specs.declared.certificate.Certificate.{Certificate}
 use Rattle.chain_cert.proofs.Unique.{one}
 use Rattle.ptg_top.specs.Certify.{IsCertified, certified}
 use Rattle.ptg_top.specs.Demo.{DemoDenotes, IsSummary}
+use Rattle.trace_core.proofs.OneFault.{one_fault}
+use Rattle.trace_exists.proofs.Either.{trace_or_fault}
+use Rattle.ptg_top.specs.Replay.{IsReplayed, IsReplayOf}
 use Rattle.ptg_top.proofs.Answered.{once_on}
 use Rattle.ptg_top.proofs.Requested.{one_request}
 use Rattle.ptg_top.proofs.Checked.{refused_once, refused_or_read, contents_consistent, contents_once, job_texts_once}
@@ -58,6 +61,26 @@ certify_once files jdf tiles v w (a, h, e) (b, k, d) =
     (λ P given is. certified_once P given v w (contents_consistent jdf tiles a_file b_file P given (subst (ContentsDenote jdf tiles a_file b_file) is k)))
     (subst (λ (c : Denotation). OnConsistent IsCertified c v) (contents_once jdf tiles a_file b_file a b h k) e) d
 
+-- a text has one first fault, or is a trace
+replay_of_once : (P : Plan) (given : Data) (text : List ℕ) (v w : Denotation) → IsConsistent P → IsReplayOf text P given v → IsReplayOf text P given w → v ≡ w
+replay_of_once P given text v w con (inl (f, h, e)) (inl (g, k, d)) = e ∙ (ap verdicts.Trace (one_fault P given text f g h k) ∙ sym d)
+replay_of_once P given text v w con (inl (f, h, e)) (inr (trace, d)) = absurd (trace_or_fault P given con text trace f h)
+replay_of_once P given text v w con (inr (trace, e)) (inl (g, k, d)) = absurd (trace_or_fault P given con text trace g k)
+replay_of_once P given text v w con (inr (trace, e)) (inr (other, d)) = e ∙ sym d
+
+replayed_once : (trace : List ℕ) (content : Option (List ℕ)) (P : Plan) (given : Data) (v w : Denotation) → IsConsistent P → IsReplayed trace content P given v → IsReplayed trace content P given w → v ≡ w
+replayed_once trace None P given v w con h k = h ∙ sym k
+replayed_once trace (Some text) P given v w con h k = replay_of_once P given text v w con h k
+
+replay_once : (files : Entries) (jdf tiles trace : List ℕ) (v w : Denotation) → RequestDenotes files (Replay jdf tiles trace) v → RequestDenotes files (Replay jdf tiles trace) w → v ≡ w
+replay_once files jdf tiles trace v w (a, h, e) (b, k, d) =
+    let a_file = file_of files jdf in
+    let b_file = file_of files tiles in
+    let Verb = IsReplayed trace (file_of files trace) in
+    once_on Verb b v w
+    (λ P given is. replayed_once trace (file_of files trace) P given v w (contents_consistent jdf tiles a_file b_file P given (subst (ContentsDenote jdf tiles a_file b_file) is k)))
+    (subst (λ (c : Denotation). OnConsistent Verb c v) (contents_once jdf tiles a_file b_file a b h k) e) d
+
 -- what is asked and the files denote one verdict at most
 request_once : (files : Entries) (request : Request) (v w : Denotation) → RequestDenotes files request v → RequestDenotes files request w → v ≡ w
 request_once files (Run jdf tiles settings) v w (a, h, e) (b, k, d) =
@@ -66,6 +89,7 @@ request_once files (Run jdf tiles settings) v w (a, h, e) (b, k, d) =
 request_once files (Show jdf) v w h k = content_shows_once jdf (file_of files jdf) v w h k
 request_once files (Check jdf tiles) v w h k = contents_once jdf tiles (file_of files jdf) (file_of files tiles) v w h k
 request_once files (Demo rows) v w h k = demo_once rows v w h k
+request_once files (Replay jdf tiles trace) v w h k = replay_once files jdf tiles trace v w h k
 request_once files (Certify jdf tiles) v w h k = certify_once files jdf tiles v w h k
 
 pub one_meaning : OneMeaning

@@ -13,13 +13,13 @@ use Rattle.ptg_words.specs.Words.{Orders}
 use Rattle.job_stages.specs.declared.verdict.JobVerdict.TheVariants as jobs
 use Rattle.run_pool.specs.declared.settings.Settings.{Settings}
 use Rattle.ptg_top.specs.declared.request.Request.{Request}
-use Rattle.ptg_top.specs.declared.request.Request.TheVariants.{Run, Show, Check, Demo, Certify}
+use Rattle.ptg_top.specs.declared.request.Request.TheVariants.{Run, Show, Check, Demo, Replay, Certify}
 use Rattle.ptg_top.specs.declared.status.Status.{Status}
 use Rattle.ptg_top.specs.declared.verdict.Finding.{Finding}
 use Rattle.ptg_top.specs.declared.verdict.Finding.TheVariants as findings
-use Rattle.ptg_top.specs.declared.verdict.RanBy.TheVariants.{Table}
+use Rattle.ptg_top.specs.declared.verdict.RanBy.TheVariants.{Table, OneThread}
 use Rattle.ptg_top.specs.declared.verdict.Verdict.{Verdict}
-use Rattle.ptg_top.specs.declared.verdict.Verdict.TheVariants.{Usage, Unread, Job, Ran, Spelling, Preload}
+use Rattle.ptg_top.specs.declared.verdict.Verdict.TheVariants.{Usage, Unread, Job, Ran, Spelling, Preload, Trace}
 use Rattle.ptg_top.specs.Answering.{IsAnswer, OnConsistent}
 use Rattle.ptg_top.specs.Denotation as verdicts
 use Rattle.ptg_top.specs.Denotation.{Denotation, denoted}
@@ -30,7 +30,8 @@ use Rattle.ptg_top.specs.Meaning.{ContentShows, Denotes, RequestDenotes}
 use Rattle.ptg_top.specs.Reports.{IsVerdictOnWords}
 use Rattle.ptg_top.specs.Requests.{request_of}
 use Rattle.ptg_top.specs.Certify.{IsCertified}
-use Rattle.ptg_top.specs.Demo.{IsSummary, MadeTextsDenote, summed}
+use Rattle.ptg_top.specs.Demo.{IsSummary, MadeTextsDenote}
+use Rattle.ptg_top.specs.Replay.{IsReplayed}
 use Rattle.ptg_top.specs.Findings.{status_of_finding}
 use Rattle.ptg_top.specs.Headline.{status_of}
 use Rattle.ptg_top.specs.Tables.{usual_settings}
@@ -64,6 +65,9 @@ module _ (r : ReceiptView) (finding : Finding) where
   receipt_of_order (order.Demo rows) request e h =
       let same : request ≡ Demo rows = cc in
       subst (λ (q : Request). IsRunAsAsked q (Ran (Table r) finding)) same h
+  receipt_of_order (order.Replay j t l) request e h =
+      let same : request ≡ Replay j t l = cc in
+      absurd (some_is_not_none r (subst (λ (q : Request). IsRunAsAsked q (Ran (Table r) finding)) same h))
   receipt_of_order (order.Certify j t) request e h =
       let same : request ≡ Certify j t = cc in
       subst (λ (q : Request). IsRunAsAsked q (Ran (Table r) finding)) same h
@@ -86,6 +90,8 @@ module _ (words : List (List ℕ)) (contents : Option Entries) (old new : List �
   asked_receipt (Job job) s judged ran e = tt
   asked_receipt (Spelling text) s judged ran e = tt
   asked_receipt Preload s judged ran e = tt
+  asked_receipt (Ran (OneThread matched) finding) s judged ran e = tt
+  asked_receipt (Trace fault) s judged ran e = tt
 
   pub receipt_is_asked : (v : Verdict) (s : Status) (found : Option ReceiptView) → IsVerdictOnWords words contents old new (denoted v) → IsRunAsOrdered words v → s ≡ status_of (denoted v) → found ≡ receipt_of v
       → IfSome found (λ r. (o : Order) × Orders words o × IsReceiptFor o r × IsAnswerStatus s)
@@ -114,6 +120,8 @@ module _ (words : List (List ℕ)) (s : Status) where
   no_answer (Job job) ran e = unanswered (Job job) ran (λ settings h status. h (subst IsAnswerStatus e status))
   no_answer (Spelling text) ran e = unanswered (Spelling text) ran (λ settings h status. h (subst IsAnswerStatus e status))
   no_answer Preload ran e = unanswered Preload ran (λ settings h status. h (subst IsAnswerStatus e status))
+  no_answer (Ran (OneThread matched) finding) ran e = unanswered (Ran (OneThread matched) finding) ran (λ settings h status. h)
+  no_answer (Trace fault) ran e = unanswered (Trace fault) ran (λ settings h status. h (subst IsAnswerStatus e status))
 
   pub no_receipt_no_answer : (v : Verdict) (found : Option ReceiptView) → IsRunAsOrdered words v → s ≡ status_of (denoted v) → found ≡ receipt_of v
       → IfNone found ((o : Order) → Orders words o → IsRun o → IsAnswerStatus s → ⊥)
@@ -153,6 +161,11 @@ module _ (P : Plan) (finding : Finding) where
   of_summary : (n : ℕ) (Q : Plan) (given : Data) → IsSummary n Q given (verdicts.Ran P finding) → Q ≡ P
   of_summary n Q given e = cc
 
+  of_replayed : (trace : List ℕ) (content : Option (List ℕ)) (Q : Plan) (given : Data) → IsReplayed trace content Q given (verdicts.Ran P finding) → Q ≡ P
+  of_replayed trace None Q given e = absurd cc
+  of_replayed trace (Some text) Q given (inl (fault, h, e)) = absurd cc
+  of_replayed trace (Some text) Q given (inr (found, e)) = cc
+
   of_certified : (Q : Plan) (given : Data) → IsCertified Q given (verdicts.Ran P finding) → Q ≡ P
   of_certified Q given (c, h, e) = cc
 
@@ -174,6 +187,10 @@ module _ (P : Plan) (finding : Finding) where
         let same : request ≡ Demo rows = cc in
         let at : RequestDenotes files (Demo rows) (verdicts.Ran P finding) = subst (λ (q : Request). RequestDenotes files q (verdicts.Ran P finding)) same h in
         plan_is_found (MadeTextsDenote rows) (IsSummary rows) (no_texts_are_run jdf_text (data_text rows)) (of_summary rows) at.0 at.1 at.2
+    order_finds (order.Replay j t l) request e h =
+        let same : request ≡ Replay j t l = cc in
+        let at : RequestDenotes files (Replay j t l) (verdicts.Ran P finding) = subst (λ (q : Request). RequestDenotes files q (verdicts.Ran P finding)) same h in
+        plan_is_found (FilesDenote files j t) (IsReplayed l (file_of files l)) (no_contents_are_run j t (file_of files j) (file_of files t)) (of_replayed l (file_of files l)) at.0 at.1 at.2
     order_finds (order.Certify j t) request e h =
         let same : request ≡ Certify j t = cc in
         let at : RequestDenotes files (Certify j t) (verdicts.Ran P finding) = subst (λ (q : Request). RequestDenotes files q (verdicts.Ran P finding)) same h in
@@ -197,6 +214,8 @@ module _ (words : List (List ℕ)) (files : Entries) (contents : Option Entries)
   has_plan (Job job) judged known = tt
   has_plan (Spelling text) judged known = tt
   has_plan Preload judged known = tt
+  has_plan (Ran (OneThread matched) finding) judged known = tt
+  has_plan (Trace fault) judged known = tt
 
   pub receipt_has_plan : (v : Verdict) (found : Option ReceiptView) → IsVerdictOnWords words contents old new (denoted v) → contents ≡ Some files → found ≡ receipt_of v
       → IfSome found (λ r. HasConsistentPlan words files r.plan)

@@ -7,7 +7,7 @@ use Rattle.ptg_words.specs.Laws.{AreText, FilesAreText, HasNumbersInRange, Numbe
 use Rattle.ptg_words.specs.Words.{Orders}
 use Rattle.ptg_words.proofs.OneOrder.{one_order}
 use Rattle.ptg_top.specs.declared.request.Request.{Request}
-use Rattle.ptg_top.specs.declared.request.Request.TheVariants.{Run, Show, Check, Demo, Certify}
+use Rattle.ptg_top.specs.declared.request.Request.TheVariants.{Run, Show, Check, Demo, Replay, Certify}
 use Rattle.ptg_top.specs.Requests.{Requests, request_of}
 use Rattle.ptg_top.specs.Reports.{IsProper}
 
@@ -26,6 +26,7 @@ asked_is_proper (order.Show j) m n r e = let same : Show j ≡ r = cc in subst I
 asked_is_proper (order.Check j t) m n r e = let same : Check j t ≡ r = cc in subst IsProper same (m.0, m.1.0)
 asked_is_proper (order.Demo rows) m n r e =
     let same : Demo rows ≡ r = cc in subst IsProper same n
+asked_is_proper (order.Replay j t l) m n r e = let same : Replay j t l ≡ r = cc in subst IsProper same (m.0, m.1.0, m.1.1.0)
 asked_is_proper (order.Certify j t) m n r e = let same : Certify j t ≡ r = cc in subst IsProper same (m.0, m.1.0)
 asked_is_proper o m n r e = absurd cc
 

@@ -1,7 +1,7 @@
 -- The exit status of the process for each way in which a run ends. Source: this project's own choice.
 use Rattle.std.specs.Prelude.{ℕ}
 use Rattle.ptg_top.specs.declared.status.Status.{Status}
-use Rattle.ptg_top.specs.declared.status.Status.TheVariants.{Complete, Usage, JdfRefused, DataRefused, Inconsistent, Trapped, Stalled, ReadFault, WriteFault, OutOfMemory, PreloadTooLarge}
+use Rattle.ptg_top.specs.declared.status.Status.TheVariants.{Complete, Usage, JdfRefused, DataRefused, Inconsistent, Trapped, Stalled, ReadFault, WriteFault, OutOfMemory, PreloadTooLarge, TraceRefused}
 
 abbrev pub code_of : Status → ℕ
 code_of Complete = 0
@@ -15,3 +15,4 @@ code_of ReadFault = 7
 code_of WriteFault = 8
 code_of OutOfMemory = 9
 code_of PreloadTooLarge = 10
+code_of TraceRefused = 11

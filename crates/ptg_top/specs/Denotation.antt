@@ -2,14 +2,15 @@
 use Rattle.std.specs.Prelude.{ℕ, List}
 use Rattle.plan_core.specs.declared.plan.Plan.{Plan}
 use Rattle.job_stages.specs.declared.verdict.JobVerdict.{JobVerdict}
+use Rattle.trace_core.specs.declared.fault.TraceFault.{TraceFault}
 use Rattle.ptg_top.specs.declared.verdict.Finding.{Finding}
 use Rattle.ptg_top.specs.declared.verdict.RanBy.{RanBy}
-use Rattle.ptg_top.specs.declared.verdict.RanBy.TheVariants.{Table}
+use Rattle.ptg_top.specs.declared.verdict.RanBy.TheVariants.{Table, OneThread}
 use Rattle.ptg_top.specs.declared.verdict.Verdict.{Verdict}
 use Rattle.ptg_top.specs.declared.verdict.Verdict.TheVariants as verdicts
 
 -- The arguments form no command; the file of this name could not be read; a refusal, or a job that was found consistent; what is
--- found of the answer of a job with this plan; the canonical spelling of a JDF; a preload that is too large.
+-- found of the answer of a job with this plan; the canonical spelling of a JDF; a preload that is too large; the first fault of a trace.
 pub data Denotation : Type 0 where
   Usage : Denotation
   Unread : List ℕ → Denotation
@@ -17,10 +18,12 @@ pub data Denotation : Type 0 where
   Ran : Plan → Finding → Denotation
   Spelling : List ℕ → Denotation
   Preload : Denotation
+  Trace : TraceFault → Denotation
 
 -- the plan of the job that was run
 abbrev pub plan_of : RanBy → Plan
 plan_of (Table receipt) = receipt.plan
+plan_of (OneThread matched) = matched
 
 -- what a verdict says, whoever ran the job
 abbrev pub denoted : Verdict → Denotation
@@ -30,3 +33,4 @@ denoted (verdicts.Job job) = Job job
 denoted (verdicts.Ran by finding) = Ran (plan_of by) finding
 denoted (verdicts.Spelling text) = Spelling text
 denoted verdicts.Preload = Preload
+denoted (verdicts.Trace fault) = Trace fault

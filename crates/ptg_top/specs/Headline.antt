@@ -3,8 +3,10 @@ use Rattle.std.specs.Prelude.{◌≡◌, ℕ, List, [], ◌∷◌, Option, codes
 use Rattle.ptg_io.specs.Sink.{appended}
 use Rattle.report_text.specs.Field.{line}
 use Rattle.report_text.specs.Puts.{HasPrefix}
+use Rattle.report_text.specs.Refusal.{refusal_text}
+use Rattle.report_text.specs.declared.refusal_line.Line.TheVariants as line_of
 use Rattle.ptg_top.specs.declared.status.Status.{Status}
-use Rattle.ptg_top.specs.declared.status.Status.TheVariants.{Complete, Usage, JdfRefused, DataRefused, Inconsistent, Trapped, Stalled, ReadFault, WriteFault, OutOfMemory, PreloadTooLarge}
+use Rattle.ptg_top.specs.declared.status.Status.TheVariants.{Complete, Usage, JdfRefused, DataRefused, Inconsistent, Trapped, Stalled, ReadFault, WriteFault, OutOfMemory, PreloadTooLarge, TraceRefused}
 use Rattle.ptg_top.specs.Denotation as verdicts
 use Rattle.ptg_top.specs.Denotation.{Denotation}
 use Rattle.ptg_top.specs.Findings.{finding_text, status_of_finding}
@@ -33,6 +35,7 @@ text_of (verdicts.Job job) = job_text job
 text_of (verdicts.Ran P finding) = finding_text P finding
 text_of (verdicts.Spelling text) = text
 text_of verdicts.Preload = preload_line
+text_of (verdicts.Trace fault) = refusal_text (line_of.Trace fault)
 
 -- and its status
 abbrev pub status_of : Denotation → Status
@@ -42,6 +45,7 @@ status_of (verdicts.Job job) = status_of_job job
 status_of (verdicts.Ran P finding) = status_of_finding finding
 status_of (verdicts.Spelling text) = Complete
 status_of verdicts.Preload = PreloadTooLarge
+status_of (verdicts.Trace fault) = TraceRefused
 
 -- the statuses of a verdict, where no failed read or write and no want of memory took its place
 abbrev pub IsExact : Status → Type 0
@@ -56,6 +60,7 @@ IsExact ReadFault = ⊥
 IsExact WriteFault = ⊥
 IsExact OutOfMemory = ⊥
 IsExact PreloadTooLarge = Unit {0}
+IsExact TraceRefused = Unit {0}
 
 -- the sink grew by exactly the text of the verdict that the arguments and the files denote (one at most), and this is its status
 pub record Prints (words : List (List ℕ)) (files : Entries) (before after : Option (List ℕ)) (status : Status) : Type 0 where

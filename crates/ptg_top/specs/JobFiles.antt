@@ -46,6 +46,7 @@ HasFittingJob (verdicts.Job job) = HasFittingData job
 HasFittingJob (verdicts.Ran P finding) = IsFindingOf P finding
 HasFittingJob (verdicts.Spelling text) = Unit {0}
 HasFittingJob verdicts.Preload = Unit {0}
+HasFittingJob (verdicts.Trace fault) = Unit {0}
 
 -- a verdict of `check`: a file that could not be read, or what two texts come to, with data that fit a consistent job's plan
 abbrev pub IsChecked : Denotation → Type 0

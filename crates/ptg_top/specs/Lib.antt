@@ -7,10 +7,11 @@ pub mod Answering
 pub mod JobFiles
 pub mod Demo
 pub mod Certify
+pub mod Replay
 pub mod Meaning
 pub mod Settings
-pub mod Steps
 pub mod Reports
+pub mod Steps
 pub mod JobText
 pub mod Headline
 pub mod Receipts

@@ -2,11 +2,14 @@
 -- of the stages.
 use Rattle.std.specs.Prelude.{◌≡◌, ◌⊎◌, ℕ, List, Option, Some, None}
 use Rattle.ptg_io.specs.Files.{file_of}
+use Rattle.coll_data.specs.Data.{Data}
+use Rattle.plan_core.specs.declared.plan.Plan.{Plan}
 use Rattle.jdf_tree.specs.declared.tree.Jdf.{Jdf}
 use Rattle.jdf_tree.specs.Jdf.{IsJdf}
 use Rattle.jdf_print.specs.Spelling.{spelling}
+use Rattle.job_stages.specs.declared.verdict.JobVerdict.TheVariants as jobs
 use Rattle.ptg_top.specs.declared.request.Request.{Request}
-use Rattle.ptg_top.specs.declared.request.Request.TheVariants.{Run, Show, Check, Demo, Certify}
+use Rattle.ptg_top.specs.declared.request.Request.TheVariants.{Run, Show, Check, Demo, Replay, Certify}
 use Rattle.ptg_top.specs.Denotation as verdicts
 use Rattle.ptg_top.specs.Denotation.{Denotation}
 use Rattle.ptg_top.specs.Requests.{Requests}
@@ -14,6 +17,7 @@ use Rattle.ptg_top.specs.JobFiles.{Entries, TreeAt, RefusesText, FilesDenote}
 use Rattle.ptg_top.specs.Answering.{IsAnswer, OnConsistent}
 use Rattle.ptg_top.specs.Certify.{IsCertified}
 use Rattle.ptg_top.specs.Demo.{DemoDenotes}
+use Rattle.ptg_top.specs.Replay.{IsReplayed}
 
 -- the arguments form no command that is carried out
 abbrev pub IsNoOrder : List (List ℕ) → Type 0
@@ -29,13 +33,15 @@ ContentShows name None v = v ≡ verdicts.Unread name
 ContentShows name (Some text) v = Shows text v
 
 -- What the files denote for what is asked: `run` refuses what `check` refuses; of a job that `check` finds consistent it refuses a
--- preload that is too large, or answers the job. `certify` refuses what `check` refuses, and finds the certificate of a consistent job.
--- `demo` reads no file.
+-- preload that is too large, or answers the job. `replay` and `certify` refuse what `check` refuses; of a consistent job `replay` gives
+-- the verdict on the trace file, and `certify` finds the certificate. `demo` reads no file.
 abbrev pub RequestDenotes : Entries → Request → Denotation → Type 0
 RequestDenotes files (Run jdf tiles settings) v = (checked : Denotation) × FilesDenote files jdf tiles checked × OnConsistent (IsAnswer settings) checked v
 RequestDenotes files (Show jdf) v = ContentShows jdf (file_of files jdf) v
 RequestDenotes files (Check jdf tiles) v = FilesDenote files jdf tiles v
 RequestDenotes files (Demo rows) v = DemoDenotes rows v
+RequestDenotes files (Replay jdf tiles trace) v =
+    (checked : Denotation) × FilesDenote files jdf tiles checked × OnConsistent (IsReplayed trace (file_of files trace)) checked v
 RequestDenotes files (Certify jdf tiles) v = (checked : Denotation) × FilesDenote files jdf tiles checked × OnConsistent IsCertified checked v
 
 -- The arguments and the files denote this verdict: usage, if the arguments form no command; else what the files denote for what
@@ -57,14 +63,22 @@ abbrev pub IsUnreadOf : Option Entries → List ℕ → List ℕ → List ℕ �
 IsUnreadOf contents jdf tiles name =
     (name ≡ jdf) ⊎ ((name ≡ tiles) × ((files : Entries) → contents ≡ Some files → (J : Jdf) × TreeAt files jdf J))
 
+-- this is the trace file, and the other two are those of a consistent job, where the contents are known
+abbrev pub IsUnreadTrace : Option Entries → List ℕ → List ℕ → List ℕ → List ℕ → Type 0
+IsUnreadTrace contents jdf tiles trace name =
+    (name ≡ trace)
+    × ((files : Entries) → contents ≡ Some files → (P : Plan) × (given : Data) × FilesDenote files jdf tiles (verdicts.Job (jobs.Consistent P given)))
+
 -- the names that `unread` may have for what is asked
 abbrev pub MayBeUnreadFor : Option Entries → Request → List ℕ → Type 0
 MayBeUnreadFor contents (Run jdf tiles settings) name = IsUnreadOf contents jdf tiles name
 MayBeUnreadFor contents (Show jdf) name = name ≡ jdf
 MayBeUnreadFor contents (Check jdf tiles) name = IsUnreadOf contents jdf tiles name
 MayBeUnreadFor contents (Demo rows) name = ⊥
+MayBeUnreadFor contents (Replay jdf tiles trace) name = IsUnreadOf contents jdf tiles name ⊎ IsUnreadTrace contents jdf tiles trace name
 MayBeUnreadFor contents (Certify jdf tiles) name = IsUnreadOf contents jdf tiles name
 
--- the names that `unread` may have: the JDF file's, or the data file's if the JDF is the text of a tree, where the contents are known
+-- the names that `unread` may have: the JDF file's; the data file's if the JDF is the text of a tree, or the trace file's if the other
+-- two are those of a consistent job, where the contents are known
 abbrev pub MayBeUnread : List (List ℕ) → Option Entries → List ℕ → Type 0
 MayBeUnread words contents name = (request : Request) × Requests words request × MayBeUnreadFor contents request name

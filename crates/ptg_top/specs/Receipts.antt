@@ -48,6 +48,7 @@ IsAnswerStatus s = ⊥
 abbrev pub FindsPlan : Entries → Order → Plan → Type 0
 FindsPlan files (order.Run jdf tiles workers shards preload) P = (given : Data) × FilesDenote files jdf tiles (verdicts.Job (jobs.Consistent P given))
 FindsPlan files (order.Demo rows) P = (given : Data) × MadeTextsDenote rows (verdicts.Job (jobs.Consistent P given))
+FindsPlan files (order.Replay jdf tiles trace) P = (given : Data) × FilesDenote files jdf tiles (verdicts.Job (jobs.Consistent P given))
 FindsPlan files (order.Certify jdf tiles) P = (given : Data) × FilesDenote files jdf tiles (verdicts.Job (jobs.Consistent P given))
 FindsPlan files o P = ⊥
 

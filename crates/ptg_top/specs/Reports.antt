@@ -5,7 +5,7 @@ use Rattle.std.specs.Str.{IsUtf8}
 use Rattle.ptg_io.specs.Faults.{Rose}
 use Rattle.ptg_words.specs.Laws.{AreCounts}
 use Rattle.ptg_top.specs.declared.request.Request.{Request}
-use Rattle.ptg_top.specs.declared.request.Request.TheVariants.{Run, Show, Check, Demo, Certify}
+use Rattle.ptg_top.specs.declared.request.Request.TheVariants.{Run, Show, Check, Demo, Replay, Certify}
 use Rattle.ptg_top.specs.Denotation as verdicts
 use Rattle.ptg_top.specs.Denotation.{Denotation}
 use Rattle.ptg_top.specs.Requests.{Requests}
@@ -20,6 +20,7 @@ IsOfTexts (verdicts.Job job) = Unit {0}
 IsOfTexts (verdicts.Ran P finding) = Unit {0}
 IsOfTexts (verdicts.Spelling text) = Unit {0}
 IsOfTexts verdicts.Preload = Unit {0}
+IsOfTexts (verdicts.Trace fault) = Unit {0}
 
 -- a read of the file that the verdict names failed
 abbrev pub IsReadFault : Option Entries → (List ℕ → ℕ) → (List ℕ → ℕ) → Request → Denotation → Type 0
@@ -44,4 +45,5 @@ IsProper (Run jdf tiles settings) = IsUtf8 jdf × IsUtf8 tiles × AreCounts sett
 IsProper (Show jdf) = IsUtf8 jdf
 IsProper (Check jdf tiles) = IsUtf8 jdf × IsUtf8 tiles
 IsProper (Demo rows) = (1 ≤ rows) × (rows ≤ 96)
+IsProper (Replay jdf tiles trace) = IsUtf8 jdf × IsUtf8 tiles × IsUtf8 trace
 IsProper (Certify jdf tiles) = IsUtf8 jdf × IsUtf8 tiles

@@ -1,8 +1,10 @@
--- Why the steps of `check` end, where a read may fail; `old` and `new` count the failed reads of the data file. Source: this project's
--- own choice.
+-- Why the steps of `check` and of `replay` end, where a read may fail; `old` and `new` count the failed reads of the file that a step
+-- reads. Source: this project's own choice.
 use Rattle.std.specs.Prelude.{◌≡◌, ◌⊎◌, ℕ, List, Option, Some}
 use Rattle.ptg_io.specs.Faults.{Rose}
 use Rattle.ptg_io.specs.Files.{file_of}
+use Rattle.coll_data.specs.Data.{Data}
+use Rattle.plan_core.specs.declared.plan.Plan.{Plan}
 use Rattle.jdf_tree.specs.declared.tree.Jdf.{Jdf}
 use Rattle.jdf_tree.specs.Jdf.{IsJdf}
 use Rattle.job_stages.specs.declared.verdict.JobVerdict.{JobVerdict}
@@ -10,6 +12,8 @@ use Rattle.job_stages.specs.Verdict.{TextsDenote}
 use Rattle.ptg_top.specs.Denotation as verdicts
 use Rattle.ptg_top.specs.Denotation.{Denotation}
 use Rattle.ptg_top.specs.JobFiles.{Entries, RefusesText}
+use Rattle.ptg_top.specs.Replay.{IsReplayOf}
+use Rattle.ptg_top.specs.Reports.{IsOfTexts}
 
 -- The check of a JDF, read from this text, with the data file of this name ends so: a read of that file failed, or the two texts
 -- denote the verdict, where the contents are known.
@@ -24,3 +28,10 @@ CheckOfDataEndsWith contents old new text tiles v =
 abbrev pub CheckOfTextEndsWith : Option Entries → ℕ → ℕ → List ℕ → List ℕ → Denotation → Type 0
 CheckOfTextEndsWith contents old new text tiles v =
     RefusesText text v ⊎ ((J : Jdf) × IsJdf text J × CheckOfDataEndsWith contents old new text tiles v)
+
+-- The replay of a consistent job with the trace file of this name ends so: a read of that file failed, or the verdict is the one on its
+-- text, where the contents are known.
+abbrev pub ReplayEndsWith : Option Entries → ℕ → ℕ → List ℕ → Plan → Data → Denotation → Type 0
+ReplayEndsWith contents old new trace P given v =
+    ((v ≡ verdicts.Unread trace) × Rose old new)
+    ⊎ (IsOfTexts v × ((files : Entries) → contents ≡ Some files → (text : List ℕ) × (file_of files trace ≡ Some text) × IsReplayOf text P given v))

@@ -7,7 +7,7 @@ use Rattle.flow_meaning.specs.Answer.{answer}
 use Rattle.flow_meaning.specs.declared.outcome.Outcome.{Outcome}
 use Rattle.run_pool.specs.declared.settings.Settings.{Settings}
 use Rattle.ptg_top.specs.declared.verdict.RanBy.{RanBy}
-use Rattle.ptg_top.specs.declared.verdict.RanBy.TheVariants.{Table}
+use Rattle.ptg_top.specs.declared.verdict.RanBy.TheVariants.{Table, OneThread}
 use Rattle.ptg_top.specs.Denotation.{plan_of}
 
 -- the settings of a command that has no options for them
@@ -21,6 +21,7 @@ ShowsSettings s r = (r.shards ≡ s.shards) × (r.passes ≡ s.workers) × (r.pr
 -- a table with these settings ran the job
 abbrev pub IsRunWith : Settings → RanBy → Type 0
 IsRunWith s (Table r) = ShowsSettings s r
+IsRunWith s (OneThread matched) = ⊥
 
 -- a table with these settings ran the job of this plan on these data, and this is its answer
 pub record IsRunOf (s : Settings) (P : Plan) (given : Data) (by : RanBy) (outcome : Outcome) : Type 0 where

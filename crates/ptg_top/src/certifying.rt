@@ -90,6 +90,7 @@ fn certificate_by(
 {
     match by {
         RanBy::Table(receipt) => certificate_of(alloc, receipt.matched(), outcome, weights),
+        RanBy::OneThread(matched) => certificate_of(alloc, matched, outcome, weights),
     }
 }
 

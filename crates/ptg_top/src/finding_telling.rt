@@ -23,6 +23,7 @@ fn plan_of(by: &RanBy) -> &Plan
 {
     match by {
         RanBy::Table(receipt) => receipt.matched().plan(),
+        RanBy::OneThread(matched) => matched.plan(),
     }
 }
 

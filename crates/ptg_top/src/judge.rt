@@ -9,6 +9,7 @@ ghost use Rattle.ptg_top.specs.Receipts.{IsRunAsAsked, IsRunAsOrdered};
 use crate::certifying::certify;
 use crate::checking::check;
 use crate::host::Host;
+use crate::replaying::replay;
 use crate::request::{Request, request_of};
 use crate::running::run;
 use crate::showing::show;
@@ -63,6 +64,7 @@ fn carry_out<R: Threads + Wait + Sync, F: Files, G: Gate>(
         Request::Show(jdf) => show(host.alloc, jdf, files),
         Request::Check(jdf, tiles) => check(host.alloc, jdf, tiles, files),
         Request::Demo(rows) => demo(host, *rows),
+        Request::Replay(jdf, tiles, trace) => replay(host.alloc, jdf, tiles, trace, files),
         Request::Certify(jdf, tiles) => certify(host, jdf, tiles, files),
     }
 }

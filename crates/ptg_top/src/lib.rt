@@ -13,6 +13,7 @@ mod laws;
 mod names;
 mod program;
 mod reading;
+mod replaying;
 mod request;
 mod running;
 mod showing;

@@ -30,8 +30,10 @@ use worker_core::Gate;
 /// same holds for `show JDF`, which prints the canonical spelling or the refusal; for `check JDF DATA`, which prints how many
 /// tasks, edges and write-backs a consistent job has, or the first refusal of the one order: the JDF's text, the data's text, a
 /// global that the data lack, names and kinds, consistency; for `demo N`, which runs the made job of N rows of tiles and prints the
-/// number of its tasks and the sum of all elements; and for `certify JDF DATA`, which runs a job and prints a heaviest chain of its
-/// tasks with the level of each, or a cycle where it stalled, or its traps. It may wait, as workers wait for each other.
+/// number of its tasks and the sum of all elements; for `certify JDF DATA`, which runs a job and prints a heaviest chain of its
+/// tasks with the level of each, or a cycle where it stalled, or its traps; and for `replay JDF DATA TRACE`, which prints the answer
+/// of `run` where the trace is that of a whole order of the tasks that run, and else its first fault. It may wait, as workers wait
+/// for each other.
 pub fn ptg_main<R: Threads + Wait + Sync, F: Files, O: Sink, G: Gate>(
     rt: &R,
     alloc: Global,
@@ -47,7 +49,8 @@ pub fn ptg_main<R: Threads + Wait + Sync, F: Files, O: Sink, G: Gate>(
     // Where the contents of the files are known: exactly the text and the status that arguments and files denote.
     ensures exact { (entries : Entries) → F.contents files.old ≡ Some entries → IsExact result.status →
         Prints words.now entries (O.bytes out.old) (O.bytes out.new) result.status }
-    // `unread,NAME` is printed only if reading NAME failed; NAME is the data file's only once the JDF was read.
+    // `unread,NAME` is printed only if reading NAME failed; NAME is the data file's only once the JDF was read, and the trace file's
+    // only once the job was found to be consistent.
     ensures unread { result.status ≡ Status.ReadFault → (name : List ℕ)
         × Rose (F.faults files.old name) (F.faults files.new name)
         × MayBeUnread words.now (F.contents files.old) name
@@ -67,8 +70,8 @@ pub fn ptg_main<R: Threads + Wait + Sync, F: Files, O: Sink, G: Gate>(
     ensures usage_only { result.status ≡ Status.Usage → IsNoOrder words.now }
     ensures usage_line { result.status ≡ Status.Usage → O.bytes out.new ≡ appended (O.bytes out.old) usage_line }
     ensures usage { IsNoOrder words.now → (result.status ≡ Status.Usage) ⊎ ((result.status ≡ Status.WriteFault) ⊎ (result.status ≡ Status.OutOfMemory)) }
-    // The answer of a job that was run comes with the receipt of a table with the shards, the workers and the preload that were asked
-    // for, and no other status does.
+    // The answer of a job that workers ran comes with the receipt of a table with the shards, the workers and the preload that were
+    // asked for, and no other status does.
     ensures receipt { IfSome result.receipt (λ r. (o : Order) × Orders words.now o × IsReceiptFor o r × IsAnswerStatus result.status) }
     ensures no_receipt { IfNone result.receipt ((o : Order) → Orders words.now o → IsRun o → IsAnswerStatus result.status → ⊥) }
     // Where the contents of the files are known, the table had the job that the files denote.

@@ -18,6 +18,8 @@ pub enum Request {
     Check(Text, Text),
     /// Run the made job with this many rows of tiles.
     Demo(u32),
+    /// Run the job of this JDF file on this data file in the order of this trace file.
+    Replay(Text, Text, Text),
     /// Run the job of this JDF file on this data file, and find its certificate.
     Certify(Text, Text),
 }
@@ -39,7 +41,7 @@ pub fn request_of(order: Order) -> Option<Request>
         Order::Check(jdf, tiles) => Some(Request::Check(jdf, tiles)),
         Order::Demo(rows) => Some(Request::Demo(rows)),
         Order::Trace(_, _, _, _) => None,
-        Order::Replay(_, _, _) => None,
+        Order::Replay(jdf, tiles, trace) => Some(Request::Replay(jdf, tiles, trace)),
         Order::Certify(jdf, tiles) => Some(Request::Certify(jdf, tiles)),
         Order::Ranks(_, _, _, _) => None,
     }

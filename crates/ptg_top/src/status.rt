@@ -28,6 +28,8 @@ pub enum Status {
     OutOfMemory,
     /// A preload was asked for, and it takes too much memory.
     PreloadTooLarge,
+    /// The trace was refused.
+    TraceRefused,
 }
 
 impl Status {
@@ -47,6 +49,7 @@ impl Status {
             Status::WriteFault => 8,
             Status::OutOfMemory => 9,
             Status::PreloadTooLarge => 10,
+            Status::TraceRefused => 11,
         }
     }
 }

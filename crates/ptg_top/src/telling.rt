@@ -33,6 +33,7 @@ pub fn tell<O: Sink>(verdict: &Verdict, out: &mut O) -> Result<(), Failed>
         Verdict::Ran(by, finding) => tell_finding(by, finding, out),
         Verdict::Spelling(text) => spell(text, out),
         Verdict::Preload => refusal(&Line::Preload, out),
+        Verdict::Trace(fault) => refusal(&Line::Trace(*fault), out),
     }
 }
 
@@ -57,16 +58,18 @@ pub fn status(verdict: &Verdict) -> Status
         Verdict::Ran(_, finding) => status_of_finding(finding),
         Verdict::Spelling(_) => Status::Complete,
         Verdict::Preload => Status::PreloadTooLarge,
+        Verdict::Trace(_) => Status::TraceRefused,
     }
 }
 
-/// The receipt of a verdict that was printed, if its job was run.
+/// The receipt of a verdict that was printed, if its job was run by a table.
 pub fn receipt(verdict: Verdict) -> Option<Receipt>
     ensures { result ≡ receipt_of verdict }
 {
     match verdict {
         Verdict::Ran(by, _finding) => match by {
             RanBy::Table(receipt) => Some(receipt),
+            RanBy::OneThread(_matched) => None,
         },
         _ => None,
     }

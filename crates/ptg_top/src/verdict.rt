@@ -1,10 +1,12 @@
 //! The verdict: what a run comes to, before it is printed.
 
+use dep_iter::Matched;
 use dep_table::receipt::Receipt;
 use flow_meaning::Outcome;
 use job_stages::JobVerdict;
 use ptg_base::Text;
 use report_text::{FoundCycle, HeaviestChain, Summary};
+use trace_core::TraceFault;
 
 /// What a run comes to, before it is printed.
 #[derive(Drop)]
@@ -21,6 +23,8 @@ pub enum Verdict {
     Spelling(Text),
     /// A preload that is too large.
     Preload,
+    /// The first fault of a trace.
+    Trace(TraceFault),
 }
 
 /// By whom a job was run. It has the job.
@@ -28,6 +32,8 @@ pub enum Verdict {
 pub enum RanBy {
     /// By the workers of a table, whose receipt this is.
     Table(Receipt),
+    /// By one thread, in the order of a trace.
+    OneThread(Matched),
 }
 
 /// What a command finds of the answer of a job that was run.

@@ -6,6 +6,8 @@ use Rattle.coll_data.specs.declared.fault.DataCode.{DataCode}
 use Rattle.coll_data.specs.declared.fault.DataCode.TheVariants as data_file
 use Rattle.edge_match.specs.declared.fault.MatchCode.{MatchCode}
 use Rattle.edge_match.specs.declared.fault.MatchCode.TheVariants as match_fault
+use Rattle.trace_core.specs.declared.fault.TraceCode.{TraceCode}
+use Rattle.trace_core.specs.declared.fault.TraceCode.TheVariants as trace_fault
 
 -- the code of a refused JDF text
 abbrev pub jdf_code : JdfCode → List ℕ
@@ -78,3 +80,12 @@ match_code match_fault.DoubleWrite = codes "DoubleWrite"
 match_code match_fault.NoMatchingOut = codes "NoMatchingOut"
 match_code match_fault.NoMatchingIn = codes "NoMatchingIn"
 match_code match_fault.DoubleEdge = codes "DoubleEdge"
+
+-- the code of a refused trace
+abbrev pub trace_code : TraceCode → List ℕ
+trace_code trace_fault.TooLong = codes "TooLong"
+trace_code trace_fault.BadTrace = codes "BadTrace"
+trace_code trace_fault.UnknownTask = codes "UnknownTask"
+trace_code trace_fault.RanTwice = codes "RanTwice"
+trace_code trace_fault.TooEarly = codes "TooEarly"
+trace_code trace_fault.Unfinished = codes "Unfinished"

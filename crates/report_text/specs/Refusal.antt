@@ -3,9 +3,9 @@ use Rattle.std.specs.Prelude.{ℕ, List, [], ◌∷◌, ◌++◌, map, codes, Op
 use Rattle.std.specs.Fmt.{decimal, signed_decimal}
 use Rattle.edge_match.specs.declared.fault.MatchFault.{MatchFault}
 use Rattle.report_text.specs.declared.refusal_line.Line.{Line}
-use Rattle.report_text.specs.declared.refusal_line.Line.TheVariants.{Usage, Jdf, Rows, Match, Unread, Preload}
+use Rattle.report_text.specs.declared.refusal_line.Line.TheVariants.{Usage, Jdf, Rows, Match, Unread, Preload, Trace}
 use Rattle.report_text.specs.Field.{line}
-use Rattle.report_text.specs.Codes.{jdf_code, data_code, match_code}
+use Rattle.report_text.specs.Codes.{jdf_code, data_code, match_code, trace_code}
 
 -- the flow of a fault: its name, or `-` where the fault is of no flow
 abbrev pub flow_text : Option ℕ → List ℕ → List ℕ
@@ -24,3 +24,4 @@ refusal_text (Rows fault) = line (codes "data" ∷ decimal fault.row ∷ data_co
 refusal_text (Match fault class flow) = inconsistent_line fault.now class.now flow.now
 refusal_text (Unread name) = line (codes "unread" ∷ name.now ∷ [])
 refusal_text Preload = line (codes "preload" ∷ [])
+refusal_text (Trace fault) = line (codes "trace" ∷ decimal fault.row ∷ trace_code fault.code ∷ [])

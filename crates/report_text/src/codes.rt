@@ -1,11 +1,12 @@
 //! The codes of refusals, as they are printed.
 
 ghost use Rattle.std.specs.Prelude.{◌≡◌};
-ghost use Rattle.report_text.specs.Codes.{data_code, jdf_code, match_code};
+ghost use Rattle.report_text.specs.Codes.{data_code, jdf_code, match_code, trace_code};
 
 use coll_data::DataCode;
 use edge_match::MatchCode;
 use jdf_lex::JdfCode;
+use trace_core::TraceCode;
 
 /// The code of a refused JDF text.
 pub fn jdf_code(code: JdfCode) -> &'static [u8]
@@ -91,5 +92,19 @@ pub fn match_code(code: MatchCode) -> &'static [u8]
         MatchCode::NoMatchingOut => b"NoMatchingOut",
         MatchCode::NoMatchingIn => b"NoMatchingIn",
         MatchCode::DoubleEdge => b"DoubleEdge",
+    }
+}
+
+/// The code of a refused trace.
+pub fn trace_code(code: TraceCode) -> &'static [u8]
+    ensures { result.now ≡ trace_code code }
+{
+    match code {
+        TraceCode::TooLong => b"TooLong",
+        TraceCode::BadTrace => b"BadTrace",
+        TraceCode::UnknownTask => b"UnknownTask",
+        TraceCode::RanTwice => b"RanTwice",
+        TraceCode::TooEarly => b"TooEarly",
+        TraceCode::Unfinished => b"Unfinished",
     }
 }

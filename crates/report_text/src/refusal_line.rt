@@ -6,13 +6,14 @@ ghost use Rattle.ptg_io.specs.Sink.{appended};
 ghost use Rattle.report_text.specs.Puts.{Puts, HasPrefix};
 ghost use Rattle.report_text.specs.Refusal.{flow_text, inconsistent_line, refusal_text};
 
-use crate::codes::{data_code, jdf_code, match_code};
+use crate::codes::{data_code, jdf_code, match_code, trace_code};
 use crate::fields::{Field, put_line};
 use crate::pieces::{Pieces, flush};
 use coll_data::DataFault;
 use edge_match::MatchFault;
 use jdf_lex::JdfFault;
 use ptg_io::{Failed, Sink};
+use trace_core::TraceFault;
 
 /// A refusal, as it is printed.
 #[derive(Clone, Copy)]
@@ -29,6 +30,8 @@ pub enum Line<'a> {
     Unread(&'a [u8]),
     /// The tiles that were to be reserved take too much memory.
     Preload,
+    /// The trace is refused.
+    Trace(TraceFault),
 }
 
 /// Prints a refusal. On `Err` some first bytes of it went out.
@@ -64,6 +67,13 @@ fn put_refusal<O: Sink>(sink: &mut O, out: &mut Pieces, line: &Line) -> Result<(
         Line::Match(fault, class, flow) => put_inconsistent(sink, out, fault, class, flow),
         Line::Unread(name) => put_line(sink, out, b"unread", &[Field::Word(name)]),
         Line::Preload => put_line(sink, out, b"preload", &[]),
+        Line::Trace(fault) => {
+            let fields = [
+                Field::Number(fault.row),
+                Field::Word(trace_code(fault.code)),
+            ];
+            put_line(sink, out, b"trace", &fields)
+        }
     }
 }
 

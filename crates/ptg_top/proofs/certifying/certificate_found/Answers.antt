@@ -1,4 +1,4 @@
-use Rattle.std.proofs.Common.{◌≡◌, List, ℕ, ap, subst, sym, ◌∙◌}
+use Rattle.std.proofs.Common.{◌≡◌, ap, subst, sym, ◌∙◌}
 use Rattle.plan_core.specs.declared.plan.Plan.{Plan}
 use Rattle.chain_cert.specs.Weights.{class_weights}
 use Rattle.ptg_top.specs.Denotation.{plan_of}

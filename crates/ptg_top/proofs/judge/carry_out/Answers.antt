@@ -1,3 +1,8 @@
+use Rattle.std.proofs.Common.{subst, sym}
+use Rattle.std.specs.Prelude.{IfOk}
+use Rattle.ptg_top.specs.declared.request.Request.{Request}
+use Rattle.ptg_top.specs.Denotation.{denoted}
+use Rattle.ptg_top.specs.Reports.{IsVerdictOnRequest}
 use Rattle.ptg_top.proofs.Summed.{demo_ends}
 use Rattle.ptg_top.proofs.judge.carry_out.Goals as goal
 
@@ -6,3 +11,12 @@ pub returns-in-Demo-clause-judged : goal.returns-in-Demo-clause-judged
 returns-in-Demo-clause-judged g c =
     let faults = g.F.Files.faults c.args.files.now in
     demo_ends c.in-Demo.rows (g.F.Files.contents c.args.files.now) faults faults c.args.request.now c.demo.result c.in-Demo.is c.demo.ensures.denotes
+
+-- the verdict on the three files
+pub returns-in-Replay-clause-judged : goal.returns-in-Replay-clause-judged
+returns-in-Replay-clause-judged g c =
+    let contents = g.F.Files.contents c.args.files.now in
+    let old = g.F.Files.faults c.args.files.now in
+    let new = g.F.Files.faults c.replay.new.files in
+    let Judged : Request → Type 0 = λ r. IfOk c.replay.result (λ v. IsVerdictOnRequest contents old new r (denoted v)) in
+    subst Judged (sym c.in-Replay.is) c.replay.ensures.verdict

@@ -2,7 +2,6 @@ use Rattle.std.proofs.Common.{ℕ, List, ◌++◌, ap, flat_map, refl, sym, ◌�
 use Rattle.ptg_base.specs.Task.{Task}
 use Rattle.plan_core.specs.declared.plan.Plan.{Plan}
 use Rattle.report_text.specs.Found.{chain_head, level_line, link_line}
-use Rattle.report_text.specs.declared.certificate.HeaviestChain.{HeaviestChain}
 use Rattle.report_text.proofs.Putting.{puts_cut, puts_then}
 use Rattle.report_text.proofs.certificate.put_chain.Goals as goal
 

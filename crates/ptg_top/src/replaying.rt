@@ -1,0 +1,97 @@
+//! The run of a job's two files in the order of a trace file.
+
+ghost use Rattle.std.specs.Prelude.{◌≡◌, ◌≤◌, ℕ, List, IfOk, None};
+ghost use Rattle.std.specs.Str.{IsUtf8};
+ghost use Rattle.plan_data.specs.Fit.{DataFit};
+ghost use Rattle.ptg_top.specs.declared.request.Request.TheVariants as asked;
+ghost use Rattle.ptg_top.specs.Denotation.{denoted};
+ghost use Rattle.ptg_top.specs.JobFiles.{HasFittingJob};
+ghost use Rattle.ptg_top.specs.Replay.{IsReplayOf};
+ghost use Rattle.ptg_top.specs.Reports.{IsOfTexts, IsVerdictOnRequest};
+ghost use Rattle.ptg_top.specs.Receipts.{receipt_of};
+ghost use Rattle.ptg_top.specs.Steps.{ReplayEndsWith};
+
+use crate::checking::check;
+use crate::consistent::consistent_job;
+use crate::reading::{name_of, unread};
+use crate::verdict::{Finding, RanBy, Verdict};
+use coll_data::Given;
+use dep_iter::Matched;
+use ptg_base::{OutOfMemory, Text};
+use ptg_io::{Files, LoadFault, load};
+use std::alloc::Global;
+use trace_core::{TraceCode, TraceFault};
+use trace_replay::judge_trace;
+
+/// The verdict of `replay` on a JDF file, a data file and a trace file: of a job that `check` finds consistent, the first fault of
+/// the trace, or the job's answer; else the verdict of `check`. The trace file is read only once the job was found to be consistent.
+pub fn replay<F: Files>(
+    alloc: Global,
+    jdf: &Text,
+    tiles: &Text,
+    trace: &Text,
+    files: &mut F,
+) -> Result<Verdict, OutOfMemory>
+    requires jdf_text { IsUtf8 jdf.now }
+    requires tiles_text { IsUtf8 tiles.now }
+    requires trace_text { IsUtf8 trace.now }
+    ensures stays { F.contents files.new ≡ F.contents files.old }
+    ensures grows { (other : List ℕ) → F.faults files.old other ≤ F.faults files.new other }
+    ensures verdict { IfOk result (λ v. IsVerdictOnRequest (F.contents files.old) (F.faults files.old) (F.faults files.new) (asked.Replay jdf.now tiles.now trace.now) (denoted v)) }
+    ensures fit { IfOk result (λ v. HasFittingJob (denoted v)) }
+    ensures not_run { IfOk result (λ v. receipt_of v ≡ None) }
+{
+    let checked = check(alloc, jdf, tiles, files)?;
+    match consistent_job(checked) {
+        Ok((matched, given)) => replayed(alloc, matched, given, trace, files),
+        Err(refused) => Ok(refused),
+    }
+}
+
+// The verdict of `replay` on a consistent job and a trace file.
+fn replayed<F: Files>(
+    alloc: Global,
+    matched: Matched,
+    given: Given,
+    trace: &Text,
+    files: &mut F,
+) -> Result<Verdict, OutOfMemory>
+    requires name { IsUtf8 trace.now }
+    requires fit { DataFit matched.colls matched.elems given }
+    ensures stays { F.contents files.new ≡ F.contents files.old }
+    ensures grows { (other : List ℕ) → F.faults files.old other ≤ F.faults files.new other }
+    ensures verdict { IfOk result (λ v. ReplayEndsWith (F.contents files.old) (F.faults files.old trace.now) (F.faults files.new trace.now) trace.now matched given (denoted v)) }
+    ensures fit { IfOk result (λ v. HasFittingJob (denoted v)) }
+    ensures not_run { IfOk result (λ v. receipt_of v ≡ None) }
+{
+    match load(alloc, files, name_of(trace)) {
+        Ok(text) => replay_of(alloc, matched, given, text.as_slice()),
+        Err(LoadFault::TooLong) => Ok(Verdict::Trace(TraceFault {
+            row: 0,
+            code: TraceCode::TooLong,
+        })),
+        Err(LoadFault::Failed) => unread(alloc, trace),
+        Err(LoadFault::OutOfMemory) => Err(OutOfMemory),
+    }
+}
+
+// The verdict of `replay` on a consistent job and the text of a trace.
+fn replay_of(
+    alloc: Global,
+    matched: Matched,
+    given: Given,
+    text: &[u8],
+) -> Result<Verdict, OutOfMemory>
+    requires { DataFit matched.colls matched.elems given }
+    ensures verdict { IfOk result (λ v. IsReplayOf text.now matched given (denoted v)) }
+    ensures of_texts { IfOk result (λ v. IsOfTexts (denoted v)) }
+    ensures fit { IfOk result (λ v. HasFittingJob (denoted v)) }
+    ensures not_run { IfOk result (λ v. receipt_of v ≡ None) }
+{
+    let _ = matched.plan();
+    let verdict = judge_trace(alloc, &matched, given, text)?;
+    match verdict {
+        Ok(outcome) => Ok(Verdict::Ran(RanBy::OneThread(matched), Finding::Answer(outcome))),
+        Err(fault) => Ok(Verdict::Trace(fault)),
+    }
+}

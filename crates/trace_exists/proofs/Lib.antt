@@ -1,0 +1,7 @@
+pub mod Deciding
+pub mod Numbers
+pub mod Rows
+pub mod Spellings
+pub mod Running
+pub mod Either
+pub mod Growing

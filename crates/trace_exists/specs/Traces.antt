@@ -1,0 +1,18 @@
+-- Texts that are traces of a job. Source: this project's own choice.
+use Rattle.std.specs.Prelude.{◌≤◌, ℕ, List, length, map}
+use Rattle.ptg_base.specs.Task.{Task}
+use Rattle.plan_core.specs.declared.plan.Plan.{Plan}
+use Rattle.coll_data.specs.Data.{Data}
+use Rattle.trace_core.specs.Orders.{IsWholeOrder}
+use Rattle.trace_core.specs.Spelling.{IsWellSpelled}
+use Rattle.trace_core.specs.Text.{entry_of}
+
+-- a text within 16 MiB is well spelled, and its rows are those of these tasks, which are a whole order
+pub record IsTrace (P : Plan) (G : Data) (text : List ℕ) (tasks : List Task) : Type 0 where
+  pub at_most : length text ≤ 16777216
+  pub spelled : IsWellSpelled text (map (entry_of P) tasks)
+  pub whole : IsWholeOrder P G tasks
+
+-- a text is a trace of some whole order
+abbrev pub IsSomeTrace : Plan → Data → List ℕ → Type 0
+IsSomeTrace P G text = (tasks : List Task) × IsTrace P G text tasks
