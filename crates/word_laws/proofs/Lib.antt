@@ -1,3 +1,4 @@
 pub mod Cutting
 pub mod Forms
 pub mod Reading
+pub mod Twice
