@@ -2,3 +2,4 @@ pub mod Cutting
 pub mod Forms
 pub mod Reading
 pub mod Twice
+pub mod Texts

@@ -3,6 +3,7 @@
 use Rattle.std.specs.Prelude.{◌≡◌, ◌⊎◌, ◌&&◌, ◌||◌, not, ℕ, Bool, true, false, IsTrue, List, [], ◌∷◌, ◌++◌, codes}
 use Rattle.std.specs.List.{zip}
 use Rattle.std.specs.Str.{bytes_eq}
+use Rattle.ptg_base.specs.Lists.{IsIn}
 use Rattle.ptg_words.specs.Words.{Verb, run, trace}
 
 -- the first character is `-`
@@ -79,3 +80,12 @@ pub record OccursTwice (Is : List ℕ → Type 0) (words : List (List ℕ)) : Ty
   pub listed : words ≡ before ++ first ∷ (between ++ second ∷ after)
   pub first_is : Is first
   pub second_is : Is second
+
+-- a text is given to an option: by `=`, or as the value after it
+abbrev pub IsTextOfWorkers : Verb → List (List ℕ) → List ℕ → Type 0
+IsTextOfWorkers verb words text =
+    (has_numbers verb ≡ true) × (IsIn (codes "--workers=" ++ text) words ⊎ (IsIn (codes "--workers", text) (with_previous words) × (begins_with_dash text ≡ false)))
+
+abbrev pub IsTextOfShards : Verb → List (List ℕ) → List ℕ → Type 0
+IsTextOfShards verb words text =
+    (has_numbers verb ≡ true) × (IsIn (codes "--shards=" ++ text) words ⊎ (IsIn (codes "--shards", text) (with_previous words) × (begins_with_dash text ≡ false)))
