@@ -1,3 +1,5 @@
 pub mod Cutting
 pub mod Forms
 pub mod Reading
+pub mod Twice
+pub mod Texts

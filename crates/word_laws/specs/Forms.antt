@@ -1,8 +1,9 @@
 -- The words after a verb, each by itself and with its neighbours. Source: this project's own choice; the forms of options are those of
 -- GNU's long options.
-use Rattle.std.specs.Prelude.{◌≡◌, ◌&&◌, ◌||◌, not, ℕ, Bool, true, false, IsTrue, List, [], ◌∷◌, ◌++◌, codes}
+use Rattle.std.specs.Prelude.{◌≡◌, ◌⊎◌, ◌&&◌, ◌||◌, not, ℕ, Bool, true, false, IsTrue, List, [], ◌∷◌, ◌++◌, codes}
 use Rattle.std.specs.List.{zip}
 use Rattle.std.specs.Str.{bytes_eq}
+use Rattle.ptg_base.specs.Lists.{IsIn}
 use Rattle.ptg_words.specs.Words.{Verb, run, trace}
 
 -- the first character is `-`
@@ -58,3 +59,33 @@ is_value verb p = takes_next verb p.0 && not (begins_with_dash p.1)
 -- neither an option nor a value
 abbrev pub is_other : Verb → List ℕ × List ℕ → Bool
 is_other verb p = not (takes_next verb p.0) && not (begins_with_dash p.1)
+
+-- a word is this option of the verb, alone or with a text after `=`
+abbrev pub IsWorkers : Verb → List ℕ → Type 0
+IsWorkers verb word = (has_numbers verb ≡ true) × ((word ≡ codes "--workers") ⊎ ((text : List ℕ) × (word ≡ codes "--workers=" ++ text)))
+
+abbrev pub IsShards : Verb → List ℕ → Type 0
+IsShards verb word = (has_numbers verb ≡ true) × ((word ≡ codes "--shards") ⊎ ((text : List ℕ) × (word ≡ codes "--shards=" ++ text)))
+
+abbrev pub IsPreload : Verb → List ℕ → Type 0
+IsPreload verb word = (has_flag verb ≡ true) × (word ≡ codes "--preload")
+
+-- two of the words are so
+pub record OccursTwice (Is : List ℕ → Type 0) (words : List (List ℕ)) : Type 0 where
+  pub before : List (List ℕ)
+  pub first : List ℕ
+  pub between : List (List ℕ)
+  pub second : List ℕ
+  pub after : List (List ℕ)
+  pub listed : words ≡ before ++ first ∷ (between ++ second ∷ after)
+  pub first_is : Is first
+  pub second_is : Is second
+
+-- a text is given to an option: by `=`, or as the value after it
+abbrev pub IsTextOfWorkers : Verb → List (List ℕ) → List ℕ → Type 0
+IsTextOfWorkers verb words text =
+    (has_numbers verb ≡ true) × (IsIn (codes "--workers=" ++ text) words ⊎ (IsIn (codes "--workers", text) (with_previous words) × (begins_with_dash text ≡ false)))
+
+abbrev pub IsTextOfShards : Verb → List (List ℕ) → List ℕ → Type 0
+IsTextOfShards verb words text =
+    (has_numbers verb ≡ true) × (IsIn (codes "--shards=" ++ text) words ⊎ (IsIn (codes "--shards", text) (with_previous words) × (begins_with_dash text ≡ false)))

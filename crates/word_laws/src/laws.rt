@@ -1,11 +1,11 @@
 //! Laws of the words after a verb: which are stray, which lack a value, and which are operands.
 
-ghost use Rattle.std.specs.Prelude.{◌≡◌, ◌↔◌, ◌+◌, ℕ, IsTrue, List, length, map};
+ghost use Rattle.std.specs.Prelude.{◌≡◌, ◌⊎◌, ◌↔◌, ◌+◌, ℕ, IsTrue, List, length, map};
 ghost use Rattle.std.specs.List.{filter, list_any};
 ghost use Rattle.ptg_base.specs.Lists.{IsIn};
-ghost use Rattle.ptg_words.specs.Parts.{is_lacking, is_stray, operands, parts};
+ghost use Rattle.ptg_words.specs.Parts.{has_twice, is_lacking, is_stray, operands, parts, shards, texts_of, workers};
 ghost use Rattle.ptg_words.specs.Words.{Verb, options_of};
-ghost use Rattle.word_laws.specs.Forms.{HasForm, LacksValue, begins_with_dash, is_other, is_value, with_previous};
+ghost use Rattle.word_laws.specs.Forms.{HasForm, IsPreload, IsShards, IsTextOfShards, IsTextOfWorkers, IsWorkers, LacksValue, OccursTwice, begins_with_dash, is_other, is_value, with_previous};
 
 /// A law: there is a stray option exactly where some word has a form that the verb does not have.
 pub fn a_stray_option_has_no_form_of_the_verb()
@@ -22,4 +22,16 @@ pub fn a_value_is_lacking_where_none_follows()
 pub fn the_other_words_are_the_operands()
     ensures which { (verb : Verb) (words : List (List ℕ)) → operands (parts (options_of verb) words) ≡ map (λ (p : List ℕ × List ℕ). p.1) (filter (is_other verb) (with_previous words)) }
     ensures count { (verb : Verb) (words : List (List ℕ)) → length (operands (parts (options_of verb) words)) + (length (filter begins_with_dash words) + length (filter (is_value verb) (with_previous words))) ≡ length words }
+{}
+
+/// A law: an option occurs twice exactly where two words are the same option of the verb, alone or with a text after `=`.
+pub fn an_option_occurs_twice_where_two_words_are_it()
+    ensures { (verb : Verb) (words : List (List ℕ)) → IsTrue (has_twice (parts (options_of verb) words)) ↔ (OccursTwice (IsWorkers verb) words ⊎ (OccursTwice (IsShards verb) words ⊎ OccursTwice (IsPreload verb) words)) }
+{}
+
+/// A law: the texts of an option with a number are those that its words give: `--NAME=TEXT`, or `--NAME` and then a word that begins
+/// with no `-`.
+pub fn the_texts_of_an_option_are_given_by_its_words()
+    ensures workers { (verb : Verb) (words : List (List ℕ)) (text : List ℕ) → IsIn text (texts_of workers (parts (options_of verb) words)) ↔ IsTextOfWorkers verb words text }
+    ensures shards { (verb : Verb) (words : List (List ℕ)) (text : List ℕ) → IsIn text (texts_of shards (parts (options_of verb) words)) ↔ IsTextOfShards verb words text }
 {}
