@@ -3,3 +3,4 @@ pub mod Forms
 pub mod Reading
 pub mod Twice
 pub mod Texts
+pub mod Rules

@@ -35,14 +35,14 @@ module _ (verb : Verb) where
   stray_is (Some s) [] = refl
   stray_is due (word ∷ words) = stray_next due (form_of (options_of verb) word) word (λ next. parts_from (options_of verb) next words) (list_any (λ w. is_unknown (form_of (options_of verb) w)) words) (λ next. stray_is next words)
 
-some_passes : (test : List ℕ → Bool) (words : List (List ℕ)) → list_any test words ≡ true → (word : List ℕ) × IsIn word words × (test word ≡ true)
+pub some_passes : (test : List ℕ → Bool) (words : List (List ℕ)) → list_any test words ≡ true → (word : List ℕ) × IsIn word words × (test word ≡ true)
 some_passes test [] e = absurd (false≢true e)
 some_passes test (w ∷ ws) e = by (some_passes test ws) (test w) refl e where
   by : (list_any test ws ≡ true → (word : List ℕ) × IsIn word ws × (test word ≡ true)) → (x : Bool) → test w ≡ x → (x || list_any test ws) ≡ true → (word : List ℕ) × IsIn word (w ∷ ws) × (test word ≡ true)
   by later true at k = (w, inl refl, at)
   by later false at k = let p = later k in (p.0, inr p.1, p.2)
 
-one_passes : (test : List ℕ → Bool) (words : List (List ℕ)) (word : List ℕ) → IsIn word words → test word ≡ true → list_any test words ≡ true
+pub one_passes : (test : List ℕ → Bool) (words : List (List ℕ)) (word : List ℕ) → IsIn word words → test word ≡ true → list_any test words ≡ true
 one_passes test [] word among e = absurd among
 one_passes test (w ∷ ws) word among e = elim among [
   | inl same ↦ ap (λ x. x || list_any test ws) (ap test (sym same) ∙ e)

@@ -238,9 +238,10 @@ module _ (verb : Verb) (s : NumberOption) where
   first_is = refl
 
   pub given_iff : (words : List (List ℕ)) (text : List ℕ) → IsIn text (texts_of s (parts (options_of verb) words)) ↔ Given [] words text
-  given_iff words text =
-      (λ i. to_given [] words text (subst (IsIn text) (texts_are None words) i),
-      λ g. subst (IsIn text) (sym (texts_are None words)) (from_given [] words text g))
+  given_iff words text = (
+    λ i. to_given [] words text (subst (IsIn text) (texts_are None words) i),
+    λ g. subst (IsIn text) (sym (texts_are None words)) (from_given [] words text g),
+  )
 
 pub texts_iff : (verb : Verb) (s : NumberOption) (words : List (List ℕ)) (text : List ℕ) → IsIn text (texts_of s (parts (options_of verb) words)) ↔ ((has_numbers verb ≡ true) × (IsIn (with_text s text) words ⊎ (IsIn (alone s, text) (with_previous words) × (begins_with_dash text ≡ false))))
 texts_iff verb s words text = given_iff verb s words text

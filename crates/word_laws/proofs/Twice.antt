@@ -1,14 +1,13 @@
 -- Options that occur twice, by the names of the words.
-use Rattle.std.proofs.Common.{◌≡◌, ℕ, Bool, true, false, cond, ◌||◌, List, [], ◌∷◌, ◌++◌, ◌⊎◌, ◌↔◌, inl, inr, Option, Some, None, ◌==◌, codes, refl, sym, ap, ◌∙◌, eq-eqb}
+use Rattle.std.proofs.Common.{◌≡◌, ℕ, Bool, true, false, ◌||◌, List, [], ◌∷◌, ◌++◌, ◌⊎◌, ◌↔◌, inl, inr, Option, Some, None, ◌==◌, codes, refl, sym, ap, ◌∙◌, eq-eqb}
 use Rattle.std.proofs.lemmas.Bool.{false≢true}
 use Rattle.std.proofs.lemmas.Slice.Eq.{bytes_eq-Decides}
 use Rattle.std.specs.List.{filter_map, list_any}
-use Rattle.std.specs.Option.{option_map_or}
 use Rattle.std.specs.Str.{bytes_eq}
 use Rattle.std.specs.Prelude.{IsTrue}
 use Rattle.ptg_words.specs.Parts.{Form, NumberOption, Part, after, flag, form_of, given, has_twice, is_named, lacking, name_of, named, operand, option_of, parts, parts_from, plain, preload, shards, stray, unknown, workers}
 use Rattle.ptg_words.specs.Words.{Verb, options_of}
-use Rattle.word_laws.specs.Forms.{HasForm, IsPreload, IsShards, IsWorkers, OccursTwice, begins_with_dash, has_flag, has_numbers, preload_alone, shards_alone, shards_with, workers_alone, workers_with}
+use Rattle.word_laws.specs.Forms.{HasForm, IsPreload, IsShards, IsWorkers, OccursTwice, begins_with_dash, preload_alone, shards_alone, shards_with, workers_alone, workers_with}
 use Rattle.word_laws.proofs.Forms.{Says, says}
 
 -- the names of the options that parts are, and whether one is there twice
@@ -247,12 +246,13 @@ module _ (verb : Verb) where
   all_names words = twice_is (parts (options_of verb) words) ∙ ap twice (names_are None words)
 
   pub twice_iff : (words : List (List ℕ)) → IsTrue (has_twice (parts (options_of verb) words)) ↔ (OccursTwice (IsWorkers verb) words ⊎ (OccursTwice (IsShards verb) words ⊎ OccursTwice (IsPreload verb) words))
-  twice_iff words =
-      (λ e. to_twice words (to_same words (sym (all_names words) ∙ e)),
-      λ t. all_names words ∙ elim t [
-        | inl w ↦ from_twice words (codes "workers") (IsWorkers verb) is_workers w
-        | inr r ↦ elim r [
-          | inl w ↦ from_twice words (codes "shards") (IsShards verb) is_shards w
-          | inr w ↦ from_twice words (codes "preload") (IsPreload verb) is_preload w
-        ]
-      ])
+  twice_iff words = (
+    λ e. to_twice words (to_same words (sym (all_names words) ∙ e)),
+    λ t. all_names words ∙ elim t [
+      | inl w ↦ from_twice words (codes "workers") (IsWorkers verb) is_workers w
+      | inr r ↦ elim r [
+        | inl w ↦ from_twice words (codes "shards") (IsShards verb) is_shards w
+        | inr w ↦ from_twice words (codes "preload") (IsPreload verb) is_preload w
+      ]
+    ],
+  )

@@ -1,11 +1,12 @@
 //! Laws of the words after a verb: which are stray, which lack a value, and which are operands.
 
-ghost use Rattle.std.specs.Prelude.{◌≡◌, ◌⊎◌, ◌↔◌, ◌+◌, ℕ, IsTrue, List, length, map};
+ghost use Rattle.std.specs.Prelude.{◌∷◌, ◌≡◌, ◌⊎◌, ◌↔◌, ◌+◌, ℕ, IsTrue, List, None, Some, [], length, map};
 ghost use Rattle.std.specs.List.{filter, list_any};
 ghost use Rattle.ptg_base.specs.Lists.{IsIn};
 ghost use Rattle.ptg_words.specs.Parts.{has_twice, is_lacking, is_stray, operands, parts, shards, texts_of, workers};
-ghost use Rattle.ptg_words.specs.Words.{Verb, options_of};
+ghost use Rattle.ptg_words.specs.Words.{IsUsage, Verb, options_of, verb_of};
 ghost use Rattle.word_laws.specs.Forms.{HasForm, IsPreload, IsShards, IsTextOfShards, IsTextOfWorkers, IsWorkers, LacksValue, OccursTwice, begins_with_dash, is_other, is_value, with_previous};
+ghost use Rattle.word_laws.specs.Rules.{BreaksRule};
 
 /// A law: there is a stray option exactly where some word has a form that the verb does not have.
 pub fn a_stray_option_has_no_form_of_the_verb()
@@ -34,4 +35,12 @@ pub fn an_option_occurs_twice_where_two_words_are_it()
 pub fn the_texts_of_an_option_are_given_by_its_words()
     ensures workers { (verb : Verb) (words : List (List ℕ)) (text : List ℕ) → IsIn text (texts_of workers (parts (options_of verb) words)) ↔ IsTextOfWorkers verb words text }
     ensures shards { (verb : Verb) (words : List (List ℕ)) (text : List ℕ) → IsIn text (texts_of shards (parts (options_of verb) words)) ↔ IsTextOfShards verb words text }
+{}
+
+/// A law: arguments break a rule exactly where there is no first word, or it is no verb, or the words after it break a rule that is
+/// stated over the words themselves.
+pub fn the_rules_are_over_the_words()
+    ensures none { IsUsage [] }
+    ensures no_verb { (first : List ℕ) (words : List (List ℕ)) → verb_of first ≡ None → IsUsage (first ∷ words) }
+    ensures rules { (verb : Verb) (first : List ℕ) (words : List (List ℕ)) → verb_of first ≡ Some verb → IsUsage (first ∷ words) ↔ BreaksRule verb first words }
 {}
