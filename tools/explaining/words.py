@@ -29,7 +29,7 @@ VERBS = {
     "check": Verb("checks that a job is consistent, and counts its tasks, edges and write-backs", {"JDF": FILE, "DATA": FILE}),
     "show": Verb("prints the canonical spelling of a JDF", {"JDF": FILE}),
     "demo": Verb("runs a made job of N rows of tiles, N from 1 to 96", {"N": (1, 96)}),
-    "trace": Verb("runs a job and prints its trace", {"JDF": FILE, "DATA": FILE}, (WORKERS, SHARDS), carried_out=False),
+    "trace": Verb("runs a job and prints its trace", {"JDF": FILE, "DATA": FILE}, (WORKERS, SHARDS)),
     "replay": Verb("runs a job in the order of a trace", {"JDF": FILE, "DATA": FILE, "TRACE": FILE}),
     "certify": Verb("runs a job, and prints a heaviest chain of its tasks, or a cycle", {"JDF": FILE, "DATA": FILE}),
     "ranks": Verb("runs a job on R ranks, R from 1 to 64", {"JDF": FILE, "DATA": FILE, "R": (1, 64), "SEED": (0, 2**64 - 1)}, carried_out=False),

@@ -13,7 +13,7 @@ use Rattle.jdf_read.proofs.Either.{tree_or_fault}
 use Rattle.job_stages.specs.declared.verdict.JobVerdict.TheVariants as jobs
 use Rattle.job_stages.proofs.Always.{texts_some}
 use Rattle.ptg_top.specs.declared.request.Request.{Request}
-use Rattle.ptg_top.specs.declared.request.Request.TheVariants.{Run, Show, Check, Demo, Replay, Certify}
+use Rattle.ptg_top.specs.declared.request.Request.TheVariants.{Run, Show, Check, Demo, Trace, Replay, Certify}
 use Rattle.ptg_top.specs.Denotation as verdicts
 use Rattle.ptg_top.specs.Denotation.{Denotation}
 use Rattle.ptg_top.specs.Requests.{Requests, request_of}
@@ -28,10 +28,14 @@ use Rattle.dep_iter.specs.Consistent.{IsConsistent}
 use Rattle.chain_cert.specs.Weights.{class_weights}
 use Rattle.chain_exists.proofs.Existing.{some_certificate}
 use Rattle.ptg_top.specs.Certify.{IsCertified, certified}
+use Rattle.trace_core.specs.Text.{trace_text}
 use Rattle.trace_exists.proofs.Either.{fault_or_trace}
+use Rattle.trace_exists.proofs.Growing.{some_whole_order}
+use Rattle.ptg_top.specs.Trace.{IsTraced}
 use Rattle.ptg_top.specs.Replay.{IsReplayed}
 use Rattle.ptg_top.specs.Demo.{DemoDenotes, IsSummary, summed}
-use Rattle.ptg_top.specs.declared.verdict.Finding.TheVariants.{Answer}
+use Rattle.ptg_top.specs.declared.verdict.Finding.TheVariants.{Answer, Order as TraceText}
+use Rattle.run_pool.specs.declared.settings.Settings.{Settings}
 use Rattle.ptg_top.specs.Preload.{is_too_large}
 use Rattle.ptg_top.proofs.Answered.{some_on}
 use Rattle.ptg_top.proofs.Checked.{contents_consistent, fault_refuses}
@@ -98,6 +102,19 @@ certify_some files jdf tiles =
     let found = some_on IsCertified checked.0 (λ P given is. certified_some P given (contents_consistent jdf tiles a b P given (subst (ContentsDenote jdf tiles a b) is checked.1))) in
     (found.0, (checked.0, checked.1, found.1))
 
+traced_some : (P : Plan) (given : Data) → IsConsistent P → (v : Denotation) × IsTraced P given v
+traced_some P given con =
+    let order = some_whole_order P given con in
+    (verdicts.Ran P (TraceText (trace_text P order.0)), (order.0, order.1, refl))
+
+trace_some : (files : Entries) (jdf tiles : List ℕ) (settings : Settings) → (v : Denotation) × RequestDenotes files (Trace jdf tiles settings) v
+trace_some files jdf tiles settings =
+    let a = file_of files jdf in
+    let b = file_of files tiles in
+    let checked = contents_some jdf tiles a b in
+    let found = some_on IsTraced checked.0 (λ P given is. traced_some P given (contents_consistent jdf tiles a b P given (subst (ContentsDenote jdf tiles a b) is checked.1))) in
+    (found.0, (checked.0, checked.1, found.1))
+
 replayed_some : (trace : List ℕ) (content : Option (List ℕ)) (P : Plan) (given : Data) → IsConsistent P → (v : Denotation) × IsReplayed trace content P given v
 replayed_some trace None P given con = (verdicts.Unread trace, refl)
 replayed_some trace (Some text) P given con = elim (fault_or_trace P given con text) [
@@ -121,6 +138,7 @@ request_some files (Run jdf tiles settings) = let checked = contents_some jdf ti
 request_some files (Show jdf) = content_shows_some jdf (file_of files jdf)
 request_some files (Check jdf tiles) = contents_some jdf tiles (file_of files jdf) (file_of files tiles)
 request_some files (Demo rows) = demo_some rows
+request_some files (Trace jdf tiles settings) = trace_some files jdf tiles settings
 request_some files (Replay jdf tiles trace) = replay_some files jdf tiles trace
 request_some files (Certify jdf tiles) = certify_some files jdf tiles
 

@@ -9,13 +9,14 @@ use Rattle.job_stages.specs.declared.verdict.JobVerdict.TheVariants as jobs
 use Rattle.run_pool.specs.declared.settings.Settings.{Settings}
 use Rattle.ptg_top.specs.Preload.{is_too_large}
 use Rattle.ptg_top.specs.declared.request.Request.{Request}
-use Rattle.ptg_top.specs.declared.request.Request.TheVariants.{Certify, Check, Run}
+use Rattle.ptg_top.specs.declared.request.Request.TheVariants.{Certify, Check, Run, Trace}
 use Rattle.ptg_top.specs.declared.verdict.Finding.TheVariants.{Answer}
 use Rattle.ptg_top.specs.declared.verdict.Verdict.{Verdict}
 use Rattle.ptg_top.specs.Denotation as verdicts
 use Rattle.ptg_top.specs.Denotation.{Denotation, denoted}
 use Rattle.ptg_top.specs.Answering.{IsAnswer, IsRefusal, OnConsistent}
 use Rattle.ptg_top.specs.Certify.{IsCertified}
+use Rattle.ptg_top.specs.Trace.{IsTraced}
 use Rattle.ptg_top.specs.JobFiles.{Entries, FilesDenote}
 use Rattle.ptg_top.specs.Meaning.{IsUnreadOf, MayBeUnreadFor, RequestDenotes}
 use Rattle.ptg_top.specs.Reports.{IsOfTexts, IsVerdictOnRequest}
@@ -62,6 +63,10 @@ run_goes_on : (jdf tiles : List ℕ) (settings : Settings) → GoesOn (Run jdf t
 run_goes_on jdf tiles settings =
     record { unread = λ contents name h. h; denotes = λ files checked v h k. (checked, h, k); of_texts = answer_of_texts settings }
 
+trace_goes_on : (jdf tiles : List ℕ) (settings : Settings) → GoesOn (Trace jdf tiles settings) jdf tiles IsTraced
+trace_goes_on jdf tiles settings =
+    record { unread = λ contents name h. h; denotes = λ files checked v h k. (checked, h, k); of_texts = λ P given v h. subst IsOfTexts (sym h.2) tt }
+
 certify_goes_on : (jdf tiles : List ℕ) → GoesOn (Certify jdf tiles) jdf tiles IsCertified
 certify_goes_on jdf tiles =
     record { unread = λ contents name h. h; denotes = λ files checked v h k. (checked, h, k); of_texts = λ P given v h. subst IsOfTexts (sym h.2) tt }
@@ -97,3 +102,12 @@ module _ (contents : Option Entries) (old new : List ℕ → ℕ) (jdf tiles : L
   pub certify_finds : (checked : Denotation) (P : Plan) (given : Data) (r : Result Verdict OutOfMemory) → checked ≡ verdicts.Job (jobs.Consistent P given)
       → IsVerdictOnRequest contents old new (Check jdf tiles) checked → IfOk r (λ v. IsCertified P given (denoted v)) → IfOk r (λ v. IsVerdictOnRequest contents old new (Certify jdf tiles) (denoted v))
   certify_finds = verb_finds (Certify jdf tiles) IsCertified (certify_goes_on jdf tiles)
+
+  -- the verdict of `trace`, from that of `check`
+  module _ (settings : Settings) where
+    pub trace_refuses : (checked : Denotation) → IsVerdictOnRequest contents old new (Check jdf tiles) checked → IsRefusal checked → IsVerdictOnRequest contents old new (Trace jdf tiles settings) checked
+    trace_refuses = verb_refuses (Trace jdf tiles settings) IsTraced (trace_goes_on jdf tiles settings)
+
+    pub trace_finds : (checked : Denotation) (P : Plan) (given : Data) (r : Result Verdict OutOfMemory) → checked ≡ verdicts.Job (jobs.Consistent P given)
+        → IsVerdictOnRequest contents old new (Check jdf tiles) checked → IfOk r (λ v. IsTraced P given (denoted v)) → IfOk r (λ v. IsVerdictOnRequest contents old new (Trace jdf tiles settings) (denoted v))
+    trace_finds = verb_finds (Trace jdf tiles settings) IsTraced (trace_goes_on jdf tiles settings)

@@ -55,6 +55,7 @@ of_texts (verdicts.Ran P (findings.Answer (outcome.Stalled ran total rows))) h =
 of_texts (verdicts.Ran P (findings.Summary found)) h = (λ e. absurd cc, λ e. absurd cc, λ e. absurd cc)
 of_texts (verdicts.Ran P (findings.Chain found)) h = (λ e. absurd cc, λ e. absurd cc, λ e. absurd cc)
 of_texts (verdicts.Ran P (findings.Cycle found)) h = (λ e. absurd cc, λ e. absurd cc, λ e. absurd cc)
+of_texts (verdicts.Ran P (findings.Order text)) h = (λ e. absurd cc, λ e. absurd cc, λ e. absurd cc)
 of_texts (verdicts.Spelling text) h = (λ e. absurd cc, λ e. absurd cc, λ e. absurd cc)
 of_texts verdicts.Preload h = (λ e. absurd cc, λ e. absurd cc, λ e. absurd cc)
 of_texts (verdicts.Trace fault) h = (λ e. absurd cc, λ e. absurd cc, λ e. absurd cc)

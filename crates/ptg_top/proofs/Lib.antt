@@ -6,6 +6,7 @@ pub mod Replayed
 pub mod Summed
 pub mod Preloads
 pub mod TableRuns
+pub mod Traced
 pub mod Certified
 pub mod Carried
 pub mod JobTexts

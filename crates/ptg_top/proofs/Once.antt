@@ -1,5 +1,5 @@
 -- Arguments and files denote one verdict at most.
-use Rattle.std.proofs.Common.{◌≡◌, ℕ, List, Some, sym, ◌∙◌, ap, subst, inl, inr}
+use Rattle.std.proofs.Common.{◌≡◌, ℕ, List, Some, sym, ◌∙◌, ap, subst, ◌⊎◌, inl, inr}
 use Rattle.std.specs.Prelude.{Option, None}
 use Rattle.ptg_io.specs.Files.{file_of}
 use Rattle.ptg_io.specs.Sink.{appended}
@@ -7,12 +7,12 @@ use Rattle.jdf_tree.specs.declared.tree.Jdf.{Jdf}
 use Rattle.jdf_print.specs.Spelling.{spelling}
 use Rattle.jdf_read.proofs.Once.{one_tree}
 use Rattle.ptg_top.specs.declared.request.Request.{Request}
-use Rattle.ptg_top.specs.declared.request.Request.TheVariants.{Run, Show, Check, Demo, Replay, Certify}
+use Rattle.ptg_top.specs.declared.request.Request.TheVariants.{Run, Show, Check, Demo, Trace, Replay, Certify}
 use Rattle.ptg_top.specs.Denotation as verdicts
 use Rattle.ptg_top.specs.Denotation.{Denotation}
-use Rattle.ptg_top.specs.JobFiles.{Entries, ContentsDenote}
+use Rattle.ptg_top.specs.JobFiles.{Entries, ContentsDenote, FilesDenote}
 use Rattle.job_gen.specs.Job.{data_text, jdf_text}
-use Rattle.ptg_top.specs.Meaning.{Shows, ContentShows, RequestDenotes, OneMeaning}
+use Rattle.ptg_top.specs.Meaning.{AreTracesOfOneJob, Shows, ContentShows, IsNoTrace, OneJob, RequestDenotes, OneMeaning}
 use Rattle.ptg_top.specs.Headline.{text_of, status_of, OneOutput}
 use Rattle.ptg_top.specs.Answering.{IsAnswer, OnConsistent}
 use Rattle.coll_data.specs.Data.{Data}
@@ -27,6 +27,9 @@ use Rattle.ptg_top.specs.Demo.{DemoDenotes, IsSummary}
 use Rattle.trace_core.proofs.OneFault.{one_fault}
 use Rattle.trace_exists.proofs.Either.{trace_or_fault}
 use Rattle.ptg_top.specs.Replay.{IsReplayed, IsReplayOf}
+use Rattle.ptg_top.specs.Trace.{IsTraced}
+use Rattle.job_stages.specs.declared.verdict.JobVerdict.TheVariants as jobs
+use Rattle.run_pool.specs.declared.settings.Settings.{Settings}
 use Rattle.ptg_top.proofs.Answered.{once_on}
 use Rattle.ptg_top.proofs.Requested.{one_request}
 use Rattle.ptg_top.proofs.Checked.{refused_once, refused_or_read, contents_consistent, contents_once, job_texts_once}
@@ -81,25 +84,53 @@ replay_once files jdf tiles trace v w (a, h, e) (b, k, d) =
     (λ P given is. replayed_once trace (file_of files trace) P given v w (contents_consistent jdf tiles a_file b_file P given (subst (ContentsDenote jdf tiles a_file b_file) is k)))
     (subst (λ (c : Denotation). OnConsistent Verb c v) (contents_once jdf tiles a_file b_file a b h k) e) d
 
--- what is asked and the files denote one verdict at most
-request_once : (files : Entries) (request : Request) (v w : Denotation) → RequestDenotes files request v → RequestDenotes files request w → v ≡ w
-request_once files (Run jdf tiles settings) v w (a, h, e) (b, k, d) =
+-- two verdicts of `trace` are the same refusal, or traces of one job
+traces_on : (files : Entries) (jdf tiles : List ℕ) (checked v w : Denotation) → FilesDenote files jdf tiles checked → OnConsistent IsTraced checked v → OnConsistent IsTraced checked w → (v ≡ w) ⊎ AreTracesOfOneJob files v w
+traces_on files jdf tiles (verdicts.Job (jobs.Consistent P given)) v w found h k = inr (jdf, tiles, P, given, found, h, k)
+traces_on files jdf tiles checked v w found h k = inl (h ∙ sym k)
+
+traces_of_one_job : (files : Entries) (jdf tiles : List ℕ) (settings : Settings) (v w : Denotation) → RequestDenotes files (Trace jdf tiles settings) v → RequestDenotes files (Trace jdf tiles settings) w
+    → (v ≡ w) ⊎ AreTracesOfOneJob files v w
+traces_of_one_job files jdf tiles settings v w (a, h, e) (b, k, d) =
+    traces_on files jdf tiles b v w k (subst (λ (c : Denotation). OnConsistent IsTraced c v) (contents_once jdf tiles (file_of files jdf) (file_of files tiles) a b h k) e) d
+
+-- what is asked and the files denote one verdict at most, where it is no trace
+request_once : (files : Entries) (request : Request) (v w : Denotation) → IsNoTrace request → RequestDenotes files request v → RequestDenotes files request w → v ≡ w
+request_once files (Trace jdf tiles settings) v w free h k = absurd free
+request_once files (Run jdf tiles settings) v w free (a, h, e) (b, k, d) =
     once_on (IsAnswer settings) b v w (λ P given is p q. p ∙ sym q)
     (subst (λ (c : Denotation). OnConsistent (IsAnswer settings) c v) (contents_once jdf tiles (file_of files jdf) (file_of files tiles) a b h k) e) d
-request_once files (Show jdf) v w h k = content_shows_once jdf (file_of files jdf) v w h k
-request_once files (Check jdf tiles) v w h k = contents_once jdf tiles (file_of files jdf) (file_of files tiles) v w h k
-request_once files (Demo rows) v w h k = demo_once rows v w h k
-request_once files (Replay jdf tiles trace) v w h k = replay_once files jdf tiles trace v w h k
-request_once files (Certify jdf tiles) v w h k = certify_once files jdf tiles v w h k
+request_once files (Show jdf) v w free h k = content_shows_once jdf (file_of files jdf) v w h k
+request_once files (Check jdf tiles) v w free h k = contents_once jdf tiles (file_of files jdf) (file_of files tiles) v w h k
+request_once files (Demo rows) v w free h k = demo_once rows v w h k
+request_once files (Replay jdf tiles trace) v w free h k = replay_once files jdf tiles trace v w h k
+request_once files (Certify jdf tiles) v w free h k = certify_once files jdf tiles v w h k
 
 pub one_meaning : OneMeaning
-one_meaning words files v w (inl h) (inl k) = h.1 ∙ sym k.1
-one_meaning words files v w (inl h) (inr (request, asked, k)) = absurd (h.0 request asked)
-one_meaning words files v w (inr (request, asked, h)) (inl k) = absurd (k.0 request asked)
-one_meaning words files v w (inr (a, asked, h)) (inr (b, other, k)) =
-    request_once files b v w (subst (λ (r : Request). RequestDenotes files r v) (one_request words a b asked other) h) k
+one_meaning words files v w free (inl h) (inl k) = h.1 ∙ sym k.1
+one_meaning words files v w free (inl h) (inr (request, asked, k)) = absurd (h.0 request asked)
+one_meaning words files v w free (inr (request, asked, h)) (inl k) = absurd (k.0 request asked)
+one_meaning words files v w free (inr (a, asked, h)) (inr (b, other, k)) =
+    request_once files b v w (free b other) (subst (λ (r : Request). RequestDenotes files r v) (one_request words a b asked other) h) k
+
+-- and two of a trace are of one job
+one_or_traces : (files : Entries) (request : Request) (v w : Denotation) → RequestDenotes files request v → RequestDenotes files request w → (v ≡ w) ⊎ AreTracesOfOneJob files v w
+one_or_traces files (Trace jdf tiles settings) v w h k = traces_of_one_job files jdf tiles settings v w h k
+one_or_traces files (Run jdf tiles settings) v w h k = inl (request_once files (Run jdf tiles settings) v w tt h k)
+one_or_traces files (Show jdf) v w h k = inl (request_once files (Show jdf) v w tt h k)
+one_or_traces files (Check jdf tiles) v w h k = inl (request_once files (Check jdf tiles) v w tt h k)
+one_or_traces files (Demo rows) v w h k = inl (request_once files (Demo rows) v w tt h k)
+one_or_traces files (Replay jdf tiles trace) v w h k = inl (request_once files (Replay jdf tiles trace) v w tt h k)
+one_or_traces files (Certify jdf tiles) v w h k = inl (request_once files (Certify jdf tiles) v w tt h k)
+
+pub one_job : OneJob
+one_job words files v w (inl h) (inl k) = inl (h.1 ∙ sym k.1)
+one_job words files v w (inl h) (inr (request, asked, k)) = absurd (h.0 request asked)
+one_job words files v w (inr (request, asked, h)) (inl k) = absurd (k.0 request asked)
+one_job words files v w (inr (a, asked, h)) (inr (b, other, k)) =
+    one_or_traces files b v w (subst (λ (r : Request). RequestDenotes files r v) (one_request words a b asked other) h) k
 
 pub one_output : OneOutput
-one_output words files before after other status another one two =
-    let same = one_meaning words files one.verdict two.verdict one.denoted two.denoted in
-    (one.text ∙ (ap (λ v. appended before (text_of v)) same ∙ sym two.text), one.ends ∙ (ap status_of same ∙ sym two.ends))
+one_output words files before after other status another free first second =
+    let same = one_meaning words files first.verdict second.verdict free first.denoted second.denoted in
+    (first.text ∙ (ap (λ v. appended before (text_of v)) same ∙ sym second.text), first.ends ∙ (ap status_of same ∙ sym second.ends))

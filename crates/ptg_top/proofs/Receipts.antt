@@ -13,7 +13,7 @@ use Rattle.ptg_words.specs.Words.{Orders}
 use Rattle.job_stages.specs.declared.verdict.JobVerdict.TheVariants as jobs
 use Rattle.run_pool.specs.declared.settings.Settings.{Settings}
 use Rattle.ptg_top.specs.declared.request.Request.{Request}
-use Rattle.ptg_top.specs.declared.request.Request.TheVariants.{Run, Show, Check, Demo, Replay, Certify}
+use Rattle.ptg_top.specs.declared.request.Request.TheVariants.{Run, Show, Check, Demo, Trace as TraceOf, Replay, Certify}
 use Rattle.ptg_top.specs.declared.status.Status.{Status}
 use Rattle.ptg_top.specs.declared.verdict.Finding.{Finding}
 use Rattle.ptg_top.specs.declared.verdict.Finding.TheVariants as findings
@@ -32,6 +32,7 @@ use Rattle.ptg_top.specs.Requests.{request_of}
 use Rattle.ptg_top.specs.Certify.{IsCertified}
 use Rattle.ptg_top.specs.Demo.{IsSummary, MadeTextsDenote}
 use Rattle.ptg_top.specs.Replay.{IsReplayed}
+use Rattle.ptg_top.specs.Trace.{IsTraced}
 use Rattle.ptg_top.specs.Findings.{status_of_finding}
 use Rattle.ptg_top.specs.Headline.{status_of}
 use Rattle.ptg_top.specs.Tables.{usual_settings}
@@ -47,6 +48,7 @@ a_finding_has_its_status (findings.Answer (outcomes.Stalled ran total rows)) = t
 a_finding_has_its_status (findings.Summary found) = tt
 a_finding_has_its_status (findings.Chain found) = tt
 a_finding_has_its_status (findings.Cycle found) = tt
+a_finding_has_its_status (findings.Order text) = tt
 
 some_is_not_none : (r : ReceiptView) → ◌≡◌ {A = Option ReceiptView} (Some r) None → ⊥
 some_is_not_none r e = absurd cc
@@ -64,6 +66,9 @@ module _ (r : ReceiptView) (finding : Finding) where
       absurd (some_is_not_none r (subst (λ (q : Request). IsRunAsAsked q (Ran (Table r) finding)) same h))
   receipt_of_order (order.Demo rows) request e h =
       let same : request ≡ Demo rows = cc in
+      subst (λ (q : Request). IsRunAsAsked q (Ran (Table r) finding)) same h
+  receipt_of_order (order.Trace j t w s) request e h =
+      let same : request ≡ TraceOf j t (record { workers = w; shards = s; preload = false }) = cc in
       subst (λ (q : Request). IsRunAsAsked q (Ran (Table r) finding)) same h
   receipt_of_order (order.Replay j t l) request e h =
       let same : request ≡ Replay j t l = cc in
@@ -106,6 +111,9 @@ module _ (words : List (List ℕ)) (s : Status) where
   unanswered v ran of_run (order.Run j t w k p) formed is_run answer_status =
       let settings : Settings = record { workers = w; shards = k; preload = p } in
       of_run settings (ran (Run j t settings) (record { order = order.Run j t w k p; formed = formed; asks = refl })) answer_status
+  unanswered v ran of_run (order.Trace j t w k) formed is_run answer_status =
+      let settings : Settings = record { workers = w; shards = k; preload = false } in
+      of_run settings (ran (TraceOf j t settings) (record { order = order.Trace j t w k; formed = formed; asks = refl })) answer_status
   unanswered v ran of_run (order.Demo rows) formed is_run answer_status =
       of_run usual_settings (ran (Demo rows) (record { order = order.Demo rows; formed = formed; asks = refl })) answer_status
   unanswered v ran of_run (order.Certify j t) formed is_run answer_status =
@@ -166,6 +174,9 @@ module _ (P : Plan) (finding : Finding) where
   of_replayed trace (Some text) Q given (inl (fault, h, e)) = absurd cc
   of_replayed trace (Some text) Q given (inr (found, e)) = cc
 
+  of_traced : (Q : Plan) (given : Data) → IsTraced Q given (verdicts.Ran P finding) → Q ≡ P
+  of_traced Q given (tasks, h, e) = cc
+
   of_certified : (Q : Plan) (given : Data) → IsCertified Q given (verdicts.Ran P finding) → Q ≡ P
   of_certified Q given (c, h, e) = cc
 
@@ -187,6 +198,11 @@ module _ (P : Plan) (finding : Finding) where
         let same : request ≡ Demo rows = cc in
         let at : RequestDenotes files (Demo rows) (verdicts.Ran P finding) = subst (λ (q : Request). RequestDenotes files q (verdicts.Ran P finding)) same h in
         plan_is_found (MadeTextsDenote rows) (IsSummary rows) (no_texts_are_run jdf_text (data_text rows)) (of_summary rows) at.0 at.1 at.2
+    order_finds (order.Trace j t w s) request e h =
+        let settings : Settings = record { workers = w; shards = s; preload = false } in
+        let same : request ≡ TraceOf j t settings = cc in
+        let at : RequestDenotes files (TraceOf j t settings) (verdicts.Ran P finding) = subst (λ (q : Request). RequestDenotes files q (verdicts.Ran P finding)) same h in
+        plan_is_found (FilesDenote files j t) IsTraced (no_contents_are_run j t (file_of files j) (file_of files t)) of_traced at.0 at.1 at.2
     order_finds (order.Replay j t l) request e h =
         let same : request ≡ Replay j t l = cc in
         let at : RequestDenotes files (Replay j t l) (verdicts.Ran P finding) = subst (λ (q : Request). RequestDenotes files q (verdicts.Ran P finding)) same h in

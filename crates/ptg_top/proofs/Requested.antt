@@ -1,13 +1,13 @@
 -- What a command asks for: one thing, whose names are text and whose numbers are in their ranges.
-use Rattle.std.proofs.Common.{◌≡◌, ℕ, List, Some, sym, ◌∙◌, ap, subst}
-use Rattle.std.specs.Prelude.{Option}
+use Rattle.std.proofs.Common.{◌≡◌, ℕ, List, Some, refl, sym, ◌∙◌, ap, subst}
+use Rattle.std.specs.Prelude.{Option, false}
 use Rattle.ptg_words.specs.declared.order.Order.{Order}
 use Rattle.ptg_words.specs.declared.order.Order.TheVariants as order
 use Rattle.ptg_words.specs.Laws.{AreText, FilesAreText, HasNumbersInRange, NumbersInRange, files_of}
 use Rattle.ptg_words.specs.Words.{Orders}
 use Rattle.ptg_words.proofs.OneOrder.{one_order}
 use Rattle.ptg_top.specs.declared.request.Request.{Request}
-use Rattle.ptg_top.specs.declared.request.Request.TheVariants.{Run, Show, Check, Demo, Replay, Certify}
+use Rattle.ptg_top.specs.declared.request.Request.TheVariants.{Run, Show, Check, Demo, Trace, Replay, Certify}
 use Rattle.ptg_top.specs.Requests.{Requests, request_of}
 use Rattle.ptg_top.specs.Reports.{IsProper}
 
@@ -26,6 +26,8 @@ asked_is_proper (order.Show j) m n r e = let same : Show j ≡ r = cc in subst I
 asked_is_proper (order.Check j t) m n r e = let same : Check j t ≡ r = cc in subst IsProper same (m.0, m.1.0)
 asked_is_proper (order.Demo rows) m n r e =
     let same : Demo rows ≡ r = cc in subst IsProper same n
+asked_is_proper (order.Trace j t w s) m n r e =
+    let same : Trace j t (record { workers = w; shards = s; preload = false }) ≡ r = cc in subst IsProper same (m.0, m.1.0, n, refl)
 asked_is_proper (order.Replay j t l) m n r e = let same : Replay j t l ≡ r = cc in subst IsProper same (m.0, m.1.0, m.1.1.0)
 asked_is_proper (order.Certify j t) m n r e = let same : Certify j t ≡ r = cc in subst IsProper same (m.0, m.1.0)
 asked_is_proper o m n r e = absurd cc

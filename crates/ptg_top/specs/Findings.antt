@@ -10,18 +10,19 @@ use Rattle.report_text.specs.Printed.{outcome_text}
 use Rattle.ptg_top.specs.declared.status.Status.{Status}
 use Rattle.ptg_top.specs.declared.status.Status.TheVariants as status
 use Rattle.ptg_top.specs.declared.verdict.Finding.{Finding}
-use Rattle.ptg_top.specs.declared.verdict.Finding.TheVariants.{Answer, Summary, Chain, Cycle}
+use Rattle.ptg_top.specs.declared.verdict.Finding.TheVariants.{Answer, Summary, Chain, Cycle, Order}
 
 -- an answer of this plan, on some data
 abbrev pub IsAnswered : Plan → Outcome → Type 0
 IsAnswered P outcome = (given : Data) × (outcome ≡ answer P given)
 
--- what is found of a job with this plan: its answer on some data, or what names no tasks but those of its classes
+-- what is found of a job with this plan: its answer on some data, or what names no tasks but those of its classes, or a text
 abbrev pub IsFindingOf : Plan → Finding → Type 0
 IsFindingOf P (Answer outcome) = IsAnswered P outcome
 IsFindingOf P (Summary found) = Unit {0}
 IsFindingOf P (Chain found) = HasClassesOfChain P found
 IsFindingOf P (Cycle found) = HasClassesOfCycle P found
+IsFindingOf P (Order text) = Unit {0}
 
 -- what is printed of it
 abbrev pub finding_text : Plan → Finding → List ℕ
@@ -29,6 +30,7 @@ finding_text P (Answer outcome) = outcome_text P outcome
 finding_text P (Summary found) = summary_text found
 finding_text P (Chain found) = chain_text P found
 finding_text P (Cycle found) = cycle_text P found
+finding_text P (Order text) = text
 
 abbrev pub status_of_outcome : Outcome → Status
 status_of_outcome (outcomes.Complete count given) = status.Complete
@@ -41,3 +43,4 @@ status_of_finding (Answer outcome) = status_of_outcome outcome
 status_of_finding (Summary found) = status.Complete
 status_of_finding (Chain found) = status.Complete
 status_of_finding (Cycle found) = status.Stalled
+status_of_finding (Order text) = status.Complete

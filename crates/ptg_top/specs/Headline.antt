@@ -11,7 +11,7 @@ use Rattle.ptg_top.specs.Denotation as verdicts
 use Rattle.ptg_top.specs.Denotation.{Denotation}
 use Rattle.ptg_top.specs.Findings.{finding_text, status_of_finding}
 use Rattle.ptg_top.specs.JobFiles.{Entries}
-use Rattle.ptg_top.specs.Meaning.{Denotes}
+use Rattle.ptg_top.specs.Meaning.{AskForNoTrace, Denotes}
 use Rattle.ptg_top.specs.Reports.{IsVerdictOnWords}
 use Rattle.ptg_top.specs.JobText.{job_text, status_of_job}
 
@@ -62,18 +62,19 @@ IsExact OutOfMemory = ⊥
 IsExact PreloadTooLarge = Unit {0}
 IsExact TraceRefused = Unit {0}
 
--- the sink grew by exactly the text of the verdict that the arguments and the files denote (one at most), and this is its status
+-- the sink grew by exactly the text of a verdict that the arguments and the files denote (one at most, but for traces), and this is its
+-- status
 pub record Prints (words : List (List ℕ)) (files : Entries) (before after : Option (List ℕ)) (status : Status) : Type 0 where
   pub verdict : Denotation
   pub denoted : Denotes words files verdict
   pub text : after ≡ appended before (text_of verdict)
   pub ends : status ≡ status_of verdict
 
--- the arguments and the files determine what is printed, and the status
+-- arguments that ask for no trace and files determine what is printed, and the status
 abbrev pub OneOutput : Type 0
 OneOutput =
     (words : List (List ℕ)) (files : Entries) (before after other : Option (List ℕ)) (status another : Status)
-    → Prints words files before after status → Prints words files before other another → (after ≡ other) × (status ≡ another)
+    → AskForNoTrace words → Prints words files before after status → Prints words files before other another → (after ≡ other) × (status ≡ another)
 
 -- and whatever they are, something is printed for them, with a status
 abbrev pub SomeOutput : Type 0

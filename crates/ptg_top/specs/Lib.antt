@@ -8,6 +8,7 @@ pub mod JobFiles
 pub mod Demo
 pub mod Certify
 pub mod Replay
+pub mod Trace
 pub mod Meaning
 pub mod Settings
 pub mod Reports

@@ -9,7 +9,7 @@ use Rattle.jdf_tree.specs.Jdf.{IsJdf}
 use Rattle.jdf_print.specs.Spelling.{spelling}
 use Rattle.job_stages.specs.declared.verdict.JobVerdict.TheVariants as jobs
 use Rattle.ptg_top.specs.declared.request.Request.{Request}
-use Rattle.ptg_top.specs.declared.request.Request.TheVariants.{Run, Show, Check, Demo, Replay, Certify}
+use Rattle.ptg_top.specs.declared.request.Request.TheVariants.{Run, Show, Check, Demo, Trace, Replay, Certify}
 use Rattle.ptg_top.specs.Denotation as verdicts
 use Rattle.ptg_top.specs.Denotation.{Denotation}
 use Rattle.ptg_top.specs.Requests.{Requests}
@@ -18,6 +18,7 @@ use Rattle.ptg_top.specs.Answering.{IsAnswer, OnConsistent}
 use Rattle.ptg_top.specs.Certify.{IsCertified}
 use Rattle.ptg_top.specs.Demo.{DemoDenotes}
 use Rattle.ptg_top.specs.Replay.{IsReplayed}
+use Rattle.ptg_top.specs.Trace.{IsTraced}
 
 -- the arguments form no command that is carried out
 abbrev pub IsNoOrder : List (List ℕ) → Type 0
@@ -33,26 +34,46 @@ ContentShows name None v = v ≡ verdicts.Unread name
 ContentShows name (Some text) v = Shows text v
 
 -- What the files denote for what is asked: `run` refuses what `check` refuses; of a job that `check` finds consistent it refuses a
--- preload that is too large, or answers the job. `replay` and `certify` refuse what `check` refuses; of a consistent job `replay` gives
--- the verdict on the trace file, and `certify` finds the certificate. `demo` reads no file.
+-- preload that is too large, or answers the job. `trace`, `replay` and `certify` refuse what `check` refuses; of a consistent job
+-- `trace` gives the text of some whole order, `replay` the verdict on the trace file, and `certify` finds the certificate. `demo` reads
+-- no file.
 abbrev pub RequestDenotes : Entries → Request → Denotation → Type 0
 RequestDenotes files (Run jdf tiles settings) v = (checked : Denotation) × FilesDenote files jdf tiles checked × OnConsistent (IsAnswer settings) checked v
 RequestDenotes files (Show jdf) v = ContentShows jdf (file_of files jdf) v
 RequestDenotes files (Check jdf tiles) v = FilesDenote files jdf tiles v
 RequestDenotes files (Demo rows) v = DemoDenotes rows v
+RequestDenotes files (Trace jdf tiles settings) v = (checked : Denotation) × FilesDenote files jdf tiles checked × OnConsistent IsTraced checked v
 RequestDenotes files (Replay jdf tiles trace) v =
     (checked : Denotation) × FilesDenote files jdf tiles checked × OnConsistent (IsReplayed trace (file_of files trace)) checked v
 RequestDenotes files (Certify jdf tiles) v = (checked : Denotation) × FilesDenote files jdf tiles checked × OnConsistent IsCertified checked v
 
 -- The arguments and the files denote this verdict: usage, if the arguments form no command; else what the files denote for what
--- the arguments ask.
+-- the arguments ask. Of a trace they may denote several.
 abbrev pub Denotes : List (List ℕ) → Entries → Denotation → Type 0
 Denotes words files v =
     (IsNoOrder words × (v ≡ verdicts.Usage)) ⊎ ((request : Request) × Requests words request × RequestDenotes files request v)
 
--- the arguments and the files denote one verdict at most
+-- what is asked is no trace
+abbrev pub IsNoTrace : Request → Type 0
+IsNoTrace (Trace jdf tiles settings) = ⊥
+IsNoTrace request = Unit {0}
+
+-- the arguments ask for no trace
+abbrev pub AskForNoTrace : List (List ℕ) → Type 0
+AskForNoTrace words = (request : Request) → Requests words request → IsNoTrace request
+
+-- arguments that ask for no trace and files denote one verdict at most
 abbrev pub OneMeaning : Type 0
-OneMeaning = (words : List (List ℕ)) (files : Entries) (v w : Denotation) → Denotes words files v → Denotes words files w → v ≡ w
+OneMeaning = (words : List (List ℕ)) (files : Entries) (v w : Denotation) → AskForNoTrace words → Denotes words files v → Denotes words files w → v ≡ w
+
+-- two verdicts are texts of whole orders of one consistent job, which two of the files denote
+abbrev pub AreTracesOfOneJob : Entries → Denotation → Denotation → Type 0
+AreTracesOfOneJob files v w =
+    (jdf tiles : List ℕ) × (P : Plan) × (given : Data) × FilesDenote files jdf tiles (verdicts.Job (jobs.Consistent P given)) × IsTraced P given v × IsTraced P given w
+
+-- two verdicts that any arguments and files denote are the same, or traces of one job
+abbrev pub OneJob : Type 0
+OneJob = (words : List (List ℕ)) (files : Entries) (v w : Denotation) → Denotes words files v → Denotes words files w → (v ≡ w) ⊎ AreTracesOfOneJob files v w
 
 -- and they denote one, whatever they are
 abbrev pub SomeMeaning : Type 0
@@ -75,6 +96,7 @@ MayBeUnreadFor contents (Run jdf tiles settings) name = IsUnreadOf contents jdf 
 MayBeUnreadFor contents (Show jdf) name = name ≡ jdf
 MayBeUnreadFor contents (Check jdf tiles) name = IsUnreadOf contents jdf tiles name
 MayBeUnreadFor contents (Demo rows) name = ⊥
+MayBeUnreadFor contents (Trace jdf tiles settings) name = IsUnreadOf contents jdf tiles name
 MayBeUnreadFor contents (Replay jdf tiles trace) name = IsUnreadOf contents jdf tiles name ⊎ IsUnreadTrace contents jdf tiles trace name
 MayBeUnreadFor contents (Certify jdf tiles) name = IsUnreadOf contents jdf tiles name
 

@@ -1,5 +1,5 @@
 -- When the program ends with a receipt of the table that ran its job, and what the receipt shows. Source: this project's own choice.
-use Rattle.std.specs.Prelude.{◌≡◌, ℕ, List, Option, Some, None}
+use Rattle.std.specs.Prelude.{◌≡◌, ℕ, false, List, Option, Some, None}
 use Rattle.coll_data.specs.Data.{Data}
 use Rattle.plan_core.specs.declared.plan.Plan.{Plan}
 use Rattle.dep_table.specs.Receipts.{ReceiptView}
@@ -9,7 +9,7 @@ use Rattle.ptg_words.specs.Words.{Orders}
 use Rattle.job_stages.specs.declared.verdict.JobVerdict.TheVariants as jobs
 use Rattle.run_pool.specs.declared.settings.Settings.{Settings}
 use Rattle.ptg_top.specs.declared.request.Request.{Request}
-use Rattle.ptg_top.specs.declared.request.Request.TheVariants.{Run, Demo, Certify}
+use Rattle.ptg_top.specs.declared.request.Request.TheVariants.{Run, Demo, Trace, Certify}
 use Rattle.ptg_top.specs.declared.status.Status.{Status}
 use Rattle.ptg_top.specs.declared.status.Status.TheVariants as status
 use Rattle.ptg_top.specs.declared.verdict.RanBy.TheVariants.{Table}
@@ -27,6 +27,7 @@ use Rattle.ptg_top.specs.Tables.{IsRunWith, ShowsSettings, usual_settings}
 abbrev pub IsRun : Order → Type 0
 IsRun (order.Run jdf tiles workers shards preload) = Unit {0}
 IsRun (order.Demo rows) = Unit {0}
+IsRun (order.Trace jdf tiles workers shards) = Unit {0}
 IsRun (order.Certify jdf tiles) = Unit {0}
 IsRun o = ⊥
 
@@ -34,6 +35,7 @@ IsRun o = ⊥
 abbrev pub IsReceiptFor : Order → ReceiptView → Type 0
 IsReceiptFor (order.Run jdf tiles workers shards preload) r = ShowsSettings (record { workers = workers; shards = shards; preload = preload }) r
 IsReceiptFor (order.Demo rows) r = ShowsSettings usual_settings r
+IsReceiptFor (order.Trace jdf tiles workers shards) r = ShowsSettings (record { workers = workers; shards = shards; preload = false }) r
 IsReceiptFor (order.Certify jdf tiles) r = ShowsSettings usual_settings r
 IsReceiptFor o r = ⊥
 
@@ -48,6 +50,7 @@ IsAnswerStatus s = ⊥
 abbrev pub FindsPlan : Entries → Order → Plan → Type 0
 FindsPlan files (order.Run jdf tiles workers shards preload) P = (given : Data) × FilesDenote files jdf tiles (verdicts.Job (jobs.Consistent P given))
 FindsPlan files (order.Demo rows) P = (given : Data) × MadeTextsDenote rows (verdicts.Job (jobs.Consistent P given))
+FindsPlan files (order.Trace jdf tiles workers shards) P = (given : Data) × FilesDenote files jdf tiles (verdicts.Job (jobs.Consistent P given))
 FindsPlan files (order.Replay jdf tiles trace) P = (given : Data) × FilesDenote files jdf tiles (verdicts.Job (jobs.Consistent P given))
 FindsPlan files (order.Certify jdf tiles) P = (given : Data) × FilesDenote files jdf tiles (verdicts.Job (jobs.Consistent P given))
 FindsPlan files o P = ⊥
@@ -73,6 +76,7 @@ IsOfRun settings v = IsAnswerStatus (status_of (denoted v)) → ⊥
 abbrev pub IsRunAsAsked : Request → Verdict → Type 0
 IsRunAsAsked (Run jdf tiles settings) v = IsOfRun settings v
 IsRunAsAsked (Demo rows) v = IsOfRun usual_settings v
+IsRunAsAsked (Trace jdf tiles settings) v = IsOfRun settings v
 IsRunAsAsked (Certify jdf tiles) v = IsOfRun usual_settings v
 IsRunAsAsked request v = receipt_of v ≡ None
 

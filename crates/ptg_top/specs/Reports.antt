@@ -1,11 +1,11 @@
 -- The verdicts on a request, and on the arguments, where a read may fail; `old` and `new` count the failed reads of each name.
 -- Source: this project's own choice.
-use Rattle.std.specs.Prelude.{◌≡◌, ◌≤◌, ◌⊎◌, ℕ, List, Option, Some}
+use Rattle.std.specs.Prelude.{◌≡◌, ◌≤◌, ◌⊎◌, ℕ, false, List, Option, Some}
 use Rattle.std.specs.Str.{IsUtf8}
 use Rattle.ptg_io.specs.Faults.{Rose}
 use Rattle.ptg_words.specs.Laws.{AreCounts}
 use Rattle.ptg_top.specs.declared.request.Request.{Request}
-use Rattle.ptg_top.specs.declared.request.Request.TheVariants.{Run, Show, Check, Demo, Replay, Certify}
+use Rattle.ptg_top.specs.declared.request.Request.TheVariants.{Run, Show, Check, Demo, Trace, Replay, Certify}
 use Rattle.ptg_top.specs.Denotation as verdicts
 use Rattle.ptg_top.specs.Denotation.{Denotation}
 use Rattle.ptg_top.specs.Requests.{Requests}
@@ -45,5 +45,6 @@ IsProper (Run jdf tiles settings) = IsUtf8 jdf × IsUtf8 tiles × AreCounts sett
 IsProper (Show jdf) = IsUtf8 jdf
 IsProper (Check jdf tiles) = IsUtf8 jdf × IsUtf8 tiles
 IsProper (Demo rows) = (1 ≤ rows) × (rows ≤ 96)
+IsProper (Trace jdf tiles settings) = IsUtf8 jdf × IsUtf8 tiles × AreCounts settings.workers settings.shards × (settings.preload ≡ false)
 IsProper (Replay jdf tiles trace) = IsUtf8 jdf × IsUtf8 tiles × IsUtf8 trace
 IsProper (Certify jdf tiles) = IsUtf8 jdf × IsUtf8 tiles

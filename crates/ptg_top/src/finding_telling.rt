@@ -12,7 +12,7 @@ use crate::status::Status;
 use crate::verdict::{Finding, RanBy};
 use flow_meaning::Outcome;
 use plan_core::Plan;
-use ptg_io::{Failed, Sink};
+use ptg_io::{Failed, Sink, write_all};
 use report_text::{
     answers_have_rows_of_their_plan, found_cycle, heaviest_chain, report, summary_line,
 };
@@ -40,6 +40,7 @@ pub fn tell_finding<O: Sink>(by: &RanBy, finding: &Finding, out: &mut O) -> Resu
         Finding::Summary(found) => summary_line(found, out),
         Finding::Chain(found) => heaviest_chain(plan_of(by), found, out),
         Finding::Cycle(found) => found_cycle(plan_of(by), found, out),
+        Finding::Order(text) => write_all(out, text.bytes()),
     }
 }
 
@@ -64,6 +65,7 @@ pub fn status_of_finding(finding: &Finding) -> Status
         Finding::Summary(_) => Status::Complete,
         Finding::Chain(_) => Status::Complete,
         Finding::Cycle(_) => Status::Stalled,
+        Finding::Order(_) => Status::Complete,
     }
 }
 

@@ -14,6 +14,7 @@ use crate::request::{Request, request_of};
 use crate::running::run;
 use crate::showing::show;
 use crate::summing::demo;
+use crate::tracing::trace;
 use crate::verdict::Verdict;
 use ptg_base::{OutOfMemory, Text};
 use ptg_io::Files;
@@ -64,7 +65,8 @@ fn carry_out<R: Threads + Wait + Sync, F: Files, G: Gate>(
         Request::Show(jdf) => show(host.alloc, jdf, files),
         Request::Check(jdf, tiles) => check(host.alloc, jdf, tiles, files),
         Request::Demo(rows) => demo(host, *rows),
-        Request::Replay(jdf, tiles, trace) => replay(host.alloc, jdf, tiles, trace, files),
+        Request::Trace(jdf, tiles, settings) => trace(host, jdf, tiles, files, *settings),
+        Request::Replay(jdf, tiles, list) => replay(host.alloc, jdf, tiles, list, files),
         Request::Certify(jdf, tiles) => certify(host, jdf, tiles, files),
     }
 }

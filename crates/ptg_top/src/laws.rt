@@ -1,15 +1,20 @@
 //! Laws of the meaning of a command.
 
-ghost use Rattle.ptg_top.specs.Meaning.{OneMeaning, SomeMeaning};
+ghost use Rattle.ptg_top.specs.Meaning.{OneJob, OneMeaning, SomeMeaning};
 ghost use Rattle.ptg_top.specs.Settings.{ShardsChangeNothing, WorkersChangeNothing};
 ghost use Rattle.ptg_top.specs.Headline.{OneOutput, SomeOutput};
 
 use ptg_words::words_give_one_order;
 
-/// A law: arguments and files denote one verdict at most, and so determine what is printed.
+/// A law: arguments that ask for no trace and files denote one verdict at most, and so determine what is printed.
 pub fn one_meaning()
     ensures meaning { OneMeaning }
     ensures output { OneOutput }
+{}
+
+/// A law: two verdicts that arguments and files denote are the same, or texts of whole orders of one job.
+pub fn one_job()
+    ensures { OneJob }
 {}
 
 /// A law: all arguments and files denote a verdict, and so something is printed for them: no input is without a meaning.

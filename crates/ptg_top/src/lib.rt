@@ -21,10 +21,11 @@ mod status;
 mod summing;
 mod table_run;
 mod telling;
+mod tracing;
 mod verdict;
 
 pub use ended::Ended;
-pub use laws::{one_meaning, settings_change_nothing_else, some_meaning};
+pub use laws::{one_job, one_meaning, settings_change_nothing_else, some_meaning};
 pub use program::ptg_main;
 pub use status::Status;
 pub use verdict::{Finding, RanBy, Verdict};

@@ -32,8 +32,8 @@ use worker_core::Gate;
 /// global that the data lack, names and kinds, consistency; for `demo N`, which runs the made job of N rows of tiles and prints the
 /// number of its tasks and the sum of all elements; for `certify JDF DATA`, which runs a job and prints a heaviest chain of its
 /// tasks with the level of each, or a cycle where it stalled, or its traps; and for `replay JDF DATA TRACE`, which prints the answer
-/// of `run` where the trace is that of a whole order of the tasks that run, and else its first fault. It may wait, as workers wait
-/// for each other.
+/// of `run` where the trace is that of a whole order of the tasks that run, and else its first fault. `trace JDF DATA` runs a job, and
+/// prints some trace of it: the text of a whole order of the tasks that run. It may wait, as workers wait for each other.
 pub fn ptg_main<R: Threads + Wait + Sync, F: Files, O: Sink, G: Gate>(
     rt: &R,
     alloc: Global,
@@ -46,7 +46,7 @@ pub fn ptg_main<R: Threads + Wait + Sync, F: Files, O: Sink, G: Gate>(
     ensures stays { F.contents files.new ≡ F.contents files.old }
     ensures read_faults { (other : List ℕ) → F.faults files.old other ≤ F.faults files.new other }
     ensures write_faults { O.faults out.old ≤ O.faults out.new }
-    // Where the contents of the files are known: exactly the text and the status that arguments and files denote.
+    // Where the contents of the files are known: exactly a text and a status that arguments and files denote.
     ensures exact { (entries : Entries) → F.contents files.old ≡ Some entries → IsExact result.status →
         Prints words.now entries (O.bytes out.old) (O.bytes out.new) result.status }
     // `unread,NAME` is printed only if reading NAME failed; NAME is the data file's only once the JDF was read, and the trace file's

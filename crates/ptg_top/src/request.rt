@@ -18,13 +18,15 @@ pub enum Request {
     Check(Text, Text),
     /// Run the made job with this many rows of tiles.
     Demo(u32),
+    /// Run the job of this JDF file on this data file, with these settings, and print its trace.
+    Trace(Text, Text, Settings),
     /// Run the job of this JDF file on this data file in the order of this trace file.
     Replay(Text, Text, Text),
     /// Run the job of this JDF file on this data file, and find its certificate.
     Certify(Text, Text),
 }
 
-/// What a command asks for: nothing where it is one of the verbs that come later.
+/// What a command asks for: nothing where it is a verb that comes later.
 pub fn request_of(order: Order) -> Option<Request>
     ensures { result ≡ request_of order }
 {
@@ -40,7 +42,14 @@ pub fn request_of(order: Order) -> Option<Request>
         Order::Show(jdf) => Some(Request::Show(jdf)),
         Order::Check(jdf, tiles) => Some(Request::Check(jdf, tiles)),
         Order::Demo(rows) => Some(Request::Demo(rows)),
-        Order::Trace(_, _, _, _) => None,
+        Order::Trace(jdf, tiles, workers, shards) => {
+            let settings = Settings {
+                workers,
+                shards,
+                preload: false,
+            };
+            Some(Request::Trace(jdf, tiles, settings))
+        }
         Order::Replay(jdf, tiles, trace) => Some(Request::Replay(jdf, tiles, trace)),
         Order::Certify(jdf, tiles) => Some(Request::Certify(jdf, tiles)),
         Order::Ranks(_, _, _, _) => None,

@@ -47,4 +47,6 @@ pub enum Finding {
     Chain(HeaviestChain),
     /// A cycle of a job that stalled.
     Cycle(FoundCycle),
+    /// The text of the tasks that ran, in an order in which they may run.
+    Order(Text),
 }

@@ -1,0 +1,93 @@
+//! The run of a job's two files, and the trace of it.
+
+ghost use Rattle.std.specs.Prelude.{◌≡◌, ◌≤◌, ℕ, List, false, IfOk};
+ghost use Rattle.std.specs.Str.{IsUtf8};
+ghost use Rattle.coll_data.specs.Data.{Data};
+ghost use Rattle.plan_core.specs.declared.plan.Plan.{Plan};
+ghost use Rattle.plan_data.specs.Fit.{DataFit};
+ghost use Rattle.ptg_words.specs.Laws.{AreCounts};
+ghost use Rattle.run_pool.specs.Runs.{run_of};
+ghost use Rattle.run_pool.specs.declared.settings.Settings.{Settings as SettingsValue};
+ghost use Rattle.ptg_top.specs.declared.request.Request.TheVariants as asked;
+ghost use Rattle.ptg_top.specs.Denotation.{denoted};
+ghost use Rattle.ptg_top.specs.JobFiles.{HasFittingJob};
+ghost use Rattle.ptg_top.specs.Reports.{IsVerdictOnRequest};
+ghost use Rattle.ptg_top.specs.Receipts.{IsOfRun};
+ghost use Rattle.ptg_top.specs.Trace.{IsTraced};
+
+use crate::checking::check;
+use crate::consistent::consistent_job;
+use crate::host::Host;
+use crate::verdict::{Finding, RanBy, Verdict};
+use coll_data::Given;
+use dep_iter::Matched;
+use ptg_base::{OutOfMemory, Text};
+use ptg_io::Files;
+use run_pool::{PrepareFault, Prepared, Settings, prepare, run_traced};
+use std::sync::Wait;
+use std::thread::Threads;
+use trace_core::trace_text;
+use worker_core::Gate;
+
+/// The verdict of `trace` on a JDF file and a data file: of a job that `check` finds consistent, the text of its tasks in the order in
+/// which workers claimed them; else the verdict of `check`.
+pub fn trace<R: Threads + Wait + Sync, F: Files, G: Gate>(
+    host: &Host<R, G>,
+    jdf: &Text,
+    tiles: &Text,
+    files: &mut F,
+    settings: Settings,
+) -> Result<Verdict, OutOfMemory>
+    requires jdf_text { IsUtf8 jdf.now }
+    requires tiles_text { IsUtf8 tiles.now }
+    requires counts { AreCounts settings.workers settings.shards }
+    requires no_preload { settings.preload ≡ false }
+    ensures stays { F.contents files.new ≡ F.contents files.old }
+    ensures grows { (other : List ℕ) → F.faults files.old other ≤ F.faults files.new other }
+    ensures verdict { IfOk result (λ v. IsVerdictOnRequest (F.contents files.old) (F.faults files.old) (F.faults files.new) (asked.Trace jdf.now tiles.now settings) (denoted v)) }
+    ensures fit { IfOk result (λ v. HasFittingJob (denoted v)) }
+    ensures ran { IfOk result (λ v. IsOfRun settings v) }
+{
+    let checked = check(host.alloc, jdf, tiles, files)?;
+    match consistent_job(checked) {
+        Ok((matched, given)) => traced(host, matched, given, settings),
+        Err(refused) => Ok(refused),
+    }
+}
+
+// The verdict of `trace` on a consistent job.
+fn traced<R: Threads + Wait + Sync, G: Gate>(
+    host: &Host<R, G>,
+    matched: Matched,
+    given: Given,
+    settings: Settings,
+) -> Result<Verdict, OutOfMemory>
+    requires fit { DataFit matched.colls matched.elems given }
+    requires counts { AreCounts settings.workers settings.shards }
+    requires no_preload { settings.preload ≡ false }
+    ensures trace { IfOk result (λ v. IsTraced matched given (denoted v)) }
+    ensures fit { IfOk result (λ v. HasFittingJob (denoted v)) }
+    ensures ran { IfOk result (λ v. IsOfRun settings v) }
+{
+    match prepare(host.alloc, matched, given, settings) {
+        Ok(prepared) => trace_of(host, prepared),
+        Err(PrepareFault::PreloadTooLarge(_bytes)) => unreachable!(),
+        Err(PrepareFault::OutOfMemory) => Err(OutOfMemory),
+    }
+}
+
+// Runs a job that was made ready: its trace, with the receipt of its table.
+fn trace_of<R: Threads + Wait + Sync, G: Gate>(
+    host: &Host<R, G>,
+    prepared: Prepared,
+) -> Result<Verdict, OutOfMemory>
+    requires { prepared.job.preloaded ≡ false }
+    ensures trace { (P : Plan) (given : Data) (settings : SettingsValue) → prepared ≡ run_of P given settings → IfOk result (λ v. IsTraced P given (denoted v)) }
+    ensures fit { IfOk result (λ v. HasFittingJob (denoted v)) }
+    ensures ran { (P : Plan) (given : Data) (settings : SettingsValue) → prepared ≡ run_of P given settings → IfOk result (λ v. IsOfRun settings v) }
+{
+    let (tasks, closed) = run_traced(host.alloc, host.rt, prepared, host.gate)?;
+    let (_outcome, receipt) = closed.outcome()?;
+    let text = trace_text(host.alloc, receipt.matched().plan(), tasks.as_slice())?;
+    Ok(Verdict::Ran(RanBy::Table(receipt), Finding::Order(text)))
+}
