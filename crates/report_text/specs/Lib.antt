@@ -5,4 +5,5 @@ pub mod Rows
 pub mod Codes
 pub mod Printed
 pub mod Found
+pub mod Ranked
 pub mod Refusal

@@ -46,8 +46,8 @@ pub fn consistent<O: Sink>(tasks: u64, edges: u64, writes: u64, sink: &mut O) ->
     flush(sink, &mut out)
 }
 
-// Puts the text of an answer.
-fn put_outcome<O: Sink>(
+/// Puts the text of an answer.
+pub fn put_outcome<O: Sink>(
     sink: &mut O,
     out: &mut Pieces,
     plan: &Plan,

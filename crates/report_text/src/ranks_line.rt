@@ -1,0 +1,73 @@
+//! The answer of a job that was run by ranks, after the line of the ranks.
+
+ghost use Rattle.std.specs.Prelude.{◌≡◌, ◌≤◌, OnOk, OnErr};
+ghost use Rattle.ptg_io.specs.Faults.{Rose};
+ghost use Rattle.ptg_io.specs.Sink.{appended};
+ghost use Rattle.report_text.specs.Puts.{Puts, HasPrefix};
+ghost use Rattle.report_text.specs.Rows.{HasRowsOf};
+ghost use Rattle.report_text.specs.Ranked.{ranked_head, ranked_text};
+
+use crate::answer::put_outcome;
+use crate::fields::{Field, put_line};
+use crate::pieces::{Pieces, flush};
+use flow_meaning::Outcome;
+use plan_core::Plan;
+use ptg_io::{Failed, Sink};
+
+/// What is found of a job that was run by ranks.
+#[derive(Drop)]
+pub struct RankedAnswer {
+    /// How many ranks there were.
+    pub ranks: u32,
+    /// How many messages they sent one another.
+    pub messages: u64,
+    /// The answer of the job.
+    pub outcome: Outcome,
+}
+
+/// Prints the line of the ranks, which goes out as a piece of its own, and the answer of the job. On `Err` some first bytes of both
+/// went out.
+pub fn ranked_answer<O: Sink>(plan: &Plan, found: &RankedAnswer, sink: &mut O) -> Result<(), Failed>
+    requires { HasRowsOf plan.now found.now.outcome }
+    ensures ok { OnOk result (O.bytes sink.new ≡ appended (O.bytes sink.old) (ranked_text plan.now found.now)) }
+    ensures prefix { OnErr result (HasPrefix (O.bytes sink.old) (O.bytes sink.new) (ranked_text plan.now found.now)) }
+    ensures grows { O.faults sink.old ≤ O.faults sink.new }
+    ensures failed { OnErr result (Rose (O.faults sink.old) (O.faults sink.new)) }
+{
+    let mut out = Pieces::new();
+    put_ranked(sink, &mut out, plan, found)?;
+    flush(sink, &mut out)
+}
+
+// Puts the line of the ranks and the answer.
+fn put_ranked<O: Sink>(
+    sink: &mut O,
+    out: &mut Pieces,
+    plan: &Plan,
+    found: &RankedAnswer,
+) -> Result<(), Failed>
+    requires { HasRowsOf plan.now found.now.outcome }
+    ensures { Puts O.bytes O.faults result sink.old out.old sink.new out.new (ranked_text plan.now found.now) }
+{
+    put_head(sink, out, found)?;
+    put_outcome(sink, out, plan, &found.outcome)
+}
+
+// Puts the line of the ranks, and lets it out.
+fn put_head<O: Sink>(sink: &mut O, out: &mut Pieces, found: &RankedAnswer) -> Result<(), Failed>
+    ensures { Puts O.bytes O.faults result sink.old out.old sink.new out.new (ranked_head found.now) }
+{
+    put_counts(sink, out, found)?;
+    flush(sink, out)
+}
+
+// Puts the line of the ranks.
+fn put_counts<O: Sink>(sink: &mut O, out: &mut Pieces, found: &RankedAnswer) -> Result<(), Failed>
+    ensures { Puts O.bytes O.faults result sink.old out.old sink.new out.new (ranked_head found.now) }
+{
+    let counts = [
+        Field::Number(u64::from(found.ranks)),
+        Field::Number(found.messages),
+    ];
+    put_line(sink, out, b"ranks", &counts)
+}
