@@ -32,7 +32,7 @@ VERBS = {
     "trace": Verb("runs a job and prints its trace", {"JDF": FILE, "DATA": FILE}, (WORKERS, SHARDS)),
     "replay": Verb("runs a job in the order of a trace", {"JDF": FILE, "DATA": FILE, "TRACE": FILE}),
     "certify": Verb("runs a job, and prints a heaviest chain of its tasks, or a cycle", {"JDF": FILE, "DATA": FILE}),
-    "ranks": Verb("runs a job on R ranks, R from 1 to 64", {"JDF": FILE, "DATA": FILE, "R": (1, 64), "SEED": (0, 2**64 - 1)}, carried_out=False),
+    "ranks": Verb("runs a job on R ranks that send one another messages, R from 1 to 64", {"JDF": FILE, "DATA": FILE, "R": (1, 64), "SEED": (0, 2**64 - 1)}),
 }
 
 

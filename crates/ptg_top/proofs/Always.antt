@@ -13,7 +13,7 @@ use Rattle.jdf_read.proofs.Either.{tree_or_fault}
 use Rattle.job_stages.specs.declared.verdict.JobVerdict.TheVariants as jobs
 use Rattle.job_stages.proofs.Always.{texts_some}
 use Rattle.ptg_top.specs.declared.request.Request.{Request}
-use Rattle.ptg_top.specs.declared.request.Request.TheVariants.{Run, Show, Check, Demo, Trace, Replay, Certify}
+use Rattle.ptg_top.specs.declared.request.Request.TheVariants.{Run, Show, Check, Demo, Trace, Replay, Certify, Ranks}
 use Rattle.ptg_top.specs.Denotation as verdicts
 use Rattle.ptg_top.specs.Denotation.{Denotation}
 use Rattle.ptg_top.specs.Requests.{Requests, request_of}
@@ -33,8 +33,10 @@ use Rattle.trace_exists.proofs.Either.{fault_or_trace}
 use Rattle.trace_exists.proofs.Growing.{some_whole_order}
 use Rattle.ptg_top.specs.Trace.{IsTraced}
 use Rattle.ptg_top.specs.Replay.{IsReplayed}
+use Rattle.rank_core.specs.Sound.{message_count}
+use Rattle.ptg_top.specs.Ranks.{IsRanked}
 use Rattle.ptg_top.specs.Demo.{DemoDenotes, IsSummary, summed}
-use Rattle.ptg_top.specs.declared.verdict.Finding.TheVariants.{Answer, Order as TraceText}
+use Rattle.ptg_top.specs.declared.verdict.Finding.TheVariants.{Answer, Order as TraceText, Ranked}
 use Rattle.run_pool.specs.declared.settings.Settings.{Settings}
 use Rattle.ptg_top.specs.Preload.{is_too_large}
 use Rattle.ptg_top.proofs.Answered.{some_on}
@@ -131,6 +133,15 @@ replay_some files jdf tiles trace =
     let found = some_on (IsReplayed trace content) checked.0 (λ P given is. replayed_some trace content P given (contents_consistent jdf tiles a b P given (subst (ContentsDenote jdf tiles a b) is checked.1))) in
     (found.0, (checked.0, checked.1, found.1))
 
+abbrev ranked : ℕ → Plan → Data → Denotation
+ranked r P given = verdicts.Ran P (Ranked (record { ranks = r; messages = message_count P given r; outcome = answer P given }))
+
+ranks_some : (files : Entries) (jdf tiles : List ℕ) (r seed : ℕ) → (v : Denotation) × RequestDenotes files (Ranks jdf tiles (record { ranks = r; seed = seed })) v
+ranks_some files jdf tiles r seed =
+    let checked = contents_some jdf tiles (file_of files jdf) (file_of files tiles) in
+    let found = some_on (IsRanked r) checked.0 (λ P given is. (ranked r P given, refl)) in
+    (found.0, (checked.0, checked.1, found.1))
+
 request_some : (files : Entries) (request : Request) → (v : Denotation) × RequestDenotes files request v
 request_some files (Run jdf tiles settings) = let checked = contents_some jdf tiles (file_of files jdf) (file_of files tiles) in
     let found = some_on (IsAnswer settings) checked.0 (λ P given is. (if is_too_large settings P then verdicts.Preload else verdicts.Ran P (Answer (answer P given)), refl)) in
@@ -141,6 +152,7 @@ request_some files (Demo rows) = demo_some rows
 request_some files (Trace jdf tiles settings) = trace_some files jdf tiles settings
 request_some files (Replay jdf tiles trace) = replay_some files jdf tiles trace
 request_some files (Certify jdf tiles) = certify_some files jdf tiles
+request_some files (Ranks jdf tiles settings) = ranks_some files jdf tiles settings.ranks settings.seed
 
 -- ---- arguments and files
 

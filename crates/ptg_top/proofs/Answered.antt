@@ -8,8 +8,9 @@ use Rattle.flow_meaning.specs.Answer.{answer}
 use Rattle.job_stages.specs.declared.verdict.JobVerdict.TheVariants as jobs
 use Rattle.run_pool.specs.declared.settings.Settings.{Settings}
 use Rattle.ptg_top.specs.Preload.{is_too_large}
+use Rattle.ptg_top.specs.declared.request.RankSettings.{RankSettings}
 use Rattle.ptg_top.specs.declared.request.Request.{Request}
-use Rattle.ptg_top.specs.declared.request.Request.TheVariants.{Certify, Check, Run, Trace}
+use Rattle.ptg_top.specs.declared.request.Request.TheVariants.{Certify, Check, Ranks, Run, Trace}
 use Rattle.ptg_top.specs.declared.verdict.Finding.TheVariants.{Answer}
 use Rattle.ptg_top.specs.declared.verdict.Verdict.{Verdict}
 use Rattle.ptg_top.specs.Denotation as verdicts
@@ -17,6 +18,7 @@ use Rattle.ptg_top.specs.Denotation.{Denotation, denoted}
 use Rattle.ptg_top.specs.Answering.{IsAnswer, IsRefusal, OnConsistent}
 use Rattle.ptg_top.specs.Certify.{IsCertified}
 use Rattle.ptg_top.specs.Trace.{IsTraced}
+use Rattle.ptg_top.specs.Ranks.{IsRanked}
 use Rattle.ptg_top.specs.JobFiles.{Entries, FilesDenote}
 use Rattle.ptg_top.specs.Meaning.{IsUnreadOf, MayBeUnreadFor, RequestDenotes}
 use Rattle.ptg_top.specs.Reports.{IsOfTexts, IsVerdictOnRequest}
@@ -71,6 +73,10 @@ certify_goes_on : (jdf tiles : List ℕ) → GoesOn (Certify jdf tiles) jdf tile
 certify_goes_on jdf tiles =
     record { unread = λ contents name h. h; denotes = λ files checked v h k. (checked, h, k); of_texts = λ P given v h. subst IsOfTexts (sym h.2) tt }
 
+ranks_goes_on : (jdf tiles : List ℕ) (settings : RankSettings) → GoesOn (Ranks jdf tiles settings) jdf tiles (IsRanked settings.ranks)
+ranks_goes_on jdf tiles settings =
+    record { unread = λ contents name h. h; denotes = λ files checked v h k. (checked, h, k); of_texts = λ P given v h. subst IsOfTexts (sym h) tt }
+
 module _ (contents : Option Entries) (old new : List ℕ → ℕ) (jdf tiles : List ℕ) where
   module _ (request : Request) (Verb : Plan → Data → Denotation → Type 0) (on : GoesOn request jdf tiles Verb) where
     -- the verdict of a verb, from that of `check`
@@ -111,3 +117,12 @@ module _ (contents : Option Entries) (old new : List ℕ → ℕ) (jdf tiles : L
     pub trace_finds : (checked : Denotation) (P : Plan) (given : Data) (r : Result Verdict OutOfMemory) → checked ≡ verdicts.Job (jobs.Consistent P given)
         → IsVerdictOnRequest contents old new (Check jdf tiles) checked → IfOk r (λ v. IsTraced P given (denoted v)) → IfOk r (λ v. IsVerdictOnRequest contents old new (Trace jdf tiles settings) (denoted v))
     trace_finds = verb_finds (Trace jdf tiles settings) IsTraced (trace_goes_on jdf tiles settings)
+
+  -- the verdict of `ranks`, from that of `check`
+  module _ (settings : RankSettings) where
+    pub ranks_refuses : (checked : Denotation) → IsVerdictOnRequest contents old new (Check jdf tiles) checked → IsRefusal checked → IsVerdictOnRequest contents old new (Ranks jdf tiles settings) checked
+    ranks_refuses = verb_refuses (Ranks jdf tiles settings) (IsRanked settings.ranks) (ranks_goes_on jdf tiles settings)
+
+    pub ranks_finds : (checked : Denotation) (P : Plan) (given : Data) (r : Result Verdict OutOfMemory) → checked ≡ verdicts.Job (jobs.Consistent P given)
+        → IsVerdictOnRequest contents old new (Check jdf tiles) checked → IfOk r (λ v. IsRanked settings.ranks P given (denoted v)) → IfOk r (λ v. IsVerdictOnRequest contents old new (Ranks jdf tiles settings) (denoted v))
+    ranks_finds = verb_finds (Ranks jdf tiles settings) (IsRanked settings.ranks) (ranks_goes_on jdf tiles settings)

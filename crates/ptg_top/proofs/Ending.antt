@@ -3,11 +3,13 @@ use Rattle.std.proofs.Common.{◌≡◌, ℕ, List, Some, subst, sym, ap, ◌∙
 use Rattle.std.specs.Prelude.{Option, ◌⊎◌}
 use Rattle.ptg_io.specs.Faults.{Rose}
 use Rattle.ptg_io.specs.Sink.{appended}
+use Rattle.flow_meaning.specs.declared.outcome.Outcome.{Outcome}
 use Rattle.flow_meaning.specs.declared.outcome.Outcome.TheVariants as outcome
 use Rattle.job_stages.specs.declared.verdict.JobVerdict.TheVariants as jobs
 use Rattle.ptg_top.specs.declared.status.Status.{Status}
 use Rattle.ptg_top.specs.declared.status.Status.TheVariants as status
 use Rattle.ptg_top.specs.declared.verdict.Finding.TheVariants as findings
+use Rattle.ptg_top.specs.Findings.{status_of_outcome}
 use Rattle.ptg_top.specs.Denotation as verdicts
 use Rattle.ptg_top.specs.Denotation.{Denotation}
 use Rattle.ptg_top.specs.JobFiles.{Entries}
@@ -42,6 +44,11 @@ complete_prints words files contents old new before after v s h t text ends none
 abbrev IsOfText : Status → Type 0
 IsOfText s = (s ≡ status.Usage → ⊥) × (s ≡ status.ReadFault → ⊥) × (s ≡ status.WriteFault → ⊥)
 
+of_outcome : (o : Outcome) → IsOfText (status_of_outcome o)
+of_outcome (outcome.Complete count given) = (λ e. absurd cc, λ e. absurd cc, λ e. absurd cc)
+of_outcome (outcome.Trapped rows) = (λ e. absurd cc, λ e. absurd cc, λ e. absurd cc)
+of_outcome (outcome.Stalled ran total rows) = (λ e. absurd cc, λ e. absurd cc, λ e. absurd cc)
+
 of_texts : (v : Denotation) → IsOfTexts v → IsOfText (status_of v)
 of_texts verdicts.Usage h = absurd h
 of_texts (verdicts.Unread name) h = absurd h
@@ -49,13 +56,12 @@ of_texts (verdicts.Job (jobs.Jdf fault)) h = (λ e. absurd cc, λ e. absurd cc, 
 of_texts (verdicts.Job (jobs.Data fault)) h = (λ e. absurd cc, λ e. absurd cc, λ e. absurd cc)
 of_texts (verdicts.Job (jobs.Inconsistent P fault)) h = (λ e. absurd cc, λ e. absurd cc, λ e. absurd cc)
 of_texts (verdicts.Job (jobs.Consistent P given)) h = (λ e. absurd cc, λ e. absurd cc, λ e. absurd cc)
-of_texts (verdicts.Ran P (findings.Answer (outcome.Complete count given))) h = (λ e. absurd cc, λ e. absurd cc, λ e. absurd cc)
-of_texts (verdicts.Ran P (findings.Answer (outcome.Trapped rows))) h = (λ e. absurd cc, λ e. absurd cc, λ e. absurd cc)
-of_texts (verdicts.Ran P (findings.Answer (outcome.Stalled ran total rows))) h = (λ e. absurd cc, λ e. absurd cc, λ e. absurd cc)
+of_texts (verdicts.Ran P (findings.Answer o)) h = of_outcome o
 of_texts (verdicts.Ran P (findings.Summary found)) h = (λ e. absurd cc, λ e. absurd cc, λ e. absurd cc)
 of_texts (verdicts.Ran P (findings.Chain found)) h = (λ e. absurd cc, λ e. absurd cc, λ e. absurd cc)
 of_texts (verdicts.Ran P (findings.Cycle found)) h = (λ e. absurd cc, λ e. absurd cc, λ e. absurd cc)
 of_texts (verdicts.Ran P (findings.Order text)) h = (λ e. absurd cc, λ e. absurd cc, λ e. absurd cc)
+of_texts (verdicts.Ran P (findings.Ranked found)) h = of_outcome found.outcome
 of_texts (verdicts.Spelling text) h = (λ e. absurd cc, λ e. absurd cc, λ e. absurd cc)
 of_texts verdicts.Preload h = (λ e. absurd cc, λ e. absurd cc, λ e. absurd cc)
 of_texts (verdicts.Trace fault) h = (λ e. absurd cc, λ e. absurd cc, λ e. absurd cc)

@@ -7,7 +7,7 @@ use Rattle.jdf_tree.specs.declared.tree.Jdf.{Jdf}
 use Rattle.jdf_print.specs.Spelling.{spelling}
 use Rattle.jdf_read.proofs.Once.{one_tree}
 use Rattle.ptg_top.specs.declared.request.Request.{Request}
-use Rattle.ptg_top.specs.declared.request.Request.TheVariants.{Run, Show, Check, Demo, Trace, Replay, Certify}
+use Rattle.ptg_top.specs.declared.request.Request.TheVariants.{Run, Show, Check, Demo, Trace, Replay, Certify, Ranks}
 use Rattle.ptg_top.specs.Denotation as verdicts
 use Rattle.ptg_top.specs.Denotation.{Denotation}
 use Rattle.ptg_top.specs.JobFiles.{Entries, ContentsDenote, FilesDenote}
@@ -30,6 +30,7 @@ use Rattle.ptg_top.specs.Replay.{IsReplayed, IsReplayOf}
 use Rattle.ptg_top.specs.Trace.{IsTraced}
 use Rattle.job_stages.specs.declared.verdict.JobVerdict.TheVariants as jobs
 use Rattle.run_pool.specs.declared.settings.Settings.{Settings}
+use Rattle.ptg_top.specs.Ranks.{IsRanked}
 use Rattle.ptg_top.proofs.Answered.{once_on}
 use Rattle.ptg_top.proofs.Requested.{one_request}
 use Rattle.ptg_top.proofs.Checked.{refused_once, refused_or_read, contents_consistent, contents_once, job_texts_once}
@@ -105,6 +106,10 @@ request_once files (Check jdf tiles) v w free h k = contents_once jdf tiles (fil
 request_once files (Demo rows) v w free h k = demo_once rows v w h k
 request_once files (Replay jdf tiles trace) v w free h k = replay_once files jdf tiles trace v w h k
 request_once files (Certify jdf tiles) v w free h k = certify_once files jdf tiles v w h k
+request_once files (Ranks jdf tiles settings) v w free (a, h, e) (b, k, d) =
+    let Verb = IsRanked settings.ranks in
+    once_on Verb b v w (λ P given is p q. p ∙ sym q)
+    (subst (λ (c : Denotation). OnConsistent Verb c v) (contents_once jdf tiles (file_of files jdf) (file_of files tiles) a b h k) e) d
 
 pub one_meaning : OneMeaning
 one_meaning words files v w free (inl h) (inl k) = h.1 ∙ sym k.1
@@ -122,6 +127,7 @@ one_or_traces files (Check jdf tiles) v w h k = inl (request_once files (Check j
 one_or_traces files (Demo rows) v w h k = inl (request_once files (Demo rows) v w tt h k)
 one_or_traces files (Replay jdf tiles trace) v w h k = inl (request_once files (Replay jdf tiles trace) v w tt h k)
 one_or_traces files (Certify jdf tiles) v w h k = inl (request_once files (Certify jdf tiles) v w tt h k)
+one_or_traces files (Ranks jdf tiles settings) v w h k = inl (request_once files (Ranks jdf tiles settings) v w tt h k)
 
 pub one_job : OneJob
 one_job words files v w (inl h) (inl k) = inl (h.1 ∙ sym k.1)

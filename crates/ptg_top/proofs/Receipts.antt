@@ -5,6 +5,7 @@ use Rattle.coll_data.specs.Data.{Data}
 use Rattle.plan_core.specs.declared.plan.Plan.{Plan}
 use Rattle.ptg_io.specs.Files.{file_of}
 use Rattle.flow_meaning.specs.Answer.{answer}
+use Rattle.flow_meaning.specs.declared.outcome.Outcome.{Outcome}
 use Rattle.flow_meaning.specs.declared.outcome.Outcome.TheVariants as outcomes
 use Rattle.dep_table.specs.Receipts.{ReceiptView}
 use Rattle.ptg_words.specs.declared.order.Order.{Order}
@@ -13,7 +14,7 @@ use Rattle.ptg_words.specs.Words.{Orders}
 use Rattle.job_stages.specs.declared.verdict.JobVerdict.TheVariants as jobs
 use Rattle.run_pool.specs.declared.settings.Settings.{Settings}
 use Rattle.ptg_top.specs.declared.request.Request.{Request}
-use Rattle.ptg_top.specs.declared.request.Request.TheVariants.{Run, Show, Check, Demo, Trace as TraceOf, Replay, Certify}
+use Rattle.ptg_top.specs.declared.request.Request.TheVariants.{Run, Show, Check, Demo, Trace as TraceOf, Replay, Certify, Ranks}
 use Rattle.ptg_top.specs.declared.status.Status.{Status}
 use Rattle.ptg_top.specs.declared.verdict.Finding.{Finding}
 use Rattle.ptg_top.specs.declared.verdict.Finding.TheVariants as findings
@@ -33,7 +34,8 @@ use Rattle.ptg_top.specs.Certify.{IsCertified}
 use Rattle.ptg_top.specs.Demo.{IsSummary, MadeTextsDenote}
 use Rattle.ptg_top.specs.Replay.{IsReplayed}
 use Rattle.ptg_top.specs.Trace.{IsTraced}
-use Rattle.ptg_top.specs.Findings.{status_of_finding}
+use Rattle.ptg_top.specs.Findings.{status_of_finding, status_of_outcome}
+use Rattle.ptg_top.specs.Ranks.{IsRanked}
 use Rattle.ptg_top.specs.Headline.{status_of}
 use Rattle.ptg_top.specs.Tables.{usual_settings}
 use Rattle.ptg_top.specs.Receipts.{FindsPlan, HasConsistentPlan, IsAnswerStatus, IsOfRun, IsReceiptFor, IsRun, IsRunAsAsked, IsRunAsOrdered, receipt_of}
@@ -41,14 +43,18 @@ use Rattle.ptg_top.proofs.Ending.{is_denoted}
 
 -- ---- what is found of a job that was run has the receipt of what was asked
 
+an_answer_has_its_status : (outcome : Outcome) → IsAnswerStatus (status_of_outcome outcome)
+an_answer_has_its_status (outcomes.Complete count given) = tt
+an_answer_has_its_status (outcomes.Trapped rows) = tt
+an_answer_has_its_status (outcomes.Stalled ran total rows) = tt
+
 a_finding_has_its_status : (finding : Finding) → IsAnswerStatus (status_of_finding finding)
-a_finding_has_its_status (findings.Answer (outcomes.Complete count given)) = tt
-a_finding_has_its_status (findings.Answer (outcomes.Trapped rows)) = tt
-a_finding_has_its_status (findings.Answer (outcomes.Stalled ran total rows)) = tt
+a_finding_has_its_status (findings.Answer outcome) = an_answer_has_its_status outcome
 a_finding_has_its_status (findings.Summary found) = tt
 a_finding_has_its_status (findings.Chain found) = tt
 a_finding_has_its_status (findings.Cycle found) = tt
 a_finding_has_its_status (findings.Order text) = tt
+a_finding_has_its_status (findings.Ranked found) = an_answer_has_its_status found.outcome
 
 some_is_not_none : (r : ReceiptView) → ◌≡◌ {A = Option ReceiptView} (Some r) None → ⊥
 some_is_not_none r e = absurd cc
@@ -76,7 +82,9 @@ module _ (r : ReceiptView) (finding : Finding) where
   receipt_of_order (order.Certify j t) request e h =
       let same : request ≡ Certify j t = cc in
       subst (λ (q : Request). IsRunAsAsked q (Ran (Table r) finding)) same h
-  receipt_of_order o request e h = absurd cc
+  receipt_of_order (order.Ranks j t k s) request e h =
+      let same : request ≡ Ranks j t (record { ranks = k; seed = s }) = cc in
+      absurd (some_is_not_none r (subst (λ (q : Request). IsRunAsAsked q (Ran (Table r) finding)) same h))
 
 module _ (words : List (List ℕ)) (contents : Option Entries) (old new : List ℕ → ℕ) where
   answer_receipt : (r : ReceiptView) (finding : Finding) → IsVerdictOnWords words contents old new (verdicts.Ran r.plan finding) → IsRunAsOrdered words (Ran (Table r) finding)
@@ -177,6 +185,9 @@ module _ (P : Plan) (finding : Finding) where
   of_traced : (Q : Plan) (given : Data) → IsTraced Q given (verdicts.Ran P finding) → Q ≡ P
   of_traced Q given (tasks, h, e) = cc
 
+  of_ranked : (k : ℕ) (Q : Plan) (given : Data) → IsRanked k Q given (verdicts.Ran P finding) → Q ≡ P
+  of_ranked k Q given e = cc
+
   of_certified : (Q : Plan) (given : Data) → IsCertified Q given (verdicts.Ran P finding) → Q ≡ P
   of_certified Q given (c, h, e) = cc
 
@@ -211,7 +222,10 @@ module _ (P : Plan) (finding : Finding) where
         let same : request ≡ Certify j t = cc in
         let at : RequestDenotes files (Certify j t) (verdicts.Ran P finding) = subst (λ (q : Request). RequestDenotes files q (verdicts.Ran P finding)) same h in
         plan_is_found (FilesDenote files j t) IsCertified (no_contents_are_run j t (file_of files j) (file_of files t)) of_certified at.0 at.1 at.2
-    order_finds o request e h = absurd cc
+    order_finds (order.Ranks j t k s) request e h =
+        let same : request ≡ Ranks j t (record { ranks = k; seed = s }) = cc in
+        let at : RequestDenotes files (Ranks j t (record { ranks = k; seed = s })) (verdicts.Ran P finding) = subst (λ (q : Request). RequestDenotes files q (verdicts.Ran P finding)) same h in
+        plan_is_found (FilesDenote files j t) (IsRanked k) (no_contents_are_run j t (file_of files j) (file_of files t)) (of_ranked k) at.0 at.1 at.2
 
     answer_has_plan : (words : List (List ℕ)) → Denotes words files (verdicts.Ran P finding) → HasConsistentPlan words files P
     answer_has_plan words (inl (none, e)) = absurd cc

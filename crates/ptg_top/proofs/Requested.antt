@@ -7,7 +7,7 @@ use Rattle.ptg_words.specs.Laws.{AreText, FilesAreText, HasNumbersInRange, Numbe
 use Rattle.ptg_words.specs.Words.{Orders}
 use Rattle.ptg_words.proofs.OneOrder.{one_order}
 use Rattle.ptg_top.specs.declared.request.Request.{Request}
-use Rattle.ptg_top.specs.declared.request.Request.TheVariants.{Run, Show, Check, Demo, Trace, Replay, Certify}
+use Rattle.ptg_top.specs.declared.request.Request.TheVariants.{Run, Show, Check, Demo, Trace, Replay, Certify, Ranks}
 use Rattle.ptg_top.specs.Requests.{Requests, request_of}
 use Rattle.ptg_top.specs.Reports.{IsProper}
 
@@ -30,7 +30,8 @@ asked_is_proper (order.Trace j t w s) m n r e =
     let same : Trace j t (record { workers = w; shards = s; preload = false }) ≡ r = cc in subst IsProper same (m.0, m.1.0, n, refl)
 asked_is_proper (order.Replay j t l) m n r e = let same : Replay j t l ≡ r = cc in subst IsProper same (m.0, m.1.0, m.1.1.0)
 asked_is_proper (order.Certify j t) m n r e = let same : Certify j t ≡ r = cc in subst IsProper same (m.0, m.1.0)
-asked_is_proper o m n r e = absurd cc
+asked_is_proper (order.Ranks j t k s) m n r e =
+    let same : Ranks j t (record { ranks = k; seed = s }) ≡ r = cc in subst IsProper same (m.0, m.1.0, (n.0, n.1))
 
 pub request_is_proper : FilesAreText → NumbersInRange → (list : List (List ℕ)) (o : Order) (r : Request) → Orders list o → request_of o ≡ Some r → IsProper r
 request_is_proper text ranges list o r formed e = asked_is_proper o (text list o formed) (ranges list o formed) r e

@@ -1,4 +1,4 @@
--- What the numbers of workers and of shards change.
+-- What the numbers of workers and of shards change, and the seed of ranks.
 use Rattle.std.proofs.Common.{◌≡◌, ℕ, List, refl, ◌∙◌, ap, subst, inl, inr}
 use Rattle.std.specs.Prelude.{Bool, false, if◌then◌else◌}
 use Rattle.plan_core.specs.declared.plan.Plan.{Plan}
@@ -7,7 +7,8 @@ use Rattle.ptg_words.specs.declared.order.Order.TheVariants as order
 use Rattle.ptg_words.specs.Words.{Orders}
 use Rattle.run_pool.specs.declared.settings.Settings.{Settings}
 use Rattle.ptg_top.specs.declared.request.Request.{Request}
-use Rattle.ptg_top.specs.declared.request.Request.TheVariants.{Run}
+use Rattle.ptg_top.specs.declared.request.RankSettings.{RankSettings}
+use Rattle.ptg_top.specs.declared.request.Request.TheVariants.{Ranks, Run}
 use Rattle.ptg_top.specs.declared.verdict.Finding.TheVariants.{Answer}
 use Rattle.ptg_top.specs.Denotation as verdicts
 use Rattle.ptg_top.specs.Denotation.{Denotation}
@@ -15,7 +16,7 @@ use Rattle.ptg_top.specs.Preload.{is_too_large}
 use Rattle.ptg_top.specs.Requests.{Requests}
 use Rattle.ptg_top.specs.JobFiles.{Entries}
 use Rattle.ptg_top.specs.Meaning.{Denotes, RequestDenotes}
-use Rattle.ptg_top.specs.Settings.{ShardsChangeNothing, WorkersChangeNothing}
+use Rattle.ptg_top.specs.Settings.{SeedsChangeNothing, ShardsChangeNothing, WorkersChangeNothing}
 use Rattle.ptg_top.specs.Answering.{IsAnswer, OnConsistent}
 use Rattle.job_stages.specs.declared.verdict.JobVerdict.TheVariants as jobs
 use Rattle.ptg_top.proofs.Requested.{one_request}
@@ -50,3 +51,16 @@ pub workers_change_nothing : WorkersChangeNothing
 workers_change_nothing one other jdf tiles w u s t files v first second h =
     same_denoted one other jdf tiles (record { workers = w; shards = s; preload = false }) (record { workers = u; shards = t; preload = false }) files v
     (λ P. refl) (asked one jdf tiles w s false first) (asked other jdf tiles u t false second) h
+
+ranks_asked : (words : List (List ℕ)) (jdf tiles : List ℕ) (r seed : ℕ) → Orders words (order.Ranks jdf tiles r seed) → Requests words (Ranks jdf tiles (record { ranks = r; seed = seed }))
+ranks_asked words jdf tiles r seed formed = record { order = order.Ranks jdf tiles r seed; formed = formed; asks = refl }
+
+pub seeds_change_nothing : SeedsChangeNothing
+seeds_change_nothing one other jdf tiles r seed another files v first second (inl (none, e)) =
+    absurd (none (Ranks jdf tiles (record { ranks = r; seed = seed })) (ranks_asked one jdf tiles r seed first))
+seeds_change_nothing one other jdf tiles r seed another files v first second (inr (request, asked, h)) =
+    let here : RankSettings = record { ranks = r; seed = seed } in
+    let there : RankSettings = record { ranks = r; seed = another } in
+    let same = one_request one request (Ranks jdf tiles here) asked (ranks_asked one jdf tiles r seed first) in
+    let is : RequestDenotes files (Ranks jdf tiles here) v = subst (λ (q : Request). RequestDenotes files q v) same h in
+    inr (Ranks jdf tiles there, ranks_asked other jdf tiles r another second, is)

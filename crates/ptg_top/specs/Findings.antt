@@ -7,10 +7,11 @@ use Rattle.flow_meaning.specs.declared.outcome.Outcome.{Outcome}
 use Rattle.flow_meaning.specs.declared.outcome.Outcome.TheVariants as outcomes
 use Rattle.report_text.specs.Found.{HasClassesOfChain, HasClassesOfCycle, chain_text, cycle_text, summary_text}
 use Rattle.report_text.specs.Printed.{outcome_text}
+use Rattle.report_text.specs.Ranked.{ranked_text}
 use Rattle.ptg_top.specs.declared.status.Status.{Status}
 use Rattle.ptg_top.specs.declared.status.Status.TheVariants as status
 use Rattle.ptg_top.specs.declared.verdict.Finding.{Finding}
-use Rattle.ptg_top.specs.declared.verdict.Finding.TheVariants.{Answer, Summary, Chain, Cycle, Order}
+use Rattle.ptg_top.specs.declared.verdict.Finding.TheVariants.{Answer, Summary, Chain, Cycle, Order, Ranked}
 
 -- an answer of this plan, on some data
 abbrev pub IsAnswered : Plan → Outcome → Type 0
@@ -23,6 +24,7 @@ IsFindingOf P (Summary found) = Unit {0}
 IsFindingOf P (Chain found) = HasClassesOfChain P found
 IsFindingOf P (Cycle found) = HasClassesOfCycle P found
 IsFindingOf P (Order text) = Unit {0}
+IsFindingOf P (Ranked found) = IsAnswered P found.outcome
 
 -- what is printed of it
 abbrev pub finding_text : Plan → Finding → List ℕ
@@ -31,6 +33,7 @@ finding_text P (Summary found) = summary_text found
 finding_text P (Chain found) = chain_text P found
 finding_text P (Cycle found) = cycle_text P found
 finding_text P (Order text) = text
+finding_text P (Ranked found) = ranked_text P found
 
 abbrev pub status_of_outcome : Outcome → Status
 status_of_outcome (outcomes.Complete count given) = status.Complete
@@ -44,3 +47,4 @@ status_of_finding (Summary found) = status.Complete
 status_of_finding (Chain found) = status.Complete
 status_of_finding (Cycle found) = status.Stalled
 status_of_finding (Order text) = status.Complete
+status_of_finding (Ranked found) = status_of_outcome found.outcome

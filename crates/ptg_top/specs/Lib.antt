@@ -9,6 +9,7 @@ pub mod Demo
 pub mod Certify
 pub mod Replay
 pub mod Trace
+pub mod Ranks
 pub mod Meaning
 pub mod Settings
 pub mod Reports

@@ -9,7 +9,7 @@ use Rattle.jdf_tree.specs.Jdf.{IsJdf}
 use Rattle.jdf_print.specs.Spelling.{spelling}
 use Rattle.job_stages.specs.declared.verdict.JobVerdict.TheVariants as jobs
 use Rattle.ptg_top.specs.declared.request.Request.{Request}
-use Rattle.ptg_top.specs.declared.request.Request.TheVariants.{Run, Show, Check, Demo, Trace, Replay, Certify}
+use Rattle.ptg_top.specs.declared.request.Request.TheVariants.{Run, Show, Check, Demo, Trace, Replay, Certify, Ranks}
 use Rattle.ptg_top.specs.Denotation as verdicts
 use Rattle.ptg_top.specs.Denotation.{Denotation}
 use Rattle.ptg_top.specs.Requests.{Requests}
@@ -19,6 +19,7 @@ use Rattle.ptg_top.specs.Certify.{IsCertified}
 use Rattle.ptg_top.specs.Demo.{DemoDenotes}
 use Rattle.ptg_top.specs.Replay.{IsReplayed}
 use Rattle.ptg_top.specs.Trace.{IsTraced}
+use Rattle.ptg_top.specs.Ranks.{IsRanked}
 
 -- the arguments form no command that is carried out
 abbrev pub IsNoOrder : List (List ℕ) → Type 0
@@ -34,9 +35,9 @@ ContentShows name None v = v ≡ verdicts.Unread name
 ContentShows name (Some text) v = Shows text v
 
 -- What the files denote for what is asked: `run` refuses what `check` refuses; of a job that `check` finds consistent it refuses a
--- preload that is too large, or answers the job. `trace`, `replay` and `certify` refuse what `check` refuses; of a consistent job
--- `trace` gives the text of some whole order, `replay` the verdict on the trace file, and `certify` finds the certificate. `demo` reads
--- no file.
+-- preload that is too large, or answers the job. `trace`, `replay`, `certify` and `ranks` refuse what `check` refuses; of a consistent
+-- job `trace` gives the text of some whole order, `replay` the verdict on the trace file, `certify` finds the certificate, and `ranks`
+-- counts the messages and answers the job, whatever the seed. `demo` reads no file.
 abbrev pub RequestDenotes : Entries → Request → Denotation → Type 0
 RequestDenotes files (Run jdf tiles settings) v = (checked : Denotation) × FilesDenote files jdf tiles checked × OnConsistent (IsAnswer settings) checked v
 RequestDenotes files (Show jdf) v = ContentShows jdf (file_of files jdf) v
@@ -46,6 +47,8 @@ RequestDenotes files (Trace jdf tiles settings) v = (checked : Denotation) × Fi
 RequestDenotes files (Replay jdf tiles trace) v =
     (checked : Denotation) × FilesDenote files jdf tiles checked × OnConsistent (IsReplayed trace (file_of files trace)) checked v
 RequestDenotes files (Certify jdf tiles) v = (checked : Denotation) × FilesDenote files jdf tiles checked × OnConsistent IsCertified checked v
+RequestDenotes files (Ranks jdf tiles settings) v =
+    (checked : Denotation) × FilesDenote files jdf tiles checked × OnConsistent (IsRanked settings.ranks) checked v
 
 -- The arguments and the files denote this verdict: usage, if the arguments form no command; else what the files denote for what
 -- the arguments ask. Of a trace they may denote several.
@@ -99,6 +102,7 @@ MayBeUnreadFor contents (Demo rows) name = ⊥
 MayBeUnreadFor contents (Trace jdf tiles settings) name = IsUnreadOf contents jdf tiles name
 MayBeUnreadFor contents (Replay jdf tiles trace) name = IsUnreadOf contents jdf tiles name ⊎ IsUnreadTrace contents jdf tiles trace name
 MayBeUnreadFor contents (Certify jdf tiles) name = IsUnreadOf contents jdf tiles name
+MayBeUnreadFor contents (Ranks jdf tiles settings) name = IsUnreadOf contents jdf tiles name
 
 -- the names that `unread` may have: the JDF file's; the data file's if the JDF is the text of a tree, or the trace file's if the other
 -- two are those of a consistent job, where the contents are known

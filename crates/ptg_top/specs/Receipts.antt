@@ -53,6 +53,7 @@ FindsPlan files (order.Demo rows) P = (given : Data) × MadeTextsDenote rows (ve
 FindsPlan files (order.Trace jdf tiles workers shards) P = (given : Data) × FilesDenote files jdf tiles (verdicts.Job (jobs.Consistent P given))
 FindsPlan files (order.Replay jdf tiles trace) P = (given : Data) × FilesDenote files jdf tiles (verdicts.Job (jobs.Consistent P given))
 FindsPlan files (order.Certify jdf tiles) P = (given : Data) × FilesDenote files jdf tiles (verdicts.Job (jobs.Consistent P given))
+FindsPlan files (order.Ranks jdf tiles ranks seed) P = (given : Data) × FilesDenote files jdf tiles (verdicts.Job (jobs.Consistent P given))
 FindsPlan files o P = ⊥
 
 -- the arguments form a command, and its job is consistent and has this plan

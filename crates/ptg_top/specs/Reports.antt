@@ -5,12 +5,13 @@ use Rattle.std.specs.Str.{IsUtf8}
 use Rattle.ptg_io.specs.Faults.{Rose}
 use Rattle.ptg_words.specs.Laws.{AreCounts}
 use Rattle.ptg_top.specs.declared.request.Request.{Request}
-use Rattle.ptg_top.specs.declared.request.Request.TheVariants.{Run, Show, Check, Demo, Trace, Replay, Certify}
+use Rattle.ptg_top.specs.declared.request.Request.TheVariants.{Run, Show, Check, Demo, Trace, Replay, Certify, Ranks}
 use Rattle.ptg_top.specs.Denotation as verdicts
 use Rattle.ptg_top.specs.Denotation.{Denotation}
 use Rattle.ptg_top.specs.Requests.{Requests}
 use Rattle.ptg_top.specs.JobFiles.{Entries}
 use Rattle.ptg_top.specs.Meaning.{IsNoOrder, MayBeUnreadFor, RequestDenotes}
+use Rattle.ptg_top.specs.Ranks.{AreRanks}
 
 -- a verdict on what was read
 abbrev pub IsOfTexts : Denotation → Type 0
@@ -48,3 +49,4 @@ IsProper (Demo rows) = (1 ≤ rows) × (rows ≤ 96)
 IsProper (Trace jdf tiles settings) = IsUtf8 jdf × IsUtf8 tiles × AreCounts settings.workers settings.shards × (settings.preload ≡ false)
 IsProper (Replay jdf tiles trace) = IsUtf8 jdf × IsUtf8 tiles × IsUtf8 trace
 IsProper (Certify jdf tiles) = IsUtf8 jdf × IsUtf8 tiles
+IsProper (Ranks jdf tiles settings) = IsUtf8 jdf × IsUtf8 tiles × AreRanks settings.ranks

@@ -1,12 +1,12 @@
--- What the program carries out so far. Source: this project's own choice.
+-- What commands ask for. Source: this project's own choice.
 use Rattle.std.specs.Prelude.{◌≡◌, ℕ, false, List, Option, Some, None}
 use Rattle.ptg_words.specs.declared.order.Order.{Order}
 use Rattle.ptg_words.specs.declared.order.Order.TheVariants as order
 use Rattle.ptg_words.specs.Words.{Orders}
 use Rattle.ptg_top.specs.declared.request.Request.{Request}
-use Rattle.ptg_top.specs.declared.request.Request.TheVariants.{Run, Show, Check, Demo, Trace, Replay, Certify}
+use Rattle.ptg_top.specs.declared.request.Request.TheVariants.{Run, Show, Check, Demo, Trace, Replay, Certify, Ranks}
 
--- What a command asks for, where that is carried out so far: the verb `ranks` is not.
+-- what a command asks for
 abbrev pub request_of : Order → Option Request
 request_of (order.Run jdf tiles workers shards preload) = Some (Run jdf tiles (record { workers = workers; shards = shards; preload = preload }))
 request_of (order.Show jdf) = Some (Show jdf)
@@ -15,7 +15,7 @@ request_of (order.Demo rows) = Some (Demo rows)
 request_of (order.Trace jdf tiles workers shards) = Some (Trace jdf tiles (record { workers = workers; shards = shards; preload = false }))
 request_of (order.Replay jdf tiles trace) = Some (Replay jdf tiles trace)
 request_of (order.Certify jdf tiles) = Some (Certify jdf tiles)
-request_of (order.Ranks jdf tiles ranks seed) = None
+request_of (order.Ranks jdf tiles ranks seed) = Some (Ranks jdf tiles (record { ranks = ranks; seed = seed }))
 
 -- the arguments form a command that asks for this
 pub record Requests (words : List (List ℕ)) (request : Request) : Type 0 where

@@ -1,6 +1,6 @@
--- What the numbers of workers and of shards change. Source: this project's own choice.
+-- What the numbers of workers and of shards change, and the seed of ranks. Source: this project's own choice.
 use Rattle.std.specs.Prelude.{ℕ, Bool, false, List}
-use Rattle.ptg_words.specs.declared.order.Order.TheVariants.{Run}
+use Rattle.ptg_words.specs.declared.order.Order.TheVariants.{Ranks, Run}
 use Rattle.ptg_words.specs.Words.{Orders}
 use Rattle.ptg_top.specs.Denotation.{Denotation}
 use Rattle.ptg_top.specs.JobFiles.{Entries}
@@ -18,4 +18,11 @@ abbrev pub WorkersChangeNothing : Type 0
 WorkersChangeNothing =
     (one other : List (List ℕ)) (jdf tiles : List ℕ) (workers more shards others : ℕ) (files : Entries) (v : Denotation)
     → Orders one (Run jdf tiles workers shards false) → Orders other (Run jdf tiles more others false)
+    → Denotes one files v → Denotes other files v
+
+-- and where they run the job by as many ranks and differ in the seed alone
+abbrev pub SeedsChangeNothing : Type 0
+SeedsChangeNothing =
+    (one other : List (List ℕ)) (jdf tiles : List ℕ) (ranks seed another : ℕ) (files : Entries) (v : Denotation)
+    → Orders one (Ranks jdf tiles ranks seed) → Orders other (Ranks jdf tiles ranks another)
     → Denotes one files v → Denotes other files v

@@ -5,6 +5,7 @@ ghost use Rattle.ptg_io.specs.Faults.{Rose};
 ghost use Rattle.ptg_io.specs.Sink.{appended};
 ghost use Rattle.report_text.specs.Printed.{outcome_text};
 ghost use Rattle.report_text.specs.Puts.{HasPrefix};
+ghost use Rattle.report_text.specs.Ranked.{ranked_text};
 ghost use Rattle.ptg_top.specs.Denotation.{plan_of};
 ghost use Rattle.ptg_top.specs.Findings.{IsAnswered, IsFindingOf, finding_text, status_of_finding, status_of_outcome};
 
@@ -14,7 +15,8 @@ use flow_meaning::Outcome;
 use plan_core::Plan;
 use ptg_io::{Failed, Sink, write_all};
 use report_text::{
-    answers_have_rows_of_their_plan, found_cycle, heaviest_chain, report, summary_line,
+    RankedAnswer, answers_have_rows_of_their_plan, found_cycle, heaviest_chain, ranked_answer,
+    report, summary_line,
 };
 
 // The plan of the job that was run.
@@ -41,6 +43,7 @@ pub fn tell_finding<O: Sink>(by: &RanBy, finding: &Finding, out: &mut O) -> Resu
         Finding::Chain(found) => heaviest_chain(plan_of(by), found, out),
         Finding::Cycle(found) => found_cycle(plan_of(by), found, out),
         Finding::Order(text) => write_all(out, text.bytes()),
+        Finding::Ranked(found) => tell_ranked(plan_of(by), found, out),
     }
 }
 
@@ -56,6 +59,18 @@ fn tell_answer<O: Sink>(plan: &Plan, outcome: &Outcome, out: &mut O) -> Result<(
     report(plan, outcome, out)
 }
 
+// Prints the answer of a job that was run by ranks. On `Err` a prefix of its text was written.
+fn tell_ranked<O: Sink>(plan: &Plan, found: &RankedAnswer, out: &mut O) -> Result<(), Failed>
+    requires { IsAnswered plan.now found.now.outcome }
+    ensures ok { OnOk result (O.bytes out.new ≡ appended (O.bytes out.old) (ranked_text plan.now found.now)) }
+    ensures prefix { OnErr result (HasPrefix (O.bytes out.old) (O.bytes out.new) (ranked_text plan.now found.now)) }
+    ensures grows { O.faults out.old ≤ O.faults out.new }
+    ensures failed { OnErr result (Rose (O.faults out.old) (O.faults out.new)) }
+{
+    answers_have_rows_of_their_plan();
+    ranked_answer(plan, found, out)
+}
+
 /// The status of a job that was run.
 pub fn status_of_finding(finding: &Finding) -> Status
     ensures { result ≡ status_of_finding finding.now }
@@ -66,6 +81,7 @@ pub fn status_of_finding(finding: &Finding) -> Status
         Finding::Chain(_) => Status::Complete,
         Finding::Cycle(_) => Status::Stalled,
         Finding::Order(_) => Status::Complete,
+        Finding::Ranked(found) => status_of_outcome(&found.outcome),
     }
 }
 

@@ -9,6 +9,7 @@ ghost use Rattle.ptg_top.specs.Receipts.{IsRunAsAsked, IsRunAsOrdered};
 use crate::certifying::certify;
 use crate::checking::check;
 use crate::host::Host;
+use crate::ranking::ranks;
 use crate::replaying::replay;
 use crate::request::{Request, request_of};
 use crate::running::run;
@@ -68,5 +69,6 @@ fn carry_out<R: Threads + Wait + Sync, F: Files, G: Gate>(
         Request::Trace(jdf, tiles, settings) => trace(host, jdf, tiles, files, *settings),
         Request::Replay(jdf, tiles, list) => replay(host.alloc, jdf, tiles, list, files),
         Request::Certify(jdf, tiles) => certify(host, jdf, tiles, files),
+        Request::Ranks(jdf, tiles, settings) => ranks(host.alloc, jdf, tiles, files, *settings),
     }
 }

@@ -1,7 +1,7 @@
 //! Laws of the meaning of a command.
 
 ghost use Rattle.ptg_top.specs.Meaning.{OneJob, OneMeaning, SomeMeaning};
-ghost use Rattle.ptg_top.specs.Settings.{ShardsChangeNothing, WorkersChangeNothing};
+ghost use Rattle.ptg_top.specs.Settings.{SeedsChangeNothing, ShardsChangeNothing, WorkersChangeNothing};
 ghost use Rattle.ptg_top.specs.Headline.{OneOutput, SomeOutput};
 
 use ptg_words::words_give_one_order;
@@ -26,8 +26,9 @@ pub fn some_meaning()
 }
 
 /// A law: the number of shards changes nothing in what arguments and files denote. Without a preload the number of workers does not
-/// either.
+/// either. The seed of ranks changes nothing.
 pub fn settings_change_nothing_else()
     ensures shards { ShardsChangeNothing }
     ensures workers { WorkersChangeNothing }
+    ensures seeds { SeedsChangeNothing }
 {}

@@ -12,6 +12,7 @@ mod judge;
 mod laws;
 mod names;
 mod program;
+mod ranking;
 mod reading;
 mod replaying;
 mod request;

@@ -31,9 +31,11 @@ use worker_core::Gate;
 /// tasks, edges and write-backs a consistent job has, or the first refusal of the one order: the JDF's text, the data's text, a
 /// global that the data lack, names and kinds, consistency; for `demo N`, which runs the made job of N rows of tiles and prints the
 /// number of its tasks and the sum of all elements; for `certify JDF DATA`, which runs a job and prints a heaviest chain of its
-/// tasks with the level of each, or a cycle where it stalled, or its traps; and for `replay JDF DATA TRACE`, which prints the answer
-/// of `run` where the trace is that of a whole order of the tasks that run, and else its first fault. `trace JDF DATA` runs a job, and
-/// prints some trace of it: the text of a whole order of the tasks that run. It may wait, as workers wait for each other.
+/// tasks with the level of each, or a cycle where it stalled, or its traps; for `replay JDF DATA TRACE`, which prints the answer of
+/// `run` where the trace is that of a whole order of the tasks that run, and else its first fault; and for `ranks JDF DATA R SEED`,
+/// which prints how many messages R ranks send one another in a run of the job, and then the answer of `run`, whatever the seed.
+/// `trace JDF DATA` runs a job, and prints some trace of it: the text of a whole order of the tasks that run. It may wait, as workers
+/// wait for each other.
 pub fn ptg_main<R: Threads + Wait + Sync, F: Files, O: Sink, G: Gate>(
     rt: &R,
     alloc: Global,

@@ -1,4 +1,4 @@
-//! What the program carries out so far.
+//! What commands ask for.
 
 ghost use Rattle.std.specs.Prelude.{◌≡◌};
 ghost use Rattle.ptg_top.specs.Requests.{request_of};
@@ -24,9 +24,20 @@ pub enum Request {
     Replay(Text, Text, Text),
     /// Run the job of this JDF file on this data file, and find its certificate.
     Certify(Text, Text),
+    /// Run the job of this JDF file on this data file by ranks that send one another messages, with these settings.
+    Ranks(Text, Text, RankSettings),
 }
 
-/// What a command asks for: nothing where it is a verb that comes later.
+/// With what ranks run a job.
+#[derive(Clone, Copy, Debug, PartialEq, Eq)]
+pub struct RankSettings {
+    /// How many ranks there are.
+    pub ranks: u32,
+    /// The seed that chooses the order in which tasks run and messages come.
+    pub seed: u64,
+}
+
+/// What a command asks for.
 pub fn request_of(order: Order) -> Option<Request>
     ensures { result ≡ request_of order }
 {
@@ -52,6 +63,9 @@ pub fn request_of(order: Order) -> Option<Request>
         }
         Order::Replay(jdf, tiles, trace) => Some(Request::Replay(jdf, tiles, trace)),
         Order::Certify(jdf, tiles) => Some(Request::Certify(jdf, tiles)),
-        Order::Ranks(_, _, _, _) => None,
+        Order::Ranks(jdf, tiles, ranks, seed) => {
+            let settings = RankSettings { ranks, seed };
+            Some(Request::Ranks(jdf, tiles, settings))
+        }
     }
 }

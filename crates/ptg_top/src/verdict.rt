@@ -5,7 +5,7 @@ use dep_table::receipt::Receipt;
 use flow_meaning::Outcome;
 use job_stages::JobVerdict;
 use ptg_base::Text;
-use report_text::{FoundCycle, HeaviestChain, Summary};
+use report_text::{FoundCycle, HeaviestChain, RankedAnswer, Summary};
 use trace_core::TraceFault;
 
 /// What a run comes to, before it is printed.
@@ -32,7 +32,7 @@ pub enum Verdict {
 pub enum RanBy {
     /// By the workers of a table, whose receipt this is.
     Table(Receipt),
-    /// By one thread, in the order of a trace.
+    /// By one thread, in the order of a trace, or as ranks that send one another messages.
     OneThread(Matched),
 }
 
@@ -49,4 +49,6 @@ pub enum Finding {
     Cycle(FoundCycle),
     /// The text of the tasks that ran, in an order in which they may run.
     Order(Text),
+    /// The answer, with how many messages the ranks that ran the job sent one another.
+    Ranked(RankedAnswer),
 }

@@ -1,0 +1,19 @@
+-- What `ranks` denotes: the answer of a job that is run by ranks, and how many messages they send one another, whatever the seed.
+-- Source: this project's own choice.
+use Rattle.std.specs.Prelude.{◌≡◌, ℕ, ◌≤◌}
+use Rattle.coll_data.specs.Data.{Data}
+use Rattle.plan_core.specs.declared.plan.Plan.{Plan}
+use Rattle.flow_meaning.specs.Answer.{answer}
+use Rattle.rank_core.specs.Sound.{message_count}
+use Rattle.ptg_top.specs.declared.verdict.Finding.TheVariants.{Ranked}
+use Rattle.ptg_top.specs.Denotation as verdicts
+use Rattle.ptg_top.specs.Denotation.{Denotation}
+
+-- 1 to 64 ranks
+abbrev pub AreRanks : ℕ → Type 0
+AreRanks r = (1 ≤ r) × (r ≤ 64)
+
+-- the verdict of `ranks` on a consistent job: as many messages as there are edges between two ranks whose source has outputs, and the
+-- answer of the job
+abbrev pub IsRanked : ℕ → Plan → Data → Denotation → Type 0
+IsRanked r P given v = v ≡ verdicts.Ran P (Ranked (record { ranks = r; messages = message_count P given r; outcome = answer P given }))

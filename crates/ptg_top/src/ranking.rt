@@ -1,0 +1,70 @@
+//! The run of a job's two files by ranks that send one another messages.
+
+ghost use Rattle.std.specs.Prelude.{◌≡◌, ◌≤◌, ℕ, List, IfOk, None};
+ghost use Rattle.std.specs.Str.{IsUtf8};
+ghost use Rattle.plan_data.specs.Fit.{DataFit};
+ghost use Rattle.ptg_top.specs.declared.request.Request.TheVariants as asked;
+ghost use Rattle.ptg_top.specs.Denotation.{denoted};
+ghost use Rattle.ptg_top.specs.JobFiles.{HasFittingJob};
+ghost use Rattle.ptg_top.specs.Ranks.{AreRanks, IsRanked};
+ghost use Rattle.ptg_top.specs.Reports.{IsVerdictOnRequest};
+ghost use Rattle.ptg_top.specs.Receipts.{receipt_of};
+
+use crate::checking::check;
+use crate::consistent::consistent_job;
+use crate::request::RankSettings;
+use crate::verdict::{Finding, RanBy, Verdict};
+use coll_data::Given;
+use dep_iter::Matched;
+use ptg_base::{OutOfMemory, Text};
+use ptg_io::Files;
+use rank_world::ranks_of;
+use report_text::RankedAnswer;
+use std::alloc::Global;
+
+/// The verdict of `ranks` on a JDF file and a data file: of a job that `check` finds consistent, how many messages the ranks send one
+/// another, and the job's answer; else the verdict of `check`.
+pub fn ranks<F: Files>(
+    alloc: Global,
+    jdf: &Text,
+    tiles: &Text,
+    files: &mut F,
+    settings: RankSettings,
+) -> Result<Verdict, OutOfMemory>
+    requires jdf_text { IsUtf8 jdf.now }
+    requires tiles_text { IsUtf8 tiles.now }
+    requires ranks { AreRanks settings.ranks }
+    ensures stays { F.contents files.new ≡ F.contents files.old }
+    ensures grows { (other : List ℕ) → F.faults files.old other ≤ F.faults files.new other }
+    ensures verdict { IfOk result (λ v. IsVerdictOnRequest (F.contents files.old) (F.faults files.old) (F.faults files.new) (asked.Ranks jdf.now tiles.now settings) (denoted v)) }
+    ensures fit { IfOk result (λ v. HasFittingJob (denoted v)) }
+    ensures not_run { IfOk result (λ v. receipt_of v ≡ None) }
+{
+    let checked = check(alloc, jdf, tiles, files)?;
+    match consistent_job(checked) {
+        Ok((matched, given)) => ranked(alloc, matched, given, settings),
+        Err(refused) => Ok(refused),
+    }
+}
+
+// The verdict of `ranks` on a consistent job.
+fn ranked(
+    alloc: Global,
+    matched: Matched,
+    given: Given,
+    settings: RankSettings,
+) -> Result<Verdict, OutOfMemory>
+    requires fit { DataFit matched.colls matched.elems given }
+    requires ranks { AreRanks settings.ranks }
+    ensures ranked { IfOk result (λ v. IsRanked settings.ranks matched given (denoted v)) }
+    ensures fit { IfOk result (λ v. HasFittingJob (denoted v)) }
+    ensures not_run { IfOk result (λ v. receipt_of v ≡ None) }
+{
+    let (messages, outcome) = ranks_of(alloc, &matched, given, settings.ranks, settings.seed)?;
+    let found = RankedAnswer {
+        ranks: settings.ranks,
+        messages,
+        outcome,
+    };
+    Ok(Verdict::Ran(RanBy::OneThread(matched), Finding::Ranked(found)))
+}
