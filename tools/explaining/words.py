@@ -12,8 +12,6 @@ class Verb:
     operands: dict
     numbers: tuple = ()
     flags: tuple = ()
-    # whether it is carried out
-    carried_out: bool = True
 
     def options(self):
         return [name for name, _ in self.numbers] + list(self.flags)
@@ -112,8 +110,6 @@ def judge(it, verb):
     else:
         wanted = zip(it.operands, verb.operands.values())
         it.wrong += [f"`{shown(text)}` is no number from {kind[0]} to {kind[1]}" for text, kind in wanted if kind is not FILE and not is_number(text, *kind)]
-    if not it.wrong:
-        it.wrong += [f"`{it.verb}` is read and checked, and not carried out yet"] * (not verb.carried_out)
 
 
 def is_improper(word):
@@ -133,5 +129,5 @@ def form(name):
 def explanation(words):
     """The lines for words that form no command."""
     it = command_of(words)
-    forms = [it.verb] if it.verb in VERBS else [name for name, verb in VERBS.items() if verb.carried_out]
+    forms = [it.verb] if it.verb in VERBS else list(VERBS)
     return [f"ptg: error: usage: {it.wrong[0] if it.wrong else 'these words form no command'}"] + ["    " + form(name) for name in forms]

@@ -7,7 +7,7 @@ use ptg_base::Text;
 use ptg_words::Order;
 use run_pool::Settings;
 
-/// What a command asks for, where that is carried out so far.
+/// What a command asks for.
 #[derive(Drop)]
 pub enum Request {
     /// Run the job of this JDF file on this data file, with these settings.
