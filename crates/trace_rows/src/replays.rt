@@ -1,0 +1,113 @@
+//! What a text comes to as the trace of a job, as it is printed.
+
+ghost use Rattle.plan_data.specs.Fit.{DataFit};
+ghost use Rattle.report_text.specs.Rows.{HasRowsOf};
+
+use coll_data::Given;
+use dep_iter::Matched;
+use flow_meaning::Outcome;
+use plan_core::Plan;
+use ptg_base::{Refusal, Seq};
+use ptg_io::{Failed, MemSink};
+use report_text::{answers_have_rows_of_their_plan, report};
+use row_files::{Printed, Why};
+use std::alloc::Global;
+use trace_core::{TraceCode, TraceFault, TraceRefusal, read_trace, trace_text};
+use trace_replay::{judge_trace, replay};
+
+// The status of an answer: all tasks ran, one trapped, or one waits.
+const COMPLETE: u8 = 0;
+
+const TRAPPED: u8 = 5;
+
+const STALLED: u8 = 6;
+
+// The status of a fault of a trace.
+const TRACE_REFUSED: u8 = 11;
+
+/// The answer of a job, where the text is that of its tasks in an order in which they may run; else the text's first fault.
+pub fn replayed(alloc: Global, m: &Matched, given: Given, trace: &[u8]) -> Result<Printed, Why>
+    requires { DataFit m.now.colls m.now.elems given }
+{
+    let verdict = judge_trace(alloc, m, given, trace)?;
+    answers_have_rows_of_their_plan();
+    match verdict {
+        Ok(outcome) => answered(alloc, m.plan(), &outcome),
+        Err(fault) => refused(alloc, fault),
+    }
+}
+
+/// The text of the tasks that were read, and what comes of them in this order: the answer of the job, or the list's first fault. Of a text
+/// that is not one of different tasks of the job its first fault as such.
+pub fn listed(alloc: Global, m: &Matched, given: Given, trace: &[u8]) -> Result<Printed, Why>
+    requires { DataFit m.now.colls m.now.elems given }
+{
+    let tasks = match read_trace(alloc, m, trace) {
+        Ok(tasks) => tasks,
+        Err(refusal) => return unread(alloc, refusal),
+    };
+    let written = trace_text(alloc, m.plan(), tasks.as_slice())?;
+    let answer = replay(alloc, m, given, tasks.as_slice());
+    answers_have_rows_of_their_plan();
+    let come = match answer {
+        Ok(outcome) => answered(alloc, m.plan(), &outcome)?,
+        Err(refusal) => unread(alloc, refusal)?,
+    };
+    let mut text = written.bytes().to_vec(alloc)?;
+    text.extend_from_slice(come.text.as_slice())?;
+    Ok(Printed {
+        text,
+        status: come.status,
+    })
+}
+
+// An answer.
+fn answered(alloc: Global, plan: &Plan, outcome: &Outcome) -> Result<Printed, Why>
+    requires { HasRowsOf plan.now outcome.now }
+{
+    let mut sink = MemSink::new(alloc, Seq::new(alloc));
+    match report(plan, outcome, &mut sink) {
+        Ok(()) => Ok(Printed {
+            text: sink.bytes().to_vec(alloc)?,
+            status: status_of(outcome),
+        }),
+        Err(Failed) => Err(Why("an answer that was not printed")),
+    }
+}
+
+fn status_of(outcome: &Outcome) -> u8 {
+    match outcome {
+        Outcome::Complete(_, _) => COMPLETE,
+        Outcome::Trapped(_) => TRAPPED,
+        Outcome::Stalled(_, _, _) => STALLED,
+    }
+}
+
+// What stopped a reading or a replay.
+fn unread(alloc: Global, refusal: TraceRefusal) -> Result<Printed, Why> {
+    match refusal {
+        Refusal::Fault(fault) => refused(alloc, fault),
+        Refusal::OutOfMemory => Err(Why("there is no memory for it")),
+    }
+}
+
+// A fault.
+fn refused(alloc: Global, fault: TraceFault) -> Result<Printed, Why> {
+    let mut text = String::new(alloc);
+    write!(text, "trace,{},{}\n", fault.row, name_of(fault.code))?;
+    Ok(Printed {
+        text: text.into_bytes(),
+        status: TRACE_REFUSED,
+    })
+}
+
+fn name_of(code: TraceCode) -> &'static str {
+    match code {
+        TraceCode::TooLong => "TooLong",
+        TraceCode::BadTrace => "BadTrace",
+        TraceCode::UnknownTask => "UnknownTask",
+        TraceCode::RanTwice => "RanTwice",
+        TraceCode::TooEarly => "TooEarly",
+        TraceCode::Unfinished => "Unfinished",
+    }
+}
