@@ -1,0 +1,213 @@
+//! The jobs that are played.
+
+/// A job's two texts.
+#[derive(Drop)]
+pub struct Texts {
+    pub name: &'static str,
+    pub jdf: &'static [u8],
+    pub data: &'static [u8],
+}
+
+/// One task sends a tile to three, each of which adds its number and writes the tile back.
+pub const BROADCAST: Texts = Texts {
+    name: "broadcast",
+    jdf: b"D
+
+Src(z)
+z = 0 .. 0
+: D(0)
+READ A <- D(0)
+     -> X Sink(0 .. 2)
+BODY
+END
+
+Sink(i)
+i = 0 .. 2
+: D(i)
+RW X <- A Src(0)
+     -> D(i)
+BODY
+X[0] = X[0] + i;
+END
+",
+    data: b"elems,1
+coll,D,3
+tile,D,0,10
+",
+};
+
+/// Three tasks each add 1 to a place, and one waits for all of them.
+pub const GATHER: Texts = Texts {
+    name: "gather",
+    jdf: b"D
+Done
+
+Work(i)
+i = 0 .. 2
+: D(i)
+RW A <- D(i)
+     -> D(i)
+CTL c -> c Last(0)
+BODY
+A[0] = A[0] + 1;
+END
+
+Last(z)
+z = 0 .. 0
+: Done(0)
+CTL c <- c Work(0 .. 2)
+WRITE M -> Done(0)
+BODY
+M[0] = 1;
+END
+",
+    data: b"elems,1
+coll,D,3
+coll,Done,1
+tile,D,0,5
+tile,D,1,6
+tile,D,2,7
+",
+};
+
+/// Two of four tasks trap.
+pub const TRAPS: Texts = Texts {
+    name: "traps",
+    jdf: b"D
+
+T(k)
+k = 0 .. 3
+: D(0)
+WRITE A
+BODY
+if (k == 2) { A[0] = 1 / 0; }
+if (k == 3) { A[1] = 1; }
+END
+",
+    data: b"elems,1
+coll,D,1
+",
+};
+
+/// A task waits for itself.
+pub const STALL: Texts = Texts {
+    name: "stall",
+    jdf: b"D
+
+S(z)
+z = 0 .. 0
+: D(0)
+WRITE A -> X T(0)
+BODY
+END
+
+T(z)
+z = 0 .. 0
+: D(0)
+READ X <- A S(0)
+CTL c <- c T(0)
+      -> c T(0)
+BODY
+END
+",
+    data: b"elems,1
+coll,D,1
+",
+};
+
+/// A task with tiles of two datatypes.
+pub const TYPES: Texts = Texts {
+    name: "types",
+    jdf: b"D
+Q
+
+T(z)
+z = 0 .. 0
+: D(0)
+RW A <- D(0) -> D(0)
+RW B <- Q(0) [type = PAIR] -> Q(0) [type = PAIR]
+BODY
+A[0] = A[0] + B[1]; B[0] = 7;
+END
+",
+    data: b"elems,1
+elems,PAIR,2
+coll,D,1
+collof,PAIR,Q,1
+tile,D,0,5
+tile,Q,0,3,4
+",
+};
+
+// The shape of a tiled Cholesky factorization.
+const CHOLESKY_JDF: &[u8] = b"D [type = \"parsec_data_collection_t*\"]
+NT [type = int]
+
+potrf(k)
+k = 0 .. NT-1
+: D(k, k)
+RW T <- (k == 0) ? D(k, k) : T herk(k-1, k)
+     -> T trsm(k, k+1 .. NT-1)
+     -> D(k, k)
+; NT - k
+BODY
+T[0] = T[0] + 1;
+END
+
+trsm(k, m)
+k = 0 .. NT-2
+m = k+1 .. NT-1
+: D(m, k)
+READ T <- T potrf(k)
+RW C <- (k == 0) ? D(m, k) : C gemm(k-1, m, k)
+     -> A herk(k, m)
+     -> A gemm(k, m, k+1 .. m-1)
+     -> B gemm(k, m+1 .. NT-1, m)
+     -> D(m, k)
+BODY
+C[0] = C[0] + 1;
+END
+
+herk(k, m)
+k = 0 .. NT-2
+m = k+1 .. NT-1
+: D(m, m)
+READ A <- C trsm(k, m)
+RW T <- (k == 0) ? D(m, m) : T herk(k-1, m)
+     -> (m == k+1) ? T potrf(m) : T herk(k+1, m)
+BODY
+T[0] = T[0] + 1;
+END
+
+gemm(k, m, n)
+k = 0 .. NT-3
+m = k+2 .. NT-1
+n = k+1 .. m-1
+: D(m, n)
+READ A <- C trsm(k, m)
+READ B <- C trsm(k, n)
+RW C <- (k == 0) ? D(m, n) : C gemm(k-1, m, n)
+     -> (n == k+1) ? C trsm(n, m) : C gemm(k+1, m, n)
+BODY
+C[0] = C[0] + 1;
+END
+";
+
+/// That shape with four rows of tiles, and with twenty. Each task adds 1 to one element.
+pub const CHOLESKY_4: Texts = Texts {
+    name: "cholesky 4",
+    jdf: CHOLESKY_JDF,
+    data: b"elems,1
+int,NT,4
+coll,D,4,4
+",
+};
+
+pub const CHOLESKY_20: Texts = Texts {
+    name: "cholesky 20",
+    jdf: CHOLESKY_JDF,
+    data: b"elems,1
+int,NT,20
+coll,D,20,20
+",
+};

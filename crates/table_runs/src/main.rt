@@ -1,0 +1,167 @@
+//! Plays jobs over the shared table: by one worker while two passes look on, in several orders, by several workers in threads, and
+//! up to a close before the end. It prints what the passes were answered and what the closed tables answer.
+#![tactic(auto)]
+
+mod answer;
+mod closing;
+mod early;
+mod jobs;
+mod opening;
+mod orders;
+mod playing;
+mod seen;
+mod threads;
+mod watcher;
+mod watching;
+
+use crate::early::{claim_and_close, shard_of};
+use crate::jobs::{BROADCAST, CHOLESKY_4, CHOLESKY_20, GATHER, STALL, TRAPS, TYPES, Texts};
+use crate::opening::{Make, table_of};
+use crate::orders::play_in_order;
+use crate::playing::{Played, play};
+use crate::threads::{answer_by, traced};
+use ptg_base::{OutOfMemory, TaskId};
+use run_pool::Settings;
+use std::alloc::Global;
+use std::io;
+use std::sync::Wait;
+use std::thread::Threads;
+
+// The numbers of shards, and of workers.
+const SHARDS: [u32; 3] = [1, 3, 256];
+
+const WORKERS: [u32; 3] = [1, 2, 5];
+
+// A job played over a new table, if it is consistent and the number of shards is right.
+fn played<R: Threads + Wait + Sync>(
+    rt: &R,
+    alloc: Global,
+    texts: &Texts,
+    make: Make,
+) -> Result<Option<Played>, OutOfMemory> {
+    let Some((table, first)) = table_of(alloc, texts, make)? else {
+        return Ok(None);
+    };
+    Ok(Some(play(rt, alloc, table, first)?))
+}
+
+// A job played over tables with these numbers of shards, each with and without a preload.
+fn print_played<R: Threads + Wait + Print + Sync>(
+    rt: &R,
+    alloc: Global,
+    texts: &Texts,
+) -> io::Result<()> {
+    let name = texts.name;
+    for shards in SHARDS {
+        for preload in [false, true] {
+            match played(rt, alloc, texts, Make { shards, preload }) {
+                Ok(Some(p)) => println!(rt; "{name}, {shards} shards, preload {preload}: {p}")?,
+                Ok(None) => println!(rt; "{name}: no job")?,
+                Err(OutOfMemory) => println!(rt; "{name}: no memory")?,
+            }
+        }
+    }
+    Ok(())
+}
+
+// The answers of a job by these numbers of workers, each with those numbers of shards, with and without a preload.
+fn print_answers<R: Threads + Wait + Print + Sync>(
+    rt: &R,
+    alloc: Global,
+    texts: &Texts,
+) -> io::Result<()> {
+    let name = texts.name;
+    for workers in WORKERS {
+        for shards in SHARDS {
+            for preload in [false, true] {
+                let settings = Settings {
+                    workers,
+                    shards,
+                    preload,
+                };
+                match answer_by(rt, alloc, texts, settings) {
+                    Ok(Some(a)) => println!(rt;
+                        "{name}, {workers} workers, {shards} shards, preload {preload}: {a}"
+                    )?,
+                    Ok(None) => println!(rt; "{name}: no answer")?,
+                    Err(OutOfMemory) => println!(rt; "{name}: no memory")?,
+                }
+            }
+        }
+    }
+    Ok(())
+}
+
+// A table that is closed after a claim of this task.
+fn print_early<R: Print>(rt: &R, alloc: Global, texts: &Texts, task: &TaskId) -> io::Result<()> {
+    let name = texts.name;
+    match claim_and_close(alloc, texts, task) {
+        Ok(Some(e)) => println!(rt;
+            "{name}, one claim: claimed {}, seen quiet {}, closed quiet {}",
+            e.claimed, e.seen_quiet, e.quiet
+        ),
+        Ok(None) => println!(rt; "{name}: no job"),
+        Err(OutOfMemory) => println!(rt; "{name}: no memory"),
+    }
+}
+
+// The claims of a job by one worker, with these ids in its deque.
+fn print_ordered<R: Threads + Wait + Print + Sync>(
+    rt: &R,
+    alloc: Global,
+    texts: &Texts,
+    ids: &[i64],
+) -> io::Result<()> {
+    let name = texts.name;
+    match play_in_order(rt, alloc, texts, ids) {
+        Ok(Some(o)) => println!(rt; "{name}, in order: {o}"),
+        Ok(None) => println!(rt; "{name}: no job"),
+        Err(OutOfMemory) => println!(rt; "{name}: no memory"),
+    }
+}
+
+// The claims of a job by four workers.
+fn print_claims<R: Threads + Wait + Print + Sync>(
+    rt: &R,
+    alloc: Global,
+    texts: &Texts,
+) -> io::Result<()> {
+    let name = texts.name;
+    match traced(rt, alloc, texts) {
+        Ok(Some(c)) => println!(rt;
+            "{name}: {} claims, {} again, {}",
+            c.count, c.again, c.answer
+        ),
+        Ok(None) => println!(rt; "{name}: no job"),
+        Err(OutOfMemory) => println!(rt; "{name}: no memory"),
+    }
+}
+
+// The shard of a task of the job, among 16.
+fn print_shard<R: Print>(rt: &R, alloc: Global, texts: &Texts, task: &TaskId) -> io::Result<()> {
+    let name = texts.name;
+    match shard_of(alloc, texts, task) {
+        Ok(Some(shard)) => println!(rt; "{name}, class {}: shard {shard}", task.class()),
+        Ok(None) => println!(rt; "{name}: no job"),
+        Err(OutOfMemory) => println!(rt; "{name}: no memory"),
+    }
+}
+
+fn main(rt: HostRuntime) -> io::Result<()> {
+    let alloc = rt.alloc();
+    for texts in [BROADCAST, GATHER, TRAPS, STALL, TYPES] {
+        print_played(&rt, alloc, &texts)?;
+        print_answers(&rt, alloc, &texts)?;
+    }
+    print_ordered(&rt, alloc, &GATHER, &[])?;
+    print_ordered(&rt, alloc, &GATHER, &[0, 1, 2])?;
+    print_ordered(&rt, alloc, &GATHER, &[1, 2, 0])?;
+    print_ordered(&rt, alloc, &TRAPS, &[3, 0, 2, 1])?;
+    // After the first claim a task is ready, and after the second one it runs.
+    print_early(&rt, alloc, &BROADCAST, &TaskId::new(1, &[0]))?;
+    print_early(&rt, alloc, &BROADCAST, &TaskId::new(0, &[0]))?;
+    print_claims(&rt, alloc, &CHOLESKY_20)?;
+    print_shard(&rt, alloc, &CHOLESKY_4, &TaskId::new(0, &[0]))?;
+    print_shard(&rt, alloc, &CHOLESKY_4, &TaskId::new(1, &[0, 1]))?;
+    Ok(())
+}

@@ -1,0 +1,71 @@
+//! Tables of jobs.
+
+ghost use Rattle.std.specs.Prelude.{◌≡◌, ◌<◌, ◌≤◌, IfOk, IfSome};
+ghost use Rattle.plan_data.specs.Fit.{DataFit};
+ghost use Rattle.table_rule.specs.Changes.{first_pass};
+ghost use Rattle.dep_table.specs.Passes.{IsPassOf};
+ghost use Rattle.dep_table.specs.Tables.{id_of, job_of as job_in};
+ghost use Rattle.dep_table.specs.Views.{shown};
+
+use crate::jobs::Texts;
+use coll_data::Given;
+use dep_iter::Matched;
+use dep_table::pass::Pass;
+use dep_table::table::DepTable;
+use job_stages::{JobVerdict, judge_texts};
+use ptg_base::OutOfMemory;
+use std::alloc::Global;
+
+/// How a table is made.
+#[derive(Clone, Copy)]
+pub struct Make {
+    pub shards: u32,
+    pub preload: bool,
+}
+
+/// The job of two texts, if it is consistent.
+pub fn job_of(alloc: Global, texts: &Texts) -> Result<Option<(Matched, Given)>, OutOfMemory>
+    ensures { IfOk result (λ job. IfSome job (λ j. DataFit j.0.colls j.0.elems j.1)) }
+{
+    match judge_texts(alloc, texts.jdf, texts.data)? {
+        JobVerdict::Consistent(matched, given) => Ok(Some((matched, given))),
+        _ => Ok(None),
+    }
+}
+
+// A table of a job, with its first pass.
+fn open(
+    alloc: Global,
+    matched: Matched,
+    given: Given,
+    make: Make,
+) -> Result<(DepTable, Pass), OutOfMemory>
+    requires fit { DataFit matched.colls matched.elems given }
+    requires shards { (0 < make.shards) × (make.shards ≤ 256) }
+    ensures pass { IfOk result (λ r. IsPassOf (id_of r.0) r.1 × (shown r.1 ≡ first_pass)) }
+    ensures preloaded { IfOk result (λ r. (job_in r.0).preloaded ≡ make.preload) }
+{
+    if make.preload {
+        DepTable::new_preloaded(alloc, matched, given, make.shards)
+    } else {
+        DepTable::new(alloc, matched, given, make.shards)
+    }
+}
+
+/// A table of the job of two texts, with its first pass, if the job is consistent and the number of shards is right.
+pub fn table_of(
+    alloc: Global,
+    texts: &Texts,
+    make: Make,
+) -> Result<Option<(DepTable, Pass)>, OutOfMemory>
+    ensures pass { IfOk result (λ o. IfSome o (λ r. IsPassOf (id_of r.0) r.1 × (shown r.1 ≡ first_pass))) }
+    ensures preloaded { IfOk result (λ o. IfSome o (λ r. (job_in r.0).preloaded ≡ make.preload)) }
+{
+    if make.shards == 0 || make.shards > 256 {
+        return Ok(None);
+    }
+    let Some((matched, given)) = job_of(alloc, texts)? else {
+        return Ok(None);
+    };
+    Ok(Some(open(alloc, matched, given, make)?))
+}

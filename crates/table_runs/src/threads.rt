@@ -1,0 +1,104 @@
+//! Jobs run by several workers, each in a thread of its own.
+
+ghost use Rattle.std.specs.Prelude.{IsTrue};
+ghost use Rattle.run_pool.specs.Runs.{AreSettings};
+
+use crate::answer::{Answer, answer_of};
+use crate::jobs::Texts;
+use crate::opening::job_of;
+use dep_table::closed::Closed;
+use ptg_base::{OutOfMemory, TaskId};
+use run_pool::{PrepareFault, Settings, prepare, run, run_traced};
+use std::alloc::Global;
+use std::sync::Wait;
+use std::thread::Threads;
+use worker_core::Always;
+
+// Whether the settings are within their limits.
+fn are_settings(settings: Settings) -> bool
+    ensures { IsTrue result → AreSettings settings }
+{
+    if settings.workers == 0 || settings.workers > 64 {
+        return false;
+    }
+    if settings.shards == 0 || settings.shards > 256 {
+        return false;
+    }
+    true
+}
+
+/// The answer of a job, if the settings are within their limits and it is consistent and its preload is not too large.
+pub fn answer_by<R: Threads + Wait + Sync>(
+    rt: &R,
+    alloc: Global,
+    texts: &Texts,
+    settings: Settings,
+) -> Result<Option<Answer>, OutOfMemory> {
+    if !are_settings(settings) {
+        return Ok(None);
+    }
+    let Some((matched, given)) = job_of(alloc, texts)? else {
+        return Ok(None);
+    };
+    match prepare(alloc, matched, given, settings) {
+        Ok(prepared) => Ok(Some(answer_of(run(rt, prepared, &Always)?)?)),
+        Err(PrepareFault::PreloadTooLarge(_bytes)) => Ok(None),
+        Err(PrepareFault::OutOfMemory) => Err(OutOfMemory),
+    }
+}
+
+/// The claims of a run by four workers over 16 shards.
+#[derive(Clone, Copy)]
+pub struct Claims {
+    /// How many there are.
+    pub count: usize,
+    /// How many of them are of a task that another one is of.
+    pub again: usize,
+    /// The answer of the closed table.
+    pub answer: Answer,
+}
+
+// How many of these tasks in their order are the same as the one before.
+fn repeats(tasks: &[TaskId]) -> usize {
+    let mut again: usize = 0;
+    for k in 1..tasks.len() {
+        if tasks[k] == tasks[k - 1] {
+            again = again.saturating_add(1);
+        }
+    }
+    again
+}
+
+fn claims_of(tasks: Vec<TaskId>, closed: Closed) -> Result<Claims, OutOfMemory> {
+    let mut tasks = tasks;
+    tasks.sort_unstable();
+    Ok(Claims {
+        count: tasks.len(),
+        again: repeats(tasks.as_slice()),
+        answer: answer_of(closed)?,
+    })
+}
+
+/// Runs a job by four workers over 16 shards and tells of its claims.
+pub fn traced<R: Threads + Wait + Sync>(
+    rt: &R,
+    alloc: Global,
+    texts: &Texts,
+) -> Result<Option<Claims>, OutOfMemory> {
+    let Some((matched, given)) = job_of(alloc, texts)? else {
+        return Ok(None);
+    };
+    let settings = Settings {
+        workers: 4,
+        shards: 16,
+        preload: false,
+    };
+    match prepare(alloc, matched, given, settings) {
+        Ok(prepared) => {
+            let (tasks, closed) = run_traced(alloc, rt, prepared, &Always)?;
+            Ok(Some(claims_of(tasks, closed)?))
+        }
+        Err(PrepareFault::PreloadTooLarge(_bytes)) => Ok(None),
+        Err(PrepareFault::OutOfMemory) => Err(OutOfMemory),
+    }
+}
