@@ -23,4 +23,4 @@ table_fields : IsSync (Struct (shape table_type))
 table_fields = let s = shard_send in struct_sync (shape table_type) (search (sendable, crosses, shared_sync, lease_sync) depth 30, (job_fields, (closing_fields, tt)))
 
 pub board_sync : IsSync the_row
-board_sync = declared_sync the_type (table_fields, tt)
+board_sync = declared_sync the_type (table_fields, (search sendable depth 30, tt))

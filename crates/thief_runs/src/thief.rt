@@ -56,7 +56,7 @@ fn steal<R: Threads + Wait + Sync>(
     let (table, mut first) = DepTable::new(alloc, matched, given, 1)?;
     let own = table.split(&mut first);
     let mut bench = Bench::new(alloc, table.matched())?;
-    let board = Unscanned { table };
+    let board = Unscanned { table, scanned: 0 };
     let mut pass = PassPair {
         own,
         halting: first,

@@ -1,13 +1,11 @@
-//! A table whose shards can't be scanned.
+//! A table of whose shards only some can be scanned.
 
-ghost use Rattle.std.specs.Prelude.{◌≡◌};
+ghost use Rattle.std.specs.Prelude.{◌≡◌, ◌≤◌};
 ghost use Rattle.table_rule.specs.Placing as placing;
 ghost use Rattle.dep_table.specs.Passes.{IsPassOf};
 ghost use Rattle.dep_table.specs.Tables.{id_of, job_of};
 ghost use Rattle.dep_table.specs.Boards.{IsWorkerPass};
 ghost use Rattle.dep_table.specs.Views as views;
-ghost use Rattle.thief_runs.specs.declared.unscanned.Unscanned.{Unscanned as Value};
-ghost use Rattle.thief_runs.specs.declared.unscanned.PassPair.{PassPair as Pair};
 
 use coll_data::Given;
 use dep_iter::Matched;
@@ -20,11 +18,14 @@ use work_board::{Board, Claim, Scan, Sent};
 // After so many looks for quiet the table is halted.
 const LOOKS: u64 = 1_000_000;
 
-/// A table whose shards can't be scanned: a worker gets at its tasks by ids alone. It is halted once a worker has
-/// looked for quiet a million times, so that a worker without an id ends too.
+/// A table of whose shards only the first ones can be scanned: where none can, a worker gets at its tasks by ids alone.
+/// It is halted once a worker has looked for quiet a million times, so that a worker without an id ends too.
 #[derive(Drop)]
 pub struct Unscanned {
     pub table: DepTable,
+    /// How many shards can be scanned, from the first on: none in this program.
+    pub scanned: u32,
+    pub ghost few: { scanned ≤ (job_of table).shards },
 }
 
 /// A worker's pass, and a second one that halts the table.
@@ -52,6 +53,9 @@ impl Unscanned {
 }
 
 impl Board for Unscanned {
+    ghost use Rattle.thief_runs.specs.declared.unscanned.Unscanned.{Unscanned as Value};
+    ghost use Rattle.thief_runs.specs.declared.unscanned.PassPair.{PassPair as Pair};
+
     type Pass = PassPair;
 
     ghost shown = { λ (p : Pair). views.shown p.own };
@@ -64,7 +68,7 @@ impl Board for Unscanned {
 
     ghost placement = { λ (b : Value). placing.shard_of (job_of b.table).matched (job_of b.table).shards };
 
-    ghost shard_count = { λ _. 0 };
+    ghost shard_count = { λ (b : Value). b.scanned };
 
     ghost preloaded = { λ (b : Value). (job_of b.table).preloaded };
 
@@ -79,7 +83,7 @@ impl Board for Unscanned {
     }
 
     fn shards(&self) -> u32 {
-        0
+        self.scanned
     }
 
     fn is_preloaded(&self) -> bool {
@@ -90,8 +94,8 @@ impl Board for Unscanned {
         self.table.try_claim(&mut pass.own, t)
     }
 
-    fn try_scan(&self, _pass: &mut PassPair, _shard: u32) -> Scan {
-        unreachable!()
+    fn try_scan(&self, pass: &mut PassPair, shard: u32) -> Scan {
+        self.table.try_scan(&mut pass.own, shard)
     }
 
     fn try_send(
