@@ -13,7 +13,7 @@ use Rattle.jdf_tree.specs.BodyGrammar.{body}
 use Rattle.jdf_tree.specs.Grammar.{productions}
 use Rattle.jdf_tree.specs.Statements.{Statements}
 use Rattle.body_read.proofs.Whole.{only, fault_read, fault_place}
-use Rattle.body_names.specs.declared.scope.Scope.{Scope}
+use Rattle.body_names.specs.Environment.{Environment}
 use Rattle.body_names.specs.Expressions.{Resolved}
 use Rattle.body_names.specs.Statements.{body_of}
 use Rattle.body_lang.specs.Broken.{broken_fault}
@@ -64,10 +64,10 @@ never x f e = cc
 pub one_body : OneBody
 one_body scope tokens x y h k = same_value x y (sym h.named ∙ (ap (body_of scope) (one_tree tokens h.tree k.tree h.text k.text) ∙ k.named))
 
-names_alike : (scope : Scope) (tokens : List Token) (f g : JdfFault) → IsNameFault scope tokens f → IsNameFault scope tokens g → f ≡ g
+names_alike : (scope : Environment) (tokens : List Token) (f g : JdfFault) → IsNameFault scope tokens f → IsNameFault scope tokens g → f ≡ g
 names_alike scope tokens f g h k = same_fault {A = Body × List (List ℕ)} f g (sym h.named ∙ (ap (body_of scope) (one_tree tokens h.tree k.tree h.text k.text) ∙ k.named))
 
-texts_alike : (scope : Scope) (tokens : List Token) (finish : Spot) (f g : JdfFault) → IsTextFault scope tokens finish f → IsTextFault scope tokens finish g → f ≡ g
+texts_alike : (scope : Environment) (tokens : List Token) (finish : Spot) (f g : JdfFault) → IsTextFault scope tokens finish f → IsTextFault scope tokens finish g → f ≡ g
 texts_alike scope tokens finish f g h k =
     let same = one_place tokens h.token_index k.token_index h.code k.code h.broken k.broken in
     same_fault {A = Unit {0}} f g

@@ -15,13 +15,16 @@ use Rattle.term_core.specs.declared.body.Stmt.TheVariants as stmt
 use Rattle.term_core.specs.BlockStatementList.{then}
 use Rattle.term_core.specs.StatementList.{StatementList}
 use Rattle.term_core.specs.Value.{and_then}
-use Rattle.body_names.specs.declared.scope.Scope.{Scope}
+use Rattle.body_names.specs.Environment.{Environment}
 use Rattle.body_names.specs.Meanings.{meaning_of}
 use Rattle.body_names.specs.Expressions.{Resolved, slot_of, written_flow, term_of}
 use Rattle.body_names.specs.Bindings.{Bindings, no_bindings, block_opened, with_variable, room_for, fresh_in, numbered}
 use Rattle.body_names.specs.Statements.{Resolver, declare, set, put, in_block, if_else, for_loop, trap, follow, resolved, body_of}
-use Rattle.body_lang.proofs.VariableCount.{Anything}
 use Rattle.body_lang.specs.TrapWords.{words_of, numbers_of, with_word, words_in_order}
+
+-- holds of everything
+abbrev pub Anything : {A : Type 0} → A → Type 0
+Anything x = Unit {0}
 
 -- ---- words in the order of their first use
 
@@ -142,7 +145,7 @@ traps_of_trap_by text k (Some n) e =
     at_front (x ∷ xs) more zero h = h
     at_front (x ∷ xs) more (suc n) h = at_front xs more n h
 
-module _ (scope : Scope) where
+module _ (scope : Environment) where
   traps_of_declare : (w : Word) (e : Expression) (k : Bindings) → IfValue (HasTrapsOfOne k []) (declare scope w e k)
   traps_of_declare w e k =
       past (HasTrapsOfOne k []) (room_for w k) _ (λ _. past (HasTrapsOfOne k []) (fresh_in w k) _ (λ _. past (HasTrapsOfOne k []) (term_of scope k.seen e) _ (λ x. no_traps k _ refl)))

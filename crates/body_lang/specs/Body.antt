@@ -9,29 +9,29 @@ use Rattle.term_core.specs.declared.body.Body.{Body}
 use Rattle.jdf_tree.specs.BodyGrammar.{body}
 use Rattle.jdf_tree.specs.Grammar.{productions}
 use Rattle.jdf_tree.specs.Statements.{Statements}
-use Rattle.body_names.specs.declared.scope.Scope.{Scope}
+use Rattle.body_names.specs.Environment.{Environment}
 use Rattle.body_names.specs.Statements.{body_of}
 use Rattle.body_lang.specs.Broken.{broken_fault}
 
 -- The tokens are the text of this body, with these trap words: of statements whose names all mean something.
-pub record IsBody (scope : Scope) (tokens : List Token) (x : Body × List (List ℕ)) : Type 0 where
+pub record IsBody (scope : Environment) (tokens : List Token) (x : Body × List (List ℕ)) : Type 0 where
   pub tree : Statements
   pub text : IsText productions body tokens tree None
   pub named : body_of scope tree ≡ Ok x
 
 -- The tokens are the text of a body, and this is the first fault of its names.
-pub record IsNameFault (scope : Scope) (tokens : List Token) (fault : JdfFault) : Type 0 where
+pub record IsNameFault (scope : Environment) (tokens : List Token) (fault : JdfFault) : Type 0 where
   pub tree : Statements
   pub text : IsText productions body tokens tree None
   pub named : body_of scope tree ≡ Err fault
 
 -- The text is broken at the token of this index: the first fault of a name before it counts, and else that of the text.
-pub record IsTextFault (scope : Scope) (tokens : List Token) (finish : Spot) (fault : JdfFault) : Type 0 where
+pub record IsTextFault (scope : Environment) (tokens : List Token) (finish : Spot) (fault : JdfFault) : Type 0 where
   pub token_index : ℕ
   pub code : Code
   pub broken : IsFirstFault productions body tokens token_index code
   pub first : broken_fault scope tokens finish token_index code ≡ Err fault
 
 -- This is the first fault of a body.
-abbrev pub IsBodyFault : Scope → List Token → Spot → JdfFault → Type 0
+abbrev pub IsBodyFault : Environment → List Token → Spot → JdfFault → Type 0
 IsBodyFault scope tokens finish fault = IsNameFault scope tokens fault ⊎ IsTextFault scope tokens finish fault

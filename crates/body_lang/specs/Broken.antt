@@ -5,10 +5,10 @@ use Rattle.grammar_core.specs.declared.token.Token.{Token}
 use Rattle.grammar_core.specs.declared.code.Code.{Code}
 use Rattle.term_core.specs.Value.{and_then}
 use Rattle.expr_read.specs.Front.{fault_at}
-use Rattle.body_names.specs.declared.scope.Scope.{Scope}
+use Rattle.body_names.specs.Environment.{Environment}
 use Rattle.body_names.specs.Expressions.{Resolved}
 use Rattle.body_names.specs.TokenScan.{front_fault}
 
 -- the first fault of a name before that token, and else that of the text there
-abbrev pub broken_fault : Scope → List Token → Spot → ℕ → Code → Resolved (Unit {0})
+abbrev pub broken_fault : Environment → List Token → Spot → ℕ → Code → Resolved (Unit {0})
 broken_fault scope tokens finish index code = and_then (front_fault scope tokens index) (λ _. Err (fault_at tokens finish index code))

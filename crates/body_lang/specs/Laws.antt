@@ -1,59 +1,30 @@
 -- What follows from the definitions of a body and of its first fault.
-use Rattle.std.specs.Prelude.{◌≡◌, ◌≢◌, ℕ, ◌+◌, List, [], length, map, Some, None, slice_get, ◌<◌, ◌++◌, ◌⊎◌, Ok}
-use Rattle.jdf_lex.specs.declared.fault.JdfCode.TheVariants.{TooManyVars}
+use Rattle.std.specs.Prelude.{◌≡◌, ℕ, List, [], map, Some, slice_get}
 use Rattle.jdf_lex.specs.declared.fault.JdfFault.{JdfFault}
 use Rattle.grammar_core.specs.declared.token.Spot.{Spot}
 use Rattle.grammar_core.specs.declared.token.Token.{Token}
-use Rattle.grammar_core.specs.Production.{IsText}
 use Rattle.term_core.specs.declared.body.Body.{Body}
-use Rattle.jdf_tree.specs.BodyGrammar.{body}
-use Rattle.jdf_tree.specs.Grammar.{productions}
-use Rattle.jdf_tree.specs.Statements.{Statements}
-use Rattle.body_names.specs.declared.scope.Scope.{Scope}
-use Rattle.body_names.specs.Statements.{body_of}
-use Rattle.body_names.specs.TokenScan.{fault_of, front_fault}
-use Rattle.body_lang.specs.Body.{IsBody, IsNameFault, IsBodyFault}
-use Rattle.body_lang.specs.Declarations.{declarations}
+use Rattle.body_names.specs.Environment.{Environment}
+use Rattle.body_lang.specs.Body.{IsBody, IsBodyFault}
 use Rattle.body_lang.specs.TrapWords.{words_of, numbers_of, words_in_order}
 
 -- Tokens are one body at most.
 abbrev pub OneBody : Type 0
-OneBody = (scope : Scope) (tokens : List Token) (x y : Body × List (List ℕ)) → IsBody scope tokens x → IsBody scope tokens y → x ≡ y
+OneBody = (scope : Environment) (tokens : List Token) (x y : Body × List (List ℕ)) → IsBody scope tokens x → IsBody scope tokens y → x ≡ y
 
 -- They have one first fault at most.
 abbrev pub OneFault : Type 0
-OneFault = (scope : Scope) (tokens : List Token) (finish : Spot) (f g : JdfFault) → IsBodyFault scope tokens finish f → IsBodyFault scope tokens finish g → f ≡ g
+OneFault = (scope : Environment) (tokens : List Token) (finish : Spot) (f g : JdfFault) → IsBodyFault scope tokens finish f → IsBodyFault scope tokens finish g → f ≡ g
 
 -- Tokens that are a body have no fault.
 abbrev pub BodyOrFault : Type 0
-BodyOrFault = (scope : Scope) (tokens : List Token) (finish : Spot) (x : Body × List (List ℕ)) (f : JdfFault) → IsBody scope tokens x → IsBodyFault scope tokens finish f → ⊥
-
--- A text never declares too many variables where it has no fault, so no name is refused because of their number.
-abbrev pub NameNeverTooMany : Type 0
-NameNeverTooMany = (scope : Scope) (tokens : List Token) (f : JdfFault) → IsNameFault scope tokens f → f.code ≢ TooManyVars
-
--- Beside the locals of the class, a body has a slot for each variable that it declares.
-abbrev pub SlotForEach : Type 0
-SlotForEach = (scope : Scope) (tokens : List Token) (x : Body × List (List ℕ)) (h : IsBody scope tokens x) → x.0.slots ≡ length scope.locals + declarations h.tree
-
--- In a text without a fault the names have the same first fault, or none, by the tokens beside them and by the tree.
-abbrev pub TokensAgreeWithTree : Type 0
-TokensAgreeWithTree = (scope : Scope) (tokens : List Token) (tree : Statements) → IsText productions body tokens tree None → front_fault scope tokens (length tokens) ≡ fault_of (body_of scope tree)
-
--- The names at the front of such a text have no fault, or that of the tree.
-abbrev pub FrontsAgreeWithTree : Type 0
-FrontsAgreeWithTree = (scope : Scope) (tokens : List Token) (tree : Statements) (n : ℕ) → IsText productions body tokens tree None
-    → (front_fault scope tokens n ≡ Ok tt) ⊎ (front_fault scope tokens n ≡ fault_of (body_of scope tree))
-
--- Of the tokens after a front, only the next one changes how the names in the front are judged.
-abbrev pub OnlyTheNextCounts : Type 0
-OnlyTheNextCounts = (scope : Scope) (front rest other : List Token) (n : ℕ) → n < length front → front_fault scope (front ++ rest) n ≡ front_fault scope (front ++ other) n
+BodyOrFault = (scope : Environment) (tokens : List Token) (finish : Spot) (x : Body × List (List ℕ)) (f : JdfFault) → IsBody scope tokens x → IsBodyFault scope tokens finish f → ⊥
 
 -- Each trap of a body has the number of the word that its text has.
 abbrev pub OwnWords : Type 0
-OwnWords = (scope : Scope) (tokens : List Token) (x : Body × List (List ℕ)) (h : IsBody scope tokens x)
+OwnWords = (scope : Environment) (tokens : List Token) (x : Body × List (List ℕ)) (h : IsBody scope tokens x)
     → map (λ (n : ℕ). slice_get x.1 n) (numbers_of x.0.statements) ≡ map (λ (w : List ℕ). Some w) (words_of h.tree)
 
 -- The trap words of a body are those of its text, each once, in the order of their first use.
 abbrev pub WordsOnce : Type 0
-WordsOnce = (scope : Scope) (tokens : List Token) (x : Body × List (List ℕ)) (h : IsBody scope tokens x) → x.1 ≡ words_in_order [] (words_of h.tree)
+WordsOnce = (scope : Environment) (tokens : List Token) (x : Body × List (List ℕ)) (h : IsBody scope tokens x) → x.1 ≡ words_in_order [] (words_of h.tree)

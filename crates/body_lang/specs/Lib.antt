@@ -1,5 +1,4 @@
 pub mod Broken
 pub mod Body
-pub mod Declarations
 pub mod TrapWords
 pub mod Laws

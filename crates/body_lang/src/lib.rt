@@ -4,8 +4,5 @@
 mod laws;
 mod whole;
 
-pub use laws::{
-    a_slot_for_each_variable, names_agree, one_answer, traps_have_their_words,
-    variables_are_counted_in_the_text,
-};
+pub use laws::{one_answer, traps_have_their_words};
 pub use whole::read_body;

@@ -7,6 +7,7 @@ ghost use Rattle.term_core.specs.declared.body.Body.{Body};
 ghost use Rattle.term_core.specs.Value.{and_then};
 ghost use Rattle.term_core.specs.WellBody.{IsWellBody};
 ghost use Rattle.expr_read.specs.Front.{fault_at};
+ghost use Rattle.body_names.specs.Environment.{environment_of};
 ghost use Rattle.body_names.specs.Returns.{ReturnsRefusal};
 ghost use Rattle.body_names.specs.TokenScan.{front_fault};
 ghost use Rattle.body_lang.specs.Body.{IsBody, IsBodyFault};
@@ -30,7 +31,7 @@ fn broken(
     fault: ReadFault,
 ) -> JdfRefusal
     requires { fault.left ≤ length tokens.now }
-    ensures { ReturnsRefusal result (broken_fault scope.now tokens.now finish (length tokens.now - fault.left) fault.code) }
+    ensures { ReturnsRefusal result (broken_fault (environment_of scope.now) tokens.now finish (length tokens.now - fault.left) fault.code) }
 {
     let index = tokens.len() - fault.left;
     match front_fault(alloc, scope, tokens, index) {
@@ -49,15 +50,15 @@ pub fn read_body(
     scope: &Scope,
 ) -> Result<(Body, Seq<Text>), JdfRefusal>
     // What is read is the body that the tokens are.
-    ensures found { IfOk result (λ x. IsBody scope.now tokens.now x) }
+    ensures found { IfOk result (λ x. IsBody (environment_of scope.now) tokens.now x) }
     // It is well made for the locals and the flows of the scope.
     ensures well { IfOk result (λ x. IsWellBody (length scope.now.locals) (length scope.now.flows) x.0) }
     // A body is read, unless memory runs out.
-    ensures only { (x : Body × List (List ℕ)) → IsBody scope.now tokens.now x → (result ≡ Ok x) ⊎ (result ≡ Err OutOfMemory) }
+    ensures only { (x : Body × List (List ℕ)) → IsBody (environment_of scope.now) tokens.now x → (result ≡ Ok x) ⊎ (result ≡ Err OutOfMemory) }
     // A fault that is answered is the first one of the body.
-    ensures fault { (f : JdfFault) → result ≡ Err (Fault f) → IsBodyFault scope.now tokens.now finish f }
+    ensures fault { (f : JdfFault) → result ≡ Err (Fault f) → IsBodyFault (environment_of scope.now) tokens.now finish f }
     // Where the body has a first fault that is the answer, unless memory runs out.
-    ensures refused { (f : JdfFault) → IsBodyFault scope.now tokens.now finish f → (result ≡ Err (Fault f)) ⊎ (result ≡ Err OutOfMemory) }
+    ensures refused { (f : JdfFault) → IsBodyFault (environment_of scope.now) tokens.now finish f → (result ≡ Err (Fault f)) ⊎ (result ≡ Err OutOfMemory) }
 {
     match tree(alloc, tokens) {
         Ok(tree) => resolve(alloc, scope, &tree),

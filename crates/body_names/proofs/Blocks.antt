@@ -1,5 +1,5 @@
 -- How the statements of a block are resolved, one after another.
-use Rattle.std.proofs.Common.{◌≡◌, ℕ, zero, suc, ◌+◌, ◌<◌, ◌≤◌, List, [], ◌∷◌, ◌++◌, length, get_or, drop, Result, Ok, Err, refl, ap, sym, ◌∙◌, arith}
+use Rattle.std.proofs.Common.{◌≡◌, ℕ, zero, suc, ◌+◌, ◌<◌, ◌≤◌, List, [], ◌∷◌, ◌++◌, length, get_or, drop, Ok, Err, refl, ap, sym, ◌∙◌, arith}
 use Rattle.std.proofs.lemmas.List.{drop_more, drop_all}
 use Rattle.jdf_lex.specs.declared.fault.JdfFault.{JdfFault}
 use Rattle.ptg_base.specs.declared.refusal.Refusal.{Refusal}
@@ -13,7 +13,7 @@ use Rattle.jdf_tree.specs.declared.body.StmtTree.{StmtTree}
 use Rattle.jdf_tree.specs.declared.body.StmtTree.TheVariants as tree
 use Rattle.jdf_tree.specs.BlockStatements.{then, statements_of}
 use Rattle.jdf_tree.specs.Statements.{Statements, Done, count_of_statements}
-use Rattle.body_names.specs.declared.scope.Scope.{Scope}
+use Rattle.body_names.specs.Environment.{Environment}
 use Rattle.body_names.specs.Returns.{ReturnsRefusal}
 use Rattle.body_names.specs.Expressions.{Resolved}
 use Rattle.body_names.specs.Bindings.{Bindings}
@@ -59,7 +59,7 @@ one_more front s k rest = go (rest k)
     go (Ok y) = ap (λ (t : StatementList). with_known y.1 t) (sym (onto_one front s y.0))
     go (Err e) = refl
 
-pub resolved-then : (scope : Scope) (s : StmtTree) (rest : Statements) (k : Bindings) → resolved scope (then s rest) k ≡ follow (statement_of scope s k) (resolved scope rest)
+pub resolved-then : (scope : Environment) (s : StmtTree) (rest : Statements) (k : Bindings) → resolved scope (then s rest) k ≡ follow (statement_of scope s k) (resolved scope rest)
 resolved-then scope (tree.Declare w e) rest k = refl
 resolved-then scope (tree.Set w e) rest k = refl
 resolved-then scope (tree.Put w at e) rest k = refl
@@ -67,12 +67,12 @@ resolved-then scope (tree.If c first second) rest k = refl
 resolved-then scope (tree.For w lo hi turn) rest k = refl
 resolved-then scope (tree.Trap w) rest k = refl
 
-resolved-drop : (scope : Scope) (ss : List StmtTree) (i : ℕ) (s : StmtTree) → i < length ss → s ≡ get_or ss i s → (k : Bindings)
+resolved-drop : (scope : Environment) (ss : List StmtTree) (i : ℕ) (s : StmtTree) → i < length ss → s ≡ get_or ss i s → (k : Bindings)
     → resolved scope (statements_of (drop i ss)) k ≡ follow (statement_of scope s k) (resolved scope (statements_of (drop (i + 1) ss)))
 resolved-drop scope ss i s below is k =
     ap (λ xs. resolved scope (statements_of xs) k) (drop_more ss i s below ∙ ap (λ x. x ∷ drop (i + 1) ss) (sym is)) ∙ resolved-then scope s (statements_of (drop (i + 1) ss)) k
 
-module _ (scope : Scope) (ss : List StmtTree) (i : ℕ) (s : StmtTree) (below : i < length ss) (is : s ≡ get_or ss i s) (front : List Stmt) (k : Bindings) (total : Resolved (StatementList × Bindings))
+module _ (scope : Environment) (ss : List StmtTree) (i : ℕ) (s : StmtTree) (below : i < length ss) (is : s ≡ get_or ss i s) (front : List Stmt) (k : Bindings) (total : Resolved (StatementList × Bindings))
     (before : so_far front (resolved scope (statements_of (drop i ss)) k) ≡ total) where
   pub goes_on : (x : Stmt) (m : Bindings) (new : List Stmt) → new ≡ front ++ x ∷ [] → statement_of scope s k ≡ Ok (x, m) → so_far new (resolved scope (statements_of (drop (i + 1) ss)) m) ≡ total
   goes_on x m new e h =
@@ -88,7 +88,7 @@ module _ (scope : Scope) (ss : List StmtTree) (i : ℕ) (s : StmtTree) (below : 
       (refuses_before e (follow (statement_of scope s k) (resolved scope (statements_of (drop (i + 1) ss)))) (λ y. Ok (steps_onto front y.0, y.1))
       (refuses_before e (statement_of scope s k) (λ x. and_then (resolved scope (statements_of (drop (i + 1) ss)) x.1) (λ y. Ok (block.then x.0 y.0, y.1))) h))
 
-pub ends : (scope : Scope) (ss : List StmtTree) (i : ℕ) (front : List Stmt) (k : Bindings) (total : Resolved (StatementList × Bindings)) → length ss ≤ i
+pub ends : (scope : Environment) (ss : List StmtTree) (i : ℕ) (front : List Stmt) (k : Bindings) (total : Resolved (StatementList × Bindings)) → length ss ≤ i
     → so_far front (resolved scope (statements_of (drop i ss)) k) ≡ total → total ≡ Ok (statement_list front, k)
 unfolding so_far
 ends scope ss i front k total all before =

@@ -5,4 +5,3 @@ pub mod Slots
 pub mod Well
 pub mod WellBlocks
 pub mod Fronts
-pub mod Renaming

@@ -1,9 +1,8 @@
 -- The body that is resolved is well made: its expressions.
-use Rattle.std.proofs.Common.{◌≡◌, ℕ, ◌+◌, ◌<◌, ◌≤◌, Bool, true, false, cond, List, length, Result, Ok, Err, refl, sym, ap, ◌∙◌, subst, arith}
-use Rattle.std.specs.Prelude.{◌&&◌, nat_lt, nat_le, Option, Some, None, slice_get}
+use Rattle.std.proofs.Common.{◌≡◌, ℕ, ◌<◌, ◌≤◌, Bool, true, false, cond, List, length, Result, Ok, Err, refl, subst, arith}
+use Rattle.std.specs.Prelude.{◌&&◌, nat_lt, Option, Some, None, slice_get}
 use Rattle.std.specs.Str.{bytes_eq}
 use Rattle.std.proofs.lemmas.Bool.{lt-ltb}
-use Rattle.jdf_lex.specs.declared.fault.JdfFault.{JdfFault}
 use Rattle.term_core.specs.declared.flow.FlowKind.{FlowKind}
 use Rattle.term_core.specs.declared.flow.FlowKind.TheVariants as kind
 use Rattle.term_core.specs.Term.{Term}
@@ -13,10 +12,10 @@ use Rattle.jdf_tree.specs.declared.expression.Word.{Word}
 use Rattle.jdf_tree.specs.Expression.{Expression, Num, Name, Elem, Unary, Binary, Choose}
 use Rattle.body_names.specs.declared.meaning.Meaning.{Meaning}
 use Rattle.body_names.specs.declared.meaning.Meaning.TheVariants as meaning
-use Rattle.body_names.specs.declared.scope.Scope.{Scope}
+use Rattle.body_names.specs.Environment.{Environment}
 use Rattle.body_names.specs.declared.scope.FlowName.{FlowName}
 use Rattle.body_names.specs.declared.variable.Variable.{Variable}
-use Rattle.body_names.specs.Meanings.{last_named, variable_or, local_named, local_or, integer_named, integer_or, has_collection, collection_or_nothing, meaning_of, flow_named}
+use Rattle.body_names.specs.Meanings.{last_named, variable_or, local_named, local_or, integer_or, collection_or_nothing, meaning_of, flow_named}
 use Rattle.body_names.specs.Expressions.{Resolved, value_of, slot_of, readable, writable, if_flow, flow_by, read_flow, written_flow, term_of}
 use Rattle.body_names.proofs.Slots.{AreSlots, last_found, place_below}
 
@@ -34,7 +33,7 @@ value_is x y e = cc
 
 -- ---- names
 
-module _ (scope : Scope) (end : ℕ) (room : length scope.locals ≤ end) where
+module _ (scope : Environment) (end : ℕ) (room : length scope.locals ≤ end) where
   -- a slot that a meaning names is there
   abbrev IsThere : Meaning → Type 0
   IsThere (meaning.Variable n) = (length scope.locals ≤ n) × (n < end)
@@ -64,10 +63,10 @@ module _ (scope : Scope) (end : ℕ) (room : length scope.locals ≤ end) where
   module _ (seen : List Variable) (slots : AreSlots (length scope.locals) end seen) where
     meaning_there : (name : List ℕ) → IsThere (meaning_of scope seen name)
     meaning_there name =
-        variable_there (last_named seen name) (local_or (local_named scope name) (integer_or (integer_named scope name) (collection_or_nothing (has_collection scope name))))
+        variable_there (last_named seen name) (local_or (local_named scope name) (integer_or (scope.integer name) (collection_or_nothing (scope.is_collection name))))
         (λ v e. last_found (length scope.locals) end (λ (v : Variable). bytes_eq v.name name) seen v slots e)
-        (local_there (local_named scope name) (integer_or (integer_named scope name) (collection_or_nothing (has_collection scope name)))
-        (λ n e. place_below (λ (text : List ℕ). bytes_eq text name) scope.locals n e) (global_there (integer_named scope name) (has_collection scope name)))
+        (local_there (local_named scope name) (integer_or (scope.integer name) (collection_or_nothing (scope.is_collection name)))
+        (λ n e. place_below (λ (text : List ℕ). bytes_eq text name) scope.locals n e) (global_there (scope.integer name) (scope.is_collection name)))
 
     -- the meaning of a name is closed
     value_closed : (w : Word) (m : Meaning) (t : Term) → IsThere m → value_of w m ≡ Ok t → is_closed_with end (length scope.flows) t ≡ true

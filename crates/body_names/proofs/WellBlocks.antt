@@ -1,10 +1,9 @@
 -- The body that is resolved is well made: its statements.
-use Rattle.std.proofs.Common.{◌≡◌, ℕ, ◌+◌, ◌<◌, ◌≤◌, Bool, true, false, cond, List, [], ◌∷◌, ◌++◌, length, Result, Ok, Err, refl, sym, ap, ◌∙◌, subst, arith}
-use Rattle.std.specs.Prelude.{◌&&◌, nat_lt, nat_le, IsTrue, Option, Some, None}
+use Rattle.std.proofs.Common.{◌≡◌, ℕ, ◌+◌, ◌<◌, ◌≤◌, Bool, true, false, cond, List, [], ◌∷◌, length, Ok, refl, subst, arith}
+use Rattle.std.specs.Prelude.{◌&&◌, nat_lt, nat_le, Some, None}
 use Rattle.std.proofs.lemmas.Bool.{lt-ltb, ltb-true}
 use Rattle.std.proofs.lemmas.Bool.Decides.{nat_tests}
 use Rattle.jdf_lex.specs.declared.fault.JdfCode.TheVariants.{TooManyVars}
-use Rattle.term_core.specs.declared.body.Body.{Body}
 use Rattle.term_core.specs.declared.body.Stmt.{Stmt}
 use Rattle.term_core.specs.declared.body.Stmt.TheVariants as stmt
 use Rattle.term_core.specs.BlockStatementList.{then}
@@ -16,12 +15,11 @@ use Rattle.term_core.specs.WellBody.{is_variable, are_well_made, IsWellBody}
 use Rattle.jdf_tree.specs.declared.expression.Word.{Word}
 use Rattle.jdf_tree.specs.Expression.{Expression}
 use Rattle.jdf_tree.specs.Statements.{Statements, Done, DeclareThen, SetThen, PutThen, IfThen, ForThen, TrapThen}
-use Rattle.body_names.specs.declared.scope.Scope.{Scope}
-use Rattle.body_names.specs.declared.variable.Variable.{Variable}
+use Rattle.body_names.specs.Environment.{Environment}
 use Rattle.body_names.specs.Meanings.{meaning_of}
 use Rattle.body_names.specs.Expressions.{Resolved, fault_at, slot_of, written_flow, term_of}
 use Rattle.body_names.specs.Bindings.{Bindings, no_bindings, block_opened, block_closed, next_slot, with_variable, room_for, fresh_in, numbered, word_number}
-use Rattle.body_names.specs.Statements.{Resolver, declare, set, put, in_block, if_else, for_loop, trap, follow, resolved, body_of}
+use Rattle.body_names.specs.Statements.{Resolver, declare, set, put, in_block, if_else, for_loop, trap, follow, resolved}
 use Rattle.body_names.proofs.Slots.{AreSlots, slots_append, slots_take, slots_raise}
 use Rattle.body_names.proofs.Well.{after_ok, both, set_there, written_below, term_closed}
 
@@ -31,7 +29,7 @@ pair_is x y e = cc
 slot_test : (locals end n : ℕ) → locals ≤ n → n < end → is_variable locals end n ≡ true
 slot_test locals end n h k = both (nat_le locals n) (nat_lt n end) (grind (arith, nat_tests)) (lt-ltb n end k)
 
-module _ (scope : Scope) where
+module _ (scope : Environment) where
   -- the variables that are seen have slots among those of the variables so far
   record IsSound (k : Bindings) : Type 0 where
     at_most : k.declared ≤ 256

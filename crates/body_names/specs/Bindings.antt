@@ -1,6 +1,6 @@
 -- What names are bound to between two tokens of a body: which variables are seen, and what has been numbered so far.
 -- Source: this project's own choice.
-use Rattle.std.specs.Prelude.{ℕ, ◌+◌, Bool, List, [], ◌∷◌, ◌++◌, length, take, drop, Option, Some, None, position, if◌then◌else◌, nat_lt, Ok}
+use Rattle.std.specs.Prelude.{ℕ, ◌+◌, Bool, List, [], ◌∷◌, ◌++◌, length, take, drop, Option, Some, None, if◌then◌else◌, nat_lt, Ok}
 use Rattle.std.specs.Str.{bytes_eq}
 use Rattle.name_table.specs.Names.{index_named}
 use Rattle.std.specs.List.{list_any}
@@ -8,7 +8,7 @@ use Rattle.jdf_lex.specs.declared.fault.JdfCode.TheVariants.{NameTwice, TooManyV
 use Rattle.jdf_tree.specs.declared.expression.Word.{Word}
 use Rattle.body_names.specs.declared.variable.BindingTable.{BindingTable}
 use Rattle.body_names.specs.declared.variable.Variable.{Variable}
-use Rattle.body_names.specs.declared.scope.Scope.{Scope}
+use Rattle.body_names.specs.Environment.{Environment}
 use Rattle.body_names.specs.Expressions.{Resolved, fault_at}
 
 pub record Bindings : Type 0 where
@@ -38,11 +38,11 @@ abbrev pub block_closed : Bindings → Bindings → Bindings
 block_closed before inside = record inside { seen = take (length before.seen) inside.seen; outside = before.outside }
 
 -- the slot of the next variable: the locals of the class have the first ones
-abbrev pub next_slot : Scope → Bindings → ℕ
+abbrev pub next_slot : Environment → Bindings → ℕ
 next_slot scope k = length scope.locals + k.declared
 
 -- after the declaration of a variable, which may be that of a loop
-abbrev pub with_variable : Scope → List ℕ → Bool → Bindings → Bindings
+abbrev pub with_variable : Environment → List ℕ → Bool → Bindings → Bindings
 with_variable scope name is_loop_variable k =
     record k { seen = k.seen ++ record { name = name; slot = next_slot scope k; is_loop_variable = is_loop_variable } ∷ []; declared = k.declared + 1 }
 

@@ -13,7 +13,7 @@ use Rattle.jdf_tree.specs.Expression.{Expression, Num, Name, Elem, Unary, Binary
 use Rattle.body_names.specs.declared.variable.Variable.{Variable}
 use Rattle.body_names.specs.declared.meaning.Meaning.{Meaning}
 use Rattle.body_names.specs.declared.meaning.Meaning.TheVariants as meaning
-use Rattle.body_names.specs.declared.scope.Scope.{Scope}
+use Rattle.body_names.specs.Environment.{Environment}
 use Rattle.body_names.specs.declared.scope.FlowName.{FlowName}
 use Rattle.body_names.specs.Meanings.{meaning_of, flow_named}
 
@@ -60,18 +60,18 @@ if_flow use_of w n None = fault_at w UnknownName
 if_flow use_of w n (Some flow) = use_of w flow.kind n
 
 -- the flow of a name, by how it is used
-abbrev pub flow_by : (Word → FlowKind → ℕ → Resolved ℕ) → Scope → Word → Option ℕ → Resolved ℕ
+abbrev pub flow_by : (Word → FlowKind → ℕ → Resolved ℕ) → Environment → Word → Option ℕ → Resolved ℕ
 flow_by use_of scope w None = fault_at w UnknownName
 flow_by use_of scope w (Some n) = if_flow use_of w n (slice_get scope.flows n)
 
-abbrev pub read_flow : Scope → Word → Resolved ℕ
+abbrev pub read_flow : Environment → Word → Resolved ℕ
 read_flow scope w = flow_by readable scope w (flow_named scope w.text)
 
-abbrev pub written_flow : Scope → Word → Resolved ℕ
+abbrev pub written_flow : Environment → Word → Resolved ℕ
 written_flow scope w = flow_by writable scope w (flow_named scope w.text)
 
 -- an expression: a name before an index is a flow's, and each other one means a number
-abbrev pub term_of : Scope → List Variable → Expression → Resolved Term
+abbrev pub term_of : Environment → List Variable → Expression → Resolved Term
 term_of scope seen (Num z spot) = Ok (term.Num z)
 term_of scope seen (Name w) = value_of w (meaning_of scope seen w.text)
 term_of scope seen (Elem w at) = and_then (read_flow scope w) (λ flow. and_then (term_of scope seen at) (λ i. Ok (term.Elem flow i)))

@@ -1,3 +1,4 @@
+pub mod Environment
 pub mod Returns
 pub mod Meanings
 pub mod Expressions
@@ -5,4 +6,3 @@ pub mod Bindings
 pub mod Statements
 pub mod TokenScan
 pub mod Scanner
-pub mod Renaming

@@ -1,11 +1,10 @@
 -- What the names in a body mean. The language of bodies is this project's own choice.
-use Rattle.std.specs.Prelude.{ℕ, ℤ, Bool, List, reverse, Option, Some, None, find, position, option_map, if◌then◌else◌}
+use Rattle.std.specs.Prelude.{ℕ, ℤ, Bool, List, reverse, Option, Some, None, find, position, if◌then◌else◌}
 use Rattle.std.specs.Str.{bytes_eq}
-use Rattle.name_table.specs.Names.{value_named, has_name}
 use Rattle.body_names.specs.declared.variable.Variable.{Variable}
 use Rattle.body_names.specs.declared.meaning.Meaning.{Meaning}
 use Rattle.body_names.specs.declared.meaning.Meaning.TheVariants as meaning
-use Rattle.body_names.specs.declared.scope.Scope.{Scope}
+use Rattle.body_names.specs.Environment.{Environment}
 use Rattle.body_names.specs.declared.scope.FlowName.{FlowName}
 
 -- the variable of this name that was declared last, among those that are seen
@@ -31,21 +30,15 @@ integer_or (Some z) other = meaning.Integer z
 abbrev pub collection_or_nothing : Bool → Meaning
 collection_or_nothing b = if b then meaning.Collection else meaning.Nothing
 
--- the number of the first definition of the class with this name, the value of the integer, and whether there is a collection
-abbrev pub local_named : Scope → List ℕ → Option ℕ
+-- the number of the first definition of the class with this name
+abbrev pub local_named : Environment → List ℕ → Option ℕ
 local_named scope name = position (λ (text : List ℕ). bytes_eq text name) scope.locals
 
-abbrev pub integer_named : Scope → List ℕ → Option ℤ
-integer_named scope name = value_named scope.ints name
-
-abbrev pub has_collection : Scope → List ℕ → Bool
-has_collection scope name = has_name scope.colls name
-
 -- A name in an expression is a variable of the body, else a local of the class, else a global.
-abbrev pub meaning_of : Scope → List Variable → List ℕ → Meaning
+abbrev pub meaning_of : Environment → List Variable → List ℕ → Meaning
 meaning_of scope seen name =
-    variable_or (last_named seen name) (local_or (local_named scope name) (integer_or (integer_named scope name) (collection_or_nothing (has_collection scope name))))
+    variable_or (last_named seen name) (local_or (local_named scope name) (integer_or (scope.integer name) (collection_or_nothing (scope.is_collection name))))
 
 -- the number of the first flow of this name
-abbrev pub flow_named : Scope → List ℕ → Option ℕ
+abbrev pub flow_named : Environment → List ℕ → Option ℕ
 flow_named scope name = position (λ (x : FlowName). bytes_eq x.name name) scope.flows

@@ -1,6 +1,5 @@
 -- The statements of a body with their names resolved, or the first name in the text's order that has a fault. Source: this project's own choice.
-use Rattle.std.specs.Prelude.{ℕ, ◌+◌, true, false, List, length, Result, Ok}
-use Rattle.jdf_lex.specs.declared.fault.JdfFault.{JdfFault}
+use Rattle.std.specs.Prelude.{ℕ, ◌+◌, true, false, List, length, Ok}
 use Rattle.term_core.specs.declared.body.Body.{Body}
 use Rattle.term_core.specs.declared.body.Stmt.{Stmt}
 use Rattle.term_core.specs.declared.body.Stmt.TheVariants as stmt
@@ -13,7 +12,7 @@ use Rattle.jdf_tree.specs.declared.body.StmtTree.{StmtTree}
 use Rattle.jdf_tree.specs.declared.body.StmtTree.TheVariants as tree
 use Rattle.jdf_tree.specs.Expression.{Expression}
 use Rattle.jdf_tree.specs.Statements.{Statements, Done, DeclareThen, SetThen, PutThen, IfThen, ForThen, TrapThen}
-use Rattle.body_names.specs.declared.scope.Scope.{Scope}
+use Rattle.body_names.specs.Environment.{Environment}
 use Rattle.body_names.specs.Meanings.{meaning_of}
 use Rattle.body_names.specs.Expressions.{Resolved, slot_of, written_flow, term_of}
 use Rattle.body_names.specs.Bindings.{Bindings, no_bindings, block_opened, block_closed, next_slot, with_variable, room_for, fresh_in, word_number}
@@ -23,17 +22,17 @@ abbrev pub Resolver : Type 0
 Resolver = Bindings → Resolved (StatementList × Bindings)
 
 -- `int x = e;`: the variable is seen after its declaration
-abbrev pub declare : Scope → Word → Expression → Bindings → Resolved (Stmt × Bindings)
+abbrev pub declare : Environment → Word → Expression → Bindings → Resolved (Stmt × Bindings)
 declare scope w e k =
     and_then (room_for w k) (λ _. and_then (fresh_in w k) (λ _. and_then (term_of scope k.seen e) (λ x.
     Ok (stmt.Set (next_slot scope k) x, with_variable scope w.text false k))))
 
 -- `x = e;`
-abbrev pub set : Scope → Word → Expression → Bindings → Resolved (Stmt × Bindings)
+abbrev pub set : Environment → Word → Expression → Bindings → Resolved (Stmt × Bindings)
 set scope w e k = and_then (slot_of w (meaning_of scope k.seen w.text)) (λ n. and_then (term_of scope k.seen e) (λ x. Ok (stmt.Set n x, k)))
 
 -- `A[at] = e;`
-abbrev pub put : Scope → Word → Expression → Expression → Bindings → Resolved (Stmt × Bindings)
+abbrev pub put : Environment → Word → Expression → Expression → Bindings → Resolved (Stmt × Bindings)
 put scope w at e k =
     and_then (written_flow scope w) (λ flow. and_then (term_of scope k.seen at) (λ i. and_then (term_of scope k.seen e) (λ x. Ok (stmt.Put flow i x, k))))
 
@@ -42,12 +41,12 @@ abbrev pub in_block : (Bindings → Bindings) → Resolver → Resolver
 in_block opening block k = and_then (block (opening k)) (λ x. Ok (x.0, block_closed k x.1))
 
 -- `if (c) { .. } else { .. }`, by what its two blocks are
-abbrev pub if_else : Scope → Expression → Resolver → Resolver → Bindings → Resolved (Stmt × Bindings)
+abbrev pub if_else : Environment → Expression → Resolver → Resolver → Bindings → Resolved (Stmt × Bindings)
 if_else scope c first second k =
     and_then (term_of scope k.seen c) (λ x. and_then (in_block block_opened first k) (λ a. and_then (in_block block_opened second a.1) (λ b. Ok (stmt.If x a.0 b.0, b.1))))
 
 -- `for w = lo .. hi { .. }`, by what its block is: the variable is one of the block's
-abbrev pub for_loop : Scope → Word → Expression → Expression → Resolver → Bindings → Resolved (Stmt × Bindings)
+abbrev pub for_loop : Environment → Word → Expression → Expression → Resolver → Bindings → Resolved (Stmt × Bindings)
 for_loop scope w lo hi turn k =
     and_then (room_for w k) (λ _. and_then (term_of scope k.seen lo) (λ x. and_then (term_of scope k.seen hi) (λ y.
     and_then (in_block (λ m. with_variable scope w.text true (block_opened m)) turn k) (λ t. Ok (stmt.For (next_slot scope k) x y t.0, t.1)))))
@@ -61,7 +60,7 @@ abbrev pub follow : Resolved (Stmt × Bindings) → Resolver → Resolved (State
 follow first rest = and_then first (λ x. and_then (rest x.1) (λ y. Ok (then x.0 y.0, y.1)))
 
 -- statements in order
-abbrev pub resolved : Scope → Statements → Resolver
+abbrev pub resolved : Environment → Statements → Resolver
 resolved scope Done k = Ok (list.Done, k)
 resolved scope (DeclareThen w e rest) k = follow (declare scope w e k) (resolved scope rest)
 resolved scope (SetThen w e rest) k = follow (set scope w e k) (resolved scope rest)
@@ -71,7 +70,7 @@ resolved scope (ForThen w lo hi turn rest) k = follow (for_loop scope w lo hi (r
 resolved scope (TrapThen w rest) k = follow (trap w k) (resolved scope rest)
 
 -- one statement alone
-abbrev pub statement_of : Scope → StmtTree → Bindings → Resolved (Stmt × Bindings)
+abbrev pub statement_of : Environment → StmtTree → Bindings → Resolved (Stmt × Bindings)
 statement_of scope (tree.Declare w e) k = declare scope w e k
 statement_of scope (tree.Set w e) k = set scope w e k
 statement_of scope (tree.Put w at e) k = put scope w at e k
@@ -80,6 +79,6 @@ statement_of scope (tree.For w lo hi turn) k = for_loop scope w lo hi (resolved 
 statement_of scope (tree.Trap w) k = trap w k
 
 -- the body of these statements and its trap words, or the first fault of its names
-abbrev pub body_of : Scope → Statements → Resolved (Body × List (List ℕ))
+abbrev pub body_of : Environment → Statements → Resolved (Body × List (List ℕ))
 body_of scope statements =
     and_then (resolved scope statements no_bindings) (λ x. Ok (record { statements = x.0; slots = length scope.locals + x.1.declared }, x.1.words))

@@ -12,7 +12,7 @@ use Rattle.jdf_tree.specs.declared.part.Part.TheVariants.{Body}
 use Rattle.jdf_tree.specs.GrammarParts.{names, word_of}
 use Rattle.body_names.specs.declared.role.Role.{Role}
 use Rattle.body_names.specs.declared.role.Role.TheVariants as role
-use Rattle.body_names.specs.declared.scope.Scope.{Scope}
+use Rattle.body_names.specs.Environment.{Environment}
 use Rattle.body_names.specs.Meanings.{meaning_of}
 use Rattle.body_names.specs.Expressions.{Resolved, value_of, slot_of, read_flow, written_flow}
 use Rattle.body_names.specs.Bindings.{Bindings, no_bindings, block_opened, fresh_in}
@@ -102,7 +102,7 @@ role_of last s =
 abbrev pub fault_of : {A : Type 0} → Resolved A → Resolved (Unit {0})
 fault_of r = and_then r (λ _. Ok tt)
 
-abbrev pub judged_as : Role → Scope → Bindings → Word → Resolved (Unit {0})
+abbrev pub judged_as : Role → Environment → Bindings → Word → Resolved (Unit {0})
 judged_as role.Declared scope k w = fresh_in w k
 judged_as role.NotLookedUp scope k w = Ok tt
 judged_as role.Assigned scope k w = fault_of (slot_of w (meaning_of scope k.seen w.text))
@@ -111,16 +111,16 @@ judged_as role.Element scope k w = fault_of (read_flow scope w)
 judged_as role.Value scope k w = fault_of (value_of w (meaning_of scope k.seen w.text))
 
 -- the first of the tokens, where it is a name
-abbrev pub judged : Scope → TokenScan → List Token → Resolved (Unit {0})
+abbrev pub judged : Environment → TokenScan → List Token → Resolved (Unit {0})
 judged scope st [] = Ok tt
 judged scope st (x ∷ s) = if names Body (terminal_of x) then judged_as (role_of st.previous s) scope st.bindings (word_of x) else Ok tt
 
 -- the first fault of the names among so many tokens from here on
-abbrev pub judged_among : Scope → TokenScan → ℕ → List Token → Resolved (Unit {0})
+abbrev pub judged_among : Environment → TokenScan → ℕ → List Token → Resolved (Unit {0})
 judged_among scope st zero s = Ok tt
 judged_among scope st (suc n) [] = Ok tt
 judged_among scope st (suc n) (x ∷ s) = and_then (judged scope st (x ∷ s)) (λ _. judged_among scope (after_token x st) n s)
 
 -- the first fault of the names among the first n tokens of a body
-abbrev pub front_fault : Scope → List Token → ℕ → Resolved (Unit {0})
+abbrev pub front_fault : Environment → List Token → ℕ → Resolved (Unit {0})
 front_fault scope tokens n = judged_among scope at_first n tokens

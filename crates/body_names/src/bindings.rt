@@ -3,6 +3,7 @@
 ghost use Rattle.std.specs.Prelude.{◌≡◌, ◌<◌, length, take, OnOk, IfOk, drop};
 ghost use Rattle.std.specs.List.{list_any};
 ghost use Rattle.std.specs.Str.{bytes_eq};
+ghost use Rattle.body_names.specs.Environment.{environment_of};
 ghost use Rattle.body_names.specs.Returns.{Returns};
 ghost use Rattle.body_names.specs.Bindings.{bindings_of, no_bindings, next_slot, with_variable, room_for, fresh_in, word_number};
 
@@ -80,7 +81,7 @@ pub(crate) fn fresh_in(word: &Word, bindings: &BindingTable) -> Result<(), JdfRe
 /// The slot of the next variable.
 pub(crate) fn next_slot(scope: &Scope, bindings: &BindingTable) -> u16
     requires { bindings.now.declared < 256 }
-    ensures { result ≡ next_slot scope.now (bindings_of bindings.now) }
+    ensures { result ≡ next_slot (environment_of scope.now) (bindings_of bindings.now) }
 {
     scope.locals.len() as u16 + bindings.declared
 }
@@ -93,7 +94,7 @@ pub(crate) fn add_variable(
     is_loop_variable: bool,
 ) -> Result<(), OutOfMemory>
     requires { bindings.old.declared < 256 }
-    ensures { OnOk result (bindings_of bindings.new ≡ with_variable context.now.scope.now word.now.text is_loop_variable (bindings_of bindings.old)) }
+    ensures { OnOk result (bindings_of bindings.new ≡ with_variable (environment_of context.now.scope.now) word.now.text is_loop_variable (bindings_of bindings.old)) }
 {
     let slot = next_slot(context.scope, bindings);
     let name = Text::of(context.alloc, word.text.bytes())?;

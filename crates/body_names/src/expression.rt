@@ -4,6 +4,7 @@ ghost use Rattle.std.specs.Prelude.{◌≡◌, Ok};
 ghost use Rattle.term_core.specs.Term.{Term, Binary, Choose};
 ghost use Rattle.term_core.specs.Value.{and_then};
 ghost use Rattle.jdf_tree.specs.NodeExpression.{expression_of};
+ghost use Rattle.body_names.specs.Environment.{environment_of};
 ghost use Rattle.body_names.specs.Returns.{Returns};
 ghost use Rattle.body_names.specs.Meanings.{meaning_of};
 ghost use Rattle.body_names.specs.Expressions.{Resolved, value_of, slot_of, term_of};
@@ -33,7 +34,7 @@ pub(crate) fn value_of(word: &Word, meaning: Meaning) -> Result<Expr, JdfRefusal
 
 /// The slot of a name that a statement assigns to.
 pub(crate) fn slot_of(scope: &Scope, seen: &[Variable], word: &Word) -> Result<u16, JdfRefusal>
-    ensures { Returns (λ n. n) result (slot_of word.now (meaning_of scope.now seen.now word.now.text)) }
+    ensures { Returns (λ n. n) result (slot_of word.now (meaning_of (environment_of scope.now) seen.now word.now.text)) }
 {
     match meaning_of(scope, seen, &word.text) {
         Meaning::Variable(slot) => Ok(slot),
@@ -52,14 +53,14 @@ pub(crate) fn term_of(
     seen: &[Variable],
     tree: &ExprTree,
 ) -> Result<Expr, JdfRefusal>
-    ensures { Returns (λ e. e) result (term_of context.now.scope.now seen.now tree.now) }
+    ensures { Returns (λ e. e) result (term_of (environment_of context.now.scope.now) seen.now tree.now) }
 {
     node_term(context, seen, tree.node())
 }
 
 #[tactic(auto, using(crate::proofs::Refusals::refuses_before))]
 fn node_term(context: &Context, seen: &[Variable], node: &ExprNode) -> Result<Expr, JdfRefusal>
-    ensures { Returns (λ e. e) result (term_of context.now.scope.now seen.now (expression_of node.now)) }
+    ensures { Returns (λ e. e) result (term_of (environment_of context.now.scope.now) seen.now (expression_of node.now)) }
 {
     match node {
         ExprNode::Num(value, _) => Ok(Expr::num(*value)),

@@ -2,6 +2,7 @@
 
 ghost use Rattle.std.specs.Prelude.{◌≡◌};
 ghost use Rattle.ptg_base.specs.declared.refusal.Refusal.TheVariants.{Fault};
+ghost use Rattle.body_names.specs.Environment.{environment_of};
 ghost use Rattle.body_names.specs.Returns.{Returns};
 ghost use Rattle.body_names.specs.Expressions.{read_flow, written_flow};
 
@@ -23,7 +24,7 @@ pub(crate) fn fault_at(word: &Word, code: JdfCode) -> JdfRefusal
 
 /// The number of a flow whose elements are read.
 pub(crate) fn read_flow(scope: &Scope, word: &Word) -> Result<u8, JdfRefusal>
-    ensures { Returns (λ n. n) result (read_flow scope.now word.now) }
+    ensures { Returns (λ n. n) result (read_flow (environment_of scope.now) word.now) }
 {
     let Some(number) = flow_named(scope, word.text.bytes()) else {
         return Err(fault_at(word, JdfCode::UnknownName));
@@ -36,7 +37,7 @@ pub(crate) fn read_flow(scope: &Scope, word: &Word) -> Result<u8, JdfRefusal>
 
 /// The number of a flow whose elements are assigned to.
 pub(crate) fn written_flow(scope: &Scope, word: &Word) -> Result<u8, JdfRefusal>
-    ensures { Returns (λ n. n) result (written_flow scope.now word.now) }
+    ensures { Returns (λ n. n) result (written_flow (environment_of scope.now) word.now) }
 {
     let Some(number) = flow_named(scope, word.text.bytes()) else {
         return Err(fault_at(word, JdfCode::UnknownName));

@@ -1,6 +1,7 @@
 //! The names at the front of a body that is broken further on.
 
 ghost use Rattle.std.specs.Prelude.{◌≡◌, ◌≤◌, length, IfOk};
+ghost use Rattle.body_names.specs.Environment.{environment_of};
 ghost use Rattle.body_names.specs.Returns.{Returns};
 ghost use Rattle.body_names.specs.Bindings.{bindings_of};
 ghost use Rattle.body_names.specs.TokenScan.{judged_as, judged, judged_among, front_fault};
@@ -27,7 +28,7 @@ fn judge_as(
     bindings: &BindingTable,
     word: &Word,
 ) -> Result<(), JdfRefusal>
-    ensures { Returns (λ _. tt) result (judged_as role scope.now (bindings_of bindings.now) word.now) }
+    ensures { Returns (λ _. tt) result (judged_as role (environment_of scope.now) (bindings_of bindings.now) word.now) }
 {
     let seen = bindings.seen.as_slice();
     match role {
@@ -57,7 +58,7 @@ fn judge(
     scanner: &Scanner,
     tokens: &[Token],
 ) -> Result<(), JdfRefusal>
-    ensures { Returns (λ _. tt) result (judged scope.now (scan_of scanner.now) tokens.now) }
+    ensures { Returns (λ _. tt) result (judged (environment_of scope.now) (scan_of scanner.now) tokens.now) }
 {
     match name(alloc, Part::Body, tokens) {
         Err(ReadRefusal::OutOfMemory) => Err(JdfRefusal::OutOfMemory),
@@ -79,7 +80,7 @@ pub fn front_fault(
     count: usize,
 ) -> Result<(), JdfRefusal>
     requires { count ≤ length tokens.now }
-    ensures { Returns (λ _. tt) result (front_fault scope.now tokens.now count) }
+    ensures { Returns (λ _. tt) result (front_fault (environment_of scope.now) tokens.now count) }
 {
     judge_all(alloc, scope, &mut Scanner::new(alloc), tokens, count)
 }
@@ -93,7 +94,7 @@ fn judge_all(
     count: usize,
 ) -> Result<(), JdfRefusal>
     requires { count ≤ length tokens.now }
-    ensures { Returns (λ _. tt) result (judged_among scope.now (scan_of scanner.old) count tokens.now) }
+    ensures { Returns (λ _. tt) result (judged_among (environment_of scope.now) (scan_of scanner.old) count tokens.now) }
 {
     for index in 0..count {
         judge(alloc, scope, scanner, &tokens[index..])?;

@@ -5,7 +5,6 @@ mod bindings;
 mod expression;
 mod flow;
 mod front;
-mod laws;
 mod lookup;
 mod meaning;
 mod role;
@@ -16,6 +15,5 @@ mod variable;
 mod whole;
 
 pub use front::front_fault;
-pub use laws::another_name_changes_nothing;
 pub use scope::{FlowName, Scope};
 pub use whole::resolve;

@@ -1,6 +1,7 @@
 //! What a name means, looked up.
 
 ghost use Rattle.std.specs.Prelude.{◌≡◌, ◌<◌, length, MatchOption, IfSome, None, Some};
+ghost use Rattle.body_names.specs.Environment.{environment_of};
 ghost use Rattle.body_names.specs.Meanings.{last_named, local_named, meaning_of, flow_named};
 
 use crate::meaning::Meaning;
@@ -23,7 +24,7 @@ fn last_named<'a>(seen: &'a [Variable], name: &[u8]) -> Option<&'a Variable>
 
 // The number of the first definition of the class with this name.
 fn local_named(scope: &Scope, name: &[u8]) -> Option<usize>
-    ensures value { result ≡ local_named scope.now name.now }
+    ensures value { result ≡ local_named (environment_of scope.now) name.now }
     ensures within { IfSome result (λ n. n < length scope.now.locals) }
 {
     scope
@@ -35,7 +36,7 @@ fn local_named(scope: &Scope, name: &[u8]) -> Option<usize>
 
 /// What a name in an expression means where these variables are seen.
 pub(crate) fn meaning_of(scope: &Scope, seen: &[Variable], name: &Text) -> Meaning
-    ensures { result ≡ meaning_of scope.now seen.now name.now }
+    ensures { result ≡ meaning_of (environment_of scope.now) seen.now name.now }
 {
     if let Some(variable) = last_named(seen, name.bytes()) {
         return if variable.is_loop_variable {
@@ -50,7 +51,7 @@ pub(crate) fn meaning_of(scope: &Scope, seen: &[Variable], name: &Text) -> Meani
     if let Some(value) = scope.ints.get(name) {
         return Meaning::Integer(*value);
     }
-    if scope.colls.contains(name) {
+    if scope.colls.get(name).copied().is_some() {
         Meaning::Collection
     } else {
         Meaning::Nothing
@@ -59,7 +60,7 @@ pub(crate) fn meaning_of(scope: &Scope, seen: &[Variable], name: &Text) -> Meani
 
 /// The number of the first flow of this name.
 pub(crate) fn flow_named(scope: &Scope, name: &[u8]) -> Option<usize>
-    ensures value { result ≡ flow_named scope.now name.now }
+    ensures value { result ≡ flow_named (environment_of scope.now) name.now }
     ensures within { IfSome result (λ n. n < length scope.now.flows) }
 {
     scope

@@ -2,7 +2,7 @@
 
 ghost use Rattle.std.specs.Prelude.{◌≤◌, length};
 
-use name_table::{NameSet, NameTable};
+use name_table::NameTable;
 use ptg_base::{Seq, Text};
 use std::alloc::Global;
 use term_core::FlowKind;
@@ -16,13 +16,13 @@ pub struct FlowName {
 
 /// What the names in a body may mean beside its own variables. Of two definitions or two flows of one name it is the first.
 #[derive(Drop)]
-pub struct Scope {
+pub struct Scope<'a> {
     /// The definitions of the class, in the text's order: at most 16.
     pub locals: Seq<Text>,
     /// The globals that are integers, with their values.
-    pub ints: NameTable<i64>,
-    /// The globals that are collections.
-    pub colls: NameSet,
+    pub ints: &'a NameTable<i64>,
+    /// The globals that are collections, with their numbers.
+    pub colls: &'a NameTable<u32>,
     /// The flows of the class, in the text's order: at most 8.
     pub flows: Seq<FlowName>,
     pub ghost locals_at_most: { length locals ≤ 16 },
@@ -33,5 +33,5 @@ pub struct Scope {
 #[derive(Drop)]
 pub(crate) struct Context<'a> {
     pub(crate) alloc: Global,
-    pub(crate) scope: &'a Scope,
+    pub(crate) scope: &'a Scope<'a>,
 }

@@ -1,6 +1,7 @@
 //! Statements and blocks with their names resolved.
 
 ghost use Rattle.std.specs.Prelude.{◌≡◌, true};
+ghost use Rattle.body_names.specs.Environment.{environment_of};
 ghost use Rattle.body_names.specs.Returns.{Returns};
 ghost use Rattle.body_names.specs.Bindings.{bindings_of, block_opened};
 ghost use Rattle.body_names.specs.Statements.{declare, set, put, in_block, if_else, for_loop, trap, resolved, statement_of};
@@ -22,7 +23,7 @@ fn declare(
     word: &Word,
     value: &ExprTree,
 ) -> Result<Stmt, JdfRefusal>
-    ensures { Returns (λ s. (s, bindings_of bindings.new)) result (declare context.now.scope.now word.now value.now (bindings_of bindings.old)) }
+    ensures { Returns (λ s. (s, bindings_of bindings.new)) result (declare (environment_of context.now.scope.now) word.now value.now (bindings_of bindings.old)) }
 {
     room_for(word, bindings)?;
     fresh_in(word, bindings)?;
@@ -39,7 +40,7 @@ fn set(
     word: &Word,
     value: &ExprTree,
 ) -> Result<Stmt, JdfRefusal>
-    ensures { Returns (λ s. (s, bindings_of bindings.now)) result (set context.now.scope.now word.now value.now (bindings_of bindings.now)) }
+    ensures { Returns (λ s. (s, bindings_of bindings.now)) result (set (environment_of context.now.scope.now) word.now value.now (bindings_of bindings.now)) }
 {
     let seen = bindings.seen.as_slice();
     let slot = slot_of(context.scope, seen, word)?;
@@ -55,7 +56,7 @@ fn put(
     at: &ExprTree,
     value: &ExprTree,
 ) -> Result<Stmt, JdfRefusal>
-    ensures { Returns (λ s. (s, bindings_of bindings.now)) result (put context.now.scope.now word.now at.now value.now (bindings_of bindings.now)) }
+    ensures { Returns (λ s. (s, bindings_of bindings.now)) result (put (environment_of context.now.scope.now) word.now at.now value.now (bindings_of bindings.now)) }
 {
     let seen = bindings.seen.as_slice();
     let flow = written_flow(context.scope, word)?;
@@ -79,7 +80,7 @@ fn in_block(
     bindings: &mut BindingTable,
     tree: &BlockTree,
 ) -> Result<Block, JdfRefusal>
-    ensures { Returns (λ b. (b, bindings_of bindings.new)) result (in_block block_opened (resolved context.now.scope.now tree.now) (bindings_of bindings.old)) }
+    ensures { Returns (λ b. (b, bindings_of bindings.new)) result (in_block block_opened (resolved (environment_of context.now.scope.now) tree.now) (bindings_of bindings.old)) }
 {
     let seen = bindings.seen.len();
     let outside = bindings.outside;
@@ -98,7 +99,7 @@ fn if_else(
     first: &BlockTree,
     second: &BlockTree,
 ) -> Result<Stmt, JdfRefusal>
-    ensures { Returns (λ s. (s, bindings_of bindings.new)) result (if_else context.now.scope.now condition.now (resolved context.now.scope.now first.now) (resolved context.now.scope.now second.now) (bindings_of bindings.old)) }
+    ensures { Returns (λ s. (s, bindings_of bindings.new)) result (if_else (environment_of context.now.scope.now) condition.now (resolved (environment_of context.now.scope.now) first.now) (resolved (environment_of context.now.scope.now) second.now) (bindings_of bindings.old)) }
 {
     let condition = term_of(context, bindings.seen.as_slice(), condition)?;
     let first = in_block(context, bindings, first)?;
@@ -122,7 +123,7 @@ fn for_loop(
     bounds: Bounds,
     turn: &BlockTree,
 ) -> Result<Stmt, JdfRefusal>
-    ensures { Returns (λ s. (s, bindings_of bindings.new)) result (for_loop context.now.scope.now word.now bounds.entry.low.now bounds.entry.high.now (resolved context.now.scope.now turn.now) (bindings_of bindings.old)) }
+    ensures { Returns (λ s. (s, bindings_of bindings.new)) result (for_loop (environment_of context.now.scope.now) word.now bounds.entry.low.now bounds.entry.high.now (resolved (environment_of context.now.scope.now) turn.now) (bindings_of bindings.old)) }
 {
     room_for(word, bindings)?;
     let low = term_of(context, bindings.seen.as_slice(), bounds.low)?;
@@ -143,7 +144,7 @@ fn statement(
     bindings: &mut BindingTable,
     tree: &StmtTree,
 ) -> Result<Stmt, JdfRefusal>
-    ensures { Returns (λ s. (s, bindings_of bindings.new)) result (statement_of context.now.scope.now tree.now (bindings_of bindings.old)) }
+    ensures { Returns (λ s. (s, bindings_of bindings.new)) result (statement_of (environment_of context.now.scope.now) tree.now (bindings_of bindings.old)) }
 {
     match tree {
         StmtTree::Declare(word, value) => declare(context, bindings, word, value),
@@ -166,7 +167,7 @@ pub(crate) fn block(
     bindings: &mut BindingTable,
     tree: &BlockTree,
 ) -> Result<Block, JdfRefusal>
-    ensures { Returns (λ b. (b, bindings_of bindings.new)) result (resolved context.now.scope.now tree.now (bindings_of bindings.old)) }
+    ensures { Returns (λ b. (b, bindings_of bindings.new)) result (resolved (environment_of context.now.scope.now) tree.now (bindings_of bindings.old)) }
 {
     let mut list = Seq::new(context.alloc);
     for statement_tree in tree.as_slice() {

@@ -2,6 +2,7 @@
 
 ghost use Rattle.std.specs.Prelude.{◌≡◌, IfOk, length};
 ghost use Rattle.term_core.specs.WellBody.{IsWellBody};
+ghost use Rattle.body_names.specs.Environment.{environment_of};
 ghost use Rattle.body_names.specs.Returns.{Returns};
 ghost use Rattle.body_names.specs.Statements.{body_of};
 
@@ -23,7 +24,7 @@ pub fn resolve(
     tree: &BlockTree,
 ) -> Result<(Body, Seq<Text>), JdfRefusal>
     // The body, or the fault, is what the definition gives, unless memory runs out.
-    ensures answer { Returns (λ x. x) result (body_of scope.now tree.now) }
+    ensures answer { Returns (λ x. x) result (body_of (environment_of scope.now) tree.now) }
     // The body is well made for the locals and the flows of the scope.
     ensures well { IfOk result (λ x. IsWellBody (length scope.now.locals) (length scope.now.flows) x.0) }
 {

@@ -5,7 +5,9 @@ use Rattle.std.proofs.lemmas.Bool.{cond-false}
 use Rattle.std.proofs.lemmas.Option.{cond_some, same_Some}
 use denote.Ref.{Bor}
 use Rattle.csv.specs.Machine.{Read, after_end, ends_at_end, fields_after, field_after, in_field, is_end, next_record, start_field, start_record, step, ends_with, is_byte}
-use Rattle.csv.specs.Reading.{Reached, ReadRecord, default_config, reader_state, records_from, records_next, took_first}
+use Rattle.csv.specs.Reading.{ExplainsRead, Reached, ReadRecord, default_config, is_flexible, reader_state, records_from, records_next, took_first}
+use Rattle.csv.specs.declared.error.ErrorKind.{ErrorKind}
+use Rattle.csv.specs.declared.error.ErrorKind.TheVariants as kind
 use Rattle.csv.specs.declared.parser.Config.{Config}
 use Rattle.csv.specs.declared.parser.State.{State}
 use Rattle.csv.specs.declared.parser.State.TheVariants as st
@@ -14,7 +16,7 @@ use Rattle.csv.specs.declared.parser.Terminator.{Terminator}
 use Rattle.csv.specs.declared.parser.Terminator.TheVariants as term
 use Rattle.csv.specs.declared.reader.Reader.{Reader}
 use Rattle.csv.proofs.ReadFacts.{rows-end, rows-more}
-use Rattle.data_read.specs.Rows.{HasRows, NextRow, bytes_of}
+use Rattle.data_read.specs.Rows.{HasRows, IsOfReading, NextRow, bytes_of}
 use Rattle.data_read.proofs.Choices.{by_test, by_option}
 
 -- ---- a record ends between two records
@@ -141,9 +143,9 @@ unfolding Reached
 one_reached cfg s xs fields s2 ys h = record { p = h.0; next = h.1; fields_are = h.2; state = h.3.0; rest = h.3.1 }
 
 -- a record that was read was the next one
-pub row_found : (a b : Reader (Bor (List ℕ))) (rows : List (List (List ℕ))) (fields : List (List ℕ)) → HasRows a rows → took_first b ≡ true → ReadRecord bytes_of a b true fields
+pub row_found : (a b : Reader (Bor (List ℕ))) (rows : List (List (List ℕ))) (fields : List (List ℕ)) → HasRows a rows → took_first b ≡ true → is_flexible b ≡ is_flexible a → ReadRecord bytes_of a b true fields
     → (rest : List (List (List ℕ))) × (rows ≡ fields ∷ rest) × HasRows b rest
-row_found a b rows fields has first r =
+row_found a b rows fields has first same_flexible r =
     let more = rows-more bytes_of a b fields default_config (reader_state a) has.rest has.rest [] has.config has.source (nothing_reached default_config (reader_state a) has.rest) r in
     let z = more.0 in
     let one = one_reached default_config (reader_state a) has.rest fields (reader_state b) z more.2 in
@@ -160,6 +162,7 @@ row_found a b rows fields has first r =
       record {
         untrimmed = r.3 ∙ has.untrimmed;
         ready = inl first;
+        flexible = same_flexible ∙ has.flexible;
         config = r.2 ∙ has.config;
         rest = z;
         source = more.1;
@@ -175,6 +178,15 @@ rows_ended a b rows fields has r =
     ∙ ap (records_next (records_from default_config (length has.rest))) (rows-end bytes_of a b fields default_config has.rest has.config has.source r)
 
 -- a read of a record, whether it found one or not
-pub row_read : (a b : Reader (Bor (List ℕ))) (rows : List (List (List ℕ))) (found : Bool) (fields : List (List ℕ)) → HasRows a rows → took_first b ≡ true → ReadRecord bytes_of a b found fields → NextRow rows found fields b
-row_read a b rows true fields has first r = row_found a b rows fields has first r
-row_read a b rows false fields has first r = rows_ended a b rows fields has r
+pub row_read : (a b : Reader (Bor (List ℕ))) (rows : List (List (List ℕ))) (found : Bool) (fields : List (List ℕ)) → HasRows a rows → took_first b ≡ true → is_flexible b ≡ is_flexible a → ReadRecord bytes_of a b found fields → NextRow rows found fields b
+row_read a b rows true fields has first same_flexible r = row_found a b rows fields has first same_flexible r
+row_read a b rows false fields has first same_flexible r = rows_ended a b rows fields has r
+
+-- why a read of a record failed
+pub of_reading : (a b : Reader (Bor (List ℕ))) (rows : List (List (List ℕ))) (error : ErrorKind) → HasRows a rows → ExplainsRead bytes_of a b false error → IsOfReading error
+of_reading a b rows (kind.Io e) has why = tt
+of_reading a b rows kind.OutOfMemory has why = tt
+of_reading a b rows (kind.UnequalLengths pos expected len) has why = absurd (let both : true ≡ false = sym has.flexible ∙ why.0 in cc)
+of_reading a b rows (kind.Utf8 pos err) has why = absurd (let both : false ≡ true = why.0 in cc)
+of_reading a b rows (kind.Serialize text) has why = absurd why
+of_reading a b rows (kind.Deserialize pos err) has why = absurd why

@@ -1,9 +1,11 @@
 -- The records that a reader has left.
-use Rattle.std.specs.Prelude.{◌≡◌, ℕ, ◌+◌, Bool, false, List, [], ◌∷◌, length, Option, Some}
+use Rattle.std.specs.Prelude.{◌≡◌, ℕ, ◌+◌, ⊤, Bool, true, false, List, [], ◌∷◌, length, Option, Some}
 use Rattle.std.specs.Bool.{MatchBool}
 use denote.Ref.{Bor}
 use Rattle.csv.specs.Machine.{ends_at_end}
-use Rattle.csv.specs.Reading.{Ready, default_config, reader_config, reader_state, reader_trim, records_from, source_of}
+use Rattle.csv.specs.Reading.{Ready, default_config, is_flexible, reader_config, reader_state, reader_trim, records_from, source_of}
+use Rattle.csv.specs.declared.error.ErrorKind.{ErrorKind}
+use Rattle.csv.specs.declared.error.ErrorKind.TheVariants as kind
 use Rattle.csv.specs.declared.reader.Reader.{Reader}
 use Rattle.csv.specs.declared.reader.Trim.TheVariants as trim
 
@@ -11,10 +13,11 @@ use Rattle.csv.specs.declared.reader.Trim.TheVariants as trim
 abbrev pub bytes_of : Bor (List ℕ) → Option (List ℕ)
 bytes_of slice = Some slice.now
 
--- the reader stands between two records of a text, and these are the records of what is left of it
+-- the reader stands between two records of a text, and these are the records of what is left of it, of any number of fields each
 pub record HasRows (reader : Reader (Bor (List ℕ))) (rows : List (List (List ℕ))) : Type 0 where
   pub untrimmed : reader_trim reader ≡ trim.None
   pub ready : Ready reader
+  pub flexible : is_flexible reader ≡ true
   pub config : reader_config reader ≡ default_config
   pub rest : List ℕ
   pub source : source_of bytes_of reader ≡ Some rest
@@ -25,3 +28,12 @@ pub record HasRows (reader : Reader (Bor (List ℕ))) (rows : List (List (List �
 abbrev pub NextRow : List (List (List ℕ)) → Bool → List (List ℕ) → Reader (Bor (List ℕ)) → Type 0
 NextRow rows found fields reader =
     MatchBool found ((rest : List (List (List ℕ))) × (rows ≡ fields ∷ rest) × HasRows reader rest) (rows ≡ [])
+
+-- the reader underneath or memory is why a record was not read
+abbrev pub IsOfReading : ErrorKind → Type 0
+IsOfReading (kind.Io e) = ⊤
+IsOfReading kind.OutOfMemory = ⊤
+IsOfReading (kind.UnequalLengths pos expected len) = ⊥
+IsOfReading (kind.Utf8 pos err) = ⊥
+IsOfReading (kind.Serialize text) = ⊥
+IsOfReading (kind.Deserialize pos err) = ⊥

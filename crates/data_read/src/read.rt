@@ -53,7 +53,8 @@ fn add_later_rows(
     row: &mut ByteRecord,
     all: &mut Growing,
 ) -> Result<u64, DataRefusal>
-    requires { IsKeyed all.old }
+    requires keyed { IsKeyed all.old }
+    requires rows { (rows : List (List (List ℕ))) × HasRows reader.old rows }
     ensures { (rows : List (List (List ℕ))) → HasRows reader.old rows → MatchResult result (λ count. (later_records 2 (draft_of all.old) rows ≡ Ok (draft_of all.new)) × (count ≡ length rows + 1)) (λ refusal. ReturnsRefusal refusal (later_records 2 (draft_of all.old) rows)) }
 {
     for number in 2..u64::MAX {

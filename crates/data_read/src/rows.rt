@@ -1,11 +1,12 @@
 //! The records of a text, one after another.
 
 ghost use Rattle.std.specs.Prelude.{◌≡◌, ◌∷◌, [], List, ℕ, IfOk};
+ghost use Rattle.csv.specs.Reading.{error_kind};
 ghost use Rattle.csv.specs.Records.{fields_of};
 ghost use Rattle.data_read.specs.Reading.{records_of};
-ghost use Rattle.data_read.specs.Rows.{HasRows, NextRow};
+ghost use Rattle.data_read.specs.Rows.{HasRows, IsOfReading, NextRow};
 
-use csv::{ByteRecord, Reader, ReaderBuilder};
+use csv::{ByteRecord, Error, ErrorKind, Reader, ReaderBuilder};
 use ptg_base::OutOfMemory;
 use std::alloc::Global;
 
@@ -24,11 +25,22 @@ pub(crate) fn next_row(
     reader: &mut Reader<&[u8]>,
     row: &mut ByteRecord,
 ) -> Result<bool, OutOfMemory>
+    requires { (rows : List (List (List ℕ))) × HasRows reader.old rows }
     ensures { (rows : List (List (List ℕ))) → HasRows reader.old rows → IfOk result (λ found. NextRow rows found (fields_of row.new) reader.new) }
 {
-    // A text in memory is read without faults, and records may have any number of fields: no memory is left.
-    let Ok(found) = reader.read_byte_record(row) else {
-        return Err(OutOfMemory);
-    };
-    Ok(found)
+    match reader.read_byte_record(row) {
+        Ok(found) => Ok(found),
+        Err(error) => Err(cause_of(&error)),
+    }
+}
+
+// Why a record was not read: records may have any number of fields, and bytes need not be text. A slice is read without faults,
+// so memory is left.
+fn cause_of(error: &Error) -> OutOfMemory
+    requires { IsOfReading (error_kind error.now) }
+{
+    match error.kind() {
+        ErrorKind::Io(_) | ErrorKind::OutOfMemory => OutOfMemory,
+        _ => unreachable!(),
+    }
 }

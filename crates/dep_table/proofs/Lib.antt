@@ -4,6 +4,8 @@ pub mod OpeningSteps
 pub mod Opened
 pub mod NeedsCounts
 pub mod NeedsOne
+pub mod NeedsFlows
+pub mod NeedsRoom
 pub mod NeedsSteps
 pub mod StampOrders
 pub mod Closings

@@ -39,7 +39,7 @@ known_type types Rw n some h = ltb-true n types h
 known_type types Ctl n some h = omega (arith, eqb-true n 0 h)
 
 -- the type of a flow is one of the plan's
-known : (P : Plan) (t : Task) (n : ℕ) (f : FlowPlan) → IsTask P t → slice_get (flows_of P t) n ≡ Some f → f.datatype < length P.elems
+pub known : (P : Plan) (t : Task) (n : ℕ) (f : FlowPlan) → IsTask P t → slice_get (flows_of P t) n ≡ Some f → f.datatype < length P.elems
 known P t n f job here =
     let h = class_of P t job in
     let w = P.well_made.fit t.class h.class h.space h.class_is h.space_is in

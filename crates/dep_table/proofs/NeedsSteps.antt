@@ -3,32 +3,31 @@ use Rattle.std.proofs.Common.{◌≡◌, ℕ, ◌+◌, ◌<◌, ◌≤◌, List,
 use Rattle.std.proofs.lemmas.Bool.{cases_eq}
 use Rattle.std.proofs.lemmas.List.{append-nil}
 use Rattle.ptg_base.specs.Task.{Task}
-use Rattle.ptg_base.specs.declared.edge.Edge.{Edge}
 use Rattle.ptg_base.specs.declared.edge.WriteBack.{WriteBack}
 use Rattle.plan_core.specs.declared.plan.Plan.{Plan}
-use Rattle.dep_iter.specs.Consistent.{is_data_edge}
 use Rattle.dep_iter.specs.Tasks.{all_tasks}
 use Rattle.dep_shard.specs.Content.{Content, Entries, HasSpares, IsUnchanged, entry_in}
 use Rattle.shard_meaning.specs.Opening.{HasOpeningReserve, IsOpeningShard}
-use Rattle.shard_meaning.specs.Reserve.{is_edge_of_type}
 use Rattle.shard_meaning.specs.Share.{Placement}
 use Rattle.table_rule.specs.Placing.{shard_of}
 use Rattle.dep_table.specs.declared.needs.Needs.{Needs}
-use Rattle.dep_table.specs.Needs.{AddsNeeds, AddsTaskAt, AddsTiles, AreNeedsOf, AreNoNeeds, AreReserved, FitShards, IsNeedOf, IsNoNeed, IsReservedFor, ReservesAt, edge_tiles, write_tiles}
+use Rattle.dep_table.specs.Needs.{AddsNeeds, AddsTaskAt, AddsTiles, AreNeedsOf, AreNoNeeds, AreReserved, FitShards, HaveRoomFor, IsNeedOf, IsNoNeed, IsReservedFor, ReservesAt, write_tiles}
 use Rattle.dep_table.specs.Opened.{AreOpeningShards, HaveOpeningReserve}
-use Rattle.dep_table.proofs.NeedsCounts.{count-filter, need_other, need_own}
+use Rattle.dep_table.proofs.NeedsCounts.{need_other, need_own}
+use Rattle.dep_table.proofs.NeedsRoom.{room_task}
 use Rattle.dep_table.proofs.Opened.{snoc_at}
 use Rattle.dep_table.proofs.TaskWalks.{IsStepwise, below, there_is}
 
 module _ (P : Plan) (of : Placement) where
   needs_none : (a : List Needs) → AddsNeeds P of [] a a
-  needs_none a = record { count = refl; types = λ h. h; needs = λ done h. subst (λ l. AreNeedsOf P of l a) (sym (append-nil done)) h }
+  needs_none a = record { count = refl; types = λ h. h; needs = λ done h. subst (λ l. AreNeedsOf P of l a) (sym (append-nil done)) h; room = λ others r. r }
 
   needs_then : (ts us : List Task) (a b c : List Needs) → AddsNeeds P of ts a b → AddsNeeds P of us b c → AddsNeeds P of (ts ++ us) a c
   needs_then ts us a b c d e = record {
     count = e.count ∙ d.count;
     types = λ h. e.types (d.types h);
     needs = λ done h. subst (λ l. AreNeedsOf P of l c) (append_assoc done ts us) (e.needs (done ++ ts) (d.needs done h));
+    room = λ others r. e.room others (d.room (us ++ others) (subst (λ l. HaveRoomFor P l a) (append_assoc ts us others) r));
   }
 
   pub needs_steps : IsStepwise (AddsNeeds P of)
@@ -47,6 +46,7 @@ module _ (P : Plan) (of : Placement) where
           | inl here ↦ need_own P of k t (sym here) done m.0 n (h k m.0 (ap (slice_get old) here ∙ m.1)) (a.here m.0 n m.1 (ap (slice_get new) (sym here) ∙ at))
           | inr other ↦ need_other P of k t (λ e. other (sym e)) done n (h k n (sym (a.others k other) ∙ at))
         ];
+        room = λ others r. room_task P t (of t) old new others near a r;
       }
 
   -- for no tasks nothing is needed
@@ -171,19 +171,8 @@ none_left f all left total a b w tiles writes = record {
 }
 
 module _ (P : Plan) where
-  abbrev pub EdgesLeft : List Edge → List Edge → Needs → Needs → Type 0
-  EdgesLeft left all old new = AreLeft (edge_tiles P left) (edge_tiles P all) 0 0 old new
-
   abbrev pub WritesLeft : List WriteBack → List WriteBack → Needs → Needs → Type 0
   WritesLeft left all old new = AreLeft (write_tiles P left) (write_tiles P all) (length left) (length all) old new
-
-  pub edge_less : (all left : List Edge) (e : Edge) (a b c : Needs) → EdgesLeft (e ∷ left) all a b → AddsTiles (edge_tiles P (e ∷ [])) 0 b c → EdgesLeft left all a c
-  edge_less all left e a b c w add =
-      less_left (edge_tiles P (e ∷ left)) (edge_tiles P (e ∷ [])) (edge_tiles P all) (edge_tiles P left) 0 0 0 0 a b c w add
-      (λ d. count-filter (is_edge_of_type P d) (is_data_edge P) (e ∷ []) left) refl
-
-  pub no_edge : (all : List Edge) (a b : Needs) → EdgesLeft [] all a b → AddsTiles (edge_tiles P all) 0 a b
-  no_edge all a b w = none_left (edge_tiles P []) (edge_tiles P all) 0 0 a b w (λ d. refl) refl
 
   pub write_less : (all left : List WriteBack) (e : WriteBack) (a b c : Needs) → WritesLeft (e ∷ left) all a b → AddsTiles (write_tiles P (e ∷ [])) 1 b c → WritesLeft left all a c
   write_less all left e a b c w add =

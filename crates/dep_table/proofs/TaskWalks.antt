@@ -46,7 +46,7 @@ module _ {A : Type 0} (R : List Task → A → A → Type 0) (steps : IsStepwise
       let same : w.tasks ≡ ts = sym (append-nil w.tasks) ∙ sym w.split in
       subst (λ l. R l a b) same w.done
 
-drop_at : {A : Type 0} (xs : List A) (k : ℕ) (x : A) → slice_get xs k ≡ Some x → drop k xs ≡ x ∷ drop (suc k) xs
+pub drop_at : {A : Type 0} (xs : List A) (k : ℕ) (x : A) → slice_get xs k ≡ Some x → drop k xs ≡ x ∷ drop (suc k) xs
 drop_at [] k x h = cc
 drop_at (y ∷ xs) zero x h = let e : y ≡ x = cc in ap (λ z. z ∷ xs) e
 drop_at (y ∷ xs) (suc k) x h = drop_at xs k x h

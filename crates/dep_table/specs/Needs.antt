@@ -1,14 +1,19 @@
 -- What the shards of a preloaded table need for all that will come to them, counted task by task. Source: this project's own choice.
-use Rattle.std.specs.Prelude.{◌≡◌, ◌≢◌, ℕ, ◌+◌, Bool, true, false, ◌==◌, List, ◌++◌, length, filter, flat_map, slice_get, slice_index, Some, if◌then◌else◌}
+use Rattle.std.specs.Prelude.{◌≡◌, ◌≢◌, ◌<◌, ℕ, ◌+◌, ◌^◌, ℤ, Bool, true, false, ◌==◌, ◌&&◌, List, [], ◌∷◌, ◌++◌, length, filter, flat_map, slice_get, slice_index, Some, if◌then◌else◌}
 use Rattle.ptg_base.specs.Task.{Task}
 use Rattle.ptg_base.specs.declared.edge.Edge.{Edge}
 use Rattle.ptg_base.specs.declared.edge.WriteBack.{WriteBack}
+use Rattle.plan_core.specs.declared.flow.FlowPlan.{FlowPlan}
 use Rattle.plan_core.specs.declared.plan.Plan.{Plan}
+use Rattle.plan_core.specs.declared.target.Target.{Target}
+use Rattle.plan_core.specs.declared.target.Target.TheVariants as target
+use Rattle.plan_core.specs.Kinds.{is_data}
+use Rattle.dep_iter.specs.Active.{flow_ins}
 use Rattle.dep_iter.specs.Consistent.{is_data_edge}
 use Rattle.dep_iter.specs.Edges.{goal, in_edges}
 use Rattle.dep_iter.specs.Items.{write_backs}
 use Rattle.dep_shard.specs.Content.{Content, HasSpares, IsUnchanged}
-use Rattle.flow_meaning.specs.Counting.{as_number, count}
+use Rattle.flow_meaning.specs.Counting.{as_number, count, weigh}
 use Rattle.shard_meaning.specs.Opening.{is_edge_to, is_to_enter, is_write_from}
 use Rattle.shard_meaning.specs.Reserve.{is_edge_of_type, is_write_of_type}
 use Rattle.shard_meaning.specs.Share.{Placement, is_of}
@@ -37,11 +42,29 @@ AreNeedsOf P of ts ns = (k : ℕ) (n : Needs) → slice_get ns k ≡ Some n → 
 abbrev pub HaveTypes : ℕ → List Needs → Type 0
 HaveTypes types ns = (k : ℕ) (n : Needs) → slice_get ns k ≡ Some n → length n.tiles.items ≡ types
 
--- Where old is what the shards need for some tasks, new is what they need for those and for these.
+-- how many tiles of a type these edges carry, and these write-backs
+abbrev pub edge_tiles : Plan → List Edge → ℕ → ℕ
+edge_tiles P es datatype = count (is_edge_of_type P datatype) (filter (is_data_edge P) es)
+
+abbrev pub write_tiles : Plan → List WriteBack → ℕ → ℕ
+write_tiles P ws datatype = count (is_write_of_type P datatype) ws
+
+-- the counts of a shard, and of all shards, stay below 2 ^ 64 while what these tasks need is added, whatever shards they are of
+pub record HasRoomFor (P : Plan) (ts : List Task) (n : Needs) : Type 0 where
+  pub entries : n.entries + length ts < 2 ^ 64
+  pub tiles : (datatype : ℕ) → slice_index n.tiles.items datatype + (edge_tiles P (flat_map (in_edges P) ts) datatype + write_tiles P (writes_of P ts) datatype) < 2 ^ 64
+  pub writes : n.writes + length (writes_of P ts) < 2 ^ 64
+  pub traps : n.traps + length ts < 2 ^ 64
+
+abbrev pub HaveRoomFor : Plan → List Task → List Needs → Type 0
+HaveRoomFor P ts ns = (k : ℕ) (n : Needs) → slice_get ns k ≡ Some n → HasRoomFor P ts n
+
+-- Where old is what the shards need for some tasks, new is what they need for those and for these. Where there was room for these tasks and others, there is room for the others.
 pub record AddsNeeds (P : Plan) (of : Placement) (ts : List Task) (old new : List Needs) : Type 0 where
   pub count : length new ≡ length old
   pub types : HaveTypes (length P.elems) old → HaveTypes (length P.elems) new
   pub needs : (done : List Task) → AreNeedsOf P of done old → AreNeedsOf P of (done ++ ts) new
+  pub room : (others : List Task) → HaveRoomFor P (ts ++ others) old → HaveRoomFor P others new
 
 -- so many tiles of each type and so many write-backs more
 pub record AddsTiles (of_type : ℕ → ℕ) (places : ℕ) (old new : Needs) : Type 0 where
@@ -51,12 +74,20 @@ pub record AddsTiles (of_type : ℕ → ℕ) (places : ℕ) (old new : Needs) : 
   pub writes : new.writes ≡ old.writes + places
   pub traps : new.traps ≡ old.traps
 
--- how many tiles of a type these edges carry, and these write-backs
-abbrev pub edge_tiles : Plan → List Edge → ℕ → ℕ
-edge_tiles P es datatype = count (is_edge_of_type P datatype) (filter (is_data_edge P) es)
+-- whether the first of these targets of in dependences gives an edge
+abbrev pub begins_with_edge : List Target → Bool
+begins_with_edge [] = false
+begins_with_edge (target.Task class flow args ∷ xs) = true
+begins_with_edge (target.Element coll indices ∷ xs) = false
+begins_with_edge (target.New ∷ xs) = false
+begins_with_edge (target.Null ∷ xs) = false
 
-abbrev pub write_tiles : Plan → List WriteBack → ℕ → ℕ
-write_tiles P ws datatype = count (is_write_of_type P datatype) ws
+-- how many tiles of a type come by edges into a flow of a task with these locals: one where it carries tiles and its source is an edge; and into these flows
+abbrev pub flow_tiles : List ℤ → FlowPlan → ℕ → ℕ
+flow_tiles env f datatype = as_number ((is_data (Some f.kind) && begins_with_edge (flow_ins env f)) && (f.datatype == datatype))
+
+abbrev pub flows_tiles : List ℤ → List FlowPlan → ℕ → ℕ
+flows_tiles env fs datatype = weigh (λ f. flow_tiles env f datatype) fs
 
 -- whether edges go into a task, so that its entry is still to come
 abbrev pub has_edges : Plan → Task → Bool

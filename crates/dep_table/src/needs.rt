@@ -1,19 +1,23 @@
 //! What a shard of a preloaded table needs, counted task by task.
 
-ghost use Rattle.std.specs.Prelude.{◌≡◌, ◌+◌, ◌<◌, ◌==◌, [], ◌∷◌, Some, length, slice_get, IfOk, IfSome, OnOk};
+ghost use Rattle.std.specs.Prelude.{◌≡◌, ◌+◌, ◌<◌, ◌==◌, ◌^◌, ℕ, [], ◌∷◌, Bool, Some, length, slice_get, slice_index, IfOk, IfSome};
 ghost use Rattle.std.specs.Option.{option_copied};
+ghost use Rattle.ptg_base.specs.Lists.{IsIn};
+ghost use Rattle.plan_core.specs.declared.flow.FlowPlan.{FlowPlan as FlowPlanValue};
 ghost use Rattle.plan_core.specs.Kinds as kinds;
+ghost use Rattle.dep_iter.specs.Active.{held_targets};
 ghost use Rattle.dep_iter.specs.Edges as edges;
 ghost use Rattle.dep_iter.specs.Items as items;
 ghost use Rattle.dep_iter.specs.Tasks as tasks;
 ghost use Rattle.dep_iter.specs.Tasks.{IsTask};
 ghost use Rattle.flow_meaning.specs.Counting.{as_number};
-ghost use Rattle.dep_table.specs.Needs.{AddsTask, AddsTiles, IsNoNeed, edge_tiles, write_tiles};
+ghost use Rattle.dep_table.specs.Needs as needs;
+ghost use Rattle.dep_table.specs.Needs.{AddsTask, AddsTiles, HasRoomFor, IsNoNeed, edge_tiles, flow_tiles, flows_tiles, write_tiles};
 
-use dep_iter::{Matched, flows_of, in_edges_under, write_backs_under};
+use dep_iter::{Matched, flows_of, held_target, write_backs_under};
 use goal_count::goal_under;
-use plan_core::{FlowPlan, Plan};
-use ptg_base::{Edge, OutOfMemory, TaskId, WriteBack};
+use plan_core::{DepPlan, FlowPlan, Plan, Target};
+use ptg_base::{OutOfMemory, TaskId, WriteBack};
 use std::alloc::Global;
 use term_core::FlowKind;
 
@@ -30,17 +34,12 @@ pub(crate) struct Needs {
     pub(crate) traps: u64,
 }
 
-// One more. No memory holds as much as a count that does not fit.
-fn add_one(count: &mut u64) -> Result<(), OutOfMemory>
-    ensures { OnOk result (count.new ≡ count.old + 1) }
+// One more.
+fn add_one(count: &mut u64)
+    requires { count.old + 1 < 2 ^ 64 }
+    ensures { count.new ≡ count.old + 1 }
 {
-    match count.checked_add(1) {
-        Some(more) => {
-            *count = more;
-            Ok(())
-        }
-        None => Err(OutOfMemory),
-    }
+    *count += 1;
 }
 
 // Whether flows of this kind carry tiles.
@@ -64,6 +63,31 @@ fn flow_at<'a>(plan: &'a Plan, t: &TaskId, number: u8) -> Option<&'a FlowPlan>
     flows_of(plan, t).get(number as usize)
 }
 
+// Whether a target of an in dependence gives an edge.
+fn is_edge(target: &Target) -> bool
+    ensures { result ≡ needs.begins_with_edge (target.now ∷ []) }
+{
+    match target {
+        Target::Task(_, _, _) => true,
+        Target::Element(_, _) => false,
+        Target::New => false,
+        Target::Null => false,
+    }
+}
+
+// Whether the first of these in dependences that holds gives an edge.
+fn begins_with_edge(deps: &[DepPlan], env: &[i64]) -> bool
+    ensures { (first_only : Bool) → result ≡ needs.begins_with_edge (held_targets first_only deps.now env.now) }
+{
+    let Some((d, later)) = deps.split_first() else {
+        return false;
+    };
+    match held_target(d, env) {
+        Some(target) => is_edge(target),
+        None => begins_with_edge(later, env),
+    }
+}
+
 impl Needs {
     // Nothing, for a plan with so many types of tiles.
     pub(crate) fn new(alloc: Global, types: usize) -> Result<Needs, OutOfMemory>
@@ -78,90 +102,91 @@ impl Needs {
     }
 
     // A tile of this type more.
-    fn add_tile(&mut self, datatype: u32) -> Result<(), OutOfMemory>
-        requires { datatype < length self.old.tiles.items }
-        ensures { OnOk result (AddsTiles (λ d. as_number (datatype == d)) 0 self.old self.new) }
+    fn add_tile(&mut self, datatype: u32)
+        requires known { datatype < length self.old.tiles.items }
+        requires room { slice_index self.old.tiles.items datatype + 1 < 2 ^ 64 }
+        ensures { AddsTiles (λ d. as_number (datatype == d)) 0 self.old self.new }
     {
-        add_one(&mut self.tiles[datatype as usize])
+        add_one(&mut self.tiles[datatype as usize]);
     }
 
-    // The tile of an edge into a task, if it carries one.
-    fn add_edge(&mut self, plan: &Plan, t: &TaskId, edge: &Edge) -> Result<(), OutOfMemory>
-        requires task { IsTask plan.now t.now }
-        requires to { edge.now.to ≡ t.now }
-        requires types { length self.old.tiles.items ≡ length plan.now.elems }
-        ensures { OnOk result (AddsTiles (edge_tiles plan.now (edge.now ∷ [])) 0 self.old self.new) }
+    // The tile that comes by an edge into a flow of a task with these locals, if one does.
+    fn add_flow(&mut self, flow: &FlowPlan, env: &[i64])
+        requires known { flow.now.datatype < length self.old.tiles.items }
+        requires room { (d : ℕ) → slice_index self.old.tiles.items d + flow_tiles env.now flow.now d < 2 ^ 64 }
+        ensures { AddsTiles (flow_tiles env.now flow.now) 0 self.old self.new }
     {
-        match flow_at(plan, t, edge.in_flow) {
-            Some(flow) => {
-                if is_data(flow.kind) {
-                    self.add_tile(flow.datatype)
-                } else {
-                    Ok(())
-                }
-            }
-            None => Ok(()),
+        if is_data(flow.kind) && begins_with_edge(flow.ins.as_slice(), env) {
+            self.add_tile(flow.datatype);
         }
     }
 
-    // The tiles of the edges into a task with these locals.
-    fn add_edges(&mut self, plan: &Plan, t: &TaskId, env: &[i64]) -> Result<(), OutOfMemory>
-        requires task { IsTask plan.now t.now }
-        requires locals { env.now ≡ tasks.locals_of plan.now t.now }
-        requires types { length self.old.tiles.items ≡ length plan.now.elems }
-        ensures { OnOk result (AddsTiles (edge_tiles plan.now (edges.in_edges plan.now t.now)) 0 self.old self.new) }
+    // The same of these flows.
+    fn add_flows(&mut self, flows: &[FlowPlan], env: &[i64])
+        requires known { (f : FlowPlanValue) → IsIn f flows.now → f.datatype < length self.old.tiles.items }
+        requires room { (d : ℕ) → slice_index self.old.tiles.items d + flows_tiles env.now flows.now d < 2 ^ 64 }
+        ensures { AddsTiles (flows_tiles env.now flows.now) 0 self.old self.new }
     {
-        for edge in in_edges_under(plan, t, env) {
-            self.add_edge(plan, t, &edge)?;
-        }
-        Ok(())
+        let Some((flow, others)) = flows.split_first() else {
+            return;
+        };
+        self.add_flow(flow, env);
+        self.add_flows(others, env);
+    }
+
+    // The tiles of the edges into a task with these locals. No edge is walked.
+    fn add_edges(&mut self, m: &Matched, t: &TaskId, env: &[i64])
+        requires task { IsTask m.now t.now }
+        requires locals { env.now ≡ tasks.locals_of m.now t.now }
+        requires types { length self.old.tiles.items ≡ length m.now.elems }
+        requires room { (d : ℕ) → slice_index self.old.tiles.items d + edge_tiles m.now (edges.in_edges m.now t.now) d < 2 ^ 64 }
+        ensures { AddsTiles (edge_tiles m.now (edges.in_edges m.now t.now)) 0 self.old self.new }
+    {
+        self.add_flows(flows_of(m.plan(), t), env);
     }
 
     // The place and the tile of a write-back of a task.
-    fn add_write(&mut self, plan: &Plan, t: &TaskId, write: &WriteBack) -> Result<(), OutOfMemory>
+    fn add_write(&mut self, plan: &Plan, t: &TaskId, write: &WriteBack)
         requires task { IsTask plan.now t.now }
         requires from { write.now.from ≡ t.now }
         requires types { length self.old.tiles.items ≡ length plan.now.elems }
-        ensures { OnOk result (AddsTiles (write_tiles plan.now (write.now ∷ [])) 1 self.old self.new) }
+        requires tiles { (d : ℕ) → slice_index self.old.tiles.items d + write_tiles plan.now (write.now ∷ []) d < 2 ^ 64 }
+        requires places { self.old.writes + 1 < 2 ^ 64 }
+        ensures { AddsTiles (write_tiles plan.now (write.now ∷ [])) 1 self.old self.new }
     {
-        add_one(&mut self.writes)?;
-        match flow_at(plan, t, write.flow) {
-            Some(flow) => self.add_tile(flow.datatype),
-            None => Ok(()),
+        add_one(&mut self.writes);
+        if let Some(flow) = flow_at(plan, t, write.flow) {
+            self.add_tile(flow.datatype);
         }
     }
 
     // The places and the tiles of the write-backs of a task with these locals.
-    fn add_writes(&mut self, plan: &Plan, t: &TaskId, env: &[i64]) -> Result<(), OutOfMemory>
+    fn add_writes(&mut self, plan: &Plan, t: &TaskId, env: &[i64])
         requires task { IsTask plan.now t.now }
         requires locals { env.now ≡ tasks.locals_of plan.now t.now }
         requires types { length self.old.tiles.items ≡ length plan.now.elems }
-        ensures { OnOk result (AddsTiles (write_tiles plan.now (items.write_backs plan.now t.now)) (length (items.write_backs plan.now t.now)) self.old self.new) }
+        requires tiles { (d : ℕ) → slice_index self.old.tiles.items d + write_tiles plan.now (items.write_backs plan.now t.now) d < 2 ^ 64 }
+        requires places { self.old.writes + length (items.write_backs plan.now t.now) < 2 ^ 64 }
+        ensures { AddsTiles (write_tiles plan.now (items.write_backs plan.now t.now)) (length (items.write_backs plan.now t.now)) self.old self.new }
     {
         for write in write_backs_under(plan, t, env) {
-            self.add_write(plan, t, &write)?;
+            self.add_write(plan, t, &write);
         }
-        Ok(())
     }
 
     // All that its shard needs for a task with these locals.
-    pub(crate) fn add_task(
-        &mut self,
-        m: &Matched,
-        t: &TaskId,
-        env: &[i64],
-    ) -> Result<(), OutOfMemory>
+    pub(crate) fn add_task(&mut self, m: &Matched, t: &TaskId, env: &[i64])
         requires task { IsTask m.now t.now }
         requires locals { env.now ≡ tasks.locals_of m.now t.now }
         requires types { length self.old.tiles.items ≡ length m.now.elems }
-        ensures { OnOk result (AddsTask m.now t.now self.old self.new) }
+        requires room { HasRoomFor m.now (t.now ∷ []) self.old }
+        ensures { AddsTask m.now t.now self.old self.new }
     {
-        let plan = m.plan();
         if goal_under(m, t, env) != 0 {
-            add_one(&mut self.entries)?;
+            add_one(&mut self.entries);
         }
-        self.add_edges(plan, t, env)?;
-        self.add_writes(plan, t, env)?;
-        add_one(&mut self.traps)
+        self.add_edges(m, t, env);
+        self.add_writes(m.plan(), t, env);
+        add_one(&mut self.traps);
     }
 }

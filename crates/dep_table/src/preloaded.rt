@@ -9,7 +9,7 @@ ghost use Rattle.plan_data.specs.Fit.{DataFit};
 ghost use Rattle.dep_shard.specs.Content.{Content};
 ghost use Rattle.table_rule.specs.Changes.{first_pass};
 ghost use Rattle.table_rule.specs.Placing as placing;
-ghost use Rattle.dep_table.specs.Needs.{AddsNeeds, AddsTaskAt, AreNeedsOf, AreNoNeeds, AreReserved, FitShards, HaveTypes, IsReservedFor, ReservesAt};
+ghost use Rattle.dep_table.specs.Needs.{AddsNeeds, AddsTaskAt, AreNeedsOf, AreNoNeeds, AreReserved, FitShards, HaveRoomFor, HaveTypes, IsReservedFor, ReservesAt};
 ghost use Rattle.dep_table.specs.Opened.{AreOpeningShards, HaveOpeningReserve};
 ghost use Rattle.dep_table.specs.Passes.{IsPassOf};
 ghost use Rattle.dep_table.specs.Tables.{id_of, job_of};
@@ -39,60 +39,57 @@ fn no_needs(alloc: Global, m: &Matched, shards: u32) -> Result<Vec<Needs>, OutOf
 }
 
 // Adds what a task with these locals needs to the needs of the shard k.
-fn need_at(
-    needs: &mut Vec<Needs>,
-    k: usize,
-    m: &Matched,
-    t: &TaskId,
-    env: &[i64],
-) -> Result<(), OutOfMemory>
+fn need_at(needs: &mut Vec<Needs>, k: usize, m: &Matched, t: &TaskId, env: &[i64])
     requires task { IsTask m.now t.now }
     requires locals { env.now ≡ tasks.locals_of m.now t.now }
     requires within { k < length needs.old.items }
     requires types { HaveTypes (length m.now.elems) needs.old.items }
-    ensures { OnOk result (AddsTaskAt m.now t.now k needs.old.items needs.new.items) }
+    requires room { HaveRoomFor m.now (t.now ∷ []) needs.old.items }
+    ensures { AddsTaskAt m.now t.now k needs.old.items needs.new.items }
 {
-    needs[k].add_task(m, t, env)
+    needs[k].add_task(m, t, env);
 }
 
 // Adds what a task needs to the needs of its shard.
-fn need_task(needs: &mut Vec<Needs>, m: &Matched, t: &TaskId) -> Result<(), OutOfMemory>
+fn need_task(needs: &mut Vec<Needs>, m: &Matched, t: &TaskId)
     requires task { IsTask m.now t.now }
     requires shards { (0 < length needs.old.items) × (length needs.old.items ≤ 256) }
     requires types { HaveTypes (length m.now.elems) needs.old.items }
-    ensures { OnOk result (AddsNeeds m.now (placing.shard_of m.now (length needs.old.items)) (t.now ∷ []) needs.old.items needs.new.items) }
+    requires room { HaveRoomFor m.now (t.now ∷ []) needs.old.items }
+    ensures { AddsNeeds m.now (placing.shard_of m.now (length needs.old.items)) (t.now ∷ []) needs.old.items needs.new.items }
 {
     let env = locals_of(m.plan(), t);
     let k = shard_under(m, needs.len(), t, env.as_slice());
-    need_at(needs, k, m, t, env.as_slice())
+    need_at(needs, k, m, t, env.as_slice());
 }
 
 // Adds what the tasks of a class need.
-fn need_class(needs: &mut Vec<Needs>, m: &Matched, class: u32) -> Result<(), OutOfMemory>
+fn need_class(needs: &mut Vec<Needs>, m: &Matched, class: u32)
     requires class { class < length m.now.classes }
     requires shards { (0 < length needs.old.items) × (length needs.old.items ≤ 256) }
     requires types { HaveTypes (length m.now.elems) needs.old.items }
-    ensures { OnOk result ((s : ClassSpaceValue) → slice_get m.now.spaces class ≡ Some s → AddsNeeds m.now (placing.shard_of m.now (length needs.old.items)) (map (task class) (range.tasks s)) needs.old.items needs.new.items) }
+    requires room { (s : ClassSpaceValue) → slice_get m.now.spaces class ≡ Some s → HaveRoomFor m.now (map (task class) (range.tasks s)) needs.old.items }
+    ensures { (s : ClassSpaceValue) → slice_get m.now.spaces class ≡ Some s → AddsNeeds m.now (placing.shard_of m.now (length needs.old.items)) (map (task class) (range.tasks s)) needs.old.items needs.new.items }
 {
     let space = space_of(m, class);
     for params in Space::new(space) {
         let t = TaskId::new(class, params.as_slice());
-        need_task(needs, m, &t)?;
+        need_task(needs, m, &t);
     }
-    Ok(())
 }
 
 // Adds what the tasks of the classes from this number on need.
-fn need_classes(needs: &mut Vec<Needs>, m: &Matched, class: u32) -> Result<(), OutOfMemory>
+fn need_classes(needs: &mut Vec<Needs>, m: &Matched, class: u32)
     requires shards { (0 < length needs.old.items) × (length needs.old.items ≤ 256) }
     requires types { HaveTypes (length m.now.elems) needs.old.items }
-    ensures { OnOk result ((ss : List ClassSpaceValue) → drop class m.now.spaces ≡ ss → AddsNeeds m.now (placing.shard_of m.now (length needs.old.items)) (tasks_from class ss) needs.old.items needs.new.items) }
+    requires room { HaveRoomFor m.now (tasks_from class (drop class m.now.spaces)) needs.old.items }
+    ensures { (ss : List ClassSpaceValue) → drop class m.now.spaces ≡ ss → AddsNeeds m.now (placing.shard_of m.now (length needs.old.items)) (tasks_from class ss) needs.old.items needs.new.items }
 {
     if class as usize >= m.plan().classes.len() {
-        return Ok(());
+        return;
     }
-    need_class(needs, m, class)?;
-    need_classes(needs, m, class + 1)
+    need_class(needs, m, class);
+    need_classes(needs, m, class + 1);
 }
 
 // What each of so many shards needs for all tasks.
@@ -101,8 +98,9 @@ fn needs_of(alloc: Global, m: &Matched, shards: u32) -> Result<Vec<Needs>, OutOf
     ensures count { IfOk result (λ v. length v.items ≡ shards) }
     ensures needs { IfOk result (λ v. AreNeedsOf m.now (placing.shard_of m.now shards) (all_tasks m.now) v.items) }
 {
+    let _ = m.plan();
     let mut needs = no_needs(alloc, m, shards)?;
-    need_classes(&mut needs, m, 0)?;
+    need_classes(&mut needs, m, 0);
     Ok(needs)
 }
 

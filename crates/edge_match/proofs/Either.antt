@@ -1,6 +1,6 @@
 -- Each plan is consistent or has a first fault: each check passes or does not.
-use Rattle.std.proofs.Common.{◌≡◌, ℕ, ◌+◌, ◌<◌, ◌≤◌, ℤ, pos, List, [], ◌∷◌, length, refl, ap, subst, Option, Some, None, slice_get, ◌⊎◌, inl, inr, arith}
-use Rattle.std.proofs.lemmas.Bool.{cases_lt}
+use Rattle.std.proofs.Common.{◌≡◌, ℕ, ◌+◌, ◌<◌, ◌≤◌, ℤ, pos, List, [], ◌∷◌, length, refl, ap, subst, Option, Some, None, slice_get, ◌⊎◌, inl, inr, arith, ◌↔◌, ◌≤ℤ◌, ◌<ℤ◌, Bool, true, false, nat_eq, int_eq, IsTrue, IsSomeAnd}
+use Rattle.std.proofs.lemmas.Bool.{cases_lt, false≢true}
 use Rattle.ptg_base.specs.Task.{Task}
 use Rattle.ptg_base.specs.TaskComparing.{same_task}
 use Rattle.ptg_base.specs.TaskLaws.{same_task-decides}
@@ -29,7 +29,72 @@ use Rattle.edge_match.specs.Faults.{fault_at, space_fault}
 use Rattle.edge_match.specs.Marks.{AllPass, Before, Check, CountsIn, CountsItem, HasIn, HasInput, HasOut, HasSource, HasTile, HasValues, IsNewEdge, IsNewPlace, IsOfJob, IsPlace, Mark, Passes, add, marks, nothing}
 use Rattle.edge_match.specs.FirstFault.{IsFirstFailure, IsFirstFault, code_of, flow_at}
 use Rattle.edge_match.proofs.Consistency.{passes_consistent}
-use Rattle.edge_match.proofs.Decided.{IsDecided, by_test, decided_at_most, decided_below, decided_both, decided_if, decided_in, decided_less, decided_like, decided_none, decided_not, decided_some, decided_true, same_integer, same_number}
+use Rattle.std.proofs.lemmas.Int.{by_lt_z, ints}
+use Rattle.std.specs.Cmp.{unsigned_Decides, signed_Decides}
+use Rattle.ptg_base.specs.Lists.{IsIn}
+
+-- ---- what holds or does not hold
+
+-- it holds or does not hold
+abbrev IsDecided : Type 0 → Type 0
+IsDecided A = A ⊎ (A → ⊥)
+
+by_test : {A : Type 0} (b : Bool) → IsTrue b ↔ A → IsDecided A
+by_test true h = inl (h.0 refl)
+by_test false h = inr (λ a. false≢true (h.1 a))
+
+decided_like : {A B : Type 0} → (A → B) → (B → A) → IsDecided A → IsDecided B
+decided_like to from (inl a) = inl (to a)
+decided_like to from (inr none) = inr (λ b. none (from b))
+
+decided_both : {A B : Type 0} → IsDecided A → IsDecided B → IsDecided (A × B)
+decided_both (inl a) (inl b) = inl (a, b)
+decided_both (inl a) (inr none) = inr (λ p. none p.1)
+decided_both (inr none) k = inr (λ p. none p.0)
+
+decided_if : {A B : Type 0} → IsDecided A → IsDecided B → IsDecided (A → B)
+decided_if h (inl b) = inl (λ a. b)
+decided_if (inl a) (inr none) = inr (λ f. none (f a))
+decided_if (inr never) (inr none) = inl (λ a. absurd (never a))
+
+decided_not : {A : Type 0} → IsDecided A → IsDecided (A → ⊥)
+decided_not h = decided_if h (inr (λ none. none))
+
+decided_some : {A : Type 0} (P : A → Type 0) → ((a : A) → IsDecided (P a)) → (o : Option A) → IsDecided (IsSomeAnd o P)
+decided_some P each None = inr (λ h. h)
+decided_some P each (Some a) = each a
+
+decided_in : {A : Type 0} → ((x y : A) → IsDecided (x ≡ y)) → (x : A) (xs : List A) → IsDecided (IsIn x xs)
+decided_in same x [] = inr (λ h. h)
+decided_in same x (y ∷ ys) = elim (same x y) [
+  | inl e ↦ inl (inl e)
+  | inr differ ↦ elim (decided_in same x ys) [
+    | inl h ↦ inl (inr h)
+    | inr none ↦ inr (λ h. elim h [ inl e ↦ differ e | inr k ↦ none k ])
+  ]
+]
+
+decided_true : (b : Bool) → IsDecided (IsTrue b)
+decided_true b = by_test b (λ h. h, λ h. h)
+
+decided_none : {A : Type 0} (o : Option A) → IsDecided (o ≡ None)
+decided_none None = inl refl
+decided_none (Some a) = inr (λ e. absurd cc)
+
+decided_below : (m n : ℕ) → IsDecided (m < n)
+decided_below m n = elim (cases_lt m n) [ inl h ↦ inl h | inr h ↦ inr (λ k. omega arith) ]
+
+decided_at_most : (a b : ℤ) → IsDecided (a ≤ℤ b)
+decided_at_most a b = by_lt_z b a (λ h. inr (λ k. omega (arith, ints))) (λ h. inl h)
+
+decided_less : (a b : ℤ) → IsDecided (a <ℤ b)
+decided_less a b = by_lt_z a b (λ h. inl h) (λ h. inr (λ k. omega (arith, ints)))
+
+same_number : (a b : ℕ) → IsDecided (a ≡ b)
+same_number a b = by_test (nat_eq a b) (unsigned_Decides a b)
+
+same_integer : (a b : ℤ) → IsDecided (a ≡ b)
+same_integer a b = by_test (int_eq a b) (signed_Decides a b)
 
 -- ---- tasks, edges and places
 

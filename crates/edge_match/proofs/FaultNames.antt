@@ -1,6 +1,7 @@
 -- What the first fault of a plan names.
 use Rattle.std.proofs.Common.{◌≡◌, ℕ, suc, ◌+◌, ◌<◌, ℤ, Bool, true, false, List, [], ◌∷◌, ◌++◌, length, length-append, refl, ap, sym, ◌∙◌, subst, Option, Some, None, slice_get, if◌then◌else◌, ◌⊎◌, inl, inr, Result, Ok, Err, arith}
 use Rattle.std.proofs.lemmas.Option.{slice_get_within}
+use Rattle.std.specs.List.{AllByRecursion}
 use Rattle.std.specs.Option.{option_and_then, option_map, option_map_or, unwrap_or}
 use Rattle.ptg_base.specs.Lists.{IsIn}
 use Rattle.ptg_base.specs.Task.{Task}
@@ -26,10 +27,14 @@ use Rattle.dep_iter.specs.Well.{first_ill_flow, has_hints, ill_part, ill_part_of
 use Rattle.edge_match.specs.declared.fault.MatchFault.{MatchFault}
 use Rattle.edge_match.specs.declared.phase.Phase.{Phase}
 use Rattle.edge_match.specs.declared.phase.Phase.TheVariants.{Connecting, Matching}
+use Rattle.edge_match.specs.declared.direction.Direction.{Direction}
+use Rattle.edge_match.specs.declared.direction.Direction.TheVariants.{In, Out}
+use Rattle.edge_match.specs.Directions.{marks_at}
 use Rattle.edge_match.specs.Faults.{space_fault}
-use Rattle.edge_match.specs.FirstFault.{IsFirstFailure, IsFirstFault, IsTaskFault, flow_at}
-use Rattle.edge_match.specs.Marks.{Before, Check, CountsIn, CountsItem, HasIn, HasInput, HasOut, HasSource, HasTile, IsNewEdge, IsNewPlace, IsOfJob, IsPlace, Mark, edges_into_flow, flow_marks, flow_start, in_marks, item_marks, items_of_flow, mark, marks, nothing, phase_marks, task_start}
-use Rattle.edge_match.proofs.NoFault.{each_task}
+use Rattle.edge_match.specs.FirstFault.{IsFirstFault, IsTaskFault, flow_at}
+use Rattle.edge_match.specs.Marks.{Check, CountsIn, CountsItem, HasIn, HasInput, HasOut, HasSource, HasTile, IsNewEdge, IsNewPlace, IsOfJob, IsPlace, Mark, flow_start, mark, phase_marks, task_start}
+use Rattle.edge_match.proofs.Directed.{flow_items}
+use Rattle.edge_match.proofs.Holding.{AtFlow, join, of_items, of_phase, parts}
 use Rattle.edge_accept.proofs.PlaceBits.{some_of}
 
 -- a mark is at a task of the job, and the flow of its fault, if it is one's, is one of that task
@@ -37,49 +42,29 @@ pub record IsNamed (P : Plan) (m : Mark) : Type 0 where
   pub of_job : IsTask P m.task
   pub flow : (n : ℕ) → flow_at P m.flow m.check ≡ Some n → n < length (flows_of P m.task)
 
-abbrev pub AllNamed : Plan → List Mark → Type 0
-AllNamed P [] = Unit {0}
-AllNamed P (m ∷ ms) = IsNamed P m × AllNamed P ms
-
-AllNamed-append : (P : Plan) (xs ys : List Mark) → AllNamed P xs → AllNamed P ys → AllNamed P (xs ++ ys)
-AllNamed-append P [] ys h k = k
-AllNamed-append P (x ∷ xs) ys h k = (h.0, AllNamed-append P xs ys h.1 k)
-
-named_right : (P : Plan) (xs ys : List Mark) → AllNamed P (xs ++ ys) → AllNamed P ys
-named_right P [] ys h = h
-named_right P (x ∷ xs) ys h = named_right P xs ys h.1
-
 -- the marks at a flow of a task
 module _ (P : Plan) (t : Task) (of_job : IsTask P t) (n : ℕ) (below : n < length (flows_of P t)) where
   at_flow : (c : Check) → flow_at P (Some n) c ≡ Some n → IsNamed P (mark t (Some n) c)
   at_flow c e = record { of_job = of_job; flow = λ k q. let same : n ≡ k = cc in subst (λ m. m < length (flows_of P t)) same below }
 
-  named_ins : (phase : Phase) (earlier es : List Edge) → AllNamed P (in_marks phase t n earlier es)
-  named_ins Connecting earlier [] = tt
-  named_ins Connecting earlier (e ∷ es) = (at_flow (IsOfJob e.from) refl, (at_flow (CountsIn e) refl, named_ins Connecting (earlier ++ e ∷ []) es))
-  named_ins Matching earlier [] = tt
-  named_ins Matching earlier (e ∷ es) = (at_flow (HasOut e) refl, (at_flow (IsNewEdge earlier e) refl, named_ins Matching (earlier ++ e ∷ []) es))
-
-  named_items : (phase : Phase) (s : Source) (earlier : List Edge) (is : List Item) → AllNamed P (item_marks phase s t n earlier is)
-  named_items Connecting s earlier [] = tt
-  named_items Connecting s earlier (item.Edge e ∷ is) =
-      (at_flow (HasTile s) refl, (at_flow (IsOfJob e.to) refl, (at_flow (CountsItem (item.Edge e)) refl, named_items Connecting s (earlier ++ e ∷ []) is)))
-  named_items Connecting s earlier (item.Write w ∷ is) =
-      (at_flow (HasTile s) refl, (at_flow (IsPlace w.place) refl, (at_flow (CountsItem (item.Write w)) refl, (at_flow (IsNewPlace w.place) refl, named_items Connecting s earlier is))))
-  named_items Matching s earlier [] = tt
-  named_items Matching s earlier (item.Edge e ∷ is) = (at_flow (HasIn e) refl, (at_flow (IsNewEdge earlier e) refl, named_items Matching s (earlier ++ e ∷ []) is))
-  named_items Matching s earlier (item.Write w ∷ is) = named_items Matching s earlier is
-
-  named_start : (phase : Phase) (f : FlowPlan) → AllNamed P (flow_start phase P t n f)
+  named_start : (phase : Phase) (f : FlowPlan) → AllByRecursion (IsNamed P) (flow_start phase P t n f)
   named_start Connecting f = (at_flow (HasInput f.kind (data_source P t n)) refl, (at_flow (HasSource (data_source P t n)) refl, tt))
   named_start Matching f = tt
 
-  named_flow : (phase : Phase) (f : FlowPlan) → AllNamed P (flow_marks phase P t n f)
-  named_flow phase f =
-      let ins = in_marks phase t n [] (edges_into_flow P t n f) in
-      let start = flow_start phase P t n f in
-      AllNamed-append P (start ++ ins) (item_marks phase (data_source P t n) t n [] (items_of_flow P t n f)) (AllNamed-append P start ins (named_start phase f) (named_ins phase [] (edges_into_flow P t n f)))
-      (named_items phase (data_source P t n) [] (items_of_flow P t n f))
+  named_item : (d : Direction) (phase : Phase) (s : Source) (earlier : List Edge) (i : Item) → AllByRecursion (IsNamed P) (marks_at d phase s t n earlier i)
+  named_item In Connecting s earlier (item.Edge e) = (at_flow (IsOfJob e.from) refl, (at_flow (CountsIn e) refl, tt))
+  named_item In Matching s earlier (item.Edge e) = (at_flow (HasOut e) refl, (at_flow (IsNewEdge earlier e) refl, tt))
+  named_item In phase s earlier (item.Write w) = tt
+  named_item Out Connecting s earlier (item.Edge e) = (at_flow (HasTile s) refl, (at_flow (IsOfJob e.to) refl, (at_flow (CountsItem (item.Edge e)) refl, tt)))
+  named_item Out Matching s earlier (item.Edge e) = (at_flow (HasIn e) refl, (at_flow (IsNewEdge earlier e) refl, tt))
+  named_item Out Connecting s earlier (item.Write w) = (at_flow (HasTile s) refl, (at_flow (IsPlace w.place) refl, (at_flow (CountsItem (item.Write w)) refl, (at_flow (IsNewPlace w.place) refl, tt))))
+  named_item Out Matching s earlier (item.Write w) = tt
+
+  named_flow : (phase : Phase) (f : FlowPlan) → AtFlow (IsNamed P) phase P t n f
+  named_flow phase f = record {
+    start = named_start phase f;
+    directed = λ d. (of_items (IsNamed P) (λ (i : Item). Unit {0}) d phase (data_source P t n) t n (λ earlier i. (λ h. tt, λ h. named_item d phase (data_source P t n) earlier i)) [] (flow_items d P t n f)).1 (λ i h. tt);
+  }
 
 -- the flow of an ill task that is ill is one of the task
 first_or_later : (b : Bool) (o : Option ℕ) (n k : ℕ) → (if b then o else Some n) ≡ Some k → (o ≡ Some k) ⊎ (n ≡ k)
@@ -106,24 +91,23 @@ ill_flow : (P : Plan) (t : Task) (k : ℕ) → unwrap_or (ill_part P t) None ≡
 unfolding ill_part
 ill_flow P t k h = ill_in_class (locals_of P t) (slice_get P.classes t.class) k h
 
-named_task : (P : Plan) (phase : Phase) (t : Task) → IsTask P t → AllNamed P (task_start phase P t)
+named_task : (P : Plan) (phase : Phase) (t : Task) → IsTask P t → AllByRecursion (IsNamed P) (task_start phase P t)
 named_task P Connecting t h = (record { of_job = h; flow = ill_flow P t }, (record { of_job = h; flow = λ k q. cc }, tt))
 named_task P Matching t h = tt
 
-named_phase : (P : Plan) (phase : Phase) → AllNamed P (phase_marks phase P)
-named_phase P phase = each_task P phase (AllNamed P) tt (AllNamed-append P) (named_task P phase) (λ t h n f k. named_flow P t h n (slice_get_within (flows_of P t) n f k) phase f)
+named_phase : (P : Plan) (phase : Phase) → AllByRecursion (IsNamed P) (phase_marks phase P)
+named_phase P phase = (of_phase (IsNamed P) phase P).1 (λ t h. record { start = named_task P phase t h; flows = λ n f here. named_flow P t h n (slice_get_within (flows_of P t) n f here) phase f })
 
 -- a fault of a task is named after the task and one of its flows
 abbrev pub NamesTask : Plan → MatchFault → Type 0
 NamesTask P f = IsTask P (task f.class f.numbers) × ((n : ℕ) → f.flow ≡ Some n → n < length (flows_of P (task f.class f.numbers)))
 
-failure_named : (P : Plan) (b : Before) (ms : List Mark) (f : MatchFault) → AllNamed P ms → IsFirstFailure P b ms f → NamesTask P f
-failure_named P b ms f h w =
-    let m = (named_right P w.passed (w.failed ∷ w.rest) (subst (AllNamed P) w.split h)).0 in
-    subst (NamesTask P) (sym w.fails.1) (m.of_job, m.flow)
-
 names_task : (P : Plan) (f : MatchFault) → IsTaskFault P f → NamesTask P f
-names_task P f w = failure_named P nothing (marks P) f (AllNamed-append P (phase_marks Connecting P) (phase_marks Matching P) (named_phase P Connecting) (named_phase P Matching)) w.first
+names_task P f w =
+    let v = w.first in
+    let all = join (IsNamed P) (phase_marks Connecting P) (phase_marks Matching P) (named_phase P Connecting) (named_phase P Matching) in
+    let m = (parts (IsNamed P) v.passed (v.failed ∷ v.rest) (subst (AllByRecursion (IsNamed P)) v.split all)).1.0 in
+    subst (NamesTask P) (sym v.fails.1) (m.of_job, m.flow)
 
 -- a visit of this class, with fewer values than so many where a definition has none
 abbrev pub IsVisitOf : ℕ → ℕ → Visit → Type 0

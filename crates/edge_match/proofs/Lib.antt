@@ -1,14 +1,10 @@
 pub mod Parts
 pub mod Tallies
-pub mod InEdges
-pub mod SentItems
-pub mod Walks
+pub mod Directed
 pub mod Added
-pub mod Roots
-pub mod Passing
+pub mod Walks
+pub mod Holding
 pub mod Consistency
-pub mod NoFault
 pub mod OneFault
-pub mod Decided
 pub mod Either
 pub mod FaultNames

@@ -1,24 +1,27 @@
 -- A plan has one first fault at most, and a consistent one has none.
-use Rattle.std.proofs.Common.{◌≡◌, ◌+◌, ◌≤◌, List, [], ◌∷◌, ◌++◌, ap, sym, ◌∙◌, subst, inl, inr, arith}
+use Rattle.std.proofs.Common.{◌≡◌, List, [], ◌∷◌, ◌++◌, refl, ap, sym, ◌∙◌, subst, ◌⊎◌, inl, inr, arith}
 use Rattle.plan_core.specs.declared.plan.Plan.{Plan}
 use Rattle.range_space.specs.declared.fault.SpaceFault.{SpaceFault}
 use Rattle.range_space.specs.Walk as walk
-use Rattle.range_space.specs.Walk.{Visit, Prefix, Task, NoValue, task_count, prefix_count, AllHaveValues, StopsAt, walk_all}
-use Rattle.range_space.proofs.Counting.{prefix_count-append, task_count-append}
+use Rattle.range_space.specs.Walk.{walk_all}
+use Rattle.range_space.proofs.Counting.{task_count-walk_all}
 use Rattle.range_space.proofs.FirstFault.{one_fault}
-use Rattle.range_space.proofs.Soundness.{no_fault}
+use Rattle.range_space.proofs.Soundness.{no_fault, prefix_count-walk_all, sound_from_all}
 use Rattle.dep_iter.specs.Consistent.{IsConsistent}
 use Rattle.dep_iter.proofs.Listing.{length-tasks_from}
 use Rattle.edge_match.specs.declared.fault.MatchFault.{MatchFault}
+use Rattle.edge_match.specs.declared.fault.MatchRefusal.{MatchRefusal}
+use Rattle.edge_match.specs.declared.fault.MatchRefusal.TheVariants as refusal
+use Rattle.edge_match.specs.Counted.{IsRefusalOf}
 use Rattle.edge_match.specs.Faults.{space_fault}
 use Rattle.edge_match.specs.Marks.{AllPass, Before, Mark, add, add_all, marks, nothing}
 use Rattle.edge_match.specs.FirstFault.{FailsWith, IsFirstFailure, IsFirstFault}
-use Rattle.edge_match.proofs.Passing.{pass_right}
-use Rattle.edge_match.proofs.NoFault.{all_pass}
+use Rattle.edge_match.proofs.Consistency.{all_pass}
+use Rattle.edge_match.proofs.Parts.{AllPass-parts}
 
 -- nothing fails where all marks pass
 none_fails : (P : Plan) (b : Before) (ms : List Mark) (f : MatchFault) → AllPass P b ms → IsFirstFailure P b ms f → ⊥
-none_fails P b ms f h w = w.fails.0 (pass_right P b w.passed (w.failed ∷ w.rest) (subst (AllPass P b) w.split h)).0
+none_fails P b ms f h w = w.fails.0 (AllPass-parts P b w.passed (w.failed ∷ w.rest) (subst (AllPass P b) w.split h)).1.0
 
 -- the marks cut at two, each the first that fails
 same_failure : (P : Plan) (b : Before) (xs ys : List Mark) (m n : Mark) (ms ns : List Mark) (f g : MatchFault) → xs ++ m ∷ ms ≡ ys ++ n ∷ ns → AllPass P b xs → AllPass P b ys → FailsWith P (add_all b xs) m f → FailsWith P (add_all b ys) n g → f ≡ g
@@ -38,29 +41,18 @@ same_failure P b (x ∷ xs) (y ∷ ys) m n ms ns f g e h k s r =
     same_failure P (add b x.check) xs ys m n ms ns f g rest h.1 (subst (λ (z : Mark). AllPass P (add b z.check) ys) same k.1) s (subst (λ (z : Mark). FailsWith P (add_all (add b z.check) ys) n g) same r)
 
 -- a walk that nothing stops has no fault
-has_value : (xs ys : List Visit) (v : Visit) → AllHaveValues (xs ++ v ∷ ys) → AllHaveValues (v ∷ ys)
-has_value [] ys v h = h
-has_value (Prefix c ∷ xs) ys v h = has_value xs ys v h
-has_value (Task c ∷ xs) ys v h = has_value xs ys v h
-has_value (NoValue c vs ∷ xs) ys v h = absurd h
-
-not_stopped : (xs ys : List Visit) (v : Visit) (f : SpaceFault) → AllHaveValues (xs ++ v ∷ ys) → task_count (xs ++ v ∷ ys) ≤ 1000000 → prefix_count (xs ++ v ∷ ys) ≤ 16000000 → StopsAt (0 + task_count xs) (0 + prefix_count xs) v f → ⊥
-not_stopped xs ys (NoValue c vs) f h k l s = has_value xs ys (NoValue c vs) h
-not_stopped xs ys (Task c) f h k l s = let a = task_count-append xs (Task c ∷ ys) in let b = s.0 in omega arith
-not_stopped xs ys (Prefix c) f h k l s = let a = prefix_count-append xs (Prefix c ∷ ys) in let b = s.0 in omega arith
-
-unstopped_fault : (vs : List Visit) (f : SpaceFault) → walk.IsUnstopped 0 0 vs → walk.IsFirstFault 0 0 vs f → ⊥
-unstopped_fault vs f u w =
+unstopped_fault : (P : Plan) (f : SpaceFault) → walk.IsUnstopped 0 0 (walk_all 0 P.spaces) → walk.IsFirstFault 0 0 (walk_all 0 P.spaces) f → ⊥
+unstopped_fault P f u w =
     let t = u.tasks_at_most in
     let p = u.prefixes_at_most in
-    let k : task_count vs ≤ 1000000 = omega arith in
-    let l : prefix_count vs ≤ 16000000 = omega arith in
-    not_stopped w.before w.rest w.visit f (subst AllHaveValues w.split u.all_have_values) (subst (λ (z : List Visit). task_count z ≤ 1000000) w.split k) (subst (λ (z : List Visit). prefix_count z ≤ 16000000) w.split l) w.stops
+    let a = task_count-walk_all 0 P.spaces in
+    let b = prefix_count-walk_all 0 P.spaces in
+    no_fault P.spaces f (sound_from_all 0 P.spaces u.all_have_values) (omega arith) (omega arith) w
 
 pub one_first : (P : Plan) (f g : MatchFault) → IsFirstFault P f → IsFirstFault P g → f ≡ g
 one_first P f g (inl a) (inl b) = a.2 ∙ ap space_fault (one_fault 0 0 (walk_all 0 P.spaces) a.0 b.0 a.1 b.1) ∙ sym b.2
-one_first P f g (inl a) (inr w) = absurd (unstopped_fault (walk_all 0 P.spaces) a.0 w.unstopped a.1)
-one_first P f g (inr w) (inl b) = absurd (unstopped_fault (walk_all 0 P.spaces) b.0 w.unstopped b.1)
+one_first P f g (inl a) (inr w) = absurd (unstopped_fault P a.0 w.unstopped a.1)
+one_first P f g (inr w) (inl b) = absurd (unstopped_fault P b.0 w.unstopped b.1)
 one_first P f g (inr v) (inr w) =
     same_failure P nothing v.first.passed w.first.passed v.first.failed w.first.failed v.first.rest w.first.rest f g (sym v.first.split ∙ w.first.split) v.first.all_pass w.first.all_pass v.first.fails w.first.fails
 
@@ -70,3 +62,8 @@ consistent_none P f w (inl a) =
     let k = w.tasks_at_most in
     no_fault P.spaces a.0 w.sound (omega arith) w.prefixes_at_most a.1
 consistent_none P f w (inr v) = none_fails P nothing (marks P) f (all_pass P w) v.first
+
+-- a refusal of a plan with a first fault says it, or want of memory
+pub fault_or_memory : (P : Plan) (r : MatchRefusal) (f : MatchFault) → IsRefusalOf P r → IsFirstFault P f → (r ≡ refusal.Fault f) ⊎ (r ≡ refusal.OutOfMemory)
+fault_or_memory P (refusal.Fault g) f w h = inl (ap refusal.Fault (one_first P g f w h))
+fault_or_memory P refusal.OutOfMemory f w h = inr refl

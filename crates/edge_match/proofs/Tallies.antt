@@ -1,105 +1,73 @@
--- How the counts go on with an edge or an item.
-use Rattle.std.proofs.Common.{◌≡◌, ◌↔◌, ℕ, ◌+◌, Bool, true, false, [], ◌∷◌, length, IsTrue, ◌⊎◌, inl, inr, refl, ap, sym, ◌∙◌, Option, Some, None, slice_get, length-append, Result, Ok, Err, MatchResult, if◌then◌else◌, arith}
-use Rattle.std.proofs.lemmas.List.Elements.{filter-append}
-use Rattle.std.specs.List.{filter}
-use Rattle.std.specs.Option.{option_map, option_map_or, option_and_then}
+-- How the counts go on with an edge, an item or a place.
+use Rattle.std.proofs.Common.{◌≡◌, ◌↔◌, ℕ, ◌+◌, Bool, List, [], ◌∷◌, IsTrue, ◌⊎◌, inl, inr, refl, ap, ◌∙◌, Some, slice_get, length-append, arith}
 use Rattle.ptg_base.specs.Task.{Task}
 use Rattle.ptg_base.specs.declared.edge.Edge.{Edge}
-use Rattle.ptg_base.specs.declared.edge.Item.{Item}
-use Rattle.plan_core.specs.declared.class.ClassPlan.{ClassPlan}
+use Rattle.ptg_base.specs.declared.place.Place.{Place}
 use Rattle.plan_core.specs.declared.flow.FlowPlan.{FlowPlan}
 use Rattle.plan_core.specs.declared.plan.Plan.{Plan}
-use Rattle.plan_core.specs.Kinds.{kind_of}
+use Rattle.plan_core.specs.declared.shape.Shape.{Shape}
+use Rattle.plan_core.specs.Kinds.{is_data, kind_of}
+use Rattle.plan_core.specs.Place.{HasPlace}
+use Rattle.range_space.proofs.MemberLists.{IsIn-append_left, IsIn-append_right, from_append}
 use Rattle.dep_iter.specs.Consistent.{is_data_edge}
 use Rattle.dep_iter.specs.Tasks.{flows_of}
-use Rattle.edge_match.specs.declared.counted.Counted.{Counted}
-use Rattle.edge_match.specs.Counted.{Checked, IsCounted}
-use Rattle.edge_match.specs.Faults.{fault_at}
-use Rattle.edge_match.specs.declared.fault.MatchCode.TheVariants as code
-use Rattle.edge_match.specs.declared.fault.MatchFault.{MatchFault}
-use Rattle.edge_match.proofs.Parts.{checked_fail, checked_pass}
-use Rattle.plan_core.specs.Place.{HasPlace}
-use Rattle.ptg_base.specs.declared.place.Place.{Place}
-use Rattle.range_space.proofs.MemberLists.{IsIn-append_left, IsIn-append_right, from_append}
 use Rattle.edge_accept.specs.Written.{FitsShapes, is_written}
-use Rattle.edge_match.specs.Marks.{Before, CountsIn, CountsItem, IsNewPlace, add, mark}
+use Rattle.edge_accept.proofs.Taking.{kind_of-here}
+use Rattle.edge_match.specs.declared.counted.Counted.{Counted}
+use Rattle.edge_match.specs.declared.direction.Direction.{Direction}
+use Rattle.edge_match.specs.declared.direction.Direction.TheVariants.{In, Out}
+use Rattle.edge_match.specs.declared.fault.MatchCode.TheVariants as code
+use Rattle.edge_match.specs.Counted.{Decides}
+use Rattle.edge_match.specs.Directions.{counts, near_flow, near_task, other_end}
+use Rattle.edge_match.specs.FirstFault.{code_of, flow_at}
+use Rattle.edge_match.specs.Marks.{IsNewPlace}
 
-kind_here : (o : Option ClassPlan) (n : ℕ) (f : FlowPlan) → slice_get (option_map_or (λ (c : ClassPlan). c.flows) o []) n ≡ Some f → option_map (λ (f : FlowPlan). f.kind) (option_and_then (λ (c : ClassPlan). slice_get c.flows n) o) ≡ Some f.kind
-kind_here None n f h = cc
-kind_here (Some c) n f h = ap (option_map (λ (f : FlowPlan). f.kind)) h
+module _ (P : Plan) (s u : Counted) where
+  -- a place, by the answer of the set that it is added to
+  pub one_more_place : (p : Place) → HasPlace P.colls p → u.ins ≡ s.ins → u.data_edges ≡ s.data_edges → u.items ≡ s.items → u.writes ≡ s.writes + 1
+      → ((colls : List Shape) → FitsShapes colls s.written → FitsShapes colls u.written) → (new : Bool)
+      → ((colls : List Shape) → FitsShapes colls s.written → HasPlace colls p → IsTrue new ↔ (IsTrue (is_written s.written p) → ⊥))
+      → ((colls : List Shape) → FitsShapes colls s.written → HasPlace colls p → (q : Place) → HasPlace colls q → IsTrue (is_written u.written q) ↔ (IsTrue (is_written s.written q) ⊎ (q ≡ p))) → Decides P s u new (IsNewPlace p)
+  one_more_place p there ins edges items writes fits new fresh added = record {
+    passes = λ b k. (
+      λ h w. (fresh P.colls k.fits there).0 h ((k.written p there).1 w),
+      λ n. (fresh P.colls k.fits there).1 (λ w. n ((k.written p there).0 w)),
+    );
+    counted = λ t b k.
+        let l = length-append b.places (p ∷ []) in
+        let m = k.writes in
+        record {
+          ins = ins ∙ k.ins;
+          data_edges = edges ∙ k.data_edges;
+          items = items ∙ k.items;
+          writes = omega arith;
+          fits = fits P.colls k.fits;
+          written = λ q h. (
+            λ w. elim ((added P.colls k.fits there q h).0 w) [ inl a ↦ IsIn-append_left q b.places (p ∷ []) ((k.written q h).0 a) | inr e ↦ IsIn-append_right q b.places (p ∷ []) (inl e) ],
+            λ w. (added P.colls k.fits there q h).1 (elim (from_append q b.places (p ∷ []) w) [
+              | inl a ↦ inl ((k.written q h).1 a)
+              | inr e ↦ elim e [ inl same ↦ inr same | inr none ↦ absurd none ]
+            ]),
+          );
+        };
+  }
 
--- whether an edge carries a tile is said by the kind of the flow that it goes into
-pub kind_of-here : (P : Plan) (t : Task) (n : ℕ) (f : FlowPlan) → slice_get (flows_of P t) n ≡ Some f → kind_of P.classes t.class n ≡ Some f.kind
-kind_of-here P t n f h = kind_here (slice_get P.classes t.class) n f h
+-- each direction has one code and one flow for what it counts, and for its other end
+pub counts_code : (d : Direction) (e : Edge) → code_of (counts d e) ≡ code.TooManyEdges
+counts_code In e = refl
+counts_code Out e = refl
 
-data_end : (p : Edge → Bool) (e : Edge) (b : Bool) → p e ≡ b → (n : ℕ) → n + length (filter p (e ∷ [])) ≡ (if b then n + 1 else n)
-data_end p e true h n = rw h refl
-data_end p e false h n = rw h (omega arith)
+pub counts_flow : (P : Plan) (n : ℕ) (d : Direction) (e : Edge) → flow_at P (Some n) (counts d e) ≡ Some n
+counts_flow P n In e = refl
+counts_flow P n Out e = refl
 
--- one edge into a task more
-pub counted_in : (P : Plan) (s u : Counted) (b : Before) (e : Edge) (d : Bool) → is_data_edge P e ≡ d → IsCounted P s b
-    → u.ins ≡ s.ins + 1 → u.data_edges ≡ (if d then s.data_edges + 1 else s.data_edges) → u.items ≡ s.items → u.writes ≡ s.writes → u.written ≡ s.written → IsCounted P u (add b (CountsIn e))
-counted_in P s u b e d k h ins edges items writes written =
-    let l = length-append b.ins (e ∷ []) in
-    let m = h.ins in
-    record {
-      ins = omega arith;
-      data_edges =
-          edges ∙ ap (λ n. if d then n + 1 else n) h.data_edges ∙ sym (data_end (is_data_edge P) e d k (length (filter (is_data_edge P) b.ins)))
-          ∙ sym (length-append (filter (is_data_edge P) b.ins) (filter (is_data_edge P) (e ∷ []))) ∙ ap length (sym (filter-append (is_data_edge P) b.ins (e ∷ [])));
-      items = items ∙ h.items;
-      writes = writes ∙ h.writes;
-      fits = rw written h.fits;
-      written = rw written h.written;
-    }
+pub other_end_flow : (P : Plan) (n : ℕ) (d : Direction) (e : Edge) → flow_at P (Some n) (other_end d e) ≡ Some n
+other_end_flow P n In e = refl
+other_end_flow P n Out e = refl
 
--- one item more
-pub counted_item : (P : Plan) (s u : Counted) (b : Before) (i : Item) → IsCounted P s b
-    → u.ins ≡ s.ins → u.data_edges ≡ s.data_edges → u.items ≡ s.items + 1 → u.writes ≡ s.writes → u.written ≡ s.written → IsCounted P u (add b (CountsItem i))
-counted_item P s u b i h ins edges items writes written =
-    let l = length-append b.items (i ∷ []) in
-    let m = h.items in
-    record {
-      ins = ins ∙ h.ins;
-      data_edges = edges ∙ h.data_edges;
-      items = omega arith;
-      writes = writes ∙ h.writes;
-      fits = rw written h.fits;
-      written = rw written h.written;
-    }
-
--- one place more
-pub counted_place : (P : Plan) (s u : Counted) (b : Before) (p : Place) → HasPlace P.colls p → IsCounted P s b
-    → u.ins ≡ s.ins → u.data_edges ≡ s.data_edges → u.items ≡ s.items → u.writes ≡ s.writes + 1 → FitsShapes P.colls u.written
-    → ((q : Place) → HasPlace P.colls q → IsTrue (is_written u.written q) ↔ (IsTrue (is_written s.written q) ⊎ (q ≡ p))) → IsCounted P u (add b (IsNewPlace p))
-counted_place P s u b p there h ins edges items writes fits added =
-    let l = length-append b.places (p ∷ []) in
-    let m = h.writes in
-    record {
-      ins = ins ∙ h.ins;
-      data_edges = edges ∙ h.data_edges;
-      items = items ∙ h.items;
-      writes = omega arith;
-      fits = fits;
-      written = λ q k. (
-        λ w. elim ((added q k).0 w) [ inl a ↦ IsIn-append_left q b.places (p ∷ []) ((h.written q k).0 a) | inr e ↦ IsIn-append_right q b.places (p ∷ []) (inl e) ],
-        λ w. (added q k).1 (elim (from_append q b.places (p ∷ []) w) [
-          | inl a ↦ inl ((h.written q k).1 a)
-          | inr e ↦ elim e [ inl same ↦ inr same | inr none ↦ absurd none ]
-        ]),
-      );
-    }
-
--- the check that a place is not written before, by the answer of the set that it is added to
-pub written_place : (P : Plan) (t : Task) (n : ℕ) (s u : Counted) (p : Place) → HasPlace P.colls p
-    → u.ins ≡ s.ins → u.data_edges ≡ s.data_edges → u.items ≡ s.items → u.writes ≡ s.writes + 1 → (FitsShapes P.colls s.written → FitsShapes P.colls u.written) → (new : Bool)
-    → (FitsShapes P.colls s.written → HasPlace P.colls p → IsTrue new ↔ (IsTrue (is_written s.written p) → ⊥))
-    → (FitsShapes P.colls s.written → HasPlace P.colls p → (q : Place) → HasPlace P.colls q → IsTrue (is_written u.written q) ↔ (IsTrue (is_written s.written q) ⊎ (q ≡ p)))
-    → (r : Result (Unit {0}) MatchFault) → MatchResult r (λ _. IsTrue new) (λ f. (IsTrue new → ⊥) × (f ≡ fault_at code.DoubleWrite t (Some n))) → Checked P s u r (mark t (Some n) (IsNewPlace p) ∷ [])
-written_place P t n s u p there ins edges items writes fits new fresh added (Ok x) h =
-    checked_pass P s u (mark t (Some n) (IsNewPlace p)) x (λ b k. (
-      λ w. (fresh k.fits there).0 h ((k.written p there).1 w),
-      counted_place P s u b p there k ins edges items writes (fits k.fits) (added k.fits there),
-    ))
-written_place P t n s u p there ins edges items writes fits new fresh added (Err f) h =
-    checked_fail P s u (mark t (Some n) (IsNewPlace p)) f (λ b k w. h.0 ((fresh k.fits there).1 (λ y. w ((k.written p there).0 y)))) h.1
+-- whether an edge into a flow carries a tile
+pub is_data-here : (P : Plan) (t : Task) (n : ℕ) (f : FlowPlan) (e : Edge) (d : Direction) → slice_get (flows_of P t) n ≡ Some f → near_task d e ≡ t → near_flow d e ≡ n → d ≡ In → is_data_edge P e ≡ is_data (Some f.kind)
+is_data-here P t n f e Out here task flow h = absurd cc
+is_data-here P t n f e In here task flow h =
+    let kind : kind_of P.classes e.to.class e.in_flow ≡ Some f.kind = rw (task, flow) (kind_of-here P t n f here) in
+    ap is_data kind

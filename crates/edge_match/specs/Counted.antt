@@ -1,5 +1,5 @@
 -- What the pass has counted, against what came before a mark, and what a part of the pass shows. Source: this project's own choice.
-use Rattle.std.specs.Prelude.{◌≡◌, ◌==◌, ◌+◌, ℕ, ◌↔◌, List, length, filter, IsTrue, Result, MatchResult}
+use Rattle.std.specs.Prelude.{◌≡◌, ◌==◌, ◌+◌, ◌≤◌, ℕ, ◌↔◌, List, length, filter, flat_map, Bool, IsTrue, Result, MatchResult, OnOk}
 use Rattle.ptg_base.specs.Lists.{IsIn}
 use Rattle.ptg_base.specs.Task.{Task}
 use Rattle.ptg_base.specs.declared.place.Place.{Place}
@@ -15,7 +15,7 @@ use Rattle.edge_match.specs.declared.fault.MatchRefusal.{MatchRefusal}
 use Rattle.edge_match.specs.declared.fault.MatchRefusal.TheVariants as refusal
 use Rattle.edge_match.specs.declared.phase.Phase.{Phase}
 use Rattle.edge_match.specs.declared.phase.Phase.TheVariants.{Connecting, Matching}
-use Rattle.edge_match.specs.Marks.{Before, Mark, AllPass, add_all}
+use Rattle.edge_match.specs.Marks.{Before, Check, Mark, AllPass, Passes, add, add_all, task_marks}
 use Rattle.edge_match.specs.FirstFault.{IsFirstFailure, IsFirstFault}
 use Rattle.edge_accept.specs.Written.{FitsShapes, is_written}
 
@@ -28,18 +28,28 @@ pub record IsCounted (P : Plan) (c : Counted) (b : Before) : Type 0 where
   pub fits : FitsShapes P.colls c.written
   pub written : (p : Place) → HasPlace P.colls p → IsTrue (is_written c.written p) ↔ IsIn p b.places
 
+-- a test that went from these counts to those holds where this check passes, and then it is counted
+pub record Decides (P : Plan) (old new : Counted) (holds : Bool) (c : Check) : Type 0 where
+  pub passes : (b : Before) → IsCounted P old b → IsTrue holds ↔ Passes P b c
+  pub counted : IsTrue holds → (b : Before) → IsCounted P old b → IsCounted P new (add b c)
+
 -- a part of the pass that went from these counts to those: either all of these marks pass and are counted, or the answer is the fault of the first that does not
-abbrev pub Checked : Plan → Counted → Counted → Result (Unit {0}) MatchFault → List Mark → Type 0
-Checked P old new r ms = (b : Before) → IsCounted P old b → MatchResult r (λ _. AllPass P b ms × IsCounted P new (add_all b ms)) (λ f. IsFirstFailure P b ms f)
+pub record Checked (P : Plan) (old new : Counted) (r : Result (Unit {0}) MatchFault) (ms : List Mark) : Type 0 where
+  pub after : (b : Before) → IsCounted P old b → MatchResult r (λ _. AllPass P b ms × IsCounted P new (add_all b ms)) (λ f. IsFirstFailure P b ms f)
 
 -- how many of these tasks have no edge into them
 abbrev pub root_count : Plan → List Task → ℕ
 root_count P ts = length (filter (λ t. goal P t == 0) ts)
 
--- where the first phase went on from these counts over these tasks, those without an edge into them are added
-abbrev pub CountsRoots : Phase → Plan → Counted → List Task → ℕ → ℕ → Type 0
-CountsRoots Connecting P old ts roots sum = (b : Before) → IsCounted P old b → sum ≡ roots + root_count P ts
-CountsRoots Matching P old ts roots sum = Unit {0}
+-- the pass went over these tasks, of which in the first phase those without an edge into them were counted
+abbrev pub AddsRoots : Phase → Plan → Counted → ℕ → ℕ → List Task → Type 0
+AddsRoots Connecting P old roots sum ts = (b : Before) → IsCounted P old b → sum ≡ roots + root_count P ts
+AddsRoots Matching P old roots sum ts = Unit {0}
+
+pub record WentOver (P : Plan) (phase : Phase) (old new : Counted) (roots sum : ℕ) (r : Result (Unit {0}) MatchFault) (ts : List Task) : Type 0 where
+  pub checked : Checked P old new r (flat_map (task_marks phase P) ts)
+  pub at_most : OnOk r (sum ≤ roots + length ts)
+  pub roots_added : OnOk r (AddsRoots phase P old roots sum ts)
 
 -- counts are those of a plan with so many tasks
 abbrev pub AreCounts : Plan → ℕ → Counts → Type 0

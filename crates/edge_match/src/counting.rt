@@ -1,55 +1,51 @@
 //! How counts go on.
 
-ghost use Rattle.std.specs.Prelude.{◌≡◌, ◌↔◌, ◌+◌, ◌<◌, ◌⊎◌, List, IsTrue, if◌then◌else◌};
-ghost use Rattle.ptg_base.specs.declared.place.Place.{Place as PlaceValue};
-ghost use Rattle.plan_core.specs.declared.shape.Shape.{Shape as ShapeValue};
+ghost use Rattle.std.specs.Prelude.{◌≡◌, ◌<◌, IsTrue};
+ghost use Rattle.ptg_base.specs.declared.edge.Edge.{Edge as EdgeValue};
+ghost use Rattle.ptg_base.specs.declared.edge.Item.{Item as ItemValue};
+ghost use Rattle.plan_core.specs.declared.plan.Plan.{Plan as PlanValue};
 ghost use Rattle.plan_core.specs.Place.{HasPlace};
-ghost use Rattle.edge_accept.specs.Written.{FitsShapes, is_written};
+ghost use Rattle.dep_iter.specs.Consistent.{is_data_edge};
+ghost use Rattle.edge_match.specs.Counted.{Decides};
+ghost use Rattle.edge_match.specs.Marks.{CountsIn, CountsItem, IsNewPlace};
 
 use crate::counted::Counted;
 use ptg_base::Place;
 
 // The most edges into tasks, and the most items, that a job may have.
-pub(crate) const MOST_EDGES: u64 = 4_000_000;
+const MOST_EDGES: u64 = 4_000_000;
 
 impl Counted {
-    // Counts an edge into a task, which carries a tile or not.
-    pub(crate) fn add_in(&mut self, carries_tile: bool)
-        requires { self.old.ins < 4000000 }
-        ensures ins { self.new.ins ≡ self.old.ins + 1 }
-        ensures data { self.new.data_edges ≡ (if carries_tile then self.old.data_edges + 1 else self.old.data_edges) }
-        ensures items { self.new.items ≡ self.old.items }
-        ensures writes { self.new.writes ≡ self.old.writes }
-        ensures written { self.new.written ≡ self.old.written }
+    // Counts an edge into a task, which carries a tile or not, if it is not one too many.
+    pub(crate) fn add_in(&mut self, carries_tile: bool) -> bool
+        ensures { (P : PlanValue) (e : EdgeValue) → is_data_edge P e ≡ carries_tile → Decides P self.old self.new result (CountsIn e) }
     {
+        if self.ins >= MOST_EDGES {
+            return false;
+        }
         self.ins += 1;
         if carries_tile {
             self.data_edges += 1;
         }
+        true
     }
 
-    // Counts an item.
-    pub(crate) fn add_item(&mut self)
-        requires { self.old.items < 4000000 }
-        ensures ins { self.new.ins ≡ self.old.ins }
-        ensures data { self.new.data_edges ≡ self.old.data_edges }
-        ensures items { self.new.items ≡ self.old.items + 1 }
-        ensures writes { self.new.writes ≡ self.old.writes }
-        ensures written { self.new.written ≡ self.old.written }
+    // Counts an item, if it is not one too many.
+    pub(crate) fn add_item(&mut self) -> bool
+        ensures counted { (P : PlanValue) (i : ItemValue) → Decides P self.old self.new result (CountsItem i) }
+        ensures room { IsTrue result → self.new.writes < self.new.items }
     {
+        if self.items >= MOST_EDGES {
+            return false;
+        }
         self.items += 1;
+        true
     }
 
     // Adds a place that is written, after its item was counted, and says whether it is new.
     pub(crate) fn add_place(&mut self, place: Place) -> bool
         requires { self.old.writes < self.old.items }
-        ensures ins { self.new.ins ≡ self.old.ins }
-        ensures data { self.new.data_edges ≡ self.old.data_edges }
-        ensures items { self.new.items ≡ self.old.items }
-        ensures writes { self.new.writes ≡ self.old.writes + 1 }
-        ensures fits { (colls : List ShapeValue) → FitsShapes colls self.old.written → FitsShapes colls self.new.written }
-        ensures fresh { (colls : List ShapeValue) → FitsShapes colls self.old.written → HasPlace colls place → IsTrue result ↔ (IsTrue (is_written self.old.written place) → ⊥) }
-        ensures added { (colls : List ShapeValue) → FitsShapes colls self.old.written → HasPlace colls place → (q : PlaceValue) → HasPlace colls q → IsTrue (is_written self.new.written q) ↔ (IsTrue (is_written self.old.written q) ⊎ (q ≡ place)) }
+        ensures { (P : PlanValue) → HasPlace P.colls place → Decides P self.old self.new result (IsNewPlace place) }
     {
         self.writes += 1;
         self.written.insert(place)

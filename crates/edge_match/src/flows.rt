@@ -1,6 +1,6 @@
 //! Checks of the flows of a task.
 
-ghost use Rattle.std.specs.Prelude.{◌≡◌, ◌≢◌, ◌↔◌, ◌+◌, ◌≤◌, ◌&&◌, ℕ, IsTrue, Some, length, slice_get};
+ghost use Rattle.std.specs.Prelude.{◌≡◌, ◌≢◌, ◌↔◌, ◌+◌, ◌≤◌, ◌&&◌, IsTrue, Some, drop, length, slice_get};
 ghost use Rattle.ptg_base.specs.declared.place.Place.{Place as PlaceValue};
 ghost use Rattle.plan_core.specs.Place.{HasPlace};
 ghost use Rattle.dep_iter.specs.declared.source.Source.TheVariants as source_variant;
@@ -12,16 +12,14 @@ ghost use Rattle.dep_iter.specs.Tasks.{IsTask};
 ghost use Rattle.edge_match.specs.Counted.{Checked};
 ghost use Rattle.edge_match.specs.Marks.{flow_marks, flow_start, flows_marks};
 ghost use Rattle.edge_match.specs.declared.counted.Counted.{Counted as CountedValue};
-ghost use Rattle.edge_match.specs.declared.phase.Phase.TheVariants as phase;
 
-use crate::at::FlowAt;
 use crate::counted::Counted;
+use crate::dependences::check_dependences;
+use crate::direction::Direction;
 use crate::fault::{MatchCode, MatchFault};
-use crate::gathering::check_ins;
 use crate::phase::Phase;
-use crate::sending::check_outs;
-use crate::task_at::TaskAt;
-use dep_iter::{Source, data_source};
+use crate::task_at::{FlowAt, TaskAt};
+use dep_iter::{Source, data_source_under};
 use plan_core::{FlowPlan, Plan};
 use term_core::FlowKind;
 
@@ -37,40 +35,29 @@ fn takes_tile(kind: FlowKind) -> bool
     }
 }
 
-// Whether no in dependence of the flow with this source holds.
-fn is_nothing(source: &Source) -> bool
-    ensures { IsTrue result ↔ (source.now ≡ source_variant.Nothing) }
-{
-    match source {
-        Source::Task(_) => false,
-        Source::Place(_) => false,
-        Source::New => false,
-        Source::Null => false,
-        Source::Nothing => true,
-    }
-}
-
 // Whether an in dependence of a flow of this kind with this source holds, if one must.
 fn has_input(kind: FlowKind, source: &Source) -> bool
     ensures { IsTrue result ↔ (IsTrue (consistent.takes_tile kind) → source.now ≢ source_variant.Nothing) }
 {
-    if is_nothing(source) {
-        !takes_tile(kind)
-    } else {
-        true
+    match source {
+        Source::Task(_) => true,
+        Source::Place(_) => true,
+        Source::New => true,
+        Source::Null => true,
+        Source::Nothing => !takes_tile(kind),
     }
 }
 
-// Whether the source is `NULL`.
-fn is_null(source: &Source) -> bool
-    ensures { IsTrue result ↔ (source.now ≡ source_variant.Null) }
+// Whether the source is not `NULL`.
+fn has_tile(source: &Source) -> bool
+    ensures { IsTrue result ↔ (source.now ≢ source_variant.Null) }
 {
     match source {
-        Source::Task(_) => false,
-        Source::Place(_) => false,
-        Source::New => false,
-        Source::Null => true,
-        Source::Nothing => false,
+        Source::Task(_) => true,
+        Source::Place(_) => true,
+        Source::New => true,
+        Source::Null => false,
+        Source::Nothing => true,
     }
 }
 
@@ -87,22 +74,16 @@ fn has_place(plan: &Plan, source: &Source) -> bool
     }
 }
 
-// Whether the flow has a source, if it must, and the place of its source exists.
-fn connect_flow(at: &FlowAt, source: &Source) -> Result<(), MatchFault>
-    requires { source.now ≡ data_source_of at.now.plan.now at.now.task.now at.now.number }
-    ensures { (s : CountedValue) → Checked at.now.plan.now s s result (flow_start phase.Connecting at.now.plan.now at.now.task.now at.now.number at.now.flow.now) }
-{
-    at.require(has_input(at.flow.kind, source), MatchCode::NoInput)?;
-    at.require(has_place(at.plan, source), MatchCode::BadPlace)
-}
-
-// Checks the flow itself.
+// Whether the flow has a source, if it must, and the place of its source exists. It is checked in the first phase.
 fn start_flow(at: &FlowAt, source: &Source) -> Result<(), MatchFault>
     requires { source.now ≡ data_source_of at.now.plan.now at.now.task.now at.now.number }
     ensures { (s : CountedValue) → Checked at.now.plan.now s s result (flow_start at.now.phase at.now.plan.now at.now.task.now at.now.number at.now.flow.now) }
 {
     match at.phase {
-        Phase::Connecting => connect_flow(at, source),
+        Phase::Connecting => {
+            at.require(has_input(at.flow.kind, source), MatchCode::NoInput)?;
+            at.require(has_place(at.plan, source), MatchCode::BadPlace)
+        }
         Phase::Matching => Ok(()),
     }
 }
@@ -114,8 +95,8 @@ fn check_flow(at: &FlowAt, source: &Source, counted: &mut Counted) -> Result<(),
     ensures { Checked at.now.plan.now counted.old counted.new result (flow_marks at.now.phase at.now.plan.now at.now.task.now at.now.number at.now.flow.now) }
 {
     start_flow(at, source)?;
-    check_ins(at, 0, at.flow.ins.as_slice(), counted)?;
-    check_outs(at, 0, at.flow.outs.as_slice(), counted)
+    check_dependences(at, Direction::In, 0, at.flow.ins.as_slice(), counted)?;
+    check_dependences(at, Direction::Out, 0, at.flow.outs.as_slice(), counted)
 }
 
 // Checks the flow with this number of a task.
@@ -130,7 +111,7 @@ fn check_flow_of(
     requires fit { IsTrue (dependences_fit task.now.plan.now flow.now.ins && dependences_fit task.now.plan.now flow.now.outs) }
     ensures { Checked task.now.plan.now counted.old counted.new result (flow_marks task.now.phase task.now.plan.now task.now.task.now number flow.now) }
 {
-    let source = data_source(task.plan, task.task, number);
+    let source = data_source_under(task.plan, task.task, task.env, number);
     let at = FlowAt {
         phase: task.phase,
         plan: task.plan,
@@ -138,12 +119,12 @@ fn check_flow_of(
         env: task.env,
         number,
         flow,
-        absent: is_null(&source),
+        has_tile: has_tile(&source),
     };
     check_flow(&at, &source, counted)
 }
 
-// Checks these flows of a task, which are numbered from `number` on.
+// Checks these flows of a task; they are its last ones, numbered from `number` on.
 pub(crate) fn check_flows(
     task: &TaskAt,
     number: u8,
@@ -151,7 +132,7 @@ pub(crate) fn check_flows(
     counted: &mut Counted,
 ) -> Result<(), MatchFault>
     requires of_job { IsTask task.now.plan.now task.now.task.now }
-    requires here { (i : ℕ) → slice_get (tasks.flows_of task.now.plan.now task.now.task.now) (number + i) ≡ slice_get flows.now i }
+    requires last { drop number (tasks.flows_of task.now.plan.now task.now.task.now) ≡ flows.now }
     requires fit { IsTrue (flows_fit task.now.plan.now flows.now) }
     requires room { number + length flows.now ≤ 8 }
     ensures { Checked task.now.plan.now counted.old counted.new result (flows_marks task.now.phase task.now.plan.now task.now.task.now number flows.now) }

@@ -1,21 +1,18 @@
 //! Whether a job is consistent: each edge out of a task is one into its target and the other way round, and all that tasks need exists.
 #![tactic(auto)]
 
-mod at;
 mod counted;
 mod counting;
-mod ends;
+mod dependences;
+mod direction;
+mod edges;
 mod fault;
 mod flows;
-mod gathering;
-mod ins;
 mod laws;
 mod matching;
 mod named;
-mod outs;
 mod phase;
 mod refusing;
-mod sending;
 mod task_at;
 mod tasks;
 

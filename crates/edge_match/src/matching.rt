@@ -1,13 +1,13 @@
 //! Whether a plan is consistent, or its first fault.
 
-ghost use Rattle.std.specs.Prelude.{◌≡◌, ◌+◌, ◌<◌, ◌^◌, Err, IfErr, IfOk, IsTrue, MatchResult, OnOk, length};
+ghost use Rattle.std.specs.Prelude.{◌≡◌, ◌+◌, ◌<◌, ◌^◌, ◌⊎◌, Err, IfErr, IfOk, IsTrue, MatchResult, length};
 ghost use Rattle.plan_core.specs.declared.plan.Plan.{Plan as PlanValue};
 ghost use Rattle.dep_iter.specs.Consistent.{HasCounts, IsConsistent};
 ghost use Rattle.dep_iter.specs.Tasks.{all_tasks};
-ghost use Rattle.edge_match.specs.Counted.{AreCounts, Checked, CountsRoots, IsCounted, IsRefusalOf};
+ghost use Rattle.edge_match.specs.Counted.{AreCounts, IsCounted, IsRefusalOf, WentOver};
 ghost use Rattle.edge_match.specs.Faults as faults;
 ghost use Rattle.edge_match.specs.FirstFault.{IsFirstFailure, IsFirstFault};
-ghost use Rattle.edge_match.specs.Marks.{AllPass, marks, nothing, phase_marks};
+ghost use Rattle.edge_match.specs.Marks.{AllPass, marks, nothing};
 ghost use Rattle.edge_accept.specs.Written.{FitsShapes, is_written};
 ghost use Rattle.edge_match.specs.declared.fault.MatchFault.{MatchFault as MatchFaultValue};
 ghost use Rattle.edge_match.specs.declared.fault.MatchRefusal.TheVariants as refusal;
@@ -55,8 +55,7 @@ fn check_phase(
     roots: &mut u64,
 ) -> Result<(), MatchFault>
     requires { roots.old + length (all_tasks plan.now) < 2 ^ 64 }
-    ensures checked { Checked plan.now counted.old counted.new result (phase_marks phase plan.now) }
-    ensures roots { OnOk result (CountsRoots phase plan.now counted.old (all_tasks plan.now) roots.old roots.new) }
+    ensures { WentOver plan.now phase counted.old counted.new roots.old roots.new result (all_tasks plan.now) }
 {
     check_classes(phase, plan, 0, counted, roots)
 }
@@ -127,6 +126,8 @@ pub fn match_edges(alloc: Global, plan: Plan) -> Result<Matched, (MatchRefusal, 
     ensures back { IfErr result (λ e. e.1 ≡ plan) }
     ensures fault { (f : MatchFaultValue) (p : PlanValue) → result ≡ Err (refusal.Fault f, p) → IsFirstFault plan f }
     ensures only_inconsistent { IsConsistent plan → (f : MatchFaultValue) (p : PlanValue) → result ≡ Err (refusal.Fault f, p) → ⊥ }
+    // A plan with a first fault is refused with it, unless memory runs out.
+    ensures refused { (f : MatchFaultValue) → IsFirstFault plan f → (result ≡ Err (refusal.Fault f, plan)) ⊎ (result ≡ Err (refusal.OutOfMemory, plan)) }
 {
     a_consistent_plan_has_no_fault();
     match check_plan(alloc, &plan) {

@@ -1,7 +1,12 @@
 //! Faults of tasks.
 
-ghost use Rattle.std.specs.Prelude.{◌≡◌, ◌+◌, ◌≤◌, ◌++◌, length, IsTrue, MatchResult};
+ghost use Rattle.std.specs.Prelude.{◌≡◌, ◌+◌, ◌≤◌, ◌++◌, ◌∷◌, [], IfOk, IsTrue, length};
+ghost use Rattle.plan_core.specs.declared.plan.Plan.{Plan as PlanValue};
+ghost use Rattle.edge_match.specs.Counted.{Checked, Decides};
 ghost use Rattle.edge_match.specs.Faults.{fault_at};
+ghost use Rattle.edge_match.specs.FirstFault.{code_of, flow_at};
+ghost use Rattle.edge_match.specs.Marks.{Check, mark};
+ghost use Rattle.edge_match.specs.declared.counted.Counted.{Counted as CountedValue};
 
 use crate::fault::{MatchCode, MatchFault};
 use ptg_base::TaskId;
@@ -33,14 +38,15 @@ pub(crate) fn fault_of(code: MatchCode, t: &TaskId, flow: Option<u8>) -> MatchFa
     }
 }
 
-// An error with this code where this is not so of a task, or of one of its flows.
+// An error with this code where a test of a task, or of one of its flows, does not hold.
 pub(crate) fn require(
     holds: bool,
     code: MatchCode,
     t: &TaskId,
     flow: Option<u8>,
 ) -> Result<(), MatchFault>
-    ensures { MatchResult result (λ _. IsTrue holds) (λ f. (IsTrue holds → ⊥) × (f ≡ fault_at code t.now flow)) }
+    ensures holds { IfOk result (λ _. IsTrue holds) }
+    ensures checked { (P : PlanValue) (c : Check) (s u : CountedValue) → Decides P s u holds c → code_of c ≡ code → flow_at P flow c ≡ flow → Checked P s u result (mark t.now flow c ∷ []) }
 {
     if holds {
         Ok(())

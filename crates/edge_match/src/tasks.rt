@@ -1,14 +1,13 @@
 //! Checks of all tasks.
 
-ghost use Rattle.std.specs.Prelude.{◌≡◌, ◌<◌, ◌≤◌, ◌+◌, ◌^◌, ◌∷◌, [], None, OnOk, List, Some, drop, flat_map, length, map, slice_get};
+ghost use Rattle.std.specs.Prelude.{◌≡◌, ◌<◌, ◌+◌, ◌^◌, ◌∷◌, [], None, Some, drop, length, map, slice_get};
 ghost use Rattle.term_core.specs.declared.space.ClassSpace.{ClassSpace as ClassSpaceValue};
 ghost use Rattle.term_core.specs.WellSpace.{IsWellSpace};
 ghost use Rattle.range_space.specs.Tasks as range;
 ghost use Rattle.dep_iter.specs.Tasks.{IsTask, task, tasks_from};
-ghost use Rattle.edge_match.specs.Counted.{Checked, CountsRoots};
+ghost use Rattle.edge_match.specs.Counted.{Checked, WentOver};
 ghost use Rattle.edge_match.specs.Marks.{HasValues, mark, task_marks, task_start};
 ghost use Rattle.edge_match.specs.declared.counted.Counted.{Counted as CountedValue};
-ghost use Rattle.edge_match.specs.declared.phase.Phase.TheVariants as phase_variant;
 
 use crate::counted::Counted;
 use crate::fault::{MatchCode, MatchFault};
@@ -16,44 +15,35 @@ use crate::flows::check_flows;
 use crate::phase::Phase;
 use crate::refusing::{fault_of, require};
 use crate::task_at::TaskAt;
-use dep_iter::{affinity, flows_of, locals_of, well_task};
+use dep_iter::{affinity_under, flows_of, locals_of, well_task_under};
 use plan_core::Plan;
 use ptg_base::TaskId;
 use range_space::Space;
 use term_core::ClassSpace;
 
 // Whether each expression that the task needs has a value.
-fn check_values(plan: &Plan, t: &TaskId) -> Result<(), MatchFault>
-    requires { IsTask plan.now t.now }
-    ensures { (s : CountedValue) → Checked plan.now s s result (mark t.now None (HasValues t.now) ∷ []) }
+fn check_values(task: &TaskAt) -> Result<(), MatchFault>
+    requires of_job { IsTask task.now.plan.now task.now.task.now }
+    ensures { (s : CountedValue) → Checked task.now.plan.now s s result (mark task.now.task.now None (HasValues task.now.task.now) ∷ []) }
 {
-    match well_task(plan, t) {
+    match well_task_under(task.plan, task.task, task.env) {
         Ok(()) => Ok(()),
-        Err(ill) => Err(fault_of(MatchCode::BadExpr, t, ill.flow)),
+        Err(ill) => Err(fault_of(MatchCode::BadExpr, task.task, ill.flow)),
     }
 }
 
-// Whether each expression that the task needs has a value, and the place of its affinity exists.
-fn connect_task(plan: &Plan, t: &TaskId) -> Result<(), MatchFault>
-    requires { IsTask plan.now t.now }
-    ensures { (s : CountedValue) → Checked plan.now s s result (task_start phase_variant.Connecting plan.now t.now) }
+// Whether each expression that the task needs has a value, and the place of its affinity exists. It is checked in the first phase.
+fn start_task(task: &TaskAt) -> Result<(), MatchFault>
+    requires of_job { IsTask task.now.plan.now task.now.task.now }
+    ensures { (s : CountedValue) → Checked task.now.plan.now s s result (task_start task.now.phase task.now.plan.now task.now.task.now) }
 {
-    check_values(plan, t)?;
-    require(
-        plan.has_place(&affinity(plan, t)),
-        MatchCode::BadPlace,
-        t,
-        None,
-    )
-}
-
-// Checks the task itself.
-fn start_task(phase: Phase, plan: &Plan, t: &TaskId) -> Result<(), MatchFault>
-    requires { IsTask plan.now t.now }
-    ensures { (s : CountedValue) → Checked plan.now s s result (task_start phase plan.now t.now) }
-{
-    match phase {
-        Phase::Connecting => connect_task(plan, t),
+    match task.phase {
+        Phase::Connecting => {
+            check_values(task)?;
+            let place = affinity_under(task.plan, task.task, task.env);
+            let exists = task.plan.has_place(&place);
+            require(exists, MatchCode::BadPlace, task.task, None)
+        }
         Phase::Matching => Ok(()),
     }
 }
@@ -68,7 +58,6 @@ fn check_task(
     requires { IsTask plan.now t.now }
     ensures { Checked plan.now counted.old counted.new result (task_marks phase plan.now t.now) }
 {
-    start_task(phase, plan, t)?;
     let env = locals_of(plan, t);
     let task = TaskAt {
         phase,
@@ -76,6 +65,7 @@ fn check_task(
         task: t,
         env: env.as_slice(),
     };
+    start_task(&task)?;
     check_flows(&task, 0, flows_of(plan, t), counted)
 }
 
@@ -99,9 +89,7 @@ fn check_next(
 ) -> Result<(), MatchFault>
     requires task { IsTask plan.now t.now }
     requires room { roots.old + 1 < 2 ^ 64 }
-    ensures checked { Checked plan.now counted.old counted.new result (task_marks phase plan.now t.now) }
-    ensures at_most { roots.new ≤ roots.old + 1 }
-    ensures roots { OnOk result (CountsRoots phase plan.now counted.old (t.now ∷ []) roots.old roots.new) }
+    ensures { WentOver plan.now phase counted.old counted.new roots.old roots.new result (t.now ∷ []) }
 {
     let before = counted.ins;
     check_task(phase, plan, t, counted)?;
@@ -121,9 +109,7 @@ fn check_class(
 ) -> Result<(), MatchFault>
     requires class { class < length plan.now.classes }
     requires room { (s : ClassSpaceValue) → slice_get plan.now.spaces class ≡ Some s → roots.old + length (range.tasks s) < 2 ^ 64 }
-    ensures checked { (s : ClassSpaceValue) → slice_get plan.now.spaces class ≡ Some s → Checked plan.now counted.old counted.new result (flat_map (task_marks phase plan.now) (map (task class) (range.tasks s))) }
-    ensures at_most { (s : ClassSpaceValue) → slice_get plan.now.spaces class ≡ Some s → OnOk result (roots.new ≤ roots.old + length (range.tasks s)) }
-    ensures roots { (s : ClassSpaceValue) → slice_get plan.now.spaces class ≡ Some s → OnOk result (CountsRoots phase plan.now counted.old (map (task class) (range.tasks s)) roots.old roots.new) }
+    ensures { (s : ClassSpaceValue) → slice_get plan.now.spaces class ≡ Some s → WentOver plan.now phase counted.old counted.new roots.old roots.new result (map (task class) (range.tasks s)) }
 {
     let space = space_of(plan, class);
     for params in Space::new(space) {
@@ -141,9 +127,8 @@ pub(crate) fn check_classes(
     counted: &mut Counted,
     roots: &mut u64,
 ) -> Result<(), MatchFault>
-    requires { (ss : List ClassSpaceValue) → drop class plan.now.spaces ≡ ss → roots.old + length (tasks_from class ss) < 2 ^ 64 }
-    ensures checked { (ss : List ClassSpaceValue) → drop class plan.now.spaces ≡ ss → Checked plan.now counted.old counted.new result (flat_map (task_marks phase plan.now) (tasks_from class ss)) }
-    ensures roots { (ss : List ClassSpaceValue) → drop class plan.now.spaces ≡ ss → OnOk result (CountsRoots phase plan.now counted.old (tasks_from class ss) roots.old roots.new) }
+    requires { roots.old + length (tasks_from class (drop class plan.now.spaces)) < 2 ^ 64 }
+    ensures { WentOver plan.now phase counted.old counted.new roots.old roots.new result (tasks_from class (drop class plan.now.spaces)) }
 {
     if class as usize >= plan.classes.len() {
         return Ok(());

@@ -15,7 +15,7 @@ use Rattle.plan_core.specs.Kinds.{is_data, is_writable}
 use Rattle.plan_core.specs.Bodies.{reads_data, respects_kinds}
 use Rattle.body_names.specs.declared.meaning.Meaning.{Meaning}
 use Rattle.body_names.specs.declared.meaning.Meaning.TheVariants as meaning
-use Rattle.body_names.specs.declared.scope.Scope.{Scope}
+use Rattle.body_names.specs.Environment.{Environment}
 use Rattle.body_names.specs.declared.scope.FlowName.{FlowName}
 use Rattle.body_names.specs.declared.variable.Variable.{Variable}
 use Rattle.body_names.specs.Meanings.{meaning_of, flow_named}
@@ -26,10 +26,10 @@ use Rattle.body_names.proofs.Well.{both}
 use Rattle.flow_check.proofs.BodyParts.{Good, after_good, past, good_then}
 
 -- the kinds of the flows
-abbrev pub kinds_of : Scope → List FlowKind
+abbrev pub kinds_of : Environment → List FlowKind
 kinds_of scope = map (λ (x : FlowName). x.kind) scope.flows
 
-module _ (scope : Scope) where
+module _ (scope : Environment) where
   -- ---- flows
 
   abbrev IsUse : (Option FlowKind → Bool) → (Word → FlowKind → ℕ → Resolved ℕ) → Type 0

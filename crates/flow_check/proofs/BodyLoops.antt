@@ -13,16 +13,16 @@ use Rattle.jdf_tree.specs.Statements.{Statements, Done, DeclareThen, SetThen, Pu
 use Rattle.plan_core.specs.Bodies.{never_sets, keeps_loop_variables}
 use Rattle.body_names.specs.declared.meaning.Meaning.{Meaning}
 use Rattle.body_names.specs.declared.meaning.Meaning.TheVariants as meaning
-use Rattle.body_names.specs.declared.scope.Scope.{Scope}
+use Rattle.body_names.specs.Environment.{Environment}
 use Rattle.body_names.specs.declared.variable.Variable.{Variable}
-use Rattle.body_names.specs.Meanings.{last_named, variable_or, local_named, local_or, integer_named, integer_or, has_collection, collection_or_nothing, meaning_of}
+use Rattle.body_names.specs.Meanings.{last_named, variable_or, local_named, local_or, integer_or, collection_or_nothing, meaning_of}
 use Rattle.body_names.specs.Expressions.{Resolved, slot_of, written_flow, term_of}
 use Rattle.body_names.specs.Bindings.{Bindings, block_opened, next_slot, with_variable, room_for, fresh_in, numbered}
 use Rattle.body_names.specs.Statements.{Resolver, declare, set, put, in_block, if_else, for_loop, trap, follow, resolved}
 use Rattle.body_names.proofs.Well.{both}
 use Rattle.flow_check.proofs.BodyParts.{Good, after_good, past, good_both, all_append, all_take, all_map, all_last}
 
-module _ (scope : Scope) where
+module _ (scope : Environment) where
   -- ---- a variable that is not set
 
   module _ (v : ℕ) where
@@ -56,9 +56,9 @@ module _ (scope : Scope) where
 
     slot_good : (w : Word) (seen : List Variable) → AllByRecursion IsOther seen → Good (λ n. n ≢ v) (slot_of w (meaning_of scope seen w.text))
     slot_good w seen h =
-        variable_set w (last_named seen w.text) (local_or (local_named scope w.text) (integer_or (integer_named scope w.text) (collection_or_nothing (has_collection scope w.text))))
+        variable_set w (last_named seen w.text) (local_or (local_named scope w.text) (integer_or (scope.integer w.text) (collection_or_nothing (scope.is_collection w.text))))
         (λ u e. all_last IsOther (λ (x : Variable). bytes_eq x.name w.text) seen u h e)
-        (local_set w (local_named scope w.text) (integer_or (integer_named scope w.text) (collection_or_nothing (has_collection scope w.text))) (integer_set w (integer_named scope w.text) (has_collection scope w.text)))
+        (local_set w (local_named scope w.text) (integer_or (scope.integer w.text) (collection_or_nothing (scope.is_collection w.text))) (integer_set w (scope.integer w.text) (scope.is_collection w.text)))
 
     abbrev never : Stmt → Bool
     never (stmt.Set n e) = not (n == v)

@@ -83,7 +83,3 @@ resolved job r s gs h step e = go s (subst (λ l. ReturnsChecked {A = Plans} s (
     go (Ok x) k = record { bodies = h.bodies; read = h.read; no_fault = k.1; meant = k.0 }
     go (Err (Fault f)) k = record { bodies = h.bodies; read = h.read; first = k }
     go (Err OutOfMemory) k = tt
-
--- before the first class
-pub none_read : (job : Job) (xs : List ClassPlan) (ys : List ClassSpace) → xs ≡ [] → ys ≡ [] → AreRead job [] (Ok (xs, ys))
-none_read job xs ys e f = record { bodies = []; read = tt; checked = (λ i. Some (sym e i, sym f i), refl) }

@@ -1,6 +1,6 @@
 pub mod Tables
-pub mod Folds
-pub mod Globals
+pub mod GlobalTables
+pub mod DeclaredGlobals
 pub mod Heads
 pub mod ClassesRead
 pub mod Counts

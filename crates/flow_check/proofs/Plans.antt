@@ -1,46 +1,59 @@
 -- A JDF and its data have one plan at most.
-use Rattle.std.proofs.Common.{◌≡◌, ℕ, List, Result, Ok, Err, ◌⊎◌, inl, inr, refl, ap, subst}
+use Rattle.std.proofs.Common.{◌≡◌, ℕ, List, map, Result, Ok, Err, ◌⊎◌, inl, inr, refl, sym, ◌∙◌, ap, subst}
 use Rattle.std.proofs.Props.{props}
 use Rattle.ptg_base.specs.declared.refusal.Refusal.{Refusal}
 use Rattle.ptg_base.specs.declared.refusal.Refusal.TheVariants.{Fault, OutOfMemory}
 use Rattle.term_core.specs.declared.space.ClassSpace.{ClassSpace}
+use Rattle.coll_data.specs.WellMade.{elements_by_type}
+use Rattle.plan_data.specs.Fit.{shape_of}
 use Rattle.plan_core.specs.declared.class.ClassPlan.{ClassPlan}
 use Rattle.plan_core.specs.declared.shape.Shape.{Shape}
 use Rattle.plan_core.specs.declared.plan.Plan.{Plan}
 use Rattle.plan_core.specs.WellMade.{IsWellMade}
 use Rattle.check_names.specs.Alphabet.{JdfFault}
 use Rattle.check_names.specs.Names.{Job}
-use Rattle.flow_check.specs.declared.parts.Parts.{Parts}
 use Rattle.flow_check.specs.Check.{IsFirstFault}
-use Rattle.flow_check.specs.Plans.{parts_of, IsPlan, ReturnsPlan}
-use Rattle.flow_check.specs.Laws.{PartsMakeAPlan, OnePlan, PlanHasNoFault}
-use Rattle.flow_check.proofs.Unique.{one_resolved, one_first_fault, resolved_has_no_fault}
+use Rattle.flow_check.specs.Plans.{IsPlan, ReturnsPlan}
+use Rattle.flow_check.specs.Laws.{ResolvedIsAPlan, OnePlan, PlanHasNoFault}
+use Rattle.flow_check.proofs.Unique.{same_classes, one_first_fault, resolved_has_no_fault}
 use Rattle.flow_check.proofs.WellPlans.{well_plan}
 
--- parts are well made in one way
+-- what a plan is made of, and what makes it well made
+abbrev Lists : Type 0
+Lists = (List ClassPlan × List ClassSpace) × (List Shape × List ℕ)
+
+abbrev lists_of : Plan → Lists
+lists_of p = ((p.classes, p.spaces), (p.colls, p.elems))
+
+abbrev AreWell : Lists → Type 0
+AreWell x = IsWellMade x.0.0 x.0.1 x.1.0 x.1.1
+
+-- lists are well made in one way
 well_once : (classes : List ClassPlan) (spaces : List ClassSpace) (colls : List Shape) (elems : List ℕ) → IsProp (IsWellMade classes spaces colls elems)
 well_once classes spaces colls elems = hlevel props
 
-abbrev WellParts : Parts → Type 0
-WellParts x = IsWellMade x.classes x.spaces x.colls x.elems
+abbrev plan_from : (x : Lists) → AreWell x → Plan
+plan_from x h = record { classes = x.0.0; spaces = x.0.1; colls = x.1.0; elems = x.1.1; well_made = h }
 
-abbrev plan_from : (x : Parts) → WellParts x → Plan
-plan_from x h = record { classes = x.classes; spaces = x.spaces; colls = x.colls; elems = x.elems; well_made = h }
-
--- plans with the same parts are one
-same_plan : (p q : Plan) → parts_of p ≡ parts_of q → p ≡ q
+-- plans with the same lists are one
+same_plan : (p q : Plan) → lists_of p ≡ lists_of q → p ≡ q
 same_plan p q e =
-    subst (λ x. (h : WellParts x) → plan_from (parts_of p) p.well_made ≡ plan_from x h) e
-    (λ h. ap (plan_from (parts_of p)) (well_once p.classes p.spaces p.colls p.elems p.well_made h)) q.well_made
+    subst (λ x. (h : AreWell x) → plan_from (lists_of p) p.well_made ≡ plan_from x h) e
+    (λ h. ap (plan_from (lists_of p)) (well_once p.classes p.spaces p.colls p.elems p.well_made h)) q.well_made
 
-pub plan_there : PartsMakeAPlan
-plan_there job x within data_well h = (plan_from x (well_plan job x within data_well h), h)
+pub plan_there : ResolvedIsAPlan
+plan_there job classes spaces within data_well h =
+    (plan_from ((classes, spaces), (map shape_of job.given.colls, elements_by_type job.given)) (well_plan job classes spaces within data_well h), record { resolved = h; fit = record { collections = refl; elements = refl } })
 
 pub one_plan : OnePlan
-one_plan job p q h k = same_plan p q (one_resolved job (parts_of p) (parts_of q) h k)
+one_plan job p q h k =
+    let classes = same_classes job (p.classes, p.spaces) (q.classes, q.spaces) h.resolved k.resolved in
+    let colls = sym h.fit.collections ∙ k.fit.collections in
+    let elems = sym h.fit.elements ∙ k.fit.elements in
+    same_plan p q (λ i. (classes i, (colls i, elems i)))
 
 pub a_plan_has_no_fault : PlanHasNoFault
-a_plan_has_no_fault job p f h k = resolved_has_no_fault job (parts_of p) f h k
+a_plan_has_no_fault job p f h k = resolved_has_no_fault job p.classes p.spaces f h.resolved k
 
 pub only_plan : (job : Job) (r : Result Plan (Refusal JdfFault)) → ReturnsPlan job r → (p : Plan) → IsPlan job p → (r ≡ Ok p) ⊎ (r ≡ Err OutOfMemory)
 only_plan job (Ok q) h p k = inl (ap (λ z. Ok z) (one_plan job q p h k))

@@ -1,8 +1,6 @@
--- What breaks no rule is resolved: the parts of a class, classes, and the parts of a plan.
-use Rattle.std.proofs.Common.{◌≡◌, List, [], ◌∷◌, ◌++◌, flat_map, map, Option, Some, None, Ok, Err, inl, inr, refl}
+-- What breaks no rule is resolved: the parts of a class, classes, and all of a JDF.
+use Rattle.std.proofs.Common.{◌≡◌, List, [], ◌∷◌, ◌++◌, flat_map, Option, Some, None, Ok, Err, inl, inr, refl}
 use Rattle.std.specs.Option.{IsSome}
-use Rattle.coll_data.specs.WellMade.{elements_by_type}
-use Rattle.plan_data.specs.Fit.{shape_of}
 use Rattle.check_names.specs.Alphabet.{JdfFault, DefTree, FlowTree, ClassTree, NameTwice}
 use Rattle.check_names.specs.Faults.{first_fault}
 use Rattle.check_names.specs.Returns.{both}
@@ -19,10 +17,9 @@ use Rattle.check_flows.specs.Dependences.{flow_faults, flow_plan}
 use Rattle.check_flows.proofs.Resolved.{element_there, flow_is_there}
 use Rattle.flow_check.specs.Bodies.{BodyResult, body_faults, body_of}
 use Rattle.flow_check.specs.Classes.{flows_of, flows_faults, head_of, head_faults, class_from, class_plan, class_faults}
-use Rattle.flow_check.specs.Check.{ReadBodies, classes_faults, classes_plan, names_faults, faults_of, ArePartsOf}
-use Rattle.flow_check.specs.declared.parts.Parts.{Parts}
+use Rattle.flow_check.specs.Check.{ReadBodies, classes_faults, classes_plan, names_faults, faults_of, AreResolved}
 use Rattle.flow_check.specs.Laws.{HasPlanOrFault, EachHasPlanOrFault}
-use Rattle.flow_check.proofs.ClassesRead.{plan_first}
+use Rattle.flow_check.proofs.ClassesRead.{Plans, plan_first}
 use Rattle.flow_check.proofs.Plans.{plan_there}
 use Rattle.flow_check.proofs.Readings.{bodies_read}
 
@@ -61,12 +58,10 @@ classes_there job (c ∷ classes) (b ∷ bodies) read h =
 
 -- ---- the job
 
-parts_there : (job : Job) (bodies : List BodyResult) → ReadBodies job job.jdf.classes bodies → faults_of job bodies ≡ [] → (x : Parts) × ArePartsOf job x
-parts_there job bodies read h =
-    let classes = some_value (classes_plan job job.jdf.classes bodies) (classes_there job job.jdf.classes bodies read (first_nil (classes_faults job job.jdf.classes bodies) (names_faults job) h)) in (
-      record { classes = classes.0.0; spaces = classes.0.1; colls = map shape_of job.given.colls; elems = elements_by_type job.given },
-      record { resolved = record { bodies = bodies; read = read; no_fault = h; meant = classes.1 }; fit = record { collections = refl; elements = refl } },
-    )
+resolved_there : (job : Job) (bodies : List BodyResult) → ReadBodies job job.jdf.classes bodies → faults_of job bodies ≡ [] → (x : Plans) × AreResolved job x.0 x.1
+resolved_there job bodies read h =
+    let classes = some_value (classes_plan job job.jdf.classes bodies) (classes_there job job.jdf.classes bodies read (first_nil (classes_faults job job.jdf.classes bodies) (names_faults job) h)) in
+    (classes.0, record { bodies = bodies; read = read; no_fault = h; meant = classes.1 })
 
 -- a job has a plan, or a first fault
 pub plan_or_first_fault : EachHasPlanOrFault
@@ -77,4 +72,4 @@ plan_or_first_fault job within data_well = go (first_fault (faults_of job bodies
 
     go : (o : Option JdfFault) → first_fault (faults_of job bodies.0) ≡ o → HasPlanOrFault job
     go (Some f) e = inr (f, record { bodies = bodies.0; read = bodies.1; first = e })
-    go None e = let x = parts_there job bodies.0 bodies.1 (first_none (faults_of job bodies.0) e) in inl (plan_there job x.0 within data_well x.1)
+    go None e = let x = resolved_there job bodies.0 bodies.1 (first_none (faults_of job bodies.0) e) in inl (plan_there job x.0.0 x.0.1 within data_well x.1)

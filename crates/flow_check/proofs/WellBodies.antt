@@ -5,7 +5,7 @@ use Rattle.term_core.specs.declared.body.Body.{Body}
 use Rattle.term_core.specs.StatementList.{StatementList}
 use Rattle.term_core.specs.WellBody.{IsWellBody}
 use Rattle.plan_core.specs.Bodies.{respects_kinds, has_words, keeps_loop_variables}
-use Rattle.body_names.specs.declared.scope.Scope.{Scope}
+use Rattle.body_names.specs.Environment.{Environment}
 use Rattle.body_names.specs.Bindings.{Bindings, no_bindings}
 use Rattle.body_names.specs.Expressions.{Resolved}
 use Rattle.body_names.specs.Statements.{resolved}
@@ -22,19 +22,19 @@ use Rattle.flow_check.proofs.BodyWords.{words_there}
 abbrev Read : Type 0
 Read = Body × List (List ℕ)
 
-abbrev body_from : Scope → StatementList × Bindings → Read
+abbrev body_from : Environment → StatementList × Bindings → Read
 body_from scope x = (record { statements = x.0; slots = length scope.locals + x.1.declared }, x.1.words)
 
 read_once : (x y : Read) → (let a : Resolved Read = Ok x in let b : Resolved Read = Ok y in a ≡ b) → x ≡ y
 read_once x y e = cc
 
 -- what a plan needs of the body of a class
-pub record IsFitBody (scope : Scope) (y : Read) : Type 0 where
+pub record IsFitBody (scope : Environment) (y : Read) : Type 0 where
   pub well : IsWellBody (length scope.locals) (length scope.flows) y.0
   pub kinds : IsTrue (respects_kinds (kinds_of scope) y.0.statements)
   pub loops : IsTrue (keeps_loop_variables y.0.statements)
 
-pub fit_body : (scope : Scope) (tokens : List Token) (y : Read) → IsBody scope tokens y → IsFitBody scope y
+pub fit_body : (scope : Environment) (tokens : List Token) (y : Read) → IsBody scope tokens y → IsFitBody scope y
 fit_body scope tokens y h =
     let r = after_ok (resolved scope h.tree no_bindings) (λ (x : StatementList × Bindings). Ok (body_from scope x)) y h.named in
     let kinds = good_of (λ (x : StatementList × Bindings). respects_kinds (kinds_of scope) x.0 ≡ true) (resolved scope h.tree no_bindings) r.0 (kinds_respected scope h.tree no_bindings) r.1 in
@@ -42,5 +42,5 @@ fit_body scope tokens y h =
     subst (IsFitBody scope) (read_once (body_from scope r.0) y r.2)
     (record { well = (whole_well scope h.tree r.0 r.1).1; kinds = kinds; loops = loops.0 })
 
-pub fit_words : (scope : Scope) (tokens : List Token) (y : Read) → IsBody scope tokens y → IsTrue (has_words (length y.1) y.0.statements)
+pub fit_words : (scope : Environment) (tokens : List Token) (y : Read) → IsBody scope tokens y → IsTrue (has_words (length y.1) y.0.statements)
 fit_words scope tokens y h = words_there y.1 y.0.statements (words_of h.tree) (own_words scope h.tree y h.named)

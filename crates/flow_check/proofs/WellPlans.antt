@@ -25,10 +25,10 @@ use Rattle.check_flows.specs.Dependences.{flow_plan}
 use Rattle.check_flows.specs.PartsOfJob.{HaveParts}
 use Rattle.check_flows.proofs.Elements.{at_index}
 use Rattle.check_flows.proofs.WellFlows.{flow_is}
-use Rattle.flow_check.specs.declared.parts.Parts.{Parts}
+use Rattle.flow_check.specs.Laws.{ResolvedIsWellMade}
 use Rattle.flow_check.specs.Bodies.{BodyResult, ReadsBody}
 use Rattle.flow_check.specs.Classes.{class_plan, class_faults}
-use Rattle.flow_check.specs.Check.{ReadBodies, classes_faults, classes_plan, names_faults, AreResolved, ArePartsOf}
+use Rattle.flow_check.specs.Check.{ReadBodies, classes_faults, classes_plan, names_faults, AreResolved}
 use Rattle.flow_check.proofs.BodyWords.{get_below}
 use Rattle.flow_check.proofs.ClassesRead.{Plans, plan_first}
 use Rattle.flow_check.proofs.WellClasses.{IsClassOf, class_of, params_count, well_class}
@@ -164,8 +164,6 @@ module _ (job : Job) (classes : List ClassPlan) (spaces : List ClassSpace) (reso
         tile_lengths = data_well.element_counts;
       }
 
--- what a JDF within its limits and its data resolve to is a plan
-pub well_plan : (job : Job) (parts : Parts) → IsWithinLimits job.jdf → well_data.IsWellMade job.given → ArePartsOf job parts → IsWellMade parts.classes parts.spaces parts.colls parts.elems
-well_plan job parts within data_well h =
-    subst (λ e. IsWellMade parts.classes parts.spaces parts.colls e) h.fit.elements
-    (subst (λ c. IsWellMade parts.classes parts.spaces c (elements_by_type job.given)) h.fit.collections (well_parts job parts.classes parts.spaces h.resolved within data_well))
+-- what a JDF within its limits and its data resolve to is well made
+pub well_plan : ResolvedIsWellMade
+well_plan job classes spaces within data_well h = well_parts job classes spaces h within data_well

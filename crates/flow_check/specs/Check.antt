@@ -1,11 +1,9 @@
--- The plan of a JDF and its data, and the first fault. Source: PaRSEC 2013 and the JDF documentation; that the first fault of the whole text is named is this project's own choice.
+-- The classes of a JDF with its data, and the first fault. Source: PaRSEC 2013 and the JDF documentation; that the first fault of the whole text is named is this project's own choice.
 use Rattle.std.specs.Prelude.{◌≡◌, List, [], ◌∷◌, ◌++◌, Option, Some, None, Result, Ok, Err}
 use Rattle.term_core.specs.declared.space.ClassSpace.{ClassSpace}
 use Rattle.plan_core.specs.declared.class.ClassPlan.{ClassPlan}
 use Rattle.ptg_base.specs.declared.refusal.Refusal.{Refusal}
 use Rattle.ptg_base.specs.declared.refusal.Refusal.TheVariants.{Fault, OutOfMemory}
-use Rattle.plan_data.specs.Fit.{DataFit}
-use Rattle.flow_check.specs.declared.parts.Parts.{Parts}
 use Rattle.check_names.specs.Alphabet.{JdfFault, Word, ClassTree, NameTwice}
 use Rattle.check_names.specs.Faults.{first_fault}
 use Rattle.check_names.specs.Returns.{ReturnsChecked, both}
@@ -71,14 +69,3 @@ abbrev pub ReturnsResolved : Job → Result (List ClassPlan × List ClassSpace) 
 ReturnsResolved job (Ok x) = AreResolved job x.0 x.1
 ReturnsResolved job (Err (Fault f)) = IsFirstFault job f
 ReturnsResolved job (Err OutOfMemory) = Unit {0}
-
--- What a plan is made of: the classes with their spaces, the shapes of the collections, and the numbers of elements by type.
-pub record ArePartsOf (job : Job) (parts : Parts) : Type 0 where
-  pub resolved : AreResolved job parts.classes parts.spaces
-  pub fit : DataFit parts.colls parts.elems job.given
-
--- The result of resolving a JDF and its data: the parts of a plan, or the first fault, unless there was no memory.
-abbrev pub ReturnsParts : Job → Result Parts (Refusal JdfFault) → Type 0
-ReturnsParts job (Ok parts) = ArePartsOf job parts
-ReturnsParts job (Err (Fault f)) = IsFirstFault job f
-ReturnsParts job (Err OutOfMemory) = Unit {0}

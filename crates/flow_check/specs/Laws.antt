@@ -1,37 +1,33 @@
--- What follows from the definitions of the parts of a plan and of the first fault.
-use Rattle.std.specs.Prelude.{◌≡◌, ◌⊎◌, []}
+-- What follows from the definitions of the plan and of the first fault.
+use Rattle.std.specs.Prelude.{◌≡◌, ◌⊎◌, List, [], map}
 use Rattle.std.specs.Option.{IsSome}
 use Rattle.jdf_tree.specs.TreeLimits.{IsClassWithinLimits, IsWithinLimits}
+use Rattle.term_core.specs.declared.space.ClassSpace.{ClassSpace}
 use Rattle.coll_data.specs.WellMade as well_data
+use Rattle.coll_data.specs.WellMade.{elements_by_type}
 use Rattle.plan_core.specs.WellMade.{IsWellMade}
+use Rattle.plan_core.specs.declared.class.ClassPlan.{ClassPlan}
 use Rattle.plan_core.specs.declared.plan.Plan.{Plan}
+use Rattle.plan_data.specs.Fit.{shape_of}
 use Rattle.check_names.specs.Alphabet.{JdfFault, ClassTree}
 use Rattle.check_names.specs.Names.{Job}
-use Rattle.flow_check.specs.declared.parts.Parts.{Parts}
 use Rattle.flow_check.specs.Bodies.{BodyResult, ReadsBody}
 use Rattle.flow_check.specs.Classes.{class_plan, class_faults}
-use Rattle.flow_check.specs.Check.{ArePartsOf, IsFirstFault}
+use Rattle.flow_check.specs.Check.{AreResolved, IsFirstFault}
 use Rattle.flow_check.specs.Plans.{IsPlan}
 
--- A JDF and its data have the parts of one plan at most.
-abbrev pub OneResolved : Type 0
-OneResolved = (job : Job) (x y : Parts) → ArePartsOf job x → ArePartsOf job y → x ≡ y
-
--- They have one first fault at most.
+-- A JDF and its data have one first fault at most.
 abbrev pub OneFirstFault : Type 0
 OneFirstFault = (job : Job) (f g : JdfFault) → IsFirstFault job f → IsFirstFault job g → f ≡ g
 
--- What has the parts of a plan has no fault.
-abbrev pub ResolvedHasNoFault : Type 0
-ResolvedHasNoFault = (job : Job) (x : Parts) (f : JdfFault) → ArePartsOf job x → IsFirstFault job f → ⊥
+-- The classes that a JDF within the limits resolves to with data that are well made, with what the data are, fit one another.
+abbrev pub ResolvedIsWellMade : Type 0
+ResolvedIsWellMade = (job : Job) (classes : List ClassPlan) (spaces : List ClassSpace) → IsWithinLimits job.jdf → well_data.IsWellMade job.given → AreResolved job classes spaces
+    → IsWellMade classes spaces (map shape_of job.given.colls) (elements_by_type job.given)
 
--- The parts of a JDF within the limits and of data that are well made fit one another.
-abbrev pub PartsAreWellMade : Type 0
-PartsAreWellMade = (job : Job) (x : Parts) → IsWithinLimits job.jdf → well_data.IsWellMade job.given → ArePartsOf job x → IsWellMade x.classes x.spaces x.colls x.elems
-
--- So a JDF and its data that have the parts of a plan have the plan.
-abbrev pub PartsMakeAPlan : Type 0
-PartsMakeAPlan = (job : Job) (x : Parts) → IsWithinLimits job.jdf → well_data.IsWellMade job.given → ArePartsOf job x → (p : Plan) × IsPlan job p
+-- So a JDF and its data whose classes are resolved have a plan.
+abbrev pub ResolvedIsAPlan : Type 0
+ResolvedIsAPlan = (job : Job) (classes : List ClassPlan) (spaces : List ClassSpace) → IsWithinLimits job.jdf → well_data.IsWellMade job.given → AreResolved job classes spaces → (p : Plan) × IsPlan job p
 
 -- A JDF and its data have one plan at most.
 abbrev pub OnePlan : Type 0

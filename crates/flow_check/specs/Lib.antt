@@ -1,6 +1,6 @@
 pub mod Given
 pub mod Bodies
-pub mod Jobs
+pub mod Globals
 pub mod Classes
 pub mod Check
 pub mod Plans

@@ -3,18 +3,15 @@ use Rattle.std.specs.Prelude.{Result, Ok, Err}
 use Rattle.ptg_base.specs.declared.refusal.Refusal.{Refusal}
 use Rattle.ptg_base.specs.declared.refusal.Refusal.TheVariants.{Fault, OutOfMemory}
 use Rattle.plan_core.specs.declared.plan.Plan.{Plan}
+use Rattle.plan_data.specs.Fit.{DataFit}
 use Rattle.check_names.specs.Alphabet.{JdfFault}
 use Rattle.check_names.specs.Names.{Job}
-use Rattle.flow_check.specs.declared.parts.Parts.{Parts}
-use Rattle.flow_check.specs.Check.{ArePartsOf, IsFirstFault}
+use Rattle.flow_check.specs.Check.{AreResolved, IsFirstFault}
 
--- what a plan is made of
-abbrev pub parts_of : Plan → Parts
-parts_of plan = record { classes = plan.classes; spaces = plan.spaces; colls = plan.colls; elems = plan.elems }
-
--- The plan is that of a JDF and its data: it has their parts.
-abbrev pub IsPlan : Job → Plan → Type 0
-IsPlan job plan = ArePartsOf job (parts_of plan)
+-- The plan of a JDF and its data: the classes with their spaces, with all names resolved, and the data fit it.
+pub record IsPlan (job : Job) (plan : Plan) : Type 0 where
+  pub resolved : AreResolved job plan.classes plan.spaces
+  pub fit : DataFit plan.colls plan.elems job.given
 
 -- The result of the type check: the plan, or the first fault, unless there was no memory.
 abbrev pub ReturnsPlan : Job → Result Plan (Refusal JdfFault) → Type 0

@@ -5,14 +5,15 @@ ghost use Rattle.ptg_base.specs.declared.refusal.Refusal.TheVariants.{Fault, Out
 ghost use Rattle.jdf_lex.specs.declared.fault.JdfFault.{JdfFault};
 ghost use Rattle.jdf_tree.specs.TreeLimits.{IsWithinLimits};
 ghost use Rattle.coll_data.specs.WellMade as data_made;
-ghost use Rattle.plan_core.specs.WellMade.{IsWellMade};
 ghost use Rattle.plan_data.specs.Fit.{DataFit};
 ghost use Rattle.plan_core.specs.declared.plan.Plan.{Plan};
+ghost use Rattle.check_names.specs.Contexts.{AreGlobals};
 ghost use Rattle.flow_check.specs.Check.{IsFirstFault};
-ghost use Rattle.flow_check.specs.Plans.{parts_of, IsPlan, ReturnsPlan};
+ghost use Rattle.flow_check.specs.Plans.{IsPlan, ReturnsPlan};
 
-use crate::parts::Parts;
-use crate::resolving::resolve;
+use crate::plan::plan_of;
+use crate::whole::resolved;
+use check_names::{Context, Globals};
 use coll_data::Given;
 use jdf_lex::JdfRefusal;
 use jdf_tree::Jdf;
@@ -26,32 +27,31 @@ fn data_are_well_made(given: &Given)
     let _ = given.colls();
 }
 
-// The plan of these parts.
-fn plan_of(parts: Parts) -> Plan
-    requires { IsWellMade parts.classes parts.spaces parts.colls parts.elems }
-    ensures { parts_of result ≡ parts }
-{
-    Plan::new(parts.classes, parts.spaces, parts.colls, parts.elems)
-}
-
 // The plan of a JDF with its data, or the first fault of the whole text.
-fn answer(alloc: Global, jdf: &Jdf, given: &Given) -> Result<Plan, JdfRefusal>
-    requires { IsWithinLimits jdf.now }
+fn answer(alloc: Global, jdf: &Jdf, given: &Given, globals: &Globals) -> Result<Plan, JdfRefusal>
+    requires limits { IsWithinLimits jdf.now }
+    requires globals { AreGlobals (record { jdf = jdf.now; given = given.now }) globals.now }
     ensures { ReturnsPlan (record { jdf = jdf.now; given = given.now }) result }
 {
-    match resolve(alloc, jdf, given) {
-        Err(JdfRefusal::OutOfMemory) => Err(JdfRefusal::OutOfMemory),
-        Err(JdfRefusal::Fault(fault)) => Err(JdfRefusal::Fault(fault)),
-        Ok(parts) => {
-            data_are_well_made(given);
-            Ok(plan_of(parts))
-        }
+    data_are_well_made(given);
+    let context = Context {
+        alloc,
+        jdf,
+        given,
+        globals,
+        seen: &[],
+    };
+    match resolved(&context) {
+        Err(refusal) => Err(refusal),
+        Ok((classes, spaces)) => Ok(plan_of(alloc, classes, spaces, given)?),
     }
 }
 
-/// The type check: the plan of a JDF with its data; or the first fault of the whole text, by place and then by code.
-pub fn check(alloc: Global, jdf: &Jdf, given: &Given) -> Result<Plan, JdfRefusal>
-    requires { IsWithinLimits jdf.now }
+/// The type check: the plan of a JDF with its data, whose globals are given by name; or the first fault of the whole text, by place
+/// and then by code.
+pub fn check(alloc: Global, jdf: &Jdf, given: &Given, globals: &Globals) -> Result<Plan, JdfRefusal>
+    requires limits { IsWithinLimits jdf.now }
+    requires globals { AreGlobals (record { jdf = jdf.now; given = given.now }) globals.now }
     // What is found breaks no rule, and each name has its meaning.
     ensures found { IfOk result (λ plan. IsPlan (record { jdf = jdf.now; given = given.now }) plan) }
     // A plan of the JDF is found, unless memory runs out.
@@ -63,5 +63,5 @@ pub fn check(alloc: Global, jdf: &Jdf, given: &Given) -> Result<Plan, JdfRefusal
     // The data fit the plan.
     ensures fit { IfOk result (λ plan. DataFit plan.colls plan.elems given.now) }
 {
-    answer(alloc, jdf, given)
+    answer(alloc, jdf, given, globals)
 }

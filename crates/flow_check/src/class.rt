@@ -1,17 +1,18 @@
 //! The classes of a JDF with their bodies.
 
-ghost use Rattle.std.specs.Prelude.{◌≡◌, IfOk, OnOk};
+ghost use Rattle.std.specs.Prelude.{◌≡◌, IfOk};
+ghost use Rattle.body_names.specs.Environment.{environment_of};
 ghost use Rattle.check_names.specs.Contexts.{IsContext, job_of};
 ghost use Rattle.check_names.specs.Limits.{IsShortClass};
 ghost use Rattle.check_names.specs.Returns.{ReturnsChecked};
 ghost use Rattle.plan_core.specs.declared.class.ClassPlan.{ClassPlan};
 ghost use Rattle.term_core.specs.declared.space.ClassSpace.{ClassSpace};
-ghost use Rattle.flow_check.specs.Bodies.{ReadsAs, HasGlobals};
+ghost use Rattle.flow_check.specs.Bodies.{ReadsAs};
 ghost use Rattle.flow_check.specs.Check.{IsClassRead};
 ghost use Rattle.flow_check.specs.Classes.{class_from, class_plan, class_faults};
 
 use crate::head::{Head, head};
-use crate::scope::enter;
+use crate::scope::scope_of;
 use body_lang::read_body;
 use body_names::Scope;
 use check_names::{Context, refused};
@@ -30,7 +31,7 @@ pub(crate) type ClassResult = Result<(ClassPlan, ClassSpace), JdfRefusal>;
 
 // Reads the body of a class.
 fn body(alloc: Global, class: &ClassTree, scope: &Scope) -> Result<BodyResult, OutOfMemory>
-    ensures { IfOk result (λ read. ReadsAs scope.now class.now read) }
+    ensures { IfOk result (λ read. ReadsAs (environment_of scope.now) class.now read) }
 {
     match read_body(alloc, class.body.as_slice(), class.finish, scope) {
         Ok(read) => Ok(Ok(read)),
@@ -81,20 +82,14 @@ fn class(
     }
 }
 
-/// A class with all names resolved, and its space, by the globals that names in its body mean.
-pub(crate) fn class_read(
-    context: &Context,
-    one: &ClassTree,
-    scope: &mut Scope,
-) -> Result<ClassResult, OutOfMemory>
+/// A class with all names resolved, and its space: its body, and then all that is outside of it.
+pub(crate) fn class_read(context: &Context, one: &ClassTree) -> Result<ClassResult, OutOfMemory>
     requires context { IsContext context.now }
     requires short { IsShortClass one.now }
-    requires globals { HasGlobals (job_of context.now) scope.old }
-    ensures read { IfOk result (λ r. IsClassRead (job_of context.now) one.now r) }
-    ensures globals { OnOk result (HasGlobals (job_of context.now) scope.new) }
+    ensures { IfOk result (λ r. IsClassRead (job_of context.now) one.now r) }
 {
-    enter(context.alloc, one, scope)?;
-    let read = body(context.alloc, one, scope)?;
+    let scope = scope_of(context, one)?;
+    let read = body(context.alloc, one, &scope)?;
     let here = Context {
         seen: one.defs.as_slice(),
         ..*context

@@ -1,5 +1,5 @@
 -- When a run that fits its job may go on, and that it then fits still.
-use Rattle.std.proofs.Common.{◌≡◌, ℕ, ◌+◌, ◌<◌, ◌≤◌, Bool, true, false, is_some, List, [], ◌∷◌, ◌++◌, refl, ap, sym, ◌∙◌, subst, Option, Some, None, IsTrue, ◌↔◌, nat_eq, eq-eqb, inl, inr, arith}
+use Rattle.std.proofs.Common.{◌≡◌, ℕ, ◌+◌, ◌<◌, ◌≤◌, Bool, true, false, cond, is_some, List, [], ◌∷◌, ◌++◌, refl, ap, sym, ◌∙◌, subst, Option, Some, None, Ok, Err, IsTrue, ◌↔◌, nat_eq, eq-eqb, ltb-true, lt-ltb, inl, inr, arith}
 use Rattle.std.proofs.lemmas.Bool.{eqb-true, false≢true}
 use Rattle.std.specs.Prelude.{unwrap_or}
 use Rattle.std.specs.List.{filter_map}
@@ -26,28 +26,55 @@ use Rattle.dep_iter.proofs.Listing.{length-part, listed}
 use Rattle.flow_meaning.specs.Counting.{as_number, count}
 use Rattle.flow_meaning.specs.Ending.{Ended, has_outputs, output_tile}
 use Rattle.flow_meaning.specs.Backward.{ended}
-use Rattle.flow_meaning.specs.Machine.{Claim, MayClaim, Send, Sent, arrived, end_in, sender, state_after}
+use Rattle.flow_meaning.specs.Comparing.{same_item}
+use Rattle.flow_meaning.specs.Machine.{Claim, MachineState, MayClaim, Send, Sent, arrived, end_in, is_sent, send_count, sender, state_after}
 use Rattle.flow_meaning.specs.Sound.{IsSoundState}
 use Rattle.flow_meaning.proofs.Counting.{count-at_most, weigh-push}
 use Rattle.flow_meaning.proofs.Events.{ends_so, event_sound, opening_sound}
 use Rattle.flow_meaning.proofs.Arriving.{arrives}
-use Rattle.flow_core.specs.RunState.{IsRunning, RunState, end_of, machine, mark_of, opening_run, with_claim, with_end, with_send}
-use Rattle.flow_core.specs.Fits.{Fits, MaySendNow}
+use Rattle.flow_core.specs.RunState.{HasLetGo, IsRunning, KeepsTiles, RunState, Tiles, end_of, machine, mark_of, opening_run, send_of, with_claim, with_end, with_send, with_tiles}
+use Rattle.flow_core.specs.Fits.{Fits, HasSentAll, MaySendNow}
 use Rattle.flow_core.specs.SentItems.{IsUnsent}
 use Rattle.flow_core.specs.Arrivals.{CountsArrivals, edges_to, is_edge_to, number_at}
-use Rattle.flow_core.specs.Possible.{GoesToWaiting, IsDue, goes_to_claimed}
+use Rattle.flow_core.specs.Possible.{GoesToWaiting, IsDue, KeepsTilesFor, goes_to_claimed}
 use Rattle.flow_core.specs.Kept.{is_read}
-use Rattle.flow_core.proofs.Lookups.{apart, end_push, found_key, key_count, key_found, keys_set, none_before, set_other, set_same}
+use Rattle.flow_core.proofs.Lookups.{apart, end_push, found_in, found_key, key_count, key_found, keys_set, none_before, set_other, set_same, turned}
 use Rattle.flow_core.proofs.Arriving.{arrived_are}
 
 pub opening_fits : (P : Plan) (G : Data) → Fits P G opening_run
-opening_fits P G = record { sound = opening_sound P G; ends = λ t end h. absurd cc }
+opening_fits P G = record { sound = opening_sound P G; ends = λ t end h. absurd cc; kept = λ t tiles h. absurd cc }
 
 pub claim_event : (P : Plan) (G : Data) (r : RunState) (t : Task) → machine (with_claim t r) ≡ state_after P G (machine r) (Claim t)
 claim_event P G r t = λ i. record { claims = map-append (λ (c : Task × Option Ended). c.0) r.claims ((t, None) ∷ []) i; sends = r.sends }
 
 pub end_event : (r : RunState) (t : Task) (end : Ended) → machine (with_end t end r) ≡ machine r
 end_event r t end = λ i. record { claims = keys_set (same_task t) r.claims (Some end) i; sends = r.sends }
+
+-- how often an item was sent after one more send
+pub send_counts : (r : RunState) (i j : Item) → send_count (machine (with_send i r)) j ≡ send_count (machine r) j + as_number (same_item j i)
+send_counts r i j = weigh-push (λ (x : Sent). as_number (same_item j x.item)) r.sends (send_of r i)
+
+pub sends_stay : (r : RunState) (i j : Item) → is_sent (machine r) j ≡ true → is_sent (machine (with_send i r)) j ≡ true
+sends_stay r i j h =
+    let was = ltb-true 0 (send_count (machine r) j) h in
+    lt-ltb 0 (send_count (machine (with_send i r)) j) (omega (arith, send_counts r i j))
+
+-- the tiles that are kept after an end: those of the task that has ended, and the others as before
+kept_now : (t : Task) (end : Ended) (tiles : Tiles) (outputs : List (Task × Tiles)) → end ≡ Ok tiles → lookup (same_task t) (with_tiles t end outputs) ≡ Some tiles
+kept_now t (Ok own) tiles outputs h =
+    let one : own ≡ tiles = cc in
+    found_in t t outputs own ∙ ap (λ b. cond b (Some own) (lookup (same_task t) outputs)) ((same_task-decides t t).1 refl) ∙ ap Some one
+kept_now t (Err cause) tiles outputs h = absurd cc
+
+kept_still : (t u : Task) (end : Ended) (outputs : List (Task × Tiles)) → same_task u t ≡ false → lookup (same_task u) (with_tiles t end outputs) ≡ lookup (same_task u) outputs
+kept_still t u (Ok own) outputs k = found_in u t outputs own ∙ ap (λ b. cond b (Some own) (lookup (same_task u) outputs)) k
+kept_still t u (Err cause) outputs k = refl
+
+-- a task with outputs has ended with tiles
+pub with_outputs : (o : Option Ended) → has_outputs o ≡ true → (tiles : Tiles) × (o ≡ Some (Ok tiles))
+with_outputs None h = absurd (false≢true h)
+with_outputs (Some (Ok tiles)) h = (tiles, refl)
+with_outputs (Some (Err cause)) h = absurd (false≢true h)
 
 has_some : (o : Option Ended) → has_outputs o ≡ true → (end : Ended) × (o ≡ Some end)
 has_some None h = absurd (false≢true h)
@@ -95,6 +122,7 @@ module _ (P : Plan) (G : Data) (con : IsConsistent P) (r : RunState) (fits : Fit
   claim_fits t may = record {
     sound = subst (IsSoundState P G) (sym (claim_event P G r t)) (event_sound P G con (machine r) fits.sound (Claim t) may);
     ends = λ u end h. fits.ends u end (sym (end_push u t r.claims) ∙ h);
+    kept = λ u tiles h. fits.kept u tiles (sym (end_push u t r.claims) ∙ h);
   }
 
   pub end_fits : (t : Task) (end : Ended) → IsRunning r t → ended P G t ≡ Some end → Fits P G (with_end t end r)
@@ -108,7 +136,23 @@ module _ (P : Plan) (G : Data) (con : IsConsistent P) (r : RunState) (fits : Fit
         let there : end_of (with_end t end r) u ≡ Some end = subst (λ v. end_of (with_end t end r) v ≡ Some end) one (ap (λ m. unwrap_or m None) here) in
         subst (λ v. ended P G v ≡ Some other) one (meant ∙ sym there ∙ subst (λ v. end_of (with_end t end r) u ≡ Some other) one h))
         (λ k. fits.ends u other (sym (ap (λ m. unwrap_or m None) (set_other (same_task t) (same_task u) (apart t u k) r.claims (Some end))) ∙ h));
+    kept = λ u tiles h.
+        by_test (same_task t u)
+        (λ k.
+        let one : t ≡ u = (same_task-decides t u).0 k in
+        let here : lookup (same_task t) (set_value (same_task t) r.claims (Some end)) ≡ Some (Some end) = set_same (same_task t) r.claims None (Some end) running in
+        let there : end_of (with_end t end r) t ≡ Some end = ap (λ m. unwrap_or m None) here in
+        let at : end_of (with_end t end r) t ≡ Some (Ok tiles) = subst (λ v. end_of (with_end t end r) v ≡ Some (Ok tiles)) (sym one) h in
+        let own : end ≡ Ok tiles = inside end tiles (sym there ∙ at) in
+        inl (subst (λ v. KeepsTiles (with_end t end r) v tiles) one (kept_now t end tiles r.outputs own)))
+        (λ k. elim (fits.kept u tiles (sym (ap (λ m. unwrap_or m None) (set_other (same_task t) (same_task u) (apart t u k) r.claims (Some end))) ∙ h)) [
+          | inl still ↦ inl (kept_still t u end r.outputs (turned t u k) ∙ still)
+          | inr all ↦ inr all
+        ]);
   }
+    where
+      inside : (end : Ended) (tiles : Tiles) → Some end ≡ Some (Ok tiles) → end ≡ Ok tiles
+      inside end tiles q = cc
 
   -- when an item may be sent
   pub sendable : (i : Item) → ((has_outputs (end_of r (sender i)) ≡ true) × IsUnsent r.sends i × IsIn i (items P (sender i))) ↔ MaySendNow P G r i
@@ -153,7 +197,37 @@ module _ (P : Plan) (G : Data) (con : IsConsistent P) (r : RunState) (fits : Fit
   send_fits i now = record {
     sound = subst (IsSoundState P G) (sym (send_event i now)) (event_sound P G con (machine r) fits.sound (Send i) now.may);
     ends = fits.ends;
+    kept = λ t tiles h. elim (fits.kept t tiles h) [ inl still ↦ inl still | inr all ↦ inr (λ j mine. sends_stay r i j (all j mine)) ];
   }
+
+  -- the tiles of a task are kept while an item of it is unsent
+  pub kept_for : (i : Item) → IsDue P r i → IsUnsent r.sends i → KeepsTilesFor r i
+  kept_for i due unsent =
+      let o = with_outputs (end_of r (sender i)) due.outputs in
+      elim (fits.kept (sender i) o.0 o.1) [
+        | inl still ↦ record { tiles = o.0; end = o.1; kept = still }
+        | inr all ↦ let was = ltb-true 0 (send_count (machine r) i) (all i due.is_item) in absurd (omega (arith, was, unsent))
+      ]
+
+  -- the tiles of a task may go once each item of it was sent
+  pub let_go_fits : (t : Task) (new : RunState) → HasLetGo t r new → HasSentAll P r t → Fits P G new
+  let_go_fits t new gone all = record {
+    sound = subst (IsSoundState P G) (sym same) fits.sound;
+    ends = λ u end h. fits.ends u end (sym (end_as u) ∙ h);
+    kept = λ u tiles h.
+        by_test (same_task u t)
+        (λ k. inr (subst (HasSentAll P new) (sym ((same_task-decides u t).0 k)) (λ i mine. sent_as i (all i mine))))
+        (λ k. elim (fits.kept u tiles (sym (end_as u) ∙ h)) [ inl still ↦ inl (gone.others u k ∙ still) | inr sent ↦ inr (λ i mine. sent_as i (sent i mine)) ]);
+  }
+    where
+      same : machine new ≡ machine r
+      same = λ i. record { claims = keys_of (gone.claims i); sends = gone.sends i }
+
+      end_as : (u : Task) → end_of new u ≡ end_of r u
+      end_as u = ap (λ cs. unwrap_or (lookup (same_task u) cs) None) gone.claims
+
+      sent_as : (i : Item) → is_sent (machine r) i ≡ true → is_sent (machine new) i ≡ true
+      sent_as i h = ap (λ (S : MachineState). is_sent S i) same ∙ h
 
   -- the task of an item that may be sent
   pub sender_task : (i : Item) → has_outputs (end_of r (sender i)) ≡ true → IsTask P (sender i)
@@ -273,21 +347,21 @@ counts_end table claims sends t end counts u none =
     counts u ((key_count u claims).1 (sym (ap (count (same_task u)) (keys_set (same_task t) claims (Some end))) ∙ zero))
 
 -- the claims after a new task is entered, and the run then
-pub grown : (claims new : List (Task × Option Ended)) (sends : List Sent) (r : RunState) (t key : Task) → record { claims = claims; sends = sends } ≡ r → mark_of r t ≡ None → key ≡ t
+pub grown : (claims new : List (Task × Option Ended)) (sends : List Sent) (outputs : List (Task × Tiles)) (r : RunState) (t key : Task) → record { claims = claims; sends = sends; outputs = outputs } ≡ r → mark_of r t ≡ None → key ≡ t
     → new ≡ insert_entry same_task claims key None → new ≡ claims ++ (t, None) ∷ []
-grown claims new sends r t key view none same e =
+grown claims new sends outputs r t key view none same e =
     let here : lookup (same_task key) claims ≡ None = ap (λ k. lookup (same_task k) claims) same ∙ ap (λ (s : RunState). mark_of s t) view ∙ none in
     e ∙ insert_entry-absent same_task key None claims (absent_from_lookup (same_task key) claims here) ∙ ap (λ k. claims ++ (k, None) ∷ []) same
 
-pub entered : (claims new : List (Task × Option Ended)) (sends : List Sent) (r : RunState) (t key : Task) → record { claims = claims; sends = sends } ≡ r → mark_of r t ≡ None → key ≡ t
-    → new ≡ insert_entry same_task claims key None → record { claims = new; sends = sends } ≡ with_claim t r
-entered claims new sends r t key view none same e =
-    let now : record { claims = new; sends = sends } ≡ with_claim t (record { claims = claims; sends = sends }) = λ i. record { claims = grown claims new sends r t key view none same e i; sends = sends } in
+pub entered : (claims new : List (Task × Option Ended)) (sends : List Sent) (outputs : List (Task × Tiles)) (r : RunState) (t key : Task) → record { claims = claims; sends = sends; outputs = outputs } ≡ r → mark_of r t ≡ None → key ≡ t
+    → new ≡ insert_entry same_task claims key None → record { claims = new; sends = sends; outputs = outputs } ≡ with_claim t r
+entered claims new sends outputs r t key view none same e =
+    let now : record { claims = new; sends = sends; outputs = outputs } ≡ with_claim t (record { claims = claims; sends = sends; outputs = outputs }) = λ i. record { claims = grown claims new sends outputs r t key view none same e i; sends = sends; outputs = outputs } in
     now ∙ ap (with_claim t) view
 
 -- the run after a task is marked with its end
-pub ended_run : (claims new : List (Task × Option Ended)) (sends then : List Sent) (r : RunState) (t : Task) (end : Ended) → record { claims = claims; sends = sends } ≡ r → new ≡ set_value (same_task t) claims (Some end) → then ≡ sends
-    → record { claims = new; sends = then } ≡ with_end t end r
-ended_run claims new sends then r t end view e s =
-    let now : record { claims = new; sends = then } ≡ with_end t end (record { claims = claims; sends = sends }) = λ i. record { claims = e i; sends = s i } in
+pub ended_run : (claims new : List (Task × Option Ended)) (sends then : List Sent) (outputs left : List (Task × Tiles)) (r : RunState) (t : Task) (end : Ended) → record { claims = claims; sends = sends; outputs = outputs } ≡ r
+    → new ≡ set_value (same_task t) claims (Some end) → then ≡ sends → left ≡ with_tiles t end outputs → record { claims = new; sends = then; outputs = left } ≡ with_end t end r
+ended_run claims new sends then outputs left r t end view e s o =
+    let now : record { claims = new; sends = then; outputs = left } ≡ with_end t end (record { claims = claims; sends = sends; outputs = outputs }) = λ i. record { claims = e i; sends = s i; outputs = o i } in
     now ∙ ap (with_end t end) view

@@ -10,3 +10,5 @@ pub mod RunningTasks
 pub mod OneThread
 pub mod Turning
 pub mod Quiet
+pub mod KeptGoals
+pub mod Opening

@@ -129,6 +129,33 @@ module _ {X : Type 0} where
       let rest = set_same test es old x (sym (ap (λ b. cond b (Some e.1) (lookup test es)) k) ∙ h) in
       ap (λ b. lookup test (cond b ((e.0, x) ∷ es) (e ∷ set_value test es x))) k ∙ ap (λ b. cond b (Some e.1) (lookup test (set_value test es x))) k ∙ rest)
 
+-- what a look-up finds after an entry is put in
+pub found_in : {X : Type 0} (u t : Task) (es : List (Task × X)) (x : X) → lookup (same_task u) (insert_entry same_task es t x) ≡ cond (same_task u t) (Some x) (lookup (same_task u) es)
+found_in u t [] x = refl
+found_in {X} u t (e ∷ es) x =
+    by_test (same_task t e.0)
+    (λ k.
+    let one : t ≡ e.0 = (same_task-decides t e.0).0 k in
+    ap (λ b. lookup (same_task u) (cond b ((e.0, x) ∷ es) (e ∷ insert_entry same_task es t x))) k ∙ here e.0 one)
+    (λ k.
+    ap (λ b. lookup (same_task u) (cond b ((e.0, x) ∷ es) (e ∷ insert_entry same_task es t x))) k
+    ∙ by_test (same_task u e.0)
+    (λ q.
+    let one : u ≡ e.0 = (same_task-decides u e.0).0 q in
+    let miss : same_task u t ≡ false = false_from_ne_true (same_task u t) (λ h. false≢true (sym k ∙ (same_task-decides t e.0).1 (sym ((same_task-decides u t).0 h) ∙ one))) in
+    ap (λ b. cond b (Some e.1) (lookup (same_task u) (insert_entry same_task es t x))) q
+    ∙ sym (ap (λ b. cond b (Some x) (cond (same_task u e.0) (Some e.1) (lookup (same_task u) es))) miss ∙ ap (λ b. cond b (Some e.1) (lookup (same_task u) es)) q))
+    (λ q.
+    ap (λ b. cond b (Some e.1) (lookup (same_task u) (insert_entry same_task es t x))) q ∙ found_in u t es x
+    ∙ sym (ap (λ b. cond (same_task u t) (Some x) (cond b (Some e.1) (lookup (same_task u) es))) q)))
+  where
+    here : (k : Task) → t ≡ k → cond (same_task u k) (Some x) (lookup (same_task u) es) ≡ cond (same_task u t) (Some x) (cond (same_task u k) (Some e.1) (lookup (same_task u) es))
+    here k one = subst (λ v. cond (same_task u v) (Some x) (lookup (same_task u) es) ≡ cond (same_task u t) (Some x) (cond (same_task u v) (Some e.1) (lookup (same_task u) es))) one (twice (same_task u t))
+      where
+        twice : (b : Bool) → cond b (Some x) (lookup (same_task u) es) ≡ cond b (Some x) (cond b (Some e.1) (lookup (same_task u) es))
+        twice true = refl
+        twice false = refl
+
 abbrev no_end : Option Ended
 no_end = None
 

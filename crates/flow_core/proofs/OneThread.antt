@@ -1,5 +1,5 @@
 -- What a thread does between two tasks, and where it ends.
-use Rattle.std.proofs.Common.{◌≡◌, ℕ, zero, suc, drop, slice_get, ◌+◌, ◌<◌, ◌≤◌, ℤ, Bool, true, false, cond, is_some, List, [], ◌∷◌, ◌++◌, length, map, refl, ap, sym, ◌∙◌, subst, ◌⊎◌, Option, Some, None, Result, Ok, Err, OnOk, IsSomeAnd, IsTrue, ◌↔◌, ◌≢◌, inl, inr, arith, append_assoc, length-append, ltb-true, lt-ltb}
+use Rattle.std.proofs.Common.{◌≡◌, ℕ, zero, suc, drop, slice_get, ◌+◌, ◌<◌, ◌≤◌, ℤ, Bool, true, false, cond, is_some, List, [], ◌∷◌, ◌++◌, length, map, refl, ap, sym, ◌∙◌, subst, ◌⊎◌, Option, Some, None, Result, Ok, Err, OnOk, IsSomeAnd, IsTrue, ◌↔◌, ◌≢◌, inl, inr, arith, append_assoc, length-append, lt-ltb}
 use Rattle.std.proofs.lemmas.Bool.{false≢true}
 use Rattle.std.proofs.lemmas.List.{append-nil, drop_all}
 use Rattle.std.specs.Prelude.{unwrap_or}
@@ -24,22 +24,21 @@ use Rattle.dep_iter.specs.Items.{items, out_edges, write_backs}
 use Rattle.dep_iter.specs.Consistent.{IsConsistent}
 use Rattle.dep_iter.proofs.Joining.{map-append}
 use Rattle.dep_iter.proofs.Listing.{listed}
-use Rattle.flow_meaning.specs.Comparing.{same_item}
 use Rattle.flow_meaning.specs.Counting.{as_number}
 use Rattle.flow_meaning.specs.Ending.{Ended, has_outputs}
-use Rattle.flow_meaning.specs.Machine.{IsQuiescent, MayClaim, MachineState, claim_count, is_sent, send_count, sender, state_after, Send, Sent}
+use Rattle.flow_meaning.specs.Machine.{IsQuiescent, MayClaim, MachineState, claim_count, is_sent, send_count, sender, state_after, Send}
 use Rattle.flow_meaning.specs.Sound.{IsFinished}
 use Rattle.flow_meaning.proofs.Counting.{weigh-push}
 use Rattle.flow_meaning.proofs.Comparing.{same_item-decides}
 use Rattle.flow_meaning.proofs.Arriving.{arrives_not, writes_not}
 use Rattle.flow_meaning.proofs.Events.{unsent}
 use Rattle.flow_meaning.proofs.Rest.{item_sender, rests}
-use Rattle.flow_core.specs.RunState.{IsRunning, RunState, end_of, machine, opening_run, send_of, with_claim, with_end, with_send}
+use Rattle.flow_core.specs.RunState.{HasLetGo, IsRunning, RunState, Tiles, end_of, machine, opening_run, with_claim, with_end, with_send}
 use Rattle.flow_core.specs.Fits.{Fits, HasFinished, MaySendNow, trap_of}
 use Rattle.flow_core.specs.Possible.{IsDue}
-use Rattle.flow_core.specs.OneThread.{HasDone, IsBetweenTasks, MayClaimOnly, OwesOnly, ended_count, running_tasks}
+use Rattle.flow_core.specs.OneThread.{HasDone, IsBetweenTasks, MayClaimOnly, OwesOnly, ended_count, running_among, running_tasks}
 use Rattle.flow_core.proofs.Lookups.{apart, end_push, found_key, key_found, set_other, set_same}
-use Rattle.flow_core.proofs.Fitting.{edge_among, end_event, send_event, sendable, sender_task, write_among}
+use Rattle.flow_core.proofs.Fitting.{edge_among, end_event, let_go_fits, send_counts, send_event, sendable, sender_task, sends_stay, with_outputs, write_among}
 use Rattle.flow_core.proofs.RunningTasks.{claims_at_most, counted_among, ended_push, ended_set, last_in, marked_running, running_mark, running_set}
 
 -- nothing is done
@@ -106,15 +105,6 @@ module _ (P : Plan) (r : RunState) (t : Task) where
   pub tried : (new : RunState) (b : Bool) → IsTrue b ↔ MayClaim P (machine r) t → new ≡ cond b (with_claim t r) r → ((H : Data) → Fits P H r → Fits P H new) → HasDone P (t ∷ []) [] r new
   tried new true exact is fits = subst (λ s. HasDone P (t ∷ []) [] r s) (sym is) (claim_done (λ H h. subst (Fits P H) is (fits H h)))
   tried new false exact is fits = subst (λ s. HasDone P (t ∷ []) [] r s) (sym is) (pass_done (λ m. false≢true (exact.1 m)))
-
--- how often an item was sent after one more send
-send_counts : (r : RunState) (i j : Item) → send_count (machine (with_send i r)) j ≡ send_count (machine r) j + as_number (same_item j i)
-send_counts r i j = weigh-push (λ (x : Sent). as_number (same_item j x.item)) r.sends (send_of r i)
-
-sends_stay : (r : RunState) (i j : Item) → is_sent (machine r) j ≡ true → is_sent (machine (with_send i r)) j ≡ true
-sends_stay r i j h =
-    let was = ltb-true 0 (send_count (machine r) j) h in
-    lt-ltb 0 (send_count (machine (with_send i r)) j) (omega (arith, send_counts r i j))
 
 sends_it : (r : RunState) (i : Item) → is_sent (machine (with_send i r)) i ≡ true
 sends_it r i = lt-ltb 0 (send_count (machine (with_send i r)) i) (omega (arith, send_counts r i i, ap as_number ((same_item-decides i i).1 refl)))
@@ -304,6 +294,12 @@ all_done P ts is a b w =
     let sent : w.sent ≡ is = sym (append-nil w.sent) ∙ sym w.split_items in
     subst (λ l. HasDone P l is a b) tasks (subst (λ l. HasDone P w.tasks l a b) sent w.done)
 
+-- where what is left is done at once, all is done
+pub rest_done : (P : Plan) (ts left : List Task) (a b : RunState) → IsSoFar P ts left [] [] a b → HasDone P left [] b b → HasDone P ts [] a b
+rest_done P ts left a b w d =
+    let none : w.sent ≡ [] = sym (append-nil w.sent) ∙ sym w.split_items in
+    subst (λ l. HasDone P l [] a b) (sym w.split) (subst (λ l. HasDone P (w.tasks ++ left) (l ++ []) a b) none (done_then P w.tasks left w.sent [] a b b w.done d))
+
 -- a list has an element at each index below its length, and it comes first where the list is dropped up to there
 pub at_least_one : {A : Type 0} (xs : List A) (k : ℕ) → k < length xs → (x : A) × (slice_get xs k ≡ Some x)
 at_least_one [] k h = absurd (omega arith)
@@ -342,6 +338,21 @@ on_both_then (Err e) f h k = h
 -- the task that was claimed last is one of the job
 pub last_task : (P : Plan) (G : Data) (r : RunState) (fits : Fits P G r) (t : Task) (running : List Task) → running ++ t ∷ [] ≡ running_tasks r → IsTask P t
 last_task P G r fits t running last = (fits.sound.claimed_have_all t (found_key t r.claims None (last_runs P G r fits t running last))).task
+
+-- the tiles that a task left go once nothing is owed
+pub let_go_between : (P : Plan) (G : Data) → IsConsistent P → (t : Task) (last new : RunState) (tasks : List Task) → IsBetweenTasks P G last tasks → has_outputs (end_of last t) ≡ true → HasLetGo t last new → IsBetweenTasks P G new tasks
+let_go_between P G con t last new tasks b outputs gone = record {
+  fits = let_go_fits P G con last b.fits t new gone (λ i mine. elim (b.nothing_owed t o.0 o.1 i mine) [ inl s ↦ s | inr x ↦ absurd x ]);
+  running = b.running ∙ sym (ap running_among gone.claims);
+  none_ready = λ u may. b.none_ready u (subst (λ S. MayClaim P S u) same may);
+  nothing_owed = λ u tiles end i mine. elim (b.nothing_owed u tiles (sym (ap (λ cs. unwrap_or (lookup (same_task u) cs) None) gone.claims) ∙ end) i mine) [ inl s ↦ inl (ap (λ (S : MachineState). is_sent S i) same ∙ s) | inr x ↦ absurd x ];
+}
+  where
+    o : (tiles : Tiles) × (end_of last t ≡ Some (Ok tiles))
+    o = with_outputs (end_of last t) outputs
+
+    same : machine new ≡ machine last
+    same = λ i. record { claims = keys_of (gone.claims i); sends = gone.sends i }
 
 -- between two tasks, after one has trapped, and after the items of one were sent
 pub between_trapped : (P : Plan) (G : Data) (t : Task) (running : List Task) (old new : RunState) (trap : Option Trap) → HasEnded P G t running old new trap → Fits P G new → true ≡ is_some trap → IsBetweenTasks P G new running

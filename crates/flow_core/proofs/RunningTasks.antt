@@ -148,7 +148,7 @@ still x t (z ∷ zs) (inr i) (inl q) other = inl q
 still x t (z ∷ zs) (inr i) (inr j) other = inr (still x t zs i j other)
 
 -- a list without repeats whose members are all in another is no longer than it
-at_most : (xs ys : List Task) → Once xs → ((t : Task) → IsIn t xs → IsIn t ys) → length xs ≤ length ys
+pub at_most : (xs ys : List Task) → Once xs → ((t : Task) → IsIn t xs → IsIn t ys) → length xs ≤ length ys
 at_most [] ys once among = omega arith
 at_most (x ∷ xs) ys once among =
     let i = among x (inl refl) in

@@ -1,9 +1,9 @@
 -- What a turn leaves, step by step.
-use Rattle.std.proofs.Common.{◌≡◌, ◌≢◌, ◌+◌, ◌<◌, ◌≤◌, ℤ, Bool, true, false, cond, is_some, List, [], ◌∷◌, ◌++◌, map, refl, ap, sym, ◌∙◌, subst, ◌⊎◌, inl, inr, append_assoc, ◌↔◌, Option, Some, None, Ok, Err, IsTrue, nat_lt, arith}
+use Rattle.std.proofs.Common.{◌≡◌, ℤ, Bool, true, false, cond, is_some, List, [], ◌∷◌, ◌++◌, map, refl, ap, sym, ◌∙◌, subst, ◌⊎◌, inl, inr, append_assoc, ◌↔◌, Option, Some, None, Ok, Err, IsTrue, nat_lt, arith}
 use Rattle.std.proofs.lemmas.Bool.{false≢true, ltb-false, ltb-true}
 use Rattle.std.proofs.lemmas.List.{append-nil, map-append}
 use Rattle.std.specs.Prelude.{unwrap_or}
-use Rattle.std.specs.Map.{keys_of, lookup, set_value}
+use Rattle.std.specs.Map.{keys_of, lookup}
 use Rattle.ptg_base.specs.Lists.{IsIn}
 use Rattle.ptg_base.specs.Task.{Task}
 use Rattle.ptg_base.specs.TaskComparing.{same_task}
@@ -14,7 +14,7 @@ use Rattle.ptg_base.specs.declared.edge.Item.TheVariants as item
 use Rattle.term_core.specs.declared.trap.Trap.{Trap}
 use Rattle.plan_core.specs.declared.plan.Plan.{Plan}
 use Rattle.coll_data.specs.Data.{Data}
-use Rattle.range_space.proofs.MemberLists.{IsIn-append_left, IsIn-append_right, from_append, from_map}
+use Rattle.range_space.proofs.MemberLists.{IsIn-append_left, IsIn-append_right, from_append}
 use Rattle.range_space.proofs.Stepping.{by_test}
 use Rattle.dep_iter.specs.Tasks.{IsTask}
 use Rattle.dep_iter.specs.Edges.{in_edges}
@@ -22,19 +22,18 @@ use Rattle.dep_iter.specs.Items.{items}
 use Rattle.dep_iter.specs.Consistent.{IsConsistent}
 use Rattle.flow_meaning.specs.Ending.{Ended, has_outputs}
 use Rattle.flow_meaning.specs.Backward.{ended}
-use Rattle.flow_meaning.specs.Machine.{Claim, Event, Happen, MachineState, MayClaim, Send, claim_count, is_sent, sender, state_after}
+use Rattle.flow_meaning.specs.Machine.{Claim, Event, Happen, MachineState, MayClaim, Send, claim_count, is_sent, state_after}
 use Rattle.flow_meaning.specs.Sound.{IsFinished, IsSoundState}
 use Rattle.flow_meaning.proofs.Counting.{count-all}
 use Rattle.flow_meaning.proofs.Events.{claim_member, delivers, each_arrived, member_claim}
 use Rattle.flow_meaning.proofs.Members.{in_edge_item}
-use Rattle.flow_meaning.proofs.Rest.{item_sender}
-use Rattle.flow_core.specs.RunState.{IsRunning, RunState, end_of, machine, mark_of, with_claim, with_end, with_send}
+use Rattle.flow_core.specs.RunState.{HasLetGo, IsRunning, RunState, Tiles, end_of, machine, mark_of, with_claim, with_end, with_send}
 use Rattle.flow_core.specs.Fits.{Fits, HasFinished, MaySendNow, trap_of}
 use Rattle.flow_core.specs.Possible.{IsDue}
 use Rattle.flow_core.specs.OneThread.{OwesOnly}
 use Rattle.flow_core.specs.Turns.{HasRun, HasSent, IsBetweenTurns, RunsAlone, SendsLead}
-use Rattle.flow_core.proofs.Lookups.{apart, end_push, key_found, keys_set, lookup_push, none_before, set_other, set_same}
-use Rattle.flow_core.proofs.Fitting.{claim_event, claimable, end_event, send_event}
+use Rattle.flow_core.proofs.Lookups.{apart, end_push, key_found, keys_set, lookup_push, set_other, set_same}
+use Rattle.flow_core.proofs.Fitting.{claim_event, claimable, end_event, let_go_fits, send_event, with_outputs}
 use Rattle.flow_core.proofs.OneThread.{due, owed_sent}
 
 -- events one after another
@@ -216,6 +215,24 @@ ran_to_end P G t old new last trap e fits d = record {
   claims = ap keys_of d.claims ∙ e.claims;
   events = subst (λ S. (sent : List Item) × Happen P G (map Send sent) S (machine last)) e.state (d.events G fits);
 }
+
+-- the tiles that a task left go once nothing is owed
+pub let_go_run : (P : Plan) (G : Data) → IsConsistent P → (t : Task) (old last new : RunState) → HasRun P G old last → has_outputs (end_of last t) ≡ true → HasLetGo t last new → HasRun P G old new
+let_go_run P G con t old last new h outputs gone = record {
+  between = record {
+    fits = let_go_fits P G con last h.between.fits t new gone (λ i mine. elim (h.between.nothing_owed t o.0 o.1 i mine) [ inl s ↦ s | inr x ↦ absurd x ]);
+    idle = λ u running. h.between.idle u (subst (λ cs. lookup (same_task u) cs ≡ Some None) gone.claims running);
+    nothing_owed = λ u tiles end i mine. elim (h.between.nothing_owed u tiles (sym (ends_as last new u gone.claims) ∙ end) i mine) [ inl s ↦ inl (ap (λ (S : MachineState). is_sent S i) same ∙ s) | inr x ↦ absurd x ];
+  };
+  claims = ap keys_of gone.claims ∙ h.claims;
+  events = (h.events.0, subst (Happen P G (map Send h.events.0) (machine old)) (sym same) h.events.1);
+}
+  where
+    o : (tiles : Tiles) × (end_of last t ≡ Some (Ok tiles))
+    o = with_outputs (end_of last t) outputs
+
+    same : machine new ≡ machine last
+    same = λ i. record { claims = keys_of (gone.claims i); sends = gone.sends i }
 
 -- a claim and what follows it
 pub turn_events : (P : Plan) (G : Data) (t : Task) (r claimed last : RunState) → MayClaim P (machine r) t → claimed ≡ with_claim t r → SendsLead P G claimed last → (sent : List Item) × Happen P G (Claim t ∷ map Send sent) (machine r) (machine last)

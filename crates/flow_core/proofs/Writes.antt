@@ -1,60 +1,26 @@
 -- What was written back: each write-back has a tile of the size of its collection's type, and a place of the data.
-use Rattle.std.proofs.Common.{◌≡◌, ℕ, zero, suc, ◌+◌, ℤ, Bool, true, false, ◌&&◌, eqb, List, [], ◌∷◌, ◌++◌, length, map, refl, ap, sym, ◌∙◌, subst, append_assoc, Option, Some, None, Result, Ok, Err, slice_get, slice_index, IfSome, is_some, inl, inr, arith}
-use Rattle.std.proofs.lemmas.Bool.{and_parts, eqb-true, false≢true}
+use Rattle.std.proofs.Common.{◌≡◌, ℤ, List, [], ◌∷◌, ◌++◌, refl, ap, sym, ◌∙◌, subst, append_assoc, Option, Some, None, inl, inr}
 use Rattle.std.proofs.lemmas.List.Elements.{All-cons, All-nil}
-use Rattle.std.proofs.lemmas.Option.{slice_get-map}
-use Rattle.std.specs.Prelude.{option_map, option_to_list}
+use Rattle.std.specs.Prelude.{option_to_list}
 use Rattle.std.specs.List.{All, cons_option, filter_map}
-use Rattle.std.specs.Result.{result_unwrap_or}
-use Rattle.std.specs.Option.{option_map_or}
 use Rattle.ptg_base.specs.Lists.{IsIn}
-use Rattle.ptg_base.specs.Task.{Task}
-use Rattle.ptg_base.specs.declared.place.Place.{Place}
 use Rattle.ptg_base.specs.declared.edge.WriteBack.{WriteBack}
 use Rattle.ptg_base.specs.declared.edge.Item.{Item}
 use Rattle.ptg_base.specs.declared.edge.Item.TheVariants as item
-use Rattle.term_core.specs.Term.{Term}
-use Rattle.term_core.specs.Value.{and_then}
-use Rattle.term_core.specs.declared.fault.ExprFault.{ExprFault}
-use Rattle.term_core.specs.declared.flow.FlowKind.{FlowKind}
-use Rattle.term_core.specs.declared.flow.FlowKind.TheVariants.{Read, Write, Rw, Ctl}
-use Rattle.range_space.proofs.MemberLists.{from_append, from_flat_map, from_map}
-use Rattle.plan_core.specs.declared.class.ClassPlan.{ClassPlan}
-use Rattle.plan_core.specs.declared.flow.DepPlan.{DepPlan}
-use Rattle.plan_core.specs.declared.flow.FlowPlan.{FlowPlan}
 use Rattle.plan_core.specs.declared.plan.Plan.{Plan}
-use Rattle.plan_core.specs.declared.shape.Shape.{Shape}
-use Rattle.plan_core.specs.declared.target.Target.{Target}
-use Rattle.plan_core.specs.declared.target.Target.TheVariants as target
-use Rattle.plan_core.specs.Closed.{is_closed_option}
-use Rattle.plan_core.specs.Flows.{is_dependence, is_destination, is_flow, is_out_target, is_second}
-use Rattle.plan_core.specs.Kinds.{is_data}
-use Rattle.coll_data.specs.declared.coll.Coll.{Coll}
 use Rattle.coll_data.specs.Data.{Data}
-use Rattle.coll_data.specs.WellMade.{IsTileOf, IsWellMade, elements_by_type}
-use Rattle.plan_data.specs.Fit.{DataFit, shape_of}
-use Rattle.plan_data.proofs.Places.{same_places}
-use Rattle.dep_iter.specs.Tasks.{IsTask, flows_of, locals_of, task}
-use Rattle.dep_iter.specs.Edges.{edge}
-use Rattle.dep_iter.specs.Active.{active_outs, by_flow, flow_outs, held_target, held_targets, held_then, target_by, guard_value}
-use Rattle.dep_iter.specs.Arguments.{place_at, place_of, value_or_zero}
-use Rattle.dep_iter.specs.Items.{item_flow, items, items_to}
+use Rattle.coll_data.specs.WellMade.{IsWellMade}
+use Rattle.plan_data.specs.Fit.{DataFit}
 use Rattle.dep_iter.specs.Consistent.{IsConsistent}
-use Rattle.flow_meaning.specs.Ending.{has_outputs, output_tile}
-use Rattle.flow_meaning.specs.Backward.{ended}
 use Rattle.flow_meaning.specs.Final.{replaced_data}
-use Rattle.flow_meaning.specs.Machine.{Sent, sender}
+use Rattle.flow_meaning.specs.Machine.{Sent}
 use Rattle.flow_meaning.specs.StateAnswer.{first_written, state_data}
 use Rattle.flow_meaning.specs.Table.{written_by}
-use Rattle.flow_meaning.proofs.Members.{all_at}
-use Rattle.flow_meaning.proofs.Sizes.{item_sized}
-use Rattle.flow_meaning.proofs.SourceEdges.{class_of}
 use Rattle.run_answer.specs.Written.{IsWritable, with_tiles}
 use Rattle.run_answer.proofs.Writable.{write_sent}
 use Rattle.flow_core.specs.RunState.{RunState, machine}
 use Rattle.flow_core.specs.Fits.{Fits}
 use Rattle.flow_core.specs.Rows.{write_with, writes_among}
-use Rattle.flow_core.proofs.Fitting.{write_among}
 
 module _ (P : Plan) (G : Data) (con : IsConsistent P) (r : RunState) (fits : Fits P G r) (known : DataFit P.colls P.elems G) (well : IsWellMade G) where
   -- what is said of the write-backs among some items

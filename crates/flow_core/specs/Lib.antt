@@ -10,3 +10,4 @@ pub mod OneThread
 pub mod Keeping
 pub mod Quiet
 pub mod Turns
+pub mod Goals

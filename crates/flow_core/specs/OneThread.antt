@@ -43,6 +43,11 @@ pub record HasDone (P : Plan) (ts : List Task) (is : List Item) (old new : RunSt
   pub ends : (t : Task) → end_of new t ≡ end_of old t
   pub fits : (G : Data) → Fits P G old → Fits P G new
 
+-- a run that only opens: no item was sent, and each claimed task is running
+pub record IsOpening (r : RunState) : Type 0 where
+  pub sends : r.sends ≡ []
+  pub running : running_tasks r ≡ keys_of r.claims
+
 -- a run between two tasks: the running tasks are these, no task may be claimed, and nothing is owed
 pub record IsBetweenTasks (P : Plan) (G : Data) (r : RunState) (tasks : List Task) : Type 0 where
   pub fits : Fits P G r

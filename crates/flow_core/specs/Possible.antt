@@ -1,21 +1,21 @@
 -- What the steps of a send find and need. Source: this project's own choice.
-use Rattle.std.specs.Prelude.{◌≡◌, ◌≤◌, ℤ, List, Bool, false, is_some, IsTrue, Option, Some, None, Ok, Err}
+use Rattle.std.specs.Prelude.{◌≡◌, ◌≤◌, Bool, false, is_some, IsTrue, Some, None, Ok}
 use Rattle.ptg_base.specs.Lists.{IsIn}
 use Rattle.ptg_base.specs.Task.{Task}
 use Rattle.ptg_base.specs.declared.edge.Item.{Item}
 use Rattle.ptg_base.specs.declared.edge.Item.TheVariants as item
 use Rattle.plan_core.specs.declared.plan.Plan.{Plan}
 use Rattle.dep_iter.specs.Items.{items}
-use Rattle.flow_meaning.specs.Ending.{Ended, has_outputs}
+use Rattle.flow_meaning.specs.Ending.{has_outputs}
 use Rattle.flow_meaning.specs.Machine.{sender}
-use Rattle.flow_core.specs.RunState.{RunState, end_of, mark_of}
+use Rattle.flow_core.specs.RunState.{RunState, KeepsTiles, Tiles, end_of, mark_of}
 use Rattle.flow_core.specs.Arrivals.{edges_to, is_edge_to}
 
--- the tiles that a task left, if it has ended without a trap
-abbrev pub outputs_of : Option Ended → Option (List (Option (List ℤ)))
-outputs_of None = None
-outputs_of (Some (Ok tiles)) = Some tiles
-outputs_of (Some (Err cause)) = None
+-- the task of an item has ended without a trap, and the tiles that it left are kept
+pub record KeepsTilesFor (r : RunState) (i : Item) : Type 0 where
+  pub tiles : Tiles
+  pub end : end_of r (sender i) ≡ Some (Ok tiles)
+  pub kept : KeepsTiles r (sender i) tiles
 
 -- the task that an item goes to, if it is an edge, is not claimed, and fewer edges have come to it than a job may have
 abbrev pub GoesToWaiting : RunState → Item → Type 0

@@ -1,6 +1,7 @@
--- A run on one thread as contracts see it: the claimed tasks, each with how it ended once it has, and the items that were sent, each with its tile. Source: DAGuE (Parallel Computing, 2012): a task runs once all its dependences have come, and then satisfies those of its successors.
-use Rattle.std.specs.Prelude.{◌≡◌, List, [], ◌∷◌, ◌++◌, Option, Some, None, unwrap_or}
+-- A run on one thread as contracts see it: the claimed tasks, each with how it ended once it has; the items that were sent, each with its tile; and the tiles of ended tasks that are kept for sends. Source: DAGuE (Parallel Computing, 2012): a task runs once all its dependences have come, and then satisfies those of its successors.
+use Rattle.std.specs.Prelude.{◌≡◌, ℤ, false, List, [], ◌∷◌, ◌++◌, Option, Some, None, Ok, Err, unwrap_or}
 use Rattle.std.specs.Map.{keys_of, lookup, set_value}
+use Rattle.indexmap.specs.IndexMap.{insert_entry}
 use Rattle.ptg_base.specs.Task.{Task}
 use Rattle.ptg_base.specs.TaskComparing.{same_task}
 use Rattle.ptg_base.specs.declared.edge.Item.{Item}
@@ -8,15 +9,21 @@ use Rattle.dep_iter.specs.Items.{item_flow}
 use Rattle.flow_meaning.specs.Ending.{Ended, output_tile}
 use Rattle.flow_meaning.specs.Machine.{MachineState, Sent, sender}
 
+-- the tiles that a task left, one place for each of its flows
+abbrev pub Tiles : Type 0
+Tiles = List (Option (List ℤ))
+
 pub record RunState : Type 0 where
   -- the claimed tasks in the order of the claims, each with how it ended; one without an end is running
   pub claims : List (Task × Option Ended)
   -- the items that were sent, in the order of the sends
   pub sends : List Sent
+  -- the tasks that have ended without a trap and whose tiles were not let go, each with them
+  pub outputs : List (Task × Tiles)
 
 -- nothing is claimed, and nothing is sent
 abbrev pub opening_run : RunState
-opening_run = record { claims = []; sends = [] }
+opening_run = record { claims = []; sends = []; outputs = [] }
 
 -- the state of the event machine that a run is in
 abbrev pub machine : RunState → MachineState
@@ -36,11 +43,16 @@ end_of r t = unwrap_or (mark_of r t) None
 
 -- the run after a task is claimed, which is running then
 abbrev pub with_claim : Task → RunState → RunState
-with_claim t r = record { claims = r.claims ++ (t, None) ∷ []; sends = r.sends }
+with_claim t r = record { claims = r.claims ++ (t, None) ∷ []; sends = r.sends; outputs = r.outputs }
+
+-- the tiles that are kept after a task has ended so
+abbrev pub with_tiles : Task → Ended → List (Task × Tiles) → List (Task × Tiles)
+with_tiles t (Ok tiles) outputs = insert_entry same_task outputs t tiles
+with_tiles t (Err cause) outputs = outputs
 
 -- the run after a task has ended so
 abbrev pub with_end : Task → Ended → RunState → RunState
-with_end t end r = record { claims = set_value (same_task t) r.claims (Some end); sends = r.sends }
+with_end t end r = record { claims = set_value (same_task t) r.claims (Some end); sends = r.sends; outputs = with_tiles t end r.outputs }
 
 -- what is sent with an item: the tile that its task left in the flow of the item
 abbrev pub send_of : RunState → Item → Sent
@@ -48,4 +60,14 @@ send_of r i = record { item = i; tile = output_tile (end_of r (sender i)) (item_
 
 -- the run after an item is sent
 abbrev pub with_send : Item → RunState → RunState
-with_send i r = record { claims = r.claims; sends = r.sends ++ send_of r i ∷ [] }
+with_send i r = record { claims = r.claims; sends = r.sends ++ send_of r i ∷ []; outputs = r.outputs }
+
+-- the tiles that a task left are kept
+abbrev pub KeepsTiles : RunState → Task → Tiles → Type 0
+KeepsTiles r t tiles = lookup (same_task t) r.outputs ≡ Some tiles
+
+-- the run after the tiles that a task left are let go
+pub record HasLetGo (t : Task) (old new : RunState) : Type 0 where
+  pub claims : new.claims ≡ old.claims
+  pub sends : new.sends ≡ old.sends
+  pub others : (u : Task) → same_task u t ≡ false → lookup (same_task u) new.outputs ≡ lookup (same_task u) old.outputs

@@ -11,21 +11,25 @@ use plan_core::Plan;
 use ptg_base::{Seq, TaskId, Tile};
 use term_core::Trap;
 
-// How a task ended: with the tiles of its flows after the body, or with a trap.
-pub(crate) type End = Result<Seq<Option<Tile>>, Trap>;
+// How a body ended: with the tiles of its task's flows, or with a trap.
+#[derive(Drop)]
+pub struct Ran {
+    pub end: Result<Seq<Option<Tile>>, Trap>,
+}
 
 // Runs the body of a task with these locals on these tiles, one place for each of its flows.
-pub(crate) fn run_task(plan: &Plan, t: &TaskId, env: &[i64], tiles: Vec<Option<Tile>>) -> End
+pub(crate) fn run_task(plan: &Plan, t: &TaskId, env: &[i64], tiles: Vec<Option<Tile>>) -> Ran
     requires locals { env.now ≡ tasks.locals_of plan.now t.now }
     requires task { IsTask plan.now t.now }
     requires flows { length tiles.items ≡ length (tasks.flows_of plan.now t.now) }
-    ensures { option_map (λ (c : ClassPlan). body_meaning c.body (tasks.locals_of plan.now t.now) tiles.items) (slice_get plan.now.classes t.now.class) ≡ Some result }
+    ensures { option_map (λ (c : ClassPlan). body_meaning c.body (tasks.locals_of plan.now t.now) tiles.items) (slice_get plan.now.classes t.now.class) ≡ Some result.end }
 {
     let mut tiles = tiles;
     let mut scratch = Scratch::new();
     let class = plan.class(t.class());
-    match run_body(&class.body, env, tiles.as_mut_slice(), &mut scratch) {
+    let end = match run_body(&class.body, env, tiles.as_mut_slice(), &mut scratch) {
         Ok(()) => Ok(Seq::of(tiles)),
         Err(cause) => Err(cause),
-    }
+    };
+    Ran { end }
 }

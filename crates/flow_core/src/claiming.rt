@@ -1,13 +1,15 @@
 //! Claims of the tasks that may be claimed.
 
-ghost use Rattle.std.specs.Prelude.{◌≡◌, ◌∷◌, [], List, OnOk, Some, drop, map, slice_get, ◌<◌, length};
+ghost use Rattle.std.specs.Prelude.{◌≡◌, ◌∷◌, [], IsTrue, List, OnOk, Some, drop, map, slice_get, ◌<◌, length};
 ghost use Rattle.term_core.specs.declared.space.ClassSpace.{ClassSpace as ClassSpaceValue};
 ghost use Rattle.range_space.specs.Tasks as range;
 ghost use Rattle.coll_data.specs.Data.{Data};
 ghost use Rattle.dep_iter.specs.Tasks.{IsTask, task, tasks_from};
 ghost use Rattle.flow_core.specs.Fits.{Fits};
-ghost use Rattle.flow_core.specs.OneThread.{HasDone, running_tasks};
+ghost use Rattle.flow_core.specs.Goals.{AreGoals};
+ghost use Rattle.flow_core.specs.OneThread.{HasDone, IsOpening, MayClaimOnly, running_tasks};
 
+use crate::goals::{forget_goal, goal_by, keep_goal};
 use crate::possible::copy_of_task;
 use crate::runner::Runner;
 use crate::spaces::space_of;
@@ -26,6 +28,8 @@ pub(crate) fn claim_if_ready(
     requires running { runner.old.running.items ≡ running_tasks runner.old.run }
     ensures done { OnOk result (HasDone m.now (t.now ∷ []) [] runner.old.run runner.new.run) }
     ensures running { OnOk result (runner.new.running.items ≡ running_tasks runner.new.run) }
+    ensures opening { OnOk result (IsOpening runner.old.run → IsOpening runner.new.run) }
+    ensures goals { runner.new.goals ≡ runner.old.goals }
 {
     if !runner.run.claim_task(m, t)? {
         return Ok(());
@@ -34,28 +38,67 @@ pub(crate) fn claim_if_ready(
     Ok(())
 }
 
-// Claims the tasks of a class that may be claimed.
+// Claims the task to which an edge has come, if it may be claimed. Its goal is counted when the first edge comes.
+pub(crate) fn claim_if_come(runner: &mut Runner, m: &Matched, t: &TaskId) -> Result<(), OutOfMemory>
+    requires task { IsTask m.now t.now }
+    requires fits { (G : Data) × Fits m.now G runner.old.run }
+    requires running { runner.old.running.items ≡ running_tasks runner.old.run }
+    requires goals { AreGoals m.now runner.old.goals.entries }
+    ensures done { OnOk result (HasDone m.now (t.now ∷ []) [] runner.old.run runner.new.run) }
+    ensures running { OnOk result (runner.new.running.items ≡ running_tasks runner.new.run) }
+    ensures goals { OnOk result (AreGoals m.now runner.new.goals.entries) }
+{
+    let goal = goal_by(&runner.goals, m, t);
+    if !runner.run.claim_by(m, t, goal)? {
+        keep_goal(&mut runner.goals, m, t, goal)?;
+        return Ok(());
+    }
+    runner.running.push(copy_of_task(t))?;
+    forget_goal(&mut runner.goals, m, t);
+    Ok(())
+}
+
+// Whether as many tasks were claimed as no edge goes into, in a run that only opens: then no other may be claimed.
+fn is_open(runner: &Runner, m: &Matched) -> bool
+    requires fits { (G : Data) × Fits m.now G runner.now.run }
+    requires running { runner.now.running.items ≡ running_tasks runner.now.run }
+    requires opening { IsOpening runner.now.run }
+    ensures { IsTrue result → MayClaimOnly m.now [] runner.now.run }
+{
+    let _ = m.plan();
+    runner.running.len() as u64 == m.roots()
+}
+
+// Claims the tasks of a class that may be claimed, in a run that only opens.
 fn claim_class(runner: &mut Runner, m: &Matched, class: u32) -> Result<(), OutOfMemory>
     requires class { class < length m.now.classes }
     requires fits { (G : Data) × Fits m.now G runner.old.run }
     requires running { runner.old.running.items ≡ running_tasks runner.old.run }
+    requires opening { IsOpening runner.old.run }
     ensures done { OnOk result ((s : ClassSpaceValue) → slice_get m.now.spaces class ≡ Some s → HasDone m.now (map (task class) (range.tasks s)) [] runner.old.run runner.new.run) }
     ensures running { OnOk result (runner.new.running.items ≡ running_tasks runner.new.run) }
+    ensures opening { OnOk result (IsOpening runner.new.run) }
+    ensures goals { runner.new.goals ≡ runner.old.goals }
 {
     let space = space_of(m, class);
     for params in Space::new(space) {
+        if is_open(runner, m) {
+            return Ok(());
+        }
         let t = TaskId::new(class, params.as_slice());
         claim_if_ready(runner, m, &t)?;
     }
     Ok(())
 }
 
-// Claims the tasks of the classes from this number on that may be claimed.
+// Claims the tasks of the classes from this number on that may be claimed, in a run that only opens.
 pub(crate) fn claim_classes(runner: &mut Runner, m: &Matched, class: u32) -> Result<(), OutOfMemory>
     requires fits { (G : Data) × Fits m.now G runner.old.run }
     requires running { runner.old.running.items ≡ running_tasks runner.old.run }
+    requires opening { IsOpening runner.old.run }
     ensures done { OnOk result ((ss : List ClassSpaceValue) → drop class m.now.spaces ≡ ss → HasDone m.now (tasks_from class ss) [] runner.old.run runner.new.run) }
     ensures running { OnOk result (runner.new.running.items ≡ running_tasks runner.new.run) }
+    ensures goals { runner.new.goals ≡ runner.old.goals }
 {
     if class as usize >= m.plan().classes.len() {
         return Ok(());

@@ -4,6 +4,8 @@
 mod arrivals;
 mod body;
 mod claiming;
+mod end;
+mod goals;
 mod history;
 mod inputs;
 mod laws;

@@ -4,6 +4,7 @@ ghost use Rattle.std.specs.Prelude.{◌≡◌, ◌∷◌, ◌++◌, ◌+◌, [],
 ghost use Rattle.plan_data.specs.Fit.{DataFit};
 ghost use Rattle.flow_meaning.specs.Answer as meaning;
 ghost use Rattle.flow_core.specs.Fits.{Fits};
+ghost use Rattle.flow_core.specs.Goals.{AreGoals};
 ghost use Rattle.flow_core.specs.OneThread.{IsBetweenTasks, MayClaimOnly, OwesOnly, ended_count, running_tasks};
 
 use crate::claiming::claim_classes;
@@ -13,6 +14,7 @@ use crate::state::State;
 use coll_data::Given;
 use dep_iter::Matched;
 use flow_meaning::Outcome;
+use indexmap::IndexMap;
 use ptg_base::{OutOfMemory, TaskId};
 use std::alloc::Global;
 
@@ -27,18 +29,24 @@ fn run_one_task(
     requires running { runner.old.running.items ++ t.now ∷ [] ≡ running_tasks runner.old.run }
     requires none_ready { MayClaimOnly m.now [] runner.old.run }
     requires nothing_owed { OwesOnly m.now [] runner.old.run }
+    requires goals { AreGoals m.now runner.old.goals.entries }
     ensures between { OnOk result (IsBetweenTasks m.now given.now runner.new.run runner.new.running.items) }
+    ensures goals { OnOk result (AreGoals m.now runner.new.goals.entries) }
     ensures ended { OnOk result (ended_count runner.new.run ≡ ended_count runner.old.run + 1) }
 {
+    let _ = m.plan();
     if runner.run.finish(m, given, t)?.is_some() {
         return Ok(());
     }
-    send_items(runner, m, t)
+    send_items(runner, m, t)?;
+    runner.run.let_go(t);
+    Ok(())
 }
 
 // Runs tasks until none is left.
 fn run_tasks(runner: &mut Runner, m: &Matched, given: &Given) -> Result<(), OutOfMemory>
-    requires { IsBetweenTasks m.now given.now runner.old.run runner.old.running.items }
+    requires between { IsBetweenTasks m.now given.now runner.old.run runner.old.running.items }
+    requires goals { AreGoals m.now runner.old.goals.entries }
     ensures { OnOk result (IsBetweenTasks m.now given.now runner.new.run []) }
 {
     while let Some(t) = runner.running.pop() {
@@ -49,11 +57,13 @@ fn run_tasks(runner: &mut Runner, m: &Matched, given: &Given) -> Result<(), OutO
 
 // A run in which every task without an edge into it is claimed.
 fn opened(alloc: Global, m: &Matched, given: &Given) -> Result<Runner, OutOfMemory>
-    ensures { IfOk result (λ runner. IsBetweenTasks m.now given.now runner.run runner.running.items) }
+    ensures between { IfOk result (λ runner. IsBetweenTasks m.now given.now runner.run runner.running.items) }
+    ensures goals { IfOk result (λ runner. AreGoals m.now runner.goals.entries) }
 {
     let mut runner = Runner {
         run: State::start(alloc),
         running: Vec::new(alloc),
+        goals: IndexMap::new(alloc),
     };
     claim_classes(&mut runner, m, 0)?;
     Ok(runner)

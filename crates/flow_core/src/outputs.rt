@@ -1,54 +1,25 @@
-//! What a task left.
+//! The tiles that a task left.
 
-ghost use Rattle.std.specs.Prelude.{◌≡◌};
+ghost use Rattle.std.specs.Prelude.{◌≡◌, ◌<◌};
 ghost use Rattle.std.specs.Option.{option_copied};
+ghost use Rattle.indexmap.specs.IndexMap.{spare};
 ghost use Rattle.body_eval.specs.Element.{tile_of};
-ghost use Rattle.flow_meaning.specs.Ending as ending;
-ghost use Rattle.flow_core.specs.Fits as fits;
-ghost use Rattle.flow_core.specs.Possible as possible;
+ghost use Rattle.flow_core.specs.RunState.{with_tiles};
 
-use crate::body::End;
-use ptg_base::{Seq, Tile};
-use term_core::Trap;
+use crate::body::Ran;
+use crate::possible::copy_of_task;
+use indexmap::IndexMap;
+use ptg_base::{Seq, TaskId, Tile};
 
-// Why a task trapped, if it did.
-pub(crate) fn trap_of(end: &End) -> Option<Trap>
-    ensures { result ≡ fits.trap_of end.now }
+// Keeps the tiles that a task left, if it has not trapped.
+pub(crate) fn keep_tiles(table: &mut IndexMap<TaskId, Seq<Option<Tile>>>, t: &TaskId, ran: Ran)
+    requires { 0 < spare table.old }
+    ensures { table.new.entries ≡ with_tiles t.now ran.end table.old.entries }
 {
-    match end {
-        Ok(_) => None,
-        Err(cause) => Some(*cause),
-    }
-}
-
-// The tiles that a task left which ended so, if it did without a trap.
-fn tiles_of(end: &End) -> Option<&Seq<Option<Tile>>>
-    ensures { option_copied result ≡ possible.outputs_of (Some end.now) }
-{
-    match end {
-        Ok(tiles) => Some(tiles),
-        Err(_) => None,
-    }
-}
-
-// The tiles that a task left, if it has ended without a trap.
-pub(crate) fn outputs_of(end: &Option<End>) -> Option<&Seq<Option<Tile>>>
-    ensures { option_copied result ≡ possible.outputs_of end.now }
-{
-    match end {
-        Some(end) => tiles_of(end),
-        None => None,
-    }
-}
-
-// Whether a task has ended without a trap.
-pub(crate) fn has_outputs(end: &Option<End>) -> bool
-    ensures { result ≡ ending.has_outputs end.now }
-{
-    match end {
-        Some(end) => end.is_ok(),
-        None => false,
-    }
+    let Ok(tiles) = ran.end else {
+        return;
+    };
+    let _old = table.insert(copy_of_task(t), tiles).unwrap();
 }
 
 // The tile of a flow, if it has one.

@@ -12,9 +12,10 @@ ghost use Rattle.flow_meaning.specs.Ending.{has_outputs};
 ghost use Rattle.flow_core.specs.RunState.{end_of};
 ghost use Rattle.flow_core.specs.Fits.{Fits};
 ghost use Rattle.flow_core.specs.Possible.{IsDue};
+ghost use Rattle.flow_core.specs.Goals.{AreGoals};
 ghost use Rattle.flow_core.specs.OneThread.{HasDone, running_tasks};
 
-use crate::claiming::claim_if_ready;
+use crate::claiming::claim_if_come;
 use crate::possible::copy_of_task;
 use crate::runner::Runner;
 use dep_iter::{Matched, locals_of, out_edges_under, write_backs_under};
@@ -25,13 +26,15 @@ fn send_edge(runner: &mut Runner, m: &Matched, edge: Edge) -> Result<(), OutOfMe
     requires due { IsDue m.now runner.old.run (item.Edge edge) }
     requires fits { (G : Data) × Fits m.now G runner.old.run }
     requires running { runner.old.running.items ≡ running_tasks runner.old.run }
+    requires goals { AreGoals m.now runner.old.goals.entries }
     ensures done { OnOk result (HasDone m.now [] (item.Edge edge ∷ []) runner.old.run runner.new.run) }
     ensures running { OnOk result (runner.new.running.items ≡ running_tasks runner.new.run) }
+    ensures goals { OnOk result (AreGoals m.now runner.new.goals.entries) }
 {
     let _ = m.plan();
     let to = copy_of_task(&edge.to);
     let _sent = runner.run.send_due(m, &Item::Edge(edge))?;
-    claim_if_ready(runner, m, &to)
+    claim_if_come(runner, m, &to)
 }
 
 // Sends the edges out of a task with these locals that has ended without a trap.
@@ -41,8 +44,10 @@ fn send_edges(runner: &mut Runner, m: &Matched, t: &TaskId, env: &[i64]) -> Resu
     requires outputs { IsTrue (has_outputs (end_of runner.old.run t.now)) }
     requires fits { (G : Data) × Fits m.now G runner.old.run }
     requires running { runner.old.running.items ≡ running_tasks runner.old.run }
+    requires goals { AreGoals m.now runner.old.goals.entries }
     ensures done { OnOk result (HasDone m.now [] (map (λ (e : EdgeValue). item.Edge e) (items.out_edges m.now t.now)) runner.old.run runner.new.run) }
     ensures running { OnOk result (runner.new.running.items ≡ running_tasks runner.new.run) }
+    ensures goals { OnOk result (AreGoals m.now runner.new.goals.entries) }
 {
     for edge in out_edges_under(m.plan(), t, env) {
         send_edge(runner, m, edge)?;
@@ -55,8 +60,10 @@ fn send_write(runner: &mut Runner, m: &Matched, write: WriteBack) -> Result<(), 
     requires due { IsDue m.now runner.old.run (item.Write write) }
     requires fits { (G : Data) × Fits m.now G runner.old.run }
     requires running { runner.old.running.items ≡ running_tasks runner.old.run }
+    requires goals { AreGoals m.now runner.old.goals.entries }
     ensures done { OnOk result (HasDone m.now [] (item.Write write ∷ []) runner.old.run runner.new.run) }
     ensures running { OnOk result (runner.new.running.items ≡ running_tasks runner.new.run) }
+    ensures goals { OnOk result (AreGoals m.now runner.new.goals.entries) }
 {
     let _ = m.plan();
     let _sent = runner.run.send_due(m, &Item::Write(write))?;
@@ -70,8 +77,10 @@ fn send_writes(runner: &mut Runner, m: &Matched, t: &TaskId, env: &[i64]) -> Res
     requires outputs { IsTrue (has_outputs (end_of runner.old.run t.now)) }
     requires fits { (G : Data) × Fits m.now G runner.old.run }
     requires running { runner.old.running.items ≡ running_tasks runner.old.run }
+    requires goals { AreGoals m.now runner.old.goals.entries }
     ensures done { OnOk result (HasDone m.now [] (map (λ (w : WriteBackValue). item.Write w) (items.write_backs m.now t.now)) runner.old.run runner.new.run) }
     ensures running { OnOk result (runner.new.running.items ≡ running_tasks runner.new.run) }
+    ensures goals { OnOk result (AreGoals m.now runner.new.goals.entries) }
 {
     for write in write_backs_under(m.plan(), t, env) {
         send_write(runner, m, write)?;
@@ -85,8 +94,10 @@ pub(crate) fn send_items(runner: &mut Runner, m: &Matched, t: &TaskId) -> Result
     requires outputs { IsTrue (has_outputs (end_of runner.old.run t.now)) }
     requires fits { (G : Data) × Fits m.now G runner.old.run }
     requires running { runner.old.running.items ≡ running_tasks runner.old.run }
+    requires goals { AreGoals m.now runner.old.goals.entries }
     ensures done { OnOk result (HasDone m.now [] (items.items m.now t.now) runner.old.run runner.new.run) }
     ensures running { OnOk result (runner.new.running.items ≡ running_tasks runner.new.run) }
+    ensures goals { OnOk result (AreGoals m.now runner.new.goals.entries) }
 {
     let locals = locals_of(m.plan(), t);
     let env = locals.as_slice();

@@ -1,7 +1,6 @@
 //! A run on one thread.
 
 ghost use Rattle.std.specs.Prelude.{◌≡◌, ◌↔◌, IsTrue, IfOk, OnOk, OnErr, Some, None, if◌then◌else◌};
-ghost use Rattle.std.specs.Option.{option_copied};
 ghost use Rattle.std.specs.Map.{lookup, set_value};
 ghost use Rattle.ptg_base.specs.TaskComparing.{same_task};
 ghost use Rattle.plan_core.specs.declared.plan.Plan.{Plan};
@@ -11,21 +10,23 @@ ghost use Rattle.flow_meaning.specs.Ending as ending;
 ghost use Rattle.flow_meaning.specs.Ending.{output_tile};
 ghost use Rattle.flow_meaning.specs.Machine as events;
 ghost use Rattle.flow_meaning.specs.Machine.{MayClaim};
+ghost use Rattle.dep_iter.specs.Edges as edges;
 ghost use Rattle.dep_iter.specs.Items as items;
 ghost use Rattle.dep_iter.specs.Tasks.{IsTask};
-ghost use Rattle.flow_core.specs.RunState.{IsRunning, end_of, machine, mark_of, opening_run, with_claim, with_send};
+ghost use Rattle.flow_core.specs.RunState.{HasLetGo, IsRunning, end_of, machine, mark_of, opening_run, with_claim, with_send};
 ghost use Rattle.flow_core.specs.Fits.{Fits, HasFinished, MaySendNow};
 ghost use Rattle.flow_core.specs.Possible as possible;
-ghost use Rattle.flow_core.specs.Possible.{GoesToWaiting, IsDue};
+ghost use Rattle.flow_core.specs.Possible.{GoesToWaiting, IsDue, KeepsTilesFor};
 ghost use Rattle.flow_core.specs.SentItems.{IsUnsent};
 
 mod answer;
 mod quiescent;
 
 use crate::arrivals::{count_item, number_at};
-use crate::body::{End, run_task};
+use crate::body::run_task;
+use crate::end::{End, has_outputs};
 use crate::inputs::{Start, copy_if_any, inputs_of, take_tiles};
-use crate::outputs::{has_outputs, outputs_of, tile_at, trap_of};
+use crate::outputs::{keep_tiles, tile_at};
 use crate::possible::{copy_of_item, copy_of_task, is_item, item_flow, sender};
 use crate::sent_items::SentItems;
 use coll_data::Given;
@@ -37,13 +38,15 @@ use std::alloc::Global;
 use std::marker::Model;
 use term_core::Trap;
 
-/// A run on one thread. Contracts see the claimed tasks, each with how it ended once it has, and the items that were sent, each
-/// with its tile.
+/// A run on one thread. Contracts see the claimed tasks, each with how it ended once it has; the items that were sent, each with its
+/// tile; and which tiles of ended tasks are kept.
 #[derive(Drop)]
 pub struct State {
     alloc: Global,
     // The claimed tasks in the order of the claims, each with how it ended; `None` while it runs.
     claims: IndexMap<TaskId, Option<End>>,
+    // The tiles that each task left which has ended without a trap, until they are let go.
+    outputs: IndexMap<TaskId, Seq<Option<Tile>>>,
     sent: SentItems,
     // How many edges were sent to each task that is not claimed, if one was.
     arrived: IndexMap<TaskId, u32>,
@@ -55,7 +58,7 @@ impl Model for State {
 
     ghost Value = { RunState };
 
-    ghost view = { λ s. record { claims = s.claims.entries; sends = s.sent.sends } };
+    ghost view = { λ s. record { claims = s.claims.entries; sends = s.sent.sends; outputs = s.outputs.entries } };
 
     ghost invariant = { λ s. Keeps s.claims.entries s.arrived.entries s.sent };
 }
@@ -79,6 +82,7 @@ impl State {
         State {
             alloc,
             claims: IndexMap::new(alloc),
+            outputs: IndexMap::new(alloc),
             sent: SentItems::new(alloc),
             arrived: IndexMap::new(alloc),
         }
@@ -113,6 +117,26 @@ impl State {
         Ok(true)
     }
 
+    // Claims a task of the job that has this goal, if it may be claimed.
+    pub(crate) fn claim_by(
+        &mut self,
+        m: &Matched,
+        t: &TaskId,
+        goal: u32,
+    ) -> Result<bool, OutOfMemory>
+        requires task { IsTask m.now t.now }
+        requires goal { goal ≡ edges.goal m.now t.now }
+        ensures exact { IfOk result (λ claimed. (G : Data) → Fits m.now G self.old → IsTrue claimed ↔ MayClaim m.now (machine self.old) t.now) }
+        ensures state { IfOk result (λ claimed. self.new ≡ (if claimed then with_claim t.now self.old else self.old)) }
+        ensures fits { (G : Data) → Fits m.now G self.old → Fits m.now G self.new }
+    {
+        if !self.is_ready_by(m, t, goal) {
+            return Ok(false);
+        }
+        self.enter_task(t)?;
+        Ok(true)
+    }
+
     // Whether a task of the job may be claimed.
     fn is_ready(&self, m: &Matched, t: &TaskId) -> bool
         requires task { IsTask m.now t.now }
@@ -124,7 +148,33 @@ impl State {
         if self.claims.contains_key(t) {
             return false;
         }
-        number_at(&self.arrived, t) == goal(m, t)
+        self.has_all(m, t, goal(m, t))
+    }
+
+    // Whether a task of the job that has this goal may be claimed.
+    fn is_ready_by(&self, m: &Matched, t: &TaskId, goal: u32) -> bool
+        requires task { IsTask m.now t.now }
+        requires goal { goal ≡ edges.goal m.now t.now }
+        ensures exact { (G : Data) → Fits m.now G self.now → IsTrue result ↔ MayClaim m.now (machine self.now) t.now }
+        ensures unclaimed { IsTrue result → mark_of self.now t.now ≡ None }
+        ensures consistent { IsConsistent m.now }
+    {
+        let _ = m.plan();
+        if self.claims.contains_key(t) {
+            return false;
+        }
+        self.has_all(m, t, goal)
+    }
+
+    // Whether as many edges have come to a task that is not claimed as its goal says.
+    fn has_all(&self, m: &Matched, t: &TaskId, goal: u32) -> bool
+        requires task { IsTask m.now t.now }
+        requires unclaimed { mark_of self.now t.now ≡ None }
+        requires goal { goal ≡ edges.goal m.now t.now }
+        ensures { (G : Data) → Fits m.now G self.now → IsTrue result ↔ MayClaim m.now (machine self.now) t.now }
+    {
+        let _ = m.plan();
+        number_at(&self.arrived, t) == goal
     }
 
     // Adds a task that is not claimed to the claims.
@@ -172,11 +222,14 @@ impl State {
             env,
         };
         let found = inputs_of(self.alloc, &start)?;
+        self.outputs.reserve(1)?;
         let mut tiles = found.tiles;
         take_tiles(found.edges.as_slice(), 0, &mut self.sent, &mut tiles);
-        let end = run_task(plan, t, env, tiles);
-        let trap = trap_of(&end);
+        let ran = run_task(plan, t, env, tiles);
+        let end = End::of(&ran);
+        let trap = end.trap();
         mark(&mut self.claims, t, end);
+        keep_tiles(&mut self.outputs, t, ran);
         Ok(trap)
     }
 
@@ -258,21 +311,12 @@ impl State {
         }
     }
 
-    // The tiles that a task left, if it has ended without a trap.
-    fn outputs(&self, t: &TaskId) -> Option<&Seq<Option<Tile>>>
-        ensures { option_copied result ≡ possible.outputs_of (end_of self.now t.now) }
-    {
-        match self.claims.get(t) {
-            Some(end) => outputs_of(end),
-            None => None,
-        }
-    }
-
     // A copy of the tile that the task of an item left in the flow of the item.
     fn output_copy(&self, item: &Item) -> Result<Option<Tile>, OutOfMemory>
+        requires { KeepsTilesFor self.now item.now }
         ensures { IfOk result (λ tile. tile ≡ output_tile (end_of self.now (events.sender item.now)) (items.item_flow item.now)) }
     {
-        match self.outputs(sender(item)) {
+        match self.outputs.get(sender(item)) {
             Some(tiles) => copy_if_any(self.alloc, tile_at(tiles, item_flow(item))),
             None => Ok(None),
         }
@@ -282,6 +326,7 @@ impl State {
     fn enter_item(&mut self, item: &Item) -> Result<(), OutOfMemory>
         requires unsent { IsUnsent self.old.sends item.now }
         requires target { GoesToWaiting self.old item.now }
+        requires kept { KeepsTilesFor self.old item.now }
         ensures ok { OnOk result (self.new ≡ with_send item.now self.old) }
         ensures err { OnErr result (self.new ≡ self.old) }
     {
@@ -290,5 +335,12 @@ impl State {
         self.sent.add(copy_of_item(item), tile)?;
         count_item(&mut self.arrived, item);
         Ok(())
+    }
+
+    // Lets go the tiles that a task left.
+    pub(crate) fn let_go(&mut self, t: &TaskId)
+        ensures { HasLetGo t.now self.old self.new }
+    {
+        let _tiles = self.outputs.swap_remove(t);
     }
 }

@@ -75,15 +75,17 @@ fn send_its_items(run: &mut State, m: &Matched, t: &TaskId) -> Result<(), OutOfM
     Ok(())
 }
 
-// Runs the body of the running task, and sends its items if it has not trapped.
+// Runs the body of the running task, and sends its items if it has not trapped. Its tiles go with the last of them.
 fn run_to_end(run: &mut State, m: &Matched, given: &Given, t: &TaskId) -> Result<(), OutOfMemory>
     requires { RunsAlone m.now given.now t.now run.old }
     ensures { OnOk result (HasRun m.now given.now run.old run.new) }
 {
+    let _ = m.plan();
     if run.finish(m, given, t)?.is_some() {
         return Ok(());
     }
     send_its_items(run, m, t)?;
+    run.let_go(t);
     Ok(())
 }
 

@@ -41,8 +41,8 @@ fn digit(params: &[i64], at: usize) -> usize {
     }
 }
 
-// The number of a task: its class and its digits, each below 4.
-fn number_of(task: &TaskId) -> usize {
+/// The number of a task: its class and its digits, each below 4.
+pub fn number_of(task: &TaskId) -> usize {
     let params = task.params();
     let mut number = (task.class() % 4) as usize;
     for at in 0..3 {

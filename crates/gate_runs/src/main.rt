@@ -1,16 +1,19 @@
-//! Runs jobs through the program with gates that wait or count, and prints how each run ends. Two bodies at once show that there are
-//! two threads, and a count of the bodies of each task that each is run once.
+//! Runs jobs through the program with gates that wait, count or note, and prints how each run ends. Two bodies at once
+//! show that there are two threads, a count of the bodies of each task that each is run once, and the notes of the tasks
+//! of one worker that `trace` prints them in their order.
 #![tactic(auto)]
 
 mod counting;
 mod jobs;
 mod meeting;
+mod noting;
 mod runs;
 
 use crate::counting::Counting;
 use crate::jobs::{CHOLESKY, CHOLESKY_ANSWER, CHOLESKY_DATA, PAIR, PAIR_ANSWER, PAIR_DATA};
 use crate::meeting::Meeting;
-use crate::runs::{Failure, Job, ran};
+use crate::noting::Noting;
+use crate::runs::{Failure, Job, ran, traced};
 use std::alloc::Global;
 use std::io;
 use std::sync::Wait;
@@ -48,6 +51,23 @@ fn count<R: Threads + Wait + Print + Sync>(rt: &R, alloc: Global, options: &str)
     Ok(())
 }
 
+// The tasks of the Cholesky job are noted in the order in which one worker runs them, and its trace must be that order.
+fn note<R: Threads + Wait + Print + Sync>(rt: &R, alloc: Global, options: &str) -> io::Result<()> {
+    let job = Job {
+        jdf: CHOLESKY,
+        data: CHOLESKY_DATA,
+        answer: b"",
+    };
+    let Ok(gate) = Noting::new(alloc) else {
+        return println!(rt; "trace {options}: no memory");
+    };
+    match traced(rt, alloc, &job, options, &gate) {
+        Ok(end) => println!(rt; "trace {options}: {end}, {} tasks", gate.come())?,
+        Err(Failure) => println!(rt; "trace {options}: no memory")?,
+    }
+    Ok(())
+}
+
 fn main(rt: HostRuntime) -> io::Result<()> {
     let alloc = rt.alloc();
     meet(&rt, alloc)?;
@@ -63,6 +83,9 @@ fn main(rt: HostRuntime) -> io::Result<()> {
         "--workers 64 --shards 256 --preload",
     ] {
         count(&rt, alloc, options)?;
+    }
+    for options in ["--workers 1 --shards 1", "--workers 1 --shards 16"] {
+        note(&rt, alloc, options)?;
     }
     Ok(())
 }

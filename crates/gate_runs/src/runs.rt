@@ -1,5 +1,6 @@
 //! A run of a job through the program, over files in memory.
 
+use crate::noting::Noting;
 use ptg_base::{OutOfMemory, Seq, Text};
 use ptg_io::{File, MemFiles, MemSink};
 use ptg_top::ptg_main;
@@ -17,21 +18,16 @@ pub struct Job<'a> {
     pub answer: &'a [u8],
 }
 
-/// How a run ended: its status, and whether it printed the job's answer.
+/// How a run ended: its status, and what it printed.
 #[derive(Clone, Copy)]
 pub struct End {
     status: u8,
-    is_answer: bool,
+    printed: &'static str,
 }
 
 impl fmt::Display for End {
     fn fmt<W: fmt::Write>(&self, f: &mut fmt::Formatter<W>) -> fmt::Result {
-        let printed = if self.is_answer {
-            "the answer"
-        } else {
-            "another text"
-        };
-        write!(f, "status {}, {printed}", self.status)
+        write!(f, "status {}, {}", self.status, self.printed)
     }
 }
 
@@ -56,10 +52,15 @@ impl From<OutOfMemory> for Failure {
     }
 }
 
-// The words of a run with these options.
-fn words(alloc: Global, options: &str) -> Result<Vec<Text>, Failure> {
+// The name of what was printed, if it is what was looked for.
+fn name_if(is_so: bool, name: &'static str) -> &'static str {
+    if is_so { name } else { "another text" }
+}
+
+// The words of a command with these options.
+fn words(alloc: Global, verb: &str, options: &str) -> Result<Vec<Text>, Failure> {
     let mut list = Vec::new(alloc);
-    for word in ["run", "job.jdf", "job.csv"] {
+    for word in [verb, "job.jdf", "job.csv"] {
         list.push(Text::of(alloc, word.as_bytes())?)?;
     }
     for word in options.split_whitespace() {
@@ -86,12 +87,31 @@ pub fn ran<R: Threads + Wait + Sync, G: Gate>(
     options: &str,
     gate: &G,
 ) -> Result<End, Failure> {
-    let words = words(alloc, options)?;
+    let words = words(alloc, "run", options)?;
     let mut files = files(alloc, job)?;
     let mut out = MemSink::new(alloc, Seq::new(alloc));
     let ended = ptg_main(rt, alloc, words.as_slice(), &mut files, &mut out, gate);
     Ok(End {
         status: ended.status.code(),
-        is_answer: out.bytes() == job.answer,
+        printed: name_if(out.bytes() == job.answer, "the answer"),
+    })
+}
+
+/// Traces a job with these options and a gate that notes its tasks.
+pub fn traced<R: Threads + Wait + Sync>(
+    rt: &R,
+    alloc: Global,
+    job: &Job,
+    options: &str,
+    gate: &Noting,
+) -> Result<End, Failure> {
+    let words = words(alloc, "trace", options)?;
+    let mut files = files(alloc, job)?;
+    let mut out = MemSink::new(alloc, Seq::new(alloc));
+    let ended = ptg_main(rt, alloc, words.as_slice(), &mut files, &mut out, gate);
+    let noted = gate.trace(alloc)?;
+    Ok(End {
+        status: ended.status.code(),
+        printed: name_if(out.bytes() == noted.as_bytes(), "the gate's order"),
     })
 }

@@ -1,4 +1,2 @@
 pub mod Fragments
 pub mod Spelling
-pub mod Same
-pub mod ReadsBack

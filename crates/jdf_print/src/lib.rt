@@ -5,11 +5,9 @@ mod argument;
 mod body;
 mod class;
 mod expression;
-mod laws;
 mod number;
 mod printing;
 mod target;
 mod writer;
 
-pub use laws::reads_back;
 pub use printing::print;

@@ -16,7 +16,7 @@ use crate::laws::one_verdict;
 use crate::verdict::JobVerdict;
 use coll_data::{DataRefusal, Given};
 use edge_match::{MatchRefusal, match_edges};
-use flow_check::{check, missing};
+use flow_check::{check, globals_of, missing};
 use jdf_lex::JdfRefusal;
 use jdf_tree::Jdf;
 use plan_core::Plan;
@@ -63,10 +63,11 @@ fn judge_job(alloc: Global, jdf: &Jdf, given: Given) -> Result<JobVerdict, OutOf
     ensures found { IfOk result (JobDenotes (record { jdf = jdf.now; given = given })) }
     ensures fit { IfOk result HasFittingData }
 {
-    if missing(alloc, jdf, &given)? {
+    let globals = globals_of(alloc, jdf, &given)?;
+    if missing(jdf, &globals) {
         return Ok(JobVerdict::Data(missing_name(&given)?));
     }
-    match check(alloc, jdf, &given) {
+    match check(alloc, jdf, &given, &globals) {
         Ok(plan) => judge_plan(alloc, plan, given),
         Err(JdfRefusal::Fault(fault)) => Ok(JobVerdict::Jdf(fault)),
         Err(JdfRefusal::OutOfMemory) => Err(OutOfMemory),

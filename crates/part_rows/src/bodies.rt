@@ -1,6 +1,6 @@
 //! Bodies of tasks, read and run.
 
-use crate::scope::scope;
+use crate::scope::{globals, scope};
 use crate::tokens::{self, refused};
 use body_eval::{Scratch, run_body};
 use body_lang::read_body;
@@ -22,7 +22,8 @@ pub fn read_syntax(alloc: Global, text: &[u8]) -> Result<Printed, Why> {
 /// Reads a body: `read`, or its first fault.
 pub fn read_names(alloc: Global, text: &[u8]) -> Result<Printed, Why> {
     let lexed = lexed(alloc, text)?;
-    let scope = scope(alloc)?;
+    let globals = globals(alloc)?;
+    let scope = scope(alloc, &globals)?;
     match read_body(alloc, lexed.tokens.as_slice(), lexed.end, &scope) {
         Ok(_) => is_read(alloc),
         Err(refusal) => refused(alloc, refusal),
@@ -34,7 +35,8 @@ pub fn read_names(alloc: Global, text: &[u8]) -> Result<Printed, Why> {
 pub fn run(alloc: Global, text: &[u8], elements: &[u8]) -> Result<Printed, Why> {
     let elements = elements_of(elements)?;
     let lexed = lexed(alloc, text)?;
-    let scope = scope(alloc)?;
+    let globals = globals(alloc)?;
+    let scope = scope(alloc, &globals)?;
     let Ok((body, words)) = read_body(alloc, lexed.tokens.as_slice(), lexed.end, &scope) else {
         return Err(Why("a body that is not read"));
     };

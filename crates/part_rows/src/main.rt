@@ -4,6 +4,7 @@
 
 mod bodies;
 mod data;
+mod expressions;
 mod scope;
 mod tokens;
 
@@ -37,6 +38,8 @@ impl Call for Parts {
         };
         match (word.bytes(), words) {
             (b"read-tokens", []) => tokens::read(alloc, only(files)?),
+            (b"read-expression", []) => expressions::read(alloc, only(files)?, false),
+            (b"read-body-expression", []) => expressions::read(alloc, only(files)?, true),
             (b"read-syntax", []) => bodies::read_syntax(alloc, only(files)?),
             (b"read-body", []) => bodies::read_names(alloc, only(files)?),
             (b"run-body", [elements]) => bodies::run(alloc, only(files)?, elements.bytes()),

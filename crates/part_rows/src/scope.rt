@@ -1,20 +1,32 @@
 //! What the names in the rows' bodies mean.
 
 use body_names::{FlowName, Scope};
-use name_table::{NameSet, NameTable};
+use name_table::NameTable;
 use ptg_base::{Seq, Text};
 use row_files::Why;
 use std::alloc::Global;
 use term_core::FlowKind;
 
-/// The locals are `k` and `m`, the integer is `NB` with the value 7, the collection is `D`, and the flows are `A` of kind
-/// RW, `R` of kind READ, `B` of kind WRITE and `C` of kind CTL.
-pub fn scope(alloc: Global) -> Result<Scope, Why> {
-    let locals = vec![in alloc; Text::of(alloc, b"k")?, Text::of(alloc, b"m")?]?;
+/// The globals of the rows' bodies by name.
+#[derive(Drop)]
+pub struct Tables {
+    ints: NameTable<i64>,
+    colls: NameTable<u32>,
+}
+
+/// The integer is `NB` with the value 7, and the collection is `D`.
+pub fn globals(alloc: Global) -> Result<Tables, Why> {
     let mut ints = NameTable::new(alloc);
     ints.add(Text::of(alloc, b"NB")?, 7)?;
-    let mut colls = NameSet::new(alloc);
-    colls.add(Text::of(alloc, b"D")?)?;
+    let mut colls = NameTable::new(alloc);
+    colls.add(Text::of(alloc, b"D")?, 0)?;
+    Ok(Tables { ints, colls })
+}
+
+/// Beside these globals the locals are `k` and `m`, and the flows are `A` of kind RW, `R` of kind READ, `B` of kind WRITE
+/// and `C` of kind CTL.
+pub fn scope<'a>(alloc: Global, globals: &'a Tables) -> Result<Scope<'a>, Why> {
+    let locals = vec![in alloc; Text::of(alloc, b"k")?, Text::of(alloc, b"m")?]?;
     let flows = vec![in alloc;
         flow(alloc, b"A", FlowKind::Rw)?,
         flow(alloc, b"R", FlowKind::Read)?,
@@ -23,8 +35,8 @@ pub fn scope(alloc: Global) -> Result<Scope, Why> {
     ]?;
     Ok(Scope {
         locals: Seq::of(locals),
-        ints,
-        colls,
+        ints: &globals.ints,
+        colls: &globals.colls,
         flows: Seq::of(flows),
     })
 }

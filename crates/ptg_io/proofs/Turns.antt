@@ -1,6 +1,7 @@
 -- Reads of one file in turn.
 use Rattle.std.proofs.Common.{◌≡◌, ◌<◌, ◌≤◌, ◌+◌, ℕ, List, [], ◌∷◌, sym, subst, ◌∙◌, refl, arith}
-use Rattle.ptg_io.specs.Load.{HasRead, StopsPast}
+use Rattle.std.proofs.Common.{Result, Ok, Err}
+use Rattle.ptg_io.specs.Load.{FailsWithin, HasRead, StopsPast}
 use Rattle.std.proofs.lemmas.List.Sums.{sum_by_from}
 
 -- no read gave no bytes
@@ -24,3 +25,11 @@ stops gives name start middle end size n limit before read within past = record 
   within = omega (arith, before.together, within);
   past = omega (arith, before.together, past);
 }
+
+-- the read that fails
+pub fails_within : {Files : Type 0} (gives : Files → List ℕ → ℕ → ℕ → Files → Type 0) (fails : Files → List ℕ → ℕ → Files → Type 0) (name : List ℕ) (start middle end : Files) (size limit : ℕ) → HasRead gives name start size middle → fails middle name size end → size ≤ limit → FailsWithin gives fails name limit start end
+fails_within gives fails name start middle end size limit before read within = record { size = size; before = middle; reads = before; within = within; failed = read }
+
+-- a value is no error
+pub no_error : {T E : Type 0} (result : Result T E) (value : T) (error : E) → result ≡ Ok value → ¬ (result ≡ Err error)
+no_error result value error is_value is_error = absurd (cc (is_value, is_error))

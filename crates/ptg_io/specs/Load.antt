@@ -27,3 +27,11 @@ pub record StopsPast {Files : Type 0} (gives : Files → List ℕ → ℕ → �
   pub reads : ReadsInTurn gives name start (last ∷ earlier) end
   pub within : sum earlier ≤ limit
   pub past : limit < sum earlier + last
+
+-- Reads of one file in turn, which gave at most so many bytes together, and then one from where they ended, which failed.
+pub record FailsWithin {Files : Type 0} (gives : Files → List ℕ → ℕ → ℕ → Files → Type 0) (fails : Files → List ℕ → ℕ → Files → Type 0) (name : List ℕ) (limit : ℕ) (start end : Files) : Type 0 where
+  pub size : ℕ
+  pub before : Files
+  pub reads : HasRead gives name start size before
+  pub within : size ≤ limit
+  pub failed : fails before name size end

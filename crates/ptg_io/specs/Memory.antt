@@ -1,5 +1,5 @@
 -- Files and a sink in memory, some of whose reads and writes fail. Source: this project's own choice, for tests.
-use Rattle.std.specs.Prelude.{◌≡◌, ◌≢◌, ℕ, List, Option, None, Some, slice_index, position, Contains}
+use Rattle.std.specs.Prelude.{◌≡◌, ◌≢◌, ◌⊎◌, ℕ, List, Option, None, Some, slice_index, position, Contains}
 use Rattle.std.specs.Str.{bytes_eq}
 use Rattle.ptg_io.specs.Faults.{one_more}
 
@@ -35,6 +35,15 @@ pub record CountsFault (old new : MemoryFiles) (name : List ℕ) : Type 0 where
 pub record CountsRead (old new : MemoryFiles) : Type 0 where
   pub allowed : ¬ Contains old.fails new.reads
   pub next : new ≡ record { files = old.files; failed = old.failed; missing = old.missing; reads = one_more old.reads; fails = old.fails }
+
+-- A read of a name that fails has the next number, which is one of those that fail, or its name is missing. It changes the counts
+-- of faults beside.
+pub record CountsFailedRead (old new : MemoryFiles) (name : List ℕ) : Type 0 where
+  pub cause : Contains old.fails new.reads ⊎ (index_of old.files name ≡ None)
+  pub next : new.reads ≡ one_more old.reads
+  pub faults : CountsFault old new name
+  pub files : new.files ≡ old.files
+  pub fails : new.fails ≡ old.fails
 
 -- What a sink in memory is: the bytes written; how many writes failed; the number of the writes so far; and the
 -- numbers of the writes that fail, from 1.

@@ -1,6 +1,6 @@
 //! Files that are read by name.
 
-ghost use Rattle.std.specs.Prelude.{◌≡◌, ◌<◌, ◌≤◌, ⊤, List, ℕ, Option, length, IfOk, OnErr};
+ghost use Rattle.std.specs.Prelude.{◌≡◌, ◌<◌, ◌≤◌, ⊤, List, ℕ, Option, length, IfOk, OnOk, OnErr};
 ghost use Rattle.ptg_io.specs.Faults.{Rose};
 ghost use Rattle.ptg_io.specs.Files.{ReadsPiece};
 
@@ -19,6 +19,9 @@ pub trait Files {
     /// How the files are after a read of a name from an offset gave so many bytes, as far as that is known.
     ghost read_gives: { Self → List ℕ → ℕ → ℕ → Self → Type 0 } = { λ _ _ _ _ _. ⊤ };
 
+    /// How the files are after a read of a name from an offset failed, as far as that is known.
+    ghost read_fails: { Self → List ℕ → ℕ → Self → Type 0 } = { λ _ _ _ _. ⊤ };
+
     /// Copies the next bytes of a file from an offset on into a buffer, any number of them. No bytes means the end.
     fn read(&mut self, name: &str, from: u64, into: &mut [u8]) -> Result<usize, Failed>
         requires { 0 < length into.old }
@@ -27,6 +30,8 @@ pub trait Files {
         ensures given { (files : List (List ℕ × List ℕ)) → contents self.old ≡ Some files →
             IfOk result (λ n. ReadsPiece files name.now from n into.new) }
         ensures gives { IfOk result (λ n. read_gives self.old name.now from n self.new) }
+        ensures read_fails { OnErr result (read_fails self.old name.now from self.new) }
         ensures grows { (other : List ℕ) → faults self.old other ≤ faults self.new other }
-        ensures failed { OnErr result (Rose (faults self.old name.now) (faults self.new name.now)) };
+        ensures failed { OnErr result (Rose (faults self.old name.now) (faults self.new name.now)) }
+        ensures no_fault { OnOk result ((other : List ℕ) → faults self.new other ≡ faults self.old other) };
 }

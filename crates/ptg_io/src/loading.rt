@@ -3,7 +3,7 @@
 ghost use Rattle.std.specs.Prelude.{◌≡◌, ◌<◌, ◌≤◌, ◌+◌, List, ℕ, length, vec_len, IfOk, OnOk, IsErrOf, IsTrue, IsFalse};
 ghost use Rattle.ptg_io.specs.Faults.{Rose};
 ghost use Rattle.ptg_io.specs.Files.{file_of, IsLonger};
-ghost use Rattle.ptg_io.specs.Load.{IsReadSoFar, StopsPast};
+ghost use Rattle.ptg_io.specs.Load.{FailsWithin, IsReadSoFar, StopsPast};
 ghost use Rattle.ptg_io.specs.declared.loading.LoadFault.TheVariants.{Failed, OutOfMemory};
 
 use crate::files::{self, Files};
@@ -64,6 +64,10 @@ pub fn load<F: Files>(alloc: Global, files: &mut F, name: &str) -> Result<Seq<u8
         IsLonger entries name.now 16777216 }
     ensures stops { IsErrOf result LoadFault.TooLong →
         StopsPast F.read_gives name.now 16777216 files.old files.new }
+    ensures within { IsErrOf result LoadFault.Failed →
+        FailsWithin F.read_gives F.read_fails name.now 16777216 files.old files.new }
+    ensures no_fault { ¬ IsErrOf result LoadFault.Failed →
+        (other : List ℕ) → F.faults files.new other ≡ F.faults files.old other }
 {
     let mut piece = zeros(alloc, PIECE)?;
     let bytes = read_all(alloc, files, name, piece.as_mut_slice())?;
@@ -78,7 +82,7 @@ fn zeros(alloc: Global, count: usize) -> Result<Vec<u8>, AllocError>
 }
 
 // Reads a file to its end, piece by piece, through this buffer.
-#[tactic(auto, using(crate::proofs::Turns::none_read, crate::proofs::Turns::stops))]
+#[tactic(auto, using(crate::proofs::Turns::none_read, crate::proofs::Turns::stops, crate::proofs::Turns::fails_within))]
 fn read_all<F: Files>(
     alloc: Global,
     files: &mut F,
@@ -98,6 +102,10 @@ fn read_all<F: Files>(
         IsLonger entries name.now 16777216 }
     ensures stops { IsErrOf result LoadFault.TooLong →
         StopsPast F.read_gives name.now 16777216 files.old files.new }
+    ensures within { IsErrOf result LoadFault.Failed →
+        FailsWithin F.read_gives F.read_fails name.now 16777216 files.old files.new }
+    ensures no_fault { ¬ IsErrOf result LoadFault.Failed →
+        (other : List ℕ) → F.faults files.new other ≡ F.faults files.old other }
 {
     let mut bytes = Vec::new(alloc);
     'pieces: loop {
@@ -132,6 +140,9 @@ fn read_piece<F: Files>(
     ensures too_long { IsErrOf result LoadFault.TooLong →
         (entries : List (List ℕ × List ℕ)) → F.contents files.old ≡ Some entries →
         IsLonger entries name.now 16777216 }
+    ensures read_fails { IsErrOf result LoadFault.Failed → F.read_fails files.old name.now (vec_len bytes.old) files.new }
+    ensures no_fault { ¬ IsErrOf result LoadFault.Failed →
+        (other : List ℕ) → F.faults files.new other ≡ F.faults files.old other }
     ensures past { IsErrOf result LoadFault.TooLong →
         (n : ℕ) × F.read_gives files.old name.now (vec_len bytes.old) n files.new ×
         (16777216 < vec_len bytes.old + n) }

@@ -3,7 +3,7 @@
 ghost use Rattle.std.specs.Prelude.{◌≡◌, ◌≢◌, ◌<◌, ◌≤◌, ◌+◌, ◌-◌, ◌⊎◌, ◌↔◌, min, List, ℕ, Option, Some, None, length, Contains, IfOk, IfSome, OnOk, OnErr, IsErr};
 ghost use Rattle.ptg_io.specs.Faults.{Rose, one_more};
 ghost use Rattle.ptg_io.specs.Files.{file_of, IsPiece, ReadsPiece};
-ghost use Rattle.ptg_io.specs.Memory.{index_of, fault_count, failed_reads, CountsFault, CountsRead};
+ghost use Rattle.ptg_io.specs.Memory.{index_of, fault_count, failed_reads, CountsFailedRead, CountsFault, CountsRead};
 
 use crate::file::File;
 use crate::files::{Failed, Files};
@@ -58,6 +58,8 @@ impl Files for MemFiles {
 
     ghost read_gives = { λ old name from n new. CountsRead old new };
 
+    ghost read_fails = { λ old name from new. CountsFailedRead old new name };
+
     fn read(&mut self, name: &str, from: u64, into: &mut [u8]) -> Result<usize, Failed>
         requires { 0 < length into.old }
         ensures stays { Some self.new.files ≡ Some self.old.files }
@@ -65,6 +67,7 @@ impl Files for MemFiles {
         ensures given { (files : List (List ℕ × List ℕ)) → Some self.old.files ≡ Some files →
             IfOk result (λ n. ReadsPiece files name.now from n into.new) }
         ensures gives { IfOk result (λ n. CountsRead self.old self.new) }
+        ensures read_fails { OnErr result (CountsFailedRead self.old self.new name.now) }
         ensures grows { (other : List ℕ) → failed_reads self.old other ≤ failed_reads self.new other }
         ensures failed { OnErr result (Rose (failed_reads self.old name.now) (failed_reads self.new name.now)) }
 

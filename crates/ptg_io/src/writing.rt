@@ -17,6 +17,7 @@ pub fn write_all<O: Sink>(sink: &mut O, bytes: &[u8]) -> Result<(), Failed>
         (O.bytes sink.new ≡ appended (O.bytes sink.old) (take n bytes.now))) }
     ensures grows { O.faults sink.old ≤ O.faults sink.new }
     ensures failed { OnErr result (Rose (O.faults sink.old) (O.faults sink.new)) }
+    ensures no_fault { OnOk result (O.faults sink.new ≡ O.faults sink.old) }
 {
     let mut done = 0;
     while done < bytes.len() {

@@ -1,5 +1,6 @@
 //! The cases that can be measured.
 use crate::bodies::body;
+use crate::certificates::{chain_lists, checked_chain, checked_cycle};
 use crate::count::{Count, Failure};
 use crate::data_files::{ints, long_tiles, short_tiles};
 use crate::edges::{edges, job, star_edges};
@@ -38,6 +39,12 @@ pub enum Case {
     Edges,
     /// A broadcast to so many tasks and a gather from them, walked, and each edge asked for on its other side.
     Star,
+    /// The lists of a chain of so many tasks, each the source of the next.
+    ChainLists,
+    /// These, and whether they show that no chain is heavier.
+    CheckedChain,
+    /// So many tasks in a ring, and whether they are a cycle.
+    CheckedCycle,
 }
 
 impl Case {
@@ -57,6 +64,9 @@ impl Case {
             "job" => Some(Case::Job),
             "edges" => Some(Case::Edges),
             "star" => Some(Case::Star),
+            "chain_lists" => Some(Case::ChainLists),
+            "checked_chain" => Some(Case::CheckedChain),
+            "checked_cycle" => Some(Case::CheckedCycle),
             _ => None,
         }
     }
@@ -78,5 +88,8 @@ pub fn measure(alloc: Global, case: Case, size: u32) -> Result<Vec<Count>, Failu
         Case::Job => job(alloc, size),
         Case::Edges => edges(alloc, size),
         Case::Star => star_edges(alloc, size),
+        Case::ChainLists => chain_lists(alloc, size),
+        Case::CheckedChain => checked_chain(alloc, size),
+        Case::CheckedCycle => checked_cycle(alloc, size),
     }
 }

@@ -1,6 +1,6 @@
 //! Plans of jobs of a given size, made from their texts.
 use crate::count::Failure;
-use flow_check::{check, missing};
+use flow_check::{check, globals_of, missing};
 use job_stages::{given_of, tree_of};
 use plan_core::Plan;
 use std::alloc::Global;
@@ -26,14 +26,41 @@ BODY
 END
 ";
 
+// Tasks of which each but the last is the source of an edge into the next.
+const LINE: &[u8] = b"D
+LAST
+
+task(k)
+k = 0 .. LAST
+: D(0)
+CTL X <- k > 0 ? X task(k - 1)
+      -> k < LAST ? X task(k + 1)
+BODY
+END
+";
+
+// The same, and the last is the source of an edge into the first.
+const RING: &[u8] = b"D
+LAST
+
+task(k)
+k = 0 .. LAST
+: D(0)
+CTL X <- X task(k > 0 ? k - 1 : LAST)
+      -> X task(k < LAST ? k + 1 : 0)
+BODY
+END
+";
+
 // The plan of a JDF and a data file.
 fn plan_of(alloc: Global, jdf: &[u8], table: &[u8]) -> Result<Plan, Failure> {
     let tree = tree_of(alloc, jdf)?;
     let given = given_of(alloc, table)?;
-    if missing(alloc, &tree, &given)? {
+    let globals = globals_of(alloc, &tree, &given)?;
+    if missing(&tree, &globals) {
         return Err(Failure::NotWellMade);
     }
-    Ok(check(alloc, &tree, &given)?)
+    Ok(check(alloc, &tree, &given, &globals)?)
 }
 
 /// The plan of a job of the shape of a tiled Cholesky factorization with so many rows of tiles.
@@ -45,9 +72,24 @@ pub fn cholesky(alloc: Global, size: u32) -> Result<Plan, Failure> {
     plan_of(alloc, jdf.bytes(), table.bytes())
 }
 
+// The plan of a JDF whose last number is one less than this.
+fn plan_up_to(alloc: Global, jdf: &[u8], count: u32) -> Result<Plan, Failure> {
+    let last = i64::from(count) - 1;
+    let table = format!(in alloc; "elems,1\nint,LAST,{last}\ncoll,D,1\n")?;
+    plan_of(alloc, jdf, table.as_bytes())
+}
+
 /// The plan of one task and so many others.
 pub fn star(alloc: Global, others: u32) -> Result<Plan, Failure> {
-    let last = i64::from(others) - 1;
-    let table = format!(in alloc; "elems,1\nint,LAST,{last}\ncoll,D,1\n")?;
-    plan_of(alloc, STAR, table.as_bytes())
+    plan_up_to(alloc, STAR, others)
+}
+
+/// The plan of so many tasks in a line.
+pub fn line(alloc: Global, tasks: u32) -> Result<Plan, Failure> {
+    plan_up_to(alloc, LINE, tasks)
+}
+
+/// The plan of so many tasks in a ring.
+pub fn ring(alloc: Global, tasks: u32) -> Result<Plan, Failure> {
+    plan_up_to(alloc, RING, tasks)
 }

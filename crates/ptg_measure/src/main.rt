@@ -3,6 +3,7 @@
 
 mod bodies;
 mod case;
+mod certificates;
 mod count;
 mod data_files;
 mod edges;
@@ -19,8 +20,8 @@ use std::process::ExitCode;
 use std::{env, io};
 
 const USAGE: &str = "usage: ptg_measure (CASE SIZE)..
-CASE is space, size, size_of_square, size_with_sum, body, tokens, long_tiles, short_tiles, ints, names, job, edges or
-star";
+CASE is space, size, size_of_square, size_with_sum, body, tokens, long_tiles, short_tiles, ints, names, job, edges,
+star, chain_lists, checked_chain or checked_cycle";
 
 // The case and the size that two words name.
 fn wanted(case: &String, size: &String) -> Option<(Case, u32)> {

@@ -3,7 +3,7 @@ use crate::count::{Count, Failure};
 use body_lang::read_body;
 use body_names::{FlowName, Scope};
 use jdf_lex::tokens;
-use name_table::{NameSet, NameTable};
+use name_table::NameTable;
 use ptg_base::{Seq, Text};
 use std::alloc::Global;
 use term_core::FlowKind;
@@ -23,16 +23,20 @@ fn integers(alloc: Global, count: u32) -> Result<NameTable<i64>, Failure> {
     Ok(integers)
 }
 
-// A scope of one flow and so many integers.
-fn scope(alloc: Global, count: u32) -> Result<Scope, Failure> {
+// A scope of one flow and these globals.
+fn scope<'a>(
+    alloc: Global,
+    ints: &'a NameTable<i64>,
+    colls: &'a NameTable<u32>,
+) -> Result<Scope<'a>, Failure> {
     let flow = FlowName {
         name: Text::of(alloc, b"A")?,
         kind: FlowKind::Rw,
     };
     Ok(Scope {
         locals: Seq::new(alloc),
-        ints: integers(alloc, count)?,
-        colls: NameSet::new(alloc),
+        ints,
+        colls,
         flows: Seq::of(vec![in alloc; flow]?),
     })
 }
@@ -67,7 +71,9 @@ fn body(alloc: Global, size: u32) -> Result<String, Failure> {
 
 /// A body with so many names, read under as many globals: how many tokens and slots it has.
 pub fn names(alloc: Global, size: u32) -> Result<Vec<Count>, Failure> {
-    let scope = scope(alloc, size)?;
+    let ints = integers(alloc, size)?;
+    let colls = NameTable::new(alloc);
+    let scope = scope(alloc, &ints, &colls)?;
     let text = body(alloc, size)?;
     if text.len() > 16777216 {
         return Err(Failure::TooLarge);

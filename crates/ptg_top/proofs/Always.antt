@@ -3,10 +3,7 @@ use Rattle.std.proofs.Common.{◌≡◌, ℕ, List, Some, refl, sym, ◌∙◌, 
 use Rattle.std.specs.Prelude.{Option, None, if◌then◌else◌}
 use Rattle.ptg_io.specs.Files.{file_of}
 use Rattle.ptg_io.specs.Sink.{appended}
-use Rattle.ptg_words.specs.declared.order.Order.{Order}
 use Rattle.ptg_words.specs.Laws.{OrderOrUsage}
-use Rattle.ptg_words.specs.Words.{Orders}
-use Rattle.ptg_words.proofs.OneOrder.{one_order}
 use Rattle.jdf_print.specs.Spelling.{spelling}
 use Rattle.flow_meaning.specs.Answer.{answer}
 use Rattle.jdf_read.proofs.Either.{tree_or_fault}
@@ -44,20 +41,9 @@ use Rattle.ptg_top.proofs.Checked.{contents_consistent, fault_refuses}
 
 -- ---- what is asked
 
--- an order that is not carried out yet asks for nothing, and arguments form no other
-not_asked : (words : List (List ℕ)) (o : Order) → Orders words o → request_of o ≡ None → IsNoOrder words
-not_asked words o formed none request asked = other (sym none ∙ (ap request_of (one_order words o asked.order formed asked.formed) ∙ asked.asks))
-  where
-    other : ◌≡◌ {A = Option Request} None (Some request) → ⊥
-    other e = cc
-
-by_order : (words : List (List ℕ)) (o : Order) → Orders words o → (r : Option Request) → request_of o ≡ r → ((request : Request) × Requests words request) ⊎ IsNoOrder words
-by_order words o formed None e = inr (not_asked words o formed e)
-by_order words o formed (Some request) e = inl (request, record { order = o; formed = formed; asks = e })
-
 asked_or_none : OrderOrUsage → (words : List (List ℕ)) → ((request : Request) × Requests words request) ⊎ IsNoOrder words
 asked_or_none either words = elim (either words) [
-  | inl o ↦ by_order words o.0 o.1 (request_of o.0) refl
+  | inl o ↦ inl (request_of o.0, record { order = o.0; formed = o.1; asks = refl })
   | inr usage ↦ inr (λ request asked. asked.formed.breaks_no_rule usage)
 ]
 

@@ -60,7 +60,7 @@ some_is_not_none : (r : ReceiptView) → ◌≡◌ {A = Option ReceiptView} (Som
 some_is_not_none r e = absurd cc
 
 module _ (r : ReceiptView) (finding : Finding) where
-  receipt_of_order : (o : Order) (request : Request) → request_of o ≡ Some request → IsRunAsAsked request (Ran (Table r) finding) → IsReceiptFor o r
+  receipt_of_order : (o : Order) (request : Request) → request_of o ≡ request → IsRunAsAsked request (Ran (Table r) finding) → IsReceiptFor o r
   receipt_of_order (order.Run j t w s p) request e h =
       let same : request ≡ Run j t (record { workers = w; shards = s; preload = p }) = cc in
       subst (λ (q : Request). IsRunAsAsked q (Ran (Table r) finding)) same h
@@ -192,7 +192,7 @@ module _ (P : Plan) (finding : Finding) where
   of_certified Q given (c, h, e) = cc
 
   module _ (files : Entries) where
-    order_finds : (o : Order) (request : Request) → request_of o ≡ Some request → RequestDenotes files request (verdicts.Ran P finding) → FindsPlan files o P
+    order_finds : (o : Order) (request : Request) → request_of o ≡ request → RequestDenotes files request (verdicts.Ran P finding) → FindsPlan files o P
     order_finds (order.Run j t w s p) request e h =
         let settings : Settings = record { workers = w; shards = s; preload = p } in
         let same : request ≡ Run j t settings = cc in

@@ -1,6 +1,6 @@
 -- What a command asks for: one thing, whose names are text and whose numbers are in their ranges.
-use Rattle.std.proofs.Common.{◌≡◌, ℕ, List, Some, refl, sym, ◌∙◌, ap, subst}
-use Rattle.std.specs.Prelude.{Option, false}
+use Rattle.std.proofs.Common.{◌≡◌, ℕ, List, refl, sym, ◌∙◌, ap, subst}
+use Rattle.std.specs.Prelude.{false}
 use Rattle.ptg_words.specs.declared.order.Order.{Order}
 use Rattle.ptg_words.specs.declared.order.Order.TheVariants as order
 use Rattle.ptg_words.specs.Laws.{AreText, FilesAreText, HasNumbersInRange, NumbersInRange, files_of}
@@ -13,13 +13,10 @@ use Rattle.ptg_top.specs.Reports.{IsProper}
 
 -- the arguments ask for one thing at most
 pub one_request : (words : List (List ℕ)) (a b : Request) → Requests words a → Requests words b → a ≡ b
-one_request words a b p q = asked (sym p.asks ∙ (ap request_of (one_order words p.order q.order p.formed q.formed) ∙ q.asks))
-  where
-    asked : ◌≡◌ {A = Option Request} (Some a) (Some b) → a ≡ b
-    asked e = cc
+one_request words a b p q = sym p.asks ∙ (ap request_of (one_order words p.order q.order p.formed q.formed) ∙ q.asks)
 
 -- the names of a request are text, and its numbers are in their ranges
-asked_is_proper : (o : Order) → AreText (files_of o) → HasNumbersInRange o → (r : Request) → request_of o ≡ Some r → IsProper r
+asked_is_proper : (o : Order) → AreText (files_of o) → HasNumbersInRange o → (r : Request) → request_of o ≡ r → IsProper r
 asked_is_proper (order.Run j t w s p) m n r e =
     let same : Run j t (record { workers = w; shards = s; preload = p }) ≡ r = cc in subst IsProper same (m.0, m.1.0, n)
 asked_is_proper (order.Show j) m n r e = let same : Show j ≡ r = cc in subst IsProper same m.0
@@ -33,5 +30,5 @@ asked_is_proper (order.Certify j t) m n r e = let same : Certify j t ≡ r = cc 
 asked_is_proper (order.Ranks j t k s) m n r e =
     let same : Ranks j t (record { ranks = k; seed = s }) ≡ r = cc in subst IsProper same (m.0, m.1.0, (n.0, n.1))
 
-pub request_is_proper : FilesAreText → NumbersInRange → (list : List (List ℕ)) (o : Order) (r : Request) → Orders list o → request_of o ≡ Some r → IsProper r
+pub request_is_proper : FilesAreText → NumbersInRange → (list : List (List ℕ)) (o : Order) (r : Request) → Orders list o → request_of o ≡ r → IsProper r
 request_is_proper text ranges list o r formed e = asked_is_proper o (text list o formed) (ranges list o formed) r e

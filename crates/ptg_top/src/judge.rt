@@ -39,10 +39,10 @@ pub fn judge<R: Threads + Wait + Sync, F: Files, G: Gate>(
     files_are_text();
     orders_have_numbers_in_range();
     match words(host.alloc, list) {
-        Ok(order) => match request_of(order) {
-            Some(request) => carry_out(host, &request, files),
-            None => Ok(Verdict::Usage),
-        },
+        Ok(order) => {
+            let request = request_of(order);
+            carry_out(host, &request, files)
+        }
         Err(WordsRefusal::Usage) => Ok(Verdict::Usage),
         Err(WordsRefusal::OutOfMemory) => Err(OutOfMemory),
     }

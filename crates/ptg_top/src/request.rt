@@ -38,7 +38,7 @@ pub struct RankSettings {
 }
 
 /// What a command asks for.
-pub fn request_of(order: Order) -> Option<Request>
+pub fn request_of(order: Order) -> Request
     ensures { result ≡ request_of order }
 {
     match order {
@@ -48,24 +48,24 @@ pub fn request_of(order: Order) -> Option<Request>
                 shards,
                 preload,
             };
-            Some(Request::Run(jdf, tiles, settings))
+            Request::Run(jdf, tiles, settings)
         }
-        Order::Show(jdf) => Some(Request::Show(jdf)),
-        Order::Check(jdf, tiles) => Some(Request::Check(jdf, tiles)),
-        Order::Demo(rows) => Some(Request::Demo(rows)),
+        Order::Show(jdf) => Request::Show(jdf),
+        Order::Check(jdf, tiles) => Request::Check(jdf, tiles),
+        Order::Demo(rows) => Request::Demo(rows),
         Order::Trace(jdf, tiles, workers, shards) => {
             let settings = Settings {
                 workers,
                 shards,
                 preload: false,
             };
-            Some(Request::Trace(jdf, tiles, settings))
+            Request::Trace(jdf, tiles, settings)
         }
-        Order::Replay(jdf, tiles, trace) => Some(Request::Replay(jdf, tiles, trace)),
-        Order::Certify(jdf, tiles) => Some(Request::Certify(jdf, tiles)),
+        Order::Replay(jdf, tiles, trace) => Request::Replay(jdf, tiles, trace),
+        Order::Certify(jdf, tiles) => Request::Certify(jdf, tiles),
         Order::Ranks(jdf, tiles, ranks, seed) => {
             let settings = RankSettings { ranks, seed };
-            Some(Request::Ranks(jdf, tiles, settings))
+            Request::Ranks(jdf, tiles, settings)
         }
     }
 }

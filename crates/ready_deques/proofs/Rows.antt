@@ -1,11 +1,12 @@
 -- A list whose first elements are changed, as a loop over an index leaves it.
-use Rattle.std.proofs.Common.{◌≡◌, ℕ, zero, suc, ◌+◌, ◌-◌, ◌<◌, ◌≤◌, List, [], ◌∷◌, ◌++◌, length, map, set, get_or, take, drop, replicate, Some, All, sym, refl, ap, subst, ◌∙◌, arith, add-one}
+use Rattle.std.proofs.Common.{◌≡◌, ◌≢◌, ℕ, zero, suc, ◌+◌, ◌-◌, ◌<◌, ◌≤◌, List, [], ◌∷◌, ◌++◌, length, map, set, get_or, take, drop, replicate, Some, All, sym, refl, ap, subst, ◌∙◌, arith, add-one}
+use Rattle.std.proofs.lemmas.List.{length-set, map-set, set-set}
 use Rattle.std.proofs.lemmas.List.Elements.{All-head, All-tail, All-nil, All-cons, All-append, All-get_or}
 use Rattle.std.proofs.lemmas.Option.{get_or_from_slice_get, slice_get_within, slice_get-map}
 use Rattle.std.specs.Prelude.{slice_get, option_map}
-use Rattle.ready_deques.specs.Ends.{Owner, Thief, less, new_thief, IsNew}
+use Rattle.ready_deques.specs.Ends.{OthersHaveParts, Owner, Thief, less, new_thief, IsNew}
 use Rattle.ready_deques.specs.Hands.{Account, fresh}
-use Rattle.ready_deques.proofs.Accounts.{account}
+use Rattle.ready_deques.proofs.Accounts.{account, same_deques}
 
 module _ {X Y : Type 0} (f : X → Y) where
   grows : (xs : List X) (k : ℕ) (d : X) → k < length xs → map f (take k xs) ++ f (get_or xs k d) ∷ [] ≡ map f (take (suc k) xs)
@@ -80,12 +81,53 @@ more_than_one (b ∷ owners) k n within all =
     let first = All-head (λ (x : Owner). n < x.parts) b owners all in
     All-cons (λ (x : Owner). 1 < x.parts) (less k b) (map (less k) owners) (omega arith) (more_than_one owners k n within (All-tail (λ (x : Owner). n < x.parts) b owners all))
 
--- the account of ends that nothing was pushed to or taken from
-pub unused : (n : ℕ) (own : Owner) (thieves : List Thief) → IsNew (length thieves) own → All (λ (f : Thief). f.taken ≡ []) thieves → account n own thieves ≡ fresh (map (λ (f : Thief). f.deque) thieves) n
-unused n own thieves new all =
-    let ts = map (λ (f : Thief). f.taken) thieves in
-    let taken : set ts n own.taken ≡ replicate (length (map (λ (f : Thief). f.deque) thieves)) [] = ap (λ ids. set ts n ids) new.taken ∙ none_taken thieves n all in
-    λ i. record { number = n; deques = map (λ (f : Thief). f.deque) thieves; pushed = new.pushed i; taken = taken i }
+-- the ends of a worker whose own thief's end gave its part back
+pub record IsKept (n : ℕ) (own : Owner) (thieves : List Thief) (own' : Owner) (thieves' : List Thief) : Type 0 where
+  pub account_is : account n own' thieves' ≡ fresh (map (λ (f : Thief). f.deque) thieves) n
+  pub within : n < length thieves'
+  pub parts : own'.parts + length thieves' ≡ 66
+  pub deque : slice_get (map (λ (f : Thief). f.deque) thieves') n ≡ Some own'.deque
+  pub others : OthersHaveParts n thieves'
+
+abbrev pub HasPart : Thief → Type 0
+HasPart f = f.parts ≡ 1
+
+all_parts : (thieves : List Thief) (f' : Thief) (n k : ℕ) → All HasPart thieves → k < length thieves → k ≢ n
+    → slice_get (map (λ (f : Thief). f.parts) (set thieves n f')) k ≡ Some 1
+all_parts [] f' n k all within ne = absurd (omega arith)
+all_parts (f ∷ thieves) f' zero zero all within ne = absurd (ne refl)
+all_parts (f ∷ thieves) f' (suc n) zero all within ne = ap Some (All-head HasPart f thieves all)
+all_parts (f ∷ thieves) f' zero (suc k) all within ne = unchanged thieves k (All-tail HasPart f thieves all) (omega arith)
+  where
+    unchanged : (fs : List Thief) (j : ℕ) → All HasPart fs → j < length fs → slice_get (map (λ (x : Thief). x.parts) fs) j ≡ Some 1
+    unchanged [] j all' within' = absurd (omega arith)
+    unchanged (x ∷ fs) zero all' within' = ap Some (All-head HasPart x fs all')
+    unchanged (x ∷ fs) (suc j) all' within' = unchanged fs j (All-tail HasPart x fs all') (omega arith)
+all_parts (f ∷ thieves) f' (suc n) (suc k) all within ne = all_parts thieves f' n k (All-tail HasPart f thieves all) (omega arith) (λ e. ne (ap suc e))
+
+pub kept : (n : ℕ) (own own' : Owner) (thieves : List Thief) (f f' : Thief) → n < length thieves → IsNew (length thieves) own
+    → All IsUntaken thieves → All HasPart thieves → slice_get (map (λ (x : Thief). x.deque) thieves) n ≡ Some own.deque → f ≡ get_or thieves n f
+    → own' ≡ record own { parts = own.parts + f.parts; taken = own.taken ++ f.taken }
+    → f' ≡ record { deque = f.deque; parts = 0; taken = [] } → IsKept n own thieves own' (set thieves n f')
+kept n own own' thieves f f' within new untaken whole there here owns partless =
+    let ds = same_deques thieves n f f' here (ap (λ (x : Thief). x.deque) partless) in
+    let none : f.taken ≡ [] = subst IsUntaken (sym here) (All-get_or IsUntaken thieves n f within untaken) in
+    let part : f.parts ≡ 1 = subst HasPart (sym here) (All-get_or HasPart thieves n f within whole) in
+    let long = length-set thieves n f' in
+    let parts : own'.parts ≡ own.parts + f.parts = ap (λ (b : Owner). b.parts) owns in
+    let given = new.parts in
+    let took : own'.taken ≡ [] = ap (λ (b : Owner). b.taken) owns ∙ (ap (λ ids. ids ++ f.taken) new.taken ∙ none) in
+    let pushed : own'.pushed ≡ [] = ap (λ (b : Owner). b.pushed) owns ∙ new.pushed in
+    let ts = map (λ (x : Thief). x.taken) thieves in
+    let all_taken : set (map (λ (x : Thief). x.taken) (set thieves n f')) n own'.taken ≡ replicate (length (map (λ (x : Thief). x.deque) thieves)) [] =
+    ap (λ xs. set xs n own'.taken) (map-set (λ (x : Thief). x.taken) thieves n f') ∙ (set-set ts n f'.taken own'.taken ∙ (ap (λ ids. set ts n ids) took ∙ none_taken thieves n untaken)) in
+    record {
+      account_is = (λ i. record { number = n; deques = ds i; pushed = pushed i; taken = all_taken i });
+      within = omega (arith, within, long);
+      parts = omega (arith, given, part, parts, long);
+      deque = ap (λ xs. slice_get xs n) ds ∙ (there ∙ ap Some (sym (ap (λ (b : Owner). b.deque) owns)));
+      others = λ k below ne. all_parts thieves f' n k whole (omega (arith, below, long)) ne;
+    }
 
 -- one more deque gave an end
 pub one_more : (init owners : List Owner) (thieves thieves' : List Thief) (k : ℕ) (b b' : Owner) (f : Thief) → k < length init
@@ -138,6 +180,10 @@ all_at_next P xs n x here all = subst P (get_or_from_slice_get xs n x x here) (A
 pub deques_of_row : (owners : List Owner) → map (λ (f : Thief). f.deque) (map new_thief owners) ≡ map (λ (b : Owner). b.deque) owners
 deques_of_row [] = refl
 deques_of_row (b ∷ owners) = ap (λ ds. b.deque ∷ ds) (deques_of_row owners)
+
+pub whole_row : (owners : List Owner) → All HasPart (map new_thief owners)
+whole_row [] = All-nil HasPart
+whole_row (b ∷ owners) = All-cons HasPart (new_thief b) (map new_thief owners) refl (whole_row owners)
 
 pub untaken_row : (owners : List Owner) → All IsUntaken (map new_thief owners)
 untaken_row [] = All-nil IsUntaken

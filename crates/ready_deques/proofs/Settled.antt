@@ -38,16 +38,15 @@ pub gathered_all : (id : Task) (worker total : ℕ) (taken : List Task) (rest : 
 gathered_all id worker total taken [] none sum = omega arith
 gathered_all id worker total taken (x ∷ rest) none sum = absurd (omega arith)
 
-pub settled : (id : Task) (n : ℕ) (own : Owner) (thieves : List Thief) (a : Account) (others : List Account) (more taken taken' pushed : List Task)
-    → account n own thieves ≡ a → n < length thieves → taken ≡ own.taken ++ more
-    → times id taken' ≡ times id taken + sum_by (λ o. times id (taken_from n o)) others
+pub settled : (id : Task) (n : ℕ) (own : Owner) (thieves : List Thief) (a : Account) (others : List Account) (taken' pushed : List Task)
+    → account n own thieves ≡ a → n < length thieves
+    → times id taken' ≡ times id own.taken + sum_by (λ o. times id (taken_from n o)) others
     → pushed ≡ own.pushed → times id taken' ≤ times id pushed
     → sum_by (λ o. times id (taken_from a.number o)) (a ∷ others) ≤ times id a.pushed
-settled id n own thieves a others more taken taken' pushed is within longer all same bounded =
+settled id n own thieves a others taken' pushed is within all same bounded =
     subst (λ (x : Account). sum_by (λ o. times id (taken_from x.number o)) (x ∷ others) ≤ times id x.pushed) is
     (let f : Account → ℕ = λ o. times id (taken_from n o) in
     let there : n < length (map (λ (x : Thief). x.taken) thieves) = omega (arith, length-map thieves (λ (x : Thief). x.taken)) in
     let mine : f (account n own thieves) ≡ times id own.taken = ap (times id) (get_or-set_same (map (λ (x : Thief). x.taken) thieves) n own.taken [] there) in
-    let t : times id taken ≡ times id own.taken + times id more = ap (times id) longer ∙ times-append id own.taken more in
     let p : times id pushed ≡ times id own.pushed = ap (times id) same in
     omega (arith, sum_by-cons f (account n own thieves) others))

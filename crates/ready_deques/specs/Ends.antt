@@ -1,5 +1,5 @@
 -- What contracts see of the ends of a deque. Source: this project's own choice.
-use Rattle.std.specs.Prelude.{◌≡◌, ℕ, ◌+◌, ◌-◌, List, []}
+use Rattle.std.specs.Prelude.{◌≡◌, ◌≢◌, ℕ, ◌+◌, ◌-◌, ◌<◌, List, [], Some, length, map, slice_get}
 use Rattle.std.specs.declared.alloc.Global.{Global}
 use Rattle.ptg_base.specs.Task.{Task}
 
@@ -14,18 +14,23 @@ pub record Owner : Type 0 where
   pub pushed : List Task
   pub taken : List Task
 
--- A thief's end, which takes at the front: its deque, and the ids that it took.
+-- A thief's end, which takes at the front: its deque, its part of the right to know the whole, and the ids that it took. It takes only with a part.
 pub record Thief : Type 0 where
   pub deque : DequeId
+  pub parts : ℕ
   pub taken : List Task
 
 -- The owner's end after so many parts were given away.
 abbrev pub less : ℕ → Owner → Owner
 less given b = record b { parts = b.parts - given }
 
--- A thief's end of the same deque that has taken nothing.
+-- A thief's end of the same deque that has one part and has taken nothing.
 abbrev pub new_thief : Owner → Thief
-new_thief b = record { deque = b.deque; taken = [] }
+new_thief b = record { deque = b.deque; parts = 1; taken = [] }
+
+-- Of all thieves' ends in one hand, each but that of this worker's deque has one part.
+abbrev pub OthersHaveParts : ℕ → List Thief → Type 0
+OthersHaveParts number thieves = (k : ℕ) → k < length thieves → k ≢ number → slice_get (map (λ f. f.parts) thieves) k ≡ Some 1
 
 -- Nothing was pushed or taken, and so many parts are given away.
 pub record IsNew (given : ℕ) (b : Owner) : Type 0 where

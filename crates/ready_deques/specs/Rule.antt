@@ -1,5 +1,5 @@
 -- The rule of a deque of ready tasks, over all who hold an end of it: an id is taken from it at most as often as it was pushed to it. Source: work stealing as in DAGuE 2012; the rule is this project's own choice.
-use Rattle.std.specs.Prelude.{◌≡◌, ℕ, ◌+◌, ◌≤◌, List, [], ◌++◌, length, Contains, All, sum_by, count_by}
+use Rattle.std.specs.Prelude.{◌≡◌, ℕ, ◌+◌, ◌≤◌, ⊤, List, [], ◌∷◌, ◌++◌, length, Contains, All, sum_by, count_by}
 use Rattle.ptg_base.specs.Task.{Task}
 use Rattle.ptg_base.specs.TaskComparing.{same_task}
 use Rattle.ready_deques.specs.declared.tally.Tally.{Tally}
@@ -15,11 +15,28 @@ tally parts pushed taken = record { parts = parts; pushed = pushed; taken = take
 abbrev pub IdleIsEmpty : Tally → Type 0
 IdleIsEmpty t = t.parts ≡ 0 → (t.pushed ≡ []) × (t.taken ≡ [])
 
+abbrev pub HasNotPushed : Tally → Type 0
+HasNotPushed t = t.pushed ≡ []
+
+-- The first tally is that of the deque's worker. No other one pushes.
+abbrev pub OnlyFirstPushes : List Tally → Type 0
+OnlyFirstPushes [] = ⊤
+OnlyFirstPushes (own ∷ others) = All HasNotPushed others
+
 -- Each id was pushed as often as it was taken and is held, by all tallies together. There are 65 parts.
 pub record Balanced (held : List Task) (tallies : List Tally) : Type 0 where
   pub ids : (id : Task) → sum_by (λ t. times id t.pushed) tallies ≡ sum_by (λ t. times id t.taken) tallies + times id held
   pub parts : sum_by (λ t. t.parts) tallies ≡ 65
   pub idle : All IdleIsEmpty tallies
+  pub pushes : OnlyFirstPushes tallies
+
+-- Each id was taken as often as it was pushed.
+abbrev pub AllTaken : List Task → List Task → Type 0
+AllTaken pushed taken = (id : Task) → times id taken ≡ times id pushed
+
+-- At one moment the deque held no id, and the rule held of all tallies, of which the worker's has so many parts and these pushed and taken.
+abbrev pub WasEmpty : ℕ → List Task → List Task → Type 0
+WasEmpty parts pushed taken = (others : List Tally) × Balanced [] (tally parts pushed taken ∷ others)
 
 -- At one moment the deque held these ids, and the rule held of them and of all tallies, one of them with these pushed and taken.
 abbrev pub AtOneMoment : List Task → List Task → List Task → Type 0

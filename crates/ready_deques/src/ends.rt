@@ -3,15 +3,16 @@ ghost use Rattle.std.specs.Prelude.{◌≡◌, ◌+◌, ◌-◌, ◌<◌, ◌≤
 ghost use Rattle.ptg_base.specs.Task.{Task};
 ghost use Rattle.crossbeam_deque.specs.Steals.{MatchSteal};
 ghost use Rattle.ready_deques.specs.Ends.{Owner, Thief, IsNew, less, new_thief};
-ghost use Rattle.ready_deques.specs.Rule.{times, AtOneMoment, HeldAtMost};
+ghost use Rattle.ready_deques.specs.Rule.{times, HeldAtMost, WasEmpty};
 ghost use Rattle.ready_deques.specs.Stolen.{MatchStolen};
 
 use crate::stolen::Stolen;
-use crate::tally::{DequeRule, Popped, Pushed, Shares, Taken, Tally, Whole};
+use crate::tally::{DequeRule, Partless, Popped, Pushed, Shares, Taken, Tally, Whole};
 use crossbeam_deque::{Pass, Steal, Stealer, Worker};
 use ptg_base::{OutOfMemory, TaskId};
 use std::alloc::Global;
 use std::marker::Model;
+use std::mem;
 use std::sync::Wait;
 
 // The ids that a deque has room for from the start.
@@ -25,7 +26,7 @@ pub(crate) struct OwnerEnd {
 
 impl Model for OwnerEnd {
     ghost use Rattle.std.specs.Prelude.{◌≡◌, ◌<◌, ◌≤◌, length};
-    ghost use Rattle.crossbeam_deque.specs.Handles.{worker_deque, worker_flavor, worker_view, worker_capacity, worker_index};
+    ghost use Rattle.crossbeam_deque.specs.Handles.{worker_deque, worker_flavor, worker_port, worker_view, worker_capacity, worker_index};
     ghost use Rattle.ready_deques.specs.Ends.{Owner};
 
     ghost Value = { Owner };
@@ -37,7 +38,7 @@ impl Model for OwnerEnd {
       taken = (worker_view b.worker).taken;
     } };
 
-    ghost invariant = { λ b. (worker_flavor b.worker ≡ 1) × (16 ≤ worker_capacity b.worker)
+    ghost invariant = { λ b. (worker_flavor b.worker ≡ 1) × (worker_port b.worker ≡ 0) × (16 ≤ worker_capacity b.worker)
         × (worker_index b.worker ≤ length (worker_view b.worker).pushed) × (0 < (worker_view b.worker).parts) };
 }
 
@@ -72,15 +73,26 @@ impl OwnerEnd {
 
     // Takes at the back. None only where the deque was empty at one moment.
     pub(crate) fn pop(&mut self) -> Option<TaskId>
-        ensures { MatchOption result ((self.new ≡ self.old) × AtOneMoment [] self.old.pushed self.old.taken) (λ id. self.new ≡ record self.old { taken = self.old.taken ++ id ∷ [] }) }
+        ensures { MatchOption result ((self.new ≡ self.old) × WasEmpty self.old.parts self.old.pushed self.old.taken) (λ id. self.new ≡ record self.old { taken = self.old.taken ++ id ∷ [] }) }
     {
         self.worker.pop_as::<Popped>()
+    }
+
+    // Takes back the part of a thief's end of this deque, which takes nothing from then on.
+    pub(crate) fn keep(&mut self, thief: &mut ThiefEnd)
+        requires { thief.old.deque ≡ self.old.deque }
+        ensures own { self.new ≡ record self.old { parts = self.old.parts + thief.old.parts; taken = self.old.taken ++ thief.old.taken } }
+        ensures thief { thief.new ≡ record { deque = thief.old.deque; parts = 0; taken = [] } }
+    {
+        let partless = self.worker.another::<Partless>();
+        let pass = mem::replace(&mut thief.pass, partless);
+        self.worker.absorb::<Shares>(pass);
     }
 
     // Takes over a thief's end of this deque, with its part and what it took.
     pub(crate) fn absorb(&mut self, thief: ThiefEnd)
         requires { thief.deque ≡ self.old.deque }
-        ensures { self.new ≡ record self.old { parts = self.old.parts + 1; taken = self.old.taken ++ thief.taken } }
+        ensures { self.new ≡ record self.old { parts = self.old.parts + thief.parts; taken = self.old.taken ++ thief.taken } }
     {
         let ThiefEnd { stealer: _, pass } = thief;
         self.worker.absorb::<Shares>(pass);
@@ -110,15 +122,15 @@ impl Model for ThiefEnd {
 
     ghost Value = { Thief };
 
-    ghost view = { λ f. record { deque = stealer_deque f.stealer; taken = (tally_of f.pass).taken } };
+    ghost view = { λ f. record { deque = stealer_deque f.stealer; parts = (tally_of f.pass).parts; taken = (tally_of f.pass).taken } };
 
-    ghost invariant = { λ f. IsPassOf (stealer_deque f.stealer) f.pass
-        × ((tally_of f.pass).parts ≡ 1) × ((tally_of f.pass).pushed ≡ []) };
+    ghost invariant = { λ f. IsPassOf (stealer_deque f.stealer) f.pass × ((tally_of f.pass).pushed ≡ []) };
 }
 
 impl ThiefEnd {
     // Takes at the front. `Empty` only where the deque held one id at most at one moment. It tries again where another one was first.
     pub(crate) fn take<R: Wait>(&mut self, rt: &R) -> Stolen
+        requires { 0 < self.old.parts }
         ensures { MatchStolen result (λ id. self.new ≡ record self.old { taken = self.old.taken ++ id ∷ [] }) ((self.new ≡ self.old) × HeldAtMost 1 [] self.old.taken) }
     {
         for _ in rt.forever() {
@@ -133,6 +145,7 @@ impl ThiefEnd {
 
     // One try. It may answer `Retry` where another one was first.
     fn try_take(&mut self) -> Steal<TaskId>
+        requires { 0 < self.old.parts }
         ensures { MatchSteal result ((self.new ≡ self.old) × HeldAtMost 1 [] self.old.taken) (self.new ≡ self.old) (λ id. self.new ≡ record self.old { taken = self.old.taken ++ id ∷ [] }) }
     {
         self.stealer.steal_as::<Taken>(&mut self.pass)

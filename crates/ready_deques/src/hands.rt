@@ -1,9 +1,9 @@
 //! One worker's ends of the deques: where it pushes, pops and steals.
-ghost use Rattle.std.specs.Prelude.{◌≡◌, ◌≢◌, ◌+◌, ◌<◌, ◌≤◌, [], ◌∷◌, length, ⊤, All, map, sum_by, slice_get, Some, IfErr, IfNone, MatchOption, MatchResult};
+ghost use Rattle.std.specs.Prelude.{◌≡◌, ◌≢◌, ◌+◌, ◌<◌, ◌≤◌, ℕ, [], ◌∷◌, length, ⊤, All, map, sum_by, slice_get, Some, IfErr, IfNone, MatchOption, MatchResult};
 ghost use Rattle.ptg_base.specs.Task.{Task};
 ghost use Rattle.ready_deques.specs.Ends.{IsNew};
 ghost use Rattle.ready_deques.specs.Hands.{AreTheOthers, SameWorker, TakenAtMostAsPushed, fresh, taken_from, after_push, after_take};
-ghost use Rattle.ready_deques.specs.Rule.{AtOneMoment, HeldAtMost, times};
+ghost use Rattle.ready_deques.specs.Rule.{AllTaken, HeldAtMost, WasEmpty, times};
 ghost use Rattle.ready_deques.specs.Stolen.{MatchStolen};
 
 use crate::ends::{OwnerEnd, ThiefEnd};
@@ -20,11 +20,13 @@ use std::thread::Threads;
 pub struct Hands {
     number: u32,
     own: OwnerEnd,
+    // An end of each worker's deque, in order of their numbers. That of its own deque has no part, and takes nothing.
     thieves: Vec<ThiefEnd>,
 }
 
 impl Model for Hands {
     ghost use Rattle.std.specs.Prelude.{◌≡◌, ◌+◌, ◌<◌, length, map, slice_get, slice_set, Some};
+    ghost use Rattle.ready_deques.specs.Ends.{OthersHaveParts};
     ghost use Rattle.ready_deques.specs.Hands.{Account};
 
     ghost Value = { Account };
@@ -36,19 +38,21 @@ impl Model for Hands {
       taken = slice_set (map (λ f. f.taken) h.thieves.items) h.number h.own.taken;
     } };
 
-    ghost invariant = { λ h. (h.number < length h.thieves.items) × (h.own.parts + length h.thieves.items ≡ 65)
-        × (slice_get (map (λ f. f.deque) h.thieves.items) h.number ≡ Some h.own.deque) };
+    ghost invariant = { λ h. (h.number < length h.thieves.items) × (h.own.parts + length h.thieves.items ≡ 66)
+        × (slice_get (map (λ f. f.deque) h.thieves.items) h.number ≡ Some h.own.deque) × OthersHaveParts h.number h.thieves.items };
 }
 
 impl Hands {
-    // The hands of a worker, before the first call.
-    pub(crate) fn new(number: u32, own: OwnerEnd, thieves: Vec<ThiefEnd>) -> Hands
+    // The hands of a worker, before the first call. The part of its own thief's end goes to the owner's end.
+    pub(crate) fn new(number: u32, mut own: OwnerEnd, mut thieves: Vec<ThiefEnd>) -> Hands
         requires number { number < length thieves.items }
         requires new { IsNew (length thieves.items) own }
         requires deque { slice_get (map (λ f. f.deque) thieves.items) number ≡ Some own.deque }
         requires none { All (λ f. f.taken ≡ []) thieves.items }
+        requires parts { All (λ f. f.parts ≡ 1) thieves.items }
         ensures { result ≡ fresh (map (λ f. f.deque) thieves.items) number }
     {
+        own.keep(&mut thieves[number as usize]);
         Hands {
             number,
             own,
@@ -79,10 +83,12 @@ impl Hands {
         self.own.push(id)
     }
 
-    /// Takes at the back of the worker's own deque. None only where it was empty at one moment of this call.
+    /// Takes at the back of the worker's own deque. None only where it was empty at one moment of this call; so in a team of one
+    /// only where each id was taken as often as it was pushed.
     pub fn pop(&mut self) -> Option<TaskId>
         ensures taken { MatchOption result (self.new ≡ self.old) (λ id. self.new ≡ after_take self.old.number self.old id) }
-        ensures empty { IfNone result (AtOneMoment [] self.old.pushed (taken_from self.old.number self.old)) }
+        ensures empty { IfNone result ((parts : ℕ) × WasEmpty parts self.old.pushed (taken_from self.old.number self.old)) }
+        ensures alone { length self.old.deques ≡ 1 → IfNone result (AllTaken self.old.pushed (taken_from self.old.number self.old)) }
         ensures same { SameWorker self.old self.new }
     {
         self.own.pop()
@@ -108,9 +114,8 @@ impl Hands {
         let Hands {
             number,
             mut own,
-            mut thieves,
+            thieves: _,
         } = self;
-        own.absorb(thieves.swap_remove(number as usize));
         gather(&mut own, number, others);
         own.audit();
     }
@@ -120,6 +125,7 @@ impl Hands {
         requires { worker < length self.deques }
         ensures deque { slice_get self.deques worker ≡ Some result.deque }
         ensures taken { worker ≢ self.number → result.taken ≡ taken_from worker self }
+        ensures parts { worker ≢ self.number → result.parts ≡ 1 }
     {
         let Hands {
             number: _,

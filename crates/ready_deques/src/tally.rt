@@ -47,6 +47,18 @@ impl Join<Tally> for Shares {
     ghost spent = { tally 0 [] [] };
 }
 
+/// An end that has no part, and so can take nothing.
+pub struct Partless;
+
+impl Split<Tally> for Partless {
+    ghost use Rattle.std.specs.Prelude.{[]};
+    ghost use Rattle.ready_deques.specs.Rule.{tally};
+
+    ghost left = { λ t. t };
+
+    ghost right = { λ t. tally 0 [] [] };
+}
+
 /// An id was pushed.
 pub struct Pushed;
 
@@ -61,12 +73,12 @@ impl Outcome<TaskId, Tally> for Pushed {
 pub struct Popped;
 
 impl Outcome<TaskId, Tally> for Popped {
-    ghost use Rattle.std.specs.Prelude.{◌≡◌, ◌++◌, []};
-    ghost use Rattle.ready_deques.specs.Rule.{tally, AtOneMoment};
+    ghost use Rattle.std.specs.Prelude.{◌≡◌, ◌++◌};
+    ghost use Rattle.ready_deques.specs.Rule.{tally, WasEmpty};
 
     ghost then = { λ t ids after. after ≡ tally t.parts t.pushed (t.taken ++ ids) };
 
-    ghost empty = { λ t. AtOneMoment [] t.pushed t.taken };
+    ghost empty = { λ t. WasEmpty t.parts t.pushed t.taken };
 }
 
 /// An id was taken at the front, or the deque held one id at most at one moment.

@@ -142,7 +142,6 @@ fn each_id_is_taken_once_by_four_threads(rt: HostRuntime) -> Result<(), Fail> {
 }
 
 /// The hands of worker 1 of two, and those of worker 0.
-#[tactic(auto, using(crate::proofs::Pair::of_two))]
 fn pair(alloc: Global) -> Result<(Hands, Hands), Fail>
     ensures { IfOk result (λ pair. AreTheOthers pair.0 (pair.1 ∷ [])) }
 {

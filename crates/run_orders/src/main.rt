@@ -1,4 +1,5 @@
-//! Runs a broadcast by the calls of one run, in orders other than the program's, and prints how each order ends.
+//! Runs a broadcast by the calls of one run, in orders other than the program's, compares each answer with that of one thread,
+//! and prints how each order ends.
 #![tactic(auto)]
 
 mod orders;
@@ -15,6 +16,7 @@ fn main(rt: HostRuntime) -> io::Result<()> {
                 "{name}: step {number} was answered otherwise"
             )?,
             Ok(End::NotComplete) => println!(rt; "{name}: not all tasks ran")?,
+            Ok(End::Differs) => println!(rt; "{name}: one thread answers otherwise")?,
             Ok(End::NoJob) => println!(rt; "{name}: the job is not consistent")?,
             Err(_) => println!(rt; "{name}: out of memory")?,
         }

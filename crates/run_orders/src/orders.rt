@@ -1,41 +1,39 @@
 //! A broadcast, claimed and sent in other orders than the program's.
 
-use crate::stepwise::{Step, Stepwise};
+use crate::stepwise::{Step, Stepwise, answer_of_run_one};
 use flow_meaning::Outcome;
 use ptg_base::{OutOfMemory, Place};
 use std::alloc::Global;
 
-// Src(0) sends one tile to three tasks Sink(i). Each writes ten times its number and i back to its own place.
+// The job of the row 'a broadcast' of jobs.txt: Src(0) sends one tile to three tasks Sink(i), and each adds i to its number and
+// writes it back to its own place.
 const JDF: &[u8] = b"D
 
 Src(z)
 z = 0 .. 0
 : D(0)
-READ A <- D(0)
-     -> X Sink(0 .. 2)
+READ A <- D(0) -> X Sink(0 .. 2)
 BODY
 END
-
 Sink(i)
 i = 0 .. 2
-: D(i)
-RW X <- A Src(0)
-     -> D(i)
+: D(0)
+RW X <- A Src(0) -> D(i)
 BODY
-X[0] = X[0] * 10 + i;
+X[0] = X[0] + i;
 END
 ";
 
-// The tile that is sent has the number 5.
+// The tile that is sent has the number 10.
 const DATA: &[u8] = b"elems,1
 coll,D,3
-tile,D,0,5
+tile,D,0,10
 ";
 
-// The numbers of D's three tiles, if nothing more can happen and all four tasks ran.
-fn numbers(run: Stepwise) -> Result<Option<[i64; 3]>, OutOfMemory> {
-    let Some(Outcome::Complete(4, given)) = run.answer()? else {
-        return Ok(None);
+// The numbers of D's three tiles, if this is the answer of a job all of whose four tasks ran.
+fn numbers(answer: Option<Outcome>) -> Option<[i64; 3]> {
+    let Some(Outcome::Complete(4, given)) = answer else {
+        return None;
     };
     let mut numbers = [0; 3];
     for i in 0..3 {
@@ -44,15 +42,10 @@ fn numbers(run: Stepwise) -> Result<Option<[i64; 3]>, OutOfMemory> {
             i: i as i64,
             j: 0,
         };
-        let Some(tile) = given.tile(&place) else {
-            return Ok(None);
-        };
-        let Some(number) = tile.as_slice().first() else {
-            return Ok(None);
-        };
+        let number = given.tile(&place)?.as_slice().first()?;
         numbers[i] = *number;
     }
-    Ok(Some(numbers))
+    Some(numbers)
 }
 
 /// The edges are sent last to first, and readers are claimed and run between the sends.
@@ -153,11 +146,13 @@ pub enum End {
     Otherwise(usize),
     /// Not all tasks ran.
     NotComplete,
+    /// The answer of one thread is another one.
+    Differs,
     /// The job is not consistent.
     NoJob,
 }
 
-/// The broadcast in one order of steps.
+/// The broadcast in one order of steps, compared with the answer of one thread.
 pub fn end_of(alloc: Global, steps: &[(Step, bool)]) -> Result<End, OutOfMemory> {
     let Some(mut run) = Stepwise::start(alloc, JDF, DATA)? else {
         return Ok(End::NoJob);
@@ -165,8 +160,11 @@ pub fn end_of(alloc: Global, steps: &[(Step, bool)]) -> Result<End, OutOfMemory>
     if let Some(number) = run.first_other(steps)? {
         return Ok(End::Otherwise(number));
     }
-    match numbers(run)? {
-        Some(numbers) => Ok(End::Numbers(numbers)),
-        None => Ok(End::NotComplete),
+    let Some(found) = numbers(run.answer()?) else {
+        return Ok(End::NotComplete);
+    };
+    match numbers(answer_of_run_one(alloc, JDF, DATA)?) {
+        Some(wanted) if wanted == found => Ok(End::Numbers(found)),
+        _ => Ok(End::Differs),
     }
 }

@@ -7,7 +7,7 @@ ghost use Rattle.flow_core.specs.RunState.{IsRunning};
 
 use coll_data::Given;
 use dep_iter::Matched;
-use flow_core::State;
+use flow_core::{State, run_one};
 use flow_meaning::Outcome;
 use job_stages::{JobVerdict, judge_texts};
 use ptg_base::{Edge, Item, OutOfMemory, Place, TaskId, WriteBack};
@@ -162,5 +162,17 @@ impl Stepwise {
             return Ok(None);
         }
         Ok(Some(run.answer(&job, given)?))
+    }
+}
+
+/// The answer of the job of these texts as one thread finds it; nothing if the job is not consistent.
+pub fn answer_of_run_one(
+    alloc: Global,
+    jdf: &[u8],
+    data: &[u8],
+) -> Result<Option<Outcome>, OutOfMemory> {
+    match judge_texts(alloc, jdf, data)? {
+        JobVerdict::Consistent(job, given) => Ok(Some(run_one(alloc, &job, given)?)),
+        _ => Ok(None),
     }
 }

@@ -1,5 +1,5 @@
 -- The bytes of a preload where all tiles are of one type.
-use Rattle.std.proofs.Common.{zero-add, ◌≡◌, ℕ, ◌+◌, ◌*◌, ◌<◌, true, [], ◌∷◌, length, refl, ap, sym, ◌∙◌, subst, Option, Some, None, slice_get, slice_index, sum, option_map, arith}
+use Rattle.std.proofs.Common.{zero-add, ◌≡◌, ℕ, ◌+◌, ◌*◌, ◌<◌, true, List, [], ◌∷◌, length, refl, ap, sym, ◌∙◌, subst, Option, Some, None, slice_get, slice_index, sum, option_map, arith}
 use Rattle.std.proofs.lemmas.Bool.{false≢true}
 use Rattle.ptg_base.specs.Lists.{IsIn}
 use Rattle.ptg_base.specs.Task.{Task}
@@ -13,7 +13,6 @@ use Rattle.dep_iter.specs.Consistent.{all_data, all_in, all_writes, is_data_edge
 use Rattle.dep_iter.specs.Edges.{in_edges}
 use Rattle.dep_iter.specs.Items.{write_backs}
 use Rattle.dep_iter.specs.Tasks.{IsTask, all_tasks, flows_of}
-use Rattle.flow_meaning.specs.Counting.{weigh}
 use Rattle.dep_iter.proofs.Listing.{listed}
 use Rattle.shard_meaning.proofs.Destinations.{flow_is, writes_from}
 use Rattle.task_run.proofs.FlowSizes.{known}
@@ -50,14 +49,26 @@ module _ (P : Plan) (elems : ℕ) (one : P.elems ≡ elems ∷ []) where
       let f = writes_from P p.0 job w (write_item P p.0 w p.2) in
       of_flow w.from w.flow f.flow (subst (IsTask P) (sym from) job) (subst (λ t. slice_get (flows_of P t) w.flow ≡ Some f.flow) (sym from) f.here)
 
-  pub bytes_are : (workers : ℕ) → preload_bytes P workers ≡ 8 * elems * (length (all_data P) + length (all_writes P) + 8 * workers)
-  unfolding preload_bytes sent_elements
-  bytes_are workers =
+  -- the numbers that go over edges and write-backs are a product
+  pub sent_are : sent_elements P ≡ elems * (length (all_data P) + length (all_writes P))
+  unfolding sent_elements
+  sent_are =
       let ins = weigh-equal (edge_elements P) elems (all_data P) of_edge in
       let outs = weigh-equal (write_elements P) elems (all_writes P) of_write in
+      omega (arith, ins, outs)
+
+  pub bytes_are : (workers : ℕ) → preload_bytes P workers ≡ 8 * elems * (length (all_data P) + length (all_writes P) + 8 * workers)
+  unfolding preload_bytes
+  bytes_are workers =
       let types : sum P.elems ≡ elems = ap sum one ∙ zero-add elems in
-      ap (λ n. 8 * n) (ap (λ n. (n + weigh (write_elements P) (all_writes P)) + 8 * workers * sum P.elems) ins ∙ ap (λ n. (elems * length (all_data P) + n) + 8 * workers * sum P.elems) outs ∙ ap (λ n. (elems * length (all_data P) + elems * length (all_writes P)) + 8 * workers * n) types)
-      ∙ regroup elems (length (all_data P)) (length (all_writes P)) workers
+      ap (λ n. 8 * (n + 8 * workers * sum P.elems)) sent_are ∙ ap (λ n. 8 * (elems * (length (all_data P) + length (all_writes P)) + 8 * workers * n)) types
+      ∙ regroup elems (length (all_data P) + length (all_writes P)) workers
     where
-      regroup : (e d w n : ℕ) → 8 * ((e * d + e * w) + 8 * n * e) ≡ 8 * e * (d + w + 8 * n)
-      regroup e d w n = omega arith
+      regroup : (e s w : ℕ) → 8 * (e * s + 8 * w * e) ≡ 8 * e * (s + 8 * w)
+      regroup e s w = omega arith
+
+-- a list with one number
+pub only_one : (ns : List ℕ) (n : ℕ) → length ns ≡ 1 → slice_get ns 0 ≡ Some n → ns ≡ n ∷ []
+only_one [] n h is = absurd cc
+only_one (m ∷ []) n h is = let same : m ≡ n = cc in ap (λ k. k ∷ []) same
+only_one (m ∷ k ∷ ns) n h is = absurd (omega (arith, h))

@@ -58,6 +58,10 @@ elements_at_most P (Some f) = type_at_most P.elems f.datatype P.well_made.tile_l
 writes_at_most : (P : Plan) → length (all_writes P) ≤ length (all_items P)
 writes_at_most P = flat-fewer (write_backs P) (items P) (all_tasks P) (λ t. filter_map-fewer write_of (items P t))
 
+-- a job has some millions of data edges and write-backs at most
+pub counts_at_most : (P : Plan) → IsConsistent P → length (all_data P) + length (all_writes P) ≤ 8000000
+counts_at_most P con = omega (arith, filter-fewer (is_data_edge P) (all_in P), writes_at_most P, con.in_edges_at_most, con.items_at_most)
+
 pub sent_at_most : (P : Plan) → IsConsistent P → sent_elements P ≤ 32768000000
 unfolding sent_elements
 sent_at_most P con =

@@ -141,10 +141,32 @@ fn elements_from(plan: &Plan, class: u32) -> u64
     here + elements_from(plan, class + 1)
 }
 
+// The same for all classes, by a walk over all tasks.
+fn elements_of_all(m: &Matched) -> u64
+    ensures { result ≡ bytes.sent_elements m.now }
+{
+    elements_from(m.plan(), 0)
+}
+
+// The same where all tiles are of one type: a product, without a walk.
+fn elements_of_one_type(m: &Matched) -> u64
+    requires { length m.now.elems ≡ 1 }
+    ensures { result ≡ bytes.sent_elements m.now }
+{
+    let plan = m.plan();
+    let elems = plan.elements(0);
+    let sent = m.data_edges() + m.writes();
+    u64::from(elems) * sent
+}
+
 // How many numbers the tiles of all data edges and all write-backs have.
 pub(crate) fn sent_elements(m: &Matched) -> u64
     ensures same { result ≡ bytes.sent_elements m.now }
     ensures at_most { result ≤ 32768000000 }
 {
-    elements_from(m.plan(), 0)
+    if m.plan().elems.len() == 1 {
+        elements_of_one_type(m)
+    } else {
+        elements_of_all(m)
+    }
 }

@@ -25,7 +25,7 @@ ghost use Rattle.flow_core.specs.Fits.{Fits};
 ghost use Rattle.flow_core.specs.Rows.{claim_traps, waits_among, writes_among};
 
 use crate::arrivals::number_at;
-use crate::body::End;
+use crate::end::End;
 use crate::possible::copy_of_task;
 use crate::spaces::space_of;
 use crate::state::State;
@@ -53,9 +53,9 @@ fn push_trap_row(t: &TaskId, cause: Trap, rows: &mut Vec<TrapRow>) -> Result<(),
 fn push_trap_of_end(t: &TaskId, end: &End, rows: &mut Vec<TrapRow>) -> Result<(), OutOfMemory>
     ensures { OnOk result (rows.new.items ≡ rows.old.items ++ trap_rows t.now (Some end.now)) }
 {
-    match end {
-        Ok(_) => Ok(()),
-        Err(cause) => push_trap_row(t, *cause, rows),
+    match end.trap() {
+        None => Ok(()),
+        Some(cause) => push_trap_row(t, cause, rows),
     }
 }
 

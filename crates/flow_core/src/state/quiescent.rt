@@ -17,8 +17,7 @@ ghost use Rattle.flow_core.specs.Fits.{Fits};
 ghost use Rattle.flow_core.specs.Quiet.{HasOne, Owes};
 ghost use Rattle.flow_core.specs.SentItems.{IsUnsent};
 
-use crate::body::End;
-use crate::outputs::has_outputs;
+use crate::end::{End, has_outputs};
 use crate::spaces::space_of;
 use crate::state::State;
 use dep_iter::{Matched, out_edges, write_backs};

@@ -1,4 +1,4 @@
-use Rattle.std.proofs.Common.{refl, ap, ◌∙◌, Err}
+use Rattle.std.proofs.Common.{ap, ◌∙◌, Err}
 use Rattle.body_lang.proofs.whole.read_body.Goals as goal
 
 -- no more tokens are left at the fault than there are

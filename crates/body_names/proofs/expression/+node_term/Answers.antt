@@ -1,11 +1,12 @@
 use Rattle.std.proofs.Common.{◌≡◌, rules}
 use Rattle.jdf_tree.specs.NodeExpression.{expression_of}
+use Rattle.body_names.specs.Environment.{environment_of}
 use Rattle.body_names.specs.Expressions.{term_of}
 use Rattle.body_names.proofs.expression.+node_term.Goals as goal
 
 pub returns-in_ok-a-in-Binary : goal.returns-in_ok-a-in-Binary
 returns-in_ok-a-in-Binary t c =
-    let scope = c.args.context.now.scope.now in
+    let scope = (environment_of c.args.context.now.scope.now) in
     let seen = c.args.seen.now in
     let a : c.deref-in-Binary.result.now ≡ c.in-Binary.a.value = search rules in
     let b : c.deref-in-Binary-2.result.now ≡ c.in-Binary.b.value = search rules in
@@ -14,7 +15,7 @@ returns-in_ok-a-in-Binary t c =
 
 pub returns-in_ok-c-in-Choose : goal.returns-in_ok-c-in-Choose
 returns-in_ok-c-in-Choose t c =
-    let scope = c.args.context.now.scope.now in
+    let scope = (environment_of c.args.context.now.scope.now) in
     let seen = c.args.seen.now in
     let test : c.deref-in-Choose.result.now ≡ c.in-Choose.c.value = search rules in
     let a : c.deref-in-Choose-2.result.now ≡ c.in-Choose.a.value = search rules in

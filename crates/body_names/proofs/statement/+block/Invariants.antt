@@ -1,6 +1,7 @@
 use Rattle.std.proofs.Common.{◌≡◌, ◌+◌, ◌*◌, drop}
 use Rattle.jdf_tree.specs.BlockStatements.{statements_of}
 use Rattle.jdf_tree.specs.Statements.{count_of_statements}
+use Rattle.body_names.specs.Environment.{environment_of}
 use Rattle.body_names.specs.Bindings.{bindings_of}
 use Rattle.body_names.specs.Statements.{resolved}
 use Rattle.body_names.proofs.Blocks.{so_far, count_of}
@@ -8,8 +9,8 @@ use Rattle.body_names.proofs.statement.+block.Given as goal
 
 abbrev pub invariant-block-loop-statement_tree : goal.invariant-block-loop-statement_tree
 invariant-block-loop-statement_tree l =
-    so_far l.list (resolved l.context.scope.now (statements_of (drop l.statement_tree-index l.statement_tree-items)) (bindings_of l.bindings))
-    ≡ resolved l.context.scope.now l.tree (bindings_of l.fn.bindings)
+    so_far l.list (resolved (environment_of l.context.scope.now) (statements_of (drop l.statement_tree-index l.statement_tree-items)) (bindings_of l.bindings))
+    ≡ resolved (environment_of l.context.scope.now) l.tree (bindings_of l.fn.bindings)
 
 abbrev pub decreases-block : goal.decreases-block
 decreases-block l = 4 * count_of_statements l.tree.now + 1

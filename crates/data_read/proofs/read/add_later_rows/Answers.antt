@@ -6,7 +6,7 @@ use Rattle.data_read.proofs.read.add_later_rows.Goals as goal
 pub loop-number-init : goal.loop-number-init
 loop-number-init c = record {
   far = λ rows has. begins rows (draft_of c.args.all.now) c.args.reader.now has;
-  keyed = c.requires;
+  keyed = c.requires.keyed;
 }
 
 pub returns-then-not-branch : goal.returns-then-not-branch
@@ -33,3 +33,8 @@ loop-number-preserved c = record {
       c.in_ok-next_row.field-0 next (draft_of c.add_record.new.all) c.if-not-branch.false c.in-Ok.ensures.step;
   keyed = c.in-Ok.ensures.keyed;
 }
+
+pub next_row-requires : goal.next_row-requires
+next_row-requires c =
+    let far = c.loop-number.invariant.far c.requires.rows.0 c.requires.rows.1 in
+    (far.left, far.has)

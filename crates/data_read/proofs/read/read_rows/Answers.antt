@@ -46,3 +46,11 @@ returns c = λ rows has.
     at_end rows fields c.next_row.new.reader c.in_ok-next_row.field-0 next c.if-not-branch.false c.in-Ok.all.elems (draft_of c.in-Ok.all) begins.0 begins.1
     (draft_of c.add_later_rows.new.all) c.in_ok-count.count added.0 added.1
     ∙ ap (λ (given : Data). Ok given) (sym c.in_ok-finish.ensures)
+
+pub add_later_rows-requires-clause-rows : goal.add_later_rows-requires-clause-rows
+add_later_rows-requires-clause-rows c =
+    let next = c.in_ok-next_row.ensures c.requires.0 c.requires.1 in
+    let begins = c.in-Ok.ensures.start in
+    let fields = fields_of c.next_row.new.row in
+    let later = later_left c.requires.0 fields c.next_row.new.reader c.in_ok-next_row.field-0 next c.if-not-branch.false c.in-Ok.all.elems (draft_of c.in-Ok.all) begins.0 begins.1 in
+    (later.0, later.2)

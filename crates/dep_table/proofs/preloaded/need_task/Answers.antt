@@ -1,7 +1,6 @@
 use Rattle.std.proofs.Common.{◌≡◌, ◌∙◌, ◌<◌, ap, subst, length}
 use Rattle.table_rule.specs.Placing.{shard_of}
 use Rattle.dep_table.specs.Needs.{AddsTaskAt}
-use Rattle.dep_table.proofs.OpeningSteps.{on_ok_then}
 use Rattle.dep_table.proofs.NeedsSteps.{task_needs}
 use Rattle.dep_table.proofs.preloaded.need_task.Goals as goal
 
@@ -15,4 +14,4 @@ returns c =
     let count : c.len.result ≡ length old = c.len.ensures ∙ c.args.needs.now.ok.0 in
     let here : c.shard_under-k.result ≡ of t = c.shard_under-k.ensures.number ∙ ap (λ n. shard_of P n t) count in
     let near : of t < length old = subst (λ k. k < length old) here (subst (λ n. c.shard_under-k.result < n) count c.shard_under-k.ensures.within) in
-    on_ok_then c.need_at.result (λ a. task_needs P of t old new near (subst (λ k. AddsTaskAt P t k old new) here a)) c.need_at.ensures
+    task_needs P of t old new near (subst (λ k. AddsTaskAt P t k old new) here c.need_at.ensures)

@@ -1,8 +1,25 @@
-use Rattle.edge_match.proofs.Parts.{checked_nil}
+use Rattle.std.proofs.Common.{refl}
+use Rattle.dep_iter.specs.Edges.{data_source}
+use Rattle.edge_match.specs.Marks.{HasInput, HasSource}
+use Rattle.edge_match.proofs.Parts.{steady, stop, followed, unchecked}
 use Rattle.edge_match.proofs.flows.start_flow.Goals as goal
 
-pub returns-in-Connecting : goal.returns-in-Connecting
-returns-in-Connecting c = λ s. rw c.in-Connecting.is (c.connect_flow.ensures s)
+pub returns-in_err-require-in-Connecting : goal.returns-in_err-require-in-Connecting
+returns-in_err-require-in-Connecting c = λ s.
+    let at = c.args.at.now in
+    let x = data_source at.plan.now at.task.now at.number in
+    let input = rw c.requires at c.has_input.ensures in
+    rw c.in-Connecting.is (stop _ c.from_residual.ensures.1 (c.in_err-require-in-Connecting.ensures.checked (HasInput at.flow.now.kind x) s s (steady _ (λ b. input) (λ b. refl)) refl refl))
+
+pub returns-in_ok-require-in-Connecting : goal.returns-in_ok-require-in-Connecting
+returns-in_ok-require-in-Connecting c = λ s.
+    let at = c.args.at.now in
+    let x = data_source at.plan.now at.task.now at.number in
+    let input = rw c.requires at c.has_input.ensures in
+    let place = rw c.requires at c.has_place.ensures in
+    rw c.in-Connecting.is
+    (followed (c.in_ok-require-in-Connecting.ensures.checked (HasInput at.flow.now.kind x) s s (steady _ (λ b. input) (λ b. refl)) refl refl)
+    (c.require-in-Connecting.ensures.checked (HasSource x) s s (steady _ (λ b. place) (λ b. refl)) refl refl))
 
 pub returns-in-Matching : goal.returns-in-Matching
-returns-in-Matching c = λ s. rw c.in-Matching.is (checked_nil c.args.at.now.plan.now s tt)
+returns-in-Matching c = λ s. rw c.in-Matching.is unchecked

@@ -1,84 +1,56 @@
-use Rattle.std.proofs.Common.{◌≡◌, suc, ◌∷◌, drop, map, add-one, refl, sym, ◌∙◌, ap, length-append, arith}
+use Rattle.std.proofs.Common.{◌+◌, ◌<◌, ◌^◌, suc, drop, map, add-one, length, length-append, arith}
 use Rattle.std.proofs.lemmas.List.{length-map}
-use Rattle.std.proofs.lemmas.Result.{err_from_is_err_and, on_ok_weaker}
-use Rattle.std.specs.List.{flat_map}
 use Rattle.range_space.specs.Tasks.{tasks}
 use Rattle.dep_iter.specs.Tasks.{task, tasks_from}
-use Rattle.edge_match.specs.Marks.{task_marks}
-use Rattle.edge_match.proofs.Parts.{checked_stop, checked_then}
-use Rattle.edge_match.proofs.Roots.{counts_then}
-use Rattle.edge_accept.proofs.Lists.{at_least_one, drop_at, flat_map-append}
+use Rattle.edge_accept.proofs.Lists.{at_least_one, drop_at}
+use Rattle.edge_match.proofs.Walks.{drop_past, went_nowhere, went_stop, went_then}
 use Rattle.edge_match.proofs.tasks.+check_classes.Goals as goal
 
 pub check_class-requires-clause-room : goal.check_class-requires-clause-room
 check_class-requires-clause-room m c = λ s here.
     let P = c.args.plan.now in
     let class = c.args.class in
-    let rest = drop (suc class) P.spaces in
-    let room = c.requires (s ∷ rest) (drop_at P.spaces class s here) in
-    let l = length-append (map (task class) (tasks s)) (tasks_from (suc class) rest) in
+    let room = rw (drop_at P.spaces class s here) at c.requires in
+    let l = length-append (map (task class) (tasks s)) (tasks_from (suc class) (drop (suc class) P.spaces)) in
     let k = length-map (tasks s) (task class) in
     omega arith
 
 pub check_classes-requires : goal.check_classes-requires
-check_classes-requires m c = (
-  omega arith,
-  λ ss e.
-      let P = c.args.plan.now in
-      let class = c.args.class in
-      let n = P.well_made.one_space_each in
-      let found = at_least_one P.spaces class (omega arith) in
-      let s = found.0 in
-      let same : drop (suc class) P.spaces ≡ ss = rw add-one at e in
-      let room = c.requires (s ∷ ss) (drop_at P.spaces class s found.1 ∙ ap (λ l. s ∷ l) same) in
-      let l = length-append (map (task class) (tasks s)) (tasks_from (suc class) ss) in
-      let k = length-map (tasks s) (task class) in
-      let a = c.in_ok-check_class.ensures.at_most s found.1 in
-      rw add-one (omega arith),
-)
-
-pub returns-in_err-check_class-clause-checked : goal.returns-in_err-check_class-clause-checked
-returns-in_err-check_class-clause-checked m c = λ ss e.
+check_classes-requires m c =
     let P = c.args.plan.now in
     let class = c.args.class in
     let n = P.well_made.one_space_each in
     let found = at_least_one P.spaces class (omega arith) in
     let s = found.0 in
     let rest = drop (suc class) P.spaces in
-    let marks = task_marks c.args.phase P in
-    let u = c.check_class.new.counted in
-    let split = sym e ∙ drop_at P.spaces class s found.1 in
-    let p = err_from_is_err_and c.from_residual.result c.from_residual.ensures.1 in
-    rw (p.1, p.2, split, flat_map-append marks (map (task class) (tasks s)) (tasks_from (suc class) rest))
-    (checked_stop P c.args.counted.now u u _ (flat_map marks (map (task class) (tasks s))) (flat_map marks (tasks_from (suc class) rest)) (c.in_err-check_class.ensures.checked s found.1))
+    let room = rw (drop_at P.spaces class s found.1) at c.requires in
+    let l = length-append (map (task class) (tasks s)) (tasks_from (suc class) rest) in
+    let k = length-map (tasks s) (task class) in
+    let a = (c.in_ok-check_class.ensures s found.1).at_most in
+    let b : c.check_class.new.roots + length (tasks_from (suc class) rest) < 2 ^ 64 = omega arith in
+    (omega arith, rw add-one b)
 
-pub returns-clause-checked : goal.returns-clause-checked
-returns-clause-checked m c = λ ss e.
+pub returns-then-class-len : goal.returns-then-class-len
+returns-then-class-len m c =
+    let n = c.args.plan.now.well_made.one_space_each in
+    rw (drop_past c.args.plan.now.spaces c.args.class (omega arith)) (went_nowhere _ _ _ _ _)
+
+pub returns-in_err-check_class : goal.returns-in_err-check_class
+returns-in_err-check_class m c =
     let P = c.args.plan.now in
     let class = c.args.class in
     let n = P.well_made.one_space_each in
     let found = at_least_one P.spaces class (omega arith) in
-    let s = found.0 in
-    let rest = drop (suc class) P.spaces in
-    let marks = task_marks c.args.phase P in
-    let u = c.check_class.new.counted in
-    let split = sym e ∙ drop_at P.spaces class s found.1 in
-    let more = rw add-one at c.check_classes.ensures.checked in
-    rw (split, flat_map-append marks (map (task class) (tasks s)) (tasks_from (suc class) rest))
-    (checked_then P c.args.counted.now u c.check_classes.new.counted tt c.check_classes.result (flat_map marks (map (task class) (tasks s))) (flat_map marks (tasks_from (suc class) rest)) (c.in_ok-check_class.ensures.checked s found.1) (more rest refl))
+    rw (drop_at P.spaces class found.0 found.1)
+    (went_stop P c.args.phase c.args.counted.now c.check_class.new.counted c.check_class.new.counted c.args.roots.now c.check_class.new.roots c.from_residual.result _
+    (map (task class) (tasks found.0)) (tasks_from (suc class) (drop (suc class) P.spaces)) c.from_residual.ensures.1 (c.in_err-check_class.ensures found.0 found.1).checked)
 
-pub returns-clause-roots : goal.returns-clause-roots
-returns-clause-roots m c = λ ss e.
+pub returns : goal.returns
+returns m c =
     let P = c.args.plan.now in
     let class = c.args.class in
-    let phase = c.args.phase in
     let n = P.well_made.one_space_each in
     let found = at_least_one P.spaces class (omega arith) in
-    let s = found.0 in
-    let rest = drop (suc class) P.spaces in
-    let u = c.check_class.new.counted in
-    let split = sym e ∙ drop_at P.spaces class s found.1 in
-    let first = c.in_ok-check_class.ensures in
-    let more = rw add-one at c.check_classes.ensures.roots in
-    rw split
-    (on_ok_weaker c.check_classes.result (counts_then P phase c.args.counted.now u (map (task class) (tasks s)) (tasks_from (suc class) rest) c.args.roots.now c.check_class.new.roots c.check_classes.new.roots (first.checked s found.1) (first.roots s found.1)) (more rest refl))
+    rw (drop_at P.spaces class found.0 found.1)
+    (went_then P c.args.phase c.args.counted.now c.check_class.new.counted c.check_classes.new.counted c.args.roots.now c.check_class.new.roots c.check_classes.new.roots c.check_classes.result
+    (map (task class) (tasks found.0)) (tasks_from (suc class) (drop (suc class) P.spaces)) (c.in_ok-check_class.ensures found.0 found.1) (rw add-one at c.check_classes.ensures))

@@ -1,9 +1,14 @@
-use Rattle.std.proofs.Common.{inl, inr}
-use Rattle.edge_match.proofs.Roots.{counts_next}
+use Rattle.std.proofs.Common.{inl, inr, [], ◌∷◌, Err, refl}
+use Rattle.edge_match.proofs.Parts.{stop}
+use Rattle.edge_match.proofs.Walks.{went_next, went_stop}
 use Rattle.edge_match.proofs.tasks.check_next.Goals as goal
 use Rattle.edge_match.proofs.tasks.check_next.Goals.{then-counted-before, else-counted-before}
 
-pub returns-clause-roots : goal.returns-clause-roots
-returns-clause-roots c =
-    counts_next c.args.plan.now c.args.phase c.args.counted.now c.check_task.new.counted c.args.t.now c.args.roots.now c.if-counted-before.roots c.in_ok-check_task.ensures
+pub returns-in_err-check_task : goal.returns-in_err-check_task
+returns-in_err-check_task c =
+    went_stop c.args.plan.now c.args.phase c.args.counted.now c.check_task.new.counted c.check_task.new.counted _ _ c.from_residual.result _ (c.args.t.now ∷ []) [] c.from_residual.ensures.1 (stop {r = Err _} [] refl c.in_err-check_task.ensures)
+
+pub returns : goal.returns
+returns c =
+    went_next c.args.plan.now c.args.phase c.args.counted.now c.check_task.new.counted c.args.t.now c.args.roots.now c.if-counted-before.roots _ c.in_ok-check_task.ensures
     (elim c.if-counted-before.branch [ then-counted-before w ↦ inl (w.if-counted-before.true, w.roots-is) | else-counted-before w ↦ inr (w.if-counted-before.false, w.roots-is) ])

@@ -9,7 +9,7 @@ claim_classes-requires t c =
     let lt : c.args.class < length c.args.m.now.spaces = omega arith in
     let found = at_least_one c.args.m.now.spaces c.args.class (omega arith) in
     let done = c.in_ok-claim_class.ensures.done found.0 found.1 in
-    (omega (arith, c.decreases), ((c.requires.fits.0, done.fits c.requires.fits.0 c.requires.fits.1), c.in_ok-claim_class.ensures.running))
+    (omega (arith, c.decreases), ((c.requires.fits.0, done.fits c.requires.fits.0 c.requires.fits.1), (c.in_ok-claim_class.ensures.running, c.in_ok-claim_class.ensures.opening)))
 
 pub returns-clause-done : goal.returns-clause-done
 returns-clause-done t c =

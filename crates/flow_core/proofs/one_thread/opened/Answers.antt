@@ -1,15 +1,19 @@
-use Rattle.std.proofs.Common.{[], refl, subst}
+use Rattle.std.proofs.Common.{[], refl, sym, subst}
 use Rattle.dep_iter.specs.Tasks.{all_tasks}
 use Rattle.flow_core.specs.Fits.{Fits}
-use Rattle.flow_core.specs.OneThread.{HasDone}
+use Rattle.flow_core.specs.OneThread.{HasDone, IsOpening}
 use Rattle.flow_core.proofs.OneThread.{all_opened}
+use Rattle.flow_core.proofs.Opening.{opens_first}
 use Rattle.flow_core.proofs.one_thread.opened.Goals as goal
 
 pub claim_classes-requires-clause-fits : goal.claim_classes-requires-clause-fits
 claim_classes-requires-clause-fits c = (c.args.given.now, c.start.ensures.fits c.args.m.now c.args.given.now)
 
-pub returns : goal.returns
-returns c =
+pub claim_classes-requires-clause-opening : goal.claim_classes-requires-clause-opening
+claim_classes-requires-clause-opening c = subst IsOpening (sym c.start.ensures.state) opens_first
+
+pub returns-clause-between : goal.returns-clause-between
+returns-clause-between c =
     let P = c.args.m.now in
     let G = c.args.given.now in
     let r = c.claim_classes.new.runner.run in

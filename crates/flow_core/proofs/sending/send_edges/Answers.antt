@@ -8,7 +8,7 @@ use Rattle.flow_core.proofs.OneThread.{IsSoFar, all_done, edge_due, nothing_yet,
 use Rattle.flow_core.proofs.sending.send_edges.Goals as goal
 
 pub loop-edge-init : goal.loop-edge-init
-loop-edge-init c = record { can_next = tt; is_finite = tt; so_far = nothing_yet _ _ _ _; running = c.requires.running }
+loop-edge-init c = record { can_next = tt; is_finite = tt; so_far = nothing_yet _ _ _ _; running = c.requires.running; goals = c.requires.goals }
 
 pub send_edge-requires : goal.send_edge-requires
 send_edge-requires c = record {
@@ -17,6 +17,7 @@ send_edge-requires c = record {
       (subst (λ l. IsSoFar c.args.m.now [] [] (map (λ (x : Edge). item.Edge x) c.into_iter-edge-iterator.result) (map (λ (x : Edge). item.Edge x) l) c.args.runner.now.run c.loop-edge.runner.run) c.in-Some.ensures.steps c.loop-edge.invariant.so_far);
   fits = (c.requires.fits.0, c.loop-edge.invariant.so_far.done.fits c.requires.fits.0 c.requires.fits.1);
   running = c.loop-edge.invariant.running;
+  goals = c.loop-edge.invariant.goals;
 }
 
 pub loop-edge-preserved : goal.loop-edge-preserved
@@ -30,6 +31,7 @@ loop-edge-preserved c =
       is_finite = tt;
       so_far = one_more P [] [] [] all left (item.Edge c.in-Some.edge ∷ []) c.args.runner.now.run c.loop-edge.runner.run c.send_edge.new.runner.run w c.in_ok-send_edge.ensures.done;
       running = c.in_ok-send_edge.ensures.running;
+      goals = c.in_ok-send_edge.ensures.goals;
     }
 
 pub returns-clause-done : goal.returns-clause-done

@@ -14,6 +14,7 @@ send_edges-requires c = record {
   outputs = c.requires.outputs;
   fits = c.requires.fits;
   running = c.requires.running;
+  goals = c.requires.goals;
 }
 
 pub send_writes-requires : goal.send_writes-requires
@@ -23,6 +24,7 @@ send_writes-requires c = record {
   outputs = ap has_outputs (c.in_ok-send_edges.ensures.done.ends c.args.t.now) ∙ c.requires.outputs;
   fits = (c.requires.fits.0, c.in_ok-send_edges.ensures.done.fits c.requires.fits.0 c.requires.fits.1);
   running = c.in_ok-send_edges.ensures.running;
+  goals = c.in_ok-send_edges.ensures.goals;
 }
 
 pub returns-clause-done : goal.returns-clause-done

@@ -8,7 +8,7 @@ use Rattle.flow_core.proofs.OneThread.{IsSoFar, all_done, write_due, nothing_yet
 use Rattle.flow_core.proofs.sending.send_writes.Goals as goal
 
 pub loop-write-init : goal.loop-write-init
-loop-write-init c = record { can_next = tt; is_finite = tt; so_far = nothing_yet _ _ _ _; running = c.requires.running }
+loop-write-init c = record { can_next = tt; is_finite = tt; so_far = nothing_yet _ _ _ _; running = c.requires.running; goals = c.requires.goals }
 
 pub send_write-requires : goal.send_write-requires
 send_write-requires c = record {
@@ -17,6 +17,7 @@ send_write-requires c = record {
       (subst (λ l. IsSoFar c.args.m.now [] [] (map (λ (x : WriteBack). item.Write x) c.into_iter-write-iterator.result) (map (λ (x : WriteBack). item.Write x) l) c.args.runner.now.run c.loop-write.runner.run) c.in-Some.ensures.steps c.loop-write.invariant.so_far);
   fits = (c.requires.fits.0, c.loop-write.invariant.so_far.done.fits c.requires.fits.0 c.requires.fits.1);
   running = c.loop-write.invariant.running;
+  goals = c.loop-write.invariant.goals;
 }
 
 pub loop-write-preserved : goal.loop-write-preserved
@@ -30,6 +31,7 @@ loop-write-preserved c =
       is_finite = tt;
       so_far = one_more P [] [] [] all left (item.Write c.in-Some.write ∷ []) c.args.runner.now.run c.loop-write.runner.run c.send_write.new.runner.run w c.in_ok-send_write.ensures.done;
       running = c.in_ok-send_write.ensures.running;
+      goals = c.in_ok-send_write.ensures.goals;
     }
 
 pub returns-clause-done : goal.returns-clause-done

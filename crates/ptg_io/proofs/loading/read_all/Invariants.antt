@@ -6,6 +6,7 @@ abbrev pub invariant-pieces : goal.invariant-pieces
 invariant-pieces g l = record {
   stays : g.F.Files.contents l.files ≡ g.F.Files.contents l.initial.files;
   grows : (other : List ℕ) → g.F.Files.faults l.initial.files other ≤ g.F.Files.faults l.files other;
+  no_fault : (other : List ℕ) → g.F.Files.faults l.files other ≡ g.F.Files.faults l.initial.files other;
   bounded : vec_len l.bytes ≤ 16777216;
   reads : HasRead g.F.Files.read_gives l.name l.initial.files (vec_len l.bytes) l.files;
   so_far : IsReadSoFar (g.F.Files.contents l.files) l.name l.bytes.items;

@@ -1,4 +1,4 @@
-use Rattle.std.proofs.Common.{◌≤◌, ◌-◌, length-drop, arith}
+use Rattle.std.proofs.Common.{◌≤◌, ◌-◌, ◌∙◌, length-drop, arith}
 use Rattle.std.proofs.lemmas.List.{length-take}
 use Rattle.ptg_io.proofs.Pieces.{appended_more}
 use Rattle.ptg_io.proofs.writing.write_all.Goals as goal
@@ -13,4 +13,5 @@ loop-done-preserved g c =
       within = omega (arith, within);
       written = appended_more _ _ _ bytes _ _ _ room c.loop-done.invariant.written e.ok;
       grows = omega (arith, e.grows);
+      no_fault = e.no_fault ∙ c.loop-done.invariant.no_fault;
     }

@@ -7,6 +7,7 @@ invariant-loop-done g l = record {
   within : l.done ≤ length l.bytes;
   written : g.O.Sink.bytes l.sink ≡ appended (g.O.Sink.bytes l.initial.sink) (take l.done l.bytes);
   grows : g.O.Sink.faults l.initial.sink ≤ g.O.Sink.faults l.sink;
+  no_fault : g.O.Sink.faults l.sink ≡ g.O.Sink.faults l.initial.sink;
 }
 
 abbrev pub decreases-loop-done : goal.decreases-loop-done

@@ -15,7 +15,8 @@ loop-hands-preserved c =
     let rest = subst (All P) step i.5 in
     let more = c.into_thief.ensures.taken (λ same. (All-head P c.in-Some.hands _ rest).1 (sym same)) in
     let shorter : length c.loop-hands.hands-iterator.rest.items ≡ suc (length c.next.new.self.rest.items) = ap length step in
-    let part : c.absorb.new.self.parts ≡ c.loop-hands.own.parts + 1 = ap (λ (b : Owner). b.parts) grown in (
+    let one = c.into_thief.ensures.parts (λ same. (All-head P c.in-Some.hands _ rest).1 (sym same)) in
+    let part : c.absorb.new.self.parts ≡ c.loop-hands.own.parts + 1 = ap (λ (b : Owner). b.parts) grown ∙ ap (λ n. c.loop-hands.own.parts + n) one in (
       tt,
       tt,
       ap (λ (b : Owner). b.deque) grown ∙ i.2,

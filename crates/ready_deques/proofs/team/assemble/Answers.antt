@@ -2,7 +2,7 @@ use Rattle.std.proofs.Common.{rules, ◌≡◌, suc, ◌+◌, length, length-app
 use Rattle.std.specs.Prelude.{slice_get}
 use Rattle.ready_deques.specs.Ends.{Owner, Thief, new_thief}
 use Rattle.ready_deques.specs.Hands.{fresh}
-use Rattle.ready_deques.proofs.Rows.{next, all_but_last, deque_at, deques_of_row, untaken_row, each_more, IsUntaken}
+use Rattle.ready_deques.proofs.Rows.{next, all_but_last, deque_at, deques_of_row, untaken_row, whole_row, each_more, HasPart, IsUntaken}
 use Rattle.ready_deques.proofs.team.assemble.Goals as goal
 
 row_of : (c : goal.After-len) → c.in-Some-pop.thieves.items ≡ map new_thief c.args.owners.items
@@ -16,6 +16,9 @@ new-requires-clause-deque c =
 
 pub new-requires-clause-none : goal.new-requires-clause-none
 new-requires-clause-none c = subst (All IsUntaken) (sym (row_of c)) (untaken_row c.args.owners.items)
+
+pub new-requires-clause-parts : goal.new-requires-clause-parts
+new-requires-clause-parts c = subst (All HasPart) (sym (row_of c)) (whole_row c.args.owners.items)
 
 pub loop-own-preserved : goal.loop-own-preserved
 loop-own-preserved c =

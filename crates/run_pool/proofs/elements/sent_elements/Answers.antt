@@ -1,16 +1,9 @@
-use Rattle.std.proofs.Common.{◌∙◌, ap, arith}
-use Rattle.plan_core.specs.declared.plan.Plan.{Plan}
-use Rattle.run_pool.specs.Bytes.{sent_elements}
-use Rattle.run_pool.proofs.Totals.{all_tasks_send, sent_at_most}
+use Rattle.std.proofs.Common.{arith}
+use Rattle.run_pool.proofs.Totals.{sent_at_most}
 use Rattle.run_pool.proofs.elements.sent_elements.Goals as goal
 
-pub elements_from-requires : goal.elements_from-requires
-elements_from-requires c =
-    omega (arith, all_tasks_send c.plan.result.now, ap (λ (P : Plan). sent_elements P) c.plan.ensures.same, sent_at_most c.args.m.now c.plan.ensures.consistent)
+pub returns-then-len-eq1-clause-at_most : goal.returns-then-len-eq1-clause-at_most
+returns-then-len-eq1-clause-at_most c = omega (arith, c.elements_of_one_type.ensures, sent_at_most c.args.m.now c.plan.ensures.consistent)
 
-pub returns-clause-same : goal.returns-clause-same
-returns-clause-same c = c.elements_from.ensures ∙ (all_tasks_send c.plan.result.now ∙ ap (λ (P : Plan). sent_elements P) c.plan.ensures.same)
-
-pub returns-clause-at_most : goal.returns-clause-at_most
-returns-clause-at_most c =
-    omega (arith, c.elements_from.ensures, all_tasks_send c.plan.result.now, ap (λ (P : Plan). sent_elements P) c.plan.ensures.same, sent_at_most c.args.m.now c.plan.ensures.consistent)
+pub returns-else-len-eq1-clause-at_most : goal.returns-else-len-eq1-clause-at_most
+returns-else-len-eq1-clause-at_most c = omega (arith, c.elements_of_all.ensures, sent_at_most c.args.m.now c.plan.ensures.consistent)

@@ -1,45 +1,24 @@
-use Rattle.std.proofs.Common.{◌≡◌, sym, ◌∙◌, subst, refl, inl, inr}
+use Rattle.std.proofs.Common.{◌≡◌, ◌<◌, ◌∙◌, ap, sym, subst, arith}
 use Rattle.ptg_base.specs.Lists.{IsIn}
-use Rattle.dep_iter.specs.Edges.{in_edges}
-use Rattle.flow_meaning.proofs.Members.{in_edge_to}
-use Rattle.dep_table.specs.Needs.{AddsTiles, edge_tiles}
-use Rattle.dep_table.proofs.NeedsSteps.{EdgesLeft, all_left, edge_less, no_edge}
+use Rattle.plan_core.specs.declared.plan.Plan.{Plan}
+use Rattle.dep_iter.specs.Tasks.{flows_of}
+use Rattle.dep_table.specs.Needs.{edge_tiles, flows_tiles}
+use Rattle.dep_table.proofs.NeedsFlows.{known_types, tiles_are}
+use Rattle.dep_table.proofs.NeedsOne.{same_tiles}
 use Rattle.dep_table.proofs.needs.Needs.add_edges.Goals as goal
+use Rattle.dep_table.proofs.needs.Needs.add_edges.Goals.{After-flows_of}
 
-pub loop-edge-init : goal.loop-edge-init
-loop-edge-init c =
-    let P = c.args.plan.now in
-    let all = c.into_iter-edge-iterator.result in
-    let are : all ≡ in_edges P c.args.t.now = c.into_iter-edge-iterator.ensures.into_iter_gives ∙ c.in_edges_under-edge-items.ensures in
-    record {
-      can_next = tt;
-      is_finite = tt;
-      to = λ e i. in_edge_to P c.args.t.now e (subst (IsIn e) are i);
-      left = all_left (edge_tiles P all) 0 c.args.self.now;
-    }
+are : (c : After-flows_of) → c.flows_of.result.now ≡ flows_of c.args.m.now c.args.t.now
+are c = c.flows_of.ensures.flows ∙ ap (λ (Q : Plan). flows_of Q c.args.t.now) c.plan.ensures.same
 
-pub add_edge-requires-clause-to : goal.add_edge-requires-clause-to
-add_edge-requires-clause-to c = c.loop-edge.invariant.to c.in-Some.edge (subst (λ l. IsIn c.in-Some.edge l) (sym c.in-Some.ensures.steps) (inl refl))
+pub add_flows-requires-clause-known : goal.add_flows-requires-clause-known
+add_flows-requires-clause-known c = λ f i. subst (λ n. f.datatype < n) (sym c.requires.types) (known_types c.args.m.now c.args.t.now c.requires.task f (subst (IsIn f) (are c) i))
 
-pub add_edge-requires-clause-types : goal.add_edge-requires-clause-types
-add_edge-requires-clause-types c = c.loop-edge.invariant.left.types ∙ c.requires.types
-
-pub loop-edge-preserved : goal.loop-edge-preserved
-loop-edge-preserved c =
-    let P = c.args.plan.now in
-    let all = c.into_iter-edge-iterator.result in
-    let w = subst (λ l. EdgesLeft P l all c.args.self.now c.loop-edge.self) c.in-Some.ensures.steps c.loop-edge.invariant.left in
-    record {
-      can_next = tt;
-      is_finite = tt;
-      to = λ e i. c.loop-edge.invariant.to e (subst (λ l. IsIn e l) (sym c.in-Some.ensures.steps) (inr i));
-      left = edge_less P all c.next.new.self c.in-Some.edge c.args.self.now c.loop-edge.self c.add_edge.new.self w c.in_ok-add_edge.ensures;
-    }
+pub add_flows-requires-clause-room : goal.add_flows-requires-clause-room
+add_flows-requires-clause-room c = λ d.
+    omega (arith, c.requires.room d, tiles_are c.args.m.now c.plan.ensures.consistent c.args.t.now c.requires.task d c.args.env.now c.flows_of.result.now c.requires.locals (are c))
 
 pub returns : goal.returns
 returns c =
-    let P = c.args.plan.now in
-    let all = c.into_iter-edge-iterator.result in
-    let are : all ≡ in_edges P c.args.t.now = c.into_iter-edge-iterator.ensures.into_iter_gives ∙ c.in_edges_under-edge-items.ensures in
-    let w = subst (λ l. EdgesLeft P l all c.args.self.now c.loop-edge.self) c.in-None.ensures.steps.0 c.loop-edge.invariant.left in
-    subst (λ l. AddsTiles (edge_tiles P l) 0 c.args.self.now c.loop-edge.self) are (no_edge P all c.args.self.now c.loop-edge.self w)
+    same_tiles (flows_tiles c.args.env.now c.flows_of.result.now) (edge_tiles c.args.m.now _) 0 c.args.self.now c.add_flows.new.self c.add_flows.ensures
+    (λ d. tiles_are c.args.m.now c.plan.ensures.consistent c.args.t.now c.requires.task d c.args.env.now c.flows_of.result.now c.requires.locals (are c.before))

@@ -1,4 +1,4 @@
-use Rattle.std.proofs.Common.{◌≡◌, length, sym, ◌∙◌, subst, refl, inl, inr}
+use Rattle.std.proofs.Common.{◌≡◌, length, ap, sym, ◌∙◌, subst, refl, inl, inr, arith}
 use Rattle.ptg_base.specs.Lists.{IsIn}
 use Rattle.dep_iter.specs.Items.{write_backs}
 use Rattle.dep_table.specs.Needs.{AddsTiles, write_tiles}
@@ -24,6 +24,22 @@ add_write-requires-clause-from c = c.loop-write.invariant.from c.in-Some.write (
 pub add_write-requires-clause-types : goal.add_write-requires-clause-types
 add_write-requires-clause-types c = c.loop-write.invariant.left.types ∙ c.requires.types
 
+pub add_write-requires-clause-tiles : goal.add_write-requires-clause-tiles
+add_write-requires-clause-tiles c = λ d.
+    let P = c.args.plan.now in
+    let all = c.into_iter-write-iterator.result in
+    let are : all ≡ write_backs P c.args.t.now = c.into_iter-write-iterator.ensures.into_iter_gives ∙ c.write_backs_under-write-items.ensures in
+    let w = subst (λ l. WritesLeft P l all c.args.self.now c.loop-write.self) c.in-Some.ensures.steps c.loop-write.invariant.left in
+    omega (arith, c.requires.tiles d, ap (λ l. write_tiles P l d) are, w.tiles d)
+
+pub add_write-requires-clause-places : goal.add_write-requires-clause-places
+add_write-requires-clause-places c =
+    let P = c.args.plan.now in
+    let all = c.into_iter-write-iterator.result in
+    let are : all ≡ write_backs P c.args.t.now = c.into_iter-write-iterator.ensures.into_iter_gives ∙ c.write_backs_under-write-items.ensures in
+    let w = subst (λ l. WritesLeft P l all c.args.self.now c.loop-write.self) c.in-Some.ensures.steps c.loop-write.invariant.left in
+    omega (arith, c.requires.places, ap length are, w.writes)
+
 pub loop-write-preserved : goal.loop-write-preserved
 loop-write-preserved c =
     let P = c.args.plan.now in
@@ -33,7 +49,7 @@ loop-write-preserved c =
       can_next = tt;
       is_finite = tt;
       from = λ e i. c.loop-write.invariant.from e (subst (λ l. IsIn e l) (sym c.in-Some.ensures.steps) (inr i));
-      left = write_less P all c.next.new.self c.in-Some.write c.args.self.now c.loop-write.self c.add_write.new.self w c.in_ok-add_write.ensures;
+      left = write_less P all c.next.new.self c.in-Some.write c.args.self.now c.loop-write.self c.add_write.new.self w c.add_write.ensures;
     }
 
 pub returns : goal.returns

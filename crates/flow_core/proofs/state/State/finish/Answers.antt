@@ -1,5 +1,5 @@
 use Rattle.std.proofs.Common.{◌≡◌, [], length, refl, ap, sym, subst, ◌∙◌, None, Some, arith}
-use Rattle.std.specs.Map.{lookup}
+use Rattle.std.specs.Map.{lookup, set_value}
 use Rattle.ptg_base.specs.TaskComparing.{same_task}
 use Rattle.ptg_base.specs.declared.edge.Edge.{Edge}
 use Rattle.ptg_base.specs.declared.edge.Item.TheVariants as item
@@ -8,10 +8,10 @@ use Rattle.flow_meaning.specs.Backward.{ended}
 use Rattle.flow_meaning.specs.Machine.{first_tile}
 use Rattle.flow_meaning.specs.Starting.{starting_tiles}
 use Rattle.flow_core.specs.Arrivals.{edges_to}
-use Rattle.flow_core.specs.Fits.{Fits}
+use Rattle.flow_core.specs.Fits.{Fits, trap_of}
 use Rattle.flow_core.specs.Inputs.{delivered_by, nothing_delivered}
 use Rattle.flow_core.specs.Kept.{AreKept}
-use Rattle.flow_core.specs.RunState.{RunState, mark_of}
+use Rattle.flow_core.specs.RunState.{RunState, mark_of, with_tiles}
 use Rattle.flow_core.proofs.Fitting.{counts_end, end_fits, ended_run, running_end, running_task}
 use Rattle.flow_core.proofs.Kept.{kept_end, kept_tile, unread}
 use Rattle.flow_core.proofs.Starting.{length-starting_tiles, ran}
@@ -39,28 +39,29 @@ take_tiles-requires c =
       places = omega (arith, ap length edges, length-edges_from P t 0 (flows_of P t), tiles);
     }
 
-pub run_task-end-requires-clause-task : goal.run_task-end-requires-clause-task
-run_task-end-requires-clause-task c =
+pub run_task-ran-requires-clause-task : goal.run_task-ran-requires-clause-task
+run_task-ran-requires-clause-task c =
     subst (λ P. IsTask P c.args.t.now) (sym c.plan-plan.ensures.same)
     (running_task c.args.m.now c.args.given.now c.plan-plan.ensures.consistent c.args.self.now c.requires.fits c.args.t.now c.requires.running)
 
-pub run_task-end-requires-clause-flows : goal.run_task-end-requires-clause-flows
-run_task-end-requires-clause-flows c = c.take_tiles.ensures.places ∙ ap length c.in_ok-found.ensures.tiles ∙ length-starting_tiles c.plan-plan.result.now c.args.given.now nothing_delivered c.args.t.now
+pub run_task-ran-requires-clause-flows : goal.run_task-ran-requires-clause-flows
+run_task-ran-requires-clause-flows c = c.take_tiles.ensures.places ∙ ap length c.in_ok-found.ensures.tiles ∙ length-starting_tiles c.plan-plan.result.now c.args.given.now nothing_delivered c.args.t.now
 
-pub invariant_of-self : goal.invariant_of-self
-invariant_of-self c =
+pub invariant_of-self-2 : goal.invariant_of-self-2
+invariant_of-self-2 c =
     let t = c.args.t.now in
     let claims = c.self.inside.claims.entries in
     let sent = c.self.inside.sent in
-    let end = c.run_task-end.result in
+    let end = c.run_task-ran.result.end in
     let P = c.plan-plan.result.now in
     let edges = c.as_slice.ensures.value ∙ c.in_ok-found.ensures.edges in
     let running : lookup (same_task t) claims ≡ Some None = ap (λ (s : RunState). mark_of s t) c.self.view_is ∙ c.requires.running in
+    let marks : c.mark.new.claims.entries ≡ set_value (same_task t) claims (Some end) = c.mark.ensures ∙ ap (λ e. set_value (same_task t) claims (Some e)) c.of-end.ensures in
     let ends = kept_end claims t end running sent c.take_tiles.new.sent c.self.invariant.tiles (c.take_tiles.ensures.kept P t (flows_of P t) edges) c.take_tiles.ensures.sends c.take_tiles.ensures.writes in
     record {
       counts = λ u none.
-          counts_end c.self.inside.arrived.entries claims sent.sends t end c.self.invariant.counts u (ap (lookup (same_task u)) (sym c.mark.ensures) ∙ none) ∙ ap (edges_to u) (sym c.take_tiles.ensures.sends);
-      tiles = subst (λ cs. AreKept cs c.take_tiles.new.sent) (sym c.mark.ensures) ends;
+          counts_end c.self.inside.arrived.entries claims sent.sends t end c.self.invariant.counts u (ap (lookup (same_task u)) (sym marks) ∙ none) ∙ ap (edges_to u) (sym c.take_tiles.ensures.sends);
+      tiles = subst (λ cs. AreKept cs c.take_tiles.new.sent) (sym marks) ends;
     }
 
 pub returns-clause-ok : goal.returns-clause-ok
@@ -77,10 +78,12 @@ returns-clause-ok c =
     let edges = c.as_slice.ensures.value ∙ c.in_ok-found.ensures.edges in
     let tiles : c.take_tiles.new.tiles.items ≡ starting_tiles P G (delivered_by sent.edges) t = c.take_tiles.ensures.tiles P G t [] (flows_of P t) edges refl c.in_ok-found.ensures.tiles in
     let same = λ (e : Edge) (to : e.to ≡ t). kept_tile claims sent c.self.invariant.tiles e (unread claims t e running to) ∙ ap (λ (s : RunState). first_tile (item.Edge e) s.sends) c.self.view_is in
-    let end = ran c.args.m.now P G r (delivered_by sent.edges) t c.take_tiles.new.tiles.items c.run_task-end.result c.plan-plan.ensures.same same tiles c.run_task-end.ensures in
-    let meant : ended c.args.m.now G t ≡ Some c.run_task-end.result = running_end c.args.m.now G con r c.requires.fits t c.requires.running ∙ end in
-    let marked = ended_run claims c.mark.new.claims.entries sent.sends c.take_tiles.new.sent.sends r t c.run_task-end.result c.self.view_is c.mark.ensures c.take_tiles.ensures.sends in
-    record { end = c.run_task-end.result; as_meant = meant; marked = marked; trapped = c.trap_of-trap.ensures }
+    let end = ran c.args.m.now P G r (delivered_by sent.edges) t c.take_tiles.new.tiles.items c.run_task-ran.result.end c.plan-plan.ensures.same same tiles c.run_task-ran.ensures in
+    let meant : ended c.args.m.now G t ≡ Some c.run_task-ran.result.end = running_end c.args.m.now G con r c.requires.fits t c.requires.running ∙ end in
+    let marks : c.mark.new.claims.entries ≡ set_value (same_task t) claims (Some c.run_task-ran.result.end) = c.mark.ensures ∙ ap (λ e. set_value (same_task t) claims (Some e)) c.of-end.ensures in
+    let left : c.keep_tiles.new.table.entries ≡ with_tiles t c.run_task-ran.result.end c.self.inside.outputs.entries = c.keep_tiles.ensures ∙ ap (with_tiles t c.run_task-ran.result.end) c.in_ok-reserve.ensures.entries in
+    let marked = ended_run claims c.mark.new.claims.entries sent.sends c.take_tiles.new.sent.sends c.self.inside.outputs.entries c.keep_tiles.new.table.entries r t c.run_task-ran.result.end c.self.view_is marks c.take_tiles.ensures.sends left in
+    record { end = c.run_task-ran.result.end; as_meant = meant; marked = marked; trapped = c.trap-trap.ensures ∙ ap trap_of c.of-end.ensures }
 
 pub returns-clause-fits : goal.returns-clause-fits
 unfolding starting_tiles
@@ -96,7 +99,9 @@ returns-clause-fits c =
     let edges = c.as_slice.ensures.value ∙ c.in_ok-found.ensures.edges in
     let tiles : c.take_tiles.new.tiles.items ≡ starting_tiles P G (delivered_by sent.edges) t = c.take_tiles.ensures.tiles P G t [] (flows_of P t) edges refl c.in_ok-found.ensures.tiles in
     let same = λ (e : Edge) (to : e.to ≡ t). kept_tile claims sent c.self.invariant.tiles e (unread claims t e running to) ∙ ap (λ (s : RunState). first_tile (item.Edge e) s.sends) c.self.view_is in
-    let end = ran c.args.m.now P G r (delivered_by sent.edges) t c.take_tiles.new.tiles.items c.run_task-end.result c.plan-plan.ensures.same same tiles c.run_task-end.ensures in
-    let meant : ended c.args.m.now G t ≡ Some c.run_task-end.result = running_end c.args.m.now G con r c.requires.fits t c.requires.running ∙ end in
-    let marked = ended_run claims c.mark.new.claims.entries sent.sends c.take_tiles.new.sent.sends r t c.run_task-end.result c.self.view_is c.mark.ensures c.take_tiles.ensures.sends in
-    subst (Fits c.args.m.now G) (sym marked) (end_fits c.args.m.now G con r c.requires.fits t c.run_task-end.result c.requires.running meant)
+    let end = ran c.args.m.now P G r (delivered_by sent.edges) t c.take_tiles.new.tiles.items c.run_task-ran.result.end c.plan-plan.ensures.same same tiles c.run_task-ran.ensures in
+    let meant : ended c.args.m.now G t ≡ Some c.run_task-ran.result.end = running_end c.args.m.now G con r c.requires.fits t c.requires.running ∙ end in
+    let marks : c.mark.new.claims.entries ≡ set_value (same_task t) claims (Some c.run_task-ran.result.end) = c.mark.ensures ∙ ap (λ e. set_value (same_task t) claims (Some e)) c.of-end.ensures in
+    let left : c.keep_tiles.new.table.entries ≡ with_tiles t c.run_task-ran.result.end c.self.inside.outputs.entries = c.keep_tiles.ensures ∙ ap (with_tiles t c.run_task-ran.result.end) c.in_ok-reserve.ensures.entries in
+    let marked = ended_run claims c.mark.new.claims.entries sent.sends c.take_tiles.new.sent.sends c.self.inside.outputs.entries c.keep_tiles.new.table.entries r t c.run_task-ran.result.end c.self.view_is marks c.take_tiles.ensures.sends left in
+    subst (Fits c.args.m.now G) (sym marked) (end_fits c.args.m.now G con r c.requires.fits t c.run_task-ran.result.end c.requires.running meant)

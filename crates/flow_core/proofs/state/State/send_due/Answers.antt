@@ -1,12 +1,16 @@
 use Rattle.std.proofs.Common.{refl, sym, subst}
 use Rattle.flow_core.specs.Fits.{Fits}
-use Rattle.flow_core.proofs.Fitting.{due_now, goes_to_waiting, send_fits}
+use Rattle.flow_core.proofs.Fitting.{due_now, goes_to_waiting, kept_for, send_fits}
 use Rattle.flow_core.proofs.state.State.send_due.Goals as goal
 
 pub enter_item-requires-clause-target : goal.enter_item-requires-clause-target
 enter_item-requires-clause-target c =
     goes_to_waiting c.args.m.now c.requires.fits.0 c.plan.ensures.consistent c.args.self.now c.requires.fits.1 c.args.item.now
     (due_now c.args.m.now c.requires.fits.0 c.plan.ensures.consistent c.args.self.now c.requires.fits.1 c.args.item.now c.requires.due (c.if-not-is_unsent.ensures.0 refl))
+
+pub enter_item-requires-clause-kept : goal.enter_item-requires-clause-kept
+enter_item-requires-clause-kept c =
+    kept_for c.args.m.now c.requires.fits.0 c.plan.ensures.consistent c.args.self.now c.requires.fits.1 c.args.item.now c.requires.due (c.if-not-is_unsent.ensures.0 refl)
 
 pub returns-clause-exact : goal.returns-clause-exact
 returns-clause-exact c = λ G fits.

@@ -1,6 +1,0 @@
-use Rattle.body_lang.proofs.Declared.{variables_at_most}
-use Rattle.body_lang.proofs.VariableCount.{slots_are}
-use Rattle.body_lang.proofs.laws.a_slot_for_each_variable.Goals as goal
-
-pub returns : goal.returns
-returns c scope tokens x h = slots_are scope h.tree x (variables_at_most tokens h.tree h.text) h.named

@@ -1,0 +1,10 @@
+pub mod Declared
+pub mod VariableCount
+pub mod Along
+pub mod Judging
+pub mod Alike
+pub mod Walking
+pub mod Agreeing
+pub mod Nesting
+pub mod Fronts
+pub mod Renaming

@@ -1,0 +1,27 @@
+//! What follows from the definitions of bodies and of the names in them.
+
+ghost use Rattle.body_laws.specs.Laws.{NameNeverTooMany, SlotForEach, TokensAgreeWithTree, FrontsAgreeWithTree, OnlyTheNextCounts};
+ghost use Rattle.body_laws.specs.Renaming.{DeclaredSame, LoopedSame};
+
+/// A law: giving a variable another name, which occurs nowhere else, changes nothing in the body that is read.
+pub fn another_name_changes_nothing()
+    ensures declared { DeclaredSame }
+    ensures looped { LoopedSame }
+{}
+
+/// A law: where the text of a body has no fault, no name is refused because there are too many variables.
+pub fn variables_are_counted_in_the_text()
+    ensures { NameNeverTooMany }
+{}
+
+/// A law: beside the locals of the class, a body has a slot for each variable that it declares.
+pub fn a_slot_for_each_variable()
+    ensures { SlotForEach }
+{}
+
+/// A law of `front_fault`, by which names are judged in a broken body: in a text without a fault it agrees with the tree, at each front of the text too, and of the tokens after a front only the next one matters.
+pub fn names_agree()
+    ensures whole { TokensAgreeWithTree }
+    ensures front { FrontsAgreeWithTree }
+    ensures next { OnlyTheNextCounts }
+{}

@@ -1,0 +1,32 @@
+-- Whether the tables of the globals of a JDF lack one of them.
+use Rattle.std.proofs.Common.{◌≡◌, ℕ, Bool, true, not, ◌||◌, List, [], ◌∷◌, None, is_some, if◌then◌else◌, refl, ◌∙◌, ap}
+use Rattle.std.specs.List.{list_any, position}
+use Rattle.name_table.specs.Names.{value_named}
+use Rattle.coll_data.specs.Data.{Data}
+use Rattle.check_names.specs.declared.context.Globals.{Globals}
+use Rattle.check_names.specs.Alphabet.{Word, Jdf}
+use Rattle.check_names.specs.Contexts.{AreGlobals}
+use Rattle.check_names.specs.Names.{word_is, coll_is}
+use Rattle.check_names.proofs.NoFaults.{true_or, or_true, itself}
+use Rattle.flow_check.specs.Globals.{lacks}
+use Rattle.flow_check.specs.Given.{is_given, is_missing}
+
+-- tests that agree on words whose names are declared
+any_declared : (p q : Word → Bool) (globals words : List Word) → ((name : List ℕ) → list_any (word_is name) words ≡ true → list_any (word_is name) globals ≡ true)
+    → ((w : Word) → list_any (word_is w.text) globals ≡ true → p w ≡ q w) → list_any p words ≡ list_any q words
+any_declared p q globals [] among same = refl
+any_declared p q globals (w ∷ words) among same =
+    let first = same w (among w.text (true_or (word_is w.text w) (list_any (word_is w.text) words) (itself w.text))) in
+    let rest = any_declared p q globals words (λ name h. among name (or_true (word_is name w) (list_any (word_is name) words) h)) same in
+    λ i. first i || rest i
+
+lacks_declared : (jdf : Jdf) (given : Data) (globals : Globals) → AreGlobals (record { jdf = jdf; given = given }) globals → (w : Word) → list_any (word_is w.text) jdf.globals ≡ true
+    → lacks globals w.text ≡ not (is_given given w.text)
+lacks_declared jdf given globals tables w declared =
+    let ints = tables.ints w.text ∙ ap (λ b. if b then value_named given.ints w.text else None) declared in
+    let colls = tables.colls w.text ∙ ap (λ b. if b then position (coll_is w.text) given.colls else None) declared in
+    λ i. not (is_some (ints i) || is_some (colls i))
+
+pub missing_is : (jdf : Jdf) (given : Data) (globals : Globals) → AreGlobals (record { jdf = jdf; given = given }) globals → list_any (λ (w : Word). lacks globals w.text) jdf.globals ≡ is_missing jdf given
+missing_is jdf given globals tables =
+    any_declared (λ (w : Word). lacks globals w.text) (λ (w : Word). not (is_given given w.text)) jdf.globals jdf.globals (λ name h. h) (lacks_declared jdf given globals tables)

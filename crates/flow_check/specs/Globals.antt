@@ -1,0 +1,22 @@
+-- The globals of a JDF with its data, as they are tabulated. Source: this project's own choice.
+use Rattle.std.specs.Prelude.{◌≡◌, ℕ, Bool, not, ◌||◌, List, [], ◌∷◌, ◌++◌, is_some, if◌then◌else◌}
+use Rattle.name_table.specs.Names.{value_named, has_name}
+use Rattle.check_names.specs.declared.context.Globals.{Globals}
+use Rattle.check_names.specs.Names.{Job, is_declared}
+use Rattle.flow_check.specs.declared.globals.Declared.{Declared}
+
+-- the JDF and its data
+abbrev pub job_with : Declared → Job
+job_with declared = record { jdf = declared.jdf.now; given = declared.given.now }
+
+-- the names of a set are the globals of the JDF
+abbrev pub AreDeclared : Job → List (List ℕ) → Type 0
+AreDeclared job names = (n : List ℕ) → has_name names n ≡ is_declared job n
+
+-- a table with one name more, and its value, unless it has the name
+abbrev pub with_value : {V : Type 0} → List (List ℕ × V) → List ℕ × V → List (List ℕ × V)
+with_value table x = if is_some (value_named table x.0) then table else table ++ x ∷ []
+
+-- whether the tables have no global of this name
+abbrev pub lacks : Globals → List ℕ → Bool
+lacks globals name = not (is_some (value_named globals.ints name) || is_some (value_named globals.colls name))

@@ -1,0 +1,65 @@
+-- An opening is complete once as many tasks were claimed as no edge goes into.
+use Rattle.std.proofs.Common.{◌≡◌, ◌≤◌, ◌==◌, Bool, false, List, [], ◌∷◌, ◌++◌, length, refl, ap, sym, ◌∙◌, subst, Option, None, inl, inr, eq-eqb, arith}
+use Rattle.std.specs.Map.{keys_of}
+use Rattle.ptg_base.specs.Lists.{IsIn}
+use Rattle.ptg_base.specs.Task.{Task}
+use Rattle.ptg_base.specs.TaskComparing.{same_task}
+use Rattle.ptg_base.specs.TaskLaws.{same_task-decides}
+use Rattle.ptg_base.specs.declared.edge.Edge.{Edge}
+use Rattle.ptg_base.specs.declared.edge.Item.TheVariants as item
+use Rattle.plan_core.specs.declared.plan.Plan.{Plan}
+use Rattle.coll_data.specs.Data.{Data}
+use Rattle.range_space.proofs.Stepping.{by_test}
+use Rattle.dep_iter.specs.Tasks.{IsTask, all_tasks}
+use Rattle.dep_iter.specs.Edges.{goal, in_edges}
+use Rattle.dep_iter.specs.Consistent.{roots}
+use Rattle.dep_iter.proofs.Joining.{map-append}
+use Rattle.dep_iter.proofs.Listing.{listed}
+use Rattle.flow_meaning.specs.Counting.{as_number, count}
+use Rattle.flow_meaning.specs.Ending.{Ended}
+use Rattle.flow_meaning.specs.Machine.{Sent, arrived, is_sent}
+use Rattle.flow_meaning.proofs.Quiet.{filtered}
+use Rattle.flow_core.specs.RunState.{RunState, machine, opening_run, with_claim}
+use Rattle.flow_core.specs.Fits.{Fits}
+use Rattle.flow_core.specs.OneThread.{HasDone, IsOpening, MayClaimOnly, running_tasks}
+use Rattle.flow_core.proofs.RunningTasks.{Once, at_most, running_push}
+
+count-none : {A : Type 0} (test : A → Bool) (xs : List A) → ((x : A) → test x ≡ false) → count test xs ≡ 0
+count-none test [] none = refl
+count-none test (x ∷ xs) none = omega (arith, ap as_number (none x), count-none test xs none)
+
+-- nothing is opened yet
+pub opens_first : IsOpening opening_run
+opens_first = record { sends = refl; running = refl }
+
+-- a claim goes on with an opening
+pub opens_on : (r : RunState) (t : Task) → IsOpening r → IsOpening (with_claim t r)
+opens_on r t o = record {
+  sends = o.sends;
+  running = running_push r.claims t ∙ ap (λ l. l ++ t ∷ []) o.running ∙ sym (map-append (λ (c : Task × Option Ended). c.0) r.claims ((t, None) ∷ []));
+}
+
+module _ (P : Plan) (r : RunState) (o : IsOpening r) where
+  none_come : (t : Task) → arrived P (machine r) t ≡ 0
+  none_come t = ap (λ (s : List Sent). arrived P (record { claims = keys_of r.claims; sends = s }) t) o.sends ∙ count-none (λ (e : Edge). is_sent (record { claims = keys_of r.claims; sends = [] }) (item.Edge e)) (in_edges P t) (λ e. refl)
+
+  root : (t : Task) → IsTask P t → arrived P (machine r) t ≡ goal P t → IsIn t (roots P)
+  root t job all = (filtered (λ (u : Task). goal P u == 0) (all_tasks P) t).1 ((listed P t).0 job, eq-eqb (goal P t) 0 (sym all ∙ none_come t))
+
+  -- where as many tasks were claimed as no edge goes into, no other task may be claimed
+  pub opened_all : (G : Data) → Fits P G r → (running : List Task) → running ≡ running_tasks r → length running ≡ length (roots P) → MayClaimOnly P [] r
+  opened_all G fits running are full t may =
+      let more : Once (t ∷ keys_of r.claims) = λ u.
+      by_test (same_task u t)
+      (λ k. let none = ap (λ v. count (same_task v) (keys_of r.claims)) ((same_task-decides u t).0 k) in omega (arith, ap as_number k, none, may.unclaimed))
+      (λ k. let most = fits.sound.claimed_once u in omega (arith, ap as_number k, most)) in
+      let room : length (t ∷ keys_of r.claims) ≤ length (roots P) =
+      at_most (t ∷ keys_of r.claims) (roots P) more (λ u i. elim i [
+        | inl q ↦ subst (λ v. IsIn v (roots P)) (sym q) (root t may.task may.all_arrived)
+        | inr k ↦ let h = fits.sound.claimed_have_all u k in root u h.task h.all_arrived
+      ]) in
+      absurd (omega (arith, room, ap length are, ap length o.running, full))
+
+-- where no task may be claimed, the rest of an opening is done
+pub nothing_more : (P : Plan) (ts : List Task) (r : RunState) → MayClaimOnly P [] r → HasDone P ts [] r r
+nothing_more P ts r none = record { claimed = λ us h t may. absurd (none t may); sent = λ js h. h; ended = refl; ends = λ t. refl; fits = λ G h. h }

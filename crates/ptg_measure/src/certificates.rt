@@ -1,0 +1,68 @@
+//! Checks of certificates of given sizes. The lists are written down, not made by a run.
+use crate::count::{Count, Failure};
+use crate::jobs::{line, ring};
+use chain_cert::{check_chain, check_cycle};
+use dep_iter::Matched;
+use edge_match::{MatchRefusal, match_edges};
+use plan_core::Plan;
+use ptg_base::TaskId;
+use std::alloc::Global;
+
+// The plan, as one that is consistent.
+fn matched(alloc: Global, plan: Plan) -> Result<Matched, Failure> {
+    match match_edges(alloc, plan) {
+        Ok(matched) => Ok(matched),
+        Err((MatchRefusal::OutOfMemory, _)) => Err(Failure::OutOfMemory),
+        Err((MatchRefusal::Fault(_), _)) => Err(Failure::NotWellMade),
+    }
+}
+
+// The tasks of class 0 with one parameter below a count.
+fn tasks_below(alloc: Global, count: u32) -> Result<Vec<TaskId>, Failure> {
+    let mut tasks = Vec::new(alloc);
+    for k in 0..count {
+        tasks.push(TaskId::new(0, &[i64::from(k)]))?;
+    }
+    Ok(tasks)
+}
+
+// These tasks with the levels 1, 2 and so on.
+fn rising(alloc: Global, count: u32) -> Result<Vec<(TaskId, u64)>, Failure> {
+    let mut rows = Vec::new(alloc);
+    for k in 0..count {
+        rows.push((TaskId::new(0, &[i64::from(k)]), u64::from(k) + 1))?;
+    }
+    Ok(rows)
+}
+
+fn said(alloc: Global, accepted: bool) -> Result<Vec<Count>, Failure> {
+    Ok(vec![in alloc; Count::of("accepted", u64::from(accepted))]?)
+}
+
+/// Tasks in a line, each the source of an edge into the next: whether they are shown to be a heaviest chain.
+pub fn checked_chain(alloc: Global, size: u32) -> Result<Vec<Count>, Failure> {
+    let m = matched(alloc, line(alloc, size)?)?;
+    let chain = tasks_below(alloc, size)?;
+    let levels = rising(alloc, size)?;
+    let is_heaviest = check_chain(&m, &[1], chain.as_slice(), levels.as_slice())?;
+    said(alloc, is_heaviest)
+}
+
+/// The same lists, without the check.
+pub fn chain_lists(alloc: Global, size: u32) -> Result<Vec<Count>, Failure> {
+    let m = matched(alloc, line(alloc, size)?)?;
+    let chain = tasks_below(alloc, size)?;
+    let levels = rising(alloc, size)?;
+    Ok(vec![in alloc;
+        Count::of("tasks", m.tasks()),
+        Count::of("links", chain.len() as u64),
+        Count::of("levels", levels.len() as u64),
+    ]?)
+}
+
+/// Tasks in a ring: whether they are a cycle.
+pub fn checked_cycle(alloc: Global, size: u32) -> Result<Vec<Count>, Failure> {
+    let m = matched(alloc, ring(alloc, size)?)?;
+    let cycle = tasks_below(alloc, size)?;
+    said(alloc, check_cycle(&m, cycle.as_slice()))
+}
