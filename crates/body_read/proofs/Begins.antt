@@ -1,5 +1,5 @@
 -- What the next token shows of the statements of a body.
-use Rattle.std.proofs.Common.{◌≡◌, ◌<◌, ◌≤◌, Bool, true, false, cond, List, [], ◌∷◌, ◌++◌, length, Ok, Err, refl, sym, ap, ◌∙◌, subst}
+use Rattle.std.proofs.Common.{◌≡◌, ◌<◌, ◌≤◌, Bool, true, false, cond, List, [], ◌∷◌, ◌++◌, length, Ok, refl, ap}
 use Rattle.grammar_core.specs.declared.token.Token.{Token}
 use Rattle.jdf_alphabet.specs.declared.terminal.Terminal.{Terminal}
 use Rattle.jdf_alphabet.specs.declared.terminal.Terminal.TheVariants as terminal
@@ -18,7 +18,7 @@ use Rattle.jdf_tree.specs.Nonterminal.{Nonterminal, a_block, TreeOf}
 use Rattle.jdf_tree.specs.GrammarParts.{any}
 use Rattle.jdf_tree.specs.Statements.{Statements}
 use Rattle.jdf_tree.specs.BlockStatements.{statements_of}
-use Rattle.jdf_tree.specs.BodyGrammar.{declaration, element, assignment, choice, for_loop, trap_statement, block, otherwise, statement, begins_statement, statements, block_rest, text}
+use Rattle.jdf_tree.specs.BodyGrammar.{declaration, assignment, choice, for_loop, trap_statement, block, statement, begins_statement, statements, block_rest, text}
 use Rattle.jdf_tree.specs.Grammar.{productions}
 use Rattle.jdf_tree.proofs.Lists.{rest_of, rest_begins, rest_goes_on, rest_fails, rest_ends}
 
@@ -33,14 +33,6 @@ token_shrinks q s t r e = (run_shrinks {N = Nonterminal} {Tree = TreeOf} (nonter
 pub block_is : (s : List Token) → nonterminal_at productions a_block s ≡ reading productions block_rest s
 unfolding productions
 block_is s = nonterminal_is productions a_block s
-
-pub element_begins : (s : List Token) → numbered.starts (first element) s ≡ starts (is terminal.LeftBracket) s
-unfolding element
-element_begins s = refl
-
-pub otherwise_begins : (s : List Token) → numbered.starts (first otherwise) s ≡ starts (is terminal.Else) s
-unfolding otherwise
-otherwise_begins s = refl
 
 -- the next token shows which statement comes
 pub statement_reads : (s : List Token) → reading productions statement s ≡ cond (starts (is terminal.Int) s) (reading productions declaration s) (cond (starts (is terminal.If) s) (reading productions choice s) (cond (starts (is terminal.For) s) (reading productions for_loop s) (cond (starts (is terminal.Trap) s) (reading productions trap_statement s) (reading productions assignment s))))

@@ -3,7 +3,7 @@
 ghost use Rattle.plan_data.specs.Fit.{DataFit};
 ghost use Rattle.chain_cert.specs.Checking.{AreWeights};
 
-use crate::edits::{Edit, copy_of, edited};
+use crate::edits::{Edit, edited};
 use crate::names::add_task;
 use chain_cert::{Certificate, certify, check_chain, check_cycle, weights};
 use coll_data::Given;
@@ -62,7 +62,7 @@ pub fn shown(alloc: Global, m: &Matched, given: Given) -> Result<Printed, Why>
 fn tasks_of(alloc: Global, rows: &[(TaskId, u64)]) -> Result<Vec<TaskId>, OutOfMemory> {
     let mut tasks = Vec::new(alloc);
     for row in rows {
-        tasks.push(copy_of(&row.0))?;
+        tasks.push(row.0.copy())?;
     }
     Ok(tasks)
 }
@@ -71,7 +71,7 @@ fn tasks_of(alloc: Global, rows: &[(TaskId, u64)]) -> Result<Vec<TaskId>, OutOfM
 fn rows_of(alloc: Global, tasks: &[TaskId]) -> Result<Vec<(TaskId, u64)>, OutOfMemory> {
     let mut rows = Vec::new(alloc);
     for t in tasks {
-        rows.push((copy_of(t), 0))?;
+        rows.push((t.copy(), 0))?;
     }
     Ok(rows)
 }

@@ -16,11 +16,6 @@ pub enum Edit {
     Lowered,
 }
 
-/// A copy of a task.
-pub fn copy_of(t: &TaskId) -> TaskId {
-    TaskId::new(t.class(), t.params())
-}
-
 // A task with its first parameter one more, where it has one or two; else with its class one more.
 fn another(t: &TaskId) -> TaskId {
     match t.params() {
@@ -40,11 +35,11 @@ fn push_edited(
         Edit::Changed => list.push((another(&row.0), row.1))?,
         Edit::Dropped => {}
         Edit::Doubled => {
-            list.push((copy_of(&row.0), row.1))?;
-            list.push((copy_of(&row.0), row.1))?;
+            list.push((row.0.copy(), row.1))?;
+            list.push((row.0.copy(), row.1))?;
         }
-        Edit::Exchanged => list.push((copy_of(&row.0), row.1))?,
-        Edit::Lowered => list.push((copy_of(&row.0), row.1.saturating_sub(1)))?,
+        Edit::Exchanged => list.push((row.0.copy(), row.1))?,
+        Edit::Lowered => list.push((row.0.copy(), row.1.saturating_sub(1)))?,
     }
     Ok(())
 }
@@ -59,7 +54,7 @@ pub fn edited(
     let mut list = Vec::new(alloc);
     for (at, row) in rows.iter().enumerate() {
         if at != index {
-            list.push((copy_of(&row.0), row.1))?;
+            list.push((row.0.copy(), row.1))?;
         } else if edit == Edit::Lowered && row.1 == 0 {
             return Ok(None);
         } else {

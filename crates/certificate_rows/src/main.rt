@@ -7,8 +7,6 @@ mod edits;
 mod names;
 
 use job_stages::{JobVerdict, judge_texts};
-use ptg_base::Text;
-use ptg_io::File;
 use row_files::{Call, Order, Printed, Why, all_as_wanted};
 use std::alloc::Global;
 use std::process::ExitCode;
@@ -32,26 +30,15 @@ impl Call for CertificateCall {
         alloc: Global,
         order: Order,
     ) -> Result<Printed, Why> {
-        let files = order.files.as_slice();
         let [word, jdf, table] = order.words.as_slice() else {
             return Err(Why("not three words"));
         };
         if word.bytes() != b"certificate".as_slice() {
             return Err(Why("a word that calls nothing"));
         }
-        match judge_texts(alloc, named(files, jdf)?, named(files, table)?)? {
+        match judge_texts(alloc, order.file(jdf)?, order.file(table)?)? {
             JobVerdict::Consistent(matched, given) => certificates::shown(alloc, &matched, given),
             _ => Err(Why("a job that is not consistent")),
         }
     }
-}
-
-// The bytes of the file of this name.
-fn named<'a>(files: &'a [File], name: &Text) -> Result<&'a [u8], Why> {
-    for file in files {
-        if file.name() == name.bytes() {
-            return Ok(file.bytes());
-        }
-    }
-    Err(Why("no file of this name"))
 }

@@ -89,18 +89,11 @@ take_and_drop (suc n) (x ∷ xs) = ap (λ l. x ∷ l) (take_and_drop n xs)
 pub split_rows : (rows before after later : List (Task × ℕ)) (row : Task × ℕ) (n : ℕ) → before ≡ take n rows → after ≡ drop n rows → after ≡ row ∷ later → before ++ row ∷ later ≡ rows
 split_rows rows before after later row n b a s = ap (λ l. l ++ row ∷ later) b ∙ ap (λ l. take n rows ++ l) (sym s ∙ a) ∙ take_and_drop n rows
 
-pub none_there : (rows : List (Task × ℕ)) → length rows ≡ 0 → (t : Task) (k : ℕ) → IsIn (t, k) rows → ⊥
-none_there [] h t k i = i
-none_there (r ∷ rs) h t k i = absurd (omega (arith, h))
-
 -- the edges before those that are left come from sources that a level is above
 pub record AboveSoFar (levels : List (Task × ℕ)) (w n : ℕ) (all left : List Edge) : Type 0 where
   pub passed : List Edge
   pub split : all ≡ passed ++ left
   pub above : (e : Edge) → IsIn e passed → IsAboveSource levels w n e.from
-
-pub above_start : (levels : List (Task × ℕ)) (w n : ℕ) (all : List Edge) → AboveSoFar levels w n all all
-above_start levels w n all = record { passed = []; split = refl; above = λ e i. absurd i }
 
 pub above_next : (levels : List (Task × ℕ)) (w n : ℕ) (all left : List Edge) (e : Edge) → AboveSoFar levels w n all (e ∷ left) → IsAboveSource levels w n e.from → AboveSoFar levels w n all left
 above_next levels w n all left e a h = record {

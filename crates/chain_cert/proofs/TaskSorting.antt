@@ -15,7 +15,7 @@ use Rattle.dep_iter.proofs.Listing.{listed}
 use Rattle.flow_meaning.proofs.Once.{tasks_once}
 use Rattle.task_order.proofs.Lists.{distinct_once, onto}
 use Rattle.chain_cert.specs.Certificates.{HasTasksInOrder, tasks_in_order}
-use Rattle.chain_cert.specs.Checking.{AreInPlace, IsBeforeFirst, IsInPlace, IsRising, tasks_of}
+use Rattle.chain_cert.specs.Checking.{AreInPlace, IsBeforeFirst, IsRising, tasks_of}
 
 -- of two tasks one is before the other, or they are the same
 pub data IsOrdered (a b : Task) : Type 0 where
@@ -130,13 +130,6 @@ one_rising (t ∷ ts) (u ∷ us) up also same =
 length_tasks : (rows : List (Task × ℕ)) → length (tasks_of rows) ≡ length rows
 length_tasks [] = refl
 length_tasks (row ∷ rows) = ap suc (length_tasks rows)
-
--- tasks that are in place one by one
-pub place_split : (P : Plan) (t : Task) (ts : List Task) → AreInPlace P (t ∷ ts) → IsInPlace P (t ∷ ts) × AreInPlace P ts
-place_split P t ts h = (h.0, h.1)
-
-pub place_join : (P : Plan) (t : Task) (ts : List Task) → IsInPlace P (t ∷ ts) → AreInPlace P ts → AreInPlace P (t ∷ ts)
-place_join P t ts r q = (r, q)
 
 pub place_rising : (P : Plan) (ts : List Task) → AreInPlace P ts → IsRising ts
 place_rising P [] h = tt

@@ -1,5 +1,5 @@
 -- A walk back, turned round, is a chain, and the printed cycle is a cycle.
-use Rattle.std.proofs.Common.{◌≡◌, List, [], ◌∷◌, ◌++◌, reverse, refl, ap, sym, ◌∙◌, subst, append_assoc, ◌⊎◌, inl, inr}
+use Rattle.std.proofs.Common.{◌≡◌, List, [], ◌∷◌, ◌++◌, reverse, refl, ap, sym, ◌∙◌, subst, append_assoc, inl, inr}
 use Rattle.std.proofs.lemmas.List.{append-nil, reverse-append}
 use Rattle.ptg_base.specs.Lists.{HasNoRepeats, IsIn}
 use Rattle.ptg_base.specs.Task.{Task}
@@ -63,13 +63,6 @@ module _ (P : Plan) (con : IsConsistent P) where
 turned_append : (ts done more : List Task) → turned ts (done ++ more) ≡ turned ts done ++ more
 turned_append [] done more = refl
 turned_append (t ∷ ts) done more = turned_append ts (t ∷ done) more
-
-turned_in : (ts done : List Task) (x : Task) → IsIn x (turned ts done) → IsIn x ts ⊎ IsIn x done
-turned_in [] done x i = inr i
-turned_in (t ∷ ts) done x i = elim (turned_in ts (t ∷ done) x i) [
-  | inl here ↦ inl (inr here)
-  | inr there ↦ elim there [ inl e ↦ inl (inl e) | inr deep ↦ inr deep ]
-]
 
 turned_once : (ts done : List Task) → HasNoRepeats ts → HasNoRepeats done → ((x : Task) → IsIn x ts → IsIn x done → ⊥) → HasNoRepeats (turned ts done)
 turned_once [] done a b other = b

@@ -4,7 +4,6 @@ ghost use Rattle.std.specs.Prelude.{◌≡◌, ◌∷◌, ◌++◌, [], Bool, Li
 ghost use Rattle.ptg_base.specs.Task.{Task};
 ghost use Rattle.chain_cert.specs.Finding.{IsLeastWhere};
 
-use crate::copying::copy_of;
 use crate::levels::is_before;
 use ptg_base::TaskId;
 
@@ -16,10 +15,10 @@ pub(crate) fn lesser(least: Option<TaskId>, t: &TaskId, counts: bool) -> Option<
         return least;
     }
     let Some(u) = least else {
-        return Some(copy_of(t));
+        return Some(t.copy());
     };
     if is_before(t, &u) {
-        return Some(copy_of(t));
+        return Some(t.copy());
     }
     Some(u)
 }

@@ -9,7 +9,6 @@ ghost use Rattle.chain_cert.specs.Checking.{AreWeights};
 ghost use Rattle.chain_cert.specs.Finding as finding;
 ghost use Rattle.chain_cert.specs.Finding.{HasLevels, IsNextTask};
 
-use crate::copying::copy_of;
 use crate::levels::weight_of;
 use dep_iter::{Matched, in_edges};
 use indexmap::IndexMap;
@@ -51,7 +50,7 @@ fn note_level(
     ensures { OnOk result ((before : List Task) → IsNextTask m.now weights.now before table.old.entries t.now → HasLevels m.now weights.now (before ++ t.now ∷ []) table.new.entries) }
 {
     let level = weight_of(weights, t) + greatest_before(table, m.plan(), t);
-    table.insert(copy_of(t), level)?;
+    table.insert(t.copy(), level)?;
     Ok(())
 }
 
@@ -84,7 +83,7 @@ pub(crate) fn rows_by(
 {
     let mut rows = Vec::with_capacity(alloc, tasks.len())?;
     for t in tasks {
-        rows.push((copy_of(t), level_in(table, t)))?;
+        rows.push((t.copy(), level_in(table, t)))?;
     }
     Ok(rows)
 }

@@ -5,7 +5,6 @@ mod certificate;
 mod certifying;
 mod chains;
 mod class_weights;
-mod copying;
 mod cycles;
 mod heaviest;
 mod laws;

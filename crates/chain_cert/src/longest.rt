@@ -12,7 +12,6 @@ ghost use Rattle.chain_cert.specs.Levels.{IsLevel};
 ghost use Rattle.chain_cert.specs.Printed.{HasGreatestLevel, IsHeaviestSource, IsLeast, IsPrintedChain};
 ghost use Rattle.chain_cert.specs.Weights as weighing;
 
-use crate::copying::copy_of;
 use crate::least::lesser;
 use crate::leveling::level_in;
 use crate::levels::{is_before, weight_of};
@@ -34,10 +33,10 @@ fn heavier(best: Option<(TaskId, u64)>, row: &(TaskId, u64)) -> Option<(TaskId, 
     ensures { (rows : List (Task × ℕ)) → IsHeaviestRow rows best → IsHeaviestRow (rows ++ row.now ∷ []) result }
 {
     let Some(old) = best else {
-        return Some((copy_of(&row.0), row.1));
+        return Some((row.0.copy(), row.1));
     };
     if is_heavier(row, &old) {
-        return Some((copy_of(&row.0), row.1));
+        return Some((row.0.copy(), row.1));
     }
     Some(old)
 }

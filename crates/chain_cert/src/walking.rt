@@ -5,7 +5,6 @@ ghost use Rattle.ptg_base.specs.Task.{Task};
 ghost use Rattle.chain_cert.specs.Finding.{LacksTasks};
 ghost use Rattle.chain_cert.specs.Printed.{IsPrintedCycle};
 
-use crate::copying::copy_of;
 use crate::leftover::{least_source_left, least_task_left};
 use dep_iter::Matched;
 use indexmap::{IndexMap, IndexSet};
@@ -18,7 +17,7 @@ fn turned(alloc: Global, tasks: &[TaskId]) -> Result<Seq<TaskId>, OutOfMemory>
 {
     let mut turned = Vec::with_capacity(alloc, tasks.len())?;
     for t in tasks {
-        turned.push(copy_of(t))?;
+        turned.push(t.copy())?;
     }
     turned.reverse();
     Ok(Seq::of(turned))

@@ -52,16 +52,3 @@ pub has_more : {X : Type 0} (f : X → List ℕ) (xs : List X) (i : ℕ) (d : X)
 has_more f xs i d n lt =
     ap (λ l. has_name (map f l) n) (take_more xs i d lt)
     ∙ (ap (λ l. has_name l n) (map_pushed f (take i xs) (get_or xs i d)) ∙ has_pushed (map f (take i xs)) (f (get_or xs i d)) n)
-
--- a set that has the names before, after the next one
-pub next_name : {X : Type 0} (f : X → List ℕ) (xs : List X) (i : ℕ) (d : X) (x : List ℕ) (first names after : List (List ℕ)) (new : Bool)
-    → i < length xs → d ≡ get_or xs i d → x ≡ f d
-    → ((n : List ℕ) → has_name names n ≡ (has_name first n || has_name (map f (take i xs)) n))
-    → new ≡ not (has_name names x) → after ≡ (if new then names ++ x ∷ [] else names)
-    → (n : List ℕ) → has_name after n ≡ (has_name first n || has_name (map f (take (i + 1) xs)) n)
-next_name f xs i d x first names after new lt at named before e s n =
-    let same : x ≡ f (get_or xs i d) = named ∙ ap f at in
-    has_added names after x n new e s
-    ∙ (ap (λ b. b || bytes_eq x n) (before n)
-    ∙ (or-assoc (has_name first n) (has_name (map f (take i xs)) n) (bytes_eq x n)
-    ∙ (ap (λ m. has_name first n || (has_name (map f (take i xs)) n || bytes_eq m n)) same ∙ ap (λ b. has_name first n || b) (sym (has_more f xs i d n lt)))))

@@ -47,9 +47,6 @@ found_by_both {A} p q i (x ∷ xs) k e f = go (p x) (q x) refl refl (λ g h. fou
     go false true s t more g h = let same : i ≡ k = some_once i k h in let after : i + 1 ≤ k = from_after p (i + 1) xs k g in absurd (omega (arith, same, after))
     go false false s t more g h = more g h
 
-def_is : List ℕ → DefTree → Bool
-def_is name d = word_is name d.name
-
 same_name : (defs : List DefTree) (n m : List ℕ) (k : ℕ) → local_named defs n ≡ Some k → local_named defs m ≡ Some k → n ≡ m
 same_name defs n m k e f =
     let p = λ (d : DefTree). word_is n d.name in

@@ -1,9 +1,7 @@
 -- The tree of a text is short.
-use Rattle.std.proofs.Common.{ℕ, List, [], ◌∷◌}
+use Rattle.std.proofs.Common.{List, [], ◌∷◌}
 use Rattle.std.specs.List.{AllByRecursion}
-use Rattle.jdf_tree.specs.Jdf.{IsJdf}
 use Rattle.jdf_tree.specs.TreeLimits.{IsFlowWithinLimits, IsClassWithinLimits, IsWithinLimits}
-use Rattle.jdf_tree.proofs.TreeLimits.{texts_within}
 use Rattle.check_names.specs.Alphabet.{FlowTree, ClassTree, Jdf}
 use Rattle.check_names.specs.Limits.{IsShortFlow, IsShortClass, IsShort}
 
@@ -20,6 +18,3 @@ classes_short (c ∷ cs) h = (class_short c h.0, classes_short cs h.1)
 
 pub within_is_short : (jdf : Jdf) → IsWithinLimits jdf → IsShort jdf
 within_is_short jdf h = record { count = h.count; classes = classes_short jdf.classes h.classes }
-
-pub read_is_short : (bytes : List ℕ) (jdf : Jdf) → IsJdf bytes jdf → IsShort jdf
-read_is_short bytes jdf h = within_is_short jdf (texts_within bytes jdf h)

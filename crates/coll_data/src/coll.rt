@@ -1,12 +1,11 @@
 //! Collections of tiles.
 
-ghost use Rattle.std.specs.Prelude.{◌≡◌, ◌≤◌, length, pos, IfOk, replicate, option_copied, option_and_then, slice_get};
+ghost use Rattle.std.specs.Prelude.{◌≡◌, ◌≤◌, length, option_copied, option_and_then, slice_get};
 ghost use Rattle.coll_data.specs.Tiles.{tile_count, tile_index};
 ghost use Rattle.coll_data.specs.Replacing.{coll_with};
 
-use crate::index::{tile_count, tile_index};
-use ptg_base::{OutOfMemory, Seq, Text, Tile};
-use std::alloc::Global;
+use crate::index::tile_index;
+use ptg_base::{Seq, Text, Tile};
 
 /// A collection of tiles in one or two dimensions.
 pub struct Coll {
@@ -31,27 +30,6 @@ impl Drop for Coll {
 }
 
 impl Coll {
-    /// The collection of this shape whose tiles are all zeros, with so many elements each.
-    pub fn zeros(
-        alloc: Global,
-        name: Text,
-        shape: (u32, Option<u32>),
-        datatype: u32,
-        elements: u32,
-    ) -> Result<Coll, OutOfMemory>
-        requires { tile_count shape.0 shape.1 ≤ 65536 }
-        ensures { IfOk result (λ c. c ≡ record { shape = shape; name = name; datatype = datatype; tiles = replicate (tile_count shape.0 shape.1) (replicate elements (pos 0)) }) }
-    {
-        let (rows, cols) = shape;
-        let tiles = zero_tiles(alloc, tile_count(rows, cols), elements)?;
-        Ok(Coll {
-            shape,
-            name,
-            datatype,
-            tiles,
-        })
-    }
-
     // The tile in this row and column, if there is one.
     pub(crate) fn tile(&self, i: i64, j: i64) -> Option<&Tile>
         requires { tile_count self.now.shape.0 self.now.shape.1 ≤ 65536 }
@@ -73,15 +51,4 @@ impl Coll {
             self.tiles.set(index, tile);
         }
     }
-}
-
-// So many tiles of zeros.
-fn zero_tiles(alloc: Global, count: u32, elements: u32) -> Result<Seq<Tile>, OutOfMemory>
-    ensures { IfOk result (λ tiles. tiles ≡ replicate count (replicate elements (pos 0))) }
-{
-    let mut tiles = Seq::new(alloc);
-    for turn in 0..count {
-        tiles.push(Tile::zeros(alloc, elements)?)?;
-    }
-    Ok(tiles)
 }

@@ -16,11 +16,6 @@ of_int name int = bytes_eq name int.0
 
 -- ---- one meaning
 
-pub unknown_is_new : (o : Option ℕ) (b : Bool) → not (is_some (coll_or_int o b)) ≡ not (is_some o || b)
-unknown_is_new (Some at) b = refl
-unknown_is_new None true = refl
-unknown_is_new None false = refl
-
 pub by_none : (o : Option ℕ) (b : Bool) → coll_or_int o b ≡ None → (o ≡ None) × (b ≡ false)
 by_none (Some at) b same = absurd cc
 by_none None true same = absurd cc
@@ -30,10 +25,6 @@ pub by_collection : (o : Option ℕ) (b : Bool) (at : ℕ) → coll_or_int o b �
 by_collection (Some m) b at same = cc
 by_collection None true at same = absurd cc
 by_collection None false at same = absurd cc
-
-pub by_integer : (o : Option ℕ) (b : Bool) → coll_or_int o b ≡ Some Integer → None ≡ o
-by_integer (Some m) b same = absurd cc
-by_integer None b same = refl
 
 -- a name that is new has no meaning
 pub no_meaning : (o : Option ℕ) (b : Bool) → not (is_some o || b) ≡ true → coll_or_int o b ≡ None

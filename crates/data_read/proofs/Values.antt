@@ -65,11 +65,6 @@ opened_more elements values z room =
     ∙ set_at values (pos 0) zeros z (length values) refl
     ∙ sym (append_assoc values (z ∷ []) zeros)
 
-pub opening_length : (elements : ℕ) (fields : List (List ℕ)) (tile : List ℤ) → IsOpening elements fields tile → length fields ≤ elements → length tile ≡ elements
-opening_length elements fields tile opening few =
-    let same = numbers_length fields opening.values opening.all in
-    ap length opening.made ∙ length_opened elements opening.values (omega arith)
-
 pub opening_first : (elements : ℕ) (tile : List ℤ) → tile ≡ replicate elements (pos 0) → IsOpening elements [] tile
 opening_first elements tile zeros = record { values = []; all = refl; made = zeros ∙ ap (λ n. replicate n (pos 0)) (let all : elements ≡ elements - 0 = omega arith in all) }
 

@@ -167,10 +167,6 @@ module _ (env : List ℤ) (n : ℕ) (l : Link) (d : DepPlan) (ds : List DepPlan)
   any-here true x e h = rw (held-first d ds env x e) (IsIn-append_left l (links_to env n x) [] h)
   any-here false x e h = rw (held-more d ds env x e) (IsIn-append_left l (links_to env n x) (flat_map (links_to env n) (held_targets false ds env)) h)
 
-  pub any-first : (x : Target) → held_target d env ≡ Some x → IsIn l (flat_map (links_to env n) (held_targets true (d ∷ ds) env)) → IsIn l (links_to env n x)
-  any-first x e h =
-      elim (from_append l (links_to env n x) [] (rw (held-first d ds env x e) at h)) [ inl a ↦ a | inr b ↦ absurd b ]
-
   pub any-later : (first_only b : Bool) (x : Target) → first_only ≡ false → held_target d env ≡ Some x → (IsIn l (links_to env n x) → ⊥) → IsTrue b ↔ IsIn l (flat_map (links_to env n) (held_targets first_only ds env)) → IsTrue b ↔ IsIn l (flat_map (links_to env n) (held_targets first_only (d ∷ ds) env))
   any-later true b x k e not_here w = absurd (false≢true (sym k))
   any-later false b x k e not_here w =

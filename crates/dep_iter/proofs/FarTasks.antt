@@ -56,9 +56,6 @@ module _ (env : List ℤ) (n : ℕ) (u : Task) (d : DepPlan) (ds : List DepPlan)
   names-here true x e h = rw (held-first d ds env x e) (in_first (links_to env n x) [] u h)
   names-here false x e h = rw (held-more d ds env x e) (in_first (links_to env n x) (flat_map (links_to env n) (held_targets false ds env)) u h)
 
-  pub names-first : (x : Target) → held_target d env ≡ Some x → IsIn u (map far_of (flat_map (links_to env n) (held_targets true (d ∷ ds) env))) → IsIn u (map far_of (links_to env n x))
-  names-first x e h = elim (parts (links_to env n x) [] u (rw (held-first d ds env x e) at h)) [ inl a ↦ a | inr b ↦ absurd b ]
-
   pub names-later : (first_only b : Bool) (x : Target) → first_only ≡ false → held_target d env ≡ Some x → (IsIn u (map far_of (links_to env n x)) → ⊥)
       → IsTrue b ↔ IsIn u (map far_of (flat_map (links_to env n) (held_targets first_only ds env))) → IsTrue b ↔ IsIn u (map far_of (flat_map (links_to env n) (held_targets first_only (d ∷ ds) env)))
   names-later true b x k e none w = absurd (false≢true (sym k))

@@ -79,13 +79,6 @@ HasOneEach-next (s ∷ ss) (v ∷ vs) w =
     (λ k. rw k (HasOneEach-next ss vs w))
     (λ k. rw k (HasOneEach-first ss))
 
--- this combination and those left where another comes after it, and where none does
-pub left-next : (ss : List Progression) (at new : List ℤ) → HaveFirst ss → has_next ss at ≡ true → new ≡ next_of ss at → combinations_left true ss at ≡ at ∷ combinations_left true ss new
-left-next ss at new f h e = rw e (ap (λ l. at ∷ l) (product_after-next ss at f h))
-
-pub left-last : (ss : List Progression) (at new : List ℤ) → has_next ss at ≡ false → combinations_left true ss at ≡ at ∷ combinations_left false ss new
-left-last ss at new h = ap (λ l. at ∷ l) (product_after-none ss at h)
-
 -- what does not fit 64 bits is past an end that does
 pub unfit_past : (v hi step : ℤ) → FitsSigned w64 v → FitsSigned w64 hi → (FitsSigned w64 (v +ℤ step) → ⊥) → is_within hi step (v +ℤ step) ≡ false
 unfit_past v hi step f g not_fit =

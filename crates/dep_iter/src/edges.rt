@@ -14,13 +14,6 @@ use plan_core::Plan;
 use ptg_base::{Edge, TaskId};
 use std::marker::Model;
 
-// A copy of a task.
-pub(crate) fn copy_of(t: &TaskId) -> TaskId
-    ensures { result ≡ t.now }
-{
-    TaskId::new(t.class(), t.params())
-}
-
 /// An iterator over the edges into a task. Contracts see it as the list of those not yet given. It takes no memory.
 #[derive(Drop)]
 pub struct InEdges<'a> {
@@ -44,7 +37,7 @@ pub fn in_edges<'a>(plan: &'a Plan, t: &TaskId) -> InEdges<'a>
     ensures { result ≡ edges.in_edges plan.now t.now }
 {
     InEdges {
-        task: copy_of(t),
+        task: t.copy(),
         links: Links::new(plan, t, Locals::Own(locals_of(plan, t)), true),
     }
 }
@@ -56,7 +49,7 @@ pub fn in_edges_under<'a>(plan: &'a Plan, t: &TaskId, env: &'a [i64]) -> InEdges
     ensures { result ≡ edges.in_edges plan.now t.now }
 {
     InEdges {
-        task: copy_of(t),
+        task: t.copy(),
         links: Links::new(plan, t, Locals::Lent(env), true),
     }
 }
@@ -73,7 +66,7 @@ impl Iterator for InEdges<'_> {
         Some(Edge {
             from: link.far,
             out_flow: link.far_flow,
-            to: copy_of(&self.task),
+            to: self.task.copy(),
             in_flow: link.near,
         })
     }
@@ -102,7 +95,7 @@ pub fn out_edges<'a>(plan: &'a Plan, t: &TaskId) -> OutEdges<'a>
     ensures { result ≡ items.out_edges plan.now t.now }
 {
     OutEdges {
-        task: copy_of(t),
+        task: t.copy(),
         links: Links::new(plan, t, Locals::Own(locals_of(plan, t)), false),
     }
 }
@@ -114,7 +107,7 @@ pub fn out_edges_under<'a>(plan: &'a Plan, t: &TaskId, env: &'a [i64]) -> OutEdg
     ensures { result ≡ items.out_edges plan.now t.now }
 {
     OutEdges {
-        task: copy_of(t),
+        task: t.copy(),
         links: Links::new(plan, t, Locals::Lent(env), false),
     }
 }
@@ -129,7 +122,7 @@ impl Iterator for OutEdges<'_> {
     fn next(&mut self) -> Option<Edge> {
         let link = self.links.next()?;
         Some(Edge {
-            from: copy_of(&self.task),
+            from: self.task.copy(),
             out_flow: link.near,
             to: link.far,
             in_flow: link.far_flow,

@@ -1,14 +1,17 @@
 //! Tasks of a plan, their locals and their flows.
 
 ghost use Rattle.std.specs.Prelude.{◌≡◌, ◌↔◌, ◌<◌, ◌≤◌, length, slice_get, Some, IsTrue, MatchOption};
+ghost use Rattle.ptg_base.specs.Lists.{IsIn};
 ghost use Rattle.term_core.specs.WellSpace.{IsWellSpace};
+ghost use Rattle.term_core.specs.declared.space.ClassSpace.{ClassSpace as ClassSpaceValue};
+ghost use Rattle.range_space.specs.Tasks.{all_locals, params_of};
 ghost use Rattle.dep_iter.specs.Tasks as tasks;
-ghost use Rattle.dep_iter.specs.Tasks.{IsTask};
+ghost use Rattle.dep_iter.specs.Tasks.{IsTask, task};
 ghost use Rattle.dep_iter.specs.Links.{flows_fit};
 
 use plan_core::{FlowPlan, Plan};
 use ptg_base::TaskId;
-use range_space::{Numbers, a_task_has_one_list_of_locals, in_space};
+use range_space::{Numbers, a_task_has_one_list_of_locals, find_locals, in_space, params_at};
 use term_core::ClassSpace;
 
 // The space of a class.
@@ -44,15 +47,33 @@ pub fn locals_of(plan: &Plan, t: &TaskId) -> Numbers<16>
     range_space::locals_of(space_of(plan, t.class()), t.params())
 }
 
-/// The locals of a task, or None where the job has no such task. All that the calls under given locals say of the task is evaluated under them.
+/// The locals of a task, or None where the job has no such task, in one pass over the definitions. All that the calls under given
+/// locals say of the task is evaluated under them.
 pub fn task_locals(plan: &Plan, t: &TaskId) -> Option<Numbers<16>>
     ensures { MatchOption result (IsTask plan.now t.now → ⊥) (λ locals. IsTask plan.now t.now × (locals ≡ tasks.locals_of plan.now t.now)) }
 {
-    if is_task(plan, t) {
-        Some(locals_of(plan, t))
-    } else {
-        None
+    a_task_has_one_list_of_locals();
+    if t.class() as usize >= plan.classes.len() {
+        return None;
     }
+    let space = space_of(plan, t.class());
+    if space.params.as_slice().len() != t.params().len() {
+        return None;
+    }
+    find_locals(space, t.params())
+}
+
+/// The task of a class that has these locals.
+pub fn task_with(plan: &Plan, class: u32, locals: &[i64]) -> TaskId
+    requires class { class < length plan.now.classes }
+    requires locals { (s : ClassSpaceValue) → slice_get plan.now.spaces class ≡ Some s → IsIn locals.now (all_locals s) }
+    ensures task { (s : ClassSpaceValue) → slice_get plan.now.spaces class ≡ Some s → result ≡ task class (params_of s.params locals.now) }
+    ensures of_job { IsTask plan.now result }
+    ensures locals { locals.now ≡ tasks.locals_of plan.now result }
+{
+    a_task_has_one_list_of_locals();
+    let params = params_at(space_of(plan, class), locals);
+    TaskId::new(class, params.as_slice())
 }
 
 /// The flows of the class of a task.

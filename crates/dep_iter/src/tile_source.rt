@@ -4,12 +4,12 @@ ghost use Rattle.std.specs.Prelude.{◌≡◌, ◌+◌, ◌≤◌, ◌++◌, len
 ghost use Rattle.plan_core.specs.declared.target.Target.TheVariants.{Task};
 ghost use Rattle.dep_iter.specs.Active.{flow_ins};
 ghost use Rattle.dep_iter.specs.Arguments as arguments;
+ghost use Rattle.dep_iter.specs.Consistent as consistent;
 ghost use Rattle.dep_iter.specs.Edges as edges;
 ghost use Rattle.dep_iter.specs.Links.{dependences_fit, fits};
 ghost use Rattle.dep_iter.specs.Tasks as tasks;
 ghost use Rattle.dep_iter.specs.Tasks.{IsTask};
 
-use crate::edges::copy_of;
 use crate::links::arguments_at_most;
 use crate::place::{place_of, value_or_zero};
 use crate::position::{next_held, takes_first};
@@ -18,6 +18,19 @@ use crate::task::{flows_of, locals_of};
 use plan_core::{Arg, FlowPlan, Plan, Target};
 use ptg_base::{Edge, TaskId};
 use range_space::Numbers;
+use term_core::FlowKind;
+
+/// Whether a flow of this kind takes a tile, so that one of its in dependences must hold.
+pub fn takes_tile(kind: FlowKind) -> bool
+    ensures { result ≡ consistent.takes_tile kind }
+{
+    match kind {
+        FlowKind::Read => true,
+        FlowKind::Write => false,
+        FlowKind::Rw => true,
+        FlowKind::Ctl => false,
+    }
+}
 
 // The value of an argument that is no range.
 fn single_value(env: &[i64], arg: &Arg) -> i64
@@ -62,7 +75,7 @@ fn source_at(plan: &Plan, t: &TaskId, env: &[i64], flow: u8, target: &Target) ->
             Source::Task(Edge {
                 from: single_task(*class, args.as_slice(), env),
                 out_flow: *out_flow,
-                to: copy_of(t),
+                to: t.copy(),
                 in_flow: flow,
             })
         }

@@ -8,7 +8,6 @@ ghost use Rattle.dep_iter.specs.Tasks.{IsTask};
 ghost use Rattle.dep_iter.specs.Items as items;
 ghost use Rattle.dep_iter.specs.Walking.{all_writes_to, targets_left};
 
-use crate::edges::copy_of;
 use crate::locals::Locals;
 use crate::place::place_of;
 use crate::position::{Position, next_target, start};
@@ -48,7 +47,7 @@ fn next_write<'a>(t: &TaskId, env: &[i64], p: &mut Position<'a>) -> Option<Write
     *p = later;
     if let Target::Element(coll, indices) = target {
         return Some(WriteBack {
-            from: copy_of(t),
+            from: t.copy(),
             flow: later.flow,
             place: place_of(*coll, indices.as_slice(), env),
         });
@@ -62,7 +61,7 @@ pub fn write_backs<'a>(plan: &'a Plan, t: &TaskId) -> WriteBacks<'a>
     ensures { result ≡ items.write_backs plan.now t.now }
 {
     WriteBacks {
-        task: copy_of(t),
+        task: t.copy(),
         env: Locals::Own(locals_of(plan, t)),
         position: start(flows_of(plan, t)),
     }
@@ -75,7 +74,7 @@ pub fn write_backs_under<'a>(plan: &'a Plan, t: &TaskId, env: &'a [i64]) -> Writ
     ensures { result ≡ items.write_backs plan.now t.now }
 {
     WriteBacks {
-        task: copy_of(t),
+        task: t.copy(),
         env: Locals::Lent(env),
         position: start(flows_of(plan, t)),
     }

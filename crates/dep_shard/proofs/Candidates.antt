@@ -128,15 +128,6 @@ pub none_from : (es : Entries) (rs : List Candidate) → length rs ≡ 0 → Has
 none_from es [] l q t e is ready = true≢false (sym (q t e.priority (live_from es t e is ready)))
 none_from es (r ∷ rs) l q t e is ready = omega (arith, l)
 
--- the first candidate, where it is live
-pub front_live : (es : Entries) (x : Candidate) (cs : List Candidate) → x ≡ slice_index_or cs 0 x → is_live es x.0 x.1.0 ≡ true → HasLiveFront es cs
-front_live es x cs first live c rest is =
-    let same : x ≡ c = first ∙ ap (λ (ds : List Candidate). slice_index_or ds 0 x) is in
-    sym (λ i. is_live es (same i).0 (same i).1.0) ∙ live
-
-pub front_empty : (es : Entries) (cs : List Candidate) → length cs ≡ 0 → HasLiveFront es cs
-front_empty es cs none c rest is = absurd (omega (arith, none, ap (λ (ds : List Candidate). length ds) is))
-
 pub live_front : (es : Entries) (x : Candidate) (cs : List Candidate) → HasLiveFront es cs → x ≡ slice_index_or cs 0 x → 0 < length cs → is_live es x.0 x.1.0 ≡ true
 live_front es x [] front first some = absurd (omega (arith, some))
 live_front es x (c ∷ rest) front first some = (λ i. is_live es (first i).0 (first i).1.0) ∙ front c rest refl

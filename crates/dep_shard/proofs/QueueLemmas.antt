@@ -1,5 +1,5 @@
 -- The queue and its room, as entries come and go.
-use Rattle.std.specs.Prelude.{Result, Ok, OnOk, ◌≡◌, ◌↔◌, ℕ, ◌+◌, ◌<◌, ◌≤◌, ℤ, Bool, true, false, ◌||◌, cond, nat_eq, List, [], ◌∷◌, ◌++◌, length, slice_get, swap_remove, Option, Some, None, IfNone, IfSome, is_some, position}
+use Rattle.std.specs.Prelude.{Result, Ok, OnOk, ◌≡◌, ◌↔◌, ℕ, ◌+◌, ◌<◌, ◌≤◌, ℤ, Bool, true, false, ◌||◌, cond, nat_eq, List, [], ◌∷◌, ◌++◌, length, slice_get, swap_remove, Option, Some, None, IfNone, IfSome, position}
 use Rattle.std.proofs.Common.{zero, suc, refl, sym, ap, ◌∙◌, true≢false, arith, subst}
 use Rattle.std.specs.List.{list_any}
 use Rattle.std.specs.List.Sorted.{IsPermutation}
@@ -9,11 +9,10 @@ use Rattle.ptg_base.specs.Task.{Task}
 use Rattle.ptg_base.specs.TaskComparing.{same_task}
 use Rattle.dep_shard.specs.Content.{Entry, Entries, Content, entry_in, IsReady, IsWaiting, HasNoReady, IsEntryAt, ArrivesAt, Updates, with_arrival}
 use Rattle.dep_shard.specs.Queue.{Candidate, order, is_candidate, is_ready_at, HasEveryReady, HaveAtMostGoal, one_if_waiting, count_waiting, IsQueueOf}
-use Rattle.dep_shard.proofs.Candidates.{same_means, same_self, candidate_self}
+use Rattle.dep_shard.proofs.Candidates.{same_means, candidate_self}
 use Rattle.dep_shard.proofs.Waiting.{count_waiting-insert, count_waiting-set_at, count_waiting-swap_remove_at, all_wait, count_all}
 use Rattle.std.proofs.lemmas.Bool.Decides.{nat_tests}
 use Rattle.std.specs.Map.{lookup, lookup_key, keys_of, values_of}
-use Rattle.std.specs.Option.{unwrap_or}
 use Rattle.std.specs.Ordering.{int_eq}
 use Rattle.std.specs.BinaryHeap.{KeepsHeap}
 use Rattle.std.specs.List.{IsDistinct}
@@ -149,27 +148,12 @@ some_wait es i t e rs len capacity waiting k is waits_e = omega (arith, k.counte
 pub on_success : {T E P : Type 0} (r : Result T E) (x : T) → r ≡ Ok x → OnOk r P → P
 on_success {T} {E} {P} r x e h = subst (λ (s : Result T E). OnOk s P) e h
 
--- what an update says of its task
-pub updates_here : (es fs : Entries) (t : Task) (w : Option Entry) → Updates es fs t w → entry_in fs t ≡ w
-updates_here es fs t w up = up t ∙ ap (λ b. cond b w (entry_in es t)) (same_self t)
-
 pub updates_twice : (es fs gs : Entries) (t : Task) (v w : Option Entry) → Updates es fs t v → Updates fs gs t w → Updates es gs t w
 updates_twice es fs gs t v w one two u = by (same_task t u) refl
   where
     by : (b : Bool) → same_task t u ≡ b → entry_in gs u ≡ cond (same_task t u) w (entry_in es u)
     by true e = two u ∙ ap (λ b. cond b w (entry_in fs u)) e ∙ sym (ap (λ b. cond b w (entry_in es u)) e)
     by false e = two u ∙ ap (λ b. cond b w (entry_in fs u)) e ∙ one u ∙ ap (λ b. cond b v (entry_in es u)) e ∙ sym (ap (λ b. cond b w (entry_in es u)) e)
-
-pub updates_same : (es : Entries) (t : Task) (w : Option Entry) → entry_in es t ≡ w → Updates es es t w
-updates_same es t w is u = by (same_task t u) refl
-  where
-    by : (b : Bool) → same_task t u ≡ b → entry_in es u ≡ cond (same_task t u) w (entry_in es u)
-    by true e = sym (ap (entry_in es) (same_means t u e)) ∙ is ∙ sym (ap (λ b. cond b w (entry_in es u)) e)
-    by false e = sym (ap (λ b. cond b w (entry_in es u)) e)
-
-pub some_before : (r : Option Entry) (d : Entry) → is_some r ≡ true → r ≡ Some (unwrap_or r d)
-some_before None d h = absurd (true≢false (sym h))
-some_before (Some e) d h = refl
 
 -- a fact that holds whatever the answer is
 pub if_none : {T : Type 0} (r : Option T) (P : Type 0) → P → IfNone r P

@@ -17,13 +17,6 @@ pub(crate) type Candidate = (i64, Reverse<TaskId>);
 // The greatest priority comes first, and of equal ones the first task.
 pub(crate) type Queue = BinaryHeap<Candidate>;
 
-// A copy of the task.
-pub(crate) fn copy_of_task(t: &TaskId) -> TaskId
-    ensures { result ≡ t.now }
-{
-    TaskId::new(t.class(), t.params())
-}
-
 // Whether the task of this candidate has a ready entry of its priority.
 fn is_live(table: &Table, candidate: &Candidate) -> bool
     ensures { result ≡ is_live_at table.now.entries candidate.now.0 candidate.now.1.0 }

@@ -12,7 +12,7 @@ ghost use Rattle.dep_shard.specs.Content.{Entry as EntryContent, HasSpares, Uses
 use crate::arrivals::Arrivals;
 use crate::entry::Entry;
 use crate::parts::{Entries, Parts};
-use crate::queue::{Queue, Table, copy_of_task, drop_all_stale, drop_stale};
+use crate::queue::{Queue, Table, drop_all_stale, drop_stale};
 use crate::stock::Stock;
 use crate::tile_list::LinkedTile;
 use indexmap::IndexMap;
@@ -146,11 +146,9 @@ impl Shard {
     {
         let _none = self
             .table
-            .insert(copy_of_task(t), Entry::new(0, priority))
+            .insert(t.copy(), Entry::new(0, priority))
             .unwrap();
-        self.queue
-            .push((priority, Reverse(copy_of_task(t))))
-            .unwrap();
+        self.queue.push((priority, Reverse(t.copy()))).unwrap();
     }
 
     // Adds an entry that waits, to which nothing has come, at the end of the list. Its index.
@@ -166,7 +164,7 @@ impl Shard {
         let index = self.table.len();
         let _none = self
             .table
-            .insert(copy_of_task(t), Entry::new(goal, priority))
+            .insert(t.copy(), Entry::new(goal, priority))
             .unwrap();
         self.waiting += 1;
         index
@@ -182,7 +180,7 @@ impl Shard {
     {
         drop_stale(&self.table, &mut self.queue);
         let best = self.queue.peek()?;
-        Some(copy_of_task(&best.1.0))
+        Some(best.1.0.copy())
     }
 
     /// The index of a task's entry in the list of entries, if the task has one. It holds until entries come or go.
@@ -304,7 +302,7 @@ impl Shard {
         if entry.arrived() < entry.goal() {
             return Arrived::Waits;
         }
-        let candidate = (entry.priority(), Reverse(copy_of_task(task)));
+        let candidate = (entry.priority(), Reverse(task.copy()));
         self.waiting -= 1;
         self.queue.push(candidate).unwrap();
         Arrived::Fired
@@ -375,7 +373,7 @@ impl Shard {
         self.written.reserve(1)?;
         let copy = self.stock.copy_of(datatype, tile)?;
         let write = WriteBack {
-            from: copy_of_task(&w.from),
+            from: w.from.copy(),
             flow: w.flow,
             place: w.place,
         };
@@ -408,7 +406,7 @@ impl Shard {
         ensures kept { OnErr result (Uses self.old.spare self.new.spare 0 None 0 0) }
         ensures succeeds { 0 < self.old.spare.traps → IsOk result }
     {
-        self.trapped.push((copy_of_task(t), cause))?;
+        self.trapped.push((t.copy(), cause))?;
         self.end();
         Ok(())
     }

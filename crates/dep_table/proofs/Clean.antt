@@ -1,13 +1,12 @@
 -- A pass stays clean where its record keeps what a clean pass has.
-use Rattle.std.proofs.Common.{ℕ, ◌≡◌, List, [], ◌∷◌, ◌++◌, length, sym, ap, ◌∙◌, subst, refl, arith}
+use Rattle.std.proofs.Common.{ℕ, ◌≡◌, List, [], ◌∷◌, ◌++◌, length, sym, ap, ◌∙◌, subst, refl}
 use Rattle.atomic_table.specs.Seated.{TableId}
 use Rattle.ptg_base.specs.Lists.{IsIn}
-use Rattle.ptg_base.specs.Task.{Task}
 use Rattle.work_board.specs.Records.{FoundBusy, IsClean}
 use Rattle.work_board.specs.Word.{Word}
 use Rattle.work_board.specs.declared.record.PassRecord.{PassRecord}
-use Rattle.table_rule.specs.Changes.{new_pass, with_look}
-use Rattle.table_rule.specs.Names.{Name, names_after_split, names_split_off}
+use Rattle.table_rule.specs.Changes.{with_look}
+use Rattle.table_rule.specs.Names.{Name, names_after_split}
 use Rattle.table_rule.specs.Plays.{Seated}
 use Rattle.dep_table.specs.Passes.{IsPassOf}
 use Rattle.dep_table.specs.Views.{PassView, shown}
@@ -51,27 +50,6 @@ after_step table p i q w h is of stamp me names k =
 pub split_length : (l : List Name) → length (names_after_split l) ≡ length l
 split_length [] = refl
 split_length (x ∷ xs) = refl
-
-pub child_length : (l : List Name) → length l ≡ 1 → length (names_split_off l) ≡ 1
-child_length [] h = absurd (omega arith)
-child_length (x ∷ xs) h = refl
-
--- a pass that was split off is clean
-pub new_pass_of : (table : TableId) (q : PassView) (names : List Name) → q.table ≡ table → q.me ≡ (new_pass names, []) → length names ≡ 1 → IsPassOf table q
-new_pass_of table q names of me one =
-    let me0 : shown q ≡ new_pass names = ap (λ (m : Seated). m.0) me in
-    record {
-      of = of;
-      clean = record {
-        no_shard = ap (λ (m : Seated). m.1) me;
-        clean = record { no_turn = ap (λ (u : PassRecord). u.turns) me0; no_credit = ap (λ (u : PassRecord). u.credit) me0; stamped = λ t i. absurd (subst (IsIn t) (ap (λ (u : PassRecord). u.claims) me0) i) };
-        one_name = ap (λ (u : PassRecord). length u.names) me0 ∙ one;
-      };
-      stamp = λ t runs. absurd (nothing (sym (ap (λ (u : PassRecord). u.running) me0) ∙ runs));
-    }
-  where
-    nothing : {t : Task} → [] ≡ t ∷ [] → ⊥
-    nothing e = cc
 
 -- in its one look the pass found that a word was not 0
 pub found_busy : (p i : PassView) (n : Seated) (word : Word) (r : ℕ) → i ≡ p → n ≡ (with_look i.me.0 word r, i.me.1) → (r ≡ 0 → ⊥) → FoundBusy word (shown p) n.0

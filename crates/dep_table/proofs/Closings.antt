@@ -22,7 +22,7 @@ use Rattle.table_rule.specs.Records.{joined, moment_of}
 use Rattle.table_rule.specs.Rule.{Rule, Share}
 use Rattle.table_rule.proofs.AllNames.{join_all, order_all}
 use Rattle.table_rule.proofs.Alone.{alone_free, alone_parts, alone_stamps}
-use Rattle.dep_table.specs.Closing.{AreAllPasses, HaveNoWork, IsClosedAt, IsLastPass}
+use Rattle.dep_table.specs.Closing.{AreAllPasses, HaveNoWork, IsClosedAt}
 use Rattle.dep_table.specs.Passes.{IsPassOf}
 use Rattle.dep_table.specs.StampOrders.{AreInStampOrder, IsClaimOrder, joined_stamps}
 use Rattle.dep_table.specs.Views.{PassView, shown}
@@ -56,12 +56,6 @@ both_stamped v w a b t i = elim (from_append t v.claims w.claims i) [
 both_drew : (l : List PassRecord) (v w : PassRecord) → joined_stamps ((l ++ v ∷ []) ++ w ∷ []) ≡ joined_stamps (l ++ both v w ∷ [])
 both_drew l v w = joined_two (λ (u : PassRecord). u.stamps) l v w (both v w) refl
 
-one_joined : (v : PassRecord) → joined (v ∷ []) ≡ moment_of v
-one_joined v = λ i. record {
-  state = record { claims = append-nil v.claims i; sends = append-nil v.sends i };
-  running = append-nil v.running i;
-}
-
 -- some passes that are left, and one that has taken over the others
 pub record IsJoinedSoFar (table : TableId) (ps left : List PassView) (last : PassView) : Type 0 where
   pub of : last.table ≡ table
@@ -76,13 +70,6 @@ pub record IsJoinedSoFar (table : TableId) (ps left : List PassView) (last : Pas
 
 pub has_one_name : (p : PassView) (table : TableId) → IsPassOf table p → HasName (shown p)
 has_one_name p table w = omega (arith, w.clean.one_name)
-
-some_pass : (ps : List PassView) → AreAll (map shown ps) → 0 < length ps
-some_pass [] a = absurd (omega (arith, a.first))
-some_pass (p ∷ ps) a = omega arith
-
-pub passes_some : (table : TableId) (ps : List PassView) → AreAllPasses table ps → 0 < length ps
-passes_some table ps a = some_pass ps a.all
 
 last_first : (l : List PassView) (p : PassView) → HasSameMembers (map shown (l ++ p ∷ [])) (shown p ∷ map shown l)
 last_first l p = λ f. ap (weigh f) (map-append shown l (p ∷ [])) ∙ omega (arith, weigh-append f (map shown l) (shown p ∷ []))
@@ -140,17 +127,6 @@ joined_next table ps before left p last new is of me a =
         | inr other ↦ inr (ap (λ (v : PassRecord). v.quiet) now ∙ either (shown p).quiet (shown last).quiet other)
       ];
     }
-
-pub joined_all : (table : TableId) (ps left : List PassView) (last : PassView) → left ≡ [] → IsJoinedSoFar table ps left last → IsLastPass table last (joined (map shown ps)) (joined_stamps (map shown ps))
-joined_all table ps left last none a = record {
-  of = a.of;
-  no_shard = a.no_shard;
-  no_turn = a.no_turn;
-  all = subst (λ l. AreAll (shown last ∷ map shown l)) none a.all;
-  did = sym (one_joined (shown last)) ∙ (ap (λ l. joined (map shown l ++ shown last ∷ [])) (sym none) ∙ a.did);
-  drew = sym (append-nil (shown last).stamps) ∙ (ap (λ l. joined_stamps (map shown l ++ shown last ∷ [])) (sym none) ∙ a.drew);
-  stamped = a.stamped;
-}
 
 -- the shards of a table that was closed
 same_get : {A : Type 0} (xs : List A) (k : ℕ) (y z : A) → slice_get xs k ≡ Some y → get_elem? xs k ≡ some z → z ≡ y

@@ -1,5 +1,5 @@
 -- What one edge, one write-back and one task need.
-use Rattle.std.proofs.Common.{◌≡◌, ℕ, zero, suc, ◌<◌, ◌≤◌, Bool, true, false, cond, List, [], ◌∷◌, length, refl, ap, sym, ◌∙◌, subst, Option, Some, None, slice_get, arith}
+use Rattle.std.proofs.Common.{◌≡◌, ℕ, zero, suc, ◌<◌, ◌≤◌, Bool, true, cond, List, [], ◌∷◌, length, refl, ap, sym, ◌∙◌, subst, Option, Some, None, slice_get, arith}
 use Rattle.std.proofs.lemmas.Bool.{and_parts, eqb-true, ltb-true}
 use Rattle.std.specs.List.{list_all}
 use Rattle.std.specs.Prelude.{IfSome, MatchOption, get_or, option_map}
@@ -7,23 +7,19 @@ use Rattle.std.proofs.lemmas.Option.{slice_get-get_or}
 use Rattle.std.specs.Option.{option_map_or}
 use denote.Ref.{Bor}
 use Rattle.ptg_base.specs.Task.{Task}
-use Rattle.ptg_base.specs.declared.edge.Edge.{Edge}
-use Rattle.ptg_base.specs.declared.edge.WriteBack.{WriteBack}
 use Rattle.term_core.specs.declared.flow.FlowKind.{FlowKind}
 use Rattle.term_core.specs.declared.flow.FlowKind.TheVariants.{Read, Write, Rw, Ctl}
 use Rattle.plan_core.specs.declared.class.ClassPlan.{ClassPlan}
 use Rattle.plan_core.specs.declared.flow.FlowPlan.{FlowPlan}
 use Rattle.plan_core.specs.declared.plan.Plan.{Plan}
 use Rattle.plan_core.specs.Flows.{is_datatype, is_flow}
-use Rattle.plan_core.specs.Kinds.{flow_of, is_data}
-use Rattle.dep_iter.specs.Consistent.{is_data_edge}
+use Rattle.plan_core.specs.Kinds.{is_data}
 use Rattle.dep_iter.specs.Tasks.{IsTask, flows_of}
-use Rattle.flow_meaning.specs.Counting.{as_number, count}
+use Rattle.flow_meaning.specs.Counting.{as_number}
 use Rattle.flow_meaning.proofs.SourceEdges.{class_of}
-use Rattle.shard_meaning.specs.Reserve.{has_type, is_edge_of_type}
-use Rattle.shard_meaning.proofs.Destinations.{flow_is}
+use Rattle.shard_meaning.specs.Reserve.{has_type}
 use Rattle.dep_table.specs.declared.needs.Needs.{Needs}
-use Rattle.dep_table.specs.Needs.{AddsTiles, edge_tiles, write_tiles}
+use Rattle.dep_table.specs.Needs.{AddsTiles}
 
 each_at : {A : Type 0} (test : A → Bool) (xs : List A) (n : ℕ) (x : A) → list_all test xs ≡ true → slice_get xs n ≡ Some x → test x ≡ true
 each_at test [] n x all is = absurd cc
@@ -58,21 +54,6 @@ carried o d = cond (is_data (option_map (λ (f : FlowPlan). f.kind) o)) (as_numb
 
 abbrev pub written : Option FlowPlan → ℕ → ℕ
 written o d = as_number (has_type d o)
-
-counted_one : {A : Type 0} (test : A → Bool) (x : A) (b : Bool) → count test (cond b (x ∷ []) []) ≡ cond b (as_number (test x)) 0
-counted_one test x true = omega arith
-counted_one test x false = refl
-
-module _ (P : Plan) (t : Task) (o : Option FlowPlan) where
-  pub edge_carries : (e : Edge) → e.to ≡ t → slice_get (flows_of P t) e.in_flow ≡ o → (d : ℕ) → edge_tiles P (e ∷ []) d ≡ carried o d
-  edge_carries e to at d =
-      let is : flow_of P.classes e.to.class e.in_flow ≡ o = ap (λ (u : Task). flow_of P.classes u.class e.in_flow) to ∙ (sym (flow_is P t e.in_flow) ∙ at) in
-      counted_one (is_edge_of_type P d) e (is_data_edge P e) ∙ ap (λ q. carried q d) is
-
-  pub write_carries : (w : WriteBack) → w.from ≡ t → slice_get (flows_of P t) w.flow ≡ o → (d : ℕ) → write_tiles P (w ∷ []) d ≡ written o d
-  write_carries w from at d =
-      let is : flow_of P.classes w.from.class w.flow ≡ o = ap (λ (u : Task). flow_of P.classes u.class w.flow) from ∙ (sym (flow_is P t w.flow) ∙ at) in
-      omega (arith, ap (λ q. written q d) is)
 
 -- nothing is added, or as much by another name
 pub no_tiles : (f : ℕ → ℕ) (a : Needs) → ((d : ℕ) → f d ≡ 0) → AddsTiles f 0 a a

@@ -1,5 +1,5 @@
 -- That the counts of what shards need stay small: the needs of all tasks of a job are at most some millions.
-use Rattle.std.proofs.Common.{◌≡◌, ℕ, suc, ◌+◌, ◌<◌, ◌≤◌, ◌^◌, Bool, true, false, cond, List, [], ◌∷◌, ◌++◌, length, refl, ap, sym, ◌∙◌, slice_get, slice_index, inl, inr, arith, append_assoc, length-append}
+use Rattle.std.proofs.Common.{◌≡◌, ℕ, suc, ◌+◌, ◌<◌, ◌≤◌, Bool, true, false, cond, List, [], ◌∷◌, ◌++◌, length, refl, ap, sym, ◌∙◌, slice_get, inl, inr, arith, append_assoc, length-append}
 use Rattle.std.proofs.lemmas.Bool.{cases_eq}
 use Rattle.std.specs.List.{filter, filter_map, flat_map}
 use Rattle.ptg_base.specs.Task.{Task}
@@ -73,18 +73,6 @@ module _ (P : Plan) where
   as_number_small : (b : Bool) → cond b 1 0 ≤ 1
   as_number_small true = omega arith
   as_number_small false = omega arith
-
-  -- one task alone: its edges and its write-backs
-  pub room_edges : (t : Task) (n : Needs) → HasRoomFor P (t ∷ []) n → (d : ℕ) → slice_index n.tiles.items d + (edge_tiles P (in_edges P t) d + write_tiles P (write_backs P t) d) < 2 ^ 64
-  room_edges t n r d = omega (
-    arith,
-    r.tiles d,
-    count-filter (is_edge_of_type P d) (is_data_edge P) (in_edges P t) [],
-    weigh-append (λ w. as_number (is_write_of_type P d w)) (write_backs P t) [],
-  )
-
-  pub room_places : (t : Task) (n : Needs) → HasRoomFor P (t ∷ []) n → n.writes + length (write_backs P t) < 2 ^ 64
-  room_places t n r = omega (arith, r.writes, length-append (write_backs P t) [])
 
   -- once a task is counted there is room for the others
   room_then : (t : Task) (us : List Task) (m n : Needs) → HasRoomFor P (t ∷ us) m → AddsTask P t m n → HasRoomFor P us n

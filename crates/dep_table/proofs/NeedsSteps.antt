@@ -93,9 +93,6 @@ pub record AreReservedBefore (counter : ℕ) (ns : List Needs) (old new : List C
   pub before : (k : ℕ) (n : Needs) (y z : Content) → k < counter → slice_get ns k ≡ Some n → slice_get old k ≡ Some y → slice_get new k ≡ Some z → IsReservedFor n y z
   pub later : (k : ℕ) → counter ≤ k → slice_get new k ≡ slice_get old k
 
-pub none_reserved : (ns : List Needs) (ys : List Content) → AreReservedBefore 0 ns ys ys
-none_reserved ns ys = record { count = refl; before = λ k n y z lt a b d. absurd (omega (arith, lt)); later = λ k le. refl }
-
 pub reserved_more : (counter : ℕ) (ns : List Needs) (n : Needs) (old mid new : List Content) → AreReservedBefore counter ns old mid → slice_get ns counter ≡ Some n → ReservesAt counter n mid new → AreReservedBefore (counter + 1) ns old new
 reserved_more counter ns n old mid new w at r = record {
   count = r.count ∙ w.count;

@@ -4,7 +4,6 @@ ghost use Rattle.std.specs.Prelude.{◌≡◌, ◌+◌, ◌<◌, ◌==◌, ◌^�
 ghost use Rattle.std.specs.Option.{option_copied};
 ghost use Rattle.ptg_base.specs.Lists.{IsIn};
 ghost use Rattle.plan_core.specs.declared.flow.FlowPlan.{FlowPlan as FlowPlanValue};
-ghost use Rattle.plan_core.specs.Kinds as kinds;
 ghost use Rattle.dep_iter.specs.Active.{held_targets};
 ghost use Rattle.dep_iter.specs.Edges as edges;
 ghost use Rattle.dep_iter.specs.Items as items;
@@ -16,10 +15,9 @@ ghost use Rattle.dep_table.specs.Needs.{AddsTask, AddsTiles, HasRoomFor, IsNoNee
 
 use dep_iter::{Matched, flows_of, held_target, write_backs_under};
 use goal_count::goal_under;
-use plan_core::{DepPlan, FlowPlan, Plan, Target};
+use plan_core::{DepPlan, FlowPlan, Plan, Target, is_data};
 use ptg_base::{OutOfMemory, TaskId, WriteBack};
 use std::alloc::Global;
-use term_core::FlowKind;
 
 // What one shard needs for all that will come to it.
 #[derive(Drop)]
@@ -40,18 +38,6 @@ fn add_one(count: &mut u64)
     ensures { count.new ≡ count.old + 1 }
 {
     *count += 1;
-}
-
-// Whether flows of this kind carry tiles.
-fn is_data(kind: FlowKind) -> bool
-    ensures { result ≡ kinds.is_data (Some kind) }
-{
-    match kind {
-        FlowKind::Read => true,
-        FlowKind::Write => true,
-        FlowKind::Rw => true,
-        FlowKind::Ctl => false,
-    }
 }
 
 // The flow of a task with this number, if it has one. Its type is one of the plan's.

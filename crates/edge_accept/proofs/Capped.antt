@@ -1,7 +1,6 @@
 -- Numbers that stop at 4,000,001.
 use Rattle.std.proofs.Common.{◌≡◌, ℕ, zero, suc, ◌+◌, ◌*◌, ◌<◌, ◌≤◌, ap, sym, ◌∙◌, inl, inr, if◌then◌else◌, arith}
 use Rattle.std.proofs.lemmas.Bool.{cases_lt, le-ltb, lt-ltb}
-use Rattle.std.proofs.lemmas.Nat.{mul-le}
 use Rattle.std.proofs.Math.Nat.{mul_comm, suc-mul, zero-mul}
 use Rattle.edge_accept.specs.Tallies.{capped}
 
@@ -10,12 +9,6 @@ capped-below n h = ap (λ b. if b then n else 4000001) (lt-ltb n 4000001 h)
 
 pub capped-above : (n : ℕ) → 4000001 ≤ n → capped n ≡ 4000001
 capped-above n h = ap (λ b. if b then n else 4000001) (le-ltb n 4000001 h)
-
-pub capped-at_most : (n : ℕ) → capped n ≤ 4000001
-capped-at_most n = elim (cases_lt n 4000001) [
-  | inl h ↦ let e = capped-below n h in omega arith
-  | inr h ↦ let e = capped-above n h in omega arith
-]
 
 -- a capped number that is small is the number
 pub from_capped : (n k : ℕ) → k ≡ capped n → k ≤ 4000000 → k ≡ n
@@ -61,7 +54,3 @@ capped-mul (suc m) (suc n) = elim (cases_lt (suc n) 4000001) [
   ]
   | inr k ↦ large (suc m) (suc n) k (omega arith)
 ]
-
--- so small factors have a small product
-pub product-at_most : (m n : ℕ) → m ≤ 4000001 → n ≤ 4000001 → m * n ≤ 4000001 * 4000001
-product-at_most m n h k = mul-le m n 4000001 4000001 h k

@@ -1,6 +1,5 @@
 -- What a flow may start from.
-use Rattle.std.proofs.Common.{◌≡◌, ℕ, ℤ, Bool, List, [], false, Some, slice_get, refl, sym, ◌∙◌}
-use Rattle.std.proofs.lemmas.Bool.{false≢true}
+use Rattle.std.proofs.Common.{◌≡◌, ℕ, ℤ, Bool, List, [], Some, slice_get, refl, sym}
 use Rattle.ptg_base.specs.Task.{Task}
 use Rattle.ptg_base.specs.declared.place.Place.{Place}
 use Rattle.ptg_base.specs.declared.edge.Edge.{Edge}
@@ -11,7 +10,6 @@ use Rattle.plan_core.specs.Place.{HasPlace}
 use Rattle.dep_iter.specs.declared.source.Source.{Source}
 use Rattle.dep_iter.specs.declared.source.Source.TheVariants as source
 use Rattle.dep_iter.specs.Active.{held_targets, takes_first}
-use Rattle.dep_iter.specs.Consistent.{takes_tile}
 use Rattle.dep_iter.specs.Edges.{data_source, source_among}
 use Rattle.dep_iter.specs.Tasks.{flows_of, locals_of}
 use Rattle.edge_accept.specs.Flows.{IsSoundSource}
@@ -28,9 +26,6 @@ module _ (P : Plan) (f : FlowPlan) (sent : List Item) (s : Source) where
 
   pub sound_null : s ≡ source.Null → sent ≡ [] → IsSoundSource P f sent s
   sound_null is none = record { input = λ h k. absurd cc; place_exists = λ p k. absurd cc; absent_sends_nothing = λ k. none }
-
-  pub sound_nothing : s ≡ source.Nothing → takes_tile f.kind ≡ false → IsSoundSource P f sent s
-  sound_nothing is none = record { input = λ h k. false≢true (sym none ∙ h); place_exists = λ p k. absurd cc; absent_sends_nothing = λ k. absurd cc }
 
 -- the source of a flow, by its in dependences
 pub source-is : (P : Plan) (t : Task) (n : ℕ) (f : FlowPlan) (env : List ℤ) (first : Bool) → env ≡ locals_of P t → slice_get (flows_of P t) n ≡ Some f → takes_first f.kind ≡ first → data_source P t n ≡ source_among t env n (held_targets first f.ins env)

@@ -8,7 +8,7 @@ ghost use Rattle.dep_iter.specs.Tasks.{all_tasks};
 
 use crate::ins::Ins;
 use crate::tally::Tally;
-use crate::tasks::accept_classes;
+use crate::tasks::accept_all;
 use crate::written::Written;
 use dep_iter::Counts;
 use plan_core::Plan;
@@ -32,7 +32,7 @@ pub fn accepts(alloc: Global, plan: &Plan, tasks: u64) -> Result<Option<Counts>,
         writes: 0,
         written: Written::new(alloc, plan.colls.as_slice())?,
     };
-    if !accept_classes(plan, 0, &mut tally) {
+    if !accept_all(plan, tasks, &mut tally) {
         return Ok(None);
     }
     if tally.ins.edges != tally.outs {

@@ -2,7 +2,6 @@
 
 ghost use Rattle.std.specs.Prelude.{◌≡◌, ◌∷◌, [], map, IsTrue, Some};
 ghost use Rattle.std.specs.Bool.{OnTrue};
-ghost use Rattle.plan_core.specs.Kinds.{is_data};
 ghost use Rattle.ptg_base.specs.declared.edge.Edge.{Edge as EdgeValue};
 ghost use Rattle.dep_iter.specs.declared.source.Source.TheVariants as source_variant;
 ghost use Rattle.dep_iter.specs.Edges.{edge, edges_into, in_edges_before, source_at};
@@ -12,23 +11,10 @@ ghost use Rattle.edge_accept.specs.Flows.{AreTaken, AreTakenOnce};
 
 use crate::at::FlowAt;
 use crate::ins::Ins;
-use crate::named::{Named, arguments_at_most, copy_of};
+use crate::named::{Named, arguments_at_most};
 use dep_iter::{Combinations, edges_of_a_dependence_differ, has_in_edge_before, sender_locals};
-use plan_core::Target;
+use plan_core::{Target, is_data};
 use ptg_base::{Edge, TaskId};
-use term_core::FlowKind;
-
-// Whether a flow of this kind carries a tile.
-fn carries_tile(kind: FlowKind) -> bool
-    ensures { result ≡ is_data (Some kind) }
-{
-    match kind {
-        FlowKind::Read => true,
-        FlowKind::Write => true,
-        FlowKind::Rw => true,
-        FlowKind::Ctl => false,
-    }
-}
 
 // Counts an edge into the flow, which dependence `k` gives, if it is one out of the task that it comes from and no earlier dependence gives it.
 fn take_edge(at: &FlowAt, k: usize, edge: &Edge, ins: &mut Ins) -> bool
@@ -43,7 +29,7 @@ fn take_edge(at: &FlowAt, k: usize, edge: &Edge, ins: &mut Ins) -> bool
     if has_in_edge_before(at.plan, at.task, edge, k) {
         return false;
     }
-    ins.add(carries_tile(at.flow.kind))
+    ins.add(is_data(at.flow.kind))
 }
 
 // Counts the edges into the flow from the tasks with these parameters, which a dependence names.
@@ -55,7 +41,7 @@ fn take_edges(at: &FlowAt, named: Named, mut params: Combinations, ins: &mut Ins
         let edge = Edge {
             from: TaskId::new(named.class, values.as_slice()),
             out_flow: named.flow,
-            to: copy_of(at.task),
+            to: at.task.copy(),
             in_flow: at.number,
         };
         if !take_edge(at, named.dependence, &edge, ins) {

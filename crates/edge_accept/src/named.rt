@@ -1,11 +1,10 @@
 //! What a dependence names.
 
-ghost use Rattle.std.specs.Prelude.{◌≡◌, ◌≤◌, length, IsTrue};
+ghost use Rattle.std.specs.Prelude.{◌≤◌, length, IsTrue};
 ghost use Rattle.dep_iter.specs.Links.{fits};
 ghost use Rattle.plan_core.specs.declared.target.Target.TheVariants.{Task};
 
 use plan_core::{Arg, Plan};
-use ptg_base::TaskId;
 
 /// A dependence by its number, and the flow of a class that its target names.
 #[derive(Clone, Copy)]
@@ -21,11 +20,4 @@ pub(crate) fn arguments_at_most(plan: &Plan, class: u32, flow: u8, args: &[Arg])
     ensures { length args.now ≤ 8 }
 {
     let _ = plan.space(class).params.as_slice();
-}
-
-// A copy of a task.
-pub(crate) fn copy_of(t: &TaskId) -> TaskId
-    ensures { result ≡ t.now }
-{
-    TaskId::new(t.class(), t.params())
 }

@@ -8,7 +8,6 @@ ghost use Rattle.dep_iter.specs.declared.source.Source.TheVariants as source_var
 ghost use Rattle.plan_core.specs.declared.flow.DepPlan.{DepPlan as DepPlanValue};
 ghost use Rattle.dep_iter.specs.Active as active;
 ghost use Rattle.dep_iter.specs.Active.{held_targets};
-ghost use Rattle.dep_iter.specs.Consistent as consistent;
 ghost use Rattle.dep_iter.specs.Edges.{data_source as data_source_of, edges_into, source_among, source_at};
 ghost use Rattle.dep_iter.specs.Links.{dependences_fit, fits};
 ghost use Rattle.dep_iter.specs.Tasks.{IsTask};
@@ -18,21 +17,8 @@ use crate::at::FlowAt;
 use crate::edges::take_target;
 use crate::ins::Ins;
 use crate::sending::flow_sent;
-use dep_iter::{Source, data_source_under, held_target, takes_first};
+use dep_iter::{Source, data_source_under, held_target, takes_first, takes_tile};
 use plan_core::{DepPlan, Target};
-use term_core::FlowKind;
-
-// Whether a flow of this kind takes a tile, so that one of its in dependences must hold.
-fn takes_tile(kind: FlowKind) -> bool
-    ensures { result ≡ consistent.takes_tile kind }
-{
-    match kind {
-        FlowKind::Read => true,
-        FlowKind::Write => false,
-        FlowKind::Rw => true,
-        FlowKind::Ctl => false,
-    }
-}
 
 // Whether the place of the flow's source exists, if it is one.
 fn has_place(at: &FlowAt) -> bool

@@ -1,13 +1,13 @@
 //! The walk over all tasks.
 
-ghost use Rattle.std.specs.Prelude.{◌≡◌, ◌+◌, ◌<◌, ◌≤◌, ◌∷◌, [], IsTrue, List, Some, drop, length, map, slice_get};
+ghost use Rattle.std.specs.Prelude.{◌≡◌, ◌+◌, ◌<◌, ◌∷◌, [], List, Some, drop, length, map, slice_get};
 ghost use Rattle.std.specs.Bool.{OnTrue};
 ghost use Rattle.term_core.specs.declared.space.ClassSpace.{ClassSpace as ClassSpaceValue};
 ghost use Rattle.term_core.specs.WellSpace.{IsWellSpace};
 ghost use Rattle.plan_core.specs.Place.{HasPlace};
 ghost use Rattle.range_space.specs.Tasks as range;
 ghost use Rattle.dep_iter.specs.Hints as hints;
-ghost use Rattle.dep_iter.specs.Tasks.{IsTask, task, tasks_from};
+ghost use Rattle.dep_iter.specs.Tasks.{IsTask, all_tasks, locals_of, task, tasks_from};
 ghost use Rattle.dep_iter.specs.Well.{IsWellTask};
 ghost use Rattle.edge_accept.specs.Flows.{TakesIns};
 ghost use Rattle.edge_accept.specs.Tallies.{Sends, WentOver};
@@ -18,10 +18,10 @@ use crate::ins::Ins;
 use crate::sending::flows_sent;
 use crate::tally::Tally;
 use crate::writes::write_places;
-use dep_iter::{affinity_under, flows_of, locals_of, well_task_under};
+use dep_iter::{affinity_under, flows_of, task_with, well_task_under};
 use plan_core::Plan;
 use ptg_base::TaskId;
-use range_space::Space;
+use range_space::AllLocals;
 use term_core::ClassSpace;
 
 // Whether each expression that the task needs has a value, and the place of its affinity exists.
@@ -71,16 +71,12 @@ fn send(task: &TaskAt, tally: &mut Tally) -> bool
 }
 
 // Whether the task is sound; its edges and write-backs are counted.
-fn accept_task(plan: &Plan, t: &TaskId, tally: &mut Tally) -> bool
-    requires { IsTask plan.now t.now }
+fn accept_task(plan: &Plan, t: &TaskId, env: &[i64], tally: &mut Tally) -> bool
+    requires of_job { IsTask plan.now t.now }
+    requires locals { env.now ≡ locals_of plan.now t.now }
     ensures { OnTrue result (WentOver plan.now tally.old tally.new (t.now ∷ [])) }
 {
-    let locals = locals_of(plan, t);
-    let task = TaskAt {
-        plan,
-        task: t,
-        env: locals.as_slice(),
-    };
+    let task = TaskAt { plan, task: t, env };
     if !is_sound(&task) {
         return false;
     }
@@ -106,9 +102,9 @@ fn accept_class(plan: &Plan, class: u32, tally: &mut Tally) -> bool
     ensures { OnTrue result ((s : ClassSpaceValue) → slice_get plan.now.spaces class ≡ Some s → WentOver plan.now tally.old tally.new (map (task class) (range.tasks s))) }
 {
     let space = space_of(plan, class);
-    for params in Space::new(space) {
-        let t = TaskId::new(class, params.as_slice());
-        if !accept_task(plan, &t, tally) {
+    for locals in AllLocals::new(space) {
+        let t = task_with(plan, class, locals.as_slice());
+        if !accept_task(plan, &t, locals.as_slice(), tally) {
             return false;
         }
     }
@@ -116,7 +112,7 @@ fn accept_class(plan: &Plan, class: u32, tally: &mut Tally) -> bool
 }
 
 // Goes over the tasks of the classes from this number on, in walk order.
-pub(crate) fn accept_classes(plan: &Plan, class: u32, tally: &mut Tally) -> bool
+fn accept_classes(plan: &Plan, class: u32, tally: &mut Tally) -> bool
     ensures { OnTrue result ((ss : List ClassSpaceValue) → drop class plan.now.spaces ≡ ss → WentOver plan.now tally.old tally.new (tasks_from class ss)) }
 {
     if class as usize >= plan.classes.len() {
@@ -126,4 +122,15 @@ pub(crate) fn accept_classes(plan: &Plan, class: u32, tally: &mut Tally) -> bool
         return false;
     }
     accept_classes(plan, class + 1, tally)
+}
+
+// Goes over all tasks, in walk order, where there are so many. Where there is none it looks at no value of a range.
+pub(crate) fn accept_all(plan: &Plan, tasks: u64, tally: &mut Tally) -> bool
+    requires { tasks ≡ length (all_tasks plan.now) }
+    ensures { OnTrue result (WentOver plan.now tally.old tally.new (all_tasks plan.now)) }
+{
+    if tasks == 0 {
+        return true;
+    }
+    accept_classes(plan, 0, tally)
 }

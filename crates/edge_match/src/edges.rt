@@ -1,11 +1,10 @@
 //! Checks of an edge or of a write-back of a flow.
 
-ghost use Rattle.std.specs.Prelude.{◌≡◌, ◌↔◌, ◌∷◌, [], List, Some, IsTrue};
+ghost use Rattle.std.specs.Prelude.{◌≡◌, ◌↔◌, List, IsTrue};
 ghost use Rattle.ptg_base.specs.Lists.{IsIn};
 ghost use Rattle.ptg_base.specs.declared.edge.Edge.{Edge as EdgeValue};
 ghost use Rattle.ptg_base.specs.declared.edge.WriteBack.{WriteBack as WriteBackValue};
 ghost use Rattle.plan_core.specs.declared.plan.Plan.{Plan as PlanValue};
-ghost use Rattle.plan_core.specs.Kinds.{is_data};
 ghost use Rattle.dep_iter.specs.Consistent.{is_data_edge};
 ghost use Rattle.dep_iter.specs.Edges.{data_source};
 ghost use Rattle.dep_iter.specs.Tasks.{IsTask};
@@ -13,7 +12,6 @@ ghost use Rattle.edge_match.specs.Counted.{Checked, Decides};
 ghost use Rattle.edge_match.specs.Directions as directions;
 ghost use Rattle.edge_match.specs.Directions.{counts, edge_at, edge_marks, edges_before, near_flow, near_task, other_end, tile_marks, write_marks};
 ghost use Rattle.edge_match.specs.FirstFault.{code_of};
-ghost use Rattle.edge_match.specs.Marks.{Check, mark};
 ghost use Rattle.edge_match.specs.declared.counted.Counted.{Counted as CountedValue};
 ghost use Rattle.edge_match.specs.declared.direction.Direction.TheVariants as direction;
 ghost use Rattle.edge_match.specs.declared.phase.Phase.TheVariants as phase;
@@ -21,13 +19,11 @@ ghost use Rattle.edge_match.specs.declared.phase.Phase.TheVariants as phase;
 use crate::counted::Counted;
 use crate::direction::Direction;
 use crate::fault::{MatchCode, MatchFault};
-use crate::named::copy_of;
 use crate::phase::Phase;
 use crate::task_at::FlowAt;
 use dep_iter::{has_in_edge_before, has_out_edge_before, is_task, receiver_locals, sender_locals};
-use plan_core::Plan;
+use plan_core::{Plan, is_data};
 use ptg_base::{Edge, Place, TaskId};
-use term_core::FlowKind;
 
 // The edge between the flow and a flow of another task.
 pub(crate) fn edge_with(at: &FlowAt, way: Direction, far: TaskId, far_flow: u8) -> Edge
@@ -37,11 +33,11 @@ pub(crate) fn edge_with(at: &FlowAt, way: Direction, far: TaskId, far_flow: u8) 
         Direction::In => Edge {
             from: far,
             out_flow: far_flow,
-            to: copy_of(at.task),
+            to: at.task.copy(),
             in_flow: at.number,
         },
         Direction::Out => Edge {
-            from: copy_of(at.task),
+            from: at.task.copy(),
             out_flow: at.number,
             to: far,
             in_flow: far_flow,
@@ -92,18 +88,6 @@ fn has_edge_before(at: &FlowAt, way: Direction, k: usize, edge: &Edge) -> bool
     }
 }
 
-// Whether a flow of this kind carries a tile.
-fn carries_tile(kind: FlowKind) -> bool
-    ensures { result ≡ is_data (Some kind) }
-{
-    match kind {
-        FlowKind::Read => true,
-        FlowKind::Write => true,
-        FlowKind::Rw => true,
-        FlowKind::Ctl => false,
-    }
-}
-
 // Counts an edge, one that carries a tile or not, if it is not one too many.
 fn count_edge(way: Direction, carries_tile: bool, counted: &mut Counted) -> bool
     ensures { (P : PlanValue) (e : EdgeValue) → (way ≡ direction.In → is_data_edge P e ≡ carries_tile) → Decides P counted.old counted.new result (counts way e) }
@@ -137,7 +121,7 @@ fn connect_edge(
 {
     check_tile(at, way)?;
     at.require(is_task(at.plan, far_task(way, edge)), MatchCode::OutOfSpace)?;
-    let fits = count_edge(way, carries_tile(at.flow.kind), counted);
+    let fits = count_edge(way, is_data(at.flow.kind), counted);
     at.require(fits, MatchCode::TooManyEdges)
 }
 

@@ -19,21 +19,9 @@ use crate::direction::Direction;
 use crate::fault::{MatchCode, MatchFault};
 use crate::phase::Phase;
 use crate::task_at::{FlowAt, TaskAt};
-use dep_iter::{Source, data_source_under};
+use dep_iter::{Source, data_source_under, takes_tile};
 use plan_core::{FlowPlan, Plan};
 use term_core::FlowKind;
-
-// Whether a flow of this kind takes a tile, so that one of its in dependences must hold.
-fn takes_tile(kind: FlowKind) -> bool
-    ensures { result ≡ consistent.takes_tile kind }
-{
-    match kind {
-        FlowKind::Read => true,
-        FlowKind::Write => false,
-        FlowKind::Rw => true,
-        FlowKind::Ctl => false,
-    }
-}
 
 // Whether an in dependence of a flow of this kind with this source holds, if one must.
 fn has_input(kind: FlowKind, source: &Source) -> bool

@@ -8,8 +8,6 @@ mod tasks;
 
 use dep_iter::Matched;
 use job_stages::{JobVerdict, judge_texts};
-use ptg_base::Text;
-use ptg_io::File;
 use row_files::{Call, Order, Printed, Why, all_as_wanted};
 use std::alloc::Global;
 use std::process::ExitCode;
@@ -33,12 +31,11 @@ impl Call for Edges {
         alloc: Global,
         order: Order,
     ) -> Result<Printed, Why> {
-        let files = order.files.as_slice();
         let [word, jdf, table] = order.words.as_slice() else {
             return Err(Why("not three words"));
         };
-        let jdf = named(files, jdf)?;
-        let table = named(files, table)?;
+        let jdf = order.file(jdf)?;
+        let table = order.file(table)?;
         if word.bytes() == b"accepts".as_slice() {
             return accepts_shown(alloc, jdf, table);
         }
@@ -69,14 +66,4 @@ fn accepted_edges(alloc: Global, matched: &Matched) -> Result<Printed, Why> {
         return Err(Why("a consistent job that one walk does not accept"));
     }
     tasks::shown(alloc, matched)
-}
-
-// The bytes of the file of this name.
-fn named<'a>(files: &'a [File], name: &Text) -> Result<&'a [u8], Why> {
-    for file in files {
-        if file.name() == name.bytes() {
-            return Ok(file.bytes());
-        }
-    }
-    Err(Why("no file of this name"))
 }

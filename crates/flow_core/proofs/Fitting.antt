@@ -30,9 +30,9 @@ use Rattle.flow_meaning.specs.Comparing.{same_item}
 use Rattle.flow_meaning.specs.Machine.{Claim, MachineState, MayClaim, Send, Sent, arrived, end_in, is_sent, send_count, sender, state_after}
 use Rattle.flow_meaning.specs.Sound.{IsSoundState}
 use Rattle.flow_meaning.proofs.Counting.{count-at_most, weigh-push}
-use Rattle.flow_meaning.proofs.Events.{ends_so, event_sound, opening_sound}
+use Rattle.flow_meaning.proofs.Events.{ends_so, event_sound}
 use Rattle.flow_meaning.proofs.Arriving.{arrives}
-use Rattle.flow_core.specs.RunState.{HasLetGo, IsRunning, KeepsTiles, RunState, Tiles, end_of, machine, mark_of, opening_run, send_of, with_claim, with_end, with_send, with_tiles}
+use Rattle.flow_core.specs.RunState.{HasLetGo, IsRunning, KeepsTiles, RunState, Tiles, end_of, machine, mark_of, send_of, with_claim, with_end, with_send, with_tiles}
 use Rattle.flow_core.specs.Fits.{Fits, HasSentAll, MaySendNow}
 use Rattle.flow_core.specs.SentItems.{IsUnsent}
 use Rattle.flow_core.specs.Arrivals.{CountsArrivals, edges_to, is_edge_to, number_at}
@@ -40,9 +40,6 @@ use Rattle.flow_core.specs.Possible.{GoesToWaiting, IsDue, KeepsTilesFor, goes_t
 use Rattle.flow_core.specs.Kept.{is_read}
 use Rattle.flow_core.proofs.Lookups.{apart, end_push, found_in, found_key, key_count, key_found, keys_set, none_before, set_other, set_same, turned}
 use Rattle.flow_core.proofs.Arriving.{arrived_are}
-
-pub opening_fits : (P : Plan) (G : Data) → Fits P G opening_run
-opening_fits P G = record { sound = opening_sound P G; ends = λ t end h. absurd cc; kept = λ t tiles h. absurd cc }
 
 pub claim_event : (P : Plan) (G : Data) (r : RunState) (t : Task) → machine (with_claim t r) ≡ state_after P G (machine r) (Claim t)
 claim_event P G r t = λ i. record { claims = map-append (λ (c : Task × Option Ended). c.0) r.claims ((t, None) ∷ []) i; sends = r.sends }

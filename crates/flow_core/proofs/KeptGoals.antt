@@ -1,5 +1,5 @@
 -- Goals that are kept, as one is added and one goes.
-use Rattle.std.proofs.Common.{◌≡◌, ℕ, cond, List, ap, sym, ◌∙◌, Option, Some, None}
+use Rattle.std.proofs.Common.{◌≡◌, ℕ, cond, List, ap, sym, ◌∙◌, Some}
 use Rattle.std.specs.Map.{lookup}
 use Rattle.ptg_base.specs.Task.{Task}
 use Rattle.ptg_base.specs.TaskComparing.{same_task}
@@ -8,9 +8,6 @@ use Rattle.range_space.proofs.Stepping.{by_test}
 use Rattle.plan_core.specs.declared.plan.Plan.{Plan}
 use Rattle.dep_iter.specs.Edges.{goal}
 use Rattle.flow_core.specs.Goals.{AreGoals}
-
-abbrev no_goal : Option ℕ
-no_goal = None
 
 pub goal_kept : (P : Plan) (old new : List (Task × ℕ)) (key t : Task) (n : ℕ) → AreGoals P old → key ≡ t → n ≡ goal P t
     → ((u : Task) → lookup (same_task u) new ≡ cond (same_task key u) (Some n) (lookup (same_task u) old)) → AreGoals P new
@@ -22,10 +19,3 @@ goal_kept P old new key t n are same is up u k h =
     let number : n ≡ k = cc in
     sym number ∙ is ∙ ap (goal P) one)
     (λ q. are u k (sym (up u ∙ ap (λ b. cond b (Some n) (lookup (same_task u) old)) q) ∙ h))
-
-pub goal_gone : (P : Plan) (old new : List (Task × ℕ)) (t : Task) → AreGoals P old
-    → ((u : Task) → lookup (same_task u) new ≡ cond (same_task t u) None (lookup (same_task u) old)) → AreGoals P new
-goal_gone P old new t are up u k h =
-    by_test (same_task t u)
-    (λ q. let none : no_goal ≡ Some k = sym (up u ∙ ap (λ b. cond b no_goal (lookup (same_task u) old)) q) ∙ h in absurd cc)
-    (λ q. are u k (sym (up u ∙ ap (λ b. cond b no_goal (lookup (same_task u) old)) q) ∙ h))

@@ -331,10 +331,6 @@ pub on_ok_then : {T E P Q : Type 0} (r : Result T E) → (P → Q) → OnOk r P 
 on_ok_then (Ok x) f h = f h
 on_ok_then (Err e) f h = h
 
-pub on_both_then : {T E P Q R : Type 0} (r : Result T E) → (P → Q → R) → OnOk r P → OnOk r Q → OnOk r R
-on_both_then (Ok x) f h k = f h k
-on_both_then (Err e) f h k = h
-
 -- the task that was claimed last is one of the job
 pub last_task : (P : Plan) (G : Data) (r : RunState) (fits : Fits P G r) (t : Task) (running : List Task) → running ++ t ∷ [] ≡ running_tasks r → IsTask P t
 last_task P G r fits t running last = (fits.sound.claimed_have_all t (found_key t r.claims None (last_runs P G r fits t running last))).task

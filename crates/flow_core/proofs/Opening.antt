@@ -1,5 +1,5 @@
 -- An opening is complete once as many tasks were claimed as no edge goes into.
-use Rattle.std.proofs.Common.{◌≡◌, ◌≤◌, ◌==◌, Bool, false, List, [], ◌∷◌, ◌++◌, length, refl, ap, sym, ◌∙◌, subst, Option, None, inl, inr, eq-eqb, arith}
+use Rattle.std.proofs.Common.{◌≡◌, ◌≤◌, ◌==◌, Bool, false, List, [], ◌∷◌, length, refl, ap, sym, ◌∙◌, subst, inl, inr, eq-eqb, arith}
 use Rattle.std.specs.Map.{keys_of}
 use Rattle.ptg_base.specs.Lists.{IsIn}
 use Rattle.ptg_base.specs.Task.{Task}
@@ -13,16 +13,14 @@ use Rattle.range_space.proofs.Stepping.{by_test}
 use Rattle.dep_iter.specs.Tasks.{IsTask, all_tasks}
 use Rattle.dep_iter.specs.Edges.{goal, in_edges}
 use Rattle.dep_iter.specs.Consistent.{roots}
-use Rattle.dep_iter.proofs.Joining.{map-append}
 use Rattle.dep_iter.proofs.Listing.{listed}
 use Rattle.flow_meaning.specs.Counting.{as_number, count}
-use Rattle.flow_meaning.specs.Ending.{Ended}
 use Rattle.flow_meaning.specs.Machine.{Sent, arrived, is_sent}
 use Rattle.flow_meaning.proofs.Quiet.{filtered}
-use Rattle.flow_core.specs.RunState.{RunState, machine, opening_run, with_claim}
+use Rattle.flow_core.specs.RunState.{RunState, machine, opening_run}
 use Rattle.flow_core.specs.Fits.{Fits}
 use Rattle.flow_core.specs.OneThread.{HasDone, IsOpening, MayClaimOnly, running_tasks}
-use Rattle.flow_core.proofs.RunningTasks.{Once, at_most, running_push}
+use Rattle.flow_core.proofs.RunningTasks.{Once, at_most}
 
 count-none : {A : Type 0} (test : A → Bool) (xs : List A) → ((x : A) → test x ≡ false) → count test xs ≡ 0
 count-none test [] none = refl
@@ -31,13 +29,6 @@ count-none test (x ∷ xs) none = omega (arith, ap as_number (none x), count-non
 -- nothing is opened yet
 pub opens_first : IsOpening opening_run
 opens_first = record { sends = refl; running = refl }
-
--- a claim goes on with an opening
-pub opens_on : (r : RunState) (t : Task) → IsOpening r → IsOpening (with_claim t r)
-opens_on r t o = record {
-  sends = o.sends;
-  running = running_push r.claims t ∙ ap (λ l. l ++ t ∷ []) o.running ∙ sym (map-append (λ (c : Task × Option Ended). c.0) r.claims ((t, None) ∷ []));
-}
 
 module _ (P : Plan) (r : RunState) (o : IsOpening r) where
   none_come : (t : Task) → arrived P (machine r) t ≡ 0

@@ -51,11 +51,6 @@ waits-append P S (t ∷ ts) us =
     waits-cons P S t (ts ++ us) ∙ ap (λ l. waits_among P S (t ∷ []) ++ l) (waits-append P S ts us)
     ∙ sym (append_assoc (waits_among P S (t ∷ [])) (waits_among P S ts) (waits_among P S us)) ∙ ap (λ l. l ++ waits_among P S us) (sym (waits-cons P S t ts))
 
-pub waits_step : (P : Plan) (S : MachineState) (rows new all : List WaitRow) (t : Task) (rest : List Task) → rows ++ waits_among P S (t ∷ rest) ≡ all → new ≡ rows ++ waits_among P S (t ∷ [])
-    → new ++ waits_among P S rest ≡ all
-waits_step P S rows new all t rest so_far e =
-    ap (λ l. l ++ waits_among P S rest) e ∙ append_assoc rows (waits_among P S (t ∷ [])) (waits_among P S rest) ∙ ap (λ l. rows ++ l) (sym (waits-cons P S t rest)) ∙ so_far
-
 -- the rows of the classes from a number on, one class after another
 pub waits_class : (P : Plan) (S : MachineState) (rows mid new : List WaitRow) (class : ℕ) (s : ClassSpace) (rest : List ClassSpace) → mid ≡ rows ++ waits_among P S (map (task class) (tasks s))
     → new ≡ mid ++ waits_among P S (tasks_from (suc class) rest) → new ≡ rows ++ waits_among P S (tasks_from class (s ∷ rest))
@@ -117,10 +112,6 @@ module _ (P : Plan) (G : Data) (con : IsConsistent P) (r : RunState) (fits : Fit
 
     pub row_is : record { task = t; arrived = sent; goal = all } ≡ wait_row P (machine r) t
     row_is = λ i. record { task = t; arrived = sym come i; goal = all_is i }
-
--- the trapped tasks, one claim after another
-pub traps_step : (rows new all : List TrapRow) (c : Task × Option Ended) (rest : List (Task × Option Ended)) → rows ++ claim_traps (c ∷ rest) ≡ all → new ≡ rows ++ trap_rows c.0 c.1 → new ++ claim_traps rest ≡ all
-traps_step rows new all c rest so_far e = ap (λ l. l ++ claim_traps rest) e ∙ append_assoc rows (trap_rows c.0 c.1) (claim_traps rest) ∙ so_far
 
 -- of keys that are there once, a look-up finds the entry
 once_found : {X : Type 0} (t : Task) (x : X) (es : List (Task × X)) → IsIn (t, x) es → count (same_task t) (keys_of es) ≤ 1 → lookup (same_task t) es ≡ Some x

@@ -1,5 +1,5 @@
 -- The running tasks among claimed ones, as tasks are claimed and end.
-use Rattle.std.proofs.Common.{◌≡◌, suc, ◌+◌, ◌≤◌, Bool, true, false, cond, is_none, is_some, List, [], ◌∷◌, ◌++◌, length, refl, ap, sym, ◌∙◌, subst, Option, Some, None, inl, inr, arith}
+use Rattle.std.proofs.Common.{◌≡◌, suc, ◌+◌, ◌≤◌, Bool, true, false, cond, is_some, List, [], ◌∷◌, ◌++◌, length, refl, ap, sym, ◌∙◌, subst, Option, Some, None, inl, inr, arith}
 use Rattle.std.proofs.lemmas.Bool.{false≢true}
 use Rattle.std.specs.List.{filter}
 use Rattle.std.specs.Map.{keys_of, lookup, set_value}
@@ -25,15 +25,6 @@ Claims = List (Task × Option Ended)
 -- a task occurs once at most
 abbrev pub Once : List Task → Type 0
 Once ts = (t : Task) → count (same_task t) ts ≤ 1
-
-keep_one : (c : Task × Option Ended) (b : Bool) (xs ys : Claims) (t : Task) → keys_of xs ≡ keys_of ys ++ t ∷ [] → keys_of (cond b (c ∷ xs) xs) ≡ keys_of (cond b (c ∷ ys) ys) ++ t ∷ []
-keep_one c true xs ys t e = ap (λ l. c.0 ∷ l) e
-keep_one c false xs ys t e = e
-
-pub running_push : (cs : Claims) (t : Task) → running_among (cs ++ (t, None) ∷ []) ≡ running_among cs ++ t ∷ []
-running_push [] t = refl
-running_push (c ∷ cs) t =
-    keep_one c (is_none c.1) (filter (λ (d : Task × Option Ended). is_none d.1) (cs ++ (t, None) ∷ [])) (filter (λ (d : Task × Option Ended). is_none d.1) cs) t (running_push cs t)
 
 same_length : (c : Task × Option Ended) (b : Bool) (xs ys : Claims) → length xs ≡ length ys → length (cond b (c ∷ xs) xs) ≡ length (cond b (c ∷ ys) ys)
 same_length c true xs ys e = ap suc e

@@ -1,5 +1,5 @@
 -- The tiles that come by edges, put to those that a task starts on.
-use Rattle.std.proofs.Common.{◌≡◌, ℕ, zero, suc, ◌+◌, ◌≤◌, ℤ, Bool, true, false, cond, List, [], ◌∷◌, ◌++◌, length, drop, refl, ap, sym, ◌∙◌, append_assoc, add-one, Option, Some, None, slice_get, slice_set, arith}
+use Rattle.std.proofs.Common.{◌≡◌, ℕ, zero, suc, ◌+◌, ◌≤◌, ℤ, Bool, true, false, cond, List, [], ◌∷◌, ◌++◌, length, refl, ap, sym, ◌∙◌, append_assoc, add-one, Option, Some, None, slice_get, slice_set, arith}
 use Rattle.std.specs.Prelude.{option_map}
 use Rattle.std.specs.Option.{option_map_or}
 use Rattle.ptg_base.specs.Task.{Task}
@@ -20,7 +20,6 @@ use Rattle.dep_iter.specs.Active.{flow_ins}
 use Rattle.dep_iter.specs.Edges.{data_source, source_among, source_at}
 use Rattle.flow_meaning.specs.Starting.{Delivery, starting_tile, tile_from, tiles_from}
 use Rattle.flow_core.specs.Inputs.{edge_into, edge_of_source, edges_from, nothing_delivered, source_of}
-use Rattle.flow_core.proofs.Rows.{drop_at}
 
 -- the edge that is the source of a flow goes to that flow of the task
 pub record GoesTo (t : Task) (n : ℕ) (e : Edge) : Type 0 where
@@ -112,9 +111,6 @@ set_at [] rest x y zero h = refl
 set_at [] rest x y (suc n) h = absurd (omega arith)
 set_at (b ∷ bs) rest x y zero h = absurd (omega arith)
 set_at (b ∷ bs) rest x y (suc n) h = ap (λ l. b ∷ l) (set_at bs rest x y n (omega arith))
-
-pub drop_one : {A : Type 0} (xs : List A) (k : ℕ) (x : A) → slice_get xs k ≡ Some x → drop k xs ≡ x ∷ drop (k + 1) xs
-drop_one xs k x h = drop_at xs k x h ∙ ap (λ n. x ∷ drop n xs) (sym (add-one k))
 
 pub length_push : {A : Type 0} (xs : List A) (x : A) (n : ℕ) → length xs ≡ n → length (xs ++ x ∷ []) ≡ n + 1
 length_push [] x n h = omega arith

@@ -1,7 +1,6 @@
 -- What was written back: each write-back has a tile of the size of its collection's type, and a place of the data.
-use Rattle.std.proofs.Common.{◌≡◌, ℤ, List, [], ◌∷◌, ◌++◌, refl, ap, sym, ◌∙◌, subst, append_assoc, Option, Some, None, inl, inr}
+use Rattle.std.proofs.Common.{◌≡◌, ℤ, List, [], ◌∷◌, refl, ap, sym, ◌∙◌, subst, Some, inl, inr}
 use Rattle.std.proofs.lemmas.List.Elements.{All-cons, All-nil}
-use Rattle.std.specs.Prelude.{option_to_list}
 use Rattle.std.specs.List.{All, cons_option, filter_map}
 use Rattle.ptg_base.specs.Lists.{IsIn}
 use Rattle.ptg_base.specs.declared.edge.WriteBack.{WriteBack}
@@ -54,12 +53,3 @@ module _ (P : Plan) (G : Data) (con : IsConsistent P) (r : RunState) (fits : Fit
   pub data_is : (writes : List (WriteBack × List ℤ)) (end : Data) → writes ≡ writes_among r.sends → end ≡ replaced_data (λ here. first_written here (with_tiles writes)) G → end ≡ state_data G (machine r)
   unfolding state_data
   data_is writes end are e = e ∙ ap (λ ws. replaced_data (λ here. first_written here ws) G) (ap with_tiles are ∙ (some_writes r.sends (λ x i. i)).are)
-
--- the write-backs among items, one after another
-pub writes_step : (writes new all : List (WriteBack × List ℤ)) (x : Sent) (rest : List Sent) → writes ++ writes_among (x ∷ rest) ≡ all → new ≡ writes ++ option_to_list (write_with x.item x.tile) → new ++ writes_among rest ≡ all
-writes_step writes new all x rest so_far e =
-    ap (λ l. l ++ writes_among rest) e ∙ append_assoc writes (option_to_list (write_with x.item x.tile)) (writes_among rest) ∙ ap (λ l. writes ++ l) (by (write_with x.item x.tile)) ∙ so_far
-  where
-    by : (o : Option (WriteBack × List ℤ)) → option_to_list o ++ writes_among rest ≡ cons_option o (writes_among rest)
-    by None = refl
-    by (Some w) = refl

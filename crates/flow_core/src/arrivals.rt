@@ -8,7 +8,6 @@ ghost use Rattle.flow_meaning.specs.Counting.{as_number};
 ghost use Rattle.flow_core.specs.Arrivals as arrivals;
 ghost use Rattle.flow_core.specs.Arrivals.{is_edge_to};
 
-use crate::possible::copy_of_task;
 use indexmap::IndexMap;
 use ptg_base::{Item, TaskId};
 
@@ -29,7 +28,7 @@ fn add_one(table: &mut IndexMap<TaskId, u32>, t: &TaskId)
     ensures { (u : Task) → arrivals.number_at table.new.entries u ≡ arrivals.number_at table.old.entries u + as_number (same_task u t.now) }
 {
     let n = number_at(table, t);
-    let _old = table.insert(copy_of_task(t), n + 1).unwrap();
+    let _old = table.insert(t.copy(), n + 1).unwrap();
 }
 
 // Counts an item at the task that it goes to, if it is an edge.

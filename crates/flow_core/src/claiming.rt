@@ -10,7 +10,6 @@ ghost use Rattle.flow_core.specs.Goals.{AreGoals};
 ghost use Rattle.flow_core.specs.OneThread.{HasDone, IsOpening, MayClaimOnly, running_tasks};
 
 use crate::goals::{forget_goal, goal_by, keep_goal};
-use crate::possible::copy_of_task;
 use crate::runner::Runner;
 use crate::spaces::space_of;
 use dep_iter::Matched;
@@ -34,7 +33,7 @@ pub(crate) fn claim_if_ready(
     if !runner.run.claim_task(m, t)? {
         return Ok(());
     }
-    runner.running.push(copy_of_task(t))?;
+    runner.running.push(t.copy())?;
     Ok(())
 }
 
@@ -53,7 +52,7 @@ pub(crate) fn claim_if_come(runner: &mut Runner, m: &Matched, t: &TaskId) -> Res
         keep_goal(&mut runner.goals, m, t, goal)?;
         return Ok(());
     }
-    runner.running.push(copy_of_task(t))?;
+    runner.running.push(t.copy())?;
     forget_goal(&mut runner.goals, m, t);
     Ok(())
 }

@@ -5,7 +5,6 @@ ghost use Rattle.dep_iter.specs.Edges as edges;
 ghost use Rattle.dep_iter.specs.Tasks.{IsTask};
 ghost use Rattle.flow_core.specs.Goals.{AreGoals};
 
-use crate::possible::copy_of_task;
 use dep_iter::Matched;
 use goal_count::goal;
 use indexmap::IndexMap;
@@ -35,7 +34,7 @@ pub(crate) fn keep_goal(
     ensures { OnOk result (AreGoals m.now table.new.entries) }
 {
     let _ = m.plan();
-    table.insert(copy_of_task(t), goal)?;
+    table.insert(t.copy(), goal)?;
     Ok(())
 }
 

@@ -2,7 +2,6 @@
 
 ghost use Rattle.std.specs.Prelude.{◌≡◌, ◌≢◌, ℤ, ◌+◌, ◌<◌, ◌≤◌, [], ◌∷◌, ◌++◌, length, option_map, slice_set, IfOk, OnOk, IsTrue, List, Option, Some};
 ghost use Rattle.std.specs.Option.{option_copied};
-ghost use Rattle.plan_core.specs.Kinds as kinds;
 ghost use Rattle.dep_iter.specs.Tasks.{IsTask};
 ghost use Rattle.flow_meaning.specs.Starting as starting;
 ghost use Rattle.flow_core.specs.Inputs as inputs;
@@ -19,7 +18,7 @@ ghost use Rattle.dep_iter.specs.Tasks as tasks;
 use crate::sent_items::SentItems;
 use coll_data::Given;
 use dep_iter::{Source, data_source_under, flows_of};
-use plan_core::{FlowPlan, Plan};
+use plan_core::{FlowPlan, Plan, is_data};
 use ptg_base::{Item, OutOfMemory, TaskId, Tile};
 use std::alloc::Global;
 use term_core::FlowKind;
@@ -32,18 +31,6 @@ pub(crate) struct Start<'a> {
     pub(crate) task: &'a TaskId,
     pub(crate) env: &'a [i64],
     pub(crate) ghost locals: { env.now ≡ tasks.locals_of plan.now task.now },
-}
-
-// Whether flows of this kind carry tiles.
-fn is_data(kind: FlowKind) -> bool
-    ensures { result ≡ kinds.is_data (Some kind) }
-{
-    match kind {
-        FlowKind::Read => true,
-        FlowKind::Write => true,
-        FlowKind::Rw => true,
-        FlowKind::Ctl => false,
-    }
 }
 
 // A copy of a tile, if there is one.

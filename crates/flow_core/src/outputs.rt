@@ -7,7 +7,6 @@ ghost use Rattle.body_eval.specs.Element.{tile_of};
 ghost use Rattle.flow_core.specs.RunState.{with_tiles};
 
 use crate::body::Ran;
-use crate::possible::copy_of_task;
 use indexmap::IndexMap;
 use ptg_base::{Seq, TaskId, Tile};
 
@@ -19,7 +18,7 @@ pub(crate) fn keep_tiles(table: &mut IndexMap<TaskId, Seq<Option<Tile>>>, t: &Ta
     let Ok(tiles) = ran.end else {
         return;
     };
-    let _old = table.insert(copy_of_task(t), tiles).unwrap();
+    let _old = table.insert(t.copy(), tiles).unwrap();
 }
 
 // The tile of a flow, if it has one.

@@ -10,26 +10,19 @@ use dep_iter::{WriteBacks, has_out_edge, write_backs};
 use plan_core::Plan;
 use ptg_base::{Edge, Item, Place, TaskId, WriteBack, items_compare_field_by_field};
 
-// A copy of a task.
-pub(crate) fn copy_of_task(t: &TaskId) -> TaskId
-    ensures { result ≡ t.now }
-{
-    TaskId::new(t.class(), t.params())
-}
-
 // A copy of an item.
 pub(crate) fn copy_of_item(item: &Item) -> Item
     ensures { result ≡ item.now }
 {
     match item {
         Item::Edge(e) => Item::Edge(Edge {
-            from: copy_of_task(&e.from),
+            from: e.from.copy(),
             out_flow: e.out_flow,
-            to: copy_of_task(&e.to),
+            to: e.to.copy(),
             in_flow: e.in_flow,
         }),
         Item::Write(w) => Item::Write(WriteBack {
-            from: copy_of_task(&w.from),
+            from: w.from.copy(),
             flow: w.flow,
             place: Place {
                 coll: w.place.coll,

@@ -1,6 +1,6 @@
 //! Sends of the items of a task that has ended.
 
-ghost use Rattle.std.specs.Prelude.{◌≡◌, ◌∷◌, ◌++◌, [], IsTrue, OnOk, map};
+ghost use Rattle.std.specs.Prelude.{◌≡◌, ◌∷◌, [], IsTrue, OnOk, map};
 ghost use Rattle.ptg_base.specs.declared.edge.Edge.{Edge as EdgeValue};
 ghost use Rattle.ptg_base.specs.declared.edge.WriteBack.{WriteBack as WriteBackValue};
 ghost use Rattle.ptg_base.specs.declared.edge.Item.TheVariants as item;
@@ -16,7 +16,6 @@ ghost use Rattle.flow_core.specs.Goals.{AreGoals};
 ghost use Rattle.flow_core.specs.OneThread.{HasDone, running_tasks};
 
 use crate::claiming::claim_if_come;
-use crate::possible::copy_of_task;
 use crate::runner::Runner;
 use dep_iter::{Matched, locals_of, out_edges_under, write_backs_under};
 use ptg_base::{Edge, Item, OutOfMemory, TaskId, WriteBack};
@@ -32,7 +31,7 @@ fn send_edge(runner: &mut Runner, m: &Matched, edge: Edge) -> Result<(), OutOfMe
     ensures goals { OnOk result (AreGoals m.now runner.new.goals.entries) }
 {
     let _ = m.plan();
-    let to = copy_of_task(&edge.to);
+    let to = edge.to.copy();
     let _sent = runner.run.send_due(m, &Item::Edge(edge))?;
     claim_if_come(runner, m, &to)
 }

@@ -27,7 +27,7 @@ use crate::body::run_task;
 use crate::end::{End, has_outputs};
 use crate::inputs::{Start, copy_if_any, inputs_of, take_tiles};
 use crate::outputs::{keep_tiles, tile_at};
-use crate::possible::{copy_of_item, copy_of_task, is_item, item_flow, sender};
+use crate::possible::{copy_of_item, is_item, item_flow, sender};
 use crate::sent_items::SentItems;
 use coll_data::Given;
 use dep_iter::{Matched, is_task, locals_of};
@@ -183,7 +183,7 @@ impl State {
         ensures ok { OnOk result (self.new ≡ with_claim t.now self.old) }
         ensures err { OnErr result (self.new ≡ self.old) }
     {
-        self.claims.insert(copy_of_task(t), None)?;
+        self.claims.insert(t.copy(), None)?;
         self.arrived.swap_remove(t);
         Ok(())
     }

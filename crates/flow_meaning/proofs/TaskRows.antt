@@ -1,5 +1,5 @@
 -- Rows of tasks in task order are the same, in whatever order the tasks come.
-use Rattle.std.proofs.Common.{◌≡◌, ◌≢◌, ◌≤◌, true, false, not, cond, List, [], ◌∷◌, ◌++◌, refl, ap, sym, ◌∙◌, subst, ◌⊎◌, inl, inr, arith}
+use Rattle.std.proofs.Common.{◌≡◌, ◌≢◌, ◌≤◌, true, false, not, cond, List, [], ◌∷◌, ◌++◌, refl, ap, sym, ◌∙◌, ◌⊎◌, inl, inr, arith}
 use Rattle.std.proofs.lemmas.Bool.{false≢true, false_from_ne_true}
 use Rattle.std.specs.List.{flat_map}
 use Rattle.std.specs.declared.cmp.Ordering.{Ordering}
@@ -33,25 +33,12 @@ before_other a b ne = by (task_cmp a b) (task_cmp-compares a b)
 before_trans : (a b c : Task) → task_before a b ≡ true → task_before b c ≡ true → task_before a c ≡ true
 before_trans a b c h k = before_of a c (task_cmp-total.trans a b c (less_of a b h) (less_of b c k))
 
--- what a task is not before is before what it is before
-before_past : (z x y : Task) → task_before z x ≡ false → task_before z y ≡ true → task_before x y ≡ true
-before_past z x y h k =
-    by_test (same_task x z)
-    (λ e. let same : x ≡ z = (same_task-decides x z).0 e in subst (λ u. task_before u y ≡ true) (sym same) k)
-    (λ e.
-    let other : x ≢ z = λ same. false≢true (sym e ∙ (same_task-decides x z).1 same) in
-    before_trans x z y (before_other x z other ∙ ap not h) k)
-
 module _ {A : Type 0} (key : A → Task) where
   insert_past : (x z : A) (zs : List A) → task_before (key z) (key x) ≡ true → insert_by key x (z ∷ zs) ≡ z ∷ insert_by key x zs
   insert_past x z zs h = ap (λ b. cond b (z ∷ insert_by key x zs) (x ∷ z ∷ zs)) h
 
   insert_here : (x z : A) (zs : List A) → task_before (key z) (key x) ≡ false → insert_by key x (z ∷ zs) ≡ x ∷ z ∷ zs
   insert_here x z zs h = ap (λ b. cond b (z ∷ insert_by key x zs) (x ∷ z ∷ zs)) h
-
-  -- two rows of different tasks may be inserted in either order
-  two_first : (x y : A) (l : List A) → task_before (key x) (key y) ≡ true → task_before (key y) (key x) ≡ false → insert_by key x (y ∷ l) ≡ x ∷ y ∷ l
-  two_first x y l h k = insert_here x y l k
 
   insert_swap : (x y : A) → task_before (key x) (key y) ≡ true → task_before (key y) (key x) ≡ false → (l : List A) → insert_by key x (insert_by key y l) ≡ insert_by key y (insert_by key x l)
   insert_swap x y h k [] = insert_here x y [] k ∙ sym (insert_past y x [] h)

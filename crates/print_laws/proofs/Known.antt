@@ -8,7 +8,7 @@ use Rattle.jdf_alphabet.specs.declared.kind.TokenKind.{TokenKind}
 use Rattle.jdf_alphabet.specs.declared.kind.TokenKind.TheVariants as kinds
 use Rattle.jdf_alphabet.specs.declared.terminal.Terminal.{Terminal}
 use Rattle.jdf_alphabet.specs.declared.terminal.Terminal.TheVariants as terminal
-use Rattle.jdf_alphabet.specs.Terminals.{number_of, spelled, words, marks, terminal_by, terminal_of, is}
+use Rattle.jdf_alphabet.specs.Terminals.{number_of, spelled, marks, terminal_by, terminal_of}
 use Rattle.jdf_alphabet.proofs.Numbers.{token_terminal}
 use Rattle.jdf_alphabet.specs.Counted.{is_name}
 use Rattle.jdf_tree.specs.ClassGrammar.{is_in_body}
@@ -54,14 +54,6 @@ apart false h k = cc
 pub no_mark_is_name : (w : List ℕ) → is_name (spelled marks w terminal.Other) ≡ false
 unfolding marks
 no_mark_is_name w = spelled_out is_name marks w terminal.Other refl refl
-
-no_mark_is_number : (w : List ℕ) → is terminal.Number (spelled marks w terminal.Other) ≡ false
-unfolding marks
-no_mark_is_number w = spelled_out (is terminal.Number) marks w terminal.Other refl refl
-
-no_word_is_number : (w : List ℕ) → is terminal.Number (spelled words w terminal.Name) ≡ false
-unfolding words
-no_word_is_number w = spelled_out (is terminal.Number) words w terminal.Name refl refl
 
 name_kind : (k : TokenKind) (w : List ℕ) → is_name (terminal_by k w) ≡ true → IsKnownAs k w → (k ≡ kind_of w) × IsWritten w
 name_kind kinds.Name w h known = (sym known.0, known.1)

@@ -58,6 +58,13 @@ impl TaskId {
     {
         self.values.as_slice()
     }
+
+    /// A copy of the task.
+    pub fn copy(&self) -> TaskId
+        ensures { result ≡ self.now }
+    {
+        TaskId::new(self.class(), self.params())
+    }
 }
 
 impl PartialEq for TaskId {

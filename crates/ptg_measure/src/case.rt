@@ -7,8 +7,11 @@ use crate::edges::{edges, job, star_edges};
 use crate::names::names;
 use crate::sizes::{size_of_line, size_of_square, size_with_sum};
 use crate::spaces::space;
+use crate::tables::{close, opened, outcome, turns, turns_in_threads, turns_of_three, unopened};
 use crate::texts::tokens_of_text;
 use std::alloc::Global;
+use std::sync::Wait;
+use std::thread::Threads;
 
 /// What is measured.
 #[derive(Clone, Copy, Debug, PartialEq, Eq)]
@@ -45,6 +48,20 @@ pub enum Case {
     CheckedChain,
     /// So many tasks in a ring, and whether they are a cycle.
     CheckedCycle,
+    /// So many turns of a table, taken and given back by one pass alone.
+    Turns,
+    /// So many turns by each of three passes, one after the other, on one thread.
+    TurnsOfThree,
+    /// So many turns of the same shards by each of four passes, each in a thread of its own.
+    TurnsInThreads,
+    /// The job of so many tasks in a line.
+    Unopened,
+    /// The same with a table.
+    Opened,
+    /// The run of one task after which so many others wait, up to the close of the table.
+    Close,
+    /// The same, up to its answer.
+    Outcome,
 }
 
 impl Case {
@@ -67,13 +84,25 @@ impl Case {
             "chain_lists" => Some(Case::ChainLists),
             "checked_chain" => Some(Case::CheckedChain),
             "checked_cycle" => Some(Case::CheckedCycle),
+            "turns" => Some(Case::Turns),
+            "turns_of_three" => Some(Case::TurnsOfThree),
+            "turns_in_threads" => Some(Case::TurnsInThreads),
+            "unopened" => Some(Case::Unopened),
+            "opened" => Some(Case::Opened),
+            "close" => Some(Case::Close),
+            "outcome" => Some(Case::Outcome),
             _ => None,
         }
     }
 }
 
 /// Measures a case at this size.
-pub fn measure(alloc: Global, case: Case, size: u32) -> Result<Vec<Count>, Failure> {
+pub fn measure<R: Threads + Wait + Sync>(
+    rt: &R,
+    alloc: Global,
+    case: Case,
+    size: u32,
+) -> Result<Vec<Count>, Failure> {
     match case {
         Case::Space => space(alloc, size),
         Case::Size => size_of_line(alloc, size),
@@ -91,5 +120,12 @@ pub fn measure(alloc: Global, case: Case, size: u32) -> Result<Vec<Count>, Failu
         Case::ChainLists => chain_lists(alloc, size),
         Case::CheckedChain => checked_chain(alloc, size),
         Case::CheckedCycle => checked_cycle(alloc, size),
+        Case::Turns => turns(alloc, size),
+        Case::TurnsOfThree => turns_of_three(alloc, size),
+        Case::TurnsInThreads => turns_in_threads(rt, alloc, size),
+        Case::Unopened => unopened(alloc, size),
+        Case::Opened => opened(alloc, size),
+        Case::Close => close(rt, alloc, size),
+        Case::Outcome => outcome(rt, alloc, size),
     }
 }

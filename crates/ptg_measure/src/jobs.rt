@@ -1,7 +1,12 @@
-//! Plans of jobs of a given size, made from their texts.
+//! Jobs of a given size, made from their texts, and their plans.
+ghost use Rattle.std.specs.Prelude.{IfOk};
+ghost use Rattle.plan_data.specs.Fit.{DataFit};
+
 use crate::count::Failure;
+use coll_data::Given;
+use dep_iter::Matched;
 use flow_check::{check, globals_of, missing};
-use job_stages::{given_of, tree_of};
+use job_stages::{JobVerdict, given_of, judge_texts, tree_of};
 use plan_core::Plan;
 use std::alloc::Global;
 
@@ -52,6 +57,27 @@ BODY
 END
 ";
 
+// One task with an edge to each of the others, of which LAST is the last. Each of the others waits for itself too.
+const WAITING: &[u8] = b"D
+LAST
+
+hub(h)
+h = 0 .. 0
+: D(0)
+CTL X -> X spoke(0 .. LAST)
+BODY
+END
+
+spoke(k)
+k = 0 .. LAST
+: D(0)
+CTL X <- X hub(0)
+CTL Y <- Y spoke(k)
+      -> Y spoke(k)
+BODY
+END
+";
+
 // The plan of a JDF and a data file.
 fn plan_of(alloc: Global, jdf: &[u8], table: &[u8]) -> Result<Plan, Failure> {
     let tree = tree_of(alloc, jdf)?;
@@ -72,11 +98,27 @@ pub fn cholesky(alloc: Global, size: u32) -> Result<Plan, Failure> {
     plan_of(alloc, jdf.bytes(), table.bytes())
 }
 
+// A data file whose number LAST is one less than this.
+fn table_up_to(alloc: Global, count: u32) -> Result<String, Failure> {
+    let last = i64::from(count) - 1;
+    Ok(format!(in alloc; "elems,1\nint,LAST,{last}\ncoll,D,1\n")?)
+}
+
 // The plan of a JDF whose last number is one less than this.
 fn plan_up_to(alloc: Global, jdf: &[u8], count: u32) -> Result<Plan, Failure> {
-    let last = i64::from(count) - 1;
-    let table = format!(in alloc; "elems,1\nint,LAST,{last}\ncoll,D,1\n")?;
+    let table = table_up_to(alloc, count)?;
     plan_of(alloc, jdf, table.as_bytes())
+}
+
+// The job of a JDF whose last number is one less than this.
+fn job_up_to(alloc: Global, jdf: &[u8], count: u32) -> Result<(Matched, Given), Failure>
+    ensures { IfOk result (λ j. DataFit j.0.colls j.0.elems j.1) }
+{
+    let table = table_up_to(alloc, count)?;
+    match judge_texts(alloc, jdf, table.as_bytes())? {
+        JobVerdict::Consistent(matched, given) => Ok((matched, given)),
+        _ => Err(Failure::NotWellMade),
+    }
 }
 
 /// The plan of one task and so many others.
@@ -92,4 +134,18 @@ pub fn line(alloc: Global, tasks: u32) -> Result<Plan, Failure> {
 /// The plan of so many tasks in a ring.
 pub fn ring(alloc: Global, tasks: u32) -> Result<Plan, Failure> {
     plan_up_to(alloc, RING, tasks)
+}
+
+/// The job of so many tasks in a line.
+pub fn line_job(alloc: Global, tasks: u32) -> Result<(Matched, Given), Failure>
+    ensures { IfOk result (λ j. DataFit j.0.colls j.0.elems j.1) }
+{
+    job_up_to(alloc, LINE, tasks)
+}
+
+/// The job of one task that runs and so many others that wait for ever.
+pub fn waiting_job(alloc: Global, others: u32) -> Result<(Matched, Given), Failure>
+    ensures { IfOk result (λ j. DataFit j.0.colls j.0.elems j.1) }
+{
+    job_up_to(alloc, WAITING, others)
 }

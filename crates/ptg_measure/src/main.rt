@@ -11,17 +11,21 @@ mod jobs;
 mod names;
 mod sizes;
 mod spaces;
+mod tables;
 mod texts;
 
 use crate::case::{Case, measure};
 use crate::count::{Count, Failure};
 use std::alloc::Global;
 use std::process::ExitCode;
+use std::sync::Wait;
+use std::thread::Threads;
 use std::{env, io};
 
 const USAGE: &str = "usage: ptg_measure (CASE SIZE)..
 CASE is space, size, size_of_square, size_with_sum, body, tokens, long_tiles, short_tiles, ints, names, job, edges,
-star, chain_lists, checked_chain or checked_cycle";
+star, chain_lists, checked_chain, checked_cycle, turns, turns_of_three, turns_in_threads, unopened, opened, close
+or outcome";
 
 // The case and the size that two words name.
 fn wanted(case: &String, size: &String) -> Option<(Case, u32)> {
@@ -29,9 +33,14 @@ fn wanted(case: &String, size: &String) -> Option<(Case, u32)> {
 }
 
 // What is counted by the case and the size that two words name, if they name any.
-fn counts(alloc: Global, case: &String, size: &String) -> Option<Result<Vec<Count>, Failure>> {
+fn counts<R: Threads + Wait + Sync>(
+    rt: &R,
+    alloc: Global,
+    case: &String,
+    size: &String,
+) -> Option<Result<Vec<Count>, Failure>> {
     let (case, size) = wanted(case, size)?;
-    Some(measure(alloc, case, size))
+    Some(measure(rt, alloc, case, size))
 }
 
 fn main(rt: HostRuntime) -> io::Result<ExitCode> {
@@ -42,7 +51,12 @@ fn main(rt: HostRuntime) -> io::Result<ExitCode> {
         return Ok(ExitCode::FAILURE);
     }
     for number in 0..words.len() / 2 {
-        match counts(rt.alloc(), &words[2 * number + 1], &words[2 * number + 2]) {
+        match counts(
+            &rt,
+            rt.alloc(),
+            &words[2 * number + 1],
+            &words[2 * number + 2],
+        ) {
             Some(Ok(counts)) => {
                 for count in counts.as_slice() {
                     println!(rt; "{count}")?;

@@ -14,7 +14,6 @@ use Rattle.report_text.specs.Rows.{HasClass}
 use Rattle.report_text.proofs.PlanRows.{has_class}
 use Rattle.run_pool.specs.declared.settings.Settings.{Settings}
 use Rattle.chain_cert.specs.Certificates.{IsCertificate}
-use Rattle.chain_cert.specs.Checked.{ShowsHeaviest, greatest_level}
 use Rattle.chain_cert.specs.Finding.{IsAccepted}
 use Rattle.chain_cert.specs.Weights.{class_weights}
 use Rattle.chain_cert.specs.declared.certificate.Certificate.{Certificate}
@@ -56,10 +55,3 @@ module _ (s : Settings) (P : Plan) (G : Data) (by : RanBy) (outcome : Outcome) (
       let there : IsCertificate P G (class_weights P G) c = subst (λ w. IsCertificate P G w c) weights (subst (λ (Q : Plan). IsCertificate Q G ws c) h.plan here) in
       let found = found_of_run s P G by outcome h (λ o. certified ws o c) f is in
       (c, there, found ∙ ap (λ w. verdicts.Ran P (certified w (answer P G) c)) weights)
-
--- the greatest level is the weight of the chain
-pub chain_found : (P : Plan) (ws : List ℕ) (o : Outcome) (tasks : ℕ) (final : Data) (chain : List Task) (levels : List (Task × ℕ)) (weight : ℕ) → o ≡ Complete tasks final → weight ≡ greatest_level levels → ShowsHeaviest P ws chain levels
-    → findings.Chain (record { tasks = tasks; weight = weight; chain = chain; levels = levels }) ≡ certified ws o (certificate.Chain chain levels)
-chain_found P ws o tasks final chain levels weight e is shows =
-    ap (λ (w : ℕ). findings.Chain (record { tasks = tasks; weight = w; chain = chain; levels = levels })) (is ∙ sym shows.heaviest)
-    ∙ sym (ap (λ (x : Outcome). certified ws x (certificate.Chain chain levels)) e)

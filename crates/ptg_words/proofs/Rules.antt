@@ -1,5 +1,5 @@
 -- The rules hold or fail by what the parts of the words are.
-use Rattle.std.proofs.Common.{◌≡◌, ℕ, Bool, true, false, not, ◌&&◌, ◌||◌, List, [], ◌∷◌, ◌++◌, ◌+◌, take, length, get_or, Some, refl, sym, ap, ◌∙◌, subst, inl, inr, arith, ◌<◌, ◌≤◌}
+use Rattle.std.proofs.Common.{◌≡◌, ℕ, Bool, true, false, not, ◌&&◌, List, [], ◌∷◌, ◌++◌, ◌+◌, take, length, get_or, Some, refl, sym, ap, ◌∙◌, subst, inl, inr, arith, ◌<◌, ◌≤◌}
 use Rattle.std.specs.Prelude.{◌==◌, ◌⊎◌, drop, option_map, nat_le}
 use Rattle.std.specs.List.{All, list_any, list_all, slice_index_or}
 use Rattle.std.specs.Option.{option_map_or}
@@ -111,13 +111,6 @@ module _ (v : Verb) (ws : List (List ℕ)) (of : IsOf v ws) where
   pub refused : (is_read (operand_count v) rest_of ≡ false) ⊎ (has_bad_count rest_of ≡ true) → IsUsage ws
   refused (inl h) = breaks_rule ws v rest_of of.reads h
   refused (inr h) = breaks_number ws v rest_of of.reads (rw h refl)
-
-  pub no_number : has_bad_operand (operands_of v) (operands rest_of) ≡ true → IsUsage ws
-  no_number h = breaks_number ws v rest_of of.reads (or_true (has_bad_count rest_of) _ h)
-    where
-      or_true : (a b : Bool) → b ≡ true → (a || b) ≡ true
-      or_true true b e = refl
-      or_true false b e = e
 
 -- proper words whose first is the word of a verb
 pub begins : (word : List ℕ) (v : Verb) (w : List ℕ) (ws : List (List ℕ)) → All IsProper (w ∷ ws) → w ≡ word → verb_of word ≡ Some v → IsOf v (w ∷ ws)

@@ -1,6 +1,6 @@
 -- How counts go on from one part of a walk to the next.
 use Rattle.std.proofs.Common.{◌≡◌, ℕ, suc, ◌+◌, ◌<◌, ◌≤◌, ◌⊎◌, inl, inr, ℤ, List, [], ◌∷◌, ◌++◌, length, refl, ap, sym, ◌∙◌, append_assoc, add-zero, Result, Ok, Err, length-append, arith}
-use Rattle.std.proofs.lemmas.List.{append-nil, length-map}
+use Rattle.std.proofs.lemmas.List.{length-map}
 use Rattle.std.proofs.lemmas.Bool.{cases_lt}
 use Rattle.term_core.specs.declared.space.Def.{Def}
 use Rattle.term_core.specs.declared.space.ClassSpace.{ClassSpace}
@@ -154,9 +154,6 @@ module _ (t p t' p' class : ℕ) (ds : List Def) (outer all left : List ℤ) (v 
       split = left-apart;
       walked = walked_more _ _ t'' p'' _ _ (w.done ++ Prefix class ∷ []) (walk class ds (outer ++ v ∷ [])) (walked_more _ _ t' p' _ _ w.done (Prefix class ∷ []) w.walked one) u;
     }
-
-pub walked_whole : (t p t' p' class : ℕ) (ds : List Def) (outer all : List ℤ) → IsSoFar t p t' p' class ds outer all [] → IsWalked t p t' p' (walk_among class ds outer all)
-walked_whole t p t' p' class ds outer all w = rw (w.split ∙ append-nil w.done) w.walked
 
 -- under the last definition of a class the walk visits a prefix and a task for each value
 all_values : (class : ℕ) (vs : List ℤ) → AllHaveValues (walk_among class [] [] vs)

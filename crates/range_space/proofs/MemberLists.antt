@@ -200,8 +200,3 @@ arity_of_task s vs t =
 pub decided_by : {P Q R : Type 0} (b : Bool) → OnTrue b P → OnFalse b Q → (P → R) → (Q → R → ⊥) → (IsTrue b → R) × (R → IsTrue b)
 decided_by true p q f g = (λ t. f p, λ r. refl)
 decided_by false p q f g = (λ t. absurd (false≢true t), λ r. absurd (g q r))
-
--- the first holds where the second is excluded
-pub true_by : {P Q R : Type 0} (b : Bool) → OnTrue b P → OnFalse b Q → (Q → R → ⊥) → R → P
-true_by true p q g r = p
-true_by false p q g r = absurd (g q r)

@@ -1,6 +1,6 @@
 -- How the full lists of an iteration space go on from one to the next.
 use Rattle.std.proofs.Common.{◌≡◌, ℕ, suc, ◌+◌, ◌<◌, ℤ, pos, ◌+ℤ◌, Bool, true, false, List, [], ◌∷◌, ◌++◌, length, take, drop, get_or, refl, ap, sym, ◌∙◌, append_assoc, add-one, Option, Some, None, Result, Ok, Err, MatchOption, arith}
-use Rattle.std.proofs.lemmas.List.{take_more}
+use Rattle.std.proofs.lemmas.List.{append-nil, take_more}
 use Rattle.std.specs.Bool.{OnTrue, OnFalse}
 use Rattle.std.proofs.lemmas.Int.{ints}
 use Rattle.std.proofs.Math.Seq.{drop-cons}
@@ -9,9 +9,11 @@ use Rattle.term_core.specs.declared.space.Def.{Def}
 use Rattle.term_core.specs.declared.space.Def.TheVariants.{Span, Value}
 use Rattle.range_space.specs.declared.fault.SpanFault.{SpanFault}
 use Rattle.range_space.specs.Values.{is_within, values}
-use Rattle.range_space.specs.Fault.{Bounds, number}
+use Rattle.term_core.specs.declared.expr.Expr.{Expr}
+use Rattle.term_core.specs.declared.space.Range.{Range}
+use Rattle.range_space.specs.Fault.{Bounds, bounds, number}
 use Rattle.range_space.specs.Tasks.{full_lists, def_values, or_empty}
-use Rattle.range_space.specs.ListsAfter.{def_bounds, lists_over, lists_over_rest, lists_after, IsFirstOf, IsFirstOver}
+use Rattle.range_space.specs.ListsAfter.{def_bounds, lists_over, lists_over_rest, lists_past, lists_after, IsFirstOf, IsFirstOver, IsFirstPast}
 use Rattle.range_space.proofs.Stepping.{values_in, values_past, by_test}
 
 -- what follows from a fact of one answer
@@ -72,23 +74,36 @@ pub popped : {A : Type 0} (r : Option A) (xs ys : List A) (v : A) → MatchOptio
 popped None xs ys v h = absurd (not_empty xs v h.0)
 popped (Some w) xs ys v h = (unsnoc xs ys v w h).0
 
-module _ (d : Def) (ds : List Def) (outer now : List ℤ) (b : Bounds) (e : def_bounds d outer ≡ Ok b) where
-  full-among : full_lists (d ∷ ds) outer ≡ lists_over ds outer (values b.lo b.hi b.step)
-  full-among = ap (λ r. lists_over ds outer (or_empty r)) (def_values-bounds d outer b e)
+module _ (r : Range) (ds : List Def) (outer now : List ℤ) (b : Bounds) (e : bounds r outer ≡ Ok b) where
+  full-among : full_lists (Span r ∷ ds) outer ≡ lists_over ds outer (values b.lo b.hi b.step)
+  full-among = ap (λ x. lists_over ds outer (or_empty x)) (def_values-bounds (Span r) outer b e)
 
-  pub first_of_among : IsFirstOver (Ok b) ds outer now (lists_over ds outer (values b.lo b.hi b.step)) → IsFirstOf (d ∷ ds) outer now (full_lists (d ∷ ds) outer)
+  pub first_of_among : IsFirstOver (Ok b) ds outer now (lists_over ds outer (values b.lo b.hi b.step)) → IsFirstOf (Span r ∷ ds) outer now (full_lists (Span r ∷ ds) outer)
   first_of_among s = record {
     locals = s.value ∷ s.locals;
     extends = s.extends;
     one_each = ap suc s.one_each;
-    first = full-among ∙ s.first ∙ ap (λ r. now ∷ lists_after ds (outer ++ s.value ∷ []) s.locals ++ lists_over_rest ds outer r s.value) (sym e);
+    first = full-among ∙ s.first ∙ ap (λ x. now ∷ lists_after ds (outer ++ s.value ∷ []) s.locals ++ lists_over_rest ds outer x s.value) (sym e);
   }
 
-  pub none_of_among : lists_over ds outer (values b.lo b.hi b.step) ≡ [] → full_lists (d ∷ ds) outer ≡ []
+  pub none_of_among : lists_over ds outer (values b.lo b.hi b.step) ≡ [] → full_lists (Span r ∷ ds) outer ≡ []
   none_of_among h = full-among ∙ h
 
-pub none_of_fault : (d : Def) (ds : List Def) (outer : List ℤ) (f : SpanFault) → def_bounds d outer ≡ Err f → full_lists (d ∷ ds) outer ≡ []
-none_of_fault d ds outer f e = ap (λ r. lists_over ds outer (or_empty r)) (def_values-fault d outer f e)
+-- an expression has one value
+module _ (t : Expr) (ds : List Def) (outer now : List ℤ) (z : ℤ) (e : number t outer ≡ Ok z) where
+  full-with : full_lists (Value t ∷ ds) outer ≡ full_lists ds (outer ++ z ∷ [])
+  full-with = ap (λ x. lists_over ds outer (or_empty (and_then x (λ y. Ok (y ∷ []))))) e ∙ append-nil (full_lists ds (outer ++ z ∷ []))
+
+  pub first_of_value : IsFirstOf ds (outer ++ z ∷ []) now (full_lists ds (outer ++ z ∷ [])) → IsFirstOf (Value t ∷ ds) outer now (full_lists (Value t ∷ ds) outer)
+  first_of_value s = record {
+    locals = z ∷ s.locals;
+    extends = s.extends ∙ append_assoc outer (z ∷ []) s.locals;
+    one_each = ap suc s.one_each;
+    first = full-with ∙ s.first ∙ ap (λ l. now ∷ l) (sym (append-nil (lists_after ds (outer ++ z ∷ []) s.locals)));
+  }
+
+  pub none_of_value : full_lists ds (outer ++ z ∷ []) ≡ [] → full_lists (Value t ∷ ds) outer ≡ []
+  none_of_value h = full-with ∙ h
 
 module _ (ds : List Def) (outer : List ℤ) (b : Bounds) (at v : ℤ) (vs more : List ℤ)
     (so_far : lists_over ds outer (values b.lo b.hi b.step) ≡ lists_over ds outer vs)
@@ -122,30 +137,40 @@ pub record IsCut (old : List ℤ) (depth : ℕ) (v : ℤ) : Type 0 where
 pub cut : (old : List ℤ) (depth : ℕ) → depth < length old → IsCut old depth (get_or old depth (pos 0))
 cut old depth h = record { before = take_more old depth (pos 0) h; from = rw (add-one) (drop-cons old depth (pos 0) h) }
 
+-- what is the first list with another value is the first list
+first_past : (d : Def) (ds : List Def) (outer now : List ℤ) (v : ℤ) → IsFirstPast d ds outer now (lists_past d ds outer v) → IsFirstOf (d ∷ ds) outer now (lists_past d ds outer v)
+first_past (Span r) ds outer now v s = record {
+  locals = s.value ∷ s.locals;
+  extends = s.extends;
+  one_each = ap suc s.one_each;
+  first = s.first;
+}
+first_past (Value t) ds outer now v s = absurd s
+
 module _ (d : Def) (ds : List Def) (old : List ℤ) (depth : ℕ) (v : ℤ) (c : IsCut old depth v) where
-  rest-cut : lists_after (d ∷ ds) (take depth old) (drop depth old) ≡ lists_after ds (take (depth + 1) old) (drop (depth + 1) old) ++ lists_over_rest ds (take depth old) (def_bounds d (take depth old)) v
+  rest-cut : lists_after (d ∷ ds) (take depth old) (drop depth old) ≡ lists_after ds (take (depth + 1) old) (drop (depth + 1) old) ++ lists_past d ds (take depth old) v
   rest-cut =
-      ap (lists_after (d ∷ ds) (take depth old)) c.from ∙ ap (λ t. lists_after ds t (drop (depth + 1) old) ++ lists_over_rest ds (take depth old) (def_bounds d (take depth old)) v) (sym c.before)
+      ap (lists_after (d ∷ ds) (take depth old)) c.from ∙ ap (λ t. lists_after ds t (drop (depth + 1) old) ++ lists_past d ds (take depth old) v) (sym c.before)
 
   pub found_deeper : (now : List ℤ) → IsFirstOf ds (take (depth + 1) old) now (lists_after ds (take (depth + 1) old) (drop (depth + 1) old)) → IsFirstOf (d ∷ ds) (take depth old) now (lists_after (d ∷ ds) (take depth old) (drop depth old))
   found_deeper now s = record {
     locals = v ∷ s.locals;
     extends = s.extends ∙ ap (λ t. t ++ s.locals) c.before ∙ append_assoc (take depth old) (v ∷ []) s.locals;
     one_each = ap suc s.one_each;
-    first = rest-cut ∙ ap (λ l. l ++ lists_over_rest ds (take depth old) (def_bounds d (take depth old)) v) s.first ∙ ap (λ t. now ∷ lists_after ds t s.locals ++ lists_over_rest ds (take depth old) (def_bounds d (take depth old)) v) c.before;
+    first = rest-cut ∙ ap (λ l. l ++ lists_past d ds (take depth old) v) s.first ∙ ap (λ t. now ∷ lists_after ds t s.locals ++ lists_past d ds (take depth old) v) c.before;
   }
 
   module _ (none : lists_after ds (take (depth + 1) old) (drop (depth + 1) old) ≡ []) where
-    rest-past : lists_after (d ∷ ds) (take depth old) (drop depth old) ≡ lists_over_rest ds (take depth old) (def_bounds d (take depth old)) v
-    rest-past = rest-cut ∙ ap (λ l. l ++ lists_over_rest ds (take depth old) (def_bounds d (take depth old)) v) none
+    rest-past : lists_after (d ∷ ds) (take depth old) (drop depth old) ≡ lists_past d ds (take depth old) v
+    rest-past = rest-cut ∙ ap (λ l. l ++ lists_past d ds (take depth old) v) none
 
-    pub found_past : (now : List ℤ) → IsFirstOver (def_bounds d (take depth old)) ds (take depth old) now (lists_over_rest ds (take depth old) (def_bounds d (take depth old)) v) → IsFirstOf (d ∷ ds) (take depth old) now (lists_after (d ∷ ds) (take depth old) (drop depth old))
-    found_past now s = record {
-      locals = s.value ∷ s.locals;
-      extends = s.extends;
-      one_each = ap suc s.one_each;
-      first = rest-past ∙ s.first;
+    pub found_past : (now : List ℤ) → IsFirstPast d ds (take depth old) now (lists_past d ds (take depth old) v) → IsFirstOf (d ∷ ds) (take depth old) now (lists_after (d ∷ ds) (take depth old) (drop depth old))
+    found_past now s = let p = first_past d ds (take depth old) now v s in record {
+      locals = p.locals;
+      extends = p.extends;
+      one_each = p.one_each;
+      first = rest-past ∙ p.first;
     }
 
-    pub none_past : lists_over_rest ds (take depth old) (def_bounds d (take depth old)) v ≡ [] → lists_after (d ∷ ds) (take depth old) (drop depth old) ≡ []
+    pub none_past : lists_past d ds (take depth old) v ≡ [] → lists_after (d ∷ ds) (take depth old) (drop depth old) ≡ []
     none_past h = rest-past ∙ h

@@ -3,7 +3,7 @@ pub mod Fault
 pub mod Tasks
 pub mod Locals
 pub mod ListsAfter
-pub mod RemainingTasks
+pub mod RemainingLocals
 pub mod Completion
 pub mod Sound
 pub mod Walk

@@ -23,11 +23,16 @@ abbrev pub lists_over_rest : List Def → List ℤ → Result Bounds SpanFault �
 lists_over_rest ds outer (Ok b) v = lists_over ds outer (values (v +ℤ b.step) b.hi b.step)
 lists_over_rest ds outer (Err e) v = []
 
+-- those that extend it by another value of the definition, after v: an expression has one value
+abbrev pub lists_past : Def → List Def → List ℤ → ℤ → List (List ℤ)
+lists_past (Span r) ds outer v = lists_over_rest ds outer (bounds r outer) v
+lists_past (Value e) ds outer v = []
+
 -- the full lists that extend `outer` and come after the one that extends it by these locals
 abbrev pub lists_after : List Def → List ℤ → List ℤ → List (List ℤ)
 lists_after [] outer locals = []
 lists_after (d ∷ ds) outer [] = []
-lists_after (d ∷ ds) outer (v ∷ locals) = lists_after ds (outer ++ v ∷ []) locals ++ lists_over_rest ds outer (def_bounds d outer) v
+lists_after (d ∷ ds) outer (v ∷ locals) = lists_after ds (outer ++ v ∷ []) locals ++ lists_past d ds outer v
 
 -- `now` extends `outer` by one value for each definition and is the first of the lists; the others are those after it
 pub record IsFirstOf (ds : List Def) (outer now : List ℤ) (lists : List (List ℤ)) : Type 0 where
@@ -36,10 +41,15 @@ pub record IsFirstOf (ds : List Def) (outer now : List ℤ) (lists : List (List 
   pub one_each : length locals ≡ length ds
   pub first : lists ≡ now ∷ lists_after ds outer locals
 
--- the same, where the first definition has these bounds
+-- the same, where the first definition is a range with these bounds
 pub record IsFirstOver (bounds : Result Bounds SpanFault) (ds : List Def) (outer now : List ℤ) (lists : List (List ℤ)) : Type 0 where
   pub value : ℤ
   pub locals : List ℤ
   pub extends : now ≡ outer ++ value ∷ locals
   pub one_each : length locals ≡ length ds
   pub first : lists ≡ now ∷ lists_after ds (outer ++ value ∷ []) locals ++ lists_over_rest ds outer bounds value
+
+-- the same, where the first value is another one of this definition
+abbrev pub IsFirstPast : Def → List Def → List ℤ → List ℤ → List (List ℤ) → Type 0
+IsFirstPast (Span r) ds outer now lists = IsFirstOver (bounds r outer) ds outer now lists
+IsFirstPast (Value e) ds outer now lists = ⊥

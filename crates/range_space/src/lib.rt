@@ -1,6 +1,7 @@
 //! The values of ranges, and the tasks of a class: which they are, their order, and how many there are.
 #![tactic(auto)]
 
+mod all_locals;
 mod fault;
 mod laws;
 mod member;
@@ -10,16 +11,15 @@ mod steps;
 mod tasks;
 mod values;
 mod walk;
-mod well;
 
+pub use all_locals::AllLocals;
 pub use fault::{SpaceFault, SpanFault};
 pub use laws::{
     a_task_has_one_list_of_locals, one_first_fault, tasks_are_distinct, values_are_a_progression,
 };
-pub use member::{in_space, locals_of};
+pub use member::{find_locals, in_space, locals_of};
 pub use numbers::Numbers;
 pub use size::space_size;
 pub use steps::{Steps, steps_of};
-pub use tasks::Space;
+pub use tasks::{Space, params_at};
 pub use values::Values;
-pub use well::is_well_space;

@@ -1,6 +1,6 @@
 //! Whether a class has a task, and its locals.
 
-ghost use Rattle.std.specs.Prelude.{◌≡◌, ◌+◌, ◌≤◌, ◌↔◌, ℤ, List, [], ◌∷◌, Some, None, Ok, length, IsTrue};
+ghost use Rattle.std.specs.Prelude.{◌≡◌, ◌+◌, ◌≤◌, ◌↔◌, ℤ, List, [], ◌∷◌, Some, None, Ok, length, IsTrue, MatchOption};
 ghost use Rattle.std.specs.Bool.{OnTrue, OnFalse};
 ghost use Rattle.ptg_base.specs.Lists.{IsIn};
 ghost use Rattle.term_core.specs.WellSpace.{IsWellSpace, spans_are_params};
@@ -135,6 +135,21 @@ pub fn in_space(space: &ClassSpace, params: &[i64]) -> bool
         params,
         &mut locals,
     )
+}
+
+/// The locals of the task with these parameters, or None where the class has no such task. Takes one pass over the definitions.
+pub fn find_locals(space: &ClassSpace, params: &[i64]) -> Option<Numbers<16>>
+    requires well { IsWellSpace space.now }
+    requires arity { length params.now ≡ length space.now.params }
+    ensures { MatchOption result (IsIn params.now (tasks space.now) → ⊥) (λ locals. IsIn params.now (tasks space.now) × IsLocalsOf space.now params.now locals) }
+{
+    let mut locals = Numbers::new();
+    let defs = space.defs.as_slice();
+    if complete(defs, space.params.as_slice(), params, &mut locals) {
+        Some(locals)
+    } else {
+        None
+    }
 }
 
 /// The locals of the task with these parameters. No range is evaluated, since the values of the parameters are known to be its own.

@@ -4,8 +4,8 @@ ghost use Rattle.std.specs.Prelude.{◌≡◌, ◌≤◌, length};
 ghost use Rattle.std.specs.Iterator.{YieldsFirst, item_count};
 ghost use Rattle.range_space.specs.Tasks.{params_of, tasks};
 
+use crate::all_locals::AllLocals;
 use crate::numbers::Numbers;
-use crate::walk::{advance, first};
 use std::marker::Model;
 use term_core::{ClassSpace, local};
 
@@ -14,23 +14,20 @@ use term_core::{ClassSpace, local};
 #[derive(Drop)]
 pub struct Space<'a> {
     space: &'a ClassSpace,
-    locals: Numbers<16>,
-    live: bool,
+    lists: AllLocals<'a>,
 }
 
 impl<'a> Model for Space<'a> {
-    ghost use Rattle.std.specs.Prelude.{◌≡◌, ◌≤◌, true, List, ℤ, length};
-    ghost use Rattle.range_space.specs.RemainingTasks.{remaining_tasks};
+    ghost use Rattle.std.specs.Prelude.{List, ℤ, map};
+    ghost use Rattle.range_space.specs.Tasks.{params_of};
 
     ghost Value = { List (List ℤ) };
 
-    ghost view = { λ s. remaining_tasks s.live s.space.now s.locals };
-
-    ghost invariant = { λ s. (length s.space.now.defs ≤ 16) × (s.live ≡ true → length s.locals ≡ length s.space.now.defs) };
+    ghost view = { λ s. map (params_of s.space.now.params) s.lists };
 }
 
-// The values of the parameters among these locals.
-pub(crate) fn params_at(space: &ClassSpace, locals: &[i64]) -> Numbers<8>
+/// The values of the parameters of a class among the locals of a task.
+pub fn params_at(space: &ClassSpace, locals: &[i64]) -> Numbers<8>
     ensures { result ≡ params_of space.now.params locals.now }
 {
     let mut params = Numbers::new();
@@ -46,12 +43,9 @@ impl<'a> Space<'a> {
         requires { length space.now.defs ≤ 16 }
         ensures { result ≡ tasks space.now }
     {
-        let mut locals = Numbers::new();
-        let live = first(space.defs.as_slice(), &mut locals);
         Space {
             space,
-            locals,
-            live,
+            lists: AllLocals::new(space),
         }
     }
 }
@@ -65,11 +59,7 @@ impl Iterator for Space<'_> {
 
     /// The parameters of the next task in walk order, and then None.
     fn next(&mut self) -> Option<Numbers<8>> {
-        if !self.live {
-            return None;
-        }
-        let params = params_at(self.space, self.locals.as_slice());
-        self.live = advance(self.space.defs.as_slice(), 0, &mut self.locals);
-        Some(params)
+        let locals = self.lists.next()?;
+        Some(params_at(self.space, locals.as_slice()))
     }
 }

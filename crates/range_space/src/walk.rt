@@ -1,15 +1,16 @@
 //! From one list of locals to the next in walk order.
 
-ghost use Rattle.std.specs.Prelude.{◌≡◌, ◌+◌, ◌<◌, ◌≤◌, pos, [], ◌∷◌, ◌++◌, length, take, drop, Ok, Err, IfOk, IfErr};
+ghost use Rattle.std.specs.Prelude.{◌≡◌, ◌+◌, ◌<◌, ◌≤◌, [], ◌∷◌, ◌++◌, length, take, drop, Ok, Err, IfOk, IfErr};
 ghost use Rattle.std.specs.Bool.{OnTrue, OnFalse};
 ghost use Rattle.range_space.specs.Values.{values};
 ghost use Rattle.range_space.specs.Tasks.{full_lists};
-ghost use Rattle.range_space.specs.ListsAfter.{def_bounds, lists_over, lists_over_rest, lists_after, IsFirstOf, IsFirstOver};
+ghost use Rattle.range_space.specs.Fault.{bounds};
+ghost use Rattle.range_space.specs.ListsAfter.{def_bounds, lists_over, lists_over_rest, lists_past, lists_after, IsFirstOf, IsFirstOver, IsFirstPast};
 
 use crate::fault::SpanFault;
 use crate::numbers::Numbers;
 use crate::steps::{Steps, number, steps_of};
-use term_core::Def;
+use term_core::{Def, Range};
 
 // The progression of a definition under the values of those before it; an expression has one value.
 pub(crate) fn def_steps(def: &Def, env: &[i64]) -> Result<Steps, SpanFault>
@@ -40,10 +41,36 @@ pub(crate) fn first(defs: &[Def], locals: &mut Numbers<16>) -> bool
     let Some((def, inner)) = defs.split_first() else {
         return true;
     };
-    let Ok(steps) = def_steps(def, locals.as_slice()) else {
-        return false;
-    };
-    first_among(&steps, inner, locals)
+    match def {
+        Def::Span(range) => {
+            let Ok(steps) = steps_of(range, locals.as_slice()) else {
+                return false;
+            };
+            first_among(&steps, inner, locals)
+        }
+        Def::Value(e) => {
+            let Ok(z) = number(e, locals.as_slice()) else {
+                return false;
+            };
+            first_with(z, inner, locals)
+        }
+    }
+}
+
+// Extends these locals to the first full list whose next value is this one, if there is one.
+#[cycle(nesting)]
+fn first_with(v: i64, inner: &[Def], locals: &mut Numbers<16>) -> bool
+    requires { length locals.old + length inner.now < 16 }
+    ensures found { OnTrue result (IsFirstOf inner.now (locals.old ++ v ∷ []) locals.new (full_lists inner.now (locals.old ++ v ∷ []))) }
+    ensures none { OnFalse result (full_lists inner.now (locals.old ++ v ∷ []) ≡ []) }
+    ensures same { OnFalse result (locals.new ≡ locals.old) }
+{
+    locals.push(v);
+    if first(inner, locals) {
+        return true;
+    }
+    let _ = locals.pop();
+    false
 }
 
 // Extends these locals to the first full list whose next value is one of these, if there is one.
@@ -55,23 +82,21 @@ fn first_among(steps: &Steps, inner: &[Def], locals: &mut Numbers<16>) -> bool
     ensures same { OnFalse result (locals.new ≡ locals.old) }
 {
     for v in steps.values() {
-        locals.push(v);
-        if first(inner, locals) {
+        if first_with(v, inner, locals) {
             return true;
         }
-        let _ = locals.pop();
     }
     false
 }
 
-// Extends these locals to the first full list whose next value comes after `v`, if there is one.
-fn first_past(def: &Def, v: i64, inner: &[Def], locals: &mut Numbers<16>) -> bool
+// Extends these locals to the first full list whose next value is one of this range after `v`, if there is one.
+fn first_in_range_past(range: &Range, v: i64, inner: &[Def], locals: &mut Numbers<16>) -> bool
     requires { length locals.old + length inner.now < 16 }
-    ensures found { OnTrue result (IsFirstOver (def_bounds def.now locals.old) inner.now locals.old locals.new (lists_over_rest inner.now locals.old (def_bounds def.now locals.old) v)) }
-    ensures none { OnFalse result (lists_over_rest inner.now locals.old (def_bounds def.now locals.old) v ≡ []) }
+    ensures found { OnTrue result (IsFirstOver (bounds range.now locals.old) inner.now locals.old locals.new (lists_over_rest inner.now locals.old (bounds range.now locals.old) v)) }
+    ensures none { OnFalse result (lists_over_rest inner.now locals.old (bounds range.now locals.old) v ≡ []) }
     ensures same { OnFalse result (locals.new ≡ locals.old) }
 {
-    let Ok(steps) = def_steps(def, locals.as_slice()) else {
+    let Ok(steps) = steps_of(range, locals.as_slice()) else {
         return false;
     };
     match v.checked_add(steps.step) {
@@ -84,6 +109,20 @@ fn first_past(def: &Def, v: i64, inner: &[Def], locals: &mut Numbers<16>) -> boo
             first_among(&rest, inner, locals)
         }
         None => false,
+    }
+}
+
+// Extends these locals to the first full list whose next value is another one of this definition, after `v`, if there is one. An
+// expression has no other, and is not evaluated.
+fn first_past(def: &Def, v: i64, inner: &[Def], locals: &mut Numbers<16>) -> bool
+    requires { length locals.old + length inner.now < 16 }
+    ensures found { OnTrue result (IsFirstPast def.now inner.now locals.old locals.new (lists_past def.now inner.now locals.old v)) }
+    ensures none { OnFalse result (lists_past def.now inner.now locals.old v ≡ []) }
+    ensures same { OnFalse result (locals.new ≡ locals.old) }
+{
+    match def {
+        Def::Span(range) => first_in_range_past(range, v, inner, locals),
+        Def::Value(_) => false,
     }
 }
 

@@ -82,10 +82,6 @@ module _ (P : Plan) (G : Data) (con : IsConsistent P) (r : ℕ) (w : WorldState)
   among : IsIn m w.messages
   among = member_at w.messages n m is
 
-  -- the delivery of a message whose edge stands changes nothing
-  pub stood : stands w.machine m ≡ true → after_delivery w n ≡ w
-  stood k = λ j. record { machine = (ap (λ o. option_map_or (with_message w.machine) o w.machine) is ∙ ap (λ b. cond b w.machine (record { claims = w.machine.claims; sends = w.machine.sends ++ record { item = item.Edge m.edge; tile = m.tile } ∷ [] })) k) j; messages = w.messages }
-
   module _ (new : stands w.machine m ≡ false) where
     pub may : MaySend P G w.machine (item.Edge m.edge)
     may = message_may P G con r w sound m among new

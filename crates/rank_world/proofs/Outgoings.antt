@@ -100,9 +100,6 @@ module _ (v : Visit) (h : IsVisit v) where
           within = omega (arith, a.within, l.within, ap length (within_more ∙ ap (λ b. within_among v l.done ++ cond (not b) (e ∷ []) []) k), length-append (within_among v l.done) (e ∷ []));
         })
 
-  pub outgoing_first : (whole : List Edge) (o : Outgoing) → o.messages.items ≡ [] → o.within ≡ 0 → OutgoingSoFar v whole whole o
-  outgoing_first whole o none zero_within = record { done = []; split = refl; blank = subst (AreBlank (plan_of v) []) (sym none) tt; within = zero_within }
-
   outgoing_all : (whole : List Edge) → whole ≡ out_edges (plan_of v) v.task.now → (o : Outgoing) (l : OutgoingSoFar v whole [] o) → l.done ≡ out_edges (plan_of v) v.task.now
   outgoing_all whole are o l = sym (append-nil l.done) ∙ sym l.split ∙ are
 

@@ -41,11 +41,6 @@ use Rattle.rank_world.specs.Sending.{MayTakeEdge, MayTakeWrite, TakesEdge, Takes
 use Rattle.rank_world.specs.Visits.{HoldsAt, IsVisit, after, before, data_of, its_writes, part_way, plan_of}
 use Rattle.rank_world.proofs.Delivering.{may_take_edge}
 
--- events are determined by where they lead from, and the last of them is possible after the others
-happen-same : (P : Plan) (G : Data) (es : List Event) (S T U : MachineState) → Happen P G es S T → Happen P G es S U → T ≡ U
-happen-same P G [] S T U h k = sym h ∙ k
-happen-same P G (e ∷ es) S T U h k = happen-same P G es (state_after P G S e) T U h.1 k.1
-
 happen-last : (P : Plan) (G : Data) (es : List Event) (e : Event) (S T U : MachineState) → Happen P G (es ++ e ∷ []) S U → Happen P G es S T → IsPossible P G T e
 happen-last P G [] e S T U h k = subst (λ V. IsPossible P G V e) k h.0
 happen-last P G (x ∷ es) e S T U h k = happen-last P G es e (state_after P G S x) T U h.1 k.1

@@ -16,11 +16,10 @@ use crate::placing::rank_at;
 use crate::visit::Visit;
 use dep_iter::{Matched, flows_of, out_edges_under, write_backs_under};
 use dep_shard::Shard;
-use plan_core::{FlowPlan, Plan};
+use plan_core::{FlowPlan, Plan, is_data};
 use ptg_base::{Edge, OutOfMemory, TaskId, Tile};
 use rank_core::Message;
 use std::alloc::Global;
-use term_core::FlowKind;
 
 // What a task will send: the messages to other ranks, whose tiles are still blank, and how many edges stay within its
 // rank.
@@ -37,18 +36,6 @@ fn one_more(count: u64) -> Result<u64, OutOfMemory>
     match count.checked_add(1) {
         Some(more) => Ok(more),
         None => Err(OutOfMemory),
-    }
-}
-
-// Whether flows of this kind carry tiles.
-fn is_data(kind: FlowKind) -> bool
-    ensures { result ≡ kinds.is_data (Some kind) }
-{
-    match kind {
-        FlowKind::Read => true,
-        FlowKind::Write => true,
-        FlowKind::Rw => true,
-        FlowKind::Ctl => false,
     }
 }
 

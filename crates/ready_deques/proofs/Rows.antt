@@ -2,7 +2,7 @@
 use Rattle.std.proofs.Common.{◌≡◌, ◌≢◌, ℕ, zero, suc, ◌+◌, ◌-◌, ◌<◌, ◌≤◌, List, [], ◌∷◌, ◌++◌, length, map, set, get_or, take, drop, replicate, Some, All, sym, refl, ap, subst, ◌∙◌, arith, add-one}
 use Rattle.std.proofs.lemmas.List.{length-set, map-set, set-set}
 use Rattle.std.proofs.lemmas.List.Elements.{All-head, All-tail, All-nil, All-cons, All-append, All-get_or}
-use Rattle.std.proofs.lemmas.Option.{get_or_from_slice_get, slice_get_within, slice_get-map}
+use Rattle.std.proofs.lemmas.Option.{slice_get-map}
 use Rattle.std.specs.Prelude.{slice_get, option_map}
 use Rattle.ready_deques.specs.Ends.{OthersHaveParts, Owner, Thief, less, new_thief, IsNew}
 use Rattle.ready_deques.specs.Hands.{Account, fresh}
@@ -17,10 +17,6 @@ module _ {X Y : Type 0} (f : X → Y) where
   -- one more is mapped
   pub mapped-more : (xs : List X) (k : ℕ) (d : X) → k < length xs → map f (take k xs) ++ f (get_or xs k d) ∷ [] ≡ map f (take (k + 1) xs)
   mapped-more xs k d within = subst (λ m. map f (take k xs) ++ f (get_or xs k d) ∷ [] ≡ map f (take m xs)) (sym (add-one k)) (grows xs k d within)
-
-  pub mapped-all : (xs : List X) → map f (take (length xs) xs) ≡ map f xs
-  mapped-all [] = refl
-  mapped-all (x ∷ xs) = ap (λ ys. f x ∷ ys) (mapped-all xs)
 
 module _ {X : Type 0} (f : X → X) where
   -- the first k elements are changed
@@ -41,16 +37,6 @@ module _ {X : Type 0} (f : X → X) where
   get_or-partly [] (suc k) d = refl
   get_or-partly (x ∷ xs) zero d = refl
   get_or-partly (x ∷ xs) (suc k) d = get_or-partly xs k d
-
-  pub partly-all : (xs : List X) → partly (length xs) xs ≡ map f xs
-  partly-all [] = refl
-  partly-all (x ∷ xs) = ap (λ ys. f x ∷ ys) (partly-all xs)
-
-  pub length-partly : (xs : List X) (k : ℕ) → length (partly k xs) ≡ length xs
-  length-partly [] zero = refl
-  length-partly [] (suc k) = refl
-  length-partly (x ∷ xs) zero = refl
-  length-partly (x ∷ xs) (suc k) = ap suc (length-partly xs k)
 
 abbrev pub IsUntaken : Thief → Type 0
 IsUntaken f = f.taken ≡ []
@@ -174,9 +160,6 @@ next xs n x rest e = let found = look xs n x rest e in record { within = found.0
     look (z ∷ ys) zero y others e' = (omega arith, ap Some (cc e'), cc e')
     look (z ∷ ys) (suc m) y others e' = let h = look ys m y others e' in (omega arith, h.1, h.2)
 
-pub all_at_next : {X : Type 0} (P : X → Type 0) (xs : List X) (n : ℕ) (x : X) → slice_get xs n ≡ Some x → All P xs → P x
-all_at_next P xs n x here all = subst P (get_or_from_slice_get xs n x x here) (All-get_or P xs n x (slice_get_within xs n x here) all)
-
 pub deques_of_row : (owners : List Owner) → map (λ (f : Thief). f.deque) (map new_thief owners) ≡ map (λ (b : Owner). b.deque) owners
 deques_of_row [] = refl
 deques_of_row (b ∷ owners) = ap (λ ds. b.deque ∷ ds) (deques_of_row owners)
@@ -210,9 +193,3 @@ given_away (b ∷ owners) given within all =
     let new = All-head (IsNew 0) b owners all in
     let whole = new.parts in
     All-cons (IsNew given) (less given b) (map (less given) owners) (record { parts = omega arith; pushed = new.pushed; taken = new.taken }) (given_away owners given within (All-tail (IsNew 0) b owners all))
-
-pub many_parts : (owners : List Owner) (n : ℕ) → n ≤ 64 → All (IsNew 0) owners → All (λ (b : Owner). n < b.parts) owners
-many_parts [] n within all = All-nil (λ (b : Owner). n < b.parts)
-many_parts (b ∷ owners) n within all =
-    let whole = (All-head (IsNew 0) b owners all).parts in
-    All-cons (λ (x : Owner). n < x.parts) b owners (omega arith) (many_parts owners n within (All-tail (IsNew 0) b owners all))

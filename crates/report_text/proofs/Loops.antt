@@ -1,9 +1,7 @@
 -- Loops that put the texts of the items of a list, one after another.
 use Rattle.std.specs.Prelude.{IsErr}
-use Rattle.std.proofs.Common.{◌≡◌, ℕ, ◌+◌, ◌<◌, ◌≤◌, List, [], ◌∷◌, ◌++◌, length, get_or, take, drop, flat_map, Option, Result, sym, ap, ◌∙◌, refl, zero-add}
+use Rattle.std.proofs.Common.{◌≡◌, ℕ, ◌+◌, ◌<◌, ◌≤◌, List, [], ◌∷◌, ◌++◌, length, get_or, take, drop, flat_map, Option, Result, sym, ap, ◌∙◌, refl}
 use Rattle.std.proofs.lemmas.List.{take_more, take_all, take-append-drop}
-use Rattle.std.specs.List.{enumerate_from}
-use Rattle.std.proofs.lemmas.List.FromFn.{get_or-enumerate_from}
 use Rattle.std.proofs.lemmas.List.Concat.{flat_map-append}
 use Rattle.ptg_io.specs.declared.files.Failed.{Failed}
 use Rattle.report_text.specs.Puts.{Puts}
@@ -44,7 +42,3 @@ bytes_cut xs i within so_far failed err =
 -- no more items
 pub loop_all : {S : Type 0} {bytes : S → Option (List ℕ)} {faults : S → ℕ} {s s1 : S} {k k1 : List ℕ} {X : Type 0} (f : X → List ℕ) (xs : List X) (i : ℕ) → length xs ≤ i → HasPut bytes faults s k s1 k1 (flat_map f (take i xs)) → HasPut bytes faults s k s1 k1 (flat_map f xs)
 loop_all f xs i end so_far = rw (take_all i xs end) at so_far
-
--- an item with its index
-pub indexed_item : {X : Type 0} (xs : List X) (i : ℕ) (x : X) → i < length xs → x ≡ get_or xs i x → (i, x) ≡ get_or (enumerate_from 0 xs) i (i, x)
-indexed_item xs i x within is = sym (get_or-enumerate_from 0 xs i (i, x) within ∙ ap (λ n. (n, get_or xs i x)) (zero-add i) ∙ ap (λ y. (i, y)) (sym is))

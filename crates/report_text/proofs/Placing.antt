@@ -9,11 +9,6 @@ use Rattle.std.proofs.lemmas.Slice.Zip.{get_or-zip, length-zip}
 use Rattle.std.specs.List.{range_with_len, zip}
 use Rattle.coll_data.specs.declared.coll.Coll.{Coll}
 use Rattle.coll_data.specs.Tiles.{tile_count}
-use Rattle.std.specs.Prelude.{All}
-use Rattle.std.specs.List.{AllByRecursion}
-use Rattle.std.proofs.lemmas.List.Elements.{All-from_recursion}
-use Rattle.coll_data.specs.Data.{Data}
-use Rattle.coll_data.specs.WellMade.{elements_by_type, IsWellColl, IsWellMade}
 use Rattle.report_text.specs.Places.{IsWhole, places, place_after}
 
 -- the places of a row
@@ -85,10 +80,3 @@ placed_tile coll n tile whole within is =
     sym (get_or-zip (places coll.shape.0 coll.shape.1) coll.tiles n (place, tile) listed within
     ∙ ap (λ p. (p, get_or coll.tiles n tile)) (place_at coll.shape.0 coll.shape.1 n place count)
     ∙ ap (λ t. (place, t)) (sym is))
-
--- all collections of data have a tile for each place
-pub whole_colls : (given : Data) → IsWellMade given → All IsWhole given.colls
-whole_colls given made = All-from_recursion IsWhole given.colls (each given.colls made.colls) where
-  each : (colls : List Coll) → AllByRecursion (IsWellColl (elements_by_type given)) colls → AllByRecursion IsWhole colls
-  each [] well = tt
-  each (coll ∷ colls) well = (record { has_tiles = well.0.has_tiles; all_tiles = well.0.all_tiles }, each colls well.1)

@@ -22,9 +22,6 @@ pub appended_nil : (old : Option (List ℕ)) → appended old [] ≡ old
 appended_nil None = refl
 appended_nil (Some bytes) = ap Some (append_nil bytes)
 
-pub precedes_itself : (a : Option (List ℕ)) → Precedes a a
-precedes_itself a = ([], appended_nil a)
-
 pub precedes_through : (a b c : Option (List ℕ)) → Precedes a b → Precedes b c → Precedes a c
 precedes_through a b c first then =
     (first.0 ++ then.0, sym (appended_twice a first.0 then.0) ∙ ap (λ w. appended w then.0) first.1 ∙ then.1)
@@ -43,16 +40,6 @@ HasPut bytes faults sink kept sink_after kept_after text = Puts {T = Unit {0}} {
 -- a call that failed while it put a text
 abbrev pub HasFailed : {S : Type 0} (bytes : S → Option (List ℕ)) (faults : S → ℕ) (failure : Failed) (sink : S) (kept : List ℕ) (sink_after : S) (kept_after : List ℕ) (text : List ℕ) → Type 0
 HasFailed bytes faults failure sink kept sink_after kept_after text = Puts {T = Unit {0}} {E = Failed} bytes faults (Err failure) sink kept sink_after kept_after text
-
--- before the first call nothing is put
-pub puts_nothing : {S : Type 0} (bytes : S → Option (List ℕ)) (faults : S → ℕ) (sink : S) (kept : List ℕ) → HasPut bytes faults sink kept sink kept []
-puts_nothing bytes faults sink kept = record {
-  ok = sym (appended_nil (appended (bytes sink) kept));
-  cut = tt;
-  onward = precedes_itself (bytes sink);
-  grows = omega arith;
-  failed = tt;
-}
 
 then_of : {S : Type 0} (bytes : S → Option (List ℕ)) (faults : S → ℕ) (s : S) (k : List ℕ) (s1 : S) (k1 : List ℕ) (s2 : S) (k2 : List ℕ) (t u : List ℕ) (result : Result (Unit {0}) Failed) → HasPut bytes faults s k s1 k1 t → Puts bytes faults result s1 k1 s2 k2 u → Puts bytes faults result s k s2 k2 (t ++ u)
 then_of bytes faults s k s1 k1 s2 k2 t u (Ok x) first then = record {
@@ -91,26 +78,6 @@ puts_cut {bytes = bytes} {faults} {s} {s1} {k} {k1} {k2} {t} u text {failure} {r
 -- the same text in another form
 pub puts_same : {S : Type 0} {bytes : S → Option (List ℕ)} {faults : S → ℕ} {s s1 : S} {k k1 t : List ℕ} (text : List ℕ) {result : Result (Unit {0}) Failed} → Puts bytes faults result s k s1 k1 t → text ≡ t → Puts bytes faults result s k s1 k1 text
 puts_same text put is = rw is put
-
--- bytes that are kept back are put
-pub puts_kept : {S : Type 0} {bytes : S → Option (List ℕ)} {faults : S → ℕ} {s s1 : S} {k k1 t : List ℕ} (u : List ℕ) → HasPut bytes faults s k s1 k1 t → HasPut bytes faults s k s1 (k1 ++ u) (t ++ u)
-puts_kept {bytes = bytes} {faults} {s} {s1} {k} {k1} {t} u put = record {
-  ok = sym (appended_twice (bytes s1) k1 u) ∙ ap (λ w. appended w u) put.ok ∙ appended_twice (appended (bytes s) k) t u;
-  cut = tt;
-  onward = put.onward;
-  grows = put.grows;
-  failed = tt;
-}
-
--- what is kept goes out
-pub puts_all : {S : Type 0} {bytes : S → Option (List ℕ)} {faults : S → ℕ} {s s1 : S} (k : List ℕ) → bytes s1 ≡ appended (bytes s) k → faults s ≤ faults s1 → HasPut bytes faults s k s1 [] []
-puts_all k out grew = record {
-  ok = ap (λ w. appended w []) out;
-  cut = tt;
-  onward = (k, sym out);
-  grows = grew;
-  failed = tt;
-}
 
 -- some of what is kept goes out, and then no more
 pub puts_some : {S : Type 0} {bytes : S → Option (List ℕ)} {faults : S → ℕ} {s s1 : S} {failure : Failed} (k k1 : List ℕ) (n : ℕ) → bytes s1 ≡ appended (bytes s) (take n k) → faults s ≤ faults s1 → Rose (faults s) (faults s1) → HasFailed bytes faults failure s k s1 k1 []

@@ -39,6 +39,18 @@ pub struct Order {
     pub failing_writes: Vec<u64>,
 }
 
+impl Order {
+    /// The bytes of the file of this name.
+    pub fn file(&self, name: &Text) -> Result<&[u8], Why> {
+        for file in self.files.as_slice() {
+            if file.name() == name.bytes() {
+                return Ok(file.bytes());
+            }
+        }
+        Err(Why("no file of this name"))
+    }
+}
+
 /// A text and an exit status.
 #[derive(Drop)]
 pub struct Printed {

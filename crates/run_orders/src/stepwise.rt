@@ -1,6 +1,6 @@
 //! A run of a job, step by step.
 
-ghost use Rattle.std.specs.Prelude.{◌≡◌, IsTrue};
+ghost use Rattle.std.specs.Prelude.{IsTrue};
 ghost use Rattle.ptg_base.specs.Lists.{IsIn};
 ghost use Rattle.ptg_base.specs.Task.{Task};
 ghost use Rattle.flow_core.specs.RunState.{IsRunning};
@@ -52,12 +52,6 @@ impl Model for Stepwise {
     ghost view = { λ s. s.run };
 
     ghost invariant = { λ s. DataFit s.job.colls s.job.elems s.given × Fits s.job s.given s.run × ((t : Task) → IsRunning s.run t → IsIn t s.tried.items) };
-}
-
-fn copy(t: &TaskId) -> TaskId
-    ensures { result ≡ t.now }
-{
-    TaskId::new(t.class(), t.params())
 }
 
 fn edge(to: i64) -> Item {
@@ -131,7 +125,7 @@ impl Stepwise {
     }
 
     fn claim(&mut self, t: &TaskId) -> Result<bool, OutOfMemory> {
-        self.tried.push(copy(t))?;
+        self.tried.push(t.copy())?;
         self.run.claim(&self.job, t)
     }
 

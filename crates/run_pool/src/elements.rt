@@ -1,12 +1,9 @@
 //! How many numbers go over the edges and the write-backs of a job.
 
 ghost use Rattle.std.specs.Prelude.{◌≡◌, ◌≤◌, ◌<◌, ◌^◌, Some, drop, length, map, slice_get, if◌then◌else◌};
-ghost use Rattle.std.specs.Prelude.{List};
-ghost use Rattle.term_core.specs.declared.space.ClassSpace.{ClassSpace as ClassSpaceValue};
 ghost use Rattle.range_space.specs.Tasks as range;
 ghost use Rattle.plan_core.specs.Kinds as kinds;
 ghost use Rattle.dep_iter.specs.Edges as edges;
-ghost use Rattle.dep_iter.specs.Items as items;
 ghost use Rattle.dep_iter.specs.Tasks as tasks;
 ghost use Rattle.dep_iter.specs.Tasks.{IsTask, task, tasks_from};
 ghost use Rattle.flow_meaning.specs.Counting.{weigh};
@@ -14,22 +11,10 @@ ghost use Rattle.run_pool.specs.Bytes as bytes;
 ghost use Rattle.run_pool.specs.Elements as elements;
 
 use dep_iter::{Matched, flows_of, in_edges_under, locals_of, write_backs_under};
-use plan_core::Plan;
+use plan_core::{Plan, is_data};
 use ptg_base::TaskId;
 use range_space::Space;
-use term_core::{ClassSpace, FlowKind};
-
-// Whether flows of this kind carry tiles.
-fn is_data(kind: FlowKind) -> bool
-    ensures { result ≡ kinds.is_data (Some kind) }
-{
-    match kind {
-        FlowKind::Read => true,
-        FlowKind::Write => true,
-        FlowKind::Rw => true,
-        FlowKind::Ctl => false,
-    }
-}
+use term_core::ClassSpace;
 
 // How many numbers a tile of this flow of a task has.
 fn flow_elements(plan: &Plan, t: &TaskId, flow: u8) -> u64

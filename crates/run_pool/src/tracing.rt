@@ -24,13 +24,6 @@ use std::thread::Threads;
 use table_rule::rules::all_passes_stay_all;
 use worker_core::Gate;
 
-// A copy of a task.
-fn copy_of(t: &TaskId) -> TaskId
-    ensures { result ≡ t.now }
-{
-    TaskId::new(t.class(), t.params())
-}
-
 // A log with copies of further entries.
 fn with_entries(
     log: Vec<(u64, TaskId)>,
@@ -40,7 +33,7 @@ fn with_entries(
 {
     let mut log = log;
     for entry in more {
-        log.push((entry.0, copy_of(&entry.1)))?;
+        log.push((entry.0, entry.1.copy()))?;
     }
     Ok(log)
 }

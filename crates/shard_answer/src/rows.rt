@@ -7,13 +7,6 @@ use flow_meaning::{TrapRow, WaitRow};
 use ptg_base::{OutOfMemory, TaskId};
 use term_core::Trap;
 
-// A copy of a task.
-fn copy_of_task(t: &TaskId) -> TaskId
-    ensures { result ≡ t.now }
-{
-    TaskId::new(t.class(), t.params())
-}
-
 // Adds the rows of these tasks that trapped.
 fn push_traps_of(traps: &[(TaskId, Trap)], rows: &mut Vec<TrapRow>) -> Result<(), OutOfMemory>
     ensures ok { OnOk result (rows.new.items ≡ rows.old.items ++ map trap_row traps.now) }
@@ -23,7 +16,7 @@ fn push_traps_of(traps: &[(TaskId, Trap)], rows: &mut Vec<TrapRow>) -> Result<()
 {
     for (task, cause) in traps {
         rows.push(TrapRow {
-            task: copy_of_task(task),
+            task: task.copy(),
             cause: *cause,
         })?;
     }
@@ -52,7 +45,7 @@ fn push_waits_of(shard: &Shard, rows: &mut Vec<WaitRow>) -> Result<(), OutOfMemo
     for index in 0..shard.len() {
         if let Some((task, entry)) = shard.entry(index) {
             rows.push(WaitRow {
-                task: copy_of_task(task),
+                task: task.copy(),
                 arrived: entry.arrived(),
                 goal: entry.goal(),
             })?;

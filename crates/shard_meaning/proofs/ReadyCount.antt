@@ -1,7 +1,7 @@
 -- How many tasks are ready: one fewer after a claim, one more after a send that makes a task ready.
 use Rattle.std.proofs.Common.{◌≡◌, ◌≢◌, ◌+◌, ◌<◌, ◌≤◌, Bool, true, false, cond, ◌&&◌, ◌==◌, not, List, [], ◌∷◌, length, refl, ap, sym, ◌∙◌, subst, arith, eq-eqb, ne_eqb}
 use Rattle.std.specs.List.{filter}
-use Rattle.std.proofs.lemmas.Bool.{and_from, and_parts, eqb-true, false_from_ne_true, false≢true}
+use Rattle.std.proofs.lemmas.Bool.{and_from, false_from_ne_true, false≢true}
 use Rattle.ptg_base.specs.Lists.{HasNoRepeats, IsIn}
 use Rattle.ptg_base.specs.Task.{Task}
 use Rattle.ptg_base.specs.TaskComparing.{same_task}
@@ -14,7 +14,7 @@ use Rattle.plan_core.specs.declared.plan.Plan.{Plan}
 use Rattle.coll_data.specs.Data.{Data}
 use Rattle.dep_iter.specs.Consistent.{IsConsistent}
 use Rattle.dep_iter.specs.Edges.{goal}
-use Rattle.dep_iter.specs.Tasks.{IsTask, all_tasks}
+use Rattle.dep_iter.specs.Tasks.{all_tasks}
 use Rattle.dep_iter.proofs.Listing.{listed}
 use Rattle.flow_meaning.specs.Counting.{as_number, count}
 use Rattle.flow_meaning.specs.Machine.{MachineState, MayClaim, MaySend, Send, arrived, claim_count, state_after}
@@ -133,9 +133,3 @@ calm_by_count P R none idle = record {
   none_ready = λ t may. absurd (omega (arith, none, ready_count P R.state, count-some (is_ready P R.state) (all_tasks P) t ((listed P t).0 may.task) (is_ready-may P R.state t may.unclaimed may.all_arrived)));
   none_runs = idle;
 }
-
--- a task that is ready may be claimed
-pub ready-is_may : (P : Plan) (S : MachineState) (t : Task) → IsTask P t → is_ready P S t ≡ true → MayClaim P S t
-ready-is_may P S t job h =
-    let p = and_parts (is_unclaimed S t) (arrived P S t == goal P t) h in
-    record { task = job; unclaimed = eqb-true (claim_count S t) 0 p.0; all_arrived = eqb-true (arrived P S t) (goal P t) p.1 }

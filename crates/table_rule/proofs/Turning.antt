@@ -44,9 +44,6 @@ pub record Retunes (words : List ℕ) (slots : Slots) (vs : List PassRecord) (id
   pub mine : (x : ℕ) (y : Content) → IsIn (x, y) w.turns → x < length slots
 
 module _ (words : List ℕ) (slots : Slots) (vs : List PassRecord) (id : ℕ) (v w : PassRecord) (k new : ℕ) (slot : mathlib.Core.Option.Option Content) (t : Retunes words slots vs id v w k new slot) where
-  words' : List ℕ
-  words' = set words (turn_word k) new
-
   pub word_here : get_or (set words (turn_word k) new) (turn_word k) 0 ≡ new
   word_here = get_or-set_same words (turn_word k) new 0 t.far
 

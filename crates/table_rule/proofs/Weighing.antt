@@ -45,14 +45,6 @@ module _ {A : Type 0} (g : A → ℕ) where
   weigh_alone (x ∷ xs) zero v e h = omega (arith, ap g (some-injective x v e), weightless xs (λ i u d. h (suc i) u (λ z. omega arith) d))
   weigh_alone (x ∷ xs) (suc id) v e h = omega (arith, h zero x (λ z. omega arith) refl, weigh_alone xs id v e (λ i u n d. h (suc i) u (λ z. n (omega arith)) d))
 
-  -- a member weighs no more than its list
-  pub member_le : (l : List A) (x : A) → IsIn x l → g x ≤ weigh g l
-  member_le [] x i = absurd i
-  member_le (y ∷ ys) x i = elim i [
-    | inl e ↦ omega (arith, ap g e)
-    | inr t ↦ omega (arith, member_le ys x t)
-  ]
-
 pub weigh-flat : {A B : Type 0} (f : B → ℕ) (g : A → List B) (vs : List A) → weigh f (flat_map g vs) ≡ weigh (λ v. weigh f (g v)) vs
 weigh-flat f g [] = refl
 weigh-flat f g (v ∷ vs) = omega (arith, weigh-append f (g v) (flat_map g vs), weigh-flat f g vs)

@@ -37,14 +37,6 @@ legal_once P before (u ∷ us) l = (
   legal_once P (before ++ u ∷ []) us l.1,
 )
 
--- the sources of the edges into a member are members too, or come before
-pub legal_sources : (P : Plan) (before ts : List Task) → IsLegalAfter P before ts → (t : Task) → IsIn t ts → (e : Edge) → IsIn e (in_edges P t) → IsIn e.from (before ++ ts)
-legal_sources P before [] l t i e h = absurd i
-legal_sources P before (u ∷ us) l t i e h = elim i [
-  | inl q ↦ IsIn-append_left e.from before (u ∷ us) (l.0.after_sources e (subst (λ v. IsIn e (in_edges P v)) q h))
-  | inr later ↦ subst (IsIn e.from) (append_assoc before (u ∷ []) us) (legal_sources P (before ++ u ∷ []) us l.1 t later e h)
-]
-
 module _ (P : Plan) (ts : List Task) (g : IsGreatestOrder P ts) where
   -- a task is a member where the sources of all edges into it are
   pub joins : (t : Task) → IsTask P t → ((e : Edge) → IsIn e (in_edges P t) → IsIn e.from ts) → IsIn t ts

@@ -1,11 +1,10 @@
 //! An order that grows as edges come.
 
-ghost use Rattle.std.specs.Prelude.{◌≡◌, [], ◌∷◌, IfOk, OnOk, List};
+ghost use Rattle.std.specs.Prelude.{[], ◌∷◌, IfOk, OnOk, List};
 ghost use Rattle.ptg_base.specs.declared.edge.Edge.{Edge as EdgeValue};
 ghost use Rattle.dep_iter.specs.Items as items;
 ghost use Rattle.task_order.specs.Growing.{GrowsBy, HasGrown, IsNext, MayCome};
 
-use crate::copying::copy_of;
 use crate::lacking::note_edge;
 use crate::roots::push_roots;
 use dep_iter::{Matched, out_edges};
@@ -41,7 +40,7 @@ fn let_come(growing: &mut Growing, m: &Matched, edge: &Edge) -> Result<(), OutOf
     let _ = m.plan();
     let left = note_edge(&mut growing.lacking, m, &edge.to)?;
     if left == 0 {
-        growing.order.push(copy_of(&edge.to))?;
+        growing.order.push(edge.to.copy())?;
     }
     Ok(())
 }

@@ -8,7 +8,6 @@ ghost use Rattle.dep_iter.specs.Tasks.{IsTask};
 ghost use Rattle.flow_meaning.specs.Counting.{as_number};
 ghost use Rattle.task_order.specs.Growing as growing;
 
-use crate::copying::copy_of;
 use dep_iter::Matched;
 use goal_count::goal;
 use indexmap::IndexMap;
@@ -41,6 +40,6 @@ pub(crate) fn note_edge(
         return Ok(left);
     }
     let left = goal(m, t) - 1;
-    table.insert(copy_of(t), left)?;
+    table.insert(t.copy(), left)?;
     Ok(left)
 }

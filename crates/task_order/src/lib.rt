@@ -1,7 +1,6 @@
 //! A greatest legal order of the tasks of a job, from its edges alone.
 #![tactic(auto)]
 
-mod copying;
 mod growing;
 mod lacking;
 mod laws;

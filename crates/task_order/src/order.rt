@@ -3,7 +3,6 @@
 ghost use Rattle.std.specs.Prelude.{IfOk};
 ghost use Rattle.task_order.specs.Greatest.{IsGreatestOrder};
 
-use crate::copying::copy_of;
 use crate::growing::{pass, start};
 use dep_iter::Matched;
 use ptg_base::{OutOfMemory, Seq, TaskId};
@@ -17,7 +16,7 @@ pub fn order_of(alloc: Global, m: &Matched) -> Result<Seq<TaskId>, OutOfMemory>
     let mut growing = start(alloc, m)?;
     let mut at: usize = 0;
     while at < growing.order.len() {
-        let t = copy_of(&growing.order[at]);
+        let t = growing.order[at].copy();
         pass(&mut growing, m, &t)?;
         at += 1;
     }

@@ -89,9 +89,6 @@ one_flow_more P G d t n (g ∷ gs) f =
     let at : suc n + length gs ≡ n + suc (length gs) = omega arith in
     ap (λ l. starting_tile P G d t n g ∷ l) (one_flow_more P G d t (suc n) gs f ∙ ap (λ m. tiles_from P G d t (suc n) gs ++ starting_tile P G d t m f ∷ []) at)
 
-pub tiles_count : (P : Plan) (G : Data) (d : Delivery) (t : Task) (n : ℕ) (fs : List FlowPlan) → length (tiles_from P G d t n fs) ≡ length fs
-tiles_count P G d t n fs = tiles_each P G d t n fs
-
 -- the tiles of the first flows, and of one more
 pub laid_next : (P : Plan) (G : Data) (d : Delivery) (t : Task) (fs : List FlowPlan) (i : ℕ) (f : FlowPlan) (old new : List (Option (List ℤ))) → old ≡ tiles_from P G d t 0 (take i fs) → slice_get fs i ≡ Some f → length old ≡ i
     → new ≡ old ++ starting_tile P G d t (length old) f ∷ [] → new ≡ tiles_from P G d t 0 (take (i + 1) fs)

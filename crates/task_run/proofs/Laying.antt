@@ -22,14 +22,6 @@ laid elems (l ∷ lent) type (t ∷ ts) tile (suc n) fit at h fits zero k is = f
 laid elems (l ∷ lent) type (t ∷ ts) tile (suc n) fit at h fits (suc i) k is =
     laid elems lent type ts tile n (λ j m e. fit (suc j) m e) (omega (arith, at)) (omega (arith, h)) fits i k is
 
-pub take_laid : {A : Type 0} (tiles : List A) (n m : ℕ) (tile : A) → n < length tiles → m ≡ n + 1 → take m (slice_set tiles n tile) ≡ take n tiles ++ tile ∷ []
-take_laid [] n m tile h e = absurd (omega (arith, h))
-take_laid (t ∷ ts) zero zero tile h e = absurd (omega (arith, e))
-take_laid (t ∷ ts) zero (suc zero) tile h e = refl
-take_laid (t ∷ ts) zero (suc (suc m)) tile h e = absurd (omega (arith, e))
-take_laid (t ∷ ts) (suc n) zero tile h e = absurd (omega (arith, e))
-take_laid (t ∷ ts) (suc n) (suc m) tile h e = ap (λ l. t ∷ l) (take_laid ts n m tile (omega (arith, h)) (omega (arith, e)))
-
 -- as many tiles are shown as flows have one
 pub shown_count : {A : Type 0} (n : ℕ) (xs : List A) → n ≤ length xs → length (take n xs) ≡ n
 shown_count zero [] h = refl

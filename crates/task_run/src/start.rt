@@ -14,7 +14,7 @@ use crate::pools::Pools;
 use coll_data::Given;
 use dep_iter::{Source, data_source_under};
 use dep_shard::Arrivals;
-use plan_core::{FlowPlan, Plan};
+use plan_core::{FlowPlan, Plan, is_data};
 use plan_data::opening_tile;
 use ptg_base::{Place, TaskId, Tile};
 use term_core::FlowKind;
@@ -26,18 +26,6 @@ pub struct Start<'a> {
     pub given: &'a Given,
     pub task: &'a TaskId,
     pub locals: &'a [i64],
-}
-
-// Whether flows of this kind carry tiles.
-fn is_data(kind: FlowKind) -> bool
-    ensures { result ≡ kinds.is_data (Some kind) }
-{
-    match kind {
-        FlowKind::Read => true,
-        FlowKind::Write => true,
-        FlowKind::Rw => true,
-        FlowKind::Ctl => false,
-    }
 }
 
 // A copy of the tile of a place, for a flow that reads it.

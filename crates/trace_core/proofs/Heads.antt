@@ -1,20 +1,17 @@
 -- The head with which a text begins, and the rows after it.
-use Rattle.std.proofs.Common.{◌≡◌, ◌≢◌, ℕ, ◌+◌, ◌<◌, ◌≤◌, ℤ, pos, negsuc, Bool, true, ◌==◌, List, [], ◌∷◌, ◌++◌, codes, length, refl, ap, sym, ◌∙◌, subst, append_assoc, length-append, arith}
-use Rattle.std.specs.List.{AllByRecursion, flat_map}
+use Rattle.std.proofs.Common.{◌≡◌, ◌≢◌, ℕ, ◌+◌, ◌≤◌, ℤ, pos, true, ◌==◌, List, [], ◌∷◌, ◌++◌, codes, length, refl, ap, sym, ◌∙◌, subst, append_assoc, length-append, arith}
+use Rattle.std.specs.List.{AllByRecursion}
 use Rattle.std.specs.Fmt.{decimal, signed_decimal}
 use Rattle.std.proofs.lemmas.Bool.{eqb-true, lt-ltb}
 use Rattle.std.proofs.lemmas.List.{append-nil}
 use Rattle.std.proofs.lemmas.List.Concat.{flat_map-append}
-use Rattle.trace_core.specs.Cutting.{IsCut, opens_with}
+use Rattle.trace_core.specs.Cutting.{IsCut}
 use Rattle.trace_core.specs.Rows.{BeginsWithRow}
 use Rattle.trace_core.specs.Spelling.{BeginsWith, HasNoHead, IsSpelled, IsWellSpelled, fits_64}
 use Rattle.trace_core.specs.Text.{Entry, head_line, row_line, rows_text}
 use Rattle.trace_core.proofs.Cuts.{cut_once}
 use Rattle.trace_core.proofs.Fields.{lf_first}
 use Rattle.trace_core.proofs.Spelled.{decimal_free, head_split, same_head, same_number}
-
-pub no_trace : (text : List ℕ) → ((rest : List ℕ) → text ≡ codes "trace," ++ rest → ⊥) → HasNoHead text
-no_trace text none n rest le h = none (decimal n ++ 10 ∷ rest) (h ∙ head_split n rest)
 
 module _ (text fields field rest : List ℕ) (word : text ≡ codes "trace," ++ fields) (cut : IsCut 10 fields field rest) where
   -- the number of the head is the field up to LF
@@ -23,9 +20,6 @@ module _ (text fields field rest : List ℕ) (word : text ≡ codes "trace," ++ 
       let whole : codes "trace," ++ fields ≡ codes "trace," ++ (decimal n ++ 10 ∷ later) = sym word ∙ h ∙ head_split n later in
       let tail : fields ≡ decimal n ++ 10 ∷ later = cc in
       cut_once 10 field (decimal n) rest (10 ∷ later) cut.free (decimal_free 10 n (omega arith) refl) cut.next refl (sym cut.split ∙ tail)
-
-  pub head_cut_off : rest ≡ [] → HasNoHead text
-  head_cut_off is n later le h = let e : [] ≡ 10 ∷ later = sym is ∙ (head_parts n later le h).1 in cc
 
   pub head_no_count : ((n : ℕ) → n ≤ 1000000 → field ≢ decimal n) → HasNoHead text
   head_no_count none n later le h = none n le (head_parts n later le h).0

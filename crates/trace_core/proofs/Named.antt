@@ -1,7 +1,7 @@
 -- The class and the task that a row names.
-use Rattle.std.proofs.Common.{◌≡◌, ◌≢◌, ℕ, zero, suc, ◌+◌, ◌<◌, ◌≤◌, ℤ, Bool, true, false, not, ◌&&◌, ◌||◌, nat_eq, List, [], ◌∷◌, ◌++◌, map, length, refl, ap, sym, ◌∙◌, subst, zero-add, Option, Some, None, MatchOption, slice_get, arith}
+use Rattle.std.proofs.Common.{◌≡◌, ◌≢◌, ℕ, zero, suc, ◌+◌, ◌<◌, ◌≤◌, ℤ, Bool, true, false, not, ◌||◌, nat_eq, List, [], ◌∷◌, map, length, refl, ap, sym, ◌∙◌, subst, zero-add, Option, Some, None, MatchOption, slice_get, arith}
 use Rattle.std.specs.Cmp.Lexicographic.{pointwise}
-use Rattle.std.specs.Option.{IsSomeAnd, option_map_or}
+use Rattle.std.specs.Option.{option_map_or}
 use Rattle.std.specs.List.{list_any}
 use Rattle.std.proofs.lemmas.Bool.{false≢true}
 use Rattle.ptg_base.specs.Lists.{IsIn}
@@ -13,11 +13,11 @@ use Rattle.plan_core.specs.declared.plan.Plan.{Plan}
 use Rattle.term_core.specs.declared.space.ClassSpace.{ClassSpace}
 use Rattle.range_space.specs.Tasks.{tasks}
 use Rattle.range_space.proofs.MemberLists.{and_left, and_right, arity_of_task}
-use Rattle.dep_iter.specs.Tasks.{IsTask, task}
+use Rattle.dep_iter.specs.Tasks.{task}
 use Rattle.flow_meaning.proofs.SourceEdges.{class_of}
 use Rattle.trace_core.specs.Naming.{IsNamed, Names}
 use Rattle.trace_core.specs.Rows.{AreNumbers, IsRowOf}
-use Rattle.trace_core.specs.Text.{Entry, entry_of}
+use Rattle.trace_core.specs.Text.{Entry}
 use Rattle.trace_core.proofs.Words.{equal_bytes}
 
 -- the number of a class among those from the first on
@@ -27,9 +27,6 @@ no_class classes name is k p = none k (subst (λ l. IsNamed l name k) is p)
     none : (k : ℕ) → IsNamed [] name k → ⊥
     none zero q = let e : None ≡ Some q.0 = q.1 in cc
     none (suc k) q = let e : None ≡ Some q.0 = q.1 in cc
-
-pub first_class : (classes later : List ClassPlan) (first : ClassPlan) (name : List ℕ) → classes ≡ first ∷ later → first.name ≡ name → IsNamed classes name 0
-first_class classes later first name is e = subst (λ l. IsNamed l name 0) (sym is) (first, refl, e)
 
 pub later_class : (classes later : List ClassPlan) (first : ClassPlan) (name : List ℕ) (n : ℕ) (r : Option ℕ) → classes ≡ first ∷ later → (first.name ≡ name → ⊥)
     → MatchOption r ((k : ℕ) → IsNamed later name k → ⊥) (λ m. (k : ℕ) × IsNamed later name k × (m ≡ (n + 1) + k))
@@ -132,8 +129,3 @@ module _ (P : Plan) (e : Entry) (name numbers : List ℕ) (row : IsRowOf e name 
         let class = its_class t h in
         let same : t.params ≡ params = sym (ap (λ (x : Entry). x.params) h.1) ∙ sym is in
         λ i. record { class = class i; params = same i }
-
-    pub it_is_named : (params : List ℤ) → params ≡ e.params → IsTask P (task n params) → Names P e (task n params)
-    it_is_named params is job =
-        let name_is : e.name ≡ class_name P n = sym row.same_name ∙ sym named.2 ∙ sym (class_name_at P n named.0 named.1) in
-        (job, (λ i. record { name = name_is i; params = sym is i }))

@@ -1,23 +1,22 @@
 -- The printed forms of numbers and rows: which bytes they have, and that no two are printed alike.
 use lib.Signed.{mag}
 use mir.Val.{SFits}
-use Rattle.std.proofs.Common.{◌≡◌, ◌==◌, ℕ, suc, ◌^◌, ◌<◌, ◌≤◌, ℤ, pos, negsuc, Bool, true, false, not, ◌&&◌, ◌||◌, List, [], ◌∷◌, ◌++◌, map, flat_map, codes, refl, ap, sym, ◌∙◌, subst, append_assoc, w64, arith}
-use Rattle.std.specs.Prelude.{nat_le, nat_lt}
+use Rattle.std.proofs.Common.{◌≡◌, ◌==◌, ℕ, suc, ◌^◌, ◌<◌, ◌≤◌, ℤ, pos, negsuc, true, false, not, ◌||◌, List, [], ◌∷◌, ◌++◌, map, codes, refl, ap, sym, ◌∙◌, append_assoc, w64, arith}
+use Rattle.std.specs.Prelude.{nat_le}
 use Rattle.std.specs.List.{list_all, join_with_byte}
 use Rattle.std.specs.Fmt.{decimal, signed_decimal}
 use Rattle.std.specs.Str.Parse.{AllDigits}
-use Rattle.std.proofs.lemmas.Bool.{false≢true, le-leb, lt-ltb, ltb-true}
+use Rattle.std.proofs.lemmas.Bool.{false≢true, le-leb, ltb-true}
 use Rattle.std.proofs.lemmas.Fmt.{decimal_is_IsNumeral, decimal_injective, signed_decimal_injective}
 use Rattle.std.proofs.lemmas.List.{append-nil}
 use Rattle.std.proofs.lemmas.Str.Parse.{digit_from_value}
 use Rattle.ptg_base.specs.Decimal.{is_digit}
-use Rattle.ptg_base.specs.Line.{line}
 use Rattle.range_space.proofs.MemberLists.{and_left, and_right}
 use Rattle.jdf_lex.specs.Spelling.{is_letter, is_part}
 use Rattle.trace_core.specs.Cutting.{is_free_of, opens_with}
 use Rattle.trace_core.specs.Rows.{number_field, number_fields, row_content}
 use Rattle.trace_core.specs.Spelling.{IsSpelled, fits_64, is_name}
-use Rattle.trace_core.specs.Text.{Entry, head_line, row_line, rows_text}
+use Rattle.trace_core.specs.Text.{Entry, head_line, row_line}
 use Rattle.trace_core.proofs.Cuts.{both, cut_once, free_append, free_by}
 
 -- a number that fits 64 bits
@@ -27,10 +26,6 @@ fits_mag (negsuc n) h = ltb-true n 9223372036854775808 h
 
 pub fits_signed : (z : ℤ) → fits_64 z ≡ true → SFits w64 z
 fits_signed z h = record { sfits = fits_mag z h }
-
-pub signed_fits : (z : ℤ) → SFits w64 z → fits_64 z ≡ true
-signed_fits (pos n) h = lt-ltb n 9223372036854775808 h.sfits
-signed_fits (negsuc n) h = lt-ltb n 9223372036854775808 h.sfits
 
 -- numbers have no comma and no LF
 digits_pass : (ds : List ℕ) → AllDigits 10 ds → list_all is_digit ds ≡ true

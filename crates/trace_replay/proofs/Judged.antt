@@ -5,9 +5,8 @@ use Rattle.ptg_base.specs.declared.refusal.Refusal.{Refusal}
 use Rattle.ptg_base.specs.declared.refusal.Refusal.TheVariants as refusals
 use Rattle.ptg_base.specs.declared.refusal.Refusal.TheVariants.{Fault}
 use Rattle.flow_core.specs.RunState.{RunState}
-use Rattle.std.proofs.Common.{◌≡◌, ℕ, ◌+◌, ◌≤◌, true, List, [], ◌∷◌, ◌++◌, map, length, refl, ap, sym, ◌∙◌, subst, ◌⊎◌, inl, inr, append_assoc, Option, Some, None, Result, Ok, Err, arith}
+use Rattle.std.proofs.Common.{◌≡◌, ℕ, ◌+◌, true, List, [], ◌∷◌, ◌++◌, map, length, refl, ap, sym, ◌∙◌, subst, inl, inr, append_assoc, Option, Some, None, Result, Ok, Err, arith}
 use Rattle.std.specs.List.{AllByRecursion}
-use Rattle.std.specs.Map.{keys_of}
 use Rattle.std.proofs.lemmas.List.{append-nil, map-append}
 use Rattle.ptg_base.specs.Lists.{HasNoRepeats, IsIn}
 use Rattle.ptg_base.specs.Task.{Task}
@@ -19,13 +18,13 @@ use Rattle.dep_iter.specs.Edges.{in_edges}
 use Rattle.dep_iter.specs.Consistent.{IsConsistent}
 use Rattle.flow_meaning.specs.declared.outcome.Outcome.{Outcome}
 use Rattle.flow_meaning.specs.Answer.{answer, ran}
-use Rattle.task_order.proofs.Lists.{apart, once_left}
+use Rattle.task_order.proofs.Lists.{apart}
 use Rattle.trace_core.specs.declared.fault.TraceCode.{TraceCode}
 use Rattle.trace_core.specs.declared.fault.TraceCode.TheVariants.{TooLong, BadTrace, UnknownTask, RanTwice, TooEarly, Unfinished}
 use Rattle.trace_core.specs.declared.fault.TraceFault.{TraceFault}
-use Rattle.trace_core.specs.Faults.{IsFaultOfRow, IsMissing, IsRowFault, IsTraceFault, too_long, bad_trace, of_tasks, IsUnfinished}
-use Rattle.trace_core.specs.Naming.{AreRowsBefore, AreRowsOf, IsNamingFault}
-use Rattle.trace_core.specs.Orders.{IsWholeOrder, MayAllRunAfter, MayRunAfter}
+use Rattle.trace_core.specs.Faults.{IsMissing, IsRowFault, IsTraceFault, too_long, bad_trace, of_tasks}
+use Rattle.trace_core.specs.Naming.{IsNamingFault}
+use Rattle.trace_core.specs.Orders.{IsWholeOrder, MayAllRunAfter}
 use Rattle.trace_core.specs.Reading.{IsListOf, IsReadAs, IsReading, IsSpellingFault, over_length, of_a_row}
 use Rattle.trace_core.specs.Spelling.{IsWellSpelled}
 use Rattle.trace_core.specs.Text.{Entry, entry_of}
@@ -147,10 +146,6 @@ module _ (P : Plan) (G : Data) (con : IsConsistent P) (text : List ℕ) (ts : Li
 pub verdict_answer : (P : Plan) (G : Data) (es : List Entry) (ts : List Task) (v : Result Outcome TraceFault) → IsVerdictOn P G es ts v → IfOk v (λ o. o ≡ answer P G)
 verdict_answer P G es ts (Err f) v = tt
 verdict_answer P G es ts (Ok o) v = v.0
-
-pub verdict_list : (P : Plan) (G : Data) (es : List Entry) (ts : List Task) (v : Result Outcome TraceFault) → IsVerdictOn P G es ts v → OnOk v (IsWholeOrder P G ts)
-verdict_list P G es ts (Err f) v = tt
-verdict_list P G es ts (Ok o) v = v.2
 
 spelling_of_text : (P : Plan) (G : Data) (text : List ℕ) (f : TraceFault) → IsSpellingFault text f → IsTraceFault P G text f
 spelling_of_text P G text f (over_length l p q) = too_long l p q

@@ -1,38 +1,26 @@
 -- What the turns of tasks leave.
-use Rattle.std.proofs.Common.{◌≡◌, ℕ, zero, suc, ◌+◌, ◌<◌, ◌≤◌, ◌↔◌, Bool, true, false, cond, List, [], ◌∷◌, ◌++◌, length, take, drop, get_or, refl, ap, sym, ◌∙◌, subst, inl, inr, Some, None, IsTrue, take-append-drop, arith}
+use Rattle.std.proofs.Common.{◌≡◌, ℕ, zero, suc, ◌+◌, ◌<◌, ◌↔◌, Bool, true, false, cond, List, [], ◌∷◌, ◌++◌, length, take, get_or, refl, ap, sym, ◌∙◌, subst, inl, inr, IsTrue, arith}
 use Rattle.std.proofs.lemmas.Bool.{false≢true}
 use Rattle.std.proofs.lemmas.List.{take_more}
 use Rattle.std.specs.List.{AllByRecursion}
 use Rattle.std.specs.Map.{keys_of}
-use Rattle.ptg_base.specs.Lists.{HasNoRepeats, IsIn}
+use Rattle.ptg_base.specs.Lists.{IsIn}
 use Rattle.ptg_base.specs.Task.{Task}
-use Rattle.ptg_base.specs.declared.edge.Edge.{Edge}
 use Rattle.plan_core.specs.declared.plan.Plan.{Plan}
 use Rattle.coll_data.specs.Data.{Data}
 use Rattle.dep_iter.specs.Tasks.{IsTask}
-use Rattle.dep_iter.specs.Edges.{in_edges}
 use Rattle.dep_iter.specs.Consistent.{IsConsistent}
 use Rattle.flow_meaning.specs.Answer.{ran}
-use Rattle.flow_meaning.specs.Backward.{ended}
-use Rattle.flow_meaning.specs.Ending.{has_outputs}
 use Rattle.flow_meaning.specs.Machine.{IsQuiescent, MayClaim}
 use Rattle.flow_meaning.proofs.Events.{it_ends, member_claim}
 use Rattle.flow_meaning.proofs.Quiet.{claims_are_ran}
 use Rattle.flow_meaning.proofs.Rest.{rests}
-use Rattle.flow_core.specs.RunState.{RunState, machine, opening_run}
-use Rattle.flow_core.specs.Fits.{Fits}
+use Rattle.flow_core.specs.RunState.{RunState, machine}
 use Rattle.flow_core.specs.Turns.{IsBetweenTurns}
 use Rattle.flow_core.proofs.Turning.{between_finished, may_follow_finished}
-use Rattle.trace_core.specs.Orders.{MayAllRunAfter, MayRunAfter}
+use Rattle.trace_core.specs.Orders.{MayRunAfter}
 use Rattle.trace_core.proofs.Wholes.{all_or_absent, may_push, ran_ends}
 use Rattle.trace_replay.specs.Replaying.{HasRunInOrder, StopsAt}
-
-pub nothing_ran : (P : Plan) (G : Data) (r : RunState) → r ≡ opening_run → Fits P G r → HasRunInOrder P G [] r
-nothing_ran P G r is fits = subst (HasRunInOrder P G []) (sym is) (record {
-  between = record { fits = subst (Fits P G) is fits; idle = λ t h. absurd cc; nothing_owed = λ t tiles h i mine. absurd cc };
-  claims = refl;
-  may_run = tt;
-})
 
 module _ (P : Plan) (G : Data) (con : IsConsistent P) (ts : List Task) (r : RunState) (h : HasRunInOrder P G ts r) where
   -- a task gets its turn where it may run

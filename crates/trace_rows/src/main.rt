@@ -6,8 +6,6 @@ mod replays;
 
 use crate::replays::{listed, replayed};
 use job_stages::{JobVerdict, judge_texts};
-use ptg_base::Text;
-use ptg_io::File;
 use row_files::{Call, Order, Printed, Why, all_as_wanted};
 use std::alloc::Global;
 use std::process::ExitCode;
@@ -31,12 +29,11 @@ impl Call for TraceCall {
         alloc: Global,
         order: Order,
     ) -> Result<Printed, Why> {
-        let files = order.files.as_slice();
         let [word, jdf, table, trace] = order.words.as_slice() else {
             return Err(Why("not four words"));
         };
-        let trace = named(files, trace)?;
-        match judge_texts(alloc, named(files, jdf)?, named(files, table)?)? {
+        let trace = order.file(trace)?;
+        match judge_texts(alloc, order.file(jdf)?, order.file(table)?)? {
             JobVerdict::Consistent(matched, given) => {
                 if word.bytes() == b"replay".as_slice() {
                     replayed(alloc, &matched, given, trace)
@@ -49,14 +46,4 @@ impl Call for TraceCall {
             _ => Err(Why("a job that is not consistent")),
         }
     }
-}
-
-// The bytes of the file of this name.
-fn named<'a>(files: &'a [File], name: &Text) -> Result<&'a [u8], Why> {
-    for file in files {
-        if file.name() == name.bytes() {
-            return Ok(file.bytes());
-        }
-    }
-    Err(Why("no file of this name"))
 }

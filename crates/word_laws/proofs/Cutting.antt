@@ -5,9 +5,6 @@ use Rattle.std.specs.List.{after_first, before_first, list_any, prefix_len}
 use Rattle.std.specs.Prelude.{if◌then◌else◌}
 use Rattle.ptg_words.specs.Parts.{text_after}
 
-abbrev is_equals : ℕ → Bool
-is_equals b = b == 61
-
 -- a text with an `=`: what is before the first, and what is after it
 pub record IsCut (v : List ℕ) : Type 0 where
   pub name : List ℕ

@@ -27,7 +27,7 @@ use Rattle.flow_meaning.proofs.Rest.{item_sender}
 use Rattle.work_board.specs.declared.record.PassRecord.{PassRecord}
 use Rattle.work_board.specs.Records.{done_by}
 use Rattle.work_board.specs.Sends.{AddsSend, IsNext, MayEnd}
-use Rattle.worker_core.specs.Sending.{HasSentAll, HasSentSome, MaySendAll, RunsUnsent, with_output}
+use Rattle.worker_core.specs.Sending.{HasSentAll, MaySendAll, RunsUnsent, with_output}
 use Rattle.worker_core.proofs.Steps.{kept_then}
 
 -- what an edge and a write-back are as items
@@ -103,12 +103,6 @@ module _ (P : Plan) (G : Data) where
       kept = kept_then far.sent.kept one.kept;
     };
   }
-
-  pub all_are_sent : (all : List Item) (v w : PassRecord) → IsSentSoFar all [] v w → HasSentAll P G all v w
-  all_are_sent all v w far = subst (λ l. HasSentAll P G l v w) (sym (far.split ∙ append-nil far.before)) far.sent
-
-  pub some_are_sent : (all left : List Item) (v w : PassRecord) → IsSentSoFar all left v w → HasSentSome v w
-  some_are_sent all left v w far = record { more_sends = map (with_output P G) far.before; names = far.sent.kept.names; claims = far.sent.claims; stamps = far.sent.stamps; sends = far.sent.sends }
 
   in_middle : (before left : List Item) (i : Item) → IsIn i (before ++ i ∷ left)
   in_middle [] left i = inl refl

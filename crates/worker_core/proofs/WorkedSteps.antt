@@ -19,7 +19,7 @@ use Rattle.worker_core.specs.declared.claiming.Found.{Found}
 use Rattle.worker_core.specs.Claiming.{HasGot, HasGotLogged}
 use Rattle.worker_core.specs.Sending.{HasSentSome}
 use Rattle.worker_core.specs.Starting.{HasStarted}
-use Rattle.worker_core.specs.Working.{AreFollowed, HasClaimedMore, HasGrown, HasLogged, HasRun, Stamped, logged, tasks_of}
+use Rattle.worker_core.specs.Working.{AreFollowed, HasClaimedMore, HasGrown, HasRun, Stamped, logged, tasks_of}
 
 more_positive : (m n : ℕ) → nat_lt 0 m ≡ true → nat_lt 0 (m + n) ≡ true
 more_positive m n h = grind (arith, nat_tests)
@@ -133,6 +133,3 @@ later_record keeps v w old new a = record {
   done = record { more_claims = tasks_of a.more; more_sends = a.claimed.more_sends; claims = a.claimed.claims; sends = a.claimed.sends };
   stamps = a.claimed.stamps;
 }
-
-pub logged_record : (v w : PassRecord) (old new : List (ℕ × Task)) → HasGrown true v w old new → HasLogged v w old new
-logged_record v w old new a = record { more = a.more; claimed = a.claimed; gained = a.gained refl }

@@ -7,7 +7,8 @@ ghost use Rattle.work_board.specs.Claims.{AddsClaim, MayStart};
 ghost use Rattle.work_board.specs.Records.{IsStill};
 ghost use Rattle.worker_core.specs.Claiming.{HasGot};
 
-use crate::post::{Post, after_busy};
+use crate::post::Post;
+use crossbeam_utils::Backoff;
 use dep_iter::{locals_of, task_locals};
 use dep_shard::Arrivals;
 use ptg_base::TaskId;
@@ -38,12 +39,12 @@ fn claim<R: Threads + Wait + Sync, B: Board, G>(
     ensures start { IfSome result (λ tiles. MayStart (B.plan post.now.board.now) (B.job_data post.now.board.now) t.now tiles (B.shown pass.old)) }
     ensures added { OnSome result (AddsClaim t.now (B.shown pass.old) (B.shown pass.new)) }
 {
-    let mut busy = 0;
+    let backoff = Backoff::new();
     for _ in post.rt.forever() {
         match post.board.try_claim(pass, t) {
             Claim::Got(arrivals) => return Some(arrivals),
             Claim::Gone => return None,
-            Claim::Busy => busy = after_busy(busy),
+            Claim::Busy => backoff.snooze(),
         }
     }
     unreachable!()

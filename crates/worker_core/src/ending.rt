@@ -5,7 +5,8 @@ ghost use Rattle.work_board.specs.Records.{IsStill, KeepsDone};
 ghost use Rattle.work_board.specs.Sends.{MayEnd, MayTrap};
 ghost use Rattle.worker_core.specs.Ending.{HasEndedOnly};
 
-use crate::post::{Post, after_busy};
+use crate::post::Post;
+use crossbeam_utils::Backoff;
 use ptg_base::{OutOfMemory, TaskId};
 use std::sync::Wait;
 use std::thread::Threads;
@@ -23,12 +24,12 @@ pub(crate) fn end_one<R: Threads + Wait + Sync, B: Board, G>(
     ensures pass { B.is_pass post.now.board.now pass.new }
     ensures ended { HasEndedOnly (B.shown pass.old) (B.shown pass.new) }
 {
-    let mut busy = 0;
+    let backoff = Backoff::new();
     for _ in post.rt.forever() {
         if post.board.try_end(pass, t) {
             return;
         }
-        busy = after_busy(busy);
+        backoff.snooze();
     }
 }
 
@@ -46,12 +47,12 @@ pub(crate) fn trap_one<R: Threads + Wait + Sync, B: Board, G>(
     ensures still { OnErr result (IsStill (B.shown pass.old) (B.shown pass.new)) }
     ensures err { OnErr result (B.preloaded post.now.board.now ≡ false) }
 {
-    let mut busy = 0;
+    let backoff = Backoff::new();
     for _ in post.rt.forever() {
         if post.board.try_trap(pass, t, cause)? {
             return Ok(());
         }
-        busy = after_busy(busy);
+        backoff.snooze();
     }
     unreachable!()
 }

@@ -3,7 +3,6 @@
 ghost use Rattle.std.specs.Prelude.{◌≡◌, ◌<◌, [], ◌∷◌, ◌++◌, true, false, vec_len, vec_capacity, OnOk, OnErr};
 ghost use Rattle.ptg_base.specs.Task.{Task};
 
-use crate::post::copy_of_task;
 use ptg_base::{OutOfMemory, TaskId};
 
 /// Where a worker notes each of its claims with its stamp.
@@ -63,6 +62,6 @@ impl Log for Vec<(u64, TaskId)> {
     }
 
     fn note(&mut self, stamp: u64, task: &TaskId) {
-        self.push((stamp, copy_of_task(task))).unwrap();
+        self.push((stamp, task.copy())).unwrap();
     }
 }

@@ -8,10 +8,11 @@ ghost use Rattle.worker_core.specs.Claiming.{HasGot, IsQuietAfter, Looked};
 use crate::claiming::{Found, claim_id, scan};
 use crate::post::Post;
 use crate::stealing::take_id;
+use crossbeam_utils::Backoff;
 use ptg_base::OutOfMemory;
 use ready_deques::Hands;
 use std::sync::Wait;
-use std::thread::{Threads, yield_now};
+use std::thread::Threads;
 use work_board::Board;
 
 // What one look for a task found.
@@ -25,7 +26,7 @@ pub(crate) enum Look {
     Nothing,
 }
 
-// Whether all is quiet; if not, other threads may run.
+// Whether all is quiet.
 fn see_quiet<R: Threads + Wait + Sync, B: Board, G>(
     post: &Post<R, B, G>,
     pass: &mut B::Pass,
@@ -37,7 +38,6 @@ fn see_quiet<R: Threads + Wait + Sync, B: Board, G>(
     if post.board.see_quiet(pass) {
         return Look::Quiet;
     }
-    yield_now();
     Look::Nothing
 }
 
@@ -81,6 +81,7 @@ pub(crate) fn next_task<R: Threads + Wait + Sync, B: Board, G>(
     ensures still { OnErr result (IsStill (B.shown pass.old) (B.shown pass.new)) }
     ensures halted { OnErr result (B.preloaded post.now.board.now ≡ false) }
 {
+    let backoff = Backoff::new();
     for _ in post.rt.forever() {
         if post.board.halted(pass) {
             return Err(OutOfMemory);
@@ -88,7 +89,7 @@ pub(crate) fn next_task<R: Threads + Wait + Sync, B: Board, G>(
         match look_once(post, pass, hands, next) {
             Look::Task(found) => return Ok(Some(found)),
             Look::Quiet => return Ok(None),
-            Look::Nothing => {}
+            Look::Nothing => backoff.snooze(),
         }
     }
     unreachable!()

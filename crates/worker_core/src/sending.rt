@@ -13,7 +13,8 @@ ghost use Rattle.work_board.specs.Records.{IsStill};
 ghost use Rattle.work_board.specs.Sends.{AddsSend, IsNext, MayEnd};
 ghost use Rattle.worker_core.specs.Sending.{HasSentAll, HasSentSome, MaySendAll, RunsUnsent, with_output};
 
-use crate::post::{Post, TaskAt, after_busy, copy_of_task};
+use crate::post::{Post, TaskAt};
+use crossbeam_utils::Backoff;
 use dep_iter::{out_edges_under, write_backs_under};
 use ptg_base::{Edge, Item, OutOfMemory, Tile, WriteBack};
 use ready_deques::Hands;
@@ -36,12 +37,12 @@ fn send_one<R: Threads + Wait + Sync, B: Board, G>(
     ensures still { OnErr result (IsStill (B.shown pass.old) (B.shown pass.new)) }
     ensures err { OnErr result (B.preloaded post.now.board.now ≡ false) }
 {
-    let mut busy = 0;
+    let backoff = Backoff::new();
     for _ in post.rt.forever() {
         match post.board.try_send(pass, item, tile)? {
             Sent::Fired => return Ok(true),
             Sent::Waits | Sent::Kept => return Ok(false),
-            Sent::Busy => busy = after_busy(busy),
+            Sent::Busy => backoff.snooze(),
         }
     }
     unreachable!()
@@ -52,7 +53,7 @@ fn push_target(hands: &mut Hands, item: &Item)
     ensures { SameWorker hands.old hands.new }
 {
     if let Item::Edge(edge) = item {
-        let _dropped = hands.push(copy_of_task(&edge.to));
+        let _dropped = hands.push(edge.to.copy());
     }
 }
 

@@ -26,7 +26,6 @@ ghost use Rattle.flow_core.specs.Rows.{claim_traps, waits_among, writes_among};
 
 use crate::arrivals::number_at;
 use crate::end::End;
-use crate::possible::copy_of_task;
 use crate::spaces::space_of;
 use crate::state::State;
 use coll_data::Given;
@@ -43,7 +42,7 @@ fn push_trap_row(t: &TaskId, cause: Trap, rows: &mut Vec<TrapRow>) -> Result<(),
     ensures { OnOk result (rows.new.items ≡ rows.old.items ++ record { task = t.now; cause = cause } ∷ []) }
 {
     rows.push(TrapRow {
-        task: copy_of_task(t),
+        task: t.copy(),
         cause,
     })?;
     Ok(())
@@ -227,7 +226,7 @@ impl State {
             return Ok(());
         }
         rows.push(WaitRow {
-            task: copy_of_task(t),
+            task: t.copy(),
             arrived,
             goal,
         })?;

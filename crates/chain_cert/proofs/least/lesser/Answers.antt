@@ -8,12 +8,12 @@ returns-then-not-counts c = λ test ts e h. least_skips test ts c.args.t.now c.a
 
 pub returns-in_default : goal.returns-in_default
 returns-in_default c = λ test ts e h.
-    subst (λ u. IsLeastWhere test (ts ++ c.args.t.now ∷ []) (Some u)) (sym c.copy_of.ensures)
+    subst (λ u. IsLeastWhere test (ts ++ c.args.t.now ∷ []) (Some u)) (sym c.copy.ensures)
     (least_first test ts c.args.t.now (sym e ∙ c.if-not-counts.false) (subst (IsLeastWhere test ts) c.in_default.is h))
 
 pub returns-then-is_before : goal.returns-then-is_before
 returns-then-is_before c = λ test ts e h.
-    subst (λ u. IsLeastWhere test (ts ++ c.args.t.now ∷ []) (Some u)) (sym c.copy_of-then-is_before.ensures)
+    subst (λ u. IsLeastWhere test (ts ++ c.args.t.now ∷ []) (Some u)) (sym c.copy-then-is_before.ensures)
     (least_new test ts c.args.t.now c.in-Some.u (sym e ∙ c.if-not-counts.false) (sym c.is_before.ensures ∙ c.if-is_before.true) (subst (IsLeastWhere test ts) c.in-Some.is h))
 
 pub returns : goal.returns

@@ -22,4 +22,4 @@ returns c =
     let table = c.args.table.now.entries in
     let t = c.args.t.now in
     let before : c.greatest_before.result ≡ greatest_among table (sources P t) = c.greatest_before.ensures ∙ ap (λ (p : Plan). greatest_among table (sources p t)) c.plan.ensures.same in
-    λ b next. noted P ws b table c.insert.new.self.entries t c.copy_of.result (c.weight_of.result + c.greatest_before.result) c.copy_of.ensures (omega (arith, c.weight_of.ensures, before)) (light ws t c.requires.weights) next c.in_ok-insert.ensures.updates.0
+    λ b next. noted P ws b table c.insert.new.self.entries t c.copy.result (c.weight_of.result + c.greatest_before.result) c.copy.ensures (omega (arith, c.weight_of.ensures, before)) (light ws t c.requires.weights) next c.in_ok-insert.ensures.updates.0

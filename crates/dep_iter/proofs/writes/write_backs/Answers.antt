@@ -3,4 +3,4 @@ use Rattle.dep_iter.proofs.Joining.{write_backs-targets}
 use Rattle.dep_iter.proofs.writes.write_backs.Goals as goal
 
 pub returns : goal.returns
-returns c = rw (c.start.ensures.targets false c.locals_of.result, c.copy_of.ensures, c.flows_of.ensures.flows, c.locals_of.ensures) (write_backs-targets c.args.plan.now c.args.t.now)
+returns c = rw (c.start.ensures.targets false c.locals_of.result, c.copy.ensures, c.flows_of.ensures.flows, c.locals_of.ensures) (write_backs-targets c.args.plan.now c.args.t.now)

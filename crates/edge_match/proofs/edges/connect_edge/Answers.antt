@@ -25,4 +25,4 @@ returns c = λ earlier.
     let of_job = rw c.far_task.ensures at c.is_task.ensures in
     followed (c.in_ok-check_tile.ensures s)
     (followed (c.in_ok-require.ensures.checked (IsOfJob (far_task way e)) s s (steady _ (λ b. of_job) (λ b. refl)) refl refl)
-    (c.require-2.ensures.checked (counts way e) s c.count_edge-fits.new.counted (c.count_edge-fits.ensures P e (rw c.carries_tile.ensures (is_data-here P at.task.now at.number at.flow.now e way at.here c.requires.task c.requires.flow))) (counts_code way e) (counts_flow P at.number way e)))
+    (c.require-2.ensures.checked (counts way e) s c.count_edge-fits.new.counted (c.count_edge-fits.ensures P e (rw c.is_data.ensures (is_data-here P at.task.now at.number at.flow.now e way at.here c.requires.task c.requires.flow))) (counts_code way e) (counts_flow P at.number way e)))

@@ -7,7 +7,7 @@ use Rattle.flow_core.proofs.sending.send_edge.Goals as goal
 
 pub claim_if_come-requires : goal.claim_if_come-requires
 claim_if_come-requires c = record {
-  task = subst (IsTask c.args.m.now) (sym c.copy_of_task-to.ensures)
+  task = subst (IsTask c.args.m.now) (sym c.copy-to.ensures)
       (due_target c.args.m.now c.requires.fits.0 c.plan.ensures.consistent c.args.runner.now.run c.requires.fits.1 c.args.edge c.requires.due);
   fits = (c.requires.fits.0, c.in_ok-_sent.ensures.fits c.requires.fits.0 c.requires.fits.1);
   running = c.requires.running ∙ sym (ap running_tasks c.in_ok-_sent.ensures.state ∙ same_running c.args.runner.now.run (item.Edge c.args.edge) c.in_ok-_sent._sent);
@@ -21,4 +21,4 @@ returns-clause-done c =
     on_ok_then c.claim_if_come.result
     (λ d. edge_done P G c.plan.ensures.consistent c.args.runner.now.run c.requires.fits.1 c.args.edge c.in_ok-_sent._sent (c.in_ok-_sent.ensures.exact G c.requires.fits.1) c.send_due.new.self
     c.claim_if_come.new.runner.run c.in_ok-_sent.ensures.state c.in_ok-_sent.ensures.fits
-    (subst (λ t. HasDone P (t ∷ []) [] c.send_due.new.self c.claim_if_come.new.runner.run) c.copy_of_task-to.ensures d)) c.claim_if_come.ensures.done
+    (subst (λ t. HasDone P (t ∷ []) [] c.send_due.new.self c.claim_if_come.new.runner.run) c.copy-to.ensures d)) c.claim_if_come.ensures.done

@@ -4,10 +4,13 @@ use Rattle.range_space.specs.ListsAfter.{lists_over}
 use Rattle.range_space.proofs.walk.+nesting.Given as goal
 
 abbrev pub decreases-first : goal.decreases-first
-decreases-first l = 2 * length l.defs.now
+decreases-first l = 3 * length l.defs.now
+
+abbrev pub decreases-first_with : goal.decreases-first_with
+decreases-first_with l = 3 * length l.inner.now + 1
 
 abbrev pub decreases-first_among : goal.decreases-first_among
-decreases-first_among l = 2 * length l.inner.now + 1
+decreases-first_among l = 3 * length l.inner.now + 2
 
 -- no list is continued by a value that was already taken
 abbrev pub invariant-first_among-loop-v : goal.invariant-first_among-loop-v

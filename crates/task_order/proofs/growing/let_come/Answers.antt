@@ -17,7 +17,7 @@ returns-in_ok-push c =
     let new = c.note_edge.new.table.entries in
     let e = c.args.edge.now in
     let noted : IsNoted P e table new c.in_ok-left.left = record { left_is = c.in_ok-left.ensures.left; others = c.in_ok-left.ensures.table } in
-    subst (λ l. GrowsBy P (e ∷ []) order table l new) (ap (λ t. order ++ t ∷ []) (sym c.copy_of.ensures) ∙ sym c.in_ok-push.ensures.items)
+    subst (λ l. GrowsBy P (e ∷ []) order table l new) (ap (λ t. order ++ t ∷ []) (sym c.copy.ensures) ∙ sym c.in_ok-push.ensures.items)
     (grows_more P c.plan.ensures.consistent order table new e c.in_ok-left.left noted c.if-left-eq0.true)
 
 pub returns-else-left-eq0 : goal.returns-else-left-eq0

@@ -14,6 +14,6 @@ returns-clause-table c = λ u.
     let none : lookup (same_task c.args.t.now) c.args.table.now.entries ≡ None = c.in_default.ensures.1 in
     let some = some_go c.args.m.now c.args.table.now.entries c.args.t.now none c.requires.lacks in
     let few : c.goal-left.result - 1 + 1 ≡ goal_of c.args.m.now c.args.t.now = omega (arith, some, c.goal-left.ensures) in
-    entered c.args.m.now c.args.table.now.entries c.insert.new.self.entries c.args.t.now c.copy_of.result u (c.goal-left.result - 1)
-    c.copy_of.ensures none few
-    (c.in_ok-insert.ensures.updates.0 u ∙ ap (λ (l : List (Task × ℕ)). cond (same_task c.copy_of.result u) (Some (c.goal-left.result - 1)) (lookup (same_task u) l)) c.in_default.ensures.0)
+    entered c.args.m.now c.args.table.now.entries c.insert.new.self.entries c.args.t.now c.copy.result u (c.goal-left.result - 1)
+    c.copy.ensures none few
+    (c.in_ok-insert.ensures.updates.0 u ∙ ap (λ (l : List (Task × ℕ)). cond (same_task c.copy.result u) (Some (c.goal-left.result - 1)) (lookup (same_task u) l)) c.in_default.ensures.0)

@@ -12,8 +12,8 @@ pass-requires c =
     let table = c.loop-at.growing.lacking.entries in
     let g = c.loop-at.invariant.grown in
     let lt : c.loop-at.at < length order = omega (arith, c.len.ensures, c.loop-at.growing.order.ok.0) in
-    let here : slice_get order c.loop-at.at ≡ Some c.copy_of-t.result = at_index order c.loop-at.at c.index.result.now lt c.index.ensures ∙ ap Some (sym c.copy_of-t.ensures) in
-    (edges_of P (take c.loop-at.at order), g, is_next P c.plan.ensures.consistent c.loop-at.at order table c.copy_of-t.result g here)
+    let here : slice_get order c.loop-at.at ≡ Some c.copy-t.result = at_index order c.loop-at.at c.index.result.now lt c.index.ensures ∙ ap Some (sym c.copy-t.ensures) in
+    (edges_of P (take c.loop-at.at order), g, is_next P c.plan.ensures.consistent c.loop-at.at order table c.copy-t.result g here)
 
 pub loop-at-smaller : goal.loop-at-smaller
 loop-at-smaller c =
@@ -31,11 +31,11 @@ loop-at-preserved c =
     let new = c.pass.new.growing.order.items in
     let g = c.loop-at.invariant.grown in
     let lt : c.loop-at.at < length order = omega (arith, c.len.ensures, c.loop-at.growing.order.ok.0) in
-    let here : slice_get order c.loop-at.at ≡ Some c.copy_of-t.result = at_index order c.loop-at.at c.index.result.now lt c.index.ensures ∙ ap Some (sym c.copy_of-t.ensures) in
+    let here : slice_get order c.loop-at.at ≡ Some c.copy-t.result = at_index order c.loop-at.at c.index.result.now lt c.index.ensures ∙ ap Some (sym c.copy-t.ensures) in
     let grows = c.in_ok-pass.ensures in
     record {
       within = omega (arith, lt, ap length grows.extends, length-append order grows.more);
-      grown = passed P c.plan.ensures.consistent c.loop-at.at order new table c.pass.new.growing.lacking.entries c.copy_of-t.result g here grows;
+      grown = passed P c.plan.ensures.consistent c.loop-at.at order new table c.pass.new.growing.lacking.entries c.copy-t.result g here grows;
     }
 
 pub returns : goal.returns

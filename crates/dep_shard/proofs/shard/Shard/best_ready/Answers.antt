@@ -16,4 +16,4 @@ returns-clause-some c =
     let es = c.self.inside.table.entries in
     let live = live_front es c.in_ok-best.best.now (heap_items c.drop_stale.new.queue) c.drop_stale.ensures.front c.in_ok-best.ensures.lookup (search rules) in
     let best = best_from es c.in_ok-best.best.now (heap_items c.drop_stale.new.queue) c.drop_stale.ensures.ready (c.in_ok-best.ensures.greatest c.drop_stale.ensures.heap) live in
-    subst (λ (fs : Entries). IsBest fs c.copy_of_task.result) (ap (λ (y : Content). y.entries) c.self.view_is) (subst (λ (t : Task). IsBest es t) (sym c.copy_of_task.ensures) best)
+    subst (λ (fs : Entries). IsBest fs c.copy.result) (ap (λ (y : Content). y.entries) c.self.view_is) (subst (λ (t : Task). IsBest es t) (sym c.copy.ensures) best)

@@ -13,7 +13,7 @@ invariant_of-self c =
     let made : c.new.result ≡ fresh 0 c.args.priority = search rules in
     enters_ready same_task es c.insert.new.self.entries c.args.t.now (fresh 0 c.args.priority) _ (heap_items c.self.inside.queue) (heap_items c.push.new.self) _ _ _ _ _
     c.self.invariant new
-    (on_success _ _ c.unwrap-none.ensures c.insert.ensures.entries ∙ (λ i. insert_entry same_task es (c.copy_of_task.ensures i) (made i)))
-    (λ u. (on_success _ _ c.unwrap-none.ensures c.insert.ensures.updates).0 u ∙ (λ i. cond (same_task (c.copy_of_task.ensures i) u) (Some (made i)) (entry_in es u)))
-    refl (on_success _ _ c.unwrap.ensures c.push.ensures.permutation) (on_success _ _ c.unwrap.ensures c.push.ensures.heap_order) (search rules) c.copy_of_task-2.ensures
+    (on_success _ _ c.unwrap-none.ensures c.insert.ensures.entries ∙ (λ i. insert_entry same_task es (c.copy.ensures i) (made i)))
+    (λ u. (on_success _ _ c.unwrap-none.ensures c.insert.ensures.updates).0 u ∙ (λ i. cond (same_task (c.copy.ensures i) u) (Some (made i)) (entry_in es u)))
+    refl (on_success _ _ c.unwrap.ensures c.push.ensures.permutation) (on_success _ _ c.unwrap.ensures c.push.ensures.heap_order) (search rules) c.copy-2.ensures
     (omega (arith, on_success _ _ c.unwrap.ensures c.push.ensures.len, ap (λ (y : Content). y.spare.entries) c.self.view_is, c.requires.room))

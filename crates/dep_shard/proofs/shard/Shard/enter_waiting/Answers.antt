@@ -14,8 +14,8 @@ invariant_of-self c =
     let made : c.new.result ≡ fresh c.args.goal c.args.priority = search rules in
     enters_waiting same_task es c.insert.new.self.entries c.args.t.now (fresh c.args.goal c.args.priority) (heap_items c.self.inside.queue) _ _ _
     c.self.invariant new
-    (on_success _ _ c.unwrap-none.ensures c.insert.ensures.entries ∙ (λ i. insert_entry same_task es (c.copy_of_task.ensures i) (made i)))
-    (λ u. (on_success _ _ c.unwrap-none.ensures c.insert.ensures.updates).0 u ∙ (λ i. cond (same_task (c.copy_of_task.ensures i) u) (Some (made i)) (entry_in es u)))
+    (on_success _ _ c.unwrap-none.ensures c.insert.ensures.entries ∙ (λ i. insert_entry same_task es (c.copy.ensures i) (made i)))
+    (λ u. (on_success _ _ c.unwrap-none.ensures c.insert.ensures.updates).0 u ∙ (λ i. cond (same_task (c.copy.ensures i) u) (Some (made i)) (entry_in es u)))
     c.requires.goal
     (omega (arith, ap (λ (y : Content). y.spare.entries) c.self.view_is, c.requires.room))
 
@@ -24,5 +24,5 @@ returns-clause-at c =
     let es = c.self.inside.table.entries in
     let new : entry_in es c.args.t.now ≡ None = search rules in
     let made : c.new.result ≡ fresh c.args.goal c.args.priority = search rules in
-    ap (λ (fs : Entries). slice_get fs c.len-index.result) (on_success _ _ c.unwrap-none.ensures c.insert.ensures.entries ∙ (λ i. insert_entry same_task es (c.copy_of_task.ensures i) (made i)) ∙ insert_entry-new same_task c.self.inside.table c.args.t.now (fresh c.args.goal c.args.priority) new)
+    ap (λ (fs : Entries). slice_get fs c.len-index.result) (on_success _ _ c.unwrap-none.ensures c.insert.ensures.entries ∙ (λ i. insert_entry same_task es (c.copy.ensures i) (made i)) ∙ insert_entry-new same_task c.self.inside.table c.args.t.now (fresh c.args.goal c.args.priority) new)
     ∙ at_end es (c.args.t.now, fresh c.args.goal c.args.priority) c.len-index.result c.len-index.ensures.len

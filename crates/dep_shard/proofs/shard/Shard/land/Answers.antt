@@ -63,7 +63,7 @@ invariant_of-self-2 c =
     let ready : IsReady f = omega (arith, ap (λ (x : Entry). x.arrived) c.add.ensures, ap (λ (x : Entry). x.goal) c.add.ensures, waits, c.if-arrived-goal.false, c.arrived.ensures, c.goal.ensures) in
     fires es (set_value_at es c.args.index f) c.args.index t e f _ (heap_items c.self.inside.queue) (heap_items c.push.new.self) _ _ _ _ _ _
     c.self.invariant at refl up.0 waits ready (on_success _ _ c.unwrap.ensures c.push.ensures.permutation) (on_success _ _ c.unwrap.ensures c.push.ensures.heap_order)
-    (search rules) c.copy_of_task.ensures (omega (arith, positive)) (omega (arith, positive, on_success _ _ c.unwrap.ensures c.push.ensures.len, c.self.invariant.room))
+    (search rules) c.copy.ensures (omega (arith, positive)) (omega (arith, positive, on_success _ _ c.unwrap.ensures c.push.ensures.len, c.self.invariant.room))
 
 pub returns-clause-spare : goal.returns-clause-spare
 returns-clause-spare c =

@@ -39,7 +39,7 @@ returns c =
     let sent : c.number_at-arrived.result ≡ edges_to t r.sends =
     c.number_at-arrived.ensures ∙ c.self.invariant.counts t (ap (λ (s : RunState). mark_of s t) c.self.view_is ∙ none) ∙ ap (λ (s : RunState). edges_to t s.sends) c.self.view_is in
     let waits = waits_so c.args.m.now c.requires.fits.0 c.requires.consistent r c.requires.fits.1 t c.requires.task none c.number_at-arrived.result c.goal-goal.result sent c.goal-goal.ensures (omega arith) (omega arith) in
-    let row : record { task = c.copy_of_task.result; arrived = c.number_at-arrived.result; goal = c.goal-goal.result } ≡ record { task = t; arrived = c.number_at-arrived.result; goal = c.goal-goal.result } =
-    λ i. record { task = c.copy_of_task.ensures i; arrived = c.number_at-arrived.result; goal = c.goal-goal.result } in
+    let row : record { task = c.copy.result; arrived = c.number_at-arrived.result; goal = c.goal-goal.result } ≡ record { task = t; arrived = c.number_at-arrived.result; goal = c.goal-goal.result } =
+    λ i. record { task = c.copy.ensures i; arrived = c.number_at-arrived.result; goal = c.goal-goal.result } in
     c.in_ok-push.ensures.items ∙ ap (λ (w : WaitRow). c.args.rows.now.items ++ w ∷ []) (row ∙ row_is c.args.m.now c.requires.fits.0 c.requires.consistent r c.requires.fits.1 t c.requires.task none c.number_at-arrived.result c.goal-goal.result sent c.goal-goal.ensures)
     ∙ one_wait c.args.m.now (machine r) t c.args.rows.now.items waits

@@ -2,7 +2,7 @@ use Rattle.std.proofs.Common.{rules, ap, ◌∙◌, FitsSigned, w64}
 use Rattle.std.proofs.lemmas.Int.{to_z-of_z}
 use Rattle.range_space.specs.ListsAfter.{lists_over, lists_over_rest}
 use Rattle.range_space.proofs.Stepping.{values_unfit}
-use Rattle.range_space.proofs.walk.first_past.Goals as goal
+use Rattle.range_space.proofs.walk.first_in_range_past.Goals as goal
 
 pub returns-in-None-clause-none : goal.returns-in-None-clause-none
 returns-in-None-clause-none c =

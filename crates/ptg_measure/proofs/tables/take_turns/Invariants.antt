@@ -1,0 +1,6 @@
+use Rattle.dep_table.specs.Passes.{IsPassOf}
+use Rattle.dep_table.specs.Tables.{id_of}
+use Rattle.ptg_measure.proofs.tables.take_turns.Given as goal
+
+abbrev pub invariant-loop-k : goal.invariant-loop-k
+invariant-loop-k l = IsPassOf (id_of l.table) l.pass

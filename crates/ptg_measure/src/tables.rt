@@ -1,0 +1,220 @@
+//! The table that workers share: turns of its shards, its opening, its close and its answer.
+ghost use Rattle.std.specs.Prelude.{◌≡◌, ◌<◌, All, IfOk};
+ghost use Rattle.plan_data.specs.Fit.{DataFit};
+ghost use Rattle.table_rule.specs.Changes.{first_pass};
+ghost use Rattle.dep_table.specs.Passes.{IsPassOf};
+ghost use Rattle.dep_table.specs.Tables.{id_of, job_of};
+ghost use Rattle.dep_table.specs.Views.{shown};
+
+use crate::count::{Count, Failure};
+use crate::jobs::{line_job, waiting_job};
+use coll_data::Given;
+use dep_iter::Matched;
+use dep_table::closed::Closed;
+use dep_table::pass::Pass;
+use dep_table::table::DepTable;
+use dep_table::turn::Busy;
+use flow_meaning::Outcome;
+use ptg_base::OutOfMemory;
+use run_pool::{PrepareFault, Settings, prepare, run};
+use std::alloc::Global;
+use std::sync::Wait;
+use std::thread;
+use std::thread::Threads;
+use worker_core::Always;
+
+// How many shards there are, and how many passes in threads.
+const SHARDS: u32 = 16;
+
+const THREADS: u32 = 4;
+
+// A table of a job, with its first pass.
+fn open(alloc: Global, job: (Matched, Given)) -> Result<(DepTable, Pass), Failure>
+    requires { DataFit job.0.colls job.0.elems job.1 }
+    ensures pass { IfOk result (λ r. IsPassOf (id_of r.0) r.1 × (shown r.1 ≡ first_pass)) }
+{
+    let (matched, given) = job;
+    Ok(DepTable::new(alloc, matched, given, SHARDS)?)
+}
+
+// Takes the turn of a shard and gives it back: whether it did, or another pass had it.
+fn take_and_leave(table: &DepTable, pass: &mut Pass, shard: u32) -> bool
+    requires pass { IsPassOf (id_of table.now) pass.old }
+    requires shard { shard < (job_of table.now).shards }
+    ensures { IsPassOf (id_of table.now) pass.new }
+{
+    match table.try_turn(pass, shard) {
+        Ok(turn) => {
+            turn.leave();
+            true
+        }
+        Err(Busy { pass: _pass }) => false,
+    }
+}
+
+// Goes for so many turns, of one shard after the other. How many it got.
+fn take_turns(table: &DepTable, pass: &mut Pass, count: u32) -> u64
+    requires { IsPassOf (id_of table.now) pass.old }
+    ensures { IsPassOf (id_of table.now) pass.new }
+{
+    let shards = table.shards();
+    let mut taken: u64 = 0;
+    if shards == 0 {
+        return taken;
+    }
+    for k in 0..count {
+        if take_and_leave(table, pass, k % shards) {
+            taken = taken.wrapping_add(1);
+        }
+    }
+    taken
+}
+
+/// So many turns, taken and given back by one pass alone.
+pub fn turns(alloc: Global, size: u32) -> Result<Vec<Count>, Failure> {
+    let (table, mut pass) = open(alloc, line_job(alloc, 2)?)?;
+    let taken = take_turns(&table, &mut pass, size);
+    Ok(vec![in alloc; Count::of("taken", taken)]?)
+}
+
+/// So many turns by each of three passes, one after the other, on one thread.
+pub fn turns_of_three(alloc: Global, size: u32) -> Result<Vec<Count>, Failure> {
+    let (table, mut first) = open(alloc, line_job(alloc, 2)?)?;
+    let mut second = table.split(&mut first);
+    let mut third = table.split(&mut first);
+    let mut taken: u64 = 0;
+    for _ in 0..size {
+        taken = taken.wrapping_add(take_turns(&table, &mut first, 1));
+        taken = taken.wrapping_add(take_turns(&table, &mut second, 1));
+        taken = taken.wrapping_add(take_turns(&table, &mut third, 1));
+    }
+    Ok(vec![in alloc; Count::of("taken", taken)]?)
+}
+
+// The first pass of a table, with others that are split off it.
+fn some_passes(alloc: Global, table: &DepTable, first: Pass) -> Result<Vec<Pass>, OutOfMemory>
+    requires { IsPassOf (id_of table.now) first }
+    ensures { IfOk result (λ passes. All (IsPassOf (id_of table.now)) passes.items) }
+{
+    let mut first = first;
+    let mut passes = Vec::new(alloc);
+    for _ in 1..THREADS {
+        passes.push(table.split(&mut first))?;
+    }
+    passes.push(first)?;
+    Ok(passes)
+}
+
+// Goes for the turn of a shard until it has got it.
+fn take_at_last<R: Wait>(rt: &R, table: &DepTable, pass: &mut Pass, shard: u32)
+    requires pass { IsPassOf (id_of table.now) pass.old }
+    requires shard { shard < (job_of table.now).shards }
+    ensures { IsPassOf (id_of table.now) pass.new }
+{
+    for _ in rt.forever() {
+        if take_and_leave(table, pass, shard) {
+            return;
+        }
+    }
+    unreachable!()
+}
+
+// Takes so many turns, of one shard after the other, however long each takes. How many it got.
+fn take_all<R: Wait>(rt: &R, table: &DepTable, pass: Pass, count: u32) -> u64
+    requires { IsPassOf (id_of table.now) pass }
+{
+    let mut pass = pass;
+    let mut taken: u64 = 0;
+    let shards = table.shards();
+    if shards == 0 {
+        return taken;
+    }
+    for k in 0..count {
+        take_at_last(rt, table, &mut pass, k % shards);
+        taken = taken.wrapping_add(1);
+    }
+    taken
+}
+
+/// So many turns of the same shards by each of four passes, each in a thread of its own, however often they are found taken.
+pub fn turns_in_threads<R: Threads + Wait + Sync>(
+    rt: &R,
+    alloc: Global,
+    size: u32,
+) -> Result<Vec<Count>, Failure> {
+    let (table, first) = open(alloc, line_job(alloc, 2)?)?;
+    let passes = some_passes(alloc, &table, first)?;
+    let taken = thread::map_vec(
+        rt,
+        passes,
+        &|pass: Pass|
+            requires { IsPassOf (id_of table) pass }
+        { take_all(rt, &table, pass, size) },
+    )?;
+    let mut sum: u64 = 0;
+    for one in taken {
+        sum = sum.wrapping_add(one);
+    }
+    Ok(vec![in alloc; Count::of("taken", sum)]?)
+}
+
+/// The job of so many tasks in a line, without a table.
+pub fn unopened(alloc: Global, size: u32) -> Result<Vec<Count>, Failure> {
+    let (matched, _given) = line_job(alloc, size)?;
+    Ok(vec![in alloc; Count::of("tasks", matched.tasks())]?)
+}
+
+/// The same with a table.
+pub fn opened(alloc: Global, size: u32) -> Result<Vec<Count>, Failure> {
+    let (table, _first) = open(alloc, line_job(alloc, size)?)?;
+    Ok(vec![in alloc; Count::of("tasks", table.matched().tasks())]?)
+}
+
+// The closed table of a job that one worker has run.
+fn closed<R: Threads + Wait + Sync>(
+    rt: &R,
+    alloc: Global,
+    job: (Matched, Given),
+) -> Result<Closed, Failure>
+    requires { DataFit job.0.colls job.0.elems job.1 }
+{
+    let (matched, given) = job;
+    let settings = Settings {
+        workers: 1,
+        shards: SHARDS,
+        preload: false,
+    };
+    match prepare(alloc, matched, given, settings) {
+        Ok(prepared) => Ok(run(rt, prepared, &Always)?),
+        Err(PrepareFault::PreloadTooLarge(_bytes)) => Err(Failure::TooLarge),
+        Err(PrepareFault::OutOfMemory) => Err(Failure::OutOfMemory),
+    }
+}
+
+/// The run of one task after which so many others wait, up to the close of the table.
+pub fn close<R: Threads + Wait + Sync>(
+    rt: &R,
+    alloc: Global,
+    size: u32,
+) -> Result<Vec<Count>, Failure> {
+    let closed = closed(rt, alloc, waiting_job(alloc, size)?)?;
+    Ok(vec![in alloc; Count::of("quiet", u64::from(closed.quiet()))]?)
+}
+
+/// The same, up to its answer: how many wait.
+pub fn outcome<R: Threads + Wait + Sync>(
+    rt: &R,
+    alloc: Global,
+    size: u32,
+) -> Result<Vec<Count>, Failure> {
+    let closed = closed(rt, alloc, waiting_job(alloc, size)?)?;
+    if !closed.quiet() {
+        return Err(Failure::NotWellMade);
+    }
+    let (outcome, _receipt) = closed.outcome()?;
+    let waits = match outcome {
+        Outcome::Stalled(_ran, _total, rows) => rows.len() as u64,
+        _ => 0,
+    };
+    Ok(vec![in alloc; Count::of("waiting", waits)]?)
+}
