@@ -1,7 +1,7 @@
 -- Which links are among those of targets and of tasks.
-use Rattle.std.proofs.Common.{Option, ◌≡◌, ◌↔◌, ℕ, zero, suc, ◌+◌, ℤ, Bool, true, false, List, [], ◌∷◌, ◌++◌, length, take, map, refl, ap, sym, ◌∙◌, subst, append_assoc, add-zero, Some, None, slice_get, IsSomeAnd, IsTrue, inl, inr, arith}
+use Rattle.std.proofs.Common.{Option, ◌≡◌, ◌↔◌, ◌⊎◌, ℕ, zero, suc, ◌+◌, ℤ, Bool, true, false, List, [], ◌∷◌, ◌++◌, length, take, map, refl, ap, sym, ◌∙◌, subst, append_assoc, add-zero, Some, None, slice_get, IsSomeAnd, IsTrue, inl, inr, arith}
 use Rattle.std.proofs.lemmas.Bool.{false≢true}
-use Rattle.std.specs.List.{filter_map, flat_map}
+use Rattle.std.specs.List.{flat_map}
 use Rattle.std.specs.Option.{option_map_or}
 use Rattle.ptg_base.specs.Lists.{IsIn}
 use Rattle.ptg_base.specs.Task.{Task}
@@ -16,8 +16,11 @@ use Rattle.dep_iter.specs.Tasks.{flows_of, locals_of}
 use Rattle.plan_core.specs.declared.flow.DepPlan.{DepPlan}
 use Rattle.dep_iter.specs.Active.{by_flow, held_target, held_targets, held_then, takes_first}
 use Rattle.dep_iter.specs.Arguments.{combinations, product}
-use Rattle.dep_iter.specs.Edges.{edges_into, in_edges, in_edges_before}
-use Rattle.dep_iter.specs.Items.{edge_of, items_to, out_edges, out_edges_before}
+use Rattle.dep_iter.specs.declared.direction.Direction.{Direction}
+use Rattle.dep_iter.specs.declared.direction.Direction.TheVariants.{In, Out}
+use Rattle.dep_iter.specs.Directions.{dependences, edges_before, edges_of, far_flow, far_task, first_alone, near_flow, near_task}
+use Rattle.dep_iter.specs.Edges.{in_edges, in_edges_before}
+use Rattle.dep_iter.specs.Items.{out_edges, out_edges_before}
 use Rattle.dep_iter.specs.Links.{all_links, edge_in, edge_out, flow_targets, link, links_to, task_links}
 use Rattle.dep_iter.proofs.Joining.{edges_into-among, in_edges-links, items_to-among, out_edges-links}
 
@@ -175,23 +178,27 @@ module _ (env : List ℤ) (n : ℕ) (l : Link) (d : DepPlan) (ds : List DepPlan)
         λ h. elim (from_append l (links_to env n x) (flat_map (links_to env n) (held_targets false ds env)) h) [ inl a ↦ absurd (not_here a) | inr k ↦ w.1 k ],
       )
 
--- whether an edge is one into a task, and one out of it, where its flow exists
-module _ (P : Plan) (t : Task) (e : Edge) (f : FlowPlan) where
-  pub in_edge-by : slice_get (flows_of P t) e.in_flow ≡ Some f → e.to ≡ t → (b : Bool) → IsTrue b ↔ IsIn (link_in e) (flat_map (links_to (locals_of P t) e.in_flow) (flow_targets true (locals_of P t) f)) → IsTrue b ↔ IsIn e (in_edges P t)
-  in_edge-by here same b w = (
-    λ q. (in_edge_is P t e).1 (same, rw here (w.0 q)),
-    λ h. w.1 (rw here at ((in_edge_is P t e).0 h).1),
-  )
+-- the link that an edge is to the task that it is one of
+abbrev pub link_of : Direction → Edge → Link
+link_of d e = record { near = near_flow d e; far = far_task d e; far_flow = far_flow d e }
 
-  pub out_edge-by : slice_get (flows_of P t) e.out_flow ≡ Some f → e.from ≡ t → (b : Bool) → IsTrue b ↔ IsIn (link_out e) (flat_map (links_to (locals_of P t) e.out_flow) (flow_targets false (locals_of P t) f)) → IsTrue b ↔ IsIn e (out_edges P t)
-  out_edge-by here same b w = (
-    λ q. (out_edge_is P t e).1 (same, rw here (w.0 q)),
-    λ h. w.1 (rw here at ((out_edge_is P t e).0 h).1),
-  )
+-- the links that these dependences of a flow give
+abbrev pub links_of : Direction → Plan → Task → ℕ → FlowPlan → List DepPlan → List Link
+links_of d P t n f ds = flat_map (links_to (locals_of P t) n) (held_targets (first_alone d f.kind) ds (locals_of P t))
 
--- whether an edge is one of those that the first dependences of its flow give
+-- whether an edge is one of a task, in the direction
+pub edge_is : (d : Direction) (P : Plan) (t : Task) (e : Edge) → IsIn e (edges_of d P t) ↔ ((near_task d e ≡ t) × IsSomeAnd (slice_get (flows_of P t) (near_flow d e)) (λ f. IsIn (link_of d e) (links_of d P t (near_flow d e) f (dependences d f))))
+edge_is In P t e = in_edge_is P t e
+edge_is Out P t e = out_edge_is P t e
+
+-- an edge of another task, or of no flow of this task, is not one of this task
+pub edge-none : (d : Direction) (P : Plan) (t : Task) (e : Edge) → (near_task d e ≡ t → ⊥) ⊎ (slice_get (flows_of P t) (near_flow d e) ≡ None) → IsIn e (edges_of d P t) → ⊥
+edge-none d P t e (inl other) h = other ((edge_is d P t e).0 h).0
+edge-none d P t e (inr past) h = rw past at ((edge_is d P t e).0 h).1
+
+-- whether an edge is one of those that the first dependences of its flow give, into the task, out of it, and in the direction
 module _ (P : Plan) (t : Task) (e : Edge) (f : FlowPlan) (k : ℕ) where
-  pub in_before-is : slice_get (flows_of P t) e.in_flow ≡ Some f → IsIn e (in_edges_before P t e.in_flow k) ↔ ((e.to ≡ t) × IsIn (link_in e) (flat_map (links_to (locals_of P t) e.in_flow) (held_targets (takes_first f.kind) (take k f.ins) (locals_of P t))))
+  in_before-is : slice_get (flows_of P t) e.in_flow ≡ Some f → IsIn e (in_edges_before P t e.in_flow k) ↔ ((e.to ≡ t) × IsIn (link_in e) (flat_map (links_to (locals_of P t) e.in_flow) (held_targets (takes_first f.kind) (take k f.ins) (locals_of P t))))
   unfolding in_edges_before
   in_before-is here =
       let env = locals_of P t in
@@ -201,7 +208,7 @@ module _ (P : Plan) (t : Task) (e : Edge) (f : FlowPlan) (k : ℕ) where
         λ h. to_edges_in t (flat_map (links_to env e.in_flow) xs) e h.0 h.1,
       )
 
-  pub out_before-is : slice_get (flows_of P t) e.out_flow ≡ Some f → IsIn e (out_edges_before P t e.out_flow k) ↔ ((e.from ≡ t) × IsIn (link_out e) (flat_map (links_to (locals_of P t) e.out_flow) (held_targets false (take k f.outs) (locals_of P t))))
+  out_before-is : slice_get (flows_of P t) e.out_flow ≡ Some f → IsIn e (out_edges_before P t e.out_flow k) ↔ ((e.from ≡ t) × IsIn (link_out e) (flat_map (links_to (locals_of P t) e.out_flow) (held_targets false (take k f.outs) (locals_of P t))))
   unfolding out_edges_before
   out_before-is here =
       let env = locals_of P t in
@@ -211,25 +218,30 @@ module _ (P : Plan) (t : Task) (e : Edge) (f : FlowPlan) (k : ℕ) where
         λ h. to_edges_out t (flat_map (links_to env e.out_flow) xs) e h.0 h.1,
       )
 
-pub in_before-past : (P : Plan) (t : Task) (e : Edge) (k : ℕ) → slice_get (flows_of P t) e.in_flow ≡ None → IsIn e (in_edges_before P t e.in_flow k) → ⊥
-unfolding in_edges_before
-in_before-past P t e k past h = rw past at h
+  pub before-is : (d : Direction) → slice_get (flows_of P t) (near_flow d e) ≡ Some f → IsIn e (edges_before d P t (near_flow d e) k) ↔ ((near_task d e ≡ t) × IsIn (link_of d e) (links_of d P t (near_flow d e) f (take k (dependences d f))))
+  before-is In here = in_before-is here
+  before-is Out here = out_before-is here
 
-pub out_before-past : (P : Plan) (t : Task) (e : Edge) (k : ℕ) → slice_get (flows_of P t) e.out_flow ≡ None → IsIn e (out_edges_before P t e.out_flow k) → ⊥
-unfolding out_edges_before
-out_before-past P t e k past h = rw past at h
+-- no dependences give none
+none_of : {A : Type 0} (g : FlowPlan → List A) → ((f : FlowPlan) → g f ≡ []) → (o : Option FlowPlan) → option_map_or g o [] ≡ []
+none_of g h None = refl
+none_of g h (Some f) = h f
 
--- no dependence gives none
-none_of : {A : Type 0} (g : FlowPlan → List DepPlan → List A) (h : (f : FlowPlan) → g f [] ≡ []) (ds : FlowPlan → List DepPlan) (o : Option FlowPlan) (e : A) → IsIn e (option_map_or (λ (f : FlowPlan). g f (take 0 (ds f))) o []) → ⊥
-none_of g h ds None e w = w
-none_of g h ds (Some f) e w = rw (h f) at w
+pub before-no_dependences : (d : Direction) (P : Plan) (t : Task) (n : ℕ) → edges_before d P t n 0 ≡ []
+unfolding in_edges_before out_edges_before
+before-no_dependences In P t n = none_of _ (λ f. refl) (slice_get (flows_of P t) n)
+before-no_dependences Out P t n = none_of _ (λ f. refl) (slice_get (flows_of P t) n)
 
-pub in_before-none : (P : Plan) (t : Task) (n : ℕ) (e : Edge) → IsIn e (in_edges_before P t n 0) → ⊥
-unfolding in_edges_before
-in_before-none P t n e w =
-    none_of (λ f ds. flat_map (edges_into t (locals_of P t) n) (held_targets (takes_first f.kind) ds (locals_of P t))) (λ f. refl) (λ f. f.ins) (slice_get (flows_of P t) n) e w
+before-past : (d : Direction) (P : Plan) (t : Task) (n k : ℕ) → slice_get (flows_of P t) n ≡ None → edges_before d P t n k ≡ []
+unfolding in_edges_before out_edges_before
+before-past In P t n k past = rw past refl
+before-past Out P t n k past = rw past refl
 
-pub out_before-none : (P : Plan) (t : Task) (n : ℕ) (e : Edge) → IsIn e (out_edges_before P t n 0) → ⊥
-unfolding out_edges_before
-out_before-none P t n e w =
-    none_of (λ f ds. filter_map edge_of (flat_map (items_to t (locals_of P t) n) (held_targets false ds (locals_of P t)))) (λ f. refl) (λ f. f.outs) (slice_get (flows_of P t) n) e w
+-- nor is it one that the first dependences give
+pub before-none : (d : Direction) (P : Plan) (t : Task) (e : Edge) (k : ℕ) → (near_task d e ≡ t → ⊥) ⊎ (slice_get (flows_of P t) (near_flow d e) ≡ None) → IsIn e (edges_before d P t (near_flow d e) k) → ⊥
+before-none d P t e k (inr past) h = rw (before-past d P t (near_flow d e) k past) at h
+before-none d P t e k (inl other) h = of_flow (slice_get (flows_of P t) (near_flow d e)) refl
+  where
+    of_flow : (o : Option FlowPlan) → slice_get (flows_of P t) (near_flow d e) ≡ o → ⊥
+    of_flow None past = rw (before-past d P t (near_flow d e) k past) at h
+    of_flow (Some f) here = other ((before-is P t e f k d here).0 h).0

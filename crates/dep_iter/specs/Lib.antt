@@ -10,3 +10,4 @@ pub mod Combining
 pub mod Links
 pub mod Walking
 pub mod Given
+pub mod Directions

@@ -1,36 +1,27 @@
-//! The tasks at the ends of an edge, with their locals.
+//! The task at the other end of an edge, with its locals.
 
 ghost use Rattle.std.specs.Prelude.{◌≡◌, MatchOption};
 ghost use Rattle.ptg_base.specs.Lists.{IsIn};
-ghost use Rattle.dep_iter.specs.Edges as edges;
-ghost use Rattle.dep_iter.specs.Items as items;
+ghost use Rattle.dep_iter.specs.Directions as directions;
+ghost use Rattle.dep_iter.specs.Directions.{edges_of, opposite};
 ghost use Rattle.dep_iter.specs.Tasks as tasks;
 ghost use Rattle.dep_iter.specs.Tasks.{IsTask};
 
-use crate::membership::{has_in_edge_under, has_out_edge_under};
+use crate::direction::Direction;
+use crate::lent::LentEdge;
+use crate::membership::has_edge_under;
 use crate::task::task_locals;
 use plan_core::Plan;
-use ptg_base::Edge;
 use range_space::Numbers;
 
-/// The locals of the task that an edge comes from, if the edge is one out of it; None where the job has no such task, or the task no such edge.
-pub fn sender_locals(plan: &Plan, edge: &Edge) -> Option<Numbers<16>>
-    ensures { MatchOption result (IsTask plan.now edge.now.from × IsIn edge.now (items.out_edges plan.now edge.now.from) → ⊥) (λ locals. IsTask plan.now edge.now.from × IsIn edge.now (items.out_edges plan.now edge.now.from) × (locals ≡ tasks.locals_of plan.now edge.now.from)) }
+/// The locals of the task at the other end of an edge, if the edge is one of that task in the other direction: an edge into a task
+/// is one out of the task that it comes from. None where the job has no such task, or the task no such edge.
+pub fn far_locals(plan: &Plan, way: Direction, edge: &LentEdge) -> Option<Numbers<16>>
+    ensures { MatchOption result (IsTask plan.now (directions.far_task way edge.now) × IsIn edge.now (edges_of (opposite way) plan.now (directions.far_task way edge.now)) → ⊥) (λ locals. IsTask plan.now (directions.far_task way edge.now) × IsIn edge.now (edges_of (opposite way) plan.now (directions.far_task way edge.now)) × (locals ≡ tasks.locals_of plan.now (directions.far_task way edge.now))) }
 {
-    let locals = task_locals(plan, &edge.from)?;
-    if has_out_edge_under(plan, &edge.from, locals.as_slice(), edge) {
-        Some(locals)
-    } else {
-        None
-    }
-}
-
-/// The locals of the task that an edge goes to, if the edge is one into it; None where the job has no such task, or the task no such edge.
-pub fn receiver_locals(plan: &Plan, edge: &Edge) -> Option<Numbers<16>>
-    ensures { MatchOption result (IsTask plan.now edge.now.to × IsIn edge.now (edges.in_edges plan.now edge.now.to) → ⊥) (λ locals. IsTask plan.now edge.now.to × IsIn edge.now (edges.in_edges plan.now edge.now.to) × (locals ≡ tasks.locals_of plan.now edge.now.to)) }
-{
-    let locals = task_locals(plan, &edge.to)?;
-    if has_in_edge_under(plan, &edge.to, locals.as_slice(), edge) {
+    let far = edge.far_task(way);
+    let locals = task_locals(plan, far)?;
+    if has_edge_under(plan, way.opposite(), far, locals.as_slice(), edge) {
         Some(locals)
     } else {
         None

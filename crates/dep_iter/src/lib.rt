@@ -4,11 +4,13 @@
 mod argument;
 mod combining;
 mod counts;
+mod direction;
 mod edges;
 mod ends;
 mod guard;
 mod hints;
 mod laws;
+mod lent;
 mod link;
 mod links;
 mod locals;
@@ -27,20 +29,19 @@ mod writes;
 pub use argument::arg_steps;
 pub use combining::Combinations;
 pub use counts::Counts;
+pub use direction::Direction;
 pub use edges::{InEdges, OutEdges, in_edges, in_edges_under, out_edges, out_edges_under};
-pub use ends::{receiver_locals, sender_locals};
+pub use ends::far_locals;
 pub use guard::held_target;
 pub use hints::{affinity, affinity_under, place_number, priority, priority_under};
 pub use laws::{
     a_task_has_no_more_edges_than_the_job, all_tasks_are_listed, edges_are_links,
     edges_of_a_dependence_differ,
 };
+pub use lent::LentEdge;
 pub use link::Link;
 pub use matched::Matched;
-pub use membership::{
-    has_in_edge, has_in_edge_before, has_in_edge_under, has_out_edge, has_out_edge_before,
-    has_out_edge_under,
-};
+pub use membership::{has_edge_before, has_edge_under};
 pub use position::{Position, takes_first};
 pub use progression::Progression;
 pub use source::Source;

@@ -1,21 +1,21 @@
 //! Whether a task has an edge, by guards and ranges, without a walk over its edges.
 
-ghost use Rattle.std.specs.Prelude.{◌≡◌, ◌↔◌, ℕ, IsTrue, flat_map, take};
+ghost use Rattle.std.specs.Prelude.{◌≡◌, ◌↔◌, ◌⊎◌, ℕ, IsTrue, MatchOption, None, Some, flat_map, slice_get, take};
 ghost use Rattle.ptg_base.specs.Lists.{IsIn};
 ghost use Rattle.dep_iter.specs.Active.{held_targets};
 ghost use Rattle.dep_iter.specs.Arguments.{combinations};
-ghost use Rattle.dep_iter.specs.Edges as edges;
-ghost use Rattle.dep_iter.specs.Items as items;
+ghost use Rattle.dep_iter.specs.Directions as directions;
 ghost use Rattle.dep_iter.specs.Links.{links_to};
 ghost use Rattle.dep_iter.specs.Tasks as tasks;
 ghost use Rattle.dep_iter.specs.Tasks.{IsTask};
 
 use crate::argument::has_value;
+use crate::direction::Direction;
 use crate::guard::held_target;
-use crate::position::takes_first;
-use crate::task::{flows_of, locals_of};
-use plan_core::{Arg, DepPlan, Plan, Target};
-use ptg_base::{Edge, TaskId};
+use crate::lent::LentEdge;
+use crate::task::flows_of;
+use plan_core::{Arg, DepPlan, FlowPlan, Plan, Target};
+use ptg_base::TaskId;
 
 // Whether these numbers are one of the combinations of the values of these arguments.
 pub(crate) fn has_combination(args: &[Arg], env: &[i64], params: &[i64]) -> bool
@@ -68,66 +68,40 @@ fn any_leads_to(first_only: bool, deps: &[DepPlan], env: &[i64], far: &TaskId, f
     any_leads_to(first_only, later, env, far, far_flow)
 }
 
-/// Whether the edge is one of those into the task. Takes time according to the dependences of one flow, however many edges they give.
-pub fn has_in_edge(plan: &Plan, t: &TaskId, edge: &Edge) -> bool
+// The flow of the task that the edge is one of, where the edge is one of this task and the task has such a flow.
+fn flow_at<'a>(plan: &'a Plan, way: Direction, t: &TaskId, edge: &LentEdge) -> Option<&'a FlowPlan>
     requires { IsTask plan.now t.now }
-    ensures { IsTrue result ↔ IsIn edge.now (edges.in_edges plan.now t.now) }
+    ensures { MatchOption result ((directions.near_task way edge.now ≡ t.now → ⊥) ⊎ (slice_get (tasks.flows_of plan.now t.now) (directions.near_flow way edge.now) ≡ None)) (λ f. (directions.near_task way edge.now ≡ t.now) × (slice_get (tasks.flows_of plan.now t.now) (directions.near_flow way edge.now) ≡ Some f.now)) }
 {
-    let env = locals_of(plan, t);
-    has_in_edge_under(plan, t, env.as_slice(), edge)
+    let same_task = *edge.near_task(way) == *t;
+    if !same_task {
+        return None;
+    }
+    let flows = flows_of(plan, t);
+    let number = edge.near_flow(way) as usize;
+    if number >= flows.len() {
+        return None;
+    }
+    Some(&flows[number])
 }
 
-/// Whether the edge is one of those into the task with these locals.
-pub fn has_in_edge_under(plan: &Plan, t: &TaskId, env: &[i64], edge: &Edge) -> bool
+/// Whether the edge is one of those of the task with these locals, into it or out of it. Takes time according to the dependences
+/// of one flow, however many edges they give.
+pub fn has_edge_under(plan: &Plan, way: Direction, t: &TaskId, env: &[i64], edge: &LentEdge) -> bool
     requires task { IsTask plan.now t.now }
     requires locals { env.now ≡ tasks.locals_of plan.now t.now }
-    ensures { IsTrue result ↔ IsIn edge.now (edges.in_edges plan.now t.now) }
+    ensures { IsTrue result ↔ IsIn edge.now (directions.edges_of way plan.now t.now) }
 {
-    let flows = flows_of(plan, t);
-    let number = edge.in_flow as usize;
-    if number >= flows.len() {
+    let Some(flow) = flow_at(plan, way, t, edge) else {
         return false;
-    }
-    let same_task = edge.to == *t;
-    if !same_task {
-        return false;
-    }
-    let flow = &flows[number];
+    };
     any_leads_to(
-        takes_first(flow.kind),
-        flow.ins.as_slice(),
+        way.first_alone(flow.kind),
+        way.dependences(flow),
         env,
-        &edge.from,
-        edge.out_flow,
+        edge.far_task(way),
+        edge.far_flow(way),
     )
-}
-
-/// Whether the edge is one of those out of the task. Takes time according to the dependences of one flow, however many edges they give.
-pub fn has_out_edge(plan: &Plan, t: &TaskId, edge: &Edge) -> bool
-    requires { IsTask plan.now t.now }
-    ensures { IsTrue result ↔ IsIn edge.now (items.out_edges plan.now t.now) }
-{
-    let env = locals_of(plan, t);
-    has_out_edge_under(plan, t, env.as_slice(), edge)
-}
-
-/// Whether the edge is one of those out of the task with these locals.
-pub fn has_out_edge_under(plan: &Plan, t: &TaskId, env: &[i64], edge: &Edge) -> bool
-    requires task { IsTask plan.now t.now }
-    requires locals { env.now ≡ tasks.locals_of plan.now t.now }
-    ensures { IsTrue result ↔ IsIn edge.now (items.out_edges plan.now t.now) }
-{
-    let flows = flows_of(plan, t);
-    let number = edge.out_flow as usize;
-    if number >= flows.len() {
-        return false;
-    }
-    let same_task = edge.from == *t;
-    if !same_task {
-        return false;
-    }
-    let flow = &flows[number];
-    any_leads_to(false, flow.outs.as_slice(), env, &edge.to, edge.in_flow)
 }
 
 // The first k of these dependences, or all where there are no more.
@@ -137,56 +111,31 @@ fn first_dependences<'a>(deps: &'a [DepPlan], k: usize) -> &'a [DepPlan]
     if k < deps.len() { &deps[..k] } else { deps }
 }
 
-/// Whether one of the first `k` in dependences of the flow that the edge goes into gives the edge to the task.
+/// Whether one of the first `k` dependences of the flow that the edge is one of gives the edge to the task with these locals.
 /// While the dependence with number `k` is walked, this is whether an earlier one gives its edge too.
-pub fn has_in_edge_before(plan: &Plan, t: &TaskId, edge: &Edge, k: usize) -> bool
-    requires { IsTask plan.now t.now }
-    ensures { IsTrue result ↔ IsIn edge.now (edges.in_edges_before plan.now t.now edge.now.in_flow k) }
+pub fn has_edge_before(
+    plan: &Plan,
+    way: Direction,
+    t: &TaskId,
+    env: &[i64],
+    edge: &LentEdge,
+    k: usize,
+) -> bool
+    requires task { IsTask plan.now t.now }
+    requires locals { env.now ≡ tasks.locals_of plan.now t.now }
+    ensures { IsTrue result ↔ IsIn edge.now (directions.edges_before way plan.now t.now (directions.near_flow way edge.now) k) }
 {
     if k == 0 {
         return false;
     }
-    let flows = flows_of(plan, t);
-    let number = edge.in_flow as usize;
-    if number >= flows.len() {
+    let Some(flow) = flow_at(plan, way, t, edge) else {
         return false;
-    }
-    let flow = &flows[number];
-    let same_task = edge.to == *t;
-    if !same_task {
-        return false;
-    }
-    let env = locals_of(plan, t);
-    let deps = first_dependences(flow.ins.as_slice(), k);
+    };
     any_leads_to(
-        takes_first(flow.kind),
-        deps,
-        env.as_slice(),
-        &edge.from,
-        edge.out_flow,
+        way.first_alone(flow.kind),
+        first_dependences(way.dependences(flow), k),
+        env,
+        edge.far_task(way),
+        edge.far_flow(way),
     )
-}
-
-/// Whether one of the first `k` out dependences of the flow that the edge comes from gives the edge to the task.
-/// While the dependence with number `k` is walked, this is whether an earlier one gives its edge too.
-pub fn has_out_edge_before(plan: &Plan, t: &TaskId, edge: &Edge, k: usize) -> bool
-    requires { IsTask plan.now t.now }
-    ensures { IsTrue result ↔ IsIn edge.now (items.out_edges_before plan.now t.now edge.now.out_flow k) }
-{
-    if k == 0 {
-        return false;
-    }
-    let flows = flows_of(plan, t);
-    let number = edge.out_flow as usize;
-    if number >= flows.len() {
-        return false;
-    }
-    let flow = &flows[number];
-    let same_task = edge.from == *t;
-    if !same_task {
-        return false;
-    }
-    let env = locals_of(plan, t);
-    let deps = first_dependences(flow.outs.as_slice(), k);
-    any_leads_to(false, deps, env.as_slice(), &edge.to, edge.in_flow)
 }

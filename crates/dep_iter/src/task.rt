@@ -24,17 +24,29 @@ fn space_of(plan: &Plan, class: u32) -> &ClassSpace
     plan.space(class)
 }
 
+// The space of the class of a task, where the class exists and has as many parameters as the task has values; else the job has no
+// such task.
+fn space_for<'a>(plan: &'a Plan, t: &TaskId) -> Option<&'a ClassSpace>
+    ensures { MatchOption result (IsTask plan.now t.now → ⊥) (λ s. (slice_get plan.now.spaces t.now.class ≡ Some s.now) × IsWellSpace s.now × (length s.now.params ≡ length t.now.params)) }
+{
+    if t.class() as usize >= plan.classes.len() {
+        return None;
+    }
+    let space = space_of(plan, t.class());
+    if space.params.as_slice().len() == t.params().len() {
+        Some(space)
+    } else {
+        None
+    }
+}
+
 /// Whether the job has this task: its class exists and has a task with these parameters.
 pub fn is_task(plan: &Plan, t: &TaskId) -> bool
     ensures { IsTrue result ↔ IsTask plan.now t.now }
 {
-    if t.class() as usize >= plan.classes.len() {
+    let Some(space) = space_for(plan, t) else {
         return false;
-    }
-    let space = space_of(plan, t.class());
-    if space.params.as_slice().len() != t.params().len() {
-        return false;
-    }
+    };
     in_space(space, t.params())
 }
 
@@ -53,14 +65,7 @@ pub fn task_locals(plan: &Plan, t: &TaskId) -> Option<Numbers<16>>
     ensures { MatchOption result (IsTask plan.now t.now → ⊥) (λ locals. IsTask plan.now t.now × (locals ≡ tasks.locals_of plan.now t.now)) }
 {
     a_task_has_one_list_of_locals();
-    if t.class() as usize >= plan.classes.len() {
-        return None;
-    }
-    let space = space_of(plan, t.class());
-    if space.params.as_slice().len() != t.params().len() {
-        return None;
-    }
-    find_locals(space, t.params())
+    find_locals(space_for(plan, t)?, t.params())
 }
 
 /// The task of a class that has these locals.

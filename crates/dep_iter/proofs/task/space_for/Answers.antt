@@ -1,0 +1,11 @@
+use Rattle.std.proofs.Common.{◌≡◌, ap, sym, ◌∙◌, length, slice_get, Some, arith}
+use Rattle.range_space.proofs.MemberLists.{arity_of_task}
+use Rattle.dep_iter.proofs.task.space_for.Goals as goal
+
+pub returns-else-as_slice-params : goal.returns-else-as_slice-params
+returns-else-as_slice-params c = λ h.
+    let s = c.space_of-space.result.now in
+    let e : slice_get c.args.plan.now.spaces c.args.t.now.class ≡ Some s = ap (slice_get c.args.plan.now.spaces) (sym c.class-2.ensures) ∙ c.space_of-space.ensures.space in
+    let w = rw e at h in
+    let a = ap length c.as_slice.ensures.same ∙ arity_of_task s c.args.t.now.params w ∙ sym (ap length c.params.ensures.same) in
+    absurd (omega arith)

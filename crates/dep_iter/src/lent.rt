@@ -1,0 +1,106 @@
+//! Edges that are lent.
+
+ghost use Rattle.std.specs.Prelude.{◌≡◌};
+ghost use Rattle.dep_iter.specs.Directions as directions;
+
+use crate::direction::Direction;
+use ptg_base::{Edge, TaskId};
+use std::marker::Model;
+
+/// An edge whose tasks are lent. Contracts see it as the edge; it copies no task.
+#[derive(Drop)]
+pub struct LentEdge<'a> {
+    from: &'a TaskId,
+    out_flow: u8,
+    to: &'a TaskId,
+    in_flow: u8,
+}
+
+impl<'a> Model for LentEdge<'a> {
+    ghost use Rattle.ptg_base.specs.declared.edge.Edge.{Edge};
+    ghost use Rattle.dep_iter.specs.Edges.{edge};
+
+    ghost Value = { Edge };
+
+    ghost view = { λ e. edge e.from.now e.out_flow e.to.now e.in_flow };
+}
+
+impl<'a> LentEdge<'a> {
+    /// This edge.
+    pub fn of(edge: &'a Edge) -> LentEdge<'a>
+        ensures { result ≡ edge.now }
+    {
+        LentEdge {
+            from: &edge.from,
+            out_flow: edge.out_flow,
+            to: &edge.to,
+            in_flow: edge.in_flow,
+        }
+    }
+
+    /// The edge between a flow of one task and a flow of another, as one into or out of the first.
+    pub fn between(
+        way: Direction,
+        near: &'a TaskId,
+        near_flow: u8,
+        far: &'a TaskId,
+        far_flow: u8,
+    ) -> LentEdge<'a>
+        ensures { result ≡ directions.edge_at way near.now near_flow far.now far_flow }
+    {
+        match way {
+            Direction::In => LentEdge {
+                from: far,
+                out_flow: far_flow,
+                to: near,
+                in_flow: near_flow,
+            },
+            Direction::Out => LentEdge {
+                from: near,
+                out_flow: near_flow,
+                to: far,
+                in_flow: far_flow,
+            },
+        }
+    }
+
+    /// The task that the edge is one of: that which it goes into, or that which it comes from.
+    pub fn near_task(&self, way: Direction) -> &TaskId
+        ensures { result.now ≡ directions.near_task way self.now }
+    {
+        match way {
+            Direction::In => self.to,
+            Direction::Out => self.from,
+        }
+    }
+
+    /// The number of the flow of that task.
+    pub fn near_flow(&self, way: Direction) -> u8
+        ensures { result ≡ directions.near_flow way self.now }
+    {
+        match way {
+            Direction::In => self.in_flow,
+            Direction::Out => self.out_flow,
+        }
+    }
+
+    /// The task at the other end of the edge.
+    pub fn far_task(&self, way: Direction) -> &TaskId
+        ensures { result.now ≡ directions.far_task way self.now }
+    {
+        match way {
+            Direction::In => self.from,
+            Direction::Out => self.to,
+        }
+    }
+
+    /// The number of the flow of that task.
+    pub fn far_flow(&self, way: Direction) -> u8
+        ensures { result ≡ directions.far_flow way self.now }
+    {
+        match way {
+            Direction::In => self.out_flow,
+            Direction::Out => self.in_flow,
+        }
+    }
+}
