@@ -1,5 +1,5 @@
 -- Which links are among those of targets and of tasks.
-use Rattle.std.proofs.Common.{Option, ◌≡◌, ◌↔◌, ◌⊎◌, ℕ, zero, suc, ◌+◌, ℤ, Bool, true, false, List, [], ◌∷◌, ◌++◌, length, take, map, refl, ap, sym, ◌∙◌, subst, append_assoc, add-zero, Some, None, slice_get, IsSomeAnd, IsTrue, inl, inr, arith}
+use Rattle.std.proofs.Common.{Option, ◌≡◌, ◌↔◌, ℕ, zero, suc, ◌+◌, ℤ, Bool, true, false, List, [], ◌∷◌, ◌++◌, length, take, map, refl, ap, sym, ◌∙◌, subst, append_assoc, add-zero, Some, None, slice_get, IsSomeAnd, IsTrue, inl, inr, arith}
 use Rattle.std.proofs.lemmas.Bool.{false≢true}
 use Rattle.std.specs.List.{flat_map}
 use Rattle.std.specs.Option.{option_map_or}
@@ -18,7 +18,8 @@ use Rattle.dep_iter.specs.Active.{by_flow, held_target, held_targets, held_then,
 use Rattle.dep_iter.specs.Arguments.{combinations, product}
 use Rattle.dep_iter.specs.declared.direction.Direction.{Direction}
 use Rattle.dep_iter.specs.declared.direction.Direction.TheVariants.{In, Out}
-use Rattle.dep_iter.specs.Directions.{dependences, edges_before, edges_of, far_flow, far_task, first_alone, near_flow, near_task}
+use Rattle.dep_iter.specs.Directions.{IsNearFlow, dependences, edges_before, edges_of, far_flow, far_task, first_alone}
+use Rattle.dep_iter.specs.Directions.{near_flow, near_task}
 use Rattle.dep_iter.specs.Edges.{in_edges, in_edges_before}
 use Rattle.dep_iter.specs.Items.{out_edges, out_edges_before}
 use Rattle.dep_iter.specs.Links.{all_links, edge_in, edge_out, flow_targets, link, links_to, task_links}
@@ -186,19 +187,38 @@ link_of d e = record { near = near_flow d e; far = far_task d e; far_flow = far_
 abbrev pub links_of : Direction → Plan → Task → ℕ → FlowPlan → List DepPlan → List Link
 links_of d P t n f ds = flat_map (links_to (locals_of P t) n) (held_targets (first_alone d f.kind) ds (locals_of P t))
 
+-- the edge of a flow that these dependences give
+abbrev pub IsGiven : Direction → Plan → Task → Edge → FlowPlan → List DepPlan → Type 0
+IsGiven d P t e f ds = IsIn (link_of d e) (links_of d P t (near_flow d e) f ds)
+
 -- whether an edge is one of a task, in the direction
-pub edge_is : (d : Direction) (P : Plan) (t : Task) (e : Edge) → IsIn e (edges_of d P t) ↔ ((near_task d e ≡ t) × IsSomeAnd (slice_get (flows_of P t) (near_flow d e)) (λ f. IsIn (link_of d e) (links_of d P t (near_flow d e) f (dependences d f))))
+edge_is : (d : Direction) (P : Plan) (t : Task) (e : Edge) → IsIn e (edges_of d P t)
+    ↔ ((near_task d e ≡ t) × IsSomeAnd (slice_get (flows_of P t) (near_flow d e)) (λ f. IsGiven d P t e f (dependences d f)))
 edge_is In P t e = in_edge_is P t e
 edge_is Out P t e = out_edge_is P t e
 
--- an edge of another task, or of no flow of this task, is not one of this task
-pub edge-none : (d : Direction) (P : Plan) (t : Task) (e : Edge) → (near_task d e ≡ t → ⊥) ⊎ (slice_get (flows_of P t) (near_flow d e) ≡ None) → IsIn e (edges_of d P t) → ⊥
-edge-none d P t e (inl other) h = other ((edge_is d P t e).0 h).0
-edge-none d P t e (inr past) h = rw past at ((edge_is d P t e).0 h).1
+pub edge-by : (d : Direction) (P : Plan) (t : Task) (e : Edge) (f : FlowPlan) → IsNearFlow d P t e f
+    → IsIn e (edges_of d P t) ↔ IsGiven d P t e f (dependences d f)
+edge-by d P t e f near =
+    let is = rw near.1 at (edge_is d P t e) in
+    (λ h. (is.0 h).1, λ h. is.1 (near.0, h))
+
+-- an edge that names no flow of a task is not one of the task
+some_flow : (Q : FlowPlan → Type 0) (o : Option FlowPlan) → IsSomeAnd o Q → (f : FlowPlan) × (o ≡ Some f)
+some_flow Q None h = absurd h
+some_flow Q (Some f) h = (f, refl)
+
+pub edge-none : (d : Direction) (P : Plan) (t : Task) (e : Edge) → ((f : FlowPlan) → IsNearFlow d P t e f → ⊥)
+    → IsIn e (edges_of d P t) → ⊥
+edge-none d P t e none h =
+    let k = (edge_is d P t e).0 h in
+    let p = some_flow _ (slice_get (flows_of P t) (near_flow d e)) k.1 in
+    none p.0 (k.0, p.1)
 
 -- whether an edge is one of those that the first dependences of its flow give, into the task, out of it, and in the direction
 module _ (P : Plan) (t : Task) (e : Edge) (f : FlowPlan) (k : ℕ) where
-  in_before-is : slice_get (flows_of P t) e.in_flow ≡ Some f → IsIn e (in_edges_before P t e.in_flow k) ↔ ((e.to ≡ t) × IsIn (link_in e) (flat_map (links_to (locals_of P t) e.in_flow) (held_targets (takes_first f.kind) (take k f.ins) (locals_of P t))))
+  in_before-is : slice_get (flows_of P t) e.in_flow ≡ Some f
+      → IsIn e (in_edges_before P t e.in_flow k) ↔ ((e.to ≡ t) × IsGiven In P t e f (take k f.ins))
   unfolding in_edges_before
   in_before-is here =
       let env = locals_of P t in
@@ -208,7 +228,8 @@ module _ (P : Plan) (t : Task) (e : Edge) (f : FlowPlan) (k : ℕ) where
         λ h. to_edges_in t (flat_map (links_to env e.in_flow) xs) e h.0 h.1,
       )
 
-  out_before-is : slice_get (flows_of P t) e.out_flow ≡ Some f → IsIn e (out_edges_before P t e.out_flow k) ↔ ((e.from ≡ t) × IsIn (link_out e) (flat_map (links_to (locals_of P t) e.out_flow) (held_targets false (take k f.outs) (locals_of P t))))
+  out_before-is : slice_get (flows_of P t) e.out_flow ≡ Some f
+      → IsIn e (out_edges_before P t e.out_flow k) ↔ ((e.from ≡ t) × IsGiven Out P t e f (take k f.outs))
   unfolding out_edges_before
   out_before-is here =
       let env = locals_of P t in
@@ -218,12 +239,19 @@ module _ (P : Plan) (t : Task) (e : Edge) (f : FlowPlan) (k : ℕ) where
         λ h. to_edges_out t (flat_map (links_to env e.out_flow) xs) e h.0 h.1,
       )
 
-  pub before-is : (d : Direction) → slice_get (flows_of P t) (near_flow d e) ≡ Some f → IsIn e (edges_before d P t (near_flow d e) k) ↔ ((near_task d e ≡ t) × IsIn (link_of d e) (links_of d P t (near_flow d e) f (take k (dependences d f))))
+  before-is : (d : Direction) → slice_get (flows_of P t) (near_flow d e) ≡ Some f
+      → IsIn e (edges_before d P t (near_flow d e) k) ↔ ((near_task d e ≡ t) × IsGiven d P t e f (take k (dependences d f)))
   before-is In here = in_before-is here
   before-is Out here = out_before-is here
 
--- no dependences give none
-none_of : {A : Type 0} (g : FlowPlan → List A) → ((f : FlowPlan) → g f ≡ []) → (o : Option FlowPlan) → option_map_or g o [] ≡ []
+  pub before-by : (d : Direction) → IsNearFlow d P t e f
+      → IsIn e (edges_before d P t (near_flow d e) k) ↔ IsGiven d P t e f (take k (dependences d f))
+  before-by d near =
+      let is = before-is d near.1 in
+      (λ h. (is.0 h).1, λ h. is.1 (near.0, h))
+
+-- without dependences, and without the flow, there are none
+none_of : (g : FlowPlan → List Edge) → ((f : FlowPlan) → g f ≡ []) → (o : Option FlowPlan) → option_map_or g o [] ≡ []
 none_of g h None = refl
 none_of g h (Some f) = h f
 
@@ -232,16 +260,16 @@ unfolding in_edges_before out_edges_before
 before-no_dependences In P t n = none_of _ (λ f. refl) (slice_get (flows_of P t) n)
 before-no_dependences Out P t n = none_of _ (λ f. refl) (slice_get (flows_of P t) n)
 
-before-past : (d : Direction) (P : Plan) (t : Task) (n k : ℕ) → slice_get (flows_of P t) n ≡ None → edges_before d P t n k ≡ []
+before-past : (d : Direction) (P : Plan) (t : Task) (n k : ℕ) → slice_get (flows_of P t) n ≡ None
+    → edges_before d P t n k ≡ []
 unfolding in_edges_before out_edges_before
 before-past In P t n k past = rw past refl
 before-past Out P t n k past = rw past refl
 
--- nor is it one that the first dependences give
-pub before-none : (d : Direction) (P : Plan) (t : Task) (e : Edge) (k : ℕ) → (near_task d e ≡ t → ⊥) ⊎ (slice_get (flows_of P t) (near_flow d e) ≡ None) → IsIn e (edges_before d P t (near_flow d e) k) → ⊥
-before-none d P t e k (inr past) h = rw (before-past d P t (near_flow d e) k past) at h
-before-none d P t e k (inl other) h = of_flow (slice_get (flows_of P t) (near_flow d e)) refl
+pub before-none : (d : Direction) (P : Plan) (t : Task) (e : Edge) (k : ℕ) → ((f : FlowPlan) → IsNearFlow d P t e f → ⊥)
+    → IsIn e (edges_before d P t (near_flow d e) k) → ⊥
+before-none d P t e k none h = of_flow (slice_get (flows_of P t) (near_flow d e)) refl
   where
     of_flow : (o : Option FlowPlan) → slice_get (flows_of P t) (near_flow d e) ≡ o → ⊥
     of_flow None past = rw (before-past d P t (near_flow d e) k past) at h
-    of_flow (Some f) here = other ((before-is P t e f k d here).0 h).0
+    of_flow (Some f) here = none f (((before-is P t e f k d here).0 h).0, here)

@@ -1,5 +1,7 @@
--- The two directions of a task's edges: those into it and those out of it. Source: this project's own choice; each word joins one of both directions.
-use Rattle.std.specs.Prelude.{ℕ, List, Bool, false}
+-- The two directions of a task's edges: those into it and those out of it. Source: this project's own choice; each word
+-- joins one of both directions.
+use Rattle.std.specs.Prelude.{◌≡◌, ℕ, List, Bool, false, Some, slice_get}
+use Rattle.ptg_base.specs.Lists.{IsIn}
 use Rattle.ptg_base.specs.Task.{Task}
 use Rattle.ptg_base.specs.declared.edge.Edge.{Edge}
 use Rattle.term_core.specs.declared.flow.FlowKind.{FlowKind}
@@ -8,6 +10,7 @@ use Rattle.plan_core.specs.declared.flow.FlowPlan.{FlowPlan}
 use Rattle.plan_core.specs.declared.plan.Plan.{Plan}
 use Rattle.dep_iter.specs.declared.direction.Direction.{Direction}
 use Rattle.dep_iter.specs.declared.direction.Direction.TheVariants.{In, Out}
+use Rattle.dep_iter.specs.Tasks.{flows_of, IsTask}
 use Rattle.dep_iter.specs.Active.{takes_first}
 use Rattle.dep_iter.specs.Edges.{edge, in_edges, in_edges_before}
 use Rattle.dep_iter.specs.Items.{out_edges, out_edges_before}
@@ -56,3 +59,11 @@ edges_of Out P t = out_edges P t
 abbrev pub edges_before : Direction → Plan → Task → ℕ → ℕ → List Edge
 edges_before In P t n k = in_edges_before P t n k
 edges_before Out P t n k = out_edges_before P t n k
+
+-- an edge of a task in one direction is one of the task at its other end in the other direction
+abbrev pub HasOtherEnd : Direction → Plan → Edge → Type 0
+HasOtherEnd d P e = IsTask P (far_task d e) × IsIn e (edges_of (opposite d) P (far_task d e))
+
+-- the edge names this task and this flow of it
+abbrev pub IsNearFlow : Direction → Plan → Task → Edge → FlowPlan → Type 0
+IsNearFlow d P t e f = (near_task d e ≡ t) × (slice_get (flows_of P t) (near_flow d e) ≡ Some f)

@@ -1,11 +1,8 @@
 //! The task at the other end of an edge, with its locals.
 
 ghost use Rattle.std.specs.Prelude.{◌≡◌, MatchOption};
-ghost use Rattle.ptg_base.specs.Lists.{IsIn};
-ghost use Rattle.dep_iter.specs.Directions as directions;
-ghost use Rattle.dep_iter.specs.Directions.{edges_of, opposite};
-ghost use Rattle.dep_iter.specs.Tasks as tasks;
-ghost use Rattle.dep_iter.specs.Tasks.{IsTask};
+ghost use Rattle.dep_iter.specs.Directions.{HasOtherEnd, far_task};
+ghost use Rattle.dep_iter.specs.Tasks.{locals_of};
 
 use crate::direction::Direction;
 use crate::lent::LentEdge;
@@ -14,10 +11,11 @@ use crate::task::task_locals;
 use plan_core::Plan;
 use range_space::Numbers;
 
-/// The locals of the task at the other end of an edge, if the edge is one of that task in the other direction: an edge into a task
-/// is one out of the task that it comes from. None where the job has no such task, or the task no such edge.
+/// The locals of the task at the other end of an edge, if the edge is one of that task too: an edge into a task is one
+/// out of the task that it comes from. None where the job has no such task, or the task no such edge.
 pub fn far_locals(plan: &Plan, way: Direction, edge: &LentEdge) -> Option<Numbers<16>>
-    ensures { MatchOption result (IsTask plan.now (directions.far_task way edge.now) × IsIn edge.now (edges_of (opposite way) plan.now (directions.far_task way edge.now)) → ⊥) (λ locals. IsTask plan.now (directions.far_task way edge.now) × IsIn edge.now (edges_of (opposite way) plan.now (directions.far_task way edge.now)) × (locals ≡ tasks.locals_of plan.now (directions.far_task way edge.now))) }
+    ensures { MatchOption result (HasOtherEnd way plan.now edge.now → ⊥)
+        (λ locals. HasOtherEnd way plan.now edge.now × (locals ≡ locals_of plan.now (far_task way edge.now))) }
 {
     let far = edge.far_task(way);
     let locals = task_locals(plan, far)?;

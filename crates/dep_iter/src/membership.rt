@@ -1,10 +1,11 @@
 //! Whether a task has an edge, by guards and ranges, without a walk over its edges.
 
-ghost use Rattle.std.specs.Prelude.{◌≡◌, ◌↔◌, ◌⊎◌, ℕ, IsTrue, MatchOption, None, Some, flat_map, slice_get, take};
+ghost use Rattle.std.specs.Prelude.{◌≡◌, ◌↔◌, ℕ, IsTrue, MatchOption, flat_map, take};
 ghost use Rattle.ptg_base.specs.Lists.{IsIn};
+ghost use Rattle.plan_core.specs.declared.flow.FlowPlan.{FlowPlan as FlowPlanValue};
 ghost use Rattle.dep_iter.specs.Active.{held_targets};
 ghost use Rattle.dep_iter.specs.Arguments.{combinations};
-ghost use Rattle.dep_iter.specs.Directions as directions;
+ghost use Rattle.dep_iter.specs.Directions.{IsNearFlow, edges_before, edges_of, near_flow};
 ghost use Rattle.dep_iter.specs.Links.{links_to};
 ghost use Rattle.dep_iter.specs.Tasks as tasks;
 ghost use Rattle.dep_iter.specs.Tasks.{IsTask};
@@ -35,7 +36,8 @@ pub(crate) fn has_combination(args: &[Arg], env: &[i64], params: &[i64]) -> bool
 
 // Whether a target stands for a link with this flow of this task.
 fn leads_to(target: &Target, env: &[i64], far: &TaskId, far_flow: u8) -> bool
-    ensures { (n : ℕ) → IsTrue result ↔ IsIn (record { near = n; far = far.now; far_flow = far_flow }) (links_to env.now n target.now) }
+    ensures { (n : ℕ) → IsTrue result ↔
+        IsIn (record { near = n; far = far.now; far_flow = far_flow }) (links_to env.now n target.now) }
 {
     let Target::Task(class, flow, args) = target else {
         return false;
@@ -51,7 +53,8 @@ fn leads_to(target: &Target, env: &[i64], far: &TaskId, far_flow: u8) -> bool
 
 // Whether a target of these dependences that counts stands for a link with this flow of this task.
 fn any_leads_to(first_only: bool, deps: &[DepPlan], env: &[i64], far: &TaskId, far_flow: u8) -> bool
-    ensures { (n : ℕ) → IsTrue result ↔ IsIn (record { near = n; far = far.now; far_flow = far_flow }) (flat_map (links_to env.now n) (held_targets first_only deps.now env.now)) }
+    ensures { (n : ℕ) → IsTrue result ↔ IsIn (record { near = n; far = far.now; far_flow = far_flow })
+        (flat_map (links_to env.now n) (held_targets first_only deps.now env.now)) }
 {
     let Some((d, later)) = deps.split_first() else {
         return false;
@@ -68,10 +71,11 @@ fn any_leads_to(first_only: bool, deps: &[DepPlan], env: &[i64], far: &TaskId, f
     any_leads_to(first_only, later, env, far, far_flow)
 }
 
-// The flow of the task that the edge is one of, where the edge is one of this task and the task has such a flow.
+// The flow of this task that the edge names, if it names the task and one of its flows.
 fn flow_at<'a>(plan: &'a Plan, way: Direction, t: &TaskId, edge: &LentEdge) -> Option<&'a FlowPlan>
     requires { IsTask plan.now t.now }
-    ensures { MatchOption result ((directions.near_task way edge.now ≡ t.now → ⊥) ⊎ (slice_get (tasks.flows_of plan.now t.now) (directions.near_flow way edge.now) ≡ None)) (λ f. (directions.near_task way edge.now ≡ t.now) × (slice_get (tasks.flows_of plan.now t.now) (directions.near_flow way edge.now) ≡ Some f.now)) }
+    ensures { MatchOption result ((f : FlowPlanValue) → IsNearFlow way plan.now t.now edge.now f → ⊥)
+        (λ f. IsNearFlow way plan.now t.now edge.now f.now) }
 {
     let same_task = *edge.near_task(way) == *t;
     if !same_task {
@@ -85,12 +89,12 @@ fn flow_at<'a>(plan: &'a Plan, way: Direction, t: &TaskId, edge: &LentEdge) -> O
     Some(&flows[number])
 }
 
-/// Whether the edge is one of those of the task with these locals, into it or out of it. Takes time according to the dependences
-/// of one flow, however many edges they give.
+/// Whether the edge is one of those of the task with these locals, into it or out of it. Takes time according to the
+/// dependences of one flow, however many edges they give.
 pub fn has_edge_under(plan: &Plan, way: Direction, t: &TaskId, env: &[i64], edge: &LentEdge) -> bool
     requires task { IsTask plan.now t.now }
     requires locals { env.now ≡ tasks.locals_of plan.now t.now }
-    ensures { IsTrue result ↔ IsIn edge.now (directions.edges_of way plan.now t.now) }
+    ensures { IsTrue result ↔ IsIn edge.now (edges_of way plan.now t.now) }
 {
     let Some(flow) = flow_at(plan, way, t, edge) else {
         return false;
@@ -111,8 +115,8 @@ fn first_dependences<'a>(deps: &'a [DepPlan], k: usize) -> &'a [DepPlan]
     if k < deps.len() { &deps[..k] } else { deps }
 }
 
-/// Whether one of the first `k` dependences of the flow that the edge is one of gives the edge to the task with these locals.
-/// While the dependence with number `k` is walked, this is whether an earlier one gives its edge too.
+/// Whether one of the first `k` dependences of the edge's flow gives the edge to the task with these locals. While the
+/// dependence with number `k` is walked, this is whether an earlier one gives its edge too.
 pub fn has_edge_before(
     plan: &Plan,
     way: Direction,
@@ -123,7 +127,7 @@ pub fn has_edge_before(
 ) -> bool
     requires task { IsTask plan.now t.now }
     requires locals { env.now ≡ tasks.locals_of plan.now t.now }
-    ensures { IsTrue result ↔ IsIn edge.now (directions.edges_before way plan.now t.now (directions.near_flow way edge.now) k) }
+    ensures { IsTrue result ↔ IsIn edge.now (edges_before way plan.now t.now (near_flow way edge.now) k) }
 {
     if k == 0 {
         return false;

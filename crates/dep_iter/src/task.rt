@@ -24,10 +24,12 @@ fn space_of(plan: &Plan, class: u32) -> &ClassSpace
     plan.space(class)
 }
 
-// The space of the class of a task, where the class exists and has as many parameters as the task has values; else the job has no
-// such task.
+// The space of a task's class, if the class exists and has as many parameters as the task has values; else the job has
+// no such task.
 fn space_for<'a>(plan: &'a Plan, t: &TaskId) -> Option<&'a ClassSpace>
-    ensures { MatchOption result (IsTask plan.now t.now → ⊥) (λ s. (slice_get plan.now.spaces t.now.class ≡ Some s.now) × IsWellSpace s.now × (length s.now.params ≡ length t.now.params)) }
+    ensures { MatchOption result (IsTask plan.now t.now → ⊥)
+        (λ s. (slice_get plan.now.spaces t.now.class ≡ Some s.now) × IsWellSpace s.now
+        × (length s.now.params ≡ length t.now.params)) }
 {
     if t.class() as usize >= plan.classes.len() {
         return None;
@@ -59,10 +61,11 @@ pub fn locals_of(plan: &Plan, t: &TaskId) -> Numbers<16>
     range_space::locals_of(space_of(plan, t.class()), t.params())
 }
 
-/// The locals of a task, or None where the job has no such task, in one pass over the definitions. All that the calls under given
-/// locals say of the task is evaluated under them.
+/// The locals of a task, or None where the job has no such task, in one pass over the definitions. All that the calls
+/// under given locals say of the task is evaluated under them.
 pub fn task_locals(plan: &Plan, t: &TaskId) -> Option<Numbers<16>>
-    ensures { MatchOption result (IsTask plan.now t.now → ⊥) (λ locals. IsTask plan.now t.now × (locals ≡ tasks.locals_of plan.now t.now)) }
+    ensures { MatchOption result (IsTask plan.now t.now → ⊥)
+        (λ locals. IsTask plan.now t.now × (locals ≡ tasks.locals_of plan.now t.now)) }
 {
     a_task_has_one_list_of_locals();
     find_locals(space_for(plan, t)?, t.params())
