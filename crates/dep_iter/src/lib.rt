@@ -40,8 +40,10 @@ pub use laws::{
 };
 pub use lent::LentEdge;
 pub use link::Link;
+pub use links::arguments_at_most;
 pub use matched::Matched;
 pub use membership::{has_edge_before, has_edge_under};
+pub use place::place_of;
 pub use position::{Position, takes_first};
 pub use progression::Progression;
 pub use source::Source;

@@ -38,8 +38,8 @@ impl Model for TargetLinks {
     ghost view = { λ t. map (link t.near t.class t.far_flow) t.params };
 }
 
-// So many arguments as the class has parameters are at most eight.
-pub(crate) fn arguments_at_most(plan: &Plan, class: u32, flow: u8, args: &[Arg])
+/// The arguments of a target that fits the plan are at most eight: as many as its class has parameters.
+pub fn arguments_at_most(plan: &Plan, class: u32, flow: u8, args: &[Arg])
     requires { IsTrue (fits plan.now (Task class flow args.now)) }
     ensures { length args.now ≤ 8 }
 {
