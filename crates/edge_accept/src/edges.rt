@@ -12,21 +12,23 @@ ghost use Rattle.edge_accept.specs.Flows.{AreTaken, AreTakenOnce};
 use crate::at::FlowAt;
 use crate::ins::Ins;
 use crate::named::{Named, arguments_at_most};
-use dep_iter::{Combinations, edges_of_a_dependence_differ, has_in_edge_before, sender_locals};
+use dep_iter::{
+    Combinations, Direction, LentEdge, edges_of_a_dependence_differ, far_locals, has_edge_before,
+};
 use plan_core::{Target, is_data};
-use ptg_base::{Edge, TaskId};
+use ptg_base::TaskId;
 
 // Counts an edge into the flow, which dependence `k` gives, if it is one out of the task that it comes from and no earlier dependence gives it.
-fn take_edge(at: &FlowAt, k: usize, edge: &Edge, ins: &mut Ins) -> bool
+fn take_edge(at: &FlowAt, k: usize, edge: &LentEdge, ins: &mut Ins) -> bool
     requires of_job { IsTask at.now.plan.now at.now.task.now }
     requires task { edge.now.to ≡ at.now.task.now }
     requires flow { edge.now.in_flow ≡ at.now.number }
     ensures { OnTrue result (AreTaken at.now.plan.now (in_edges_before at.now.plan.now at.now.task.now at.now.number k) ins.old ins.new (edge.now ∷ [])) }
 {
-    let Some(_) = sender_locals(at.plan, edge) else {
+    let Some(_) = far_locals(at.plan, Direction::In, edge) else {
         return false;
     };
-    if has_in_edge_before(at.plan, at.task, edge, k) {
+    if has_edge_before(at.plan, Direction::In, at.task, at.env, edge, k) {
         return false;
     }
     ins.add(is_data(at.flow.kind))
@@ -38,12 +40,8 @@ fn take_edges(at: &FlowAt, named: Named, mut params: Combinations, ins: &mut Ins
     ensures { OnTrue result (AreTaken at.now.plan.now (in_edges_before at.now.plan.now at.now.task.now at.now.number named.dependence) ins.old ins.new (map (λ ps. edge (task named.class ps) named.flow at.now.task.now at.now.number) params)) }
 {
     while let Some(values) = params.next() {
-        let edge = Edge {
-            from: TaskId::new(named.class, values.as_slice()),
-            out_flow: named.flow,
-            to: at.task.copy(),
-            in_flow: at.number,
-        };
+        let from = TaskId::new(named.class, values.as_slice());
+        let edge = LentEdge::between(Direction::In, at.task, at.number, &from, named.flow);
         if !take_edge(at, named.dependence, &edge, ins) {
             return false;
         }

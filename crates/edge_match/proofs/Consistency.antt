@@ -20,15 +20,16 @@ use Rattle.dep_iter.proofs.Listing.{listed}
 use Rattle.edge_accept.proofs.Lists.{once-flat_map}
 use Rattle.edge_accept.proofs.TaskFlows.{item_flow-sends, source_flow}
 use Rattle.edge_accept.proofs.TaskLists.{once-all_tasks}
-use Rattle.edge_match.specs.declared.direction.Direction.{Direction}
-use Rattle.edge_match.specs.declared.direction.Direction.TheVariants.{In, Out}
+use Rattle.dep_iter.specs.declared.direction.Direction.{Direction}
+use Rattle.dep_iter.specs.declared.direction.Direction.TheVariants.{In, Out}
 use Rattle.edge_match.specs.declared.phase.Phase.{Phase}
 use Rattle.edge_match.specs.declared.phase.Phase.TheVariants.{Connecting, Matching}
-use Rattle.edge_match.specs.Directions.{near_task, other_end}
+use Rattle.dep_iter.specs.Directions.{edges_of, near_task}
+use Rattle.edge_match.specs.Directions.{other_end}
 use Rattle.edge_match.specs.Marks.{AllPass, Before, add_all, items_of_flow, marks, nothing, phase_marks}
 use Rattle.edge_match.proofs.Added.{phase-adds}
 use Rattle.edge_match.proofs.Holding.{IsConnected, IsQuiet, all_quiet, connected, matched, matching, quiet_items, tile_of, AtTask, Holds, IsWithinLimits, all_pass_and, of_phase, once-each, once-part}
-use Rattle.edge_match.proofs.Directed.{edge_among, edges_of, flow_edges, flow_items, near_is, numbered_flow, out_flow_items, pair_is, sent_by, write_among, at_flow, edges-numbered, flow_at_number, flows_at, items-numbered, once_numbered}
+use Rattle.edge_match.proofs.Directed.{edge_among, flow_edges, flow_items, near_is, numbered_flow, out_flow_items, pair_is, sent_by, write_among, at_flow, edges-numbered, flow_at_number, flows_at, items-numbered, once_numbered}
 use Rattle.edge_match.proofs.Parts.{AllPass-append, AllPass-parts}
 
 same_flow : (fs : List FlowPlan) (a b : ℕ × FlowPlan) → slice_get fs a.0 ≡ Some a.1 → slice_get fs b.0 ≡ Some b.1 → a.0 ≡ b.0 → a ≡ b

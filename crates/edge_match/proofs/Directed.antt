@@ -27,13 +27,14 @@ use Rattle.dep_iter.proofs.Distinctness.{distinct_in, distinct_out}
 use Rattle.dep_iter.proofs.Joining.{filter_map-append, filter_map-flat_map, flat_map-same}
 use Rattle.edge_accept.proofs.Lists.{flat_map-end}
 use Rattle.edge_match.specs.declared.counted.Counted.{Counted}
-use Rattle.edge_match.specs.declared.direction.Direction.{Direction}
-use Rattle.edge_match.specs.declared.direction.Direction.TheVariants.{In, Out}
+use Rattle.dep_iter.specs.declared.direction.Direction.{Direction}
+use Rattle.dep_iter.specs.declared.direction.Direction.TheVariants.{In, Out}
 use Rattle.edge_match.specs.declared.fault.MatchFault.{MatchFault}
 use Rattle.edge_match.specs.declared.phase.Phase.{Phase}
 use Rattle.edge_match.specs.declared.phase.Phase.TheVariants.{Connecting, Matching}
 use Rattle.edge_match.specs.Marks.{Mark, edges_into_flow, in_marks, item_marks, items_of_flow, flow_marks, flows_marks}
-use Rattle.edge_match.specs.Directions.{all_marks_at, dependences, edge_at, edge_marks, edges_before, first_alone, held_items, items_at, marks_at, near_flow}
+use Rattle.dep_iter.specs.Directions.{dependences, edge_at, edges_before, edges_of, first_alone, near_flow}
+use Rattle.edge_match.specs.Directions.{all_marks_at, edge_marks, held_items, items_at, marks_at}
 use Rattle.edge_match.specs.Counted.{Checked}
 use Rattle.edge_match.proofs.Parts.{stop, followed, unchecked}
 use Rattle.edge_accept.specs.Flows.{ins_of_flows, items_of_flows}
@@ -93,16 +94,12 @@ write_among (item.Write d ∷ is) w = (
   λ h. elim h [ inl k ↦ inl (let r : w ≡ d = cc in r) | inr k ↦ inr ((write_among is w).1 k) ],
 )
 
--- the edges and the write-backs of a flow in one direction, and the edges alone; and the edges of a task
+-- the edges and the write-backs of a flow in one direction, and the edges alone
 abbrev pub flow_items : Direction → Plan → Task → ℕ → FlowPlan → List Item
 flow_items d P t n f = held_items d t (locals_of P t) n f.kind (dependences d f)
 
 abbrev pub flow_edges : Direction → Plan → Task → ℕ → FlowPlan → List Edge
 flow_edges d P t n f = filter_map edge_of (flow_items d P t n f)
-
-abbrev pub edges_of : Direction → Plan → Task → List Edge
-edges_of In P t = in_edges P t
-edges_of Out P t = out_edges P t
 
 module _ (P : Plan) (t : Task) (n : ℕ) (f : FlowPlan) where
   pub in_flow_edges : flow_edges In P t n f ≡ edges_into_flow P t n f

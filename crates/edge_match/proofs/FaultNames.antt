@@ -27,8 +27,8 @@ use Rattle.dep_iter.specs.Well.{first_ill_flow, has_hints, ill_part, ill_part_of
 use Rattle.edge_match.specs.declared.fault.MatchFault.{MatchFault}
 use Rattle.edge_match.specs.declared.phase.Phase.{Phase}
 use Rattle.edge_match.specs.declared.phase.Phase.TheVariants.{Connecting, Matching}
-use Rattle.edge_match.specs.declared.direction.Direction.{Direction}
-use Rattle.edge_match.specs.declared.direction.Direction.TheVariants.{In, Out}
+use Rattle.dep_iter.specs.declared.direction.Direction.{Direction}
+use Rattle.dep_iter.specs.declared.direction.Direction.TheVariants.{In, Out}
 use Rattle.edge_match.specs.Directions.{marks_at}
 use Rattle.edge_match.specs.Faults.{space_fault}
 use Rattle.edge_match.specs.FirstFault.{IsFirstFault, IsTaskFault, flow_at}

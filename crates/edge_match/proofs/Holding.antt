@@ -14,8 +14,8 @@ use Rattle.dep_iter.specs.Tasks.{IsTask, all_tasks, flows_of}
 use Rattle.dep_iter.specs.Edges.{data_source}
 use Rattle.dep_iter.proofs.Listing.{listed}
 use Rattle.edge_accept.proofs.Lists.{once-append, once-end}
-use Rattle.edge_match.specs.declared.direction.Direction.{Direction}
-use Rattle.edge_match.specs.declared.direction.Direction.TheVariants.{In, Out}
+use Rattle.dep_iter.specs.declared.direction.Direction.{Direction}
+use Rattle.dep_iter.specs.declared.direction.Direction.TheVariants.{In, Out}
 use Rattle.edge_match.specs.declared.phase.Phase.{Phase}
 use Rattle.edge_match.specs.Marks.{AllPass, Before, Check, CountsIn, CountsItem, HasIn, HasInput, HasOut, HasSource, HasTile, HasValues, IsNewEdge, IsNewPlace, IsOfJob, IsPlace, Mark, Passes, add, add_all, edges_into_flow, flow_marks, flow_start, flows_marks, in_marks, item_marks, items_of_flow, nothing, phase_marks, task_marks, task_start, with_item}
 use Rattle.edge_match.specs.Directions.{all_marks_at, marks_at, other_end}

@@ -1,5 +1,6 @@
--- The edges of a flow in one direction: those into it, or those out of it with its write-backs. Source: this project's own choice; each word joins one of both directions.
-use Rattle.std.specs.Prelude.{ℕ, ℤ, List, [], ◌∷◌, ◌++◌, map, flat_map, Bool, false, Some}
+-- What is checked of the edges of a flow in one direction: of those into it, or of those out of it with its write-backs.
+-- Source: this project's own choice; each word joins one of both directions.
+use Rattle.std.specs.Prelude.{ℕ, ℤ, List, [], ◌∷◌, ◌++◌, map, flat_map, Some}
 use Rattle.ptg_base.specs.Task.{Task}
 use Rattle.ptg_base.specs.declared.edge.Edge.{Edge}
 use Rattle.ptg_base.specs.declared.edge.WriteBack.{WriteBack}
@@ -7,48 +8,18 @@ use Rattle.ptg_base.specs.declared.edge.Item.{Item}
 use Rattle.ptg_base.specs.declared.edge.Item.TheVariants as item
 use Rattle.term_core.specs.declared.flow.FlowKind.{FlowKind}
 use Rattle.plan_core.specs.declared.flow.DepPlan.{DepPlan}
-use Rattle.plan_core.specs.declared.flow.FlowPlan.{FlowPlan}
-use Rattle.plan_core.specs.declared.plan.Plan.{Plan}
 use Rattle.plan_core.specs.declared.target.Target.{Target}
 use Rattle.plan_core.specs.declared.target.Target.TheVariants as target
 use Rattle.dep_iter.specs.declared.source.Source.{Source}
 use Rattle.dep_iter.specs.Tasks.{task}
-use Rattle.dep_iter.specs.Active.{held_targets, takes_first}
+use Rattle.dep_iter.specs.Active.{held_targets}
 use Rattle.dep_iter.specs.Arguments.{combinations, place_of}
-use Rattle.dep_iter.specs.Edges.{edge, in_edges_before}
-use Rattle.dep_iter.specs.Items.{out_edges_before}
-use Rattle.edge_match.specs.declared.direction.Direction.{Direction}
-use Rattle.edge_match.specs.declared.direction.Direction.TheVariants.{In, Out}
+use Rattle.dep_iter.specs.declared.direction.Direction.{Direction}
+use Rattle.dep_iter.specs.declared.direction.Direction.TheVariants.{In, Out}
+use Rattle.dep_iter.specs.Directions.{edge_at, far_task, first_alone}
 use Rattle.edge_match.specs.declared.phase.Phase.{Phase}
 use Rattle.edge_match.specs.declared.phase.Phase.TheVariants.{Connecting, Matching}
 use Rattle.edge_match.specs.Marks.{Check, CountsIn, CountsItem, HasIn, HasOut, HasTile, IsNewEdge, IsOfJob, Mark, item_mark, mark, with_item}
-
--- the edge between flow n of the task t and flow m of the task u
-abbrev pub edge_at : Direction → Task → ℕ → Task → ℕ → Edge
-edge_at In t n u m = edge u m t n
-edge_at Out t n u m = edge t n u m
-
--- the task and the flow that the edge is one of, and the task at its other end
-abbrev pub near_task : Direction → Edge → Task
-near_task In e = e.to
-near_task Out e = e.from
-
-abbrev pub near_flow : Direction → Edge → ℕ
-near_flow In e = e.in_flow
-near_flow Out e = e.out_flow
-
-abbrev pub far_task : Direction → Edge → Task
-far_task In e = e.from
-far_task Out e = e.to
-
--- the dependences of a flow, and whether the first that holds counts alone
-abbrev pub dependences : Direction → FlowPlan → List DepPlan
-dependences In f = f.ins
-dependences Out f = f.outs
-
-abbrev pub first_alone : Direction → FlowKind → Bool
-first_alone In kind = takes_first kind
-first_alone Out kind = false
 
 -- the edges between flow n of the task t and the tasks that a target names, or the write-back to its place
 abbrev pub items_at : Direction → Task → List ℤ → ℕ → Target → List Item
@@ -60,11 +31,6 @@ items_at d t env n target.Null = []
 -- those of the dependences of a flow of this kind that hold
 abbrev pub held_items : Direction → Task → List ℤ → ℕ → FlowKind → List DepPlan → List Item
 held_items d t env n kind ds = flat_map (items_at d t env n) (held_targets (first_alone d kind) ds env)
-
--- the edges of flow n of a task that its first k dependences give
-abbrev pub edges_before : Direction → Plan → Task → ℕ → ℕ → List Edge
-edges_before In P t n k = in_edges_before P t n k
-edges_before Out P t n k = out_edges_before P t n k
 
 -- what is checked of an edge: that what sends has a tile, that the edge is not one too many, and that it is one at its other end
 abbrev pub tile_marks : Direction → Source → Task → ℕ → List Mark

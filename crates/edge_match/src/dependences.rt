@@ -7,19 +7,27 @@ ghost use Rattle.dep_iter.specs.Edges.{data_source};
 ghost use Rattle.dep_iter.specs.Links.{dependences_fit, fits};
 ghost use Rattle.dep_iter.specs.Tasks.{IsTask, task};
 ghost use Rattle.edge_match.specs.Counted.{Checked};
-ghost use Rattle.edge_match.specs.Directions as directions;
-ghost use Rattle.edge_match.specs.Directions.{all_marks_at, edge_at, edges_before, held_items, items_at};
+ghost use Rattle.dep_iter.specs.Directions.{dependences, edge_at, edges_before};
+ghost use Rattle.edge_match.specs.Directions.{all_marks_at, held_items, items_at};
 
 use crate::counted::Counted;
-use crate::direction::Direction;
-use crate::edges::{check_edge, check_write, edge_with};
+use crate::edges::{check_edge, check_write};
 use crate::fault::MatchFault;
-use crate::named::{Named, arguments_at_most, place_of};
 use crate::task_at::FlowAt;
-use dep_iter::{Combinations, edges_of_a_dependence_differ, held_target, takes_first};
+use dep_iter::{
+    Combinations, Direction, LentEdge, arguments_at_most, edges_of_a_dependence_differ,
+    held_target, place_of,
+};
 use plan_core::{DepPlan, Target};
 use ptg_base::TaskId;
-use term_core::FlowKind;
+
+// A dependence by its number, and the flow of a class that its target names.
+#[derive(Clone, Copy)]
+struct Named {
+    dependence: usize,
+    class: u32,
+    flow: u8,
+}
 
 // Checks the edges between the flow and the tasks with these parameters, which a dependence names.
 fn check_edges(
@@ -35,7 +43,7 @@ fn check_edges(
 {
     while let Some(values) = params.next() {
         let far = TaskId::new(named.class, values.as_slice());
-        let edge = edge_with(at, way, far, named.flow);
+        let edge = LentEdge::between(way, at.task, at.number, &far, named.flow);
         check_edge(at, way, named.dependence, &edge, counted)?;
     }
     Ok(())
@@ -74,16 +82,6 @@ fn check_target(
     }
 }
 
-// Whether of the dependences of a flow of this kind the first that holds counts alone.
-fn first_alone(way: Direction, kind: FlowKind) -> bool
-    ensures { result ≡ directions.first_alone way kind }
-{
-    match way {
-        Direction::In => takes_first(kind),
-        Direction::Out => false,
-    }
-}
-
 // Checks what these dependences of the flow stand for; they are its last ones, numbered from `k` on.
 pub(crate) fn check_dependences(
     at: &FlowAt,
@@ -93,7 +91,7 @@ pub(crate) fn check_dependences(
     counted: &mut Counted,
 ) -> Result<(), MatchFault>
     requires of_job { IsTask at.now.plan.now at.now.task.now }
-    requires last { drop k (directions.dependences way at.now.flow.now) ≡ deps.now }
+    requires last { drop k (dependences way at.now.flow.now) ≡ deps.now }
     requires fit { IsTrue (dependences_fit at.now.plan.now deps.now) }
     requires room { k + length deps.now < 2 ^ 64 }
     ensures { Checked at.now.plan.now counted.old counted.new result (all_marks_at way at.now.phase (data_source at.now.plan.now at.now.task.now at.now.number) at.now.task.now at.now.number (edges_before way at.now.plan.now at.now.task.now at.now.number k) (held_items way at.now.task.now at.now.env.now at.now.number at.now.flow.now.kind deps.now)) }
@@ -105,7 +103,7 @@ pub(crate) fn check_dependences(
         return check_dependences(at, way, k + 1, later, counted);
     };
     check_target(at, way, k, target, counted)?;
-    if first_alone(way, at.flow.kind) {
+    if way.first_alone(at.flow.kind) {
         return Ok(());
     }
     check_dependences(at, way, k + 1, later, counted)

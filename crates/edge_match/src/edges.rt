@@ -1,6 +1,6 @@
 //! Checks of an edge or of a write-back of a flow.
 
-ghost use Rattle.std.specs.Prelude.{◌≡◌, ◌↔◌, List, IsTrue};
+ghost use Rattle.std.specs.Prelude.{◌≡◌, ◌↔◌, List};
 ghost use Rattle.ptg_base.specs.Lists.{IsIn};
 ghost use Rattle.ptg_base.specs.declared.edge.Edge.{Edge as EdgeValue};
 ghost use Rattle.ptg_base.specs.declared.edge.WriteBack.{WriteBack as WriteBackValue};
@@ -9,61 +9,26 @@ ghost use Rattle.dep_iter.specs.Consistent.{is_data_edge};
 ghost use Rattle.dep_iter.specs.Edges.{data_source};
 ghost use Rattle.dep_iter.specs.Tasks.{IsTask};
 ghost use Rattle.edge_match.specs.Counted.{Checked, Decides};
-ghost use Rattle.edge_match.specs.Directions as directions;
-ghost use Rattle.edge_match.specs.Directions.{counts, edge_at, edge_marks, edges_before, near_flow, near_task, other_end, tile_marks, write_marks};
+ghost use Rattle.dep_iter.specs.Directions.{edges_before, near_flow, near_task};
+ghost use Rattle.edge_match.specs.Directions.{counts, edge_marks, other_end, tile_marks, write_marks};
 ghost use Rattle.edge_match.specs.FirstFault.{code_of};
 ghost use Rattle.edge_match.specs.declared.counted.Counted.{Counted as CountedValue};
-ghost use Rattle.edge_match.specs.declared.direction.Direction.TheVariants as direction;
+ghost use Rattle.dep_iter.specs.declared.direction.Direction.TheVariants as direction;
 ghost use Rattle.edge_match.specs.declared.phase.Phase.TheVariants as phase;
 
 use crate::counted::Counted;
-use crate::direction::Direction;
 use crate::fault::{MatchCode, MatchFault};
 use crate::phase::Phase;
 use crate::task_at::FlowAt;
-use dep_iter::{has_in_edge_before, has_out_edge_before, is_task, receiver_locals, sender_locals};
+use dep_iter::{Direction, LentEdge, far_locals, has_edge_before, is_task};
 use plan_core::{Plan, is_data};
-use ptg_base::{Edge, Place, TaskId};
-
-// The edge between the flow and a flow of another task.
-pub(crate) fn edge_with(at: &FlowAt, way: Direction, far: TaskId, far_flow: u8) -> Edge
-    ensures { result ≡ edge_at way at.now.task.now at.now.number far far_flow }
-{
-    match way {
-        Direction::In => Edge {
-            from: far,
-            out_flow: far_flow,
-            to: at.task.copy(),
-            in_flow: at.number,
-        },
-        Direction::Out => Edge {
-            from: at.task.copy(),
-            out_flow: at.number,
-            to: far,
-            in_flow: far_flow,
-        },
-    }
-}
-
-// The task at the other end of an edge.
-fn far_task(way: Direction, edge: &Edge) -> &TaskId
-    ensures { result.now ≡ directions.far_task way edge.now }
-{
-    match way {
-        Direction::In => &edge.from,
-        Direction::Out => &edge.to,
-    }
-}
+use ptg_base::Place;
 
 // Whether an edge is one at its other end.
-fn has_other_end(plan: &Plan, way: Direction, edge: &Edge) -> bool
+fn has_other_end(plan: &Plan, way: Direction, edge: &LentEdge) -> bool
     ensures { (s : CountedValue) → Decides plan.now s s result (other_end way edge.now) }
 {
-    let other = match way {
-        Direction::In => sender_locals(plan, edge),
-        Direction::Out => receiver_locals(plan, edge),
-    };
-    other.is_some()
+    far_locals(plan, way, edge).is_some()
 }
 
 // The code of an edge that is none at its other end.
@@ -73,18 +38,6 @@ fn unmatched(way: Direction) -> MatchCode
     match way {
         Direction::In => MatchCode::NoMatchingOut,
         Direction::Out => MatchCode::NoMatchingIn,
-    }
-}
-
-// Whether one of the first `k` dependences of the flow gives an edge.
-fn has_edge_before(at: &FlowAt, way: Direction, k: usize, edge: &Edge) -> bool
-    requires of_job { IsTask at.now.plan.now at.now.task.now }
-    requires flow { near_flow way edge.now ≡ at.now.number }
-    ensures { IsTrue result ↔ IsIn edge.now (edges_before way at.now.plan.now at.now.task.now at.now.number k) }
-{
-    match way {
-        Direction::In => has_in_edge_before(at.plan, at.task, edge, k),
-        Direction::Out => has_out_edge_before(at.plan, at.task, edge, k),
     }
 }
 
@@ -112,7 +65,7 @@ fn check_tile(at: &FlowAt, way: Direction) -> Result<(), MatchFault>
 fn connect_edge(
     at: &FlowAt,
     way: Direction,
-    edge: &Edge,
+    edge: &LentEdge,
     counted: &mut Counted,
 ) -> Result<(), MatchFault>
     requires task { near_task way edge.now ≡ at.now.task.now }
@@ -120,19 +73,19 @@ fn connect_edge(
     ensures { (earlier : List EdgeValue) → Checked at.now.plan.now counted.old counted.new result (edge_marks way phase.Connecting (data_source at.now.plan.now at.now.task.now at.now.number) at.now.task.now at.now.number earlier edge.now) }
 {
     check_tile(at, way)?;
-    at.require(is_task(at.plan, far_task(way, edge)), MatchCode::OutOfSpace)?;
+    at.require(is_task(at.plan, edge.far_task(way)), MatchCode::OutOfSpace)?;
     let fits = count_edge(way, is_data(at.flow.kind), counted);
     at.require(fits, MatchCode::TooManyEdges)
 }
 
 // Whether an edge of the flow, which dependence `k` gives, is one at its other end, and no earlier dependence gives it.
-fn match_edge(at: &FlowAt, way: Direction, k: usize, edge: &Edge) -> Result<(), MatchFault>
+fn match_edge(at: &FlowAt, way: Direction, k: usize, edge: &LentEdge) -> Result<(), MatchFault>
     requires of_job { IsTask at.now.plan.now at.now.task.now }
     requires flow { near_flow way edge.now ≡ at.now.number }
     ensures { (earlier : List EdgeValue) (s : CountedValue) → IsIn edge.now earlier ↔ IsIn edge.now (edges_before way at.now.plan.now at.now.task.now at.now.number k) → Checked at.now.plan.now s s result (edge_marks way phase.Matching (data_source at.now.plan.now at.now.task.now at.now.number) at.now.task.now at.now.number earlier edge.now) }
 {
     at.require(has_other_end(at.plan, way, edge), unmatched(way))?;
-    let double = has_edge_before(at, way, k, edge);
+    let double = has_edge_before(at.plan, way, at.task, at.env, edge, k);
     at.require(!double, MatchCode::DoubleEdge)
 }
 
@@ -141,7 +94,7 @@ pub(crate) fn check_edge(
     at: &FlowAt,
     way: Direction,
     k: usize,
-    edge: &Edge,
+    edge: &LentEdge,
     counted: &mut Counted,
 ) -> Result<(), MatchFault>
     requires of_job { IsTask at.now.plan.now at.now.task.now }

@@ -15,11 +15,10 @@ ghost use Rattle.edge_match.specs.declared.counted.Counted.{Counted as CountedVa
 
 use crate::counted::Counted;
 use crate::dependences::check_dependences;
-use crate::direction::Direction;
 use crate::fault::{MatchCode, MatchFault};
 use crate::phase::Phase;
 use crate::task_at::{FlowAt, TaskAt};
-use dep_iter::{Source, data_source_under, takes_tile};
+use dep_iter::{Direction, Source, data_source_under, takes_tile};
 use plan_core::{FlowPlan, Plan};
 use term_core::FlowKind;
 

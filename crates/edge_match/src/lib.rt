@@ -4,13 +4,11 @@
 mod counted;
 mod counting;
 mod dependences;
-mod direction;
 mod edges;
 mod fault;
 mod flows;
 mod laws;
 mod matching;
-mod named;
 mod phase;
 mod refusing;
 mod task_at;

@@ -6,7 +6,7 @@ ghost use Rattle.dep_iter.specs.Items as items;
 ghost use Rattle.dep_iter.specs.Tasks.{IsTask};
 ghost use Rattle.flow_meaning.specs.Machine as machine;
 
-use dep_iter::{WriteBacks, has_out_edge, write_backs};
+use dep_iter::{Direction, LentEdge, WriteBacks, has_edge_under, locals_of, write_backs};
 use plan_core::Plan;
 use ptg_base::{Edge, Item, Place, TaskId, WriteBack, items_compare_field_by_field};
 
@@ -73,7 +73,11 @@ pub(crate) fn is_item(plan: &Plan, item: &Item) -> bool
     ensures { IsTrue result ↔ IsIn item.now (items.items plan.now (machine.sender item.now)) }
 {
     match item {
-        Item::Edge(e) => has_out_edge(plan, &e.from, e),
+        Item::Edge(e) => {
+            let env = locals_of(plan, &e.from);
+            let edge = LentEdge::of(e);
+            has_edge_under(plan, Direction::Out, &e.from, env.as_slice(), &edge)
+        }
         Item::Write(w) => is_left(&mut write_backs(plan, &w.from), w),
     }
 }

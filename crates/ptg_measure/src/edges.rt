@@ -4,7 +4,7 @@ ghost use Rattle.dep_iter.specs.Tasks.{IsTask};
 
 use crate::count::{Count, Failure};
 use crate::jobs::{cholesky, star};
-use dep_iter::{has_in_edge, has_out_edge, in_edges, is_task, out_edges};
+use dep_iter::{Direction, LentEdge, far_locals, in_edges, is_task, out_edges};
 use plan_core::Plan;
 use ptg_base::TaskId;
 use range_space::Space;
@@ -80,7 +80,7 @@ fn received(plan: &Plan, task: &TaskId) -> u64
 {
     let mut count: u64 = 0;
     for edge in out_edges(plan, task) {
-        if is_task(plan, &edge.to) && has_in_edge(plan, &edge.to, &edge) {
+        if far_locals(plan, Direction::Out, &LentEdge::of(&edge)).is_some() {
             count = count.wrapping_add(1);
         }
     }
@@ -93,7 +93,7 @@ fn sent(plan: &Plan, task: &TaskId) -> u64
 {
     let mut count: u64 = 0;
     for edge in in_edges(plan, task) {
-        if is_task(plan, &edge.from) && has_out_edge(plan, &edge.from, &edge) {
+        if far_locals(plan, Direction::In, &LentEdge::of(&edge)).is_some() {
             count = count.wrapping_add(1);
         }
     }

@@ -19,7 +19,7 @@ loop-values-preserved c =
     let all = map mk c.args.params in
     let more = map mk c.next.new.self in
     let w = subst (IsSoFar P before c.args.ins.now c.loop-values.ins all) (ap (map mk) c.in-Some.ensures) c.loop-values.invariant.so_far in
-    record { so_far = one_more P before c.args.ins.now c.loop-values.ins c.take_edge.new.ins all (mk c.in-Some.values) more w (OnTrue_at c.if-not-take_edge.false (rw (c.new.ensures, c.as_slice.ensures.same, c.copy.ensures) at c.take_edge.ensures)) }
+    record { so_far = one_more P before c.args.ins.now c.loop-values.ins c.take_edge.new.ins all (mk c.in-Some.values) more w (OnTrue_at c.if-not-take_edge.false (rw (c.between-edge.ensures, c.new-from.ensures, c.as_slice.ensures.same) at c.take_edge.ensures)) }
 
 pub returns : goal.returns
 returns c =

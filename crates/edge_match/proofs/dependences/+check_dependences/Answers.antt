@@ -1,7 +1,7 @@
 use Rattle.std.proofs.Common.{sym, ◌∙◌, length, ap, add-one, arith}
 use Rattle.dep_iter.specs.Edges.{data_source}
 use Rattle.range_space.proofs.MemberLists.{and_right}
-use Rattle.edge_match.specs.Directions.{dependences}
+use Rattle.dep_iter.specs.Directions.{dependences}
 use Rattle.edge_match.proofs.Directed.{drop_cons, end_at, pass_at, skip, stop_at}
 use Rattle.edge_match.proofs.dependences.+check_dependences.Goals as goal
 

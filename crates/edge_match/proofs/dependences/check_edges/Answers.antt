@@ -1,7 +1,7 @@
 use Rattle.std.proofs.Common.{List, ℤ, sym, subst, inl, refl, Ok}
 use Rattle.dep_iter.specs.Edges.{data_source}
 use Rattle.dep_iter.specs.Tasks.{task}
-use Rattle.edge_match.specs.Directions.{edge_at, edges_before}
+use Rattle.dep_iter.specs.Directions.{edge_at, edges_before}
 use Rattle.edge_match.proofs.Directed.{Rest, one_more}
 use Rattle.edge_match.proofs.Parts.{stop, unchecked}
 use Rattle.edge_match.proofs.dependences.check_edges.Goals as goal
@@ -20,7 +20,7 @@ loop-values-preserved c =
     let before = edges_before way P t n named.dependence in
     let mk = λ (ps : List ℤ). edge_at way t n (task named.class ps) named.flow in
     let src = data_source P t n in
-    let one = rw (c.edge_with-edge.ensures, c.new-far.ensures, c.as_slice.ensures.same) at c.in_ok-check_edge.ensures in
+    let one = rw (c.between-edge.ensures, c.new-far.ensures, c.as_slice.ensures.same) at c.in_ok-check_edge.ensures in
     record {
       rest = λ v r w. c.loop-values.invariant.rest v r
           (subst (Rest P way at.phase src t n before mk c.loop-values.counted v r) (sym c.in-Some.ensures)
@@ -38,7 +38,7 @@ returns-in_err-check_edge c =
     let before = edges_before way P t n named.dependence in
     let mk = λ (ps : List ℤ). edge_at way t n (task named.class ps) named.flow in
     let src = data_source P t n in
-    let one = rw (c.edge_with-edge.ensures, c.new-far.ensures, c.as_slice.ensures.same) at c.in_err-check_edge.ensures in
+    let one = rw (c.between-edge.ensures, c.new-far.ensures, c.as_slice.ensures.same) at c.in_err-check_edge.ensures in
     c.loop-values.invariant.rest _ _
     (subst (Rest P way at.phase src t n before mk c.loop-values.counted c.check_edge.new.counted c.from_residual.result) (sym c.in-Some.ensures)
     (λ earlier agree once. stop _ c.from_residual.ensures.1 (one earlier (agree (mk c.in-Some.values) (inl refl))))) before (λ e h. (λ x. x, λ x. x)) c.requires.distinct

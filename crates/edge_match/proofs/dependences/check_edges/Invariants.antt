@@ -1,7 +1,7 @@
 use Rattle.std.proofs.Common.{Result, length}
 use Rattle.dep_iter.specs.Edges.{data_source}
 use Rattle.dep_iter.specs.Tasks.{task}
-use Rattle.edge_match.specs.Directions.{edge_at, edges_before}
+use Rattle.dep_iter.specs.Directions.{edge_at, edges_before}
 use Rattle.edge_match.specs.declared.counted.Counted.{Counted}
 use Rattle.edge_match.specs.declared.fault.MatchFault.{MatchFault}
 use Rattle.edge_match.proofs.Directed.{Rest}

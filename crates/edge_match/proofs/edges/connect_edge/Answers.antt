@@ -1,5 +1,6 @@
 use Rattle.std.proofs.Common.{refl}
-use Rattle.edge_match.specs.Directions.{counts, far_task}
+use Rattle.dep_iter.specs.Directions.{far_task}
+use Rattle.edge_match.specs.Directions.{counts}
 use Rattle.edge_match.specs.Marks.{IsOfJob}
 use Rattle.edge_match.proofs.Parts.{steady, stop, followed}
 use Rattle.edge_match.proofs.Tallies.{counts_code, counts_flow, is_data-here}
