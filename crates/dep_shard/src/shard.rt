@@ -394,6 +394,15 @@ impl Shard {
         self.ended += 1;
     }
 
+    /// Keeps the tiles of a task that has ended for later edges and write-backs, as far as there is room among the spare
+    /// tiles that were used. What contracts see stays, but for spares that grow.
+    pub fn reuse(&mut self, spent: &mut Arrivals)
+        ensures same { IsUnchanged self.old self.new }
+        ensures spare { Uses self.old.spare self.new.spare 0 None 0 0 }
+    {
+        self.stock.keep_all(spent);
+    }
+
     /// A running task traps: it ends, and is noted with its cause. It uses a spare trapped task.
     pub fn trap(&mut self, t: &TaskId, cause: Trap) -> Result<(), OutOfMemory>
         requires running { 0 < self.old.running }

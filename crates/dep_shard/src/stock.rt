@@ -78,6 +78,23 @@ impl TypeStock {
     }
 }
 
+impl TypeStock {
+    // Whether a tile that nothing needs any more can be kept here for a later copy.
+    fn has_room_for(&self, tile: &Tile) -> bool {
+        self.pool.has_room_for(tile)
+    }
+
+    // Keeps a tile for a later copy, where there is room for it.
+    fn keep(&mut self, tile: Tile)
+        ensures elems { self.new.elems ≡ self.old.elems }
+        ensures more { self.old.spare ≤ self.new.spare }
+    {
+        if self.pool.has_room_for(&tile) {
+            self.pool.give(tile);
+        }
+    }
+}
+
 // A link: a free one if there is any, else a reserved one, else a new one.
 fn take_link(alloc: Global, links: &mut Links, free: &mut Links) -> Result<Box<Link>, OutOfMemory>
     ensures taken { vec_len links.old ≤ vec_len links.new + 1 }
@@ -190,6 +207,49 @@ impl Stock {
     {
         let stock = &mut self.types[datatype as usize];
         stock.copy_and_link(tile, &mut self.free)
+    }
+
+    // The first type among whose tiles there is room for this one.
+    fn type_for(&self, tile: &Tile) -> Option<usize>
+        ensures { IfSome result (λ k. k < length self.now.elems) }
+    {
+        for k in 0..self.types.len() {
+            if self.types[k].has_room_for(tile) {
+                return Some(k);
+            }
+        }
+        None
+    }
+
+    // Keeps a tile that nothing needs any more for a later copy, if a type has room for it.
+    fn keep(&mut self, tile: Tile)
+        ensures elems { self.new.elems ≡ self.old.elems }
+        ensures spare { UsesTile self.old.spare self.new.spare None }
+    {
+        if let Some(k) = self.type_for(&tile) {
+            self.keep_at(k, tile);
+        }
+    }
+
+    // Keeps all of these tiles that there is room for.
+    pub(crate) fn keep_all(&mut self, spent: &mut Arrivals)
+        ensures elems { self.new.elems ≡ self.old.elems }
+        ensures spare { UsesTile self.old.spare self.new.spare None }
+    {
+        for flow in 0..8 {
+            if let Some(tile) = spent.take(flow) {
+                self.keep(tile);
+            }
+        }
+    }
+
+    fn keep_at(&mut self, k: usize, tile: Tile)
+        requires { k < length self.old.elems }
+        ensures elems { self.new.elems ≡ self.old.elems }
+        ensures spare { UsesTile self.old.spare self.new.spare None }
+    {
+        let stock = &mut self.types[k];
+        stock.keep(tile);
     }
 
     // The tiles of an entry. Their links are free from then on.

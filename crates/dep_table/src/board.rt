@@ -13,6 +13,7 @@ use crate::pass::Pass;
 use crate::table::DepTable;
 use coll_data::Given;
 use dep_iter::Matched;
+use dep_shard::Arrivals;
 use ptg_base::{Item, OutOfMemory, TaskId, Tile};
 use term_core::Trap;
 use work_board::{Board, Claim, Scan, Sent};
@@ -69,8 +70,8 @@ impl Board for DepTable {
         self.send_once(pass, item, tile)
     }
 
-    fn try_end(&self, pass: &mut Pass, t: &TaskId) -> bool {
-        self.end_once(pass, t)
+    fn try_end(&self, pass: &mut Pass, t: &TaskId, spent: &mut Arrivals) -> bool {
+        self.end_once(pass, t, spent)
     }
 
     fn try_trap(&self, pass: &mut Pass, t: &TaskId, cause: Trap) -> Result<bool, OutOfMemory> {

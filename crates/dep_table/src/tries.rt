@@ -17,6 +17,7 @@ ghost use Rattle.dep_table.specs.Views.{shown};
 use crate::pass::Pass;
 use crate::table::DepTable;
 use crate::turn::Busy;
+use dep_shard::Arrivals;
 use ptg_base::{Item, OutOfMemory, TaskId, Tile};
 use term_core::Trap;
 use work_board::{Claim, Scan, Sent};
@@ -99,8 +100,9 @@ impl DepTable {
         }
     }
 
-    // Ends the task that the pass runs, whose items were all sent. False only where the turn was taken.
-    pub(crate) fn end_once(&self, pass: &mut Pass, t: &TaskId) -> bool
+    // Ends the task that the pass runs, whose items were all sent, and keeps the tiles that came with it. False only where the turn was
+    // taken.
+    pub(crate) fn end_once(&self, pass: &mut Pass, t: &TaskId, spent: &mut Arrivals) -> bool
         requires pass { IsPassOf (id_of self.now) pass.old }
         requires is_task { IsTask (job_of self.now).matched t.now }
         requires task { MayEnd (job_of self.now).matched (job_of self.now).given t.now (shown pass.old) }
@@ -110,7 +112,7 @@ impl DepTable {
         let shard = self.shard_of(t);
         match self.try_turn(pass, shard) {
             Ok(turn) => {
-                turn.end(t);
+                turn.end(t, spent);
                 true
             }
             Err(Busy { pass: _pass }) => false,

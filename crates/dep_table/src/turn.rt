@@ -15,7 +15,7 @@ ghost use Rattle.dep_table.specs.Views.{shown};
 
 use crate::pass::Pass;
 use crate::table::DepTable;
-use crate::turn_steps::take_ready;
+use crate::turn_steps::{end_task, take_ready};
 use dep_shard::Arrivals;
 use ptg_base::{OutOfMemory, TaskId};
 use term_core::Trap;
@@ -94,8 +94,9 @@ impl<'a> Turn<'a> {
 }
 
 impl<'a> Turn<'a> {
-    /// Ends the running task, all of whose items the pass has sent, and gives the turn back.
-    pub fn end(self, t: &TaskId)
+    /// Ends the running task, all of whose items the pass has sent, and gives the turn back. The shard may keep the tiles that came with
+    /// the task, for what is sent later.
+    pub fn end(self, t: &TaskId, spent: &mut Arrivals)
         requires turn { IsTurn self }
         requires task { MayEnd (job_of self.table.now).matched (job_of self.table.now).given t.now (shown self.pass.now) }
         requires shard { placing.shard_of (job_of self.table.now).matched (job_of self.table.now).shards t.now ≡ self.shard }
@@ -106,7 +107,7 @@ impl<'a> Turn<'a> {
         let _task = t;
         let Turn { table, pass, shard } = self;
         let desk = pass.seat.slot_mut(&table.table.shared, shard as usize);
-        desk.end();
+        end_task(desk, spent);
         table.give_end(&mut pass.seat, shard);
         table.lower_live(&mut pass.seat);
     }

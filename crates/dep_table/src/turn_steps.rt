@@ -2,7 +2,7 @@
 
 ghost use Rattle.std.specs.Prelude.{[], IfNone, IfSome, None, ◌≡◌, ◌≢◌, ◌<◌, ◌∷◌, Some};
 ghost use Rattle.atomic_table.specs.Table.{rest};
-ghost use Rattle.dep_shard.specs.Content.{Content, Entry, Takes, Uses, entry_of};
+ghost use Rattle.dep_shard.specs.Content.{Content, Ends, Entry, KeepsEntriesAndWritten, Takes, Uses, entry_of};
 ghost use Rattle.table_rule.specs.Changes.{turn_left, with_look, with_own_claim, with_own_end, with_stamp, with_turn, without_credit};
 ghost use Rattle.table_rule.specs.Live.{own_stamps};
 ghost use Rattle.table_rule.specs.Plays.{HasName, WasSeen};
@@ -69,6 +69,19 @@ pub(crate) fn take_ready(desk: &mut Shard, t: &TaskId) -> Option<Arrivals>
         return None;
     }
     desk.take_ready(t)
+}
+
+// A running task of a shard ends, and the tiles that came with it are kept.
+pub(crate) fn end_task(desk: &mut Shard, spent: &mut Arrivals)
+    requires running { 0 < desk.old.running }
+    requires bound { desk.old.ended < 1000000 }
+    ensures ends { Ends desk.old desk.new }
+    ensures rest { KeepsEntriesAndWritten desk.old desk.new }
+    ensures trapped { desk.new.trapped ≡ desk.old.trapped }
+    ensures spare { Uses desk.old.spare desk.new.spare 0 None 0 0 }
+{
+    desk.end();
+    desk.reuse(spent);
 }
 
 impl DepTable {

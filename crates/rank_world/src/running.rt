@@ -155,7 +155,7 @@ fn run_visit(
 {
     let end = begin(at, desk, bench);
     end_run(at, desk, mail, bench, (end, messages));
-    bench.clear();
+    let _spent = bench.clear();
 }
 
 // Takes the memory for the task of a visit, and runs it. Without memory nothing but spares changes.

@@ -13,6 +13,7 @@ use crate::seen::Seen;
 use crate::watcher::Watcher;
 use coll_data::Given;
 use dep_iter::Matched;
+use dep_shard::Arrivals;
 use dep_table::pass::Pass;
 use dep_table::table::DepTable;
 use ptg_base::{Item, OutOfMemory, TaskId, Tile};
@@ -148,8 +149,8 @@ impl Board for Watched {
         Ok(sent)
     }
 
-    fn try_end(&self, pass: &mut Watch, t: &TaskId) -> bool {
-        Board::try_end(&self.table, &mut pass.mine, t)
+    fn try_end(&self, pass: &mut Watch, t: &TaskId, spent: &mut Arrivals) -> bool {
+        Board::try_end(&self.table, &mut pass.mine, t, spent)
     }
 
     fn try_trap(&self, pass: &mut Watch, t: &TaskId, cause: Trap) -> Result<bool, OutOfMemory> {

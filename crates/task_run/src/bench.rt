@@ -132,24 +132,29 @@ impl Bench {
         self.tiles[flow as usize].as_ref()
     }
 
-    // Clears the place of the last flow of the task on the bench.
-    fn clear_last(&mut self)
+    // Clears the place of the last flow of the task on the bench. The tile that came to it by an edge goes to those that are spent.
+    fn clear_last(&mut self, spent: &mut Arrivals)
         requires { 0 < length self.old.tiles }
         ensures elems { self.new.elems ≡ self.old.elems }
         ensures fewer { length self.new.tiles + 1 ≡ length self.old.tiles }
     {
         let last = self.pools.flows() - 1;
         let tile = self.tiles[last].take();
-        self.pools.take_back(tile);
+        if let Some(tile) = self.pools.take_back(tile) {
+            spent.put(last as u8, tile);
+        }
     }
 
-    /// Takes the task off the bench: tiles of the bench come back, and those that came with the task go.
-    pub fn clear(&mut self)
+    /// Takes the task off the bench: tiles of the bench come back, and those that came with the task are the answer, so that their memory
+    /// can be used again.
+    pub fn clear(&mut self) -> Arrivals
         ensures elems { self.new.elems ≡ self.old.elems }
         ensures idle { self.new.tiles ≡ [] }
     {
+        let mut spent = Arrivals::new();
         for _flow in 0..self.flows() {
-            self.clear_last();
+            self.clear_last(&mut spent);
         }
+        spent
     }
 }

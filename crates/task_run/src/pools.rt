@@ -114,26 +114,27 @@ impl Pools {
         copy_in(&mut self.pools[datatype as usize], from)
     }
 
-    // The last flow has ended with this tile: it comes back if it was lent, and goes if not.
-    pub(crate) fn take_back(&mut self, tile: Option<Tile>)
+    // The last flow has ended with this tile: it comes back if it was lent. The tile that came by an edge is the answer.
+    pub(crate) fn take_back(&mut self, tile: Option<Tile>) -> Option<Tile>
         requires some { 0 < length self.old.lent }
         requires fits { LendsTo (without_last self.old) self.old tile }
         ensures { self.new ≡ without_last self.old }
     {
         let lent = self.lent.pop().unwrap();
-        give_back(&mut self.pools, lent, tile);
+        give_back(&mut self.pools, lent, tile)
     }
 }
 
-// Gives a tile back to the pool of its type, if it was lent.
-fn give_back(pools: &mut Vec<TypePool>, lent: Option<u32>, tile: Option<Tile>)
+// Gives a tile back to the pool of its type, if it was lent. One that was not lent is the answer.
+fn give_back(pools: &mut Vec<TypePool>, lent: Option<u32>, tile: Option<Tile>) -> Option<Tile>
     requires { CanGive pools.old.items lent tile }
     ensures { IsGivenBack pools.old.items lent pools.new.items }
 {
     let Some(datatype) = lent else {
-        return;
+        return tile;
     };
     if let Some(tile) = tile {
         pools[datatype as usize].pool.give(tile);
     }
+    None
 }

@@ -9,6 +9,7 @@ ghost use Rattle.dep_table.specs.Views as views;
 
 use coll_data::Given;
 use dep_iter::Matched;
+use dep_shard::Arrivals;
 use dep_table::pass::Pass;
 use dep_table::table::DepTable;
 use ptg_base::{Item, OutOfMemory, TaskId, Tile};
@@ -107,8 +108,8 @@ impl Board for Unscanned {
         self.table.try_send(&mut pass.own, item, tile)
     }
 
-    fn try_end(&self, pass: &mut PassPair, t: &TaskId) -> bool {
-        self.table.try_end(&mut pass.own, t)
+    fn try_end(&self, pass: &mut PassPair, t: &TaskId, spent: &mut Arrivals) -> bool {
+        self.table.try_end(&mut pass.own, t, spent)
     }
 
     fn try_trap(&self, pass: &mut PassPair, t: &TaskId, cause: Trap) -> Result<bool, OutOfMemory> {

@@ -1,5 +1,5 @@
 //! A pool of tiles of one length.
-ghost use Rattle.std.specs.Prelude.{◌≡◌, ◌<◌, ◌≤◌, length, IsOk, IfOk, OnOk, OnErr, vec_len, vec_capacity};
+ghost use Rattle.std.specs.Prelude.{◌≡◌, ◌↔◌, ◌<◌, ◌≤◌, IsTrue, length, IsOk, IfOk, OnOk, OnErr, vec_len, vec_capacity};
 ghost use Rattle.tile_pool.specs.Pool.{Pool, IsTakenFrom, HaveLength};
 
 use ptg_base::{OutOfMemory, Tile};
@@ -77,6 +77,13 @@ impl TilePool {
     {
         self.room -= 1;
         self.tiles.push(tile).unwrap();
+    }
+
+    /// Whether a tile can be given back: it is as long as those of the pool, and there is room for it.
+    pub fn has_room_for(&self, tile: &Tile) -> bool
+        ensures { IsTrue result ↔ ((0 < self.now.room) × (length tile.now ≡ self.now.elems)) }
+    {
+        self.room > 0 && tile.len() == self.elems
     }
 
     /// A copy of a tile: in a tile that is taken if there is one, and otherwise in new memory. An `Err` changes

@@ -13,6 +13,7 @@ ghost use Rattle.work_board.specs.Looks.{HaltedIf, HasHalted, HasStamp, QuietIf}
 use crate::answers::{Claim, Scan, Sent};
 use coll_data::Given;
 use dep_iter::Matched;
+use dep_shard::Arrivals;
 use ptg_base::{Item, OutOfMemory, TaskId, Tile};
 use std::marker::Sync;
 use term_core::Trap;
@@ -99,8 +100,9 @@ pub trait Board: Sync {
         ensures err { OnErr result (OnlyTook (shard_of_item (placement self.now) item.now) (shown pass.old) (shown pass.new)) }
         ensures preloaded { preloaded self.now ≡ true → IsOk result };
 
-    /// Ends the task that the pass runs, whose items were all sent. False only where the turn was taken.
-    fn try_end(&self, pass: &mut Self::Pass, t: &TaskId) -> bool
+    /// Ends the task that the pass runs, whose items were all sent. False only where the turn was taken. The board may keep the tiles
+    /// that came with the task, for what is sent later.
+    fn try_end(&self, pass: &mut Self::Pass, t: &TaskId, spent: &mut Arrivals) -> bool
         requires pass { is_pass self.now pass.old }
         requires task { MayEnd (plan self.now) (job_data self.now) t.now (shown pass.old) }
         ensures pass { is_pass self.now pass.new }

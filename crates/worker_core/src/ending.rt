@@ -7,17 +7,19 @@ ghost use Rattle.worker_core.specs.Ending.{HasEndedOnly};
 
 use crate::post::Post;
 use crossbeam_utils::Backoff;
+use dep_shard::Arrivals;
 use ptg_base::{OutOfMemory, TaskId};
 use std::sync::Wait;
 use std::thread::Threads;
 use term_core::Trap;
 use work_board::Board;
 
-// Ends the task that the pass runs, however long its turn takes.
+// Ends the task that the pass runs, however long its turn takes. The board may keep the tiles that came with it.
 pub(crate) fn end_one<R: Threads + Wait + Sync, B: Board, G>(
     post: &Post<R, B, G>,
     pass: &mut B::Pass,
     t: &TaskId,
+    mut spent: Arrivals,
 )
     requires pass { B.is_pass post.now.board.now pass.old }
     requires task { MayEnd (B.plan post.now.board.now) (B.job_data post.now.board.now) t.now (B.shown pass.old) }
@@ -26,7 +28,7 @@ pub(crate) fn end_one<R: Threads + Wait + Sync, B: Board, G>(
 {
     let backoff = Backoff::new();
     for _ in post.rt.forever() {
-        if post.board.try_end(pass, t) {
+        if post.board.try_end(pass, t, &mut spent) {
             return;
         }
         backoff.snooze();

@@ -50,27 +50,28 @@ fn run_body<R: Threads + Wait + Sync, B: Board, G: Gate>(
     bench.run(&start, arrivals)
 }
 
-// Sends what the task on the bench leaves, and ends it.
+// Sends what the task on the bench leaves, takes it off the bench, and ends it.
 fn send_and_end<R: Threads + Wait + Sync, B: Board, G>(
     post: &Post<R, B, G>,
     pass: &mut B::Pass,
     hands: &mut Hands,
-    bench: &Bench,
+    bench: &mut Bench,
     at: &TaskAt,
 ) -> Result<(), OutOfMemory>
     requires pass { B.is_pass post.now.board.now pass.old }
     requires task { IsTask (B.plan post.now.board.now) at.now.task.now }
     requires locals { at.now.locals.now ≡ locals_of (B.plan post.now.board.now) at.now.task.now }
-    requires tiles { ended (B.plan post.now.board.now) (B.job_data post.now.board.now) at.now.task.now ≡ Some (Ok bench.now.tiles) }
+    requires tiles { ended (B.plan post.now.board.now) (B.job_data post.now.board.now) at.now.task.now ≡ Some (Ok bench.old.tiles) }
     requires unsent { RunsUnsent (B.plan post.now.board.now) at.now.task.now (B.shown pass.old) }
     ensures pass { B.is_pass post.now.board.now pass.new }
     ensures hands { SameWorker hands.old hands.new }
+    ensures elems { bench.new.elems ≡ bench.old.elems }
     ensures some { HasSentSome (B.shown pass.old) (B.shown pass.new) }
     ensures run { OnOk result (HasRun (B.plan post.now.board.now) (B.job_data post.now.board.now) at.now.task.now (B.shown pass.old) (B.shown pass.new)) }
     ensures err { OnErr result (B.preloaded post.now.board.now ≡ false) }
 {
     send_all(post, pass, hands, bench, at)?;
-    end_one(post, pass, at.task);
+    end_one(post, pass, at.task, bench.clear());
     Ok(())
 }
 
@@ -125,6 +126,6 @@ pub(crate) fn run_found<R: Threads + Wait + Sync, B: Board, G: Gate>(
         Ok(()) => send_and_end(post, pass, hands, bench, &at),
         Err(cause) => note_trap(post, pass, &at, cause),
     };
-    bench.clear();
+    let _spent = bench.clear();
     answer
 }
