@@ -5,7 +5,8 @@ ghost use Rattle.std.specs.Result.{MatchResult};
 ghost use Rattle.coll_data.specs.Data.{Data};
 ghost use Rattle.coll_data.specs.declared.fault.DataFault.{DataFault};
 ghost use Rattle.ptg_base.specs.declared.refusal.Refusal.TheVariants.{Fault, OutOfMemory};
-ghost use Rattle.data_read.specs.Growing.{draft_of, IsKeyed, Returns, ReturnsRefusal, refusal_at};
+ghost use Rattle.data_read.specs.Growing.{draft_of, IsKeyed, refusal_at};
+ghost use Rattle.ptg_base.specs.Returns.{Returns, ReturnsRefusal};
 ghost use Rattle.data_read.specs.Reading.{all_records, as_data, data_of, later_records};
 ghost use Rattle.data_read.specs.Rows.{HasRows};
 
@@ -19,7 +20,7 @@ use ptg_base::Refusal;
 use std::alloc::Global;
 
 fn read(alloc: Global, bytes: &[u8]) -> Result<Given, DataRefusal>
-    ensures { Returns result (data_of bytes.now) }
+    ensures { Returns (λ given. given) result (data_of bytes.now) }
 {
     let mut reader = reader_of(alloc, bytes);
     let mut row = ByteRecord::new(alloc);
@@ -33,7 +34,7 @@ fn read_rows(
     row: &mut ByteRecord,
 ) -> Result<Given, DataRefusal>
     requires { (rows : List (List (List ℕ))) × HasRows reader.old rows }
-    ensures { (rows : List (List (List ℕ))) → HasRows reader.old rows → Returns result (as_data (length rows) (all_records rows)) }
+    ensures { (rows : List (List (List ℕ))) → HasRows reader.old rows → Returns (λ given. given) result (as_data (length rows) (all_records rows)) }
 {
     if !next_row(reader, row)? {
         return Err(refused(1, DataCode::NoElems));

@@ -61,7 +61,7 @@ classes_there job (c ∷ classes) (b ∷ bodies) read h =
 resolved_there : (job : Job) (bodies : List BodyResult) → ReadBodies job job.jdf.classes bodies → faults_of job bodies ≡ [] → (x : Plans) × AreResolved job x.0 x.1
 resolved_there job bodies read h =
     let classes = some_value (classes_plan job job.jdf.classes bodies) (classes_there job job.jdf.classes bodies read (first_nil (classes_faults job job.jdf.classes bodies) (names_faults job) h)) in
-    (classes.0, record { bodies = bodies; read = read; no_fault = h; meant = classes.1 })
+    (classes.0, record { bodies = bodies; read = read; no_fault = h; plans = classes.1 })
 
 -- a job has a plan, or a first fault
 pub plan_or_first_fault : EachHasPlanOrFault

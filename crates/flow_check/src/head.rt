@@ -2,7 +2,7 @@
 
 ghost use Rattle.std.specs.Prelude.{◌≡◌};
 ghost use Rattle.check_names.specs.Contexts.{IsContext, job_of};
-ghost use Rattle.check_names.specs.Limits.{IsShortClass};
+ghost use Rattle.check_names.specs.Limits.{IsBoundedClass};
 ghost use Rattle.check_names.specs.Returns.{ReturnsChecked};
 ghost use Rattle.check_flows.specs.Dependences.{flow_faults};
 ghost use Rattle.flow_check.specs.Classes.{Head, flows_of, flows_faults, head_of, head_faults};
@@ -49,7 +49,7 @@ fn flows(context: &Context, flows: &[FlowTree]) -> Result<Seq<FlowPlan>, JdfRefu
 pub(crate) fn head(context: &Context, class: &ClassTree) -> Result<Head, JdfRefusal>
     requires context { IsContext context.now }
     requires seen { context.now.seen.now ≡ class.now.defs }
-    requires short { IsShortClass class.now }
+    requires bounded { IsBoundedClass class.now }
     ensures { ReturnsChecked {A = Head} result (head_of (job_of context.now) class.now) (head_faults (job_of context.now) class.now) }
 {
     let place = join(

@@ -18,10 +18,8 @@ use crate::opening::opening;
 use grammar_core::{Code, ReadRefusal, refusal_at};
 use jdf_lex::{JdfCode, JdfFault, JdfRefusal, Lexed, Spot, Token, tokens};
 use jdf_tree::{Jdf, code_at_token};
+use ptg_base::MOST_BYTES;
 use std::alloc::Global;
-
-// How many bytes a text may have.
-const MOST_BYTES: usize = 16777216;
 
 // Reads all of the tokens as one text.
 fn whole(alloc: Global, tokens: &[Token]) -> Result<Jdf, ReadRefusal>

@@ -9,7 +9,7 @@ ghost use Rattle.job_stages.specs.Verdict.{missing_name};
 
 use coll_data::{DataCode, DataFault, DataRefusal, Given};
 use data_read::read_data;
-use ptg_base::OutOfMemory;
+use ptg_base::{MOST_BYTES, OutOfMemory};
 use std::alloc::Global;
 
 /// The fault of a data file that was not read to its end, since it has more than 16 MiB.
@@ -33,7 +33,7 @@ pub fn given_of(alloc: Global, text: &[u8]) -> Result<Given, DataRefusal>
     // A text with a fault is refused with its first one, unless memory runs out.
     ensures refused { (f : DataFault) → IsDataFault text.now f → (result ≡ Err (refusal.Fault f)) ⊎ (result ≡ Err refusal.OutOfMemory) }
 {
-    if text.len() > 16_777_216 {
+    if text.len() > MOST_BYTES {
         return Err(DataRefusal::Fault(data_too_long()));
     }
     read_data(alloc, text)
