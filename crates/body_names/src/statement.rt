@@ -6,7 +6,7 @@ ghost use Rattle.ptg_base.specs.Returns.{Returns};
 ghost use Rattle.body_names.specs.Bindings.{bindings_of, block_opened};
 ghost use Rattle.body_names.specs.Statements.{declare, set, put, in_block, if_else, for_loop, trap, resolved, statement_of};
 
-use crate::bindings::{add_variable, close, require_fresh, next_slot, require_room, word_number};
+use crate::bindings::{add_variable, close, next_slot, require_fresh, require_room, word_number};
 use crate::expression::{slot_of, term_of};
 use crate::flow::written_flow;
 use crate::scope::Context;

@@ -8,7 +8,7 @@ ghost use Rattle.data_read.specs.Growing.{draft_of, IsKeyed, ReturnsDraft};
 ghost use Rattle.data_read.specs.Records.{columns, side, shape_of, asked_coll, coll_of, coll_record, collof_record};
 
 use crate::field::{field, whole};
-use crate::growing::{Growing, GrowingColl, Known, AskedColl};
+use crate::growing::{AskedColl, Growing, GrowingColl, Known};
 use crate::names::is_new;
 use crate::types::type_named;
 use coll_data::{DataCode, tile_count};
@@ -63,7 +63,12 @@ fn shape_of(rows: i64, cols: Option<i64>) -> Option<(u32, Option<u32>)>
 }
 
 // What the collection of a record is asked to be.
-fn asked_coll(all: &Growing, datatype: &[u8], row: &ByteRecord, at: usize) -> Result<AskedColl, DataCode>
+fn asked_coll(
+    all: &Growing,
+    datatype: &[u8],
+    row: &ByteRecord,
+    at: usize,
+) -> Result<AskedColl, DataCode>
     requires { at ≤ 3 }
     ensures asked_coll { result ≡ asked_coll (draft_of all.now) datatype.now (fields_of row.now) at }
     ensures tiles_at_most { IfOk result (λ size. tile_count size.shape.0 size.shape.1 ≤ 65536) }
@@ -104,7 +109,12 @@ fn no_tiles(alloc: Global, count: u32) -> Result<Seq<Option<Tile>>, OutOfMemory>
 }
 
 // Adds a collection of this name, which is new.
-fn push_coll(alloc: Global, all: &mut Growing, name: Text, size: AskedColl) -> Result<(), OutOfMemory>
+fn push_coll(
+    alloc: Global,
+    all: &mut Growing,
+    name: Text,
+    size: AskedColl,
+) -> Result<(), OutOfMemory>
     requires keyed { IsKeyed all.old }
     requires fresh { IsTrue (is_new (draft_of all.old) name) }
     requires tiles_at_most { tile_count size.shape.0 size.shape.1 ≤ 65536 }

@@ -29,15 +29,27 @@ fn spelled(alloc: Global, order: &Order) -> Result<String, Fail> {
             )?
         }
         Order::Show(jdf) => format!(in alloc; "show {}", name(jdf))?,
-        Order::Check(jdf, data_name) => format!(in alloc; "check {} {}", name(jdf), name(data_name))?,
+        Order::Check(jdf, data_name) => format!(in alloc;
+            "check {} {}",
+            name(jdf),
+            name(data_name)
+        )?,
         Order::Demo(rows) => format!(in alloc; "demo {rows}")?,
         Order::Trace(jdf, data_name, workers, shards) => {
-            format!(in alloc; "trace {} {} {workers} {shards}", name(jdf), name(data_name))?
+            format!(in alloc;
+                "trace {} {} {workers} {shards}",
+                name(jdf),
+                name(data_name)
+            )?
         }
         Order::Replay(jdf, data_name, trace) => {
             format!(in alloc; "replay {} {} {}", name(jdf), name(data_name), name(trace))?
         }
-        Order::Certify(jdf, data_name) => format!(in alloc; "certify {} {}", name(jdf), name(data_name))?,
+        Order::Certify(jdf, data_name) => format!(in alloc;
+            "certify {} {}",
+            name(jdf),
+            name(data_name)
+        )?,
         Order::Ranks(jdf, data_name, ranks, seed) => {
             format!(in alloc; "ranks {} {} {ranks} {seed}", name(jdf), name(data_name))?
         }
