@@ -49,16 +49,15 @@ fn class_from(
 ) -> Result<(ClassPlan, ClassSpace), OutOfMemory>
     ensures { IfOk result (λ x. x ≡ class_from class.now head body) }
 {
-    let ((space, affinity), (flows, priority)) = head;
     let plan = ClassPlan {
         name: Text::of(alloc, class.name.text.bytes())?,
-        affinity,
-        flows,
-        priority,
+        affinity: head.affinity,
+        flows: head.flows,
+        priority: head.priority,
         body: body.0,
         trap_words: body.1,
     };
-    Ok((plan, space))
+    Ok((plan, head.space))
 }
 
 // A class with all names resolved, and its space. All of its definitions are seen.
