@@ -3,11 +3,12 @@
 ghost use Rattle.std.specs.Prelude.{◌≡◌, ◌+◌, ◌-◌, ◌≤◌, ◌++◌, pos, length, replicate, slice_set, OnOk, IfErr};
 ghost use Rattle.body_eval.specs.State.{Frame};
 
+use ptg_base::{MOST_LOCALS, MOST_VARIABLES};
 use std::marker::Model;
 use term_core::Trap;
 
-// The most slots that a body has: 16 locals and 256 variables.
-const MOST_SLOTS: usize = 272;
+// The most slots that a body has: its locals and its variables.
+const MOST_SLOTS: usize = MOST_LOCALS + MOST_VARIABLES;
 
 /// Room for the slots of a body while it runs, and the units that it has left. It takes no memory.
 #[derive(Drop)]

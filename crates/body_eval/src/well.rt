@@ -6,6 +6,7 @@ ghost use Rattle.term_core.specs.Value.{is_closed_with};
 ghost use Rattle.term_core.specs.WellBody.{is_variable, are_well_made, IsWellBody};
 ghost use Rattle.body_eval.specs.WellStatement.{is_well_made};
 
+use ptg_base::{MOST_FLOWS, MOST_LOCALS, MOST_VARIABLES};
 use term_core::{Block, Body, Expr, Leaf, Node, Stmt};
 
 // Does an expression name only the first so many slots and flows?
@@ -94,7 +95,11 @@ pub fn is_well_body(body: &Body, locals: usize, flows: usize) -> bool
     ensures { IsTrue result ↔ IsWellBody locals flows body.now }
 {
     let slots = body.slots as usize;
-    if locals > 16 || flows > 8 || slots < locals || slots > locals + 256 {
+    if locals > MOST_LOCALS
+        || flows > MOST_FLOWS
+        || slots < locals
+        || slots > locals + MOST_VARIABLES
+    {
         return false;
     }
     well_block(locals, slots, flows, &body.statements)

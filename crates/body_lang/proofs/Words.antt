@@ -18,7 +18,7 @@ use Rattle.term_core.specs.Value.{and_then}
 use Rattle.body_names.specs.Environment.{Environment}
 use Rattle.body_names.specs.Meanings.{meaning_of}
 use Rattle.body_names.specs.Expressions.{Resolved, slot_of, written_flow, term_of}
-use Rattle.body_names.specs.Bindings.{Bindings, no_bindings, block_opened, with_variable, room_for, fresh_in, numbered}
+use Rattle.body_names.specs.Bindings.{Bindings, no_bindings, block_opened, with_variable, require_room, require_fresh, numbered}
 use Rattle.body_names.specs.Statements.{Resolver, declare, set, put, in_block, if_else, for_loop, trap, follow, resolved, body_of}
 use Rattle.body_lang.specs.TrapWords.{words_of, numbers_of, with_word, words_in_order}
 
@@ -148,7 +148,7 @@ traps_of_trap_by text k (Some n) e =
 module _ (scope : Environment) where
   traps_of_declare : (w : Word) (e : Expression) (k : Bindings) → IfValue (HasTrapsOfOne k []) (declare scope w e k)
   traps_of_declare w e k =
-      past (HasTrapsOfOne k []) (room_for w k) _ (λ _. past (HasTrapsOfOne k []) (fresh_in w k) _ (λ _. past (HasTrapsOfOne k []) (term_of scope k.seen e) _ (λ x. no_traps k _ refl)))
+      past (HasTrapsOfOne k []) (require_room w k) _ (λ _. past (HasTrapsOfOne k []) (require_fresh w k) _ (λ _. past (HasTrapsOfOne k []) (term_of scope k.seen e) _ (λ x. no_traps k _ refl)))
 
   traps_of_set : (w : Word) (e : Expression) (k : Bindings) → IfValue (HasTrapsOfOne k []) (set scope w e k)
   traps_of_set w e k = past (HasTrapsOfOne k []) (slot_of w (meaning_of scope k.seen w.text)) _ (λ n. past (HasTrapsOfOne k []) (term_of scope k.seen e) _ (λ x. no_traps k _ refl))
@@ -170,7 +170,7 @@ module _ (scope : Environment) where
 
   traps_of_loop : (w : Word) (lo hi : Expression) (turn : Resolver) (ws : List (List ℕ)) → GivesTraps turn ws → (k : Bindings) → IfValue (HasTrapsOfOne k ws) (for_loop scope w lo hi turn k)
   traps_of_loop w lo hi turn ws h k =
-      past (HasTrapsOfOne k ws) (room_for w k) _
+      past (HasTrapsOfOne k ws) (require_room w k) _
       (λ _. past (HasTrapsOfOne k ws) (term_of scope k.seen lo) _
       (λ x. past (HasTrapsOfOne k ws) (term_of scope k.seen hi) _
       (λ y. after_if_value (HasTrapsOfAll k ws) (HasTrapsOfOne k ws) (in_block (λ m. with_variable scope w.text true (block_opened m)) turn k) _ (traps_inside (λ m. with_variable scope w.text true (block_opened m)) turn ws h k refl) (λ t s. s))))

@@ -1,14 +1,11 @@
 //! A body, read.
 
-ghost use Rattle.std.specs.Prelude.{◌≡◌, ◌≤◌, ◌-◌, ℕ, List, length, IfOk, Ok, Err, ◌⊎◌};
-ghost use Rattle.jdf_lex.specs.declared.fault.JdfFault.{JdfFault};
-ghost use Rattle.ptg_base.specs.declared.refusal.Refusal.TheVariants.{Fault, OutOfMemory};
-ghost use Rattle.term_core.specs.declared.body.Body.{Body};
+ghost use Rattle.std.specs.Prelude.{◌≤◌, ◌-◌, length, IfOk};
 ghost use Rattle.term_core.specs.Value.{and_then};
 ghost use Rattle.term_core.specs.WellBody.{IsWellBody};
 ghost use Rattle.expr_read.specs.Front.{fault_at};
 ghost use Rattle.body_names.specs.Environment.{environment_of};
-ghost use Rattle.body_names.specs.Returns.{ReturnsRefusal};
+ghost use Rattle.ptg_base.specs.Returns.{FindsOrRefuses, ReturnsRefusal};
 ghost use Rattle.body_names.specs.TokenScan.{front_fault};
 ghost use Rattle.body_lang.specs.Body.{IsBody, IsBodyFault};
 ghost use Rattle.body_lang.specs.Broken.{broken_fault};
@@ -49,16 +46,10 @@ pub fn read_body(
     finish: Spot,
     scope: &Scope,
 ) -> Result<(Body, Seq<Text>), JdfRefusal>
-    // What is read is the body that the tokens are.
-    ensures found { IfOk result (λ x. IsBody (environment_of scope.now) tokens.now x) }
-    // It is well made for the locals and the flows of the scope.
+    // What is read is the body that the tokens are; a fault is the first one of the body.
+    ensures exact { FindsOrRefuses (IsBody (environment_of scope.now) tokens.now) (IsBodyFault (environment_of scope.now) tokens.now finish) result }
+    // The body is well made for the locals and the flows of the scope.
     ensures well { IfOk result (λ x. IsWellBody (length scope.now.locals) (length scope.now.flows) x.0) }
-    // A body is read, unless memory runs out.
-    ensures only { (x : Body × List (List ℕ)) → IsBody (environment_of scope.now) tokens.now x → (result ≡ Ok x) ⊎ (result ≡ Err OutOfMemory) }
-    // A fault that is answered is the first one of the body.
-    ensures fault { (f : JdfFault) → result ≡ Err (Fault f) → IsBodyFault (environment_of scope.now) tokens.now finish f }
-    // Where the body has a first fault that is the answer, unless memory runs out.
-    ensures refused { (f : JdfFault) → IsBodyFault (environment_of scope.now) tokens.now finish f → (result ≡ Err (Fault f)) ⊎ (result ≡ Err OutOfMemory) }
 {
     match tree(alloc, tokens) {
         Ok(tree) => resolve(alloc, scope, &tree),

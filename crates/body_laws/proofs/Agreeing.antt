@@ -21,7 +21,7 @@ use Rattle.jdf_tree.specs.GrammarParts.{word_of, name}
 use Rattle.body_names.specs.Environment.{Environment}
 use Rattle.body_names.specs.Meanings.{meaning_of}
 use Rattle.body_names.specs.Expressions.{Resolved, slot_of, written_flow, term_of}
-use Rattle.body_names.specs.Bindings.{Bindings, room_for, fresh_in, numbered}
+use Rattle.body_names.specs.Bindings.{Bindings, require_room, require_fresh, numbered}
 use Rattle.body_names.specs.Statements.{Resolver, declare, set, put, in_block, for_loop, follow, resolved, statement_of, body_of}
 use Rattle.body_names.specs.Statements as resolving
 use Rattle.body_names.specs.TokenScan.{TokenScan, declared, fault_of}
@@ -36,7 +36,7 @@ fault_again : (v : Resolved (Unit {0})) → fault_of v ≡ v
 fault_again (Ok x) = refl
 fault_again (Err e) = refl
 
-pub room_is : (w : Word) (k : Bindings) → k.declared < 256 → room_for w k ≡ Ok tt
+pub room_is : (w : Word) (k : Bindings) → k.declared < 256 → require_room w k ≡ Ok tt
 room_is w k h = rw (lt-ltb k.declared 256 h) refl
 
 -- the last of some pairs, and those before it
@@ -129,13 +129,13 @@ module _ (scope : Environment) where
           follows = λ k st ready at_most.
               let st1 = with_previous (terminal_of x) st in
               let last_int : st1.previous ≡ Some terminal.Int = ap (λ (j : Terminal). Some j) (is_int (terminal_of x) mark.0.1) in
-              let along_is : along scope st (x ∷ (y ∷ v.word)) r ≡ and_then (fresh_in w st.bindings) (λ _. and_then (fault_of (term_of scope st.bindings.seen e.tree)) (λ _. Ok (done (begun scope y st1)))) =
+              let along_is : along scope st (x ∷ (y ∷ v.word)) r ≡ and_then (require_fresh w st.bindings) (λ _. and_then (fault_of (term_of scope st.bindings.seen e.tree)) (λ _. Ok (done (begun scope y st1)))) =
               silent scope x (y ∷ v.word) r st (silent_as terminal.Int (terminal_of x) refl mark.0.1)
               ∙ (declared_name scope y v.word r st1 word.1.0.1 last_int
-              ∙ after_same (fresh_in w st.bindings) (λ _. along scope (begun scope y st1) v.word r) (λ _. and_then (fault_of (term_of scope st.bindings.seen e.tree)) (λ _. Ok (done (begun scope y st1)))) (λ _. v.walks (begun scope y st1))) in
+              ∙ after_same (require_fresh w st.bindings) (λ _. along scope (begun scope y st1) v.word r) (λ _. and_then (fault_of (term_of scope st.bindings.seen e.tree)) (λ _. Ok (done (begun scope y st1)))) (λ _. v.walks (begun scope y st1))) in
               walked st.open_blocks (declare scope w e.tree k) _ _ along_is
-              (known_step st.open_blocks (room_for w k) _ tt _ (room_is w k (omega (arith, at_most)))
-              (first_step st.open_blocks (fresh_in w k) _ (fresh_in w st.bindings) _ (fault_again (fresh_in w k) ∙ fresh_alike w k st.bindings ready.alike)
+              (known_step st.open_blocks (require_room w k) _ tt _ (room_is w k (omega (arith, at_most)))
+              (first_step st.open_blocks (require_fresh w k) _ (require_fresh w st.bindings) _ (fault_again (require_fresh w k) ∙ fresh_alike w k st.bindings ready.alike)
               (λ _ _. first_step st.open_blocks (term_of scope k.seen e.tree) _ (fault_of (term_of scope st.bindings.seen e.tree)) _ (term_alike scope k.seen st.bindings.seen ready.alike.seen e.tree)
               (λ z _. (
                 refl,

@@ -14,7 +14,7 @@ use Rattle.body_names.specs.Environment.{Environment}
 use Rattle.body_names.specs.declared.variable.Variable.{Variable}
 use Rattle.body_names.specs.Meanings.{last_named, variable_or, local_named, local_or, integer_or, collection_or_nothing, meaning_of}
 use Rattle.body_names.specs.Expressions.{Resolved, value_of, slot_of, read_flow, term_of}
-use Rattle.body_names.specs.Bindings.{Bindings, fresh_in}
+use Rattle.body_names.specs.Bindings.{Bindings, require_fresh}
 use Rattle.body_names.specs.TokenScan.{fault_of}
 use Rattle.body_laws.proofs.Judging.{unary_fault, binary_fault, choose_fault, elem_fault}
 
@@ -137,7 +137,7 @@ any_is : (name : List ℕ) (xs : List Variable) → list_any (λ (v : Variable).
 any_is name [] = refl
 any_is name (v ∷ vs) = ap (λ (b : Bool). bytes_eq v.name name || b) (any_is name vs)
 
-pub fresh_alike : (w : Word) (k m : Bindings) → Alike k m → fresh_in w k ≡ fresh_in w m
+pub fresh_alike : (w : Word) (k m : Bindings) → Alike k m → require_fresh w k ≡ require_fresh w m
 fresh_alike w k m h =
     ap (λ (b : Bool). by_any b)
     (any_is w.text (drop k.outside k.seen)

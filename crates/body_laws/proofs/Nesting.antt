@@ -27,7 +27,7 @@ use Rattle.jdf_tree.specs.GrammarParts as piece
 use Rattle.jdf_tree.specs.Statements.{Statements}
 use Rattle.body_names.specs.Environment.{Environment}
 use Rattle.body_names.specs.Expressions.{Resolved, term_of}
-use Rattle.body_names.specs.Bindings.{Bindings, no_bindings, block_opened, block_closed, next_slot, with_variable, room_for}
+use Rattle.body_names.specs.Bindings.{Bindings, no_bindings, block_opened, block_closed, next_slot, with_variable, require_room}
 use Rattle.body_names.specs.Statements.{Resolver, in_block, follow, resolved, statement_of, body_of}
 use Rattle.body_names.specs.Statements as resolving
 use Rattle.body_names.proofs.Blocks.{resolved-then}
@@ -344,7 +344,7 @@ module _ (scope : Environment) where
                   ∙ after_same (fault_of (term_of scope st.bindings.seen lo.tree)) (λ _. along scope st3 (j.word ++ b.word) r) (λ _. and_then (fault_of (term_of scope st.bindings.seen hi.tree)) (λ _. along scope st4 b.word r))
                   (λ _. past_index bounds.0 upper.0 b.word r hi j b.parts st3))) in
                   walked st.open_blocks (resolving.for_loop scope (word_of y) lo.tree hi.tree (resolved scope turn) k) _ _ along_is
-                  (known_step st.open_blocks (room_for (word_of y) k) _ tt _ (room_is (word_of y) k (omega (arith, at_most)))
+                  (known_step st.open_blocks (require_room (word_of y) k) _ tt _ (room_is (word_of y) k (omega (arith, at_most)))
                   (first_step st.open_blocks (term_of scope k.seen lo.tree) _ (fault_of (term_of scope st.bindings.seen lo.tree)) _ (term_alike scope k.seen st.bindings.seen ready.alike.seen lo.tree)
                   (λ u _. first_step st.open_blocks (term_of scope k.seen hi.tree) _ (fault_of (term_of scope st.bindings.seen hi.tree)) _ (term_alike scope k.seen st.bindings.seen ready.alike.seen hi.tree)
                   (λ v _. mapped st.open_blocks (λ t. out.For (next_slot scope k) u v t.0) (in_block (λ m. with_variable scope y.text true (block_opened m)) (resolved scope turn) k) (along scope st4 b.word r)

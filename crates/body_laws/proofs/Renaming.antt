@@ -24,7 +24,7 @@ use Rattle.body_names.specs.Environment.{Environment}
 use Rattle.body_names.specs.declared.variable.Variable.{Variable}
 use Rattle.body_names.specs.Meanings.{last_named, variable_or, local_or, local_named, integer_or, collection_or_nothing, meaning_of}
 use Rattle.body_names.specs.Expressions.{Resolved, fault_at, value_of, slot_of, read_flow, written_flow, term_of}
-use Rattle.body_names.specs.Bindings.{Bindings, block_opened, block_closed, next_slot, with_variable, room_for, fresh_in, numbered}
+use Rattle.body_names.specs.Bindings.{Bindings, block_opened, block_closed, next_slot, with_variable, require_room, require_fresh, numbered}
 use Rattle.body_names.specs.Statements.{Resolver, declare, set, put, in_block, if_else, for_loop, trap, follow, resolved}
 use Rattle.body_laws.specs.Renaming.{named, renamed_word, with_words, renamed_term, renamed, reads, occurs, DeclaredSame, LoopedSame}
 use Rattle.body_names.proofs.Well.{after_ok}
@@ -363,7 +363,7 @@ module _ (scope : Environment) (old new : List ℕ) (pre : List Variable) (v : V
     abbrev added : Bindings → Word → Bool → Variable
     added k w is_loop_variable = record { name = w.text; slot = next_slot scope k; is_loop_variable = is_loop_variable }
 
-    fresh_new : (k : Bindings) (w : Word) (u : Unit {0}) → bytes_eq w.text new ≡ false → fresh_in w (old_of post k) ≡ Ok u → fresh_in w (new_of post k) ≡ Ok tt
+    fresh_new : (k : Bindings) (w : Word) (u : Unit {0}) → bytes_eq w.text new ≡ false → require_fresh w (old_of post k) ≡ Ok u → require_fresh w (new_of post k) ≡ Ok tt
     fresh_new k w u a is =
         let none = fresh_is (has w.text (drop k.outside (under_old post))) w u is in
         let same = drop_has v other w.text (flip_false w.text new a) k.outside pre post none in
@@ -373,12 +373,12 @@ module _ (scope : Environment) (old new : List ℕ) (pre : List Variable) (v : V
         → One (h || bytes_eq w.text old) y (declare scope w (e_new e) (new_of post k))
     declare_goes k w e aw ae y is =
         let end : Bindings → Term → Resolved (Stmt × Bindings) = λ m x. Ok (stmt.Set (next_slot scope m) x, with_variable scope w.text false m) in
-        let a = after_ok (room_for w (old_of post k)) (λ _. and_then (fresh_in w (old_of post k)) (λ _. and_then (term_of scope (under_old post) e) (end (old_of post k)))) y is in
-        let b = after_ok (fresh_in w (old_of post k)) (λ _. and_then (term_of scope (under_old post) e) (end (old_of post k))) y a.2 in
+        let a = after_ok (require_room w (old_of post k)) (λ _. and_then (require_fresh w (old_of post k)) (λ _. and_then (term_of scope (under_old post) e) (end (old_of post k)))) y is in
+        let b = after_ok (require_fresh w (old_of post k)) (λ _. and_then (term_of scope (under_old post) e) (end (old_of post k))) y a.2 in
         let d = after_ok (term_of scope (under_old post) e) (end (old_of post k)) y b.2 in
         let u = added k w false in
         let same : declare scope w (e_new e) (new_of post k) ≡ Ok (stmt.Set (next_slot scope k) d.0, seeing (with_variable scope w.text false k) (under_new (post ++ u ∷ []))) =
-        ap (λ (r : Resolved (Unit {0})). and_then r (λ _. and_then (fresh_in w (new_of post k)) (λ _. and_then (term_of scope (under_new post) (e_new e)) (end (new_of post k))))) a.1
+        ap (λ (r : Resolved (Unit {0})). and_then r (λ _. and_then (require_fresh w (new_of post k)) (λ _. and_then (term_of scope (under_new post) (e_new e)) (end (new_of post k))))) a.1
         ∙ (ap (λ (r : Resolved (Unit {0})). and_then r (λ _. and_then (term_of scope (under_new post) (e_new e)) (end (new_of post k)))) (fresh_new k w b.0 aw b.1)
         ∙ (ap (λ (r : Resolved Term). and_then r (end (new_of post k))) (term_same post no_new h hidden e ae ∙ d.1)
         ∙ ap (λ (vs : List Variable). Ok (stmt.Set (next_slot scope k) d.0, seeing (with_variable scope w.text false k) vs)) (append_assoc pre (other ∷ post) (u ∷ [])))) in
@@ -450,7 +450,7 @@ module _ (scope : Environment) (old new : List ℕ) (pre : List Variable) (v : V
     for_goes k w lo hi turn other_turn aw al ah goes y is =
         let opening : Bindings → Bindings = λ m. with_variable scope w.text true (block_opened m) in
         let o = other_turn (h || bytes_eq w.text old) in
-        let a = after_ok (room_for w (old_of post k)) (λ _. and_then (term_of scope (under_old post) lo) (λ p. and_then (term_of scope (under_old post) hi) (λ q. and_then (in_block opening turn (old_of post k)) (λ t. Ok (stmt.For (next_slot scope k) p q t.0, t.1))))) y is in
+        let a = after_ok (require_room w (old_of post k)) (λ _. and_then (term_of scope (under_old post) lo) (λ p. and_then (term_of scope (under_old post) hi) (λ q. and_then (in_block opening turn (old_of post k)) (λ t. Ok (stmt.For (next_slot scope k) p q t.0, t.1))))) y is in
         let b = after_ok (term_of scope (under_old post) lo) (λ p. and_then (term_of scope (under_old post) hi) (λ q. and_then (in_block opening turn (old_of post k)) (λ t. Ok (stmt.For (next_slot scope k) p q t.0, t.1)))) y a.2 in
         let c = after_ok (term_of scope (under_old post) hi) (λ q. and_then (in_block opening turn (old_of post k)) (λ t. Ok (stmt.For (next_slot scope k) b.0 q t.0, t.1))) y b.2 in
         let d = after_ok (in_block opening turn (old_of post k)) (λ t. Ok (stmt.For (next_slot scope k) b.0 c.0 t.0, t.1)) y c.2 in
@@ -578,13 +578,13 @@ declare_other : (scope : Environment) (k : Bindings) (new : List ℕ) (w : Word)
     → (t : Stmt) × (y ≡ (t, with_variable scope w.text false k)) × (declare scope (named new w) e k ≡ Ok (t, with_variable scope new false k))
 declare_other scope k new w e none y is =
     let end : List ℕ → Term → Resolved (Stmt × Bindings) = λ name x. Ok (stmt.Set (next_slot scope k) x, with_variable scope name false k) in
-    let a = after_ok (room_for w k) (λ _. and_then (fresh_in w k) (λ _. and_then (term_of scope k.seen e) (end w.text))) y is in
-    let b = after_ok (fresh_in w k) (λ _. and_then (term_of scope k.seen e) (end w.text)) y a.2 in
+    let a = after_ok (require_room w k) (λ _. and_then (require_fresh w k) (λ _. and_then (term_of scope k.seen e) (end w.text))) y is in
+    let b = after_ok (require_fresh w k) (λ _. and_then (term_of scope k.seen e) (end w.text)) y a.2 in
     let d = after_ok (term_of scope k.seen e) (end w.text) y b.2 in
-    let fresh : fresh_in (named new w) k ≡ Ok tt = ap (fresh_test w) (has_drop new k.outside k.seen none) in (
+    let fresh : require_fresh (named new w) k ≡ Ok tt = ap (fresh_test w) (has_drop new k.outside k.seen none) in (
       stmt.Set (next_slot scope k) d.0,
       sym (pair_is (stmt.Set (next_slot scope k) d.0, with_variable scope w.text false k) y d.2),
-      ap (λ (r : Resolved (Unit {0})). and_then r (λ _. and_then (fresh_in (named new w) k) (λ _. and_then (term_of scope k.seen e) (end new)))) a.1
+      ap (λ (r : Resolved (Unit {0})). and_then r (λ _. and_then (require_fresh (named new w) k) (λ _. and_then (term_of scope k.seen e) (end new)))) a.1
           ∙ (ap (λ (r : Resolved (Unit {0})). and_then r (λ _. and_then (term_of scope k.seen e) (end new))) fresh ∙ ap (λ (r : Resolved Term). and_then r (end new)) d.1),
     )
 
@@ -612,7 +612,7 @@ looped_same scope k new w lo hi turn x apart is =
     let opening : List ℕ → Bindings → Bindings = λ name m. with_variable scope name true (block_opened m) in
     let turned : Resolver = resolved scope turn in
     let other_turn : Resolver = resolved scope (renamed w.text new turn) in
-    let a = after_ok (room_for w k) (λ _. and_then (term_of scope k.seen lo) (λ p. and_then (term_of scope k.seen hi) (λ q. and_then (in_block (opening w.text) turned k) (λ t. Ok (stmt.For (next_slot scope k) p q t.0, t.1))))) x is in
+    let a = after_ok (require_room w k) (λ _. and_then (term_of scope k.seen lo) (λ p. and_then (term_of scope k.seen hi) (λ q. and_then (in_block (opening w.text) turned k) (λ t. Ok (stmt.For (next_slot scope k) p q t.0, t.1))))) x is in
     let b = after_ok (term_of scope k.seen lo) (λ p. and_then (term_of scope k.seen hi) (λ q. and_then (in_block (opening w.text) turned k) (λ t. Ok (stmt.For (next_slot scope k) p q t.0, t.1)))) x a.2 in
     let c = after_ok (term_of scope k.seen hi) (λ q. and_then (in_block (opening w.text) turned k) (λ t. Ok (stmt.For (next_slot scope k) b.0 q t.0, t.1))) x b.2 in
     let d = after_ok (in_block (opening w.text) turned k) (λ t. Ok (stmt.For (next_slot scope k) b.0 c.0 t.0, t.1)) x c.2 in

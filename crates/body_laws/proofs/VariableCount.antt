@@ -27,7 +27,7 @@ use Rattle.body_names.specs.Environment.{Environment}
 use Rattle.body_names.specs.declared.variable.Variable.{Variable}
 use Rattle.body_names.specs.Meanings.{meaning_of, flow_named}
 use Rattle.body_names.specs.Expressions.{Resolved, value_of, slot_of, readable, writable, if_flow, flow_by, read_flow, written_flow, term_of}
-use Rattle.body_names.specs.Bindings.{Bindings, no_bindings, block_opened, block_closed, next_slot, with_variable, room_for, fresh_in, numbered}
+use Rattle.body_names.specs.Bindings.{Bindings, no_bindings, block_opened, block_closed, next_slot, with_variable, require_room, require_fresh, numbered}
 use Rattle.body_names.specs.Statements.{Resolver, declare, set, put, in_block, if_else, for_loop, trap, follow, resolved, body_of}
 use Rattle.body_laws.specs.Declarations.{declarations}
 
@@ -93,10 +93,10 @@ module _ (scope : Environment) where
 
   -- ---- statements
 
-  pub room_not_too_many : (w : Word) (k : Bindings) → k.declared < 256 → NotTooMany (Anything {A = Unit {0}}) (room_for w k)
+  pub room_not_too_many : (w : Word) (k : Bindings) → k.declared < 256 → NotTooMany (Anything {A = Unit {0}}) (require_room w k)
   room_not_too_many w k h = let t = lt-ltb k.declared 256 h in rw t tt
 
-  pub fresh_not_too_many : (w : Word) (k : Bindings) → NotTooMany (Anything {A = Unit {0}}) (fresh_in w k)
+  pub fresh_not_too_many : (w : Word) (k : Bindings) → NotTooMany (Anything {A = Unit {0}}) (require_fresh w k)
   fresh_not_too_many w k = go (list_any (λ (v : Variable). bytes_eq v.name w.text) (drop k.outside k.seen))
     where
       go : (b : Bool) → NotTooMany (Anything {A = Unit {0}}) (cond b (Err (record { spot = w.spot; code = NameTwice })) (Ok tt))
@@ -112,8 +112,8 @@ module _ (scope : Environment) where
 
   pub declare_bounded : (w : Word) (e : Expression) (k : Bindings) → k.declared < 256 → NotTooMany (Adds {A = Stmt} k 1) (declare scope w e k)
   declare_bounded w e k h =
-      after_not_too_many Anything (Adds k 1) (room_for w k) (λ _. and_then (fresh_in w k) (λ _. and_then (term_of scope k.seen e) (λ x. Ok (stmt.Set (next_slot scope k) x, with_variable scope w.text false k)))) (room_not_too_many w k h)
-      (λ _ _. after_not_too_many Anything (Adds k 1) (fresh_in w k) (λ _. and_then (term_of scope k.seen e) (λ x. Ok (stmt.Set (next_slot scope k) x, with_variable scope w.text false k))) (fresh_not_too_many w k)
+      after_not_too_many Anything (Adds k 1) (require_room w k) (λ _. and_then (require_fresh w k) (λ _. and_then (term_of scope k.seen e) (λ x. Ok (stmt.Set (next_slot scope k) x, with_variable scope w.text false k)))) (room_not_too_many w k h)
+      (λ _ _. after_not_too_many Anything (Adds k 1) (require_fresh w k) (λ _. and_then (term_of scope k.seen e) (λ x. Ok (stmt.Set (next_slot scope k) x, with_variable scope w.text false k))) (fresh_not_too_many w k)
       (λ _ _. after_not_too_many Anything (Adds k 1) (term_of scope k.seen e) (λ x. Ok (stmt.Set (next_slot scope k) x, with_variable scope w.text false k)) (term_not_too_many k.seen e) (λ x _. refl)))
 
   nothing_added : (k : Bindings) → k.declared ≡ k.declared + 0
@@ -143,7 +143,7 @@ module _ (scope : Environment) where
   pub loop_bounded : (w : Word) (lo hi : Expression) (turn : Resolver) (n : ℕ) → AddsVariables turn n → (k : Bindings) → k.declared + (1 + n) ≤ 256 → NotTooMany (Adds {A = Stmt} k (1 + n)) (for_loop scope w lo hi turn k)
   loop_bounded w lo hi turn n at_most k le =
       let opening : Bindings → Bindings = λ m. with_variable scope w.text true (block_opened m) in
-      after_not_too_many Anything (Adds k (1 + n)) (room_for w k) (λ _. and_then (term_of scope k.seen lo) (λ x. and_then (term_of scope k.seen hi) (λ y. and_then (in_block opening turn k) (λ t. Ok (stmt.For (next_slot scope k) x y t.0, t.1))))) (room_not_too_many w k (omega (arith, le)))
+      after_not_too_many Anything (Adds k (1 + n)) (require_room w k) (λ _. and_then (term_of scope k.seen lo) (λ x. and_then (term_of scope k.seen hi) (λ y. and_then (in_block opening turn k) (λ t. Ok (stmt.For (next_slot scope k) x y t.0, t.1))))) (room_not_too_many w k (omega (arith, le)))
       (λ _ _. after_not_too_many Anything (Adds k (1 + n)) (term_of scope k.seen lo) (λ x. and_then (term_of scope k.seen hi) (λ y. and_then (in_block opening turn k) (λ t. Ok (stmt.For (next_slot scope k) x y t.0, t.1)))) (term_not_too_many k.seen lo)
       (λ x _. after_not_too_many Anything (Adds k (1 + n)) (term_of scope k.seen hi) (λ y. and_then (in_block opening turn k) (λ t. Ok (stmt.For (next_slot scope k) x y t.0, t.1))) (term_not_too_many k.seen hi)
       (λ y _. after_not_too_many (Adds k (1 + n)) (Adds k (1 + n)) (in_block opening turn k) (λ t. Ok (stmt.For (next_slot scope k) x y t.0, t.1)) (inside_bounded opening turn n 1 at_most k refl (omega (arith, le))) (λ t h. h))))

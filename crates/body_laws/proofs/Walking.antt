@@ -14,7 +14,7 @@ use Rattle.body_names.specs.Environment.{Environment}
 use Rattle.body_names.specs.declared.variable.Variable.{Variable}
 use Rattle.body_names.specs.Meanings.{meaning_of}
 use Rattle.body_names.specs.Expressions.{Resolved, slot_of, written_flow}
-use Rattle.body_names.specs.Bindings.{Bindings, fresh_in}
+use Rattle.body_names.specs.Bindings.{Bindings, require_fresh}
 use Rattle.body_names.specs.TokenScan.{TokenScan, after_terminal, after_token, named_by, previous_is, begins_here, fault_of, judged, declared, block_left}
 use Rattle.body_laws.proofs.Along.{along, along_append, after_after, with_previous, is_inside, Judges}
 use Rattle.body_laws.proofs.Alike.{Alike}
@@ -128,9 +128,9 @@ module _ (scope : Environment) where
   begins_naming : (x : Token) (st : TokenScan) (k : Terminal) → (previous_is terminal.Int (Some k) || previous_is terminal.For (Some k)) ≡ true → st.previous ≡ Some k → named_by x.text st ≡ record st { naming = Some x.text }
   begins_naming x st k d e = rw (e, d) refl
 
-  pub declared_name : (x : Token) (w r : List Token) (st : TokenScan) → names Body (terminal_of x) ≡ true → st.previous ≡ Some terminal.Int → along scope st (x ∷ w) r ≡ and_then (fresh_in (word_of x) st.bindings) (λ _. along scope (begun x st) w r)
+  pub declared_name : (x : Token) (w r : List Token) (st : TokenScan) → names Body (terminal_of x) ≡ true → st.previous ≡ Some terminal.Int → along scope st (x ∷ w) r ≡ and_then (require_fresh (word_of x) st.bindings) (λ _. along scope (begun x st) w r)
   declared_name x w r st n e =
-      a_name x w r st (begun x st) (fresh_in (word_of x) st.bindings) (rw (n, e) refl) (past_name x st (record st { naming = Some x.text }) n (begins_naming x st terminal.Int refl e))
+      a_name x w r st (begun x st) (require_fresh (word_of x) st.bindings) (rw (n, e) refl) (past_name x st (record st { naming = Some x.text }) n (begins_naming x st terminal.Int refl e))
 
   abbrev no_fault : Resolved (Unit {0})
   no_fault = Ok tt

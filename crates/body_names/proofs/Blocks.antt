@@ -14,7 +14,7 @@ use Rattle.jdf_tree.specs.declared.body.StmtTree.TheVariants as tree
 use Rattle.jdf_tree.specs.BlockStatements.{then, statements_of}
 use Rattle.jdf_tree.specs.Statements.{Statements, Done, count_of_statements}
 use Rattle.body_names.specs.Environment.{Environment}
-use Rattle.body_names.specs.Returns.{ReturnsRefusal}
+use Rattle.ptg_base.specs.Returns.{ReturnsRefusal}
 use Rattle.body_names.specs.Expressions.{Resolved}
 use Rattle.body_names.specs.Bindings.{Bindings}
 use Rattle.body_names.specs.Statements.{Resolver, follow, resolved, statement_of}

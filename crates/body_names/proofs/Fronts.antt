@@ -15,7 +15,7 @@ use Rattle.jdf_tree.specs.declared.part.Part.TheVariants.{Body}
 use Rattle.jdf_tree.specs.Grammar.{productions}
 use Rattle.jdf_tree.specs.GrammarParts.{name, names, word_of}
 use Rattle.body_names.specs.Environment.{Environment}
-use Rattle.body_names.specs.Returns.{ReturnsRefusal}
+use Rattle.ptg_base.specs.Returns.{ReturnsRefusal}
 use Rattle.body_names.specs.Expressions.{Resolved}
 use Rattle.body_names.specs.TokenScan.{TokenScan, role_of, judged_as, judged, judged_among, after_token}
 use Rattle.body_names.proofs.Refusals.{refuses_before}

@@ -18,7 +18,7 @@ use Rattle.jdf_tree.specs.Statements.{Statements, Done, DeclareThen, SetThen, Pu
 use Rattle.body_names.specs.Environment.{Environment}
 use Rattle.body_names.specs.Meanings.{meaning_of}
 use Rattle.body_names.specs.Expressions.{Resolved, fault_at, slot_of, written_flow, term_of}
-use Rattle.body_names.specs.Bindings.{Bindings, no_bindings, block_opened, block_closed, next_slot, with_variable, room_for, fresh_in, numbered, word_number}
+use Rattle.body_names.specs.Bindings.{Bindings, no_bindings, block_opened, block_closed, next_slot, with_variable, require_room, require_fresh, numbered, word_number}
 use Rattle.body_names.specs.Statements.{Resolver, declare, set, put, in_block, if_else, for_loop, trap, follow, resolved}
 use Rattle.body_names.proofs.Slots.{AreSlots, slots_append, slots_take, slots_raise}
 use Rattle.body_names.proofs.Well.{after_ok, both, set_there, written_below, term_closed}
@@ -69,7 +69,7 @@ module _ (scope : Environment) where
   closed_at k sound e t h end le =
       term_closed scope end (omega (arith, le)) k.seen (slots_raise (length scope.locals) (length scope.locals + k.declared) end k.seen le sound.slots) e t h
 
-  has_room : (w : Word) (k : Bindings) (u : Unit {0}) → room_for w k ≡ Ok u → k.declared < 256
+  has_room : (w : Word) (k : Bindings) (u : Unit {0}) → require_room w k ≡ Ok u → k.declared < 256
   has_room w k u e = go (nat_lt k.declared 256) refl e
     where
       go : (b : Bool) → nat_lt k.declared 256 ≡ b → (let r : Resolved (Unit {0}) = cond b (Ok tt) (fault_at w TooManyVars) in r ≡ Ok u) → k.declared < 256
@@ -88,8 +88,8 @@ module _ (scope : Environment) where
 
   declare_well : (w : Word) (e : Expression) (k : Bindings) → IsSound k → IsStatement k (declare scope w e k)
   declare_well w e k sound x h =
-      let a = after_ok (room_for w k) (λ _. and_then (fresh_in w k) (λ _. and_then (term_of scope k.seen e) (λ t. Ok (stmt.Set (next_slot scope k) t, with_variable scope w.text false k)))) x h in
-      let b = after_ok (fresh_in w k) (λ _. and_then (term_of scope k.seen e) (λ t. Ok (stmt.Set (next_slot scope k) t, with_variable scope w.text false k))) x a.2 in
+      let a = after_ok (require_room w k) (λ _. and_then (require_fresh w k) (λ _. and_then (term_of scope k.seen e) (λ t. Ok (stmt.Set (next_slot scope k) t, with_variable scope w.text false k)))) x h in
+      let b = after_ok (require_fresh w k) (λ _. and_then (term_of scope k.seen e) (λ t. Ok (stmt.Set (next_slot scope k) t, with_variable scope w.text false k))) x a.2 in
       let d = after_ok (term_of scope k.seen e) (λ t. Ok (stmt.Set (next_slot scope k) t, with_variable scope w.text false k)) x b.2 in
       subst (λ (y : Stmt × Bindings). Keeps k y.1 (λ end. is_well end y.0)) (pair_is (stmt.Set (next_slot scope k) d.0, with_variable scope w.text false k) x d.2)
       (record {
@@ -168,7 +168,7 @@ module _ (scope : Environment) where
   counted_well : (w : Word) (lo hi : Expression) (turn : Resolver) → IsBlock turn → (k : Bindings) → IsSound k → IsStatement k (for_loop scope w lo hi turn k)
   counted_well w lo hi turn good k sound x h =
       let opening : Bindings → Bindings = λ m. with_variable scope w.text true (block_opened m) in
-      let a = after_ok (room_for w k) (λ _. and_then (term_of scope k.seen lo) (λ t. and_then (term_of scope k.seen hi) (λ u. and_then (in_block opening turn k) (λ v. Ok (stmt.For (next_slot scope k) t u v.0, v.1))))) x h in
+      let a = after_ok (require_room w k) (λ _. and_then (term_of scope k.seen lo) (λ t. and_then (term_of scope k.seen hi) (λ u. and_then (in_block opening turn k) (λ v. Ok (stmt.For (next_slot scope k) t u v.0, v.1))))) x h in
       let b = after_ok (term_of scope k.seen lo) (λ t. and_then (term_of scope k.seen hi) (λ u. and_then (in_block opening turn k) (λ v. Ok (stmt.For (next_slot scope k) t u v.0, v.1)))) x a.2 in
       let d = after_ok (term_of scope k.seen hi) (λ u. and_then (in_block opening turn k) (λ v. Ok (stmt.For (next_slot scope k) b.0 u v.0, v.1))) x b.2 in
       let f = after_ok (in_block opening turn k) (λ v. Ok (stmt.For (next_slot scope k) b.0 d.0 v.0, v.1)) x d.2 in

@@ -47,12 +47,12 @@ with_variable scope name is_loop_variable k =
     record k { seen = k.seen ++ record { name = name; slot = next_slot scope k; is_loop_variable = is_loop_variable } ∷ []; declared = k.declared + 1 }
 
 -- There is room for one more variable. In a body that was read there always is: its text was refused at the `int` or `for` of the 257th.
-abbrev pub room_for : Word → Bindings → Resolved (Unit {0})
-room_for w k = if nat_lt k.declared 256 then Ok tt else fault_at w TooManyVars
+abbrev pub require_room : Word → Bindings → Resolved (Unit {0})
+require_room w k = if nat_lt k.declared 256 then Ok tt else fault_at w TooManyVars
 
 -- the innermost block has no variable of this name
-abbrev pub fresh_in : Word → Bindings → Resolved (Unit {0})
-fresh_in w k = if list_any (λ (v : Variable). bytes_eq v.name w.text) (drop k.outside k.seen) then fault_at w NameTwice else Ok tt
+abbrev pub require_fresh : Word → Bindings → Resolved (Unit {0})
+require_fresh w k = if list_any (λ (v : Variable). bytes_eq v.name w.text) (drop k.outside k.seen) then fault_at w NameTwice else Ok tt
 
 -- the number of a trap word: its number among the words so far, or the next one
 abbrev pub numbered : List ℕ → Bindings → Option ℕ → ℕ × Bindings

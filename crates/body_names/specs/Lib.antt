@@ -1,5 +1,4 @@
 pub mod Environment
-pub mod Returns
 pub mod Meanings
 pub mod Expressions
 pub mod Bindings

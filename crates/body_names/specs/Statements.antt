@@ -15,7 +15,7 @@ use Rattle.jdf_tree.specs.Statements.{Statements, Done, DeclareThen, SetThen, Pu
 use Rattle.body_names.specs.Environment.{Environment}
 use Rattle.body_names.specs.Meanings.{meaning_of}
 use Rattle.body_names.specs.Expressions.{Resolved, slot_of, written_flow, term_of}
-use Rattle.body_names.specs.Bindings.{Bindings, no_bindings, block_opened, block_closed, next_slot, with_variable, room_for, fresh_in, word_number}
+use Rattle.body_names.specs.Bindings.{Bindings, no_bindings, block_opened, block_closed, next_slot, with_variable, require_room, require_fresh, word_number}
 
 -- what resolves a block, from what is known before it
 abbrev pub Resolver : Type 0
@@ -24,7 +24,7 @@ Resolver = Bindings → Resolved (StatementList × Bindings)
 -- `int x = e;`: the variable is seen after its declaration
 abbrev pub declare : Environment → Word → Expression → Bindings → Resolved (Stmt × Bindings)
 declare scope w e k =
-    and_then (room_for w k) (λ _. and_then (fresh_in w k) (λ _. and_then (term_of scope k.seen e) (λ x.
+    and_then (require_room w k) (λ _. and_then (require_fresh w k) (λ _. and_then (term_of scope k.seen e) (λ x.
     Ok (stmt.Set (next_slot scope k) x, with_variable scope w.text false k))))
 
 -- `x = e;`
@@ -48,7 +48,7 @@ if_else scope c first second k =
 -- `for w = lo .. hi { .. }`, by what its block is: the variable is one of the block's
 abbrev pub for_loop : Environment → Word → Expression → Expression → Resolver → Bindings → Resolved (Stmt × Bindings)
 for_loop scope w lo hi turn k =
-    and_then (room_for w k) (λ _. and_then (term_of scope k.seen lo) (λ x. and_then (term_of scope k.seen hi) (λ y.
+    and_then (require_room w k) (λ _. and_then (term_of scope k.seen lo) (λ x. and_then (term_of scope k.seen hi) (λ y.
     and_then (in_block (λ m. with_variable scope w.text true (block_opened m)) turn k) (λ t. Ok (stmt.For (next_slot scope k) x y t.0, t.1)))))
 
 -- `trap word;`

@@ -15,7 +15,7 @@ use Rattle.body_names.specs.declared.role.Role.TheVariants as role
 use Rattle.body_names.specs.Environment.{Environment}
 use Rattle.body_names.specs.Meanings.{meaning_of}
 use Rattle.body_names.specs.Expressions.{Resolved, value_of, slot_of, read_flow, written_flow}
-use Rattle.body_names.specs.Bindings.{Bindings, no_bindings, block_opened, fresh_in}
+use Rattle.body_names.specs.Bindings.{Bindings, no_bindings, block_opened, require_fresh}
 
 -- what is known at a token of a body
 pub record TokenScan : Type 0 where
@@ -103,7 +103,7 @@ abbrev pub fault_of : {A : Type 0} → Resolved A → Resolved (Unit {0})
 fault_of r = and_then r (λ _. Ok tt)
 
 abbrev pub judged_as : Role → Environment → Bindings → Word → Resolved (Unit {0})
-judged_as role.Declared scope k w = fresh_in w k
+judged_as role.Declared scope k w = require_fresh w k
 judged_as role.NotLookedUp scope k w = Ok tt
 judged_as role.Assigned scope k w = fault_of (slot_of w (meaning_of scope k.seen w.text))
 judged_as role.ElementAssigned scope k w = fault_of (written_flow scope w)

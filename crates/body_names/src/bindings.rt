@@ -4,8 +4,8 @@ ghost use Rattle.std.specs.Prelude.{◌≡◌, ◌<◌, length, take, OnOk, IfOk
 ghost use Rattle.std.specs.List.{list_any};
 ghost use Rattle.std.specs.Str.{bytes_eq};
 ghost use Rattle.body_names.specs.Environment.{environment_of};
-ghost use Rattle.body_names.specs.Returns.{Returns};
-ghost use Rattle.body_names.specs.Bindings.{bindings_of, no_bindings, next_slot, with_variable, room_for, fresh_in, word_number};
+ghost use Rattle.ptg_base.specs.Returns.{Returns};
+ghost use Rattle.body_names.specs.Bindings.{bindings_of, no_bindings, next_slot, with_variable, require_room, require_fresh, word_number};
 
 use crate::flow::fault_at;
 use crate::scope::{Context, Scope};
@@ -13,11 +13,8 @@ use crate::variable::{BindingTable, Variable};
 use jdf_lex::{JdfCode, JdfRefusal};
 use jdf_tree::Word;
 use name_table::NameSet;
-use ptg_base::{OutOfMemory, Text};
+use ptg_base::{MOST_VARIABLES, OutOfMemory, Text};
 use std::alloc::Global;
-
-// How many variables a body may declare.
-const MOST_VARIABLES: u16 = 256;
 
 impl BindingTable {
     /// Before a body nothing is bound.
@@ -34,11 +31,11 @@ impl BindingTable {
 }
 
 /// Is there room for one more variable? If not, that is a fault of its name.
-pub(crate) fn room_for(word: &Word, bindings: &BindingTable) -> Result<(), JdfRefusal>
+pub(crate) fn require_room(word: &Word, bindings: &BindingTable) -> Result<(), JdfRefusal>
     ensures room { OnOk result (bindings.now.declared < 256) }
-    ensures answer { Returns (λ _. tt) result (room_for word.now (bindings_of bindings.now)) }
+    ensures answer { Returns (λ _. tt) result (require_room word.now (bindings_of bindings.now)) }
 {
-    if bindings.declared < MOST_VARIABLES {
+    if usize::from(bindings.declared) < MOST_VARIABLES {
         Ok(())
     } else {
         Err(fault_at(word, JdfCode::TooManyVars))
@@ -68,8 +65,8 @@ fn is_named(variables: &[Variable], name: &[u8]) -> bool
 }
 
 /// Is the name new in the innermost block? If not, that is a fault of it.
-pub(crate) fn fresh_in(word: &Word, bindings: &BindingTable) -> Result<(), JdfRefusal>
-    ensures { Returns (λ _. tt) result (fresh_in word.now (bindings_of bindings.now)) }
+pub(crate) fn require_fresh(word: &Word, bindings: &BindingTable) -> Result<(), JdfRefusal>
+    ensures { Returns (λ _. tt) result (require_fresh word.now (bindings_of bindings.now)) }
 {
     if is_named(innermost(bindings), word.text.bytes()) {
         Err(fault_at(word, JdfCode::NameTwice))

@@ -5,7 +5,7 @@ ghost use Rattle.term_core.specs.Term.{Term, Binary, Choose};
 ghost use Rattle.term_core.specs.Value.{and_then};
 ghost use Rattle.jdf_tree.specs.NodeExpression.{expression_of};
 ghost use Rattle.body_names.specs.Environment.{environment_of};
-ghost use Rattle.body_names.specs.Returns.{Returns};
+ghost use Rattle.ptg_base.specs.Returns.{Returns};
 ghost use Rattle.body_names.specs.Meanings.{meaning_of};
 ghost use Rattle.body_names.specs.Expressions.{Resolved, value_of, slot_of, term_of};
 

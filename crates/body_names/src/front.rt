@@ -2,12 +2,12 @@
 
 ghost use Rattle.std.specs.Prelude.{◌≡◌, ◌≤◌, length, IfOk};
 ghost use Rattle.body_names.specs.Environment.{environment_of};
-ghost use Rattle.body_names.specs.Returns.{Returns};
+ghost use Rattle.ptg_base.specs.Returns.{Returns};
 ghost use Rattle.body_names.specs.Bindings.{bindings_of};
 ghost use Rattle.body_names.specs.TokenScan.{judged_as, judged, judged_among, front_fault};
 ghost use Rattle.body_names.specs.Scanner.{scan_of};
 
-use crate::bindings::fresh_in;
+use crate::bindings::require_fresh;
 use crate::expression::{slot_of, value_of};
 use crate::flow::{read_flow, written_flow};
 use crate::lookup::meaning_of;
@@ -32,7 +32,7 @@ fn judge_as(
 {
     let seen = bindings.seen.as_slice();
     match role {
-        Role::Declared => fresh_in(word, bindings)?,
+        Role::Declared => require_fresh(word, bindings)?,
         Role::NotLookedUp => {}
         Role::Assigned => {
             let _slot = slot_of(scope, seen, word)?;

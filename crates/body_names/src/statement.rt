@@ -2,11 +2,11 @@
 
 ghost use Rattle.std.specs.Prelude.{◌≡◌, true};
 ghost use Rattle.body_names.specs.Environment.{environment_of};
-ghost use Rattle.body_names.specs.Returns.{Returns};
+ghost use Rattle.ptg_base.specs.Returns.{Returns};
 ghost use Rattle.body_names.specs.Bindings.{bindings_of, block_opened};
 ghost use Rattle.body_names.specs.Statements.{declare, set, put, in_block, if_else, for_loop, trap, resolved, statement_of};
 
-use crate::bindings::{add_variable, close, fresh_in, next_slot, room_for, word_number};
+use crate::bindings::{add_variable, close, next_slot, require_fresh, require_room, word_number};
 use crate::expression::{slot_of, term_of};
 use crate::flow::written_flow;
 use crate::scope::Context;
@@ -25,8 +25,8 @@ fn declare(
 ) -> Result<Stmt, JdfRefusal>
     ensures { Returns (λ s. (s, bindings_of bindings.new)) result (declare (environment_of context.now.scope.now) word.now value.now (bindings_of bindings.old)) }
 {
-    room_for(word, bindings)?;
-    fresh_in(word, bindings)?;
+    require_room(word, bindings)?;
+    require_fresh(word, bindings)?;
     let value = term_of(context, bindings.seen.as_slice(), value)?;
     let slot = next_slot(context.scope, bindings);
     add_variable(context, bindings, word, false)?;
@@ -125,7 +125,7 @@ fn for_loop(
 ) -> Result<Stmt, JdfRefusal>
     ensures { Returns (λ s. (s, bindings_of bindings.new)) result (for_loop (environment_of context.now.scope.now) word.now bounds.entry.low.now bounds.entry.high.now (resolved (environment_of context.now.scope.now) turn.now) (bindings_of bindings.old)) }
 {
-    room_for(word, bindings)?;
+    require_room(word, bindings)?;
     let low = term_of(context, bindings.seen.as_slice(), bounds.low)?;
     let high = term_of(context, bindings.seen.as_slice(), bounds.high)?;
     let slot = next_slot(context.scope, bindings);

@@ -3,7 +3,7 @@
 ghost use Rattle.std.specs.Prelude.{◌≡◌, IfOk, length};
 ghost use Rattle.term_core.specs.WellBody.{IsWellBody};
 ghost use Rattle.body_names.specs.Environment.{environment_of};
-ghost use Rattle.body_names.specs.Returns.{Returns};
+ghost use Rattle.ptg_base.specs.Returns.{Returns};
 ghost use Rattle.body_names.specs.Statements.{body_of};
 
 use crate::scope::{Context, Scope};

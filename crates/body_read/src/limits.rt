@@ -8,12 +8,10 @@ ghost use Rattle.jdf_tree.specs.BodyLimits.{block_limit, variable_limit, declare
 
 use jdf_alphabet::{Terminal, is_next};
 use jdf_lex::Token;
+use ptg_base::MOST_VARIABLES;
 
 // How many blocks may be open before one more is opened. The braces around a whole body do not count.
 const MOST_BLOCKS: usize = 32;
-
-// How many variables a body may declare.
-const MOST_VARIABLES: usize = 256;
 
 // 1 where it holds, to count.
 fn one_if(holds: bool) -> usize

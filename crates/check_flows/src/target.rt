@@ -6,7 +6,7 @@ ghost use Rattle.plan_core.specs.declared.target.Target.TheVariants.{Task};
 ghost use Rattle.check_names.specs.Arguments.{arguments_faults, arguments_of};
 ghost use Rattle.check_names.specs.Contexts.{IsContext, job_of};
 ghost use Rattle.check_names.specs.Faults.{fault_if};
-ghost use Rattle.check_names.specs.Limits.{IsShortClass};
+ghost use Rattle.check_names.specs.Limits.{IsBoundedClass};
 ghost use Rattle.check_names.specs.Names.{class_named, flow_named};
 ghost use Rattle.check_names.specs.Returns.{ReturnsChecked, both};
 ghost use Rattle.check_flows.specs.Targets.{first_spot, task_faults, class_at, task_of, named_faults, target_of};
@@ -44,7 +44,7 @@ pub(crate) fn flow_named(class: &ClassTree, name: &Text) -> Option<usize>
 
 // The number of a flow of a class.
 fn flow_number(class: &ClassTree, word: &Word) -> Result<u8, JdfRefusal>
-    requires { IsShortClass class.now }
+    requires { IsBoundedClass class.now }
     ensures { ReturnsChecked result (flow_named class.now word.now.text) (fault_if (is_none (flow_named class.now word.now.text)) word.now.spot NoSuchFlow) }
 {
     match flow_named(class, &word.text) {

@@ -3,7 +3,7 @@ use Rattle.std.specs.Prelude.{◌≡◌, ◌≤◌, ℕ, List, length}
 use Rattle.name_table.specs.Names.{value_named}
 use Rattle.check_names.specs.declared.context.Context.{Context}
 use Rattle.check_names.specs.declared.context.Globals.{Globals}
-use Rattle.check_names.specs.Limits.{IsShort}
+use Rattle.check_names.specs.Limits.{IsBoundedJdf}
 use Rattle.check_names.specs.Names.{Job, int_named, coll_named}
 
 -- the JDF and its data
@@ -18,6 +18,6 @@ pub record AreGlobals (job : Job) (globals : Globals) : Type 0 where
 -- The tables are those of the JDF and its data, whose lists are not too long, and at most 16 definitions are seen. The data have at most 15 types beside DEFAULT.
 pub record IsContext (context : Context) : Type 0 where
   pub globals : AreGlobals (job_of context) context.globals.now
-  pub short : IsShort context.jdf.now
+  pub bounded : IsBoundedJdf context.jdf.now
   pub seen_at_most : length context.seen.now ≤ 16
   pub types_at_most : length context.given.now.types ≤ 15

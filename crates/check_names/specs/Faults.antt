@@ -1,42 +1,12 @@
 -- Faults in the order of the text, and the first of several. That a text is refused with the first of all its faults, and which code comes first at one place, are this project's own choice.
 use Rattle.std.specs.Prelude.{ℕ, Bool, true, false, ◌&&◌, ◌||◌, nat_eq, nat_lt, List, [], ◌∷◌, Option, Some, None, if◌then◌else◌}
-use Rattle.check_names.specs.Alphabet.{Spot, JdfCode, JdfFault, TooLong, NotUtf8, Unclosed, TooManyTokens, Syntax, Truncated, BadNumber, ExprTooLong, TooManyClasses, TooManyParams, TooManyLocals, TooManyFlows, TooManyDeps, TooDeep, TooManyVars, NameTwice, LocalTwice, ParamUndefined, RangedLocal, UnknownName, WrongKind, NoSuchFlow, Arity, CtlMixed, WriteInput, NewSent, RangeInDataInput, RangeInPlace, Datatype, MixedTypes, TypeDiffers, ReadAssigned, NotAssignable}
+use Rattle.check_names.specs.Alphabet.{Spot, JdfCode, JdfFault}
+use denote.Enum.Declared.{tag_of}
+use Rattle.jdf_lex.specs.contracts.fault.JdfCode.{the_type}
 
--- the codes in their order: where two fit one place, the first is given
+-- The number of a code in the order in which the codes are declared: where two fit one place, the first is given.
 abbrev pub rank : JdfCode → ℕ
-rank TooLong = 0
-rank NotUtf8 = 1
-rank Unclosed = 2
-rank TooManyTokens = 3
-rank Syntax = 4
-rank Truncated = 5
-rank BadNumber = 6
-rank ExprTooLong = 7
-rank TooManyClasses = 8
-rank TooManyParams = 9
-rank TooManyLocals = 10
-rank TooManyFlows = 11
-rank TooManyDeps = 12
-rank TooDeep = 13
-rank TooManyVars = 14
-rank NameTwice = 15
-rank LocalTwice = 16
-rank ParamUndefined = 17
-rank RangedLocal = 18
-rank UnknownName = 19
-rank WrongKind = 20
-rank NoSuchFlow = 21
-rank Arity = 22
-rank CtlMixed = 23
-rank WriteInput = 24
-rank NewSent = 25
-rank RangeInDataInput = 26
-rank RangeInPlace = 27
-rank Datatype = 28
-rank MixedTypes = 29
-rank TypeDiffers = 30
-rank ReadAssigned = 31
-rank NotAssignable = 32
+rank = tag_of the_type
 
 -- whether a fault comes before another: its place does, or it has the same place and a code that does
 abbrev pub is_before : JdfFault → JdfFault → Bool

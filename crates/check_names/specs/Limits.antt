@@ -4,17 +4,17 @@ use Rattle.std.specs.List.{AllByRecursion}
 use Rattle.check_names.specs.Alphabet.{FlowTree, ClassTree, Jdf}
 
 -- a flow with at most 16 dependences
-abbrev pub IsShortFlow : FlowTree → Type 0
-IsShortFlow flow = length flow.deps ≤ 16
+abbrev pub IsBoundedFlow : FlowTree → Type 0
+IsBoundedFlow flow = length flow.deps ≤ 16
 
 -- a class with at most 8 parameters, 16 definitions and 8 flows
-pub record IsShortClass (class : ClassTree) : Type 0 where
+pub record IsBoundedClass (class : ClassTree) : Type 0 where
   pub params : length class.params ≤ 8
   pub defs : length class.defs ≤ 16
   pub flows : length class.flows ≤ 8
-  pub deps : AllByRecursion IsShortFlow class.flows
+  pub deps : AllByRecursion IsBoundedFlow class.flows
 
 -- at most 64 of these classes
-pub record IsShort (jdf : Jdf) : Type 0 where
+pub record IsBoundedJdf (jdf : Jdf) : Type 0 where
   pub count : length jdf.classes ≤ 64
-  pub classes : AllByRecursion IsShortClass jdf.classes
+  pub classes : AllByRecursion IsBoundedClass jdf.classes

@@ -5,11 +5,11 @@ use Rattle.ptg_base.specs.declared.refusal.Refusal.TheVariants.{Fault, OutOfMemo
 use Rattle.check_names.specs.Alphabet.{JdfFault}
 use Rattle.check_names.specs.Faults.{earlier, first_fault}
 
--- The part is what its names mean, and no rule is broken; or the first of its faults is named; or there was no memory.
+-- The part is as its names resolve, and no rule is broken; or the first of its faults is named; or there was no memory.
 abbrev pub ReturnsChecked : {A : Type 0} → Result A (Refusal JdfFault) → Option A → List JdfFault → Type 0
-ReturnsChecked (Ok part) meant faults = (meant ≡ Some part) × (faults ≡ [])
-ReturnsChecked (Err (Fault f)) meant faults = first_fault faults ≡ Some f
-ReturnsChecked (Err OutOfMemory) meant faults = Unit {0}
+ReturnsChecked (Ok part) resolved faults = (resolved ≡ Some part) × (faults ≡ [])
+ReturnsChecked (Err (Fault f)) resolved faults = first_fault faults ≡ Some f
+ReturnsChecked (Err OutOfMemory) resolved faults = Unit {0}
 
 -- the earlier fault of two refusals; or that there was no memory, if either says so
 abbrev pub earlier_refusal : Refusal JdfFault → Refusal JdfFault → Refusal JdfFault
@@ -23,12 +23,12 @@ both f (Some a) (Some b) = Some (f a b)
 both f (Some a) None = None
 both f None b = None
 
--- what is meant for a part that may be left out
+-- the function at a part that may be left out
 abbrev pub each_option : {A B : Type 0} → (A → Option B) → Option A → Option (Option B)
 each_option f None = Some None
 each_option f (Some a) = option_map (λ b. Some b) (f a)
 
--- what is meant for each element of a list, if it is for all of them
+-- the function at each element of a list, if it has a value at all of them
 abbrev pub each : {A B : Type 0} → (A → Option B) → List A → Option (List B)
 each f [] = Some []
 each f (x ∷ xs) = both (λ y ys. y ∷ ys) (f x) (each f xs)

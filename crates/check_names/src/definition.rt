@@ -2,7 +2,7 @@
 
 ghost use Rattle.std.specs.Prelude.{◌≡◌, ◌≤◌, ℕ, List, [], flat_map, length};
 ghost use Rattle.check_names.specs.Contexts.{IsContext, job_of};
-ghost use Rattle.check_names.specs.Limits.{IsShortClass};
+ghost use Rattle.check_names.specs.Limits.{IsBoundedClass};
 ghost use Rattle.check_names.specs.Returns.{ReturnsChecked, each};
 ghost use Rattle.std.specs.List.{list_any};
 ghost use Rattle.check_names.specs.Names.{word_is};
@@ -146,7 +146,7 @@ fn space_by(context: &Context, params: &[Word], defs: &[DefTree]) -> Result<Clas
 /// The space of a class, with its names resolved.
 pub fn space(context: &Context, class: &ClassTree) -> Result<ClassSpace, JdfRefusal>
     requires context { IsContext context.now }
-    requires short { IsShortClass class.now }
+    requires bounded { IsBoundedClass class.now }
     ensures { ReturnsChecked result (space_of (job_of context.now) class.now.params class.now.defs) (space_faults (job_of context.now) class.now.params class.now.defs) }
 {
     space_by(context, class.params.as_slice(), class.defs.as_slice())

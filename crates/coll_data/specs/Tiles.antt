@@ -1,21 +1,13 @@
--- Places and the tiles at them: rows and columns count from 0, and tiles are listed row by row. Source: this project's own choice.
-use Rattle.std.specs.Prelude.{ℕ, ℤ, pos, negsuc, ◌+◌, ◌*◌, nat_lt, ◌≤ℤ◌, ◌<ℤ◌, ◌≡◌, List, Option, Some, None, IsSomeAnd, slice_get, option_map, option_and_then, if◌then◌else◌}
+-- The places of data and the tiles at them; tiles are listed row by row. Source: this project's own choice.
+use Rattle.std.specs.Prelude.{ℕ, ℤ, pos, negsuc, ◌+◌, ◌*◌, nat_lt, List, Option, Some, None, IsSomeAnd, slice_get, option_map, option_and_then, if◌then◌else◌}
 use Rattle.ptg_base.specs.declared.place.Place.{Place}
+pub use Rattle.ptg_base.specs.Places.{IsRow, IsColumn}
 use Rattle.coll_data.specs.declared.coll.Coll.{Coll}
 
 -- how many tiles a collection has, by its rows and columns
 abbrev pub tile_count : ℕ → Option ℕ → ℕ
 tile_count rows None = rows
 tile_count rows (Some cols) = rows * cols
-
--- i is one of so many rows
-abbrev pub IsRow : ℕ → ℤ → Type 0
-IsRow rows i = (pos 0 ≤ℤ i) × (i <ℤ pos rows)
-
--- j is one of the columns; it is 0 in a collection of one dimension
-abbrev pub IsColumn : Option ℕ → ℤ → Type 0
-IsColumn None j = j ≡ pos 0
-IsColumn (Some cols) j = (pos 0 ≤ℤ j) × (j <ℤ pos cols)
 
 -- the place's collection exists, and has its row and column
 abbrev pub HasPlace : List Coll → Place → Type 0

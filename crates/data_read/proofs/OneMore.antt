@@ -10,10 +10,10 @@ use Rattle.std.proofs.lemmas.Option.{option_and_then_some}
 use Rattle.coll_data.specs.Tiles.{tile_count, tile_index}
 use Rattle.coll_data.specs.declared.fault.DataCode.{DataCode}
 use Rattle.data_read.specs.declared.growing.GrowingColl.{GrowingColl}
-use Rattle.data_read.specs.declared.growing.Sized.{Sized}
+use Rattle.data_read.specs.declared.growing.AskedColl.{AskedColl}
 use Rattle.data_read.specs.Fields.{field, is_name, whole}
 use Rattle.data_read.specs.Draft.{Draft, coll_index, coll_named, is_new, opened, type_among, type_named, with_coll, with_int, with_tile, with_type}
-use Rattle.data_read.specs.Records.{coll_of, coll_record, collof_record, column, columns, element_count, first_value, free_index, int_record, later_record, new_tile, numbers, shape_of, sized, tile_record, type_record}
+use Rattle.data_read.specs.Records.{coll_of, coll_record, collof_record, column, columns, element_count, first_value, free_index, int_record, later_record, new_tile, numbers, shape_of, asked_coll, tile_record, type_record}
 use Rattle.data_read.specs.WholeRecords.{Heading, Row, all_types, begins, data_of_records, declares, elements_of, heading_at, heading_in, headings_of, index_in, int_in, ints_of, name_at, shape_in, type_in, type_name_in, types_of, with_tiles}
 use Rattle.data_read.proofs.Choices.{by_test, by_option, by_result, no_value}
 use Rattle.data_read.proofs.Soundness.{all_push, all_weaker}
@@ -223,14 +223,14 @@ coll_made elems rows row known shape ordered other no_int t word type is new =
     }
 
 -- what a collection was asked to be
-record IsAsked (d : Draft) (type : List ℕ) (row : Row) (at : ℕ) (size : Sized) : Type 0 where
+record IsAsked (d : Draft) (type : List ℕ) (row : Row) (at : ℕ) (size : AskedColl) : Type 0 where
   known : ℕ × ℕ
   shape : ℕ × Option ℕ
   is_type : type_named d type ≡ Some known
   is_shape : shape_in row at ≡ Some shape
   made : size ≡ record { shape = shape; datatype = known.0; elements = known.1 }
 
-asked : (d : Draft) (type : List ℕ) (row : Row) (at : ℕ) (size : Sized) → sized d type row at ≡ Ok size → IsAsked d type row at size
+asked : (d : Draft) (type : List ℕ) (row : Row) (at : ℕ) (size : AskedColl) → asked_coll d type row at ≡ Ok size → IsAsked d type row at size
 asked d type row at size is =
     by_option (type_named d type)
     (λ h. let s = rw h at is in no_value s)
@@ -258,11 +258,11 @@ coll_of_more elems rows row e ordered other no_int t word is =
     (λ h. let is = rw h at is in
     by_test (is_new d name)
     (λ new. let is = rw new at is in
-    by_result (sized d (type_name_in row) row (name_at row + 1))
+    by_result (asked_coll d (type_name_in row) row (name_at row + 1))
     (λ size hs. let is = rw hs at is in
     let parts = asked d (type_name_in row) row (name_at row + 1) size hs in
     let made = coll_made elems rows row parts.known parts.shape ordered other no_int t word parts.is_type parts.is_shape (new_name d name new) in
-    let same = ap (λ (s : Sized). with_coll d name s.shape s.datatype s.elements) (sym parts.made) ∙ same_draft (with_coll d name size.shape size.datatype size.elements) e is in
+    let same = ap (λ (s : AskedColl). with_coll d name s.shape s.datatype s.elements) (sym parts.made) ∙ same_draft (with_coll d name size.shape size.datatype size.elements) e is in
     subst (IsOneMore elems rows row) same made)
     (λ code h. let s = rw h at is in no_value s))
     (λ h. let s = rw h at is in no_value s))

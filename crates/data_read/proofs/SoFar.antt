@@ -11,7 +11,8 @@ use Rattle.data_read.specs.Records.{first_record, later_record}
 use Rattle.data_read.specs.Reading.{all_records, as_data, later_records, then_at}
 use Rattle.ptg_base.specs.declared.refusal.Refusal.{Refusal}
 use Rattle.ptg_base.specs.declared.refusal.Refusal.TheVariants.{Fault, OutOfMemory}
-use Rattle.data_read.specs.Growing.{ReturnsRefusal, refusal_at}
+use Rattle.data_read.specs.Growing.{refusal_at}
+use Rattle.ptg_base.specs.Returns.{ReturnsRefusal}
 use Rattle.data_read.specs.Rows.{HasRows, NextRow}
 use Rattle.data_read.proofs.Choices.{by_result, no_value}
 use Rattle.data_read.proofs.Soundness.{IsSound, well_made}

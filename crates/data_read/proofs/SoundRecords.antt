@@ -10,10 +10,10 @@ use Rattle.coll_data.specs.declared.fault.DataCode.{DataCode}
 use Rattle.coll_data.specs.Tiles.{tile_count}
 use Rattle.coll_data.specs.WellMade.{is_element_count}
 use Rattle.data_read.specs.declared.growing.GrowingColl.{GrowingColl}
-use Rattle.data_read.specs.declared.growing.Sized.{Sized}
+use Rattle.data_read.specs.declared.growing.AskedColl.{AskedColl}
 use Rattle.data_read.specs.Fields.{field, is_name, whole}
 use Rattle.data_read.specs.Draft.{Draft, begun, is_new, type_among, type_named, with_coll, with_type}
-use Rattle.data_read.specs.Records.{as_element_count, columns, coll_of, coll_record, collof_record, element_count, first_record, int_record, shape_of, side, sized, type_record}
+use Rattle.data_read.specs.Records.{as_element_count, columns, coll_of, coll_record, collof_record, element_count, first_record, int_record, shape_of, side, asked_coll, type_record}
 use Rattle.data_read.proofs.Choices.{chosen, by_test, by_option, by_result, no_value}
 use Rattle.data_read.proofs.Soundness.{HasLength, IsSound, IsSoundColl, all_push, all_replicate, all_true_push, all_weaker, at_push, counts_of, elements_in}
 
@@ -212,16 +212,16 @@ shape_has rows None shape e = line_has (side rows) shape (side_parts rows) e
 shape_has rows (Some cols) shape e = matrix_has (side rows) (side cols) shape (side_parts rows) (side_parts cols) e
 
 -- what a collection was asked to be
-record IsSizeOf (d : Draft) (size : Sized) : Type 0 where
+record IsSizeOf (d : Draft) (size : AskedColl) : Type 0 where
   within : size.datatype < length (counts_of d)
   is : get_or (counts_of d) size.datatype 0 ≡ size.elements
   tiles : HasTiles size.shape
   room : d.elements + tile_count size.shape.0 size.shape.1 * size.elements ≤ 16777216
 
-pub same_size : (a b : Sized) → ◌≡◌ {A = Result Sized DataCode} (Ok a) (Ok b) → a ≡ b
+pub same_size : (a b : AskedColl) → ◌≡◌ {A = Result AskedColl DataCode} (Ok a) (Ok b) → a ≡ b
 same_size a b e = cc
 
-sized_is : (d : Draft) (type : List ℕ) (fields : List (List ℕ)) (at : ℕ) (size : Sized) → sized d type fields at ≡ Ok size → IsSizeOf d size
+sized_is : (d : Draft) (type : List ℕ) (fields : List (List ℕ)) (at : ℕ) (size : AskedColl) → asked_coll d type fields at ≡ Ok size → IsSizeOf d size
 sized_is d type fields at size is =
     by_option (type_named d type)
     (λ h. let s = rw h at is in no_value s)
@@ -257,7 +257,7 @@ coll_of_sound d e type fields at sound is =
     (λ h. let is = rw h at is in
     by_test (is_new d (field fields at))
     (λ h. let is = rw h at is in
-    by_result (sized d type fields (at + 1))
+    by_result (asked_coll d type fields (at + 1))
     (λ size hs. let is = rw hs at is in
     let parts = sized_is d type fields (at + 1) size hs in
     subst IsSound (same_draft _ _ is) (with_coll_sound d (field fields at) size.shape size.datatype size.elements sound parts.within parts.is parts.tiles.some parts.tiles.few parts.room))

@@ -10,7 +10,8 @@ use Rattle.data_read.specs.declared.growing.GrowingColl.{GrowingColl}
 use Rattle.data_read.specs.declared.growing.Known.{Known}
 use Rattle.data_read.specs.Fields.{field, is_name, whole}
 use Rattle.data_read.specs.Draft.{Draft, coll_index, opened, with_tile}
-use Rattle.data_read.specs.Growing.{ReturnsRefusal, coll_or_int, meaning}
+use Rattle.data_read.specs.Growing.{coll_or_int, meaning}
+use Rattle.ptg_base.specs.Returns.{ReturnsRefusal}
 use Rattle.data_read.specs.Records.{and_then, column, first_value, free_index, new_tile, numbers, tile_record}
 use Rattle.data_read.proofs.Choices.{by_option}
 use Rattle.data_read.proofs.Meanings.{index_set, of_int}

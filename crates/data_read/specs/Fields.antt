@@ -2,7 +2,8 @@
 -- documentation; the rest is this project's own choice.
 use Rattle.std.specs.Prelude.{ℕ, ◌+◌, Bool, false, ◌&&◌, ◌||◌, ◌==◌, nat_le, ℤ, pos, neg_ℤ, List, [], ◌∷◌, take, get_or, Option, Some, None, if◌then◌else◌}
 use Rattle.std.specs.List.{list_all}
-use Rattle.ptg_base.specs.Decimal.{is_decimal, is_digit, decimal}
+use Rattle.ptg_base.specs.Decimal.{is_decimal, decimal}
+pub use Rattle.ptg_base.specs.Names.{is_name}
 
 -- space and tab
 abbrev pub is_blank : ℕ → Bool
@@ -25,19 +26,6 @@ without_blanks bytes = take (content_length (after_blanks bytes)) (after_blanks 
 -- the field of this number, counted from 0, without the blanks around it; no bytes where the record has no such field
 abbrev pub field : List (List ℕ) → ℕ → List ℕ
 field fields at = without_blanks (get_or fields at [])
-
--- `A` to `Z`, `a` to `z` or `_`
-abbrev pub is_letter : ℕ → Bool
-is_letter b = (nat_le 65 b && nat_le b 90) || ((nat_le 97 b && nat_le b 122) || (b == 95))
-
--- a byte of a name after its first one
-abbrev pub is_part : ℕ → Bool
-is_part b = is_letter b || is_digit b
-
--- a name is a letter and then letters and digits
-abbrev pub is_name : List ℕ → Bool
-is_name [] = false
-is_name (b ∷ bs) = is_letter b && list_all is_part bs
 
 -- the number that digits without a sign or after `+` spell, if it fits 64 bits
 abbrev pub positive : List ℕ → Option ℤ

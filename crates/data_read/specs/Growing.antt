@@ -6,6 +6,7 @@ use Rattle.coll_data.specs.declared.fault.DataFault.{DataFault}
 use Rattle.name_table.specs.Names.{value_named}
 use Rattle.ptg_base.specs.declared.refusal.Refusal.{Refusal}
 use Rattle.ptg_base.specs.declared.refusal.Refusal.TheVariants.{Fault, OutOfMemory}
+use Rattle.ptg_base.specs.Returns.{ReturnsRefusal}
 use Rattle.data_read.specs.declared.growing.Growing.{Growing}
 use Rattle.data_read.specs.declared.growing.GrowingColl.{GrowingColl}
 use Rattle.data_read.specs.declared.growing.Known.{Known}
@@ -29,20 +30,10 @@ meaning ints colls name = coll_or_int (coll_index name colls) (list_any (λ (int
 abbrev pub IsKeyed : Growing → Type 0
 IsKeyed all = (name : List ℕ) → value_named all.names name ≡ meaning all.ints all.colls.items name
 
--- the refusal is the fault that the definition gives, or there was no memory
-abbrev pub ReturnsRefusal : {Y F : Type 0} → Refusal F → Result Y F → Type 0
-ReturnsRefusal OutOfMemory given = Unit {0}
-ReturnsRefusal (Fault fault) given = given ≡ Err fault
-
 -- the refusal of a record is one of its row
 abbrev pub refusal_at : ℕ → Refusal DataCode → Refusal DataFault
 refusal_at row OutOfMemory = OutOfMemory
 refusal_at row (Fault code) = Fault (record { row = row; code = code })
-
--- the result is what the definition gives, or there was no memory
-abbrev pub Returns : {Y F : Type 0} → Result Y (Refusal F) → Result Y F → Type 0
-Returns (Ok y) given = given ≡ Ok y
-Returns (Err refusal) given = ReturnsRefusal refusal given
 
 -- the call made the draft that the definition gives, or returned its fault, or there was no memory
 abbrev pub ReturnsDraft : {F : Type 0} → Result Unit (Refusal F) → Result Draft F → Draft → Type 0

@@ -6,7 +6,7 @@ use Rattle.coll_data.specs.WellMade.{is_element_count}
 use Rattle.coll_data.specs.declared.fault.DataCode.{DataCode}
 use Rattle.coll_data.specs.declared.fault.DataCode.TheVariants.{NoElems, ElemsTwice, UnknownRow, FieldCount, BadElems, BadName, NameTwice, TypeTwice, TooManyTypes, UnknownType, UnknownColl, TileCount, BadNumber, TooManyTiles, TooManyElements, BadIndex, TileTwice}
 use Rattle.data_read.specs.declared.growing.GrowingColl.{GrowingColl}
-use Rattle.data_read.specs.declared.growing.Sized.{Sized}
+use Rattle.data_read.specs.declared.growing.AskedColl.{AskedColl}
 use Rattle.data_read.specs.Fields.{field, is_name, whole, without_blanks}
 use Rattle.data_read.specs.Draft.{Draft, type_named, coll_named, is_new, slot_at, opened, with_type, with_int, with_coll, with_tile}
 
@@ -76,8 +76,8 @@ shape_of rows (Some cols) = option_and_then (λ r. option_and_then (λ c. if nat
 
 -- the shape, the type and the elements of a tile of a collection of the type of this name: its rows are the field of the number
 -- given, and its columns the next one, if there is one. The tiles of all collections have at most 2 ^ 24 elements
-abbrev pub sized : Draft → List ℕ → List (List ℕ) → ℕ → Result Sized DataCode
-sized d type fields at =
+abbrev pub asked_coll : Draft → List ℕ → List (List ℕ) → ℕ → Result AskedColl DataCode
+asked_coll d type fields at =
     demand (type_named d type) UnknownType (λ known.
     demand (whole (field fields at)) BadNumber (λ rows.
     demand (columns fields (at + 1)) BadNumber (λ cols.
@@ -90,7 +90,7 @@ abbrev pub coll_of : Draft → List ℕ → List (List ℕ) → ℕ → Result D
 coll_of d type fields at =
     require (is_name type && is_name (field fields at)) BadName
     (require (is_new d (field fields at)) NameTwice
-    (and_then (sized d type fields (at + 1)) (λ size.
+    (and_then (asked_coll d type fields (at + 1)) (λ size.
     Ok (with_coll d (field fields at) size.shape size.datatype size.elements))))
 
 -- `coll,NAME,R` or `coll,NAME,R,C`: one collection more, of type DEFAULT

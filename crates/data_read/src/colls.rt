@@ -4,17 +4,23 @@ ghost use Rattle.std.specs.Prelude.{◌≡◌, ◌≤◌, ◌+◌, ◌*◌, code
 ghost use Rattle.csv.specs.Records.{fields_of};
 ghost use Rattle.coll_data.specs.Tiles.{tile_count};
 ghost use Rattle.data_read.specs.Draft.{is_new, with_coll};
-ghost use Rattle.data_read.specs.Growing.{draft_of, IsKeyed, ReturnsDraft, Returns};
-ghost use Rattle.data_read.specs.Records.{columns, side, shape_of, sized, coll_of, coll_record, collof_record};
+ghost use Rattle.data_read.specs.Growing.{draft_of, IsKeyed, ReturnsDraft};
+ghost use Rattle.data_read.specs.Records.{columns, side, shape_of, asked_coll, coll_of, coll_record, collof_record};
 
-use crate::field::{field, is_name, whole};
-use crate::growing::{Growing, GrowingColl, Known, Sized};
+use crate::field::{field, whole};
+use crate::growing::{AskedColl, Growing, GrowingColl, Known};
 use crate::names::is_new;
 use crate::types::type_named;
 use coll_data::{DataCode, tile_count};
 use csv::ByteRecord;
-use ptg_base::{OutOfMemory, Refusal, Seq, Text, Tile};
+use ptg_base::{OutOfMemory, Refusal, Seq, Text, Tile, is_name};
 use std::alloc::Global;
+
+// How many tiles a collection may have.
+const MOST_TILES: i64 = 65_536;
+
+// How many elements all tiles of the data may have.
+const MOST_ELEMENTS: u64 = 16_777_216;
 
 // The number of columns in the field of this number; none where the record ends before it.
 fn columns(row: &ByteRecord, at: usize) -> Option<Option<i64>>
@@ -31,9 +37,9 @@ fn columns(row: &ByteRecord, at: usize) -> Option<Option<i64>>
 // A number from 1 to 65,536.
 fn side(n: i64) -> Option<u32>
     ensures side { result ≡ side n }
-    ensures few { IfSome result (λ n. n ≤ 65536) }
+    ensures at_most { IfSome result (λ n. n ≤ 65536) }
 {
-    if 1 <= n && n <= 65536 {
+    if 1 <= n && n <= MOST_TILES {
         Some(n as u32)
     } else {
         None
@@ -43,24 +49,29 @@ fn side(n: i64) -> Option<u32>
 // The shape of so many rows and columns, if it has from 1 to 65,536 tiles.
 fn shape_of(rows: i64, cols: Option<i64>) -> Option<(u32, Option<u32>)>
     ensures shape { result ≡ shape_of rows cols }
-    ensures few { IfSome result (λ shape. tile_count shape.0 shape.1 ≤ 65536) }
+    ensures at_most { IfSome result (λ shape. tile_count shape.0 shape.1 ≤ 65536) }
 {
     let rows = side(rows)?;
     let Some(cols) = cols else {
         return Some((rows, None));
     };
     let cols = side(cols)?;
-    if u64::from(rows) * u64::from(cols) > 65536 {
+    if i64::from(rows) * i64::from(cols) > MOST_TILES {
         return None;
     }
     Some((rows, Some(cols)))
 }
 
 // What the collection of a record is asked to be.
-fn sized(all: &Growing, datatype: &[u8], row: &ByteRecord, at: usize) -> Result<Sized, DataCode>
+fn asked_coll(
+    all: &Growing,
+    datatype: &[u8],
+    row: &ByteRecord,
+    at: usize,
+) -> Result<AskedColl, DataCode>
     requires { at ≤ 3 }
-    ensures sized { result ≡ sized (draft_of all.now) datatype.now (fields_of row.now) at }
-    ensures few { IfOk result (λ size. tile_count size.shape.0 size.shape.1 ≤ 65536) }
+    ensures asked_coll { result ≡ asked_coll (draft_of all.now) datatype.now (fields_of row.now) at }
+    ensures tiles_at_most { IfOk result (λ size. tile_count size.shape.0 size.shape.1 ≤ 65536) }
     ensures room { IfOk result (λ size. all.now.elements + tile_count size.shape.0 size.shape.1 * size.elements ≤ 16777216) }
 {
     let Some((datatype, elements)) = type_named(all, datatype) else {
@@ -76,10 +87,10 @@ fn sized(all: &Growing, datatype: &[u8], row: &ByteRecord, at: usize) -> Result<
         return Err(DataCode::TooManyTiles);
     };
     let count = u64::from(tile_count(shape.0, shape.1));
-    if all.elements + count * u64::from(elements) > 16_777_216 {
+    if all.elements + count * u64::from(elements) > MOST_ELEMENTS {
         return Err(DataCode::TooManyElements);
     }
-    Ok(Sized {
+    Ok(AskedColl {
         shape,
         datatype,
         elements,
@@ -98,10 +109,15 @@ fn no_tiles(alloc: Global, count: u32) -> Result<Seq<Option<Tile>>, OutOfMemory>
 }
 
 // Adds a collection of this name, which is new.
-fn push_coll(alloc: Global, all: &mut Growing, name: Text, size: Sized) -> Result<(), OutOfMemory>
+fn push_coll(
+    alloc: Global,
+    all: &mut Growing,
+    name: Text,
+    size: AskedColl,
+) -> Result<(), OutOfMemory>
     requires keyed { IsKeyed all.old }
     requires fresh { IsTrue (is_new (draft_of all.old) name) }
-    requires few { tile_count size.shape.0 size.shape.1 ≤ 65536 }
+    requires tiles_at_most { tile_count size.shape.0 size.shape.1 ≤ 65536 }
     requires room { all.old.elements + tile_count size.shape.0 size.shape.1 * size.elements ≤ 16777216 }
     ensures step { OnOk result (draft_of all.new ≡ with_coll (draft_of all.old) name size.shape size.datatype size.elements) }
     ensures keyed { OnOk result (IsKeyed all.new) }
@@ -143,7 +159,7 @@ fn add_coll_of(
     if !is_new(all, &name) {
         return Err(Refusal::Fault(DataCode::NameTwice));
     }
-    match sized(all, datatype, row, at + 1) {
+    match asked_coll(all, datatype, row, at + 1) {
         Ok(size) => Ok(push_coll(alloc, all, name, size)?),
         Err(code) => Err(Refusal::Fault(code)),
     }

@@ -3,11 +3,14 @@
 ghost use Rattle.std.specs.Prelude.{◌≡◌, ◌≤◌, length, drop, IfSome, Some, None, if◌then◌else◌};
 ghost use Rattle.ptg_base.specs.Decimal.{decimal, is_decimal};
 ghost use Rattle.csv.specs.Records.{fields_of};
-ghost use Rattle.data_read.specs.Fields.{is_blank, after_blanks, content_length, without_blanks, field, is_letter, is_part, is_name, positive, negative, whole};
+ghost use Rattle.data_read.specs.Fields.{is_blank, after_blanks, content_length, without_blanks, field, positive, negative, whole};
 ghost use Rattle.data_read.specs.Records.{element_count};
 
 use csv::ByteRecord;
 use ptg_base::decimal;
+
+// How many elements a tile may have.
+const MOST_TILE_ELEMENTS: i64 = 4096;
 
 fn is_blank(b: u8) -> bool
     ensures { result ≡ is_blank b }
@@ -60,27 +63,6 @@ pub(crate) fn field(row: &ByteRecord, at: usize) -> &[u8]
     }
 }
 
-fn is_letter(b: u8) -> bool
-    ensures { result ≡ is_letter b }
-{
-    b.is_ascii_alphabetic() || b == b'_'
-}
-
-fn is_part(b: u8) -> bool
-    ensures { result ≡ is_part b }
-{
-    is_letter(b) || b.is_ascii_digit()
-}
-
-pub(crate) fn is_name(bytes: &[u8]) -> bool
-    ensures { result ≡ is_name bytes.now }
-{
-    match bytes.split_first() {
-        Some((b, bs)) => is_letter(*b) && bs.iter().all(|c| is_part(*c)),
-        None => false,
-    }
-}
-
 // The number of these decimal digits, if it is at most `most`.
 fn digits_at_most(digits: &[u8], most: u64) -> Option<u64>
     ensures number { result ≡ (if is_decimal most digits.now then Some (decimal digits.now) else None) }
@@ -125,7 +107,7 @@ pub(crate) fn element_count(bytes: &[u8]) -> Option<u32>
     ensures { result ≡ element_count bytes.now }
 {
     let value = whole(bytes)?;
-    if 1 <= value && value <= 4096 {
+    if 1 <= value && value <= MOST_TILE_ELEMENTS {
         Some(value as u32)
     } else {
         None

@@ -19,7 +19,7 @@ pub(crate) struct GrowingColl {
 
 /// What a collection is asked to be.
 #[derive(Clone, Copy)]
-pub(crate) struct Sized {
+pub(crate) struct AskedColl {
     pub(crate) shape: (u32, Option<u32>),
     pub(crate) datatype: u32,
     pub(crate) elements: u32,

@@ -5,12 +5,12 @@ ghost use Rattle.csv.specs.Records.{fields_of};
 ghost use Rattle.data_read.specs.Growing.{draft_of, IsKeyed, ReturnsDraft};
 ghost use Rattle.data_read.specs.Records.{int_record};
 
-use crate::field::{field, is_name, whole};
+use crate::field::{field, whole};
 use crate::growing::{Growing, Known};
 use crate::names::is_new;
 use coll_data::DataCode;
 use csv::ByteRecord;
-use ptg_base::{Refusal, Text};
+use ptg_base::{Refusal, Text, is_name};
 use std::alloc::Global;
 
 // Adds the integer of an `int` record.

@@ -1,11 +1,10 @@
 //! The data that a text spells.
 
-ghost use Rattle.std.specs.Prelude.{◌≡◌, ◌≤◌, ◌⊎◌, ◌+◌, ℕ, List, Ok, Err, IfOk, length};
+ghost use Rattle.std.specs.Prelude.{◌≡◌, ◌≤◌, ◌+◌, ℕ, List, Ok, Err, length};
 ghost use Rattle.std.specs.Result.{MatchResult};
-ghost use Rattle.coll_data.specs.Data.{Data};
-ghost use Rattle.coll_data.specs.declared.fault.DataFault.{DataFault};
-ghost use Rattle.ptg_base.specs.declared.refusal.Refusal.TheVariants.{Fault, OutOfMemory};
-ghost use Rattle.data_read.specs.Growing.{draft_of, IsKeyed, Returns, ReturnsRefusal, refusal_at};
+ghost use Rattle.ptg_base.specs.declared.refusal.Refusal.TheVariants.{Fault};
+ghost use Rattle.data_read.specs.Growing.{draft_of, IsKeyed, refusal_at};
+ghost use Rattle.ptg_base.specs.Returns.{FindsOrRefuses, Returns, ReturnsRefusal};
 ghost use Rattle.data_read.specs.Reading.{all_records, as_data, data_of, later_records};
 ghost use Rattle.data_read.specs.Rows.{HasRows};
 
@@ -19,7 +18,7 @@ use ptg_base::Refusal;
 use std::alloc::Global;
 
 fn read(alloc: Global, bytes: &[u8]) -> Result<Given, DataRefusal>
-    ensures { Returns result (data_of bytes.now) }
+    ensures { Returns (λ given. given) result (data_of bytes.now) }
 {
     let mut reader = reader_of(alloc, bytes);
     let mut row = ByteRecord::new(alloc);
@@ -33,7 +32,7 @@ fn read_rows(
     row: &mut ByteRecord,
 ) -> Result<Given, DataRefusal>
     requires { (rows : List (List (List ℕ))) × HasRows reader.old rows }
-    ensures { (rows : List (List (List ℕ))) → HasRows reader.old rows → Returns result (as_data (length rows) (all_records rows)) }
+    ensures { (rows : List (List (List ℕ))) → HasRows reader.old rows → Returns (λ given. given) result (as_data (length rows) (all_records rows)) }
 {
     if !next_row(reader, row)? {
         return Err(refused(1, DataCode::NoElems));
@@ -90,14 +89,7 @@ fn refused(row: u64, code: DataCode) -> DataRefusal
 /// record that has one, with the first code that fits it.
 pub fn read_data(alloc: Global, bytes: &[u8]) -> Result<Given, DataRefusal>
     requires { length bytes.now ≤ 16777216 }
-    // What is found the text spells.
-    ensures found { IfOk result (λ given. data_of bytes.now ≡ Ok given) }
-    // What the text spells is found, unless memory runs out.
-    ensures only { (given : Data) → data_of bytes.now ≡ Ok given → (result ≡ Ok given) ⊎ (result ≡ Err OutOfMemory) }
-    // The fault that is named is the first one of the text.
-    ensures fault { (fault : DataFault) → result ≡ Err (Fault fault) → data_of bytes.now ≡ Err fault }
-    // A text with a fault is refused with its first one, unless memory runs out.
-    ensures refused { (fault : DataFault) → data_of bytes.now ≡ Err fault → (result ≡ Err (Fault fault)) ⊎ (result ≡ Err OutOfMemory) }
+    ensures exact { FindsOrRefuses (λ given. data_of bytes.now ≡ Ok given) (λ fault. data_of bytes.now ≡ Err fault) result }
 {
     read(alloc, bytes)
 }

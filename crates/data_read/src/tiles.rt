@@ -3,15 +3,16 @@
 ghost use Rattle.std.specs.Prelude.{◌≡◌, ◌≤◌, ◌<◌, ◌-◌, length, drop, option_map, IfOk, OnOk};
 ghost use Rattle.csv.specs.Records.{fields_of};
 ghost use Rattle.data_read.specs.Draft.{opened};
-ghost use Rattle.data_read.specs.Growing.{draft_of, IsKeyed, Returns, ReturnsDraft};
+ghost use Rattle.data_read.specs.Growing.{draft_of, IsKeyed, ReturnsDraft};
+ghost use Rattle.ptg_base.specs.Returns.{Returns};
 ghost use Rattle.data_read.specs.Records.{first_value, column, numbers, free_index, new_tile, tile_record};
 
-use crate::field::{field, is_name, whole};
+use crate::field::{field, whole};
 use crate::growing::{Growing, GrowingColl};
 use crate::names::coll_index;
 use coll_data::{DataCode, tile_index};
 use csv::ByteRecord;
-use ptg_base::{OutOfMemory, Refusal, Text, Tile};
+use ptg_base::{OutOfMemory, Refusal, Text, Tile, is_name};
 use std::alloc::Global;
 
 // The number of the field with the first value of a tile.
@@ -41,7 +42,7 @@ fn opened_tile(
     row: &ByteRecord,
     first: usize,
 ) -> Result<Option<Tile>, OutOfMemory>
-    requires few { length (fields_of row.now) - first ≤ elements }
+    requires at_most { length (fields_of row.now) - first ≤ elements }
     requires within { first ≤ length (fields_of row.now) }
     ensures { IfOk result (λ tile. tile ≡ option_map (opened elements) (numbers (drop first (fields_of row.now)))) }
 {
@@ -80,7 +81,7 @@ fn new_tile(
     coll: &GrowingColl,
     row: &ByteRecord,
 ) -> Result<(usize, Tile), Refusal<DataCode>>
-    ensures tile { Returns result (new_tile (fields_of row.now) coll.now) }
+    ensures tile { Returns (λ tile. tile) result (new_tile (fields_of row.now) coll.now) }
     ensures within { IfOk result (λ tile. tile.0 < length coll.now.tiles) }
 {
     let cols = coll.shape.1;

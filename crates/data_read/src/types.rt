@@ -7,11 +7,11 @@ ghost use Rattle.data_read.specs.Draft.{type_among, type_named, with_type};
 ghost use Rattle.data_read.specs.Growing.{draft_of, IsKeyed, ReturnsDraft};
 ghost use Rattle.data_read.specs.Records.{type_record};
 
-use crate::field::{element_count, field, is_name};
+use crate::field::{element_count, field};
 use crate::growing::Growing;
 use coll_data::DataCode;
 use csv::ByteRecord;
-use ptg_base::{Refusal, Text};
+use ptg_base::{Refusal, Text, is_name};
 use std::alloc::Global;
 
 // The number and the elements of the type of this name among those past DEFAULT.
@@ -42,7 +42,7 @@ pub(crate) fn type_named(all: &Growing, name: &[u8]) -> Option<(u32, u32)>
 // The name and the elements of the type that the record adds.
 fn new_type<'a>(all: &Growing, row: &'a ByteRecord) -> Result<(&'a [u8], u32), DataCode>
     ensures step { MatchResult result (λ type. type_record (draft_of all.now) (fields_of row.now) ≡ Ok (with_type (draft_of all.now) type.0.now type.1)) (λ code. type_record (draft_of all.now) (fields_of row.now) ≡ Err code) }
-    ensures few { MatchResult result (λ type. length all.now.types ≤ 14) (λ code. Unit {0}) }
+    ensures at_most { MatchResult result (λ type. length all.now.types ≤ 14) (λ code. Unit {0}) }
 {
     if row.len() == 2 {
         return Err(DataCode::ElemsTwice);

@@ -20,7 +20,7 @@ use Rattle.body_names.specs.declared.scope.FlowName.{FlowName}
 use Rattle.body_names.specs.declared.variable.Variable.{Variable}
 use Rattle.body_names.specs.Meanings.{meaning_of, flow_named}
 use Rattle.body_names.specs.Expressions.{Resolved, value_of, slot_of, readable, writable, if_flow, flow_by, read_flow, written_flow, term_of}
-use Rattle.body_names.specs.Bindings.{Bindings, block_opened, with_variable, room_for, fresh_in}
+use Rattle.body_names.specs.Bindings.{Bindings, block_opened, with_variable, require_room, require_fresh}
 use Rattle.body_names.specs.Statements.{Resolver, declare, set, put, in_block, if_else, for_loop, trap, follow, resolved}
 use Rattle.body_names.proofs.Well.{both}
 use Rattle.flow_check.proofs.BodyParts.{Good, after_good, past, good_then}
@@ -119,7 +119,7 @@ module _ (scope : Environment) where
   IsBlock block = (k : Bindings) → Good AreAll (block k)
 
   declare_good : (w : Word) (e : Expression) (k : Bindings) → Good IsOne (declare scope w e k)
-  declare_good w e k = past IsOne (room_for w k) _ (λ _. past IsOne (fresh_in w k) _ (λ _. after_good Reads IsOne (term_of scope k.seen e) _ (reads k.seen e) (λ x h. h)))
+  declare_good w e k = past IsOne (require_room w k) _ (λ _. past IsOne (require_fresh w k) _ (λ _. after_good Reads IsOne (term_of scope k.seen e) _ (reads k.seen e) (λ x h. h)))
 
   set_good : (w : Word) (e : Expression) (k : Bindings) → Good IsOne (set scope w e k)
   set_good w e k = past IsOne (slot_of w (meaning_of scope k.seen w.text)) _ (λ n. after_good Reads IsOne (term_of scope k.seen e) _ (reads k.seen e) (λ x h. h))
@@ -143,7 +143,7 @@ module _ (scope : Environment) where
 
   counted_good : (w : Word) (lo hi : Expression) (turn : Resolver) → IsBlock turn → (k : Bindings) → Good IsOne (for_loop scope w lo hi turn k)
   counted_good w lo hi turn good k =
-      past IsOne (room_for w k) _
+      past IsOne (require_room w k) _
       (λ _. after_good Reads IsOne (term_of scope k.seen lo) _ (reads k.seen lo)
       (λ x h. after_good Reads IsOne (term_of scope k.seen hi) _ (reads k.seen hi)
       (λ y l. after_good AreAll IsOne (in_block (λ m. with_variable scope w.text true (block_opened m)) turn k) _ (inside_good (λ m. with_variable scope w.text true (block_opened m)) turn good k)

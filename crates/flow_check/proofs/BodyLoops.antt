@@ -17,7 +17,7 @@ use Rattle.body_names.specs.Environment.{Environment}
 use Rattle.body_names.specs.declared.variable.Variable.{Variable}
 use Rattle.body_names.specs.Meanings.{last_named, variable_or, local_named, local_or, integer_or, collection_or_nothing, meaning_of}
 use Rattle.body_names.specs.Expressions.{Resolved, slot_of, written_flow, term_of}
-use Rattle.body_names.specs.Bindings.{Bindings, block_opened, next_slot, with_variable, room_for, fresh_in, numbered}
+use Rattle.body_names.specs.Bindings.{Bindings, block_opened, next_slot, with_variable, require_room, require_fresh, numbered}
 use Rattle.body_names.specs.Statements.{Resolver, declare, set, put, in_block, if_else, for_loop, trap, follow, resolved}
 use Rattle.body_names.proofs.Well.{both}
 use Rattle.flow_check.proofs.BodyParts.{Good, after_good, past, good_both, all_append, all_take, all_map, all_last}
@@ -97,7 +97,7 @@ module _ (scope : Environment) where
 
     declare_never : (w : Word) (e : Expression) (k : Bindings) → IsFree k → Good NeverOne (declare scope w e k)
     declare_never w e k free =
-        past NeverOne (room_for w k) _ (λ _. past NeverOne (fresh_in w k) _ (λ _. past NeverOne (term_of scope k.seen e) _ (λ x. (other_slot (next_slot scope k) (next_other k free.0), declared_free k w.text false free))))
+        past NeverOne (require_room w k) _ (λ _. past NeverOne (require_fresh w k) _ (λ _. past NeverOne (term_of scope k.seen e) _ (λ x. (other_slot (next_slot scope k) (next_other k free.0), declared_free k w.text false free))))
 
     set_never : (w : Word) (e : Expression) (k : Bindings) → IsFree k → Good NeverOne (set scope w e k)
     set_never w e k free = after_good (λ n. n ≢ v) NeverOne (slot_of w (meaning_of scope k.seen w.text)) _ (slot_good w k.seen free.1) (λ n h. past NeverOne (term_of scope k.seen e) _ (λ x. (other_slot n h, free)))
@@ -117,7 +117,7 @@ module _ (scope : Environment) where
 
     counted_never : (w : Word) (lo hi : Expression) (turn : Resolver) → NeverBlock turn → (k : Bindings) → IsFree k → Good NeverOne (for_loop scope w lo hi turn k)
     counted_never w lo hi turn good k free =
-        past NeverOne (room_for w k) _
+        past NeverOne (require_room w k) _
         (λ _. past NeverOne (term_of scope k.seen lo) _
         (λ x. past NeverOne (term_of scope k.seen hi) _
         (λ y. after_good NeverAll NeverOne (in_block (λ m. with_variable scope w.text true (block_opened m)) turn k) _
@@ -190,7 +190,7 @@ module _ (scope : Environment) where
   KeepsBlock block = (k : Bindings) → AreBelow k → Good KeepsAll (block k)
 
   declare_keeps : (w : Word) (e : Expression) (k : Bindings) → AreBelow k → Good KeepsOne (declare scope w e k)
-  declare_keeps w e k h = past KeepsOne (room_for w k) _ (λ _. past KeepsOne (fresh_in w k) _ (λ _. past KeepsOne (term_of scope k.seen e) _ (λ x. (refl, declared_below k w.text false h))))
+  declare_keeps w e k h = past KeepsOne (require_room w k) _ (λ _. past KeepsOne (require_fresh w k) _ (λ _. past KeepsOne (term_of scope k.seen e) _ (λ x. (refl, declared_below k w.text false h))))
 
   set_keeps : (w : Word) (e : Expression) (k : Bindings) → AreBelow k → Good KeepsOne (set scope w e k)
   set_keeps w e k h = past KeepsOne (slot_of w (meaning_of scope k.seen w.text)) _ (λ n. past KeepsOne (term_of scope k.seen e) _ (λ x. (refl, h)))
@@ -221,7 +221,7 @@ module _ (scope : Environment) where
 
   counted_keeps : (w : Word) (lo hi : Expression) (turn : Resolver) → ((v : ℕ) → NeverBlock v turn) → KeepsBlock turn → (k : Bindings) → AreBelow k → Good KeepsOne (for_loop scope w lo hi turn k)
   counted_keeps w lo hi turn free good k h =
-      past KeepsOne (room_for w k) _
+      past KeepsOne (require_room w k) _
       (λ _. past KeepsOne (term_of scope k.seen lo) _
       (λ x. past KeepsOne (term_of scope k.seen hi) _
       (λ y. after_good (LoopAll (next_slot scope k)) KeepsOne (in_block (λ m. with_variable scope w.text true (block_opened m)) turn k) _ (turn_keeps w turn free good k h)

@@ -80,6 +80,6 @@ pub resolved : (job : Job) (r s : Result Plans (Refusal JdfFault)) (gs : List Jd
 resolved job r s gs h step e = go s (subst (λ l. ReturnsChecked {A = Plans} s (classes_plan job job.jdf.classes h.bodies) (classes_faults job job.jdf.classes h.bodies ++ l)) e (step (classes_plan job job.jdf.classes h.bodies) (classes_faults job job.jdf.classes h.bodies) h.checked))
   where
     go : (t : Result Plans (Refusal JdfFault)) → ReturnsChecked {A = Plans} t (classes_plan job job.jdf.classes h.bodies) (faults_of job h.bodies) → ReturnsResolved job t
-    go (Ok x) k = record { bodies = h.bodies; read = h.read; no_fault = k.1; meant = k.0 }
+    go (Ok x) k = record { bodies = h.bodies; read = h.read; no_fault = k.1; plans = k.0 }
     go (Err (Fault f)) k = record { bodies = h.bodies; read = h.read; first = k }
     go (Err OutOfMemory) k = tt

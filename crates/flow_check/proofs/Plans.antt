@@ -3,6 +3,8 @@ use Rattle.std.proofs.Common.{◌≡◌, ℕ, List, map, Result, Ok, Err, ◌⊎
 use Rattle.std.proofs.Props.{props}
 use Rattle.ptg_base.specs.declared.refusal.Refusal.{Refusal}
 use Rattle.ptg_base.specs.declared.refusal.Refusal.TheVariants.{Fault, OutOfMemory}
+use Rattle.ptg_base.specs.Returns.{FindsOrRefuses}
+use Rattle.std.specs.Prelude.{IfOk}
 use Rattle.term_core.specs.declared.space.ClassSpace.{ClassSpace}
 use Rattle.coll_data.specs.WellMade.{elements_by_type}
 use Rattle.plan_data.specs.Fit.{shape_of}
@@ -55,15 +57,23 @@ one_plan job p q h k =
 pub a_plan_has_no_fault : PlanHasNoFault
 a_plan_has_no_fault job p f h k = resolved_has_no_fault job p.classes p.spaces f h.resolved k
 
-pub only_plan : (job : Job) (r : Result Plan (Refusal JdfFault)) → ReturnsPlan job r → (p : Plan) → IsPlan job p → (r ≡ Ok p) ⊎ (r ≡ Err OutOfMemory)
+only_plan : (job : Job) (r : Result Plan (Refusal JdfFault)) → ReturnsPlan job r → (p : Plan) → IsPlan job p → (r ≡ Ok p) ⊎ (r ≡ Err OutOfMemory)
 only_plan job (Ok q) h p k = inl (ap (λ z. Ok z) (one_plan job q p h k))
 only_plan job (Err (Fault f)) h p k = absurd (a_plan_has_no_fault job p f k h)
 only_plan job (Err OutOfMemory) h p k = inr refl
 
-pub only_fault : (job : Job) (r : Result Plan (Refusal JdfFault)) → ReturnsPlan job r → (f : JdfFault) → IsFirstFault job f → (r ≡ Err (Fault f)) ⊎ (r ≡ Err OutOfMemory)
+only_fault : (job : Job) (r : Result Plan (Refusal JdfFault)) → ReturnsPlan job r → (f : JdfFault) → IsFirstFault job f → (r ≡ Err (Fault f)) ⊎ (r ≡ Err OutOfMemory)
 only_fault job (Ok p) h f k = absurd (a_plan_has_no_fault job p f h k)
 only_fault job (Err (Fault g)) h f k = inl (ap (λ z. Err (Fault z)) (one_first_fault job g f h k))
 only_fault job (Err OutOfMemory) h f k = inr refl
 
-pub is_fault : (job : Job) (r : Result Plan (Refusal JdfFault)) → ReturnsPlan job r → (f : JdfFault) → r ≡ Err (Fault f) → IsFirstFault job f
+is_fault : (job : Job) (r : Result Plan (Refusal JdfFault)) → ReturnsPlan job r → (f : JdfFault) → r ≡ Err (Fault f) → IsFirstFault job f
 is_fault job r h f e = subst (ReturnsPlan job) e h
+
+is_plan : (job : Job) (r : Result Plan (Refusal JdfFault)) → ReturnsPlan job r → IfOk r (IsPlan job)
+is_plan job (Ok p) h = h
+is_plan job (Err e) h = tt
+
+-- what the answer to a job is decides it
+pub plan_or_fault : (job : Job) (r : Result Plan (Refusal JdfFault)) → ReturnsPlan job r → FindsOrRefuses (IsPlan job) (IsFirstFault job) r
+plan_or_fault job r h = record { found = is_plan job r h; only = only_plan job r h; fault = is_fault job r h; refused = only_fault job r h }

@@ -16,7 +16,7 @@ use Rattle.check_flows.specs.Places.{element_faults, element_of}
 use Rattle.check_flows.specs.Dependences.{flow_faults, flow_plan}
 use Rattle.check_flows.proofs.Resolved.{element_there, flow_is_there}
 use Rattle.flow_check.specs.Bodies.{BodyResult, body_faults, body_of}
-use Rattle.flow_check.specs.Classes.{flows_of, flows_faults, head_of, head_faults, class_from, class_plan, class_faults}
+use Rattle.flow_check.specs.Classes.{flows_of, flows_faults, head_from, head_of, head_faults, class_from, class_plan, class_faults}
 use Rattle.flow_check.specs.Check.{ReadBodies, classes_faults, classes_plan, names_faults, faults_of, AreResolved}
 use Rattle.flow_check.specs.Laws.{HasPlanOrFault, EachHasPlanOrFault}
 use Rattle.flow_check.proofs.ClassesRead.{Plans, plan_first}
@@ -39,7 +39,7 @@ head_there job class h =
     let bad_element = element_faults job class.defs class.affinity class.affinity_args in
     let bad_flows = flows_faults job class.defs class.flows in
     let bad_priority = option_faults job class.defs class.priority in
-    both_there (λ x y. (x, y)) (both (λ x y. (x, y)) space element) (both (λ x y. (x, y)) flows priority) (bad_space ++ bad_element) (bad_flows ++ bad_priority)
+    both_there head_from (both (λ x y. (x, y)) space element) (both (λ x y. (x, y)) flows priority) (bad_space ++ bad_element) (bad_flows ++ bad_priority)
     (both_there (λ x y. (x, y)) space element bad_space bad_element (space_there job class.params class.defs) (element_there job class.defs class.affinity class.affinity_args))
     (both_there (λ x y. (x, y)) flows priority bad_flows bad_priority (flows_there job class.defs class.flows) (option_there job class.defs class.priority)) h
 
@@ -61,7 +61,7 @@ classes_there job (c ∷ classes) (b ∷ bodies) read h =
 resolved_there : (job : Job) (bodies : List BodyResult) → ReadBodies job job.jdf.classes bodies → faults_of job bodies ≡ [] → (x : Plans) × AreResolved job x.0 x.1
 resolved_there job bodies read h =
     let classes = some_value (classes_plan job job.jdf.classes bodies) (classes_there job job.jdf.classes bodies read (first_nil (classes_faults job job.jdf.classes bodies) (names_faults job) h)) in
-    (classes.0, record { bodies = bodies; read = read; no_fault = h; meant = classes.1 })
+    (classes.0, record { bodies = bodies; read = read; no_fault = h; plans = classes.1 })
 
 -- a job has a plan, or a first fault
 pub plan_or_first_fault : EachHasPlanOrFault

@@ -59,7 +59,7 @@ none_some x e = absurd cc
 
 -- the classes are resolved in one way
 pub same_classes : (job : Job) (x y : List ClassPlan × List ClassSpace) → AreResolved job x.0 x.1 → AreResolved job y.0 y.1 → x ≡ y
-same_classes job x y h k = some_once x y (sym h.meant ∙ (ap (classes_plan job job.jdf.classes) (one_list job job.jdf.classes h.bodies k.bodies h.read k.read) ∙ k.meant))
+same_classes job x y h k = some_once x y (sym h.plans ∙ (ap (classes_plan job job.jdf.classes) (one_list job job.jdf.classes h.bodies k.bodies h.read k.read) ∙ k.plans))
 
 pub one_first_fault : OneFirstFault
 one_first_fault job f g h k = some_once f g (sym h.first ∙ (ap (λ bs. first_fault (faults_of job bs)) (one_list job job.jdf.classes h.bodies k.bodies h.read k.read) ∙ k.first))

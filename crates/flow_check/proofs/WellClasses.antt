@@ -35,7 +35,7 @@ use Rattle.check_flows.specs.PartsOfJob.{HaveParts}
 use Rattle.check_flows.proofs.Elements.{element_exists}
 use Rattle.check_flows.proofs.WellFlows.{flow_is, flow_name, well_flow}
 use Rattle.flow_check.specs.Bodies.{BodyResult, ReadsAs, ReadsBody, body_faults, body_of}
-use Rattle.flow_check.specs.Classes.{flows_of, head_of, head_faults, class_from, class_plan, class_faults}
+use Rattle.flow_check.specs.Classes.{flows_of, head_from, head_of, head_faults, class_from, class_plan, class_faults}
 use Rattle.flow_check.proofs.BodyKinds.{kinds_of}
 use Rattle.flow_check.proofs.WellBodies.{fit_body, fit_words}
 
@@ -54,10 +54,10 @@ class_of job class b z e =
     let q = parts_of (class_from class) (head_of job class) (body_of b) z e in
     let place = both (λ x y. (x, y)) (space_of job class.params class.defs) (element_of job class.defs class.affinity class.affinity_args) in
     let rest = both (λ x y. (x, y)) (flows_of job class.defs class.flows) (option_term job class.defs class.priority) in
-    let halves = pair_parts place rest q.0 q.2 in
-    let first = pair_parts (space_of job class.params class.defs) (element_of job class.defs class.affinity class.affinity_args) q.0.0 halves.0 in
-    let second = pair_parts (flows_of job class.defs class.flows) (option_term job class.defs class.priority) q.0.1 halves.1 in
-    subst (λ (y : ClassPlan × ClassSpace). IsClassOf job class b y.0 y.1) q.4
+    let halves = parts_of head_from place rest q.0 q.2 in
+    let first = pair_parts (space_of job class.params class.defs) (element_of job class.defs class.affinity class.affinity_args) halves.0 halves.2 in
+    let second = pair_parts (flows_of job class.defs class.flows) (option_term job class.defs class.priority) halves.1 halves.3 in
+    subst (λ (y : ClassPlan × ClassSpace). IsClassOf job class b y.0 y.1) (ap (λ h. class_from class h q.1) halves.4 ∙ q.4)
     (record { space = first.0; affinity = first.1; flows = second.0; priority = second.1; body = q.3; name = refl })
 
 -- as many definitions and parameters as in the text

@@ -111,7 +111,7 @@ module _ (job : Job) (classes : List ClassPlan) (spaces : List ClassSpace) (reso
   no_class_fault = first_nil (classes_faults job job.jdf.classes resolved.bodies) (names_faults job) resolved.no_fault
 
   at : (n : ℕ) (class : ClassTree) → slice_get job.jdf.classes n ≡ Some class → IsClassAt job class (classes, spaces) n
-  at n class e = class_at job job.jdf.classes resolved.bodies (classes, spaces) n class resolved.read no_class_fault resolved.meant e
+  at n class e = class_at job job.jdf.classes resolved.bodies (classes, spaces) n class resolved.read no_class_fault resolved.plans e
 
   have_parts : HaveParts job classes spaces (map shape_of job.given.colls)
   have_parts =
@@ -127,7 +127,7 @@ module _ (job : Job) (classes : List ClassPlan) (spaces : List ClassSpace) (reso
       }
 
   counts : (length classes ≡ length job.jdf.classes) × (length spaces ≡ length job.jdf.classes)
-  counts = plans_length job job.jdf.classes resolved.bodies (classes, spaces) resolved.read resolved.meant
+  counts = plans_length job job.jdf.classes resolved.bodies (classes, spaces) resolved.read resolved.plans
 
   fits : AllByRecursion IsClassWithinLimits job.jdf.classes → (n : ℕ) (c : ClassPlan) (s : ClassSpace) → slice_get classes n ≡ Some c → slice_get spaces n ≡ Some s
       → IsWellClass classes spaces (map shape_of job.given.colls) (suc (length job.given.types)) s c
@@ -155,7 +155,7 @@ module _ (job : Job) (classes : List ClassPlan) (spaces : List ClassSpace) (reso
         classes_at_most = omega (arith, same, few);
         one_space_each = other ∙ sym same;
         class_names =
-            subst (λ l. IsTrue (are_distinct l)) (sym (plans_names job job.jdf.classes resolved.bodies (classes, spaces) resolved.read resolved.meant))
+            subst (λ l. IsTrue (are_distinct l)) (sym (plans_names job job.jdf.classes resolved.bodies (classes, spaces) resolved.read resolved.plans))
             (distinct_names (λ (c : ClassTree). c.name) NameTwice job.jdf.classes (rest_nil globals names (rest_nil (classes_faults job job.jdf.classes resolved.bodies) (names_faults job) resolved.no_fault)));
         fit = λ n c s e f. subst (λ k. IsWellClass classes spaces (map shape_of job.given.colls) (suc k) s c) (sym types) (fits within.classes n c s e f);
         shapes = shapes_well (elements_by_type job.given) job.given.colls data_well.colls;

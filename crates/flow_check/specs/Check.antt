@@ -56,7 +56,7 @@ pub record AreResolved (job : Job) (classes : List ClassPlan) (spaces : List Cla
   pub bodies : List BodyResult
   pub read : ReadBodies job job.jdf.classes bodies
   pub no_fault : faults_of job bodies ≡ []
-  pub meant : classes_plan job job.jdf.classes bodies ≡ Some (classes, spaces)
+  pub plans : classes_plan job job.jdf.classes bodies ≡ Some (classes, spaces)
 
 -- The first fault of a JDF with its data.
 pub record IsFirstFault (job : Job) (f : JdfFault) : Type 0 where

@@ -13,6 +13,7 @@ use Rattle.check_names.specs.Expressions.{option_faults, option_term}
 use Rattle.check_names.specs.Definitions.{space_of, space_faults}
 use Rattle.check_flows.specs.Places.{element_faults, element_of}
 use Rattle.check_flows.specs.Dependences.{flow_faults, flow_plan}
+use Rattle.flow_check.specs.declared.head.Head.{Head}
 use Rattle.flow_check.specs.Bodies.{BodyResult, body_faults, body_of}
 
 -- the flows of a class, and all their faults
@@ -22,13 +23,13 @@ flows_of job seen flows = each (flow_plan job seen) flows
 abbrev pub flows_faults : Job → List DefTree → List FlowTree → List JdfFault
 flows_faults job seen flows = flat_map (flow_faults job seen) flows ++ repeats (λ (f : FlowTree). f.name) NameTwice flows
 
--- the parts of a class outside of its body: its space and its affinity, its flows and its priority
-abbrev pub Head : Type 0
-Head = (ClassSpace × (ℕ × List Term)) × (List FlowPlan × Option Term)
+-- the parts of a class outside of its body, from its space and its affinity, and from its flows and its priority
+abbrev pub head_from : ClassSpace × (ℕ × List Term) → List FlowPlan × Option Term → Head
+head_from place rest = record { space = place.0; affinity = place.1; flows = rest.0; priority = rest.1 }
 
 abbrev pub head_of : Job → ClassTree → Option Head
 head_of job class =
-    both (λ x y. (x, y)) (both (λ x y. (x, y)) (space_of job class.params class.defs) (element_of job class.defs class.affinity class.affinity_args))
+    both head_from (both (λ x y. (x, y)) (space_of job class.params class.defs) (element_of job class.defs class.affinity class.affinity_args))
     (both (λ x y. (x, y)) (flows_of job class.defs class.flows) (option_term job class.defs class.priority))
 
 -- all their faults
@@ -39,7 +40,7 @@ head_faults job class =
 
 -- the class of its parts
 abbrev pub class_from : ClassTree → Head → Body × List (List ℕ) → ClassPlan × ClassSpace
-class_from class x b = (record { name = class.name.text; affinity = x.0.1; flows = x.1.0; priority = x.1.1; body = b.0; trap_words = b.1 }, x.0.0)
+class_from class head b = (record { name = class.name.text; affinity = head.affinity; flows = head.flows; priority = head.priority; body = b.0; trap_words = b.1 }, head.space)
 
 -- a class and its space with all names resolved, whose body was read so
 abbrev pub class_plan : Job → ClassTree → BodyResult → Option (ClassPlan × ClassSpace)

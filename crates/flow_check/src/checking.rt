@@ -1,13 +1,11 @@
 //! The type check: the plan of a JDF with its data, or its first fault.
 
-ghost use Rattle.std.specs.Prelude.{◌≡◌, Ok, Err, IfOk, ◌⊎◌};
-ghost use Rattle.ptg_base.specs.declared.refusal.Refusal.TheVariants.{Fault, OutOfMemory};
-ghost use Rattle.jdf_lex.specs.declared.fault.JdfFault.{JdfFault};
+ghost use Rattle.std.specs.Prelude.{IfOk};
 ghost use Rattle.jdf_tree.specs.TreeLimits.{IsWithinLimits};
 ghost use Rattle.coll_data.specs.WellMade as data_made;
 ghost use Rattle.plan_data.specs.Fit.{DataFit};
-ghost use Rattle.plan_core.specs.declared.plan.Plan.{Plan};
 ghost use Rattle.check_names.specs.Contexts.{AreGlobals};
+ghost use Rattle.ptg_base.specs.Returns.{FindsOrRefuses};
 ghost use Rattle.flow_check.specs.Check.{IsFirstFault};
 ghost use Rattle.flow_check.specs.Plans.{IsPlan, ReturnsPlan};
 
@@ -52,14 +50,8 @@ fn answer(alloc: Global, jdf: &Jdf, given: &Given, globals: &Globals) -> Result<
 pub fn check(alloc: Global, jdf: &Jdf, given: &Given, globals: &Globals) -> Result<Plan, JdfRefusal>
     requires limits { IsWithinLimits jdf.now }
     requires globals { AreGlobals (record { jdf = jdf.now; given = given.now }) globals.now }
-    // What is found breaks no rule, and each name has its meaning.
-    ensures found { IfOk result (λ plan. IsPlan (record { jdf = jdf.now; given = given.now }) plan) }
-    // A plan of the JDF is found, unless memory runs out.
-    ensures only { (plan : Plan) → IsPlan (record { jdf = jdf.now; given = given.now }) plan → (result ≡ Ok plan) ⊎ (result ≡ Err OutOfMemory) }
-    // A fault that is answered is the first one.
-    ensures fault { (f : JdfFault) → result ≡ Err (Fault f) → IsFirstFault (record { jdf = jdf.now; given = given.now }) f }
-    // The first fault is answered, unless memory runs out.
-    ensures refused { (f : JdfFault) → IsFirstFault (record { jdf = jdf.now; given = given.now }) f → (result ≡ Err (Fault f)) ⊎ (result ≡ Err OutOfMemory) }
+    // What is found breaks no rule, and each name has its meaning; the fault is the first one.
+    ensures exact { FindsOrRefuses (IsPlan (record { jdf = jdf.now; given = given.now })) (IsFirstFault (record { jdf = jdf.now; given = given.now })) result }
     // The data fit the plan.
     ensures fit { IfOk result (λ plan. DataFit plan.colls plan.elems given.now) }
 {

@@ -3,7 +3,7 @@
 ghost use Rattle.std.specs.Prelude.{◌≡◌, IfOk};
 ghost use Rattle.body_names.specs.Environment.{environment_of};
 ghost use Rattle.check_names.specs.Contexts.{IsContext, job_of};
-ghost use Rattle.check_names.specs.Limits.{IsShortClass};
+ghost use Rattle.check_names.specs.Limits.{IsBoundedClass};
 ghost use Rattle.check_names.specs.Returns.{ReturnsChecked};
 ghost use Rattle.plan_core.specs.declared.class.ClassPlan.{ClassPlan};
 ghost use Rattle.term_core.specs.declared.space.ClassSpace.{ClassSpace};
@@ -49,16 +49,15 @@ fn class_from(
 ) -> Result<(ClassPlan, ClassSpace), OutOfMemory>
     ensures { IfOk result (λ x. x ≡ class_from class.now head body) }
 {
-    let ((space, affinity), (flows, priority)) = head;
     let plan = ClassPlan {
         name: Text::of(alloc, class.name.text.bytes())?,
-        affinity,
-        flows,
-        priority,
+        affinity: head.affinity,
+        flows: head.flows,
+        priority: head.priority,
         body: body.0,
         trap_words: body.1,
     };
-    Ok((plan, space))
+    Ok((plan, head.space))
 }
 
 // A class with all names resolved, and its space. All of its definitions are seen.
@@ -69,7 +68,7 @@ fn class(
 ) -> Result<(ClassPlan, ClassSpace), JdfRefusal>
     requires context { IsContext context.now }
     requires seen { context.now.seen.now ≡ class.now.defs }
-    requires short { IsShortClass class.now }
+    requires bounded { IsBoundedClass class.now }
     ensures { ReturnsChecked {A = ClassPlan × ClassSpace} result (class_plan (job_of context.now) class.now body) (class_faults (job_of context.now) class.now body) }
 {
     let head = head(context, class);
@@ -85,7 +84,7 @@ fn class(
 /// A class with all names resolved, and its space: its body, and then all that is outside of it.
 pub(crate) fn class_read(context: &Context, one: &ClassTree) -> Result<ClassResult, OutOfMemory>
     requires context { IsContext context.now }
-    requires short { IsShortClass one.now }
+    requires bounded { IsBoundedClass one.now }
     ensures { IfOk result (λ r. IsClassRead (job_of context.now) one.now r) }
 {
     let scope = scope_of(context, one)?;

@@ -2,10 +2,10 @@
 
 ghost use Rattle.std.specs.Prelude.{◌≡◌};
 ghost use Rattle.check_names.specs.Contexts.{IsContext, job_of};
-ghost use Rattle.check_names.specs.Limits.{IsShortClass};
+ghost use Rattle.check_names.specs.Limits.{IsBoundedClass};
 ghost use Rattle.check_names.specs.Returns.{ReturnsChecked};
 ghost use Rattle.check_flows.specs.Dependences.{flow_faults};
-ghost use Rattle.flow_check.specs.Classes.{Head, flows_of, flows_faults, head_of, head_faults};
+ghost use Rattle.flow_check.specs.Classes.{flows_of, flows_faults, head_from, head_of, head_faults};
 ghost use Rattle.std.specs.Prelude.{flat_map};
 
 use check_flows::{element, flow};
@@ -16,11 +16,26 @@ use plan_core::FlowPlan;
 use ptg_base::Seq;
 use term_core::{ClassSpace, Expr};
 
-/// The parts of a class outside of its body: its space and its affinity, its flows and its priority.
-pub(crate) type Head = (
-    (ClassSpace, (u32, Seq<Expr>)),
-    (Seq<FlowPlan>, Option<Expr>),
-);
+/// The parts of a class outside of its body.
+#[derive(Drop)]
+pub(crate) struct Head {
+    pub(crate) space: ClassSpace,
+    /// The collection of the affinity, and its indices.
+    pub(crate) affinity: (u32, Seq<Expr>),
+    pub(crate) flows: Seq<FlowPlan>,
+    pub(crate) priority: Option<Expr>,
+}
+
+fn head_from(place: (ClassSpace, (u32, Seq<Expr>)), rest: (Seq<FlowPlan>, Option<Expr>)) -> Head
+    ensures { result ≡ head_from place rest }
+{
+    Head {
+        space: place.0,
+        affinity: place.1,
+        flows: rest.0,
+        priority: rest.1,
+    }
+}
 
 // The flows of a class, one by one.
 fn each_flow(context: &Context, flows: &[FlowTree]) -> Result<Seq<FlowPlan>, JdfRefusal>
@@ -49,7 +64,7 @@ fn flows(context: &Context, flows: &[FlowTree]) -> Result<Seq<FlowPlan>, JdfRefu
 pub(crate) fn head(context: &Context, class: &ClassTree) -> Result<Head, JdfRefusal>
     requires context { IsContext context.now }
     requires seen { context.now.seen.now ≡ class.now.defs }
-    requires short { IsShortClass class.now }
+    requires bounded { IsBoundedClass class.now }
     ensures { ReturnsChecked {A = Head} result (head_of (job_of context.now) class.now) (head_faults (job_of context.now) class.now) }
 {
     let place = join(
@@ -60,5 +75,8 @@ pub(crate) fn head(context: &Context, class: &ClassTree) -> Result<Head, JdfRefu
         flows(context, class.flows.as_slice()),
         option_term(context, &class.priority),
     );
-    join(place, rest)
+    match join(place, rest) {
+        Ok((place, rest)) => Ok(head_from(place, rest)),
+        Err(refusal) => Err(refusal),
+    }
 }

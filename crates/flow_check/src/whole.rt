@@ -6,7 +6,7 @@ ghost use Rattle.jdf_lex.specs.declared.fault.JdfFault.{JdfFault};
 ghost use Rattle.plan_core.specs.declared.class.ClassPlan.{ClassPlan};
 ghost use Rattle.term_core.specs.declared.space.ClassSpace.{ClassSpace};
 ghost use Rattle.check_names.specs.Contexts.{IsContext, job_of};
-ghost use Rattle.check_names.specs.Limits.{IsShortClass};
+ghost use Rattle.check_names.specs.Limits.{IsBoundedClass};
 ghost use Rattle.check_names.specs.Returns.{ReturnsChecked, both};
 ghost use Rattle.jdf_tree.specs.declared.expression.Word.{Word};
 ghost use Rattle.jdf_tree.specs.declared.tree.ClassTree.{ClassTree};
@@ -60,7 +60,7 @@ fn and_class(
     one: &ClassTree,
 ) -> Result<ClassesResult, OutOfMemory>
     requires context { IsContext context.now }
-    requires short { IsShortClass one.now }
+    requires bounded { IsBoundedClass one.now }
     ensures { IfOk result (λ r. (classes : List ClassTree) → AreRead (job_of context.now) classes results → AreRead (job_of context.now) (classes ++ one.now ∷ []) r) }
 {
     let read = class_read(context, one)?;
@@ -70,7 +70,7 @@ fn and_class(
 // Some classes with all names resolved, and their spaces.
 fn read_classes(context: &Context, classes: &[ClassTree]) -> Result<ClassesResult, OutOfMemory>
     requires context { IsContext context.now }
-    requires short { AllByRecursion IsShortClass classes.now }
+    requires bounded { AllByRecursion IsBoundedClass classes.now }
     ensures { IfOk result (λ r. AreRead (job_of context.now) classes.now r) }
 {
     let mut results = Ok((Seq::new(context.alloc), Seq::new(context.alloc)));

@@ -6,15 +6,8 @@ use Rattle.std.specs.List.{list_any, list_all, starts_with}
 use Rattle.jdf_lex.specs.declared.lexical_unit.LexicalUnit.{LexicalUnit}
 use Rattle.jdf_lex.specs.declared.lexical_unit.LexicalUnit.TheVariants.{Blank, LineComment, BlockComment, TokenOf}
 pub use Rattle.ptg_base.specs.Decimal.{is_digit}
+pub use Rattle.ptg_base.specs.Names.{is_letter, is_part}
 use Rattle.jdf_alphabet.specs.declared.kind.TokenKind.TheVariants.{Name, Number, Quoted, Raw, OptionLine, Mark, Other}
-
--- `A` to `Z`, `a` to `z` or `_`
-abbrev pub is_letter : ℕ → Bool
-is_letter b = (nat_le 65 b && nat_le b 90) || ((nat_le 97 b && nat_le b 122) || (b == 95))
-
--- A byte that may follow the first byte of a name or a number.
-abbrev pub is_part : ℕ → Bool
-is_part b = is_letter b || is_digit b
 
 -- a space, a tab, CR or LF
 abbrev pub is_blank : ℕ → Bool

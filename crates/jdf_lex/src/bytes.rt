@@ -1,28 +1,14 @@
 //! Classes of bytes, and marks.
 
 ghost use Rattle.std.specs.Prelude.{◌≡◌, [], ◌∷◌};
-ghost use Rattle.jdf_lex.specs.Spelling.{is_letter, is_digit, is_part, is_blank, is_not_lf, continues_character, is_mark};
+ghost use Rattle.jdf_lex.specs.Spelling.{is_digit, is_blank, is_not_lf, continues_character, is_mark};
 ghost use Rattle.jdf_lex.specs.Reading.{mark_len};
-
-/// Whether the byte is a letter or `_`.
-pub fn is_letter(b: u8) -> bool
-    ensures { result ≡ is_letter b }
-{
-    b.is_ascii_alphabetic() || b == b'_'
-}
 
 /// Whether the byte is a decimal digit.
 pub fn is_digit(b: u8) -> bool
     ensures { result ≡ is_digit b }
 {
     b.is_ascii_digit()
-}
-
-/// Whether the byte may follow the first byte of a name or a number.
-pub fn is_part(b: u8) -> bool
-    ensures { result ≡ is_part b }
-{
-    is_letter(b) || is_digit(b)
 }
 
 /// Whether the byte is a space, a tab, CR or LF.

@@ -5,10 +5,11 @@ ghost use Rattle.std.specs.List.{prefix_len};
 ghost use Rattle.jdf_lex.specs.Spelling.{continues, ends_unit, affects_next};
 ghost use Rattle.jdf_lex.specs.Reading.{closed_len, add_length, unit_len, front_unit};
 
-use crate::bytes::{continues_character, is_not_lf, is_part, mark_len};
+use crate::bytes::{continues_character, is_not_lf, mark_len};
 use crate::lexical_unit::LexicalUnit;
 use crate::opening::unit_at;
 use jdf_alphabet::TokenKind;
+use ptg_base::is_part;
 
 // Whether the byte continues a unit that has no closing mark.
 fn continues(unit: LexicalUnit, b: u8) -> bool

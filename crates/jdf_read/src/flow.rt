@@ -13,12 +13,9 @@ use grammar_core::{Code, ReadRefusal, refusal_at};
 use jdf_alphabet::{GrammarCode, Terminal};
 use jdf_lex::Token;
 use jdf_tree::{FlowTree, Part};
-use ptg_base::Seq;
+use ptg_base::{MOST_FLOWS, Seq};
 use std::alloc::Global;
 use term_core::FlowKind;
-
-// How many flows a class may have.
-const MOST_FLOWS: usize = 8;
 
 fn kind_by(terminal: Terminal) -> Option<FlowKind>
     ensures { MatchOption result (is_kind terminal ≡ false) (λ kind. (is_kind terminal ≡ true) × (kind ≡ kind_by terminal)) }

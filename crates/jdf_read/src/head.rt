@@ -18,14 +18,11 @@ use grammar_core::{ReadFault, ReadRefusal, refusal_at};
 use jdf_alphabet::{GrammarCode, Terminal, expect, is_next};
 use jdf_lex::Token;
 use jdf_tree::{ArgTree, DefTree, Part, Word};
-use ptg_base::Seq;
+use ptg_base::{MOST_LOCALS, Seq};
 use std::alloc::Global;
 
 // How many tokens eight parameters are, with the comma after each.
 const MOST_PARAMETER_TOKENS: usize = 16;
-
-// How many definitions a class may have.
-const MOST_DEFINITIONS: usize = 16;
 
 // `"," name`
 #[tactic(auto, unfolding(crate::specs::Next::next_parameter))]
@@ -164,7 +161,7 @@ pub(crate) fn definitions(
     let mut list = Seq::new(alloc);
     let mut rest = tokens;
     'more: while is_name_next(Part::Class, rest) {
-        if list.len() == MOST_DEFINITIONS {
+        if list.len() == MOST_LOCALS {
             return Err(refusal_at(rest, GrammarCode::TooManyLocals.code()));
         }
         let (next, after) = definition(alloc, rest)?;

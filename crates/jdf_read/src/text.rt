@@ -8,6 +8,7 @@ ghost use Rattle.ptg_base.specs.declared.refusal.Refusal.TheVariants.{Fault, Out
 ghost use Rattle.grammar_core.specs.declared.token.Token.{Token};
 ghost use Rattle.jdf_lex.specs.Tokens.{spot_after};
 ghost use Rattle.grammar_core.specs.Returns.{Returns};
+ghost use Rattle.ptg_base.specs.Returns.{FindsOrRefuses};
 ghost use Rattle.grammar_core.specs.Reading.{whole};
 ghost use Rattle.jdf_tree.specs.declared.tree.Jdf.{Jdf};
 ghost use Rattle.jdf_tree.specs.Grammar.{productions, file};
@@ -18,10 +19,8 @@ use crate::opening::opening;
 use grammar_core::{Code, ReadRefusal, refusal_at};
 use jdf_lex::{JdfCode, JdfFault, JdfRefusal, Lexed, Spot, Token, tokens};
 use jdf_tree::{Jdf, code_at_token};
+use ptg_base::MOST_BYTES;
 use std::alloc::Global;
-
-// How many bytes a text may have.
-const MOST_BYTES: usize = 16777216;
 
 // Reads all of the tokens as one text.
 fn whole(alloc: Global, tokens: &[Token]) -> Result<Jdf, ReadRefusal>
@@ -117,14 +116,7 @@ fn read_bytes(alloc: Global, bytes: &[u8]) -> Result<Jdf, JdfRefusal>
 
 /// The tree of a JDF text, or its first fault.
 pub fn read(alloc: Global, bytes: &[u8]) -> Result<Jdf, JdfRefusal>
-    // What is read is the tree of the text.
-    ensures found { IfOk result (λ jdf. IsJdf bytes.now jdf) }
-    // A text that has a tree is read, unless memory runs out.
-    ensures only { (jdf : Jdf) → IsJdf bytes.now jdf → (result ≡ Ok jdf) ⊎ (result ≡ Err OutOfMemory) }
-    // A fault in the result is the first one of the text.
-    ensures fault { (f : JdfFault) → result ≡ Err (Fault f) → IsJdfFault bytes.now f }
-    // If the text has a first fault, that is the result, unless memory runs out.
-    ensures refused { (f : JdfFault) → IsJdfFault bytes.now f → (result ≡ Err (Fault f)) ⊎ (result ≡ Err OutOfMemory) }
+    ensures exact { FindsOrRefuses (IsJdf bytes.now) (IsJdfFault bytes.now) result }
 {
     read_bytes(alloc, bytes)
 }

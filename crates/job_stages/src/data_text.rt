@@ -1,15 +1,13 @@
 //! The text of a data file.
 
-ghost use Rattle.std.specs.Prelude.{◌≡◌, ◌⊎◌, Ok, Err, IfOk};
-ghost use Rattle.ptg_base.specs.declared.refusal.Refusal.TheVariants as refusal;
-ghost use Rattle.coll_data.specs.Data.{Data};
-ghost use Rattle.coll_data.specs.declared.fault.DataFault.{DataFault};
+ghost use Rattle.std.specs.Prelude.{◌≡◌, IfOk};
+ghost use Rattle.ptg_base.specs.Returns.{FindsOrRefuses};
 ghost use Rattle.job_stages.specs.DataText.{IsData, IsDataFault, too_long};
 ghost use Rattle.job_stages.specs.Verdict.{missing_name};
 
 use coll_data::{DataCode, DataFault, DataRefusal, Given};
 use data_read::read_data;
-use ptg_base::OutOfMemory;
+use ptg_base::{MOST_BYTES, OutOfMemory};
 use std::alloc::Global;
 
 /// The fault of a data file that was not read to its end, since it has more than 16 MiB.
@@ -24,16 +22,9 @@ pub fn data_too_long() -> DataFault
 
 /// The data that a text of any length spells, or its first fault.
 pub fn given_of(alloc: Global, text: &[u8]) -> Result<Given, DataRefusal>
-    // What is found the text spells.
-    ensures found { IfOk result (IsData text.now) }
-    // What the text spells is found, unless memory runs out.
-    ensures only { (given : Data) → IsData text.now given → (result ≡ Ok given) ⊎ (result ≡ Err refusal.OutOfMemory) }
-    // The fault that is named is the first one of the text.
-    ensures fault { (f : DataFault) → result ≡ Err (refusal.Fault f) → IsDataFault text.now f }
-    // A text with a fault is refused with its first one, unless memory runs out.
-    ensures refused { (f : DataFault) → IsDataFault text.now f → (result ≡ Err (refusal.Fault f)) ⊎ (result ≡ Err refusal.OutOfMemory) }
+    ensures exact { FindsOrRefuses (IsData text.now) (IsDataFault text.now) result }
 {
-    if text.len() > 16_777_216 {
+    if text.len() > MOST_BYTES {
         return Err(DataRefusal::Fault(data_too_long()));
     }
     read_data(alloc, text)

@@ -1,6 +1,7 @@
 -- Data that fit a plan have its places.
-use Rattle.std.proofs.Common.{ℕ, zero, suc, ◌↔◌, List, [], ◌∷◌, map, Option, Some, None, IsSomeAnd, slice_get, ℤ, subst}
+use Rattle.std.proofs.Common.{ℕ, zero, suc, ◌↔◌, List, [], ◌∷◌, map, IsSomeAnd, slice_get, ℤ, subst}
 use Rattle.ptg_base.specs.declared.place.Place.{Place}
+use Rattle.ptg_base.specs.Places.{IsRow, IsColumn}
 use Rattle.plan_core.specs.declared.shape.Shape.{Shape}
 use Rattle.plan_core.specs.Place as plan
 use Rattle.coll_data.specs.declared.coll.Coll.{Coll}
@@ -8,28 +9,11 @@ use Rattle.coll_data.specs.Data.{Data}
 use Rattle.coll_data.specs.Tiles as tiles
 use Rattle.plan_data.specs.Fit.{shape_of, DataFit}
 
-rows_to : (rows : ℕ) (i : ℤ) → plan.IsRow rows i → tiles.IsRow rows i
-rows_to rows i w = (w.0, w.1)
-
-rows_from : (rows : ℕ) (i : ℤ) → tiles.IsRow rows i → plan.IsRow rows i
-rows_from rows i w = (w.0, w.1)
-
-columns_to : (cols : Option ℕ) (j : ℤ) → plan.IsColumn cols j → tiles.IsColumn cols j
-columns_to None j w = w
-columns_to (Some cols) j w = (w.0, w.1)
-
-columns_from : (cols : Option ℕ) (j : ℤ) → tiles.IsColumn cols j → plan.IsColumn cols j
-columns_from None j w = w
-columns_from (Some cols) j w = (w.0, w.1)
-
 -- at one collection of the list, whose number is n
-at_places : (cs : List Coll) (n : ℕ) (i j : ℤ) → IsSomeAnd (slice_get (map shape_of cs) n) (λ (s : Shape). plan.IsRow s.rows i × plan.IsColumn s.cols j) ↔ IsSomeAnd (slice_get cs n) (λ (c : Coll). tiles.IsRow c.shape.0 i × tiles.IsColumn c.shape.1 j)
+at_places : (cs : List Coll) (n : ℕ) (i j : ℤ) → IsSomeAnd (slice_get (map shape_of cs) n) (λ (s : Shape). IsRow s.rows i × IsColumn s.cols j) ↔ IsSomeAnd (slice_get cs n) (λ (c : Coll). IsRow c.shape.0 i × IsColumn c.shape.1 j)
 at_places [] zero i j = (λ w. w, λ w. w)
 at_places [] (suc n) i j = (λ w. w, λ w. w)
-at_places (c ∷ cs) zero i j = (
-  λ w. (rows_to c.shape.0 i w.0, columns_to c.shape.1 j w.1),
-  λ w. (rows_from c.shape.0 i w.0, columns_from c.shape.1 j w.1),
-)
+at_places (c ∷ cs) zero i j = (λ w. w, λ w. w)
 at_places (c ∷ cs) (suc n) i j = at_places cs n i j
 
 pub same_places : (colls : List Shape) (elems : List ℕ) (d : Data) (p : Place) → DataFit colls elems d → plan.HasPlace colls p ↔ tiles.HasPlace d.colls p

@@ -2,6 +2,9 @@ pub mod Decimal
 pub mod Line
 pub mod Task
 pub mod Lists
+pub mod Names
+pub mod Places
+pub mod Returns
 pub mod TaskOrder
 pub mod TaskComparing
 pub mod TaskLaws

@@ -7,14 +7,11 @@ ghost use Rattle.ptg_io.specs.Load.{FailsWithin, IsReadSoFar, StopsPast};
 ghost use Rattle.ptg_io.specs.declared.loading.LoadFault.TheVariants.{Failed, OutOfMemory};
 
 use crate::files::{self, Files};
-use ptg_base::Seq;
+use ptg_base::{MOST_BYTES, Seq};
 use std::alloc::{AllocError, AllocFailed, Global};
 
 // How many bytes are asked for at once.
 const PIECE: usize = 65536;
-
-// How many bytes a file may have.
-const LIMIT: usize = 16777216;
 
 /// Why a file was not loaded.
 #[derive(Clone, Copy, Debug, PartialEq, Eq)]
@@ -151,7 +148,7 @@ fn read_piece<F: Files>(
     if n == 0 {
         return Ok(false);
     }
-    if n > LIMIT - bytes.len() {
+    if n > MOST_BYTES - bytes.len() {
         return Err(LoadFault::TooLong);
     }
     bytes.extend_from_slice(&piece[..n])?;

@@ -58,14 +58,14 @@ all_or_any (w ∷ ws) = go (proper_or_not w) (all_or_any ws)
 -- ---- the command of parts that keep the rules
 
 all_formed : (v : Verb) (ops : List (List ℕ)) (ps : List Part) → length ops ≡ operand_count v → (order : Order) × (formed v ops ps ≡ Some order)
-all_formed words.run (jdf ∷ tiles ∷ []) ps n = (_, refl)
+all_formed words.run (jdf ∷ data_name ∷ []) ps n = (_, refl)
 all_formed words.show (jdf ∷ []) ps n = (_, refl)
-all_formed words.check (jdf ∷ tiles ∷ []) ps n = (_, refl)
+all_formed words.check (jdf ∷ data_name ∷ []) ps n = (_, refl)
 all_formed words.demo (rows ∷ []) ps n = (_, refl)
-all_formed words.trace (jdf ∷ tiles ∷ []) ps n = (_, refl)
-all_formed words.replay (jdf ∷ tiles ∷ list ∷ []) ps n = (_, refl)
-all_formed words.certify (jdf ∷ tiles ∷ []) ps n = (_, refl)
-all_formed words.ranks (jdf ∷ tiles ∷ count ∷ seed ∷ []) ps n = (_, refl)
+all_formed words.trace (jdf ∷ data_name ∷ []) ps n = (_, refl)
+all_formed words.replay (jdf ∷ data_name ∷ list ∷ []) ps n = (_, refl)
+all_formed words.certify (jdf ∷ data_name ∷ []) ps n = (_, refl)
+all_formed words.ranks (jdf ∷ data_name ∷ count ∷ seed ∷ []) ps n = (_, refl)
 all_formed v ops ps n = absurd (omega (arith, n))
 
 by_rules : (ws : List (List ℕ)) (v : Verb) (ps : List Part) → read ws ≡ Some (v, ps) → All IsProper ws → (a b : Bool) → is_read (operand_count v) ps ≡ a → has_bad_number v ps ≡ b

@@ -52,14 +52,14 @@ of_order P x o e h = subst (OnOrder P) e h
 
 named_texts : (v : Verb) (ops : List (List ℕ)) (ps : List Part) → AreText ops → OnOrder (λ o. AreText (files_of o)) (formed v ops ps)
 unfolding OnOrder
-named_texts words.run (jdf ∷ tiles ∷ []) ps t = t
+named_texts words.run (jdf ∷ data_name ∷ []) ps t = t
 named_texts words.show (jdf ∷ []) ps t = t
-named_texts words.check (jdf ∷ tiles ∷ []) ps t = t
+named_texts words.check (jdf ∷ data_name ∷ []) ps t = t
 named_texts words.demo (rows ∷ []) ps t = tt
-named_texts words.trace (jdf ∷ tiles ∷ []) ps t = t
-named_texts words.replay (jdf ∷ tiles ∷ list ∷ []) ps t = t
-named_texts words.certify (jdf ∷ tiles ∷ []) ps t = t
-named_texts words.ranks (jdf ∷ tiles ∷ count ∷ seed ∷ []) ps t = (t.0, (t.1.0, tt))
+named_texts words.trace (jdf ∷ data_name ∷ []) ps t = t
+named_texts words.replay (jdf ∷ data_name ∷ list ∷ []) ps t = t
+named_texts words.certify (jdf ∷ data_name ∷ []) ps t = t
+named_texts words.ranks (jdf ∷ data_name ∷ count ∷ seed ∷ []) ps t = (t.0, (t.1.0, tt))
 named_texts v ops ps t = tt
 
 -- the parts of the words of a command
@@ -121,10 +121,10 @@ are_counts ps h =
 
 in_ranges : (v : Verb) (ops : List (List ℕ)) (ps : List Part) → has_bad_count ps ≡ false → has_bad_operand (operands_of v) ops ≡ false → OnOrder HasNumbersInRange (formed v ops ps)
 unfolding OnOrder
-in_ranges words.run (jdf ∷ tiles ∷ []) ps c h = are_counts ps c
+in_ranges words.run (jdf ∷ data_name ∷ []) ps c h = are_counts ps c
 in_ranges words.demo (rows ∷ []) ps c h = numbered 1 96 rows (neither _ _ h).0
-in_ranges words.trace (jdf ∷ tiles ∷ []) ps c h = are_counts ps c
-in_ranges words.ranks (jdf ∷ tiles ∷ count ∷ seed ∷ []) ps c h =
+in_ranges words.trace (jdf ∷ data_name ∷ []) ps c h = are_counts ps c
+in_ranges words.ranks (jdf ∷ data_name ∷ count ∷ seed ∷ []) ps c h =
     let two = neither _ _ h in
     let r = numbered 1 64 count two.0 in
     let s = numbered 0 18446744073709551615 seed (neither _ _ two.1).0 in
@@ -133,9 +133,9 @@ in_ranges words.ranks (jdf ∷ tiles ∷ count ∷ seed ∷ []) ps c h =
     below_two_to_64 : (n : ℕ) → n ≤ 18446744073709551615 → n < 2 ^ 64
     below_two_to_64 n h = omega (arith, h)
 in_ranges words.show (jdf ∷ []) ps c h = tt
-in_ranges words.check (jdf ∷ tiles ∷ []) ps c h = tt
-in_ranges words.replay (jdf ∷ tiles ∷ list ∷ []) ps c h = tt
-in_ranges words.certify (jdf ∷ tiles ∷ []) ps c h = tt
+in_ranges words.check (jdf ∷ data_name ∷ []) ps c h = tt
+in_ranges words.replay (jdf ∷ data_name ∷ list ∷ []) ps c h = tt
+in_ranges words.certify (jdf ∷ data_name ∷ []) ps c h = tt
 in_ranges v ops ps c h = tt
 
 pub numbers_in_range : NumbersInRange

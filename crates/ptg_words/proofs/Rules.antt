@@ -139,6 +139,6 @@ four_texts (a ∷ b ∷ e ∷ f ∷ []) d low high = refl
 four_texts xs d low high = absurd (omega (arith, low, high))
 
 -- two numbers in range are no bad operands
-pub ranks_fit : (jdf tiles count seed : List ℕ) → is_number 1 64 count ≡ true → is_number 0 18446744073709551615 seed ≡ true
-    → has_bad_operand (operands_of ranks) (jdf ∷ tiles ∷ count ∷ seed ∷ []) ≡ false
-ranks_fit jdf tiles count seed r s = rw (r, s) refl
+pub ranks_fit : (jdf data_name count seed : List ℕ) → is_number 1 64 count ≡ true → is_number 0 18446744073709551615 seed ≡ true
+    → has_bad_operand (operands_of ranks) (jdf ∷ data_name ∷ count ∷ seed ∷ []) ≡ false
+ranks_fit jdf data_name count seed r s = rw (r, s) refl

@@ -19,14 +19,14 @@ OrderOrUsage = (words : List (List ℕ)) → ((order : Order) × Orders words or
 
 -- the names of the files of a command
 abbrev pub files_of : Order → List (List ℕ)
-files_of (Run jdf tiles w s p) = jdf ∷ tiles ∷ []
+files_of (Run jdf data_name w s p) = jdf ∷ data_name ∷ []
 files_of (Show jdf) = jdf ∷ []
-files_of (Check jdf tiles) = jdf ∷ tiles ∷ []
+files_of (Check jdf data_name) = jdf ∷ data_name ∷ []
 files_of (Demo rows) = []
-files_of (Trace jdf tiles w s) = jdf ∷ tiles ∷ []
-files_of (Replay jdf tiles list) = jdf ∷ tiles ∷ list ∷ []
-files_of (Certify jdf tiles) = jdf ∷ tiles ∷ []
-files_of (Ranks jdf tiles r seed) = jdf ∷ tiles ∷ []
+files_of (Trace jdf data_name w s) = jdf ∷ data_name ∷ []
+files_of (Replay jdf data_name list) = jdf ∷ data_name ∷ list ∷ []
+files_of (Certify jdf data_name) = jdf ∷ data_name ∷ []
+files_of (Ranks jdf data_name r seed) = jdf ∷ data_name ∷ []
 
 -- each of them is text
 abbrev pub AreText : List (List ℕ) → Type 0
@@ -43,14 +43,14 @@ AreCounts w s = (1 ≤ w) × (w ≤ 64) × (1 ≤ s) × (s ≤ 256)
 
 -- The numbers of a command are in their ranges: 1 to 64 workers or ranks, 1 to 256 shards, 1 to 96 rows of tiles, a seed below 2^64.
 abbrev pub HasNumbersInRange : Order → Type 0
-HasNumbersInRange (Run jdf tiles w s p) = AreCounts w s
+HasNumbersInRange (Run jdf data_name w s p) = AreCounts w s
 HasNumbersInRange (Show jdf) = Unit {0}
-HasNumbersInRange (Check jdf tiles) = Unit {0}
+HasNumbersInRange (Check jdf data_name) = Unit {0}
 HasNumbersInRange (Demo rows) = (1 ≤ rows) × (rows ≤ 96)
-HasNumbersInRange (Trace jdf tiles w s) = AreCounts w s
-HasNumbersInRange (Replay jdf tiles list) = Unit {0}
-HasNumbersInRange (Certify jdf tiles) = Unit {0}
-HasNumbersInRange (Ranks jdf tiles r seed) = (1 ≤ r) × (r ≤ 64) × (seed < 2 ^ 64)
+HasNumbersInRange (Trace jdf data_name w s) = AreCounts w s
+HasNumbersInRange (Replay jdf data_name list) = Unit {0}
+HasNumbersInRange (Certify jdf data_name) = Unit {0}
+HasNumbersInRange (Ranks jdf data_name r seed) = (1 ≤ r) × (r ≤ 64) × (seed < 2 ^ 64)
 
 abbrev pub NumbersInRange : Type 0
 NumbersInRange = (words : List (List ℕ)) (order : Order) → Orders words order → HasNumbersInRange order

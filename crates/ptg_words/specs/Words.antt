@@ -128,14 +128,14 @@ shards_of ps = number_or 16 (texts_of shards ps)
 
 -- the command that a verb, its operands and its options form
 abbrev pub formed : Verb → List (List ℕ) → List Part → Option Order
-formed run (jdf ∷ tiles ∷ []) ps = Some (Run jdf tiles (workers_of ps) (shards_of ps) (list_any is_preload ps))
+formed run (jdf ∷ data_name ∷ []) ps = Some (Run jdf data_name (workers_of ps) (shards_of ps) (list_any is_preload ps))
 formed show (jdf ∷ []) ps = Some (Show jdf)
-formed check (jdf ∷ tiles ∷ []) ps = Some (Check jdf tiles)
+formed check (jdf ∷ data_name ∷ []) ps = Some (Check jdf data_name)
 formed demo (rows ∷ []) ps = Some (Demo (decimal rows))
-formed trace (jdf ∷ tiles ∷ []) ps = Some (Trace jdf tiles (workers_of ps) (shards_of ps))
-formed replay (jdf ∷ tiles ∷ list ∷ []) ps = Some (Replay jdf tiles list)
-formed certify (jdf ∷ tiles ∷ []) ps = Some (Certify jdf tiles)
-formed ranks (jdf ∷ tiles ∷ count ∷ seed ∷ []) ps = Some (Ranks jdf tiles (decimal count) (decimal seed))
+formed trace (jdf ∷ data_name ∷ []) ps = Some (Trace jdf data_name (workers_of ps) (shards_of ps))
+formed replay (jdf ∷ data_name ∷ list ∷ []) ps = Some (Replay jdf data_name list)
+formed certify (jdf ∷ data_name ∷ []) ps = Some (Certify jdf data_name)
+formed ranks (jdf ∷ data_name ∷ count ∷ seed ∷ []) ps = Some (Ranks jdf data_name (decimal count) (decimal seed))
 formed _ _ ps = None
 
 -- the arguments break no rule, and form this command

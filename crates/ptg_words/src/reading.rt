@@ -12,6 +12,12 @@ use crate::verb::{file, number, read_verb, small_number};
 use ptg_base::Text;
 use std::alloc::Global;
 
+// How many ranks a world may have.
+const MOST_RANKS: u32 = 64;
+
+// How many rows of tiles a made job may have.
+const MOST_ROWS: u32 = 96;
+
 /// Parses the command line, without the program's name: `run JDF DATA [--workers N] [--shards K] [--preload]`, `show JDF`,
 /// `check JDF DATA`, `demo N`, `trace JDF DATA [--workers N] [--shards K]`, `replay JDF DATA TRACE`, `certify JDF DATA` or
 /// `ranks JDF DATA R SEED`, with options anywhere after the verb. Usage exactly where one of the rules is broken.
@@ -76,12 +82,12 @@ fn run(alloc: Global, words: &[&str]) -> Result<Order, WordsRefusal>
         Options::CountsAndPreload,
         words,
     )?;
-    let [jdf, tiles] = read.operands.as_slice() else {
+    let [jdf, data_name] = read.operands.as_slice() else {
         return Err(WordsRefusal::Usage);
     };
     let jdf = file(alloc, jdf)?;
-    let tiles = file(alloc, tiles)?;
-    Ok(Order::Run(jdf, tiles, read.workers, read.shards, read.preload))
+    let data_name = file(alloc, data_name)?;
+    Ok(Order::Run(jdf, data_name, read.workers, read.shards, read.preload))
 }
 
 fn show(alloc: Global, words: &[&str]) -> Result<Order, WordsRefusal>
@@ -102,11 +108,11 @@ fn check(alloc: Global, words: &[&str]) -> Result<Order, WordsRefusal>
     ensures usage { result ≡ Err WordsRefusal.Usage → IsUsage (texts words.now) }
 {
     let read = read_verb(alloc, "check", &["jdf", "data"], Options::NoOptions, words)?;
-    let [jdf, tiles] = read.operands.as_slice() else {
+    let [jdf, data_name] = read.operands.as_slice() else {
         return Err(WordsRefusal::Usage);
     };
     let jdf = file(alloc, jdf)?;
-    Ok(Order::Check(jdf, file(alloc, tiles)?))
+    Ok(Order::Check(jdf, file(alloc, data_name)?))
 }
 
 fn demo(alloc: Global, words: &[&str]) -> Result<Order, WordsRefusal>
@@ -118,7 +124,7 @@ fn demo(alloc: Global, words: &[&str]) -> Result<Order, WordsRefusal>
     let [rows] = read.operands.as_slice() else {
         return Err(WordsRefusal::Usage);
     };
-    match small_number(rows, 96) {
+    match small_number(rows, MOST_ROWS) {
         Some(rows) => Ok(Order::Demo(rows)),
         None => Err(WordsRefusal::Usage),
     }
@@ -130,12 +136,12 @@ fn trace(alloc: Global, words: &[&str]) -> Result<Order, WordsRefusal>
     ensures usage { result ≡ Err WordsRefusal.Usage → IsUsage (texts words.now) }
 {
     let read = read_verb(alloc, "trace", &["jdf", "data"], Options::Counts, words)?;
-    let [jdf, tiles] = read.operands.as_slice() else {
+    let [jdf, data_name] = read.operands.as_slice() else {
         return Err(WordsRefusal::Usage);
     };
     let jdf = file(alloc, jdf)?;
-    let tiles = file(alloc, tiles)?;
-    Ok(Order::Trace(jdf, tiles, read.workers, read.shards))
+    let data_name = file(alloc, data_name)?;
+    Ok(Order::Trace(jdf, data_name, read.workers, read.shards))
 }
 
 fn replay(alloc: Global, words: &[&str]) -> Result<Order, WordsRefusal>
@@ -150,12 +156,12 @@ fn replay(alloc: Global, words: &[&str]) -> Result<Order, WordsRefusal>
         Options::NoOptions,
         words,
     )?;
-    let [jdf, tiles, trace] = read.operands.as_slice() else {
+    let [jdf, data_name, trace] = read.operands.as_slice() else {
         return Err(WordsRefusal::Usage);
     };
     let jdf = file(alloc, jdf)?;
-    let tiles = file(alloc, tiles)?;
-    Ok(Order::Replay(jdf, tiles, file(alloc, trace)?))
+    let data_name = file(alloc, data_name)?;
+    Ok(Order::Replay(jdf, data_name, file(alloc, trace)?))
 }
 
 fn certify(alloc: Global, words: &[&str]) -> Result<Order, WordsRefusal>
@@ -170,11 +176,11 @@ fn certify(alloc: Global, words: &[&str]) -> Result<Order, WordsRefusal>
         Options::NoOptions,
         words,
     )?;
-    let [jdf, tiles] = read.operands.as_slice() else {
+    let [jdf, data_name] = read.operands.as_slice() else {
         return Err(WordsRefusal::Usage);
     };
     let jdf = file(alloc, jdf)?;
-    Ok(Order::Certify(jdf, file(alloc, tiles)?))
+    Ok(Order::Certify(jdf, file(alloc, data_name)?))
 }
 
 // The order of `ranks`: 1 to 64 ranks, and a seed of 64 bits.
@@ -190,16 +196,16 @@ fn ranks(alloc: Global, words: &[&str]) -> Result<Order, WordsRefusal>
         Options::NoOptions,
         words,
     )?;
-    let [jdf, tiles, ranks, seed] = read.operands.as_slice() else {
+    let [jdf, data_name, ranks, seed] = read.operands.as_slice() else {
         return Err(WordsRefusal::Usage);
     };
-    let Some(ranks) = small_number(ranks, 64) else {
+    let Some(ranks) = small_number(ranks, MOST_RANKS) else {
         return Err(WordsRefusal::Usage);
     };
     let Some(seed) = number(seed, 0, u64::MAX) else {
         return Err(WordsRefusal::Usage);
     };
     let jdf = file(alloc, jdf)?;
-    let tiles = file(alloc, tiles)?;
-    Ok(Order::Ranks(jdf, tiles, ranks, seed))
+    let data_name = file(alloc, data_name)?;
+    Ok(Order::Ranks(jdf, data_name, ranks, seed))
 }

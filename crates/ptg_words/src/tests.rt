@@ -21,25 +21,37 @@ fn formed(alloc: Global, line: &str) -> Result<String, Fail> {
 
 fn spelled(alloc: Global, order: &Order) -> Result<String, Fail> {
     let text = match order {
-        Order::Run(jdf, tiles, workers, shards, preload) => {
+        Order::Run(jdf, data_name, workers, shards, preload) => {
             format!(in alloc;
                 "run {} {} {workers} {shards} {preload}",
                 name(jdf),
-                name(tiles)
+                name(data_name)
             )?
         }
         Order::Show(jdf) => format!(in alloc; "show {}", name(jdf))?,
-        Order::Check(jdf, tiles) => format!(in alloc; "check {} {}", name(jdf), name(tiles))?,
+        Order::Check(jdf, data_name) => format!(in alloc;
+            "check {} {}",
+            name(jdf),
+            name(data_name)
+        )?,
         Order::Demo(rows) => format!(in alloc; "demo {rows}")?,
-        Order::Trace(jdf, tiles, workers, shards) => {
-            format!(in alloc; "trace {} {} {workers} {shards}", name(jdf), name(tiles))?
+        Order::Trace(jdf, data_name, workers, shards) => {
+            format!(in alloc;
+                "trace {} {} {workers} {shards}",
+                name(jdf),
+                name(data_name)
+            )?
         }
-        Order::Replay(jdf, tiles, trace) => {
-            format!(in alloc; "replay {} {} {}", name(jdf), name(tiles), name(trace))?
+        Order::Replay(jdf, data_name, trace) => {
+            format!(in alloc; "replay {} {} {}", name(jdf), name(data_name), name(trace))?
         }
-        Order::Certify(jdf, tiles) => format!(in alloc; "certify {} {}", name(jdf), name(tiles))?,
-        Order::Ranks(jdf, tiles, ranks, seed) => {
-            format!(in alloc; "ranks {} {} {ranks} {seed}", name(jdf), name(tiles))?
+        Order::Certify(jdf, data_name) => format!(in alloc;
+            "certify {} {}",
+            name(jdf),
+            name(data_name)
+        )?,
+        Order::Ranks(jdf, data_name, ranks, seed) => {
+            format!(in alloc; "ranks {} {} {ranks} {seed}", name(jdf), name(data_name))?
         }
     };
     Ok(text)

@@ -13,6 +13,12 @@ use crate::order::WordsRefusal;
 use ptg_base::{OutOfMemory, Text, decimal};
 use std::alloc::Global;
 
+// How many workers a run may have.
+const MOST_WORKERS: u32 = 64;
+
+// How many shards the table of a run may have.
+const MOST_SHARDS: u32 = 256;
+
 // The words of a verb: its operands as text, its numbers of workers and of shards, and whether all memory is to be taken before the run.
 #[derive(Drop)]
 pub(crate) struct ReadVerb<'a> {
@@ -32,16 +38,16 @@ pub(crate) fn read_verb<'a>(
 ) -> Result<ReadVerb<'a>, WordsRefusal>
     requires proper { AllProper (drop 1 (texts words.now)) }
     requires ids { are_ids (texts ids.now) ≡ true }
-    requires few { length ids.now ≤ 4 }
+    requires at_most { length ids.now ≤ 4 }
     ensures found { IfOk result (IsReadOf (length ids.entry.now) (parts options (drop 1 (texts words.entry.now)))) }
     ensures usage { result ≡ Err WordsRefusal.Usage → (is_read (length ids.entry.now) (parts options (drop 1 (texts words.entry.now))) ≡ false)
         ⊎ (has_bad_count (parts options (drop 1 (texts words.entry.now))) ≡ true) }
 {
     let found = verb_words(alloc, name, ids, options, words)?;
-    let Some(workers) = count(found.workers, 64, 4) else {
+    let Some(workers) = count(found.workers, MOST_WORKERS, 4) else {
         return Err(WordsRefusal::Usage);
     };
-    let Some(shards) = count(found.shards, 256, 16) else {
+    let Some(shards) = count(found.shards, MOST_SHARDS, 16) else {
         return Err(WordsRefusal::Usage);
     };
     Ok(ReadVerb {

@@ -10,10 +10,8 @@ use crate::fault::SpaceFault;
 use crate::numbers::Numbers;
 use crate::steps::Steps;
 use crate::walk::def_steps;
+use ptg_base::MOST_TASKS;
 use term_core::{ClassSpace, Def};
-
-// The most tasks that all classes may have together.
-const MOST_TASKS: u64 = 1_000_000;
 
 // The most prefixes that all classes may have together.
 const MOST_PREFIXES: u64 = 16_000_000;

@@ -12,7 +12,7 @@ use Rattle.std.proofs.lemmas.List.{append-nil}
 use Rattle.std.proofs.lemmas.Str.Parse.{digit_from_value}
 use Rattle.ptg_base.specs.Decimal.{is_digit}
 use Rattle.range_space.proofs.MemberLists.{and_left, and_right}
-use Rattle.jdf_lex.specs.Spelling.{is_letter, is_part}
+use Rattle.ptg_base.specs.Names.{is_letter, is_part}
 use Rattle.trace_core.specs.Cutting.{is_free_of, opens_with}
 use Rattle.trace_core.specs.Rows.{number_field, number_fields, row_content}
 use Rattle.trace_core.specs.Spelling.{IsSpelled, fits_64, is_name}

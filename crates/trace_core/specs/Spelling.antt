@@ -1,13 +1,8 @@
 -- Which texts are spelled as a trace, whatever their rows name, and which row is the first that is not. Source: this project's own choice.
 use Rattle.std.specs.Prelude.{◌≡◌, ◌≢◌, ◌+◌, ◌<◌, ◌≤◌, ℕ, ℤ, pos, negsuc, nat_lt, Bool, false, ◌&&◌, IsTrue, List, [], ◌∷◌, ◌++◌, length}
 use Rattle.std.specs.List.{AllByRecursion, list_all}
-use Rattle.jdf_lex.specs.Spelling.{is_letter, is_part}
+pub use Rattle.ptg_base.specs.Names.{is_name}
 use Rattle.trace_core.specs.Text.{Entry, head_line, row_line, rows_text}
-
--- a name as in a JDF, reserved words among them: a letter or `_`, then letters, digits and `_`
-abbrev pub is_name : List ℕ → Bool
-is_name [] = false
-is_name (b ∷ bs) = is_letter b && list_all is_part bs
 
 -- whether a number fits 64 bits
 abbrev pub fits_64 : ℤ → Bool

@@ -17,7 +17,7 @@ use crate::spelling::spelled_rows;
 use dep_iter::Matched;
 use indexmap::IndexSet;
 use plan_core::Plan;
-use ptg_base::{OutOfMemory, Refusal, Seq, TaskId};
+use ptg_base::{MOST_BYTES, OutOfMemory, Refusal, Seq, TaskId};
 use std::alloc::Global;
 
 // Adds the tasks of the rows of a text, up to the first row that names no task or one again: its code.
@@ -97,7 +97,7 @@ pub fn read_rows(alloc: Global, m: &Matched, bytes: &[u8]) -> Result<Reading, Tr
     ensures read { IfOk result (λ r. IsReading m.now bytes.now r.tasks r.fault) }
     ensures fault { (f : TraceFaultValue) → result ≡ Err (Fault f) → IsSpellingFault bytes.now f }
 {
-    if bytes.len() > 16_777_216 {
+    if bytes.len() > MOST_BYTES {
         return refused(0, TraceCode::TooLong);
     }
     let rows = match spelled_rows(bytes) {

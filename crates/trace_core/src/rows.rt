@@ -2,44 +2,19 @@
 
 ghost use Rattle.std.specs.Prelude.{◌≡◌, ◌≢◌, ◌≤◌, ◌++◌, List, ℕ, MatchOption};
 ghost use Rattle.std.specs.Fmt.{decimal};
-ghost use Rattle.jdf_lex.specs.Spelling as letters;
 ghost use Rattle.trace_core.specs.Rows.{BeginsWithRow, IsRowOf, row_content};
-ghost use Rattle.trace_core.specs.Spelling as spelling;
 ghost use Rattle.trace_core.specs.Spelling.{HasNoHead, HasNoRow, IsSpelled};
 ghost use Rattle.trace_core.specs.Text.{Entry, head_line};
 
 use crate::cutting::{after_word, cut};
 use crate::numbers::{are_numbers, number};
+use ptg_base::{MOST_TASKS, is_name};
 
 // The name of a row, and its numbers with a comma before each.
 #[derive(Clone, Copy)]
 pub(crate) struct Row<'a> {
     pub(crate) name: &'a [u8],
     pub(crate) numbers: &'a [u8],
-}
-
-// Whether a byte is a letter or `_`.
-fn is_letter(b: u8) -> bool
-    ensures { result ≡ letters.is_letter b }
-{
-    b.is_ascii_alphabetic() || b == b'_'
-}
-
-// Whether a byte may follow the first one of a name.
-fn is_part(b: u8) -> bool
-    ensures { result ≡ letters.is_part b }
-{
-    is_letter(b) || b.is_ascii_digit()
-}
-
-// Whether the bytes are a name.
-fn is_name(bytes: &[u8]) -> bool
-    ensures { result ≡ spelling.is_name bytes.now }
-{
-    match bytes.split_first() {
-        Some((b, bs)) => is_letter(*b) && bs.iter().all(|c| is_part(*c)),
-        None => false,
-    }
 }
 
 // The parts of a row without its LF.
@@ -83,7 +58,7 @@ fn row_count(field: &[u8]) -> Option<u64>
     if n < 0 {
         return None;
     }
-    if n > 1_000_000 {
+    if n > MOST_TASKS {
         return None;
     }
     Some(n as u64)

@@ -3,7 +3,7 @@ use Rattle.std.proofs.lemmas.List.{take_rest}
 use Rattle.std.proofs.lemmas.Result.{err_from_is_err_and}
 use Rattle.grammar_core.specs.declared.token.Token.{Token}
 use Rattle.body_names.specs.Environment.{environment_of}
-use Rattle.body_names.specs.Returns.{ReturnsRefusal}
+use Rattle.ptg_base.specs.Returns.{ReturnsRefusal}
 use Rattle.body_names.specs.TokenScan.{judged}
 use Rattle.body_names.specs.Scanner.{scan_of}
 use Rattle.body_names.proofs.Fronts.{goes_on, fails}

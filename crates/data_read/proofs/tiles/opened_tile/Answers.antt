@@ -26,7 +26,7 @@ loop-k-preserved c =
     let same = ap without_blanks (get_or-drop c.args.first fields c.loop-k.k []) in
     let one : whole (without_blanks (get_or values c.loop-k.k [])) ≡ Some c.in-Some.value = ap whole (same ∙ sym c.field.ensures) ∙ sym c.whole.ensures ∙ c.in-Some.is in
     let kept : to_z w64 (of_z w64 c.in-Some.value) ≡ c.in-Some.value = search rules in
-    opening_more c.args.elements values c.loop-k.k c.in-Some.value c.loop-k.tile c.set.new.self (omega (arith, size, c.loop-k-test.true, c.len.ensures)) (omega (arith, size, c.requires.few)) c.loop-k.invariant one (c.set.ensures ∙ ap (λ y. set c.loop-k.tile c.loop-k.k y) kept)
+    opening_more c.args.elements values c.loop-k.k c.in-Some.value c.loop-k.tile c.set.new.self (omega (arith, size, c.loop-k-test.true, c.len.ensures)) (omega (arith, size, c.requires.at_most)) c.loop-k.invariant one (c.set.ensures ∙ ap (λ y. set c.loop-k.tile c.loop-k.k y) kept)
 
 pub returns : goal.returns
 returns c =

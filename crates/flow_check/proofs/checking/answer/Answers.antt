@@ -1,5 +1,5 @@
 use Rattle.std.proofs.Common.{arith}
-use Rattle.check_names.proofs.Within.{within_is_short}
+use Rattle.check_names.proofs.Within.{within_is_bounded}
 use Rattle.flow_check.proofs.WellPlans.{well_plan}
 use Rattle.flow_check.proofs.checking.answer.Goals as goal
 
@@ -7,7 +7,7 @@ pub resolved-requires : goal.resolved-requires
 resolved-requires c =
     record {
       globals = c.requires.globals;
-      short = within_is_short c.args.jdf.now c.requires.limits;
+      bounded = within_is_bounded c.args.jdf.now c.requires.limits;
       seen_at_most = omega arith;
       types_at_most = c.data_are_well_made.ensures.types_at_most;
     }

@@ -1,4 +1,4 @@
-use Rattle.std.proofs.Common.{inl, inr, arith, refl, sym, ◌≢◌, length}
+use Rattle.std.proofs.Common.{inl, inr, arith, refl}
 use Rattle.ptg_base.proofs.DecimalDigits.{begins, no_digits, bad_digit, too_large, all_fit}
 use Rattle.ptg_base.proofs.digits.decimal.Goals as goal
 use Rattle.ptg_base.proofs.digits.decimal.Goals.{then-byte-lt48-via-then-byte-lt48, then-byte-lt48-via-else-byte-lt48+then-byte-gt57, then-digit-most-via-then-digit-most, then-digit-most-via-else-digit-most+then-value-most}

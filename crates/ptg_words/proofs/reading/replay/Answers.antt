@@ -11,10 +11,10 @@ read_verb-requires-clause-proper c = rest_proper (texts c.args.words.now) c.requ
 pub returns-clause-found : goal.returns-clause-found
 returns-clause-found c =
     let read = c.in_ok-read.ensures.found in
-    let order = Replay c.in_ok-jdf.jdf c.in_ok-tiles.tiles c.in_ok-file.field-0 in
-    order_from Words.replay (texts c.args.words.now) c.requires order (c.in_ok-jdf.jdf ∷ c.in_ok-tiles.tiles ∷ c.in_ok-file.field-0 ∷ []) read.good read.counts
+    let order = Replay c.in_ok-jdf.jdf c.in_ok-data_name.data_name c.in_ok-file.field-0 in
+    order_from Words.replay (texts c.args.words.now) c.requires order (c.in_ok-jdf.jdf ∷ c.in_ok-data_name.data_name ∷ c.in_ok-file.field-0 ∷ []) read.good read.counts
     (
-    (λ i. c.in_ok-jdf.ensures i ∷ c.in_ok-tiles.ensures i ∷ c.in_ok-file.ensures i ∷ [])
+    (λ i. c.in_ok-jdf.ensures i ∷ c.in_ok-data_name.ensures i ∷ c.in_ok-file.ensures i ∷ [])
     ∙ sym (three_texts c.as_slice.result.now _ c.in-len3.len_at_least c.in-len3.len_below) ∙ ap texts c.as_slice.ensures.value ∙ read.operand_texts
     )
     refl refl

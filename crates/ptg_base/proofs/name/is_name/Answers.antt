@@ -2,8 +2,8 @@ use Rattle.std.proofs.Common.{◌≡◌, ℕ, Bool, rules, tests, ◌∙◌, sym
 use Rattle.std.specs.List.{list_all}
 use Rattle.std.proofs.lemmas.Iterator.{YieldsList-from_slice}
 use Rattle.std.proofs.lemmas.Iterator.Search.{all_from_yields_List}
-use Rattle.data_read.specs.Fields.{is_letter, is_part, is_name}
-use Rattle.data_read.proofs.field.is_name.Goals as goal
+use Rattle.ptg_base.specs.Names.{is_letter, is_part, is_name}
+use Rattle.ptg_base.proofs.name.is_name.Goals as goal
 
 name_of : (field : List ℕ) (b : ℕ) (bs : List ℕ) (r : Bool) → field ≡ b ∷ bs → is_letter b ≡ true → r ≡ list_all is_part bs → r ≡ is_name field
 name_of field b bs r is letter all = all ∙ sym (ap (λ t. t && list_all is_part bs) letter) ∙ sym (ap is_name is)

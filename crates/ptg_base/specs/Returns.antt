@@ -1,0 +1,22 @@
+-- The result of a call for which a definition gives a value or a fault: that value, that fault, or that there was no memory.
+use Rattle.std.specs.Prelude.{◌≡◌, ◌⊎◌, Result, Ok, Err, IfOk}
+use Rattle.ptg_base.specs.declared.refusal.Refusal.{Refusal}
+use Rattle.ptg_base.specs.declared.refusal.Refusal.TheVariants.{Fault, OutOfMemory}
+
+-- the refusal is the fault that the definition gives, or there was no memory
+abbrev pub ReturnsRefusal : {Y F : Type 0} → Refusal F → Result Y F → Type 0
+ReturnsRefusal OutOfMemory given = Unit {0}
+ReturnsRefusal (Fault fault) given = given ≡ Err fault
+
+-- the result, seen by view, is what the definition gives
+abbrev pub Returns : {X Y F : Type 0} → (X → Y) → Result X (Refusal F) → Result Y F → Type 0
+Returns view (Ok x) given = given ≡ Ok (view x)
+Returns view (Err refusal) given = ReturnsRefusal refusal given
+
+-- A call that looks for the value of its input, or for its fault: it returns only such a value, only such a fault, and
+-- where there is one, this one; only want of memory is always allowed.
+pub record FindsOrRefuses {A F : Type 0} (IsValue : A → Type 0) (IsFault : F → Type 0) (result : Result A (Refusal F)) : Type 0 where
+  pub found : IfOk result IsValue
+  pub only : (value : A) → IsValue value → (result ≡ Ok value) ⊎ (result ≡ Err OutOfMemory)
+  pub fault : (fault : F) → result ≡ Err (Fault fault) → IsFault fault
+  pub refused : (fault : F) → IsFault fault → (result ≡ Err (Fault fault)) ⊎ (result ≡ Err OutOfMemory)
