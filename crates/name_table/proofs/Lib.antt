@@ -1,4 +1,5 @@
 mod Named
-mod Placing
-mod Finding
-mod Adding
+mod Items
+mod Found
+mod Placed
+mod Rebuilt

@@ -39,3 +39,11 @@ some_from test k (n ∷ names) = go (test n) (some_from test (k + 1) names)
 -- a name has an index where it is one of the names
 pub found_is : (name : List ℕ) (names : List (List ℕ)) → is_some (index_named names name) ≡ has_name names name
 found_is name names = ap is_some (position_from-zero (λ (n : List ℕ). bytes_eq n name) names) ∙ some_from (λ (n : List ℕ). bytes_eq n name) 0 names
+
+-- a table has a value of the name where the name has an index among its names
+pub value_is_named : {V : Type 0} (name : List ℕ) (table : List (List ℕ × V)) → is_some (value_named table name) ≡ is_some (index_named (keys_of table) name)
+value_is_named name table = has_is name table ∙ sym (found_is name (keys_of table))
+
+pub none_of : {X : Type 0} (r : Option X) → is_some r ≡ false → r ≡ None
+none_of (Some x) h = absurd cc
+none_of None h = refl

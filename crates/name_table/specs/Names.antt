@@ -1,5 +1,5 @@
 -- What a table and a set say of a name.
-use Rattle.std.specs.Prelude.{ℕ, Bool, List, Option, position}
+use Rattle.std.specs.Prelude.{◌≡◌, ℕ, Bool, List, Option, Some, position, slice_get}
 use Rattle.std.specs.Str.{bytes_eq}
 use Rattle.std.specs.List.{list_any}
 use Rattle.std.specs.Map.{lookup}
@@ -15,3 +15,7 @@ has_name names name = list_any (λ (n : List ℕ). bytes_eq n name) names
 -- the number of the name among these, counted from 0
 abbrev pub index_named : List (List ℕ) → List ℕ → Option ℕ
 index_named names name = position (λ (n : List ℕ). bytes_eq n name) names
+
+-- no name is among these twice
+abbrev pub IsEachOnce : List (List ℕ) → Type 0
+IsEachOnce names = (i j : ℕ) (name : List ℕ) → slice_get names i ≡ Some name → slice_get names j ≡ Some name → i ≡ j

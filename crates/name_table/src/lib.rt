@@ -1,6 +1,9 @@
 //! Names, looked up by key: a table of the values of names, and a set of names.
 #![tactic(auto)]
 
+mod bucket;
+mod index;
+mod mix;
 mod set;
 mod table;
 

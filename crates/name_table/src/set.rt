@@ -70,7 +70,7 @@ impl NameSet {
         ensures { IfOk result (λ names. names ≡ self) }
     {
         let mut names = Seq::new(alloc);
-        for (name, _value) in self.names.into_pairs(alloc)?.into_vec() {
+        for (name, _value) in self.names.into_pairs() {
             names.push(name)?;
         }
         Ok(names)

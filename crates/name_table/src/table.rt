@@ -1,44 +1,37 @@
 //! A table from names to values.
 
-ghost use Rattle.std.specs.Prelude.{◌≡◌, [], ◌∷◌, ◌++◌, if◌then◌else◌, length, not, is_some, IfOk, OnErr};
-ghost use Rattle.std.specs.BTreeMap.{get, insert_entry, IsOrdered};
-ghost use Rattle.std.specs.Cmp.Lexicographic.{slice_cmp};
-ghost use Rattle.std.specs.Map.{keys_of, values_of};
+ghost use Rattle.std.specs.Prelude.{◌≡◌, [], ◌∷◌, ◌++◌, if◌then◌else◌, length, not, is_some, None, IfOk, OnOk, OnErr};
+ghost use Rattle.std.specs.Map.{keys_of};
 ghost use Rattle.std.specs.Option.{option_copied};
-ghost use Rattle.std.specs.Ordering.{nat_cmp};
+ghost use Rattle.name_table.specs.Index.{IsIndexOf, found};
 ghost use Rattle.name_table.specs.Names.{index_named, value_named};
 
-use ptg_base::{OutOfMemory, Seq, Text};
+use crate::index::Index;
+use ptg_base::{OutOfMemory, Text};
 use std::alloc::Global;
-use std::collections::BTreeMap;
-use std::collections::btree_map::Entry;
 use std::marker::Model;
-
-/// A value, with the number of its name in the order in which names were added, counted from 0.
-#[derive(Drop)]
-pub struct Numbered<V> {
-    pub number: usize,
-    pub value: V,
-}
 
 /// A table from names to values, seen as the list of its pairs in the order in which they were added. Each name has one value.
 ///
-/// Names are looked up by their order, so that no choice of names makes it slow.
+/// Names are looked up by an index that no choice of names makes slow.
 #[derive(Drop)]
 pub struct NameTable<V> {
-    entries: BTreeMap<Text, Numbered<V>>,
+    alloc: Global,
+    pairs: Vec<(Text, V)>,
+    index: Index,
 }
 
 impl<V> Model for NameTable<V> {
     ghost use Rattle.std.specs.Prelude.{List, ℕ};
+    ghost use Rattle.std.specs.Map.{keys_of};
 
     ghost Value = { List (List ℕ × V) };
 
-    ghost use Rattle.name_table.specs.Numbers.{in_order, AreNumbered};
+    ghost use Rattle.name_table.specs.Index.{IsIndexOf};
 
-    ghost view = { λ t. in_order t.entries.entries };
+    ghost view = { λ t. t.pairs.items };
 
-    ghost invariant = { λ t. AreNumbered t.entries.entries };
+    ghost invariant = { λ t. IsIndexOf (keys_of t.pairs.items) t.index };
 }
 
 impl<V> NameTable<V> {
@@ -47,7 +40,9 @@ impl<V> NameTable<V> {
         ensures { result ≡ [] }
     {
         NameTable {
-            entries: BTreeMap::new(alloc),
+            alloc,
+            pairs: Vec::new(alloc),
+            index: Index::new(alloc),
         }
     }
 
@@ -55,17 +50,15 @@ impl<V> NameTable<V> {
     pub(crate) fn len(&self) -> usize
         ensures { result ≡ length self.now }
     {
-        self.entries.len()
+        self.pairs.len()
     }
 
     /// The value of a name, where the table has it.
     pub fn get(&self, name: &Text) -> Option<&V>
         ensures { option_copied result ≡ value_named self.now name.now }
     {
-        // Its clause says that names stand in order, each once.
-        let _count = self.entries.len();
-        match self.entries.get(name) {
-            Some(entry) => Some(&entry.value),
+        match self.index.number_of(self.pairs.as_slice(), name) {
+            Some(number) => Some(&self.pairs[number as usize].1),
             None => None,
         }
     }
@@ -74,12 +67,17 @@ impl<V> NameTable<V> {
     pub(crate) fn number_of(&self, name: &Text) -> Option<usize>
         ensures { result ≡ index_named (keys_of self.now) name.now }
     {
-        // Its clause says that names stand in order, each once.
-        let _count = self.entries.len();
-        match self.entries.get(name) {
-            Some(entry) => Some(entry.number),
+        match self.index.number_of(self.pairs.as_slice(), name) {
+            Some(number) => Some(number as usize),
             None => None,
         }
+    }
+
+    /// The names with their values, in the order in which they were added.
+    pub(crate) fn into_pairs(self) -> Vec<(Text, V)>
+        ensures { result.items ≡ self }
+    {
+        self.pairs
     }
 }
 
@@ -90,49 +88,29 @@ impl<V: Drop> NameTable<V> {
         ensures entries { IfOk result (λ new. self.new ≡ (if new then self.old ++ (name, value) ∷ [] else self.old)) }
         ensures err { OnErr result (self.new ≡ self.old) }
     {
-        put(&mut self.entries, name, value)
-    }
-
-    /// The names with their values, in the order in which they were added.
-    pub(crate) fn into_pairs(self, alloc: Global) -> Result<Seq<(Text, V)>, OutOfMemory>
-        ensures { IfOk result (λ pairs. pairs ≡ self) }
-    {
-        let mut placed = BTreeMap::new(alloc);
-        for (name, entry) in self.entries {
-            placed.insert(entry.number, (name, entry.value))?;
+        if self.number_of(&name).is_some() {
+            return Ok(false);
         }
-        values(alloc, placed)
+        put(self.alloc, &mut self.pairs, &mut self.index, (name, value))?;
+        Ok(true)
     }
 }
 
-// Puts a name that the entries lack among them, with the number that comes next: was it new? An `Err` changes nothing.
+// Puts a pair of a new name after the others. An `Err` changes nothing.
 fn put<V: Drop>(
-    entries: &mut BTreeMap<Text, Numbered<V>>,
-    name: Text,
-    value: V,
-) -> Result<bool, OutOfMemory>
-    ensures added { IfOk result (λ new. new ≡ not (is_some (get (slice_cmp nat_cmp) entries.old name))) }
-    ensures put { IfOk result (λ new. entries.new.entries ≡ (if new then insert_entry (slice_cmp nat_cmp) entries.old.entries name (record { number = length entries.old.entries; value = value }) else entries.old.entries)) }
-    ensures err { OnErr result (entries.new.entries ≡ entries.old.entries) }
-    ensures ordered { IsOrdered (slice_cmp nat_cmp) entries.old }
+    alloc: Global,
+    pairs: &mut Vec<(Text, V)>,
+    index: &mut Index,
+    pair: (Text, V),
+) -> Result<(), OutOfMemory>
+    requires index { IsIndexOf (keys_of pairs.old.items) index.old }
+    requires new { found (keys_of pairs.old.items) index.old pair.0 ≡ None }
+    ensures ok { OnOk result (pairs.new.items ≡ pairs.old.items ++ pair ∷ []) }
+    ensures err { OnErr result (pairs.new.items ≡ pairs.old.items) }
+    ensures index { IsIndexOf (keys_of pairs.new.items) index.new }
 {
-    let number = entries.len();
-    match entries.entry(name)? {
-        Entry::Occupied(_) => Ok(false),
-        Entry::Vacant(place) => {
-            place.insert(Numbered { number, value });
-            Ok(true)
-        }
-    }
-}
-
-// The values of a map, in the order of its keys.
-fn values<T: Drop>(alloc: Global, placed: BTreeMap<usize, T>) -> Result<Seq<T>, OutOfMemory>
-    ensures { IfOk result (λ list. list ≡ values_of placed.entries) }
-{
-    let mut list = Seq::new(alloc);
-    for value in placed.into_values() {
-        list.push(value)?;
-    }
-    Ok(list)
+    pairs.reserve(1)?;
+    index.add(alloc, pairs.as_slice(), &pair.0)?;
+    pairs.push_reserved(pair);
+    Ok(())
 }

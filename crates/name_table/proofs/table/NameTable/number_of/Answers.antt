@@ -1,14 +1,11 @@
-use Rattle.std.proofs.Common.{ap, sym, ◌∙◌}
-use Rattle.std.specs.Option.{option_copied}
-use Rattle.name_table.proofs.Finding.{number_there}
+use Rattle.std.proofs.Common.{sym, ◌∙◌}
+use Rattle.name_table.proofs.Found.{number_there}
 use Rattle.name_table.proofs.table.NameTable.number_of.Goals as goal
 
 pub returns-in-Some : goal.returns-in-Some
 returns-in-Some g c =
-    number_there c.args.name.now c.args.self.now c.self.inside.entries.entries _ c.self.invariant c.len-count.ensures.ordered c.self.view_is
-    (sym (ap option_copied c.in-Some.is) ∙ c.get.ensures.value)
+    sym c.in-Some.is ∙ (c.number_of.ensures ∙ number_there c.args.self.now c.self.inside.pairs.items c.as_slice.result.now c.self.inside.index c.args.name.now c.self.invariant c.self.view_is c.as_slice.ensures.value)
 
 pub returns-in-None : goal.returns-in-None
 returns-in-None g c =
-    number_there c.args.name.now c.args.self.now c.self.inside.entries.entries _ c.self.invariant c.len-count.ensures.ordered c.self.view_is
-    (sym (ap option_copied c.in-None.is) ∙ c.get.ensures.value)
+    sym c.in-None.is ∙ (c.number_of.ensures ∙ number_there c.args.self.now c.self.inside.pairs.items c.as_slice.result.now c.self.inside.index c.args.name.now c.self.invariant c.self.view_is c.as_slice.ensures.value)

@@ -1,0 +1,63 @@
+-- An index of names: which bucket has the number of a name, and which names are in a map of their own. Source: this project's own choice.
+use Rattle.std.specs.Prelude.{◌≡◌, ℕ, ◌+◌, ◌*◌, ◌^◌, ◌%◌, ◌/◌, Bool, false, ◌&&◌, cond, List, [], ◌∷◌, length, Option, Some, None, nat_eq, nat_lt, slice_get, slice_index_or}
+use Rattle.std.specs.BTreeMap.{get}
+use Rattle.std.specs.Cmp.Lexicographic.{slice_cmp}
+use Rattle.std.specs.Ordering.{nat_cmp}
+use Rattle.std.specs.Str.{bytes_eq}
+use Rattle.name_table.specs.declared.index.Index.{Index}
+use Rattle.name_table.specs.declared.bucket.Slot.{Slot}
+
+-- what further bytes make of a number
+abbrev pub mixed_from : ℕ → List ℕ → ℕ
+mixed_from m [] = m
+mixed_from m (b ∷ bs) = mixed_from (((m + b) % 2 ^ 64 * 11400714819323198485) % 2 ^ 64) bs
+
+-- the number that a name is mixed to
+unfoldable pub mixed : List ℕ → ℕ
+mixed name = mixed_from 0 name
+
+-- what tells most names of a bucket apart
+abbrev pub mark_of : List ℕ → ℕ
+mark_of name = mixed name % 2 ^ 32
+
+-- the bucket of the name, of so many
+abbrev pub bucket_of : ℕ → List ℕ → ℕ
+bucket_of count name = mixed name / 2 ^ 32 % count
+
+abbrev pub bytes_named : List ℕ → Option (List ℕ) → Bool
+bytes_named name (Some n) = bytes_eq n name
+bytes_named name None = false
+
+-- whether the name has this number
+abbrev pub has_number : List (List ℕ) → List ℕ → ℕ → Bool
+has_number names name number = bytes_named name (slice_get names number)
+
+-- the number of the name among the slots of a bucket
+abbrev pub in_bucket : List (List ℕ) → List ℕ → ℕ → List Slot → Option ℕ
+in_bucket names name mark [] = None
+in_bucket names name mark (s ∷ ss) = cond (nat_eq s.mark mark && has_number names name s.number) (Some s.number) (in_bucket names name mark ss)
+
+-- whether a bucket has room for one more slot
+abbrev pub has_room : List Slot → Bool
+has_room bucket = nat_lt (length bucket) 7
+
+-- the bucket that the name belongs in
+abbrev pub bucket_at : List (List Slot) → List ℕ → List Slot
+bucket_at buckets name = slice_index_or buckets (bucket_of (length buckets) name) []
+
+abbrev pub or_else : Option ℕ → Option ℕ → Option ℕ
+or_else (Some n) other = Some n
+or_else None other = other
+
+-- the number of the name in the map of the names for which no bucket had room
+abbrev pub among_others : Index → List ℕ → Option ℕ
+among_others index name = get (slice_cmp nat_cmp) index.others name
+
+-- what looking the name up gives
+abbrev pub found : List (List ℕ) → Index → List ℕ → Option ℕ
+found names index name = or_else (in_bucket names name (mark_of name) (bucket_at index.buckets.items name)) (cond (has_room (bucket_at index.buckets.items name)) None (among_others index name))
+
+-- each name is found under its number
+pub record IsIndexOf (names : List (List ℕ)) (index : Index) : Type 0 where
+  pub others : (name : List ℕ) (number : ℕ) → among_others index name ≡ Some number → slice_get names number ≡ Some name
+  pub finds : (name : List ℕ) (number : ℕ) → slice_get names number ≡ Some name → found names index name ≡ Some number

@@ -1,0 +1,62 @@
+//! The slots of a bucket.
+
+ghost use Rattle.std.specs.Prelude.{◌≡◌, ◌<◌, [], ◌∷◌, ◌++◌, length};
+ghost use Rattle.name_table.specs.Index.{has_room};
+
+use arrayvec::ArrayVec;
+use std::marker::Model;
+
+/// The number of a name, with what tells most names of a bucket apart.
+#[derive(Clone, Copy, Default, Drop)]
+pub struct Slot {
+    pub mark: u32,
+    pub number: u32,
+}
+
+/// At most seven slots, seen as their list.
+#[derive(Drop)]
+pub struct Bucket {
+    slots: ArrayVec<Slot, 7>,
+}
+
+impl Model for Bucket {
+    ghost use Rattle.std.specs.Prelude.{List};
+    ghost use Rattle.name_table.specs.declared.bucket.Slot.{Slot};
+
+    ghost Value = { List Slot };
+
+    ghost view = { λ b. b.slots.items };
+}
+
+impl Bucket {
+    /// A bucket with no slot.
+    pub fn new() -> Bucket
+        ensures { result ≡ [] }
+    {
+        Bucket {
+            slots: ArrayVec::new(),
+        }
+    }
+
+    /// Whether there is room for one more.
+    pub fn has_room(&self) -> bool
+        ensures { result ≡ has_room self.now }
+    {
+        self.slots.len() < 7
+    }
+
+    /// The slots in the order in which they were added.
+    pub fn as_slice(&self) -> &[Slot]
+        ensures { result.now ≡ self.now }
+    {
+        self.slots.as_slice()
+    }
+
+    /// Adds a slot.
+    pub fn push(&mut self, slot: Slot)
+        requires { length self.old < 7 }
+        ensures { self.new ≡ self.old ++ slot ∷ [] }
+    {
+        self.slots.push(slot);
+    }
+}
