@@ -21,7 +21,7 @@ use Rattle.dep_iter.specs.Tasks.{flows_of, locals_of, task}
 use Rattle.dep_iter.specs.Active.{flow_ins, flow_outs, held_target, held_targets, held_then, takes_first}
 use Rattle.dep_iter.specs.Arguments.{combinations}
 use Rattle.dep_iter.specs.Edges.{edges_into, in_edges, in_edges_before}
-use Rattle.dep_iter.specs.Items.{edge_of, item_flow, items_to, out_edges, out_edges_before, write_of, items}
+use Rattle.dep_iter.specs.Items.{edge_of, item_flow, items_to, out_edges_before, write_of, items}
 use Rattle.dep_iter.proofs.Belonging.{held-none}
 use Rattle.dep_iter.proofs.Distinctness.{distinct_in, distinct_out}
 use Rattle.dep_iter.proofs.Joining.{filter_map-append, filter_map-flat_map, flat_map-same}

@@ -18,11 +18,10 @@ use Rattle.dep_iter.specs.declared.direction.Direction.{Direction}
 use Rattle.dep_iter.specs.declared.direction.Direction.TheVariants.{In, Out}
 use Rattle.edge_match.specs.declared.fault.MatchCode.TheVariants as code
 use Rattle.edge_match.specs.Counted.{Decides}
-use Rattle.dep_iter.specs.Directions.{HasOtherEnd, near_flow, near_task}
+use Rattle.dep_iter.specs.Directions.{near_flow, near_task}
 use Rattle.edge_match.specs.Directions.{counts, other_end}
 use Rattle.edge_match.specs.FirstFault.{code_of, flow_at}
 use Rattle.edge_match.specs.Marks.{IsNewPlace}
-use Rattle.edge_match.proofs.Parts.{steady}
 
 module _ (P : Plan) (s u : Counted) where
   -- a place, by the answer of the set that it is added to
@@ -62,10 +61,6 @@ counts_code Out e = refl
 pub counts_flow : (P : Plan) (n : ℕ) (d : Direction) (e : Edge) → flow_at P (Some n) (counts d e) ≡ Some n
 counts_flow P n In e = refl
 counts_flow P n Out e = refl
-
-pub other_end_decides : (P : Plan) (s : Counted) (b : Bool) (d : Direction) (e : Edge) → IsTrue b ↔ HasOtherEnd d P e → Decides P s s b (other_end d e)
-other_end_decides P s b In e h = steady _ (λ c. h) (λ c. refl)
-other_end_decides P s b Out e h = steady _ (λ c. h) (λ c. refl)
 
 pub other_end_flow : (P : Plan) (n : ℕ) (d : Direction) (e : Edge) → flow_at P (Some n) (other_end d e) ≡ Some n
 other_end_flow P n In e = refl
