@@ -1,11 +1,6 @@
 -- The parts of a class, by the lists that its parts are.
-use Rattle.std.proofs.Common.{◌≡◌, ℕ, List, ◌++◌, Option, Some, Result, Err, subst}
+use Rattle.std.proofs.Common.{◌≡◌, List, ◌++◌, Option, Result, subst}
 use Rattle.ptg_base.specs.declared.refusal.Refusal.{Refusal}
-use Rattle.ptg_base.specs.declared.refusal.Refusal.TheVariants.{Fault, OutOfMemory}
-use Rattle.term_core.specs.Term.{Term}
-use Rattle.term_core.specs.declared.space.ClassSpace.{ClassSpace}
-use Rattle.plan_core.specs.declared.flow.FlowPlan.{FlowPlan}
-use Rattle.check_names.proofs.Closed.{pair_parts}
 use Rattle.check_names.specs.Alphabet.{JdfFault, DefTree, ArgTree, FlowTree, ClassTree}
 use Rattle.check_names.specs.Names.{Job}
 use Rattle.check_names.specs.Returns.{ReturnsChecked, both}
@@ -29,14 +24,3 @@ head_at job class seen args flows r s a f h =
     subst (λ x. ReturnsChecked {A = Head} r (parts_of job class x class.affinity_args class.flows) (parts_faults job class x class.affinity_args class.flows)) s
     (subst (λ x. ReturnsChecked {A = Head} r (parts_of job class seen x class.flows) (parts_faults job class seen x class.flows)) a
     (subst (λ x. ReturnsChecked {A = Head} r (parts_of job class seen args x) (parts_faults job class seen args x)) f h))
-
--- the head that is made of both halves, where both are there
-pub made_of : (p : Option (ClassSpace × (ℕ × List Term))) (q : Option (List FlowPlan × Option Term)) (x : (ClassSpace × (ℕ × List Term)) × (List FlowPlan × Option Term))
-    → both (λ x y. (x, y)) p q ≡ Some x → both head_from p q ≡ Some (head_from x.0 x.1)
-made_of p q x e = let h = pair_parts p q x e in λ i. both head_from (h.0 i) (h.1 i)
-
--- a refusal says nothing of the part
-pub same_refusal : {A B : Type 0} (refusal : Refusal JdfFault) (p : Option A) (q : Option B) (faults : List JdfFault)
-    → ReturnsChecked {A = A} (Err refusal) p faults → ReturnsChecked {A = B} (Err refusal) q faults
-same_refusal (Fault f) p q faults h = h
-same_refusal OutOfMemory p q faults h = tt

@@ -8,7 +8,7 @@ ghost use Rattle.trace_core.specs.Text.{Entry, head_line};
 
 use crate::cutting::{after_word, cut};
 use crate::numbers::{are_numbers, number};
-use ptg_base::{MOST_TASKS, is_name};
+use ptg_base::is_name;
 
 // The name of a row, and its numbers with a comma before each.
 #[derive(Clone, Copy)]
@@ -58,7 +58,7 @@ fn row_count(field: &[u8]) -> Option<u64>
     if n < 0 {
         return None;
     }
-    if n > MOST_TASKS {
+    if n > 1_000_000 {
         return None;
     }
     Some(n as u64)

@@ -18,7 +18,7 @@ more-init c = rw c.new-list.ensures record { reads = definitions_begin c.args.to
 
 pub more-preserved : goal.more-preserved
 more-preserved c =
-    let room = room_left 16 (length c.more.list) c.len.result c.len.ensures c.if-len-eq-MOST_DEFINITIONS.false c.more.invariant.at_most in
+    let room = room_left 16 (length c.more.list) c.len.result c.len.ensures c.if-len-eq-MOST_LOCALS.false c.more.invariant.at_most in
     let up = longer c.more.list c.push.new.self c.in_ok-next.next c.in_ok-push.ensures.ok in
     record {
       reads = counted_goes_on 16 TooManyLocals (length c.more.list) (length c.push.new.self) c.more.list c.more.rest.now c.in_ok-next.next c.in_ok-next.after.now _ c.push.new.self definitions_listed c.in_ok-push.ensures.ok room up (sym c.is_name_next.ensures ∙ c.more-test.true) c.in_ok-next.ensures c.more.invariant.reads;
@@ -30,12 +30,12 @@ returns c = counted_ends 16 TooManyLocals (length c.more.list) c.more.list c.mor
 
 pub returns-in_err-next : goal.returns-in_err-next
 returns-in_err-next c =
-    let room = room_left 16 (length c.more.list) c.len.result c.len.ensures c.if-len-eq-MOST_DEFINITIONS.false c.more.invariant.at_most in
+    let room = room_left 16 (length c.more.list) c.len.result c.len.ensures c.if-len-eq-MOST_LOCALS.false c.more.invariant.at_most in
     let fails = counted_fails 16 TooManyLocals c.in_err-next.field-0.0 (length c.more.list) c.more.list c.more.rest.now _ definitions_listed room (sym c.is_name_next.ensures ∙ c.more-test.true) c.in_err-next.ensures c.more.invariant.reads in
     search rules
 
-pub returns-then-len-eq-MOST_DEFINITIONS : goal.returns-then-len-eq-MOST_DEFINITIONS
-returns-then-len-eq-MOST_DEFINITIONS c =
+pub returns-then-len-eq-MOST_LOCALS : goal.returns-then-len-eq-MOST_LOCALS
+returns-then-len-eq-MOST_LOCALS c =
     subst (λ (e : ReadRefusal). Fails e (reading productions definitions c.args.tokens.now))
     (sym (c.refusal_at.ensures ∙ ap (λ (d : Code). fault_with (length c.more.rest.now) d) c.code.ensures))
-    (counted_is_full 16 TooManyLocals (length c.more.list) c.more.list c.more.rest.now _ definitions_listed (sym c.len.ensures ∙ c.if-len-eq-MOST_DEFINITIONS.true) (sym c.is_name_next.ensures ∙ c.more-test.true) c.more.invariant.reads)
+    (counted_is_full 16 TooManyLocals (length c.more.list) c.more.list c.more.rest.now _ definitions_listed (sym c.len.ensures ∙ c.if-len-eq-MOST_LOCALS.true) (sym c.is_name_next.ensures ∙ c.more-test.true) c.more.invariant.reads)

@@ -1,8 +1,8 @@
 use Rattle.jdf_read.proofs.File.{only_tree, only_fault}
 use Rattle.jdf_read.proofs.text.read.Goals as goal
 
-pub returns-clause-exact : goal.returns-clause-exact
-returns-clause-exact c =
+pub returns : goal.returns
+returns c =
     record {
       found = c.read_bytes.ensures.found;
       only = only_tree c.args.bytes.now c.read_bytes.result c.read_bytes.ensures.found c.read_bytes.ensures.fault;
