@@ -1,5 +1,5 @@
 -- An index after one more name.
-use Rattle.std.proofs.Common.{◌≡◌, ℕ, ◌<◌, Bool, true, false, ◌&&◌, cond, List, [], ◌∷◌, ◌++◌, length, Option, Some, None, nat_eq, get_or, refl, sym, ap, subst, ◌∙◌, arith, eq-eqb, eqb-true, ◌%◌, ◌/◌, ◌^◌}
+use Rattle.std.proofs.Common.{◌≡◌, ℕ, ◌<◌, Bool, true, false, ◌&&◌, cond, List, [], ◌∷◌, ◌++◌, length, Option, Some, None, nat_eq, get_or, refl, sym, ap, subst, ◌∙◌, arith, eq-eqb, eqb-true, ◌%◌, ◌^◌}
 use Rattle.std.specs.Prelude.{slice_get, slice_set}
 use Rattle.std.specs.Cmp.{second_so}
 use Rattle.std.specs.BTreeMap.{get, is_at}
@@ -167,9 +167,9 @@ module _ (names : List (List ℕ)) (x : Index) (new : List ℕ) (is : IsIndexOf 
       other_indexed = record { others = other_sound; finds = finds_all other_finds_new other_finds_old }
 
 module _ (names : List (List ℕ)) (x y : Index) (name shown : List ℕ) (mixed_to at count number : ℕ) (old : List Slot) (is : IsIndexOf names x) (none : found names x name ≡ None) (long : length names ≡ number)
-    (s : shown ≡ name) (m : mixed_to ≡ mixed shown) (n : count ≡ length x.buckets.items) (a : at ≡ mixed_to / 2 ^ 32 % count) (lt : at < count) (o : old ≡ get_or x.buckets.items at old) where
+    (s : shown ≡ name) (m : mixed_to ≡ mixed shown) (n : count ≡ length x.buckets.items) (a : at ≡ mixed_to % count) (lt : at < count) (o : old ≡ get_or x.buckets.items at old) where
   bucket_is : at ≡ bucket_of (length x.buckets.items) name
-  bucket_is = a ∙ (ap (λ (k : ℕ). k / 2 ^ 32 % count) (m ∙ ap mixed s) ∙ ap (λ (k : ℕ). mixed name / 2 ^ 32 % k) n)
+  bucket_is = a ∙ (ap (λ (k : ℕ). k % count) (m ∙ ap mixed s) ∙ ap (λ (k : ℕ). mixed name % k) n)
 
   at_is : (bucket : List Slot) → bucket ≡ get_or x.buckets.items at bucket → get_or x.buckets.items at [] ≡ bucket
   at_is bucket b = get_or_from_slice_get x.buckets.items at bucket [] (slice_get_read x.buckets.items (length x.buckets.items) at bucket refl (omega (arith, lt, n)) b)

@@ -1,5 +1,5 @@
 -- An index of names: which bucket has the number of a name, and which names are in a map of their own. Source: this project's own choice.
-use Rattle.std.specs.Prelude.{◌≡◌, ℕ, ◌+◌, ◌*◌, ◌^◌, ◌%◌, ◌/◌, Bool, false, ◌&&◌, cond, List, [], ◌∷◌, length, Option, Some, None, nat_eq, nat_lt, slice_get, slice_index_or}
+use Rattle.std.specs.Prelude.{◌≡◌, ℕ, ◌+◌, ◌*◌, ◌^◌, ◌%◌, Bool, false, ◌&&◌, cond, List, [], ◌∷◌, length, Option, Some, None, nat_eq, nat_lt, nat_le, ◌-◌, slice_get, slice_index_or}
 use Rattle.std.specs.BTreeMap.{get}
 use Rattle.std.specs.Cmp.Lexicographic.{slice_cmp}
 use Rattle.std.specs.Ordering.{nat_cmp}
@@ -7,10 +7,14 @@ use Rattle.std.specs.Str.{bytes_eq}
 use Rattle.name_table.specs.declared.index.Index.{Index}
 use Rattle.name_table.specs.declared.bucket.Slot.{Slot}
 
--- what further bytes make of a number
+-- what one more byte makes of a number: digits count on, so that names that are counted get numbers one after another
+unfoldable pub with_byte : ℕ → ℕ → ℕ
+with_byte m b = cond (nat_le 48 b && nat_le b 57) (((m * 10) % 2 ^ 64 + (b - 48)) % 2 ^ 64) (((m + b) % 2 ^ 64 * 11400714819323198485) % 2 ^ 64)
+
+-- what further bytes make of it
 abbrev pub mixed_from : ℕ → List ℕ → ℕ
 mixed_from m [] = m
-mixed_from m (b ∷ bs) = mixed_from (((m + b) % 2 ^ 64 * 11400714819323198485) % 2 ^ 64) bs
+mixed_from m (b ∷ bs) = mixed_from (with_byte m b) bs
 
 -- the number that a name is mixed to
 unfoldable pub mixed : List ℕ → ℕ
@@ -22,7 +26,7 @@ mark_of name = mixed name % 2 ^ 32
 
 -- the bucket of the name, of so many
 abbrev pub bucket_of : ℕ → List ℕ → ℕ
-bucket_of count name = mixed name / 2 ^ 32 % count
+bucket_of count name = mixed name % count
 
 abbrev pub bytes_named : List ℕ → Option (List ℕ) → Bool
 bytes_named name (Some n) = bytes_eq n name

@@ -6,7 +6,7 @@ ghost use Rattle.name_table.specs.Index.{IsIndexOf, found, has_number, in_bucket
 ghost use Rattle.name_table.specs.Names.{IsEachOnce};
 
 use crate::bucket::{Bucket, Slot};
-use crate::mix::{high_within, low, mixed};
+use crate::mix::{low, mixed, within};
 use ptg_base::{OutOfMemory, Text};
 use std::alloc::Global;
 use std::collections::BTreeMap;
@@ -75,7 +75,7 @@ impl Index {
             return None;
         }
         let mixed = mixed(name.bytes());
-        let bucket = &self.buckets[high_within(mixed, self.buckets.len())];
+        let bucket = &self.buckets[within(mixed, self.buckets.len())];
         let number = in_bucket(names, name, low(mixed), bucket.as_slice());
         if number.is_some() || bucket.has_room() {
             return number;
@@ -91,7 +91,7 @@ impl Index {
         ensures count { length self.new.buckets.items ≡ length self.old.buckets.items }
     {
         let mixed = mixed(name.bytes());
-        let at = high_within(mixed, self.buckets.len());
+        let at = within(mixed, self.buckets.len());
         if self.buckets[at].has_room() {
             self.buckets[at].push(Slot {
                 mark: low(mixed),
