@@ -4,8 +4,11 @@ use Rattle.jdf_read.proofs.text.read.Goals as goal
 pub returns : goal.returns
 returns c =
     record {
-      found = c.read_bytes.ensures.found;
-      only = only_tree c.args.bytes.now c.read_bytes.result c.read_bytes.ensures.found c.read_bytes.ensures.fault;
-      fault = c.read_bytes.ensures.fault;
-      refused = only_fault c.args.bytes.now c.read_bytes.result c.read_bytes.ensures.found c.read_bytes.ensures.fault;
+      exact =
+          record {
+            found = c.read_bytes.ensures.found;
+            only = only_tree c.args.bytes.now c.read_bytes.result c.read_bytes.ensures.found c.read_bytes.ensures.fault;
+            fault = c.read_bytes.ensures.fault;
+            refused = only_fault c.args.bytes.now c.read_bytes.result c.read_bytes.ensures.found c.read_bytes.ensures.fault;
+          };
     }
