@@ -13,7 +13,7 @@ use Rattle.check_names.specs.Expressions.{option_faults, option_term}
 use Rattle.check_names.specs.Definitions.{space_of, space_faults}
 use Rattle.check_flows.specs.Places.{element_faults, element_of}
 use Rattle.check_flows.specs.Dependences.{flow_faults, flow_plan}
-use Rattle.flow_check.specs.declared.head.Head.{Head}
+use Rattle.flow_check.specs.declared.head.ClassHead.{ClassHead}
 use Rattle.flow_check.specs.Bodies.{BodyResult, body_faults, body_of}
 
 -- the flows of a class, and all their faults
@@ -24,10 +24,10 @@ abbrev pub flows_faults : Job → List DefTree → List FlowTree → List JdfFau
 flows_faults job seen flows = flat_map (flow_faults job seen) flows ++ repeats (λ (f : FlowTree). f.name) NameTwice flows
 
 -- the parts of a class outside of its body, from its space and its affinity, and from its flows and its priority
-abbrev pub head_from : ClassSpace × (ℕ × List Term) → List FlowPlan × Option Term → Head
+abbrev pub head_from : ClassSpace × (ℕ × List Term) → List FlowPlan × Option Term → ClassHead
 head_from place rest = record { space = place.0; affinity = place.1; flows = rest.0; priority = rest.1 }
 
-abbrev pub head_of : Job → ClassTree → Option Head
+abbrev pub head_of : Job → ClassTree → Option ClassHead
 head_of job class =
     both head_from (both (λ x y. (x, y)) (space_of job class.params class.defs) (element_of job class.defs class.affinity class.affinity_args))
     (both (λ x y. (x, y)) (flows_of job class.defs class.flows) (option_term job class.defs class.priority))
@@ -39,7 +39,7 @@ head_faults job class =
     ++ (flows_faults job class.defs class.flows ++ option_faults job class.defs class.priority)
 
 -- the class of its parts
-abbrev pub class_from : ClassTree → Head → Body × List (List ℕ) → ClassPlan × ClassSpace
+abbrev pub class_from : ClassTree → ClassHead → Body × List (List ℕ) → ClassPlan × ClassSpace
 class_from class head b = (record { name = class.name.text; affinity = head.affinity; flows = head.flows; priority = head.priority; body = b.0; trap_words = b.1 }, head.space)
 
 -- a class and its space with all names resolved, whose body was read so

@@ -11,7 +11,7 @@ ghost use Rattle.flow_check.specs.Bodies.{ReadsAs};
 ghost use Rattle.flow_check.specs.Check.{IsClassRead};
 ghost use Rattle.flow_check.specs.Classes.{class_from, class_plan, class_faults};
 
-use crate::head::{Head, head};
+use crate::head::{ClassHead, head};
 use crate::scope::scope_of;
 use body_lang::read_body;
 use body_names::Scope;
@@ -44,7 +44,7 @@ fn body(alloc: Global, class: &ClassTree, scope: &Scope) -> Result<BodyResult, O
 fn class_from(
     alloc: Global,
     class: &ClassTree,
-    head: Head,
+    head: ClassHead,
     body: (Body, Seq<Text>),
 ) -> Result<(ClassPlan, ClassSpace), OutOfMemory>
     ensures { IfOk result (λ x. x ≡ class_from class.now head body) }

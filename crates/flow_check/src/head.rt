@@ -18,7 +18,7 @@ use term_core::{ClassSpace, Expr};
 
 /// The parts of a class outside of its body.
 #[derive(Drop)]
-pub(crate) struct Head {
+pub(crate) struct ClassHead {
     pub(crate) space: ClassSpace,
     /// The collection of the affinity, and its indices.
     pub(crate) affinity: (u32, Seq<Expr>),
@@ -26,10 +26,13 @@ pub(crate) struct Head {
     pub(crate) priority: Option<Expr>,
 }
 
-fn head_from(place: (ClassSpace, (u32, Seq<Expr>)), rest: (Seq<FlowPlan>, Option<Expr>)) -> Head
+fn head_from(
+    place: (ClassSpace, (u32, Seq<Expr>)),
+    rest: (Seq<FlowPlan>, Option<Expr>),
+) -> ClassHead
     ensures { result ≡ head_from place rest }
 {
-    Head {
+    ClassHead {
         space: place.0,
         affinity: place.1,
         flows: rest.0,
@@ -61,11 +64,11 @@ fn flows(context: &Context, flows: &[FlowTree]) -> Result<Seq<FlowPlan>, JdfRefu
 }
 
 /// The parts of a class outside of its body, with their names resolved. All definitions of the class are seen.
-pub(crate) fn head(context: &Context, class: &ClassTree) -> Result<Head, JdfRefusal>
+pub(crate) fn head(context: &Context, class: &ClassTree) -> Result<ClassHead, JdfRefusal>
     requires context { IsContext context.now }
     requires seen { context.now.seen.now ≡ class.now.defs }
     requires bounded { IsBoundedClass class.now }
-    ensures { ReturnsChecked {A = Head} result (head_of (job_of context.now) class.now) (head_faults (job_of context.now) class.now) }
+    ensures { ReturnsChecked {A = ClassHead} result (head_of (job_of context.now) class.now) (head_faults (job_of context.now) class.now) }
 {
     let place = join(
         space(context, class),
