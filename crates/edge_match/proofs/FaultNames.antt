@@ -8,6 +8,7 @@ use Rattle.ptg_base.specs.Task.{Task}
 use Rattle.ptg_base.specs.declared.edge.Edge.{Edge}
 use Rattle.ptg_base.specs.declared.edge.Item.{Item}
 use Rattle.ptg_base.specs.declared.edge.Item.TheVariants as item
+use Rattle.ptg_base.specs.declared.edge.WriteBack.{WriteBack}
 use Rattle.term_core.specs.declared.space.Def.{Def}
 use Rattle.term_core.specs.declared.space.ClassSpace.{ClassSpace}
 use Rattle.range_space.specs.declared.fault.SpanFault.{SpanFault}
@@ -29,42 +30,42 @@ use Rattle.edge_match.specs.declared.phase.Phase.{Phase}
 use Rattle.edge_match.specs.declared.phase.Phase.TheVariants.{Connecting, Matching}
 use Rattle.dep_iter.specs.declared.direction.Direction.{Direction}
 use Rattle.dep_iter.specs.declared.direction.Direction.TheVariants.{In, Out}
-use Rattle.edge_match.specs.Directions.{marks_at}
 use Rattle.edge_match.specs.Faults.{space_fault}
-use Rattle.edge_match.specs.FirstFault.{IsFirstFault, IsTaskFault, flow_at}
-use Rattle.edge_match.specs.Marks.{Check, CountsIn, CountsItem, HasIn, HasInput, HasOut, HasSource, HasTile, IsNewEdge, IsNewPlace, IsOfJob, IsPlace, Mark, flow_start, mark, phase_marks, task_start}
-use Rattle.edge_match.proofs.Directed.{flow_items}
-use Rattle.edge_match.proofs.Holding.{AtFlow, join, of_items, of_phase, parts}
+use Rattle.edge_match.specs.FirstFault.{IsFirstFault, IsTaskFault}
+use Rattle.edge_match.specs.Marks.{Check, Mark, edge_marks, flow_items, flow_start, ill_flow, item_marks, mark, phase_marks, task_start}
+use Rattle.edge_match.specs.Marks.{write_marks}
+use Rattle.edge_match.proofs.Holding.{AtFlow, join, of_phase, parts}
 use Rattle.edge_accept.proofs.PlaceBits.{some_of}
 
 -- a mark is at a task of the job, and the flow of its fault, if it is one's, is one of that task
-pub record IsNamed (P : Plan) (m : Mark) : Type 0 where
-  pub of_job : IsTask P m.task
-  pub flow : (n : ℕ) → flow_at P m.flow m.check ≡ Some n → n < length (flows_of P m.task)
+abbrev pub IsNamed : Plan → Mark → Type 0
+IsNamed P m = IsTask P m.task × ((n : ℕ) → m.flow ≡ Some n → n < length (flows_of P m.task))
 
 -- the marks at a flow of a task
 module _ (P : Plan) (t : Task) (of_job : IsTask P t) (n : ℕ) (below : n < length (flows_of P t)) where
-  at_flow : (c : Check) → flow_at P (Some n) c ≡ Some n → IsNamed P (mark t (Some n) c)
-  at_flow c e = record { of_job = of_job; flow = λ k q. let same : n ≡ k = cc in subst (λ m. m < length (flows_of P t)) same below }
+  at_flow : (c : Check) → IsNamed P (mark t (Some n) c)
+  at_flow c = (of_job, λ k q. let same : n ≡ k = cc in subst (λ m. m < length (flows_of P t)) same below)
 
   named_start : (phase : Phase) (f : FlowPlan) → AllByRecursion (IsNamed P) (flow_start phase P t n f)
-  named_start Connecting f = (at_flow (HasInput f.kind (data_source P t n)) refl, (at_flow (HasSource (data_source P t n)) refl, tt))
+  named_start Connecting f = (at_flow _, (at_flow _, tt))
   named_start Matching f = tt
 
-  named_item : (d : Direction) (phase : Phase) (s : Source) (earlier : List Edge) (i : Item) → AllByRecursion (IsNamed P) (marks_at d phase s t n earlier i)
-  named_item In Connecting s earlier (item.Edge e) = (at_flow (IsOfJob e.from) refl, (at_flow (CountsIn e) refl, tt))
-  named_item In Matching s earlier (item.Edge e) = (at_flow (HasOut e) refl, (at_flow (IsNewEdge earlier e) refl, tt))
-  named_item In phase s earlier (item.Write w) = tt
-  named_item Out Connecting s earlier (item.Edge e) = (at_flow (HasTile s) refl, (at_flow (IsOfJob e.to) refl, (at_flow (CountsItem (item.Edge e)) refl, tt)))
-  named_item Out Matching s earlier (item.Edge e) = (at_flow (HasIn e) refl, (at_flow (IsNewEdge earlier e) refl, tt))
-  named_item Out Connecting s earlier (item.Write w) = (at_flow (HasTile s) refl, (at_flow (IsPlace w.place) refl, (at_flow (CountsItem (item.Write w)) refl, (at_flow (IsNewPlace w.place) refl, tt))))
-  named_item Out Matching s earlier (item.Write w) = tt
+  named_edge : (phase : Phase) (d : Direction) (s : Source) (earlier : List Edge) (e : Edge) → AllByRecursion (IsNamed P) (edge_marks d earlier e phase s t n)
+  named_edge Connecting In s earlier e = (at_flow _, (at_flow _, tt))
+  named_edge Connecting Out s earlier e = (at_flow _, (at_flow _, (at_flow _, tt)))
+  named_edge Matching d s earlier e = (at_flow _, (at_flow _, tt))
+
+  named_write : (phase : Phase) (s : Source) (w : WriteBack) → AllByRecursion (IsNamed P) (write_marks w phase s t n)
+  named_write Connecting s w = (at_flow _, (at_flow _, (at_flow _, (at_flow _, tt))))
+  named_write Matching s w = tt
+
+  named_items : (phase : Phase) (d : Direction) (s : Source) (earlier : List Edge) (is : List Item) → AllByRecursion (IsNamed P) (item_marks d earlier is phase s t n)
+  named_items phase d s earlier [] = tt
+  named_items phase d s earlier (item.Edge e ∷ is) = join (IsNamed P) _ _ (named_edge phase d s earlier e) (named_items phase d s (earlier ++ e ∷ []) is)
+  named_items phase d s earlier (item.Write w ∷ is) = join (IsNamed P) _ _ (named_write phase s w) (named_items phase d s earlier is)
 
   named_flow : (phase : Phase) (f : FlowPlan) → AtFlow (IsNamed P) phase P t n f
-  named_flow phase f = record {
-    start = named_start phase f;
-    directed = λ d. (of_items (IsNamed P) (λ (i : Item). Unit {0}) d phase (data_source P t n) t n (λ earlier i. (λ h. tt, λ h. named_item d phase (data_source P t n) earlier i)) [] (flow_items d P t n f)).1 (λ i h. tt);
-  }
+  named_flow phase f = record { start = named_start phase f; directed = λ d. named_items phase d (data_source P t n) [] (flow_items d P t n f) }
 
 -- the flow of an ill task that is ill is one of the task
 first_or_later : (b : Bool) (o : Option ℕ) (n k : ℕ) → (if b then o else Some n) ≡ Some k → (o ≡ Some k) ⊎ (n ≡ k)
@@ -87,12 +88,12 @@ ill_in_class : (env : List ℤ) (o : Option ClassPlan) (k : ℕ) → unwrap_or (
 ill_in_class env None k h = cc
 ill_in_class env (Some c) k h = let b = first_ill env 0 c.flows k (ill_flow_in (has_hints env c) (first_ill_flow env 0 c.flows) k h) in omega arith
 
-ill_flow : (P : Plan) (t : Task) (k : ℕ) → unwrap_or (ill_part P t) None ≡ Some k → k < length (flows_of P t)
+ill_is_flow : (P : Plan) (t : Task) (k : ℕ) → ill_flow P t ≡ Some k → k < length (flows_of P t)
 unfolding ill_part
-ill_flow P t k h = ill_in_class (locals_of P t) (slice_get P.classes t.class) k h
+ill_is_flow P t k h = ill_in_class (locals_of P t) (slice_get P.classes t.class) k h
 
 named_task : (P : Plan) (phase : Phase) (t : Task) → IsTask P t → AllByRecursion (IsNamed P) (task_start phase P t)
-named_task P Connecting t h = (record { of_job = h; flow = ill_flow P t }, (record { of_job = h; flow = λ k q. cc }, tt))
+named_task P Connecting t h = ((h, ill_is_flow P t), ((h, λ k q. cc), tt))
 named_task P Matching t h = tt
 
 named_phase : (P : Plan) (phase : Phase) → AllByRecursion (IsNamed P) (phase_marks phase P)
@@ -107,7 +108,7 @@ names_task P f w =
     let v = w.first in
     let all = join (IsNamed P) (phase_marks Connecting P) (phase_marks Matching P) (named_phase P Connecting) (named_phase P Matching) in
     let m = (parts (IsNamed P) v.passed (v.failed ∷ v.rest) (subst (AllByRecursion (IsNamed P)) v.split all)).1.0 in
-    subst (NamesTask P) (sym v.fails.1) (m.of_job, m.flow)
+    subst (NamesTask P) (sym v.fails.1) m
 
 -- a visit of this class, with fewer values than so many where a definition has none
 abbrev pub IsVisitOf : ℕ → ℕ → Visit → Type 0
