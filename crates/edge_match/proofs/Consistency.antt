@@ -85,7 +85,7 @@ module _ (P : Plan) where
   well_connected all t of_job =
       let a = (tasks Connecting).0 all t of_job in
       let exists = λ (d : Direction) (n : ℕ) (f : FlowPlan) (here : slice_get (flows_of P t) n ≡ Some f).
-          (connected P (data_source P t n) t n d [] (flow_items d P t n f)).0 ((a.flows n f here).directed d) in
+      (connected P (data_source P t n) t n d [] (flow_items d P t n f)).0 ((a.flows n f here).directed d) in
       let sent = λ (i : Item) (h : IsIn i (items P t)). let p = item_flow-sends P t i h in exists Out (item_flow i) p.0 p.1.0 i p.1.1 in
       record {
         well = a.start.0;
@@ -139,7 +139,7 @@ module _ (P : Plan) where
     λ all d t of_job.
         let a = (tasks Matching).0 all t of_job in
         let m = λ (n : ℕ) (f : FlowPlan) (here : slice_get (flows_of P t) n ≡ Some f).
-            matching P d (data_source P t n) t n [] (flow_items d P t n f) ((a.flows n f here).directed d) tt in
+        matching P d (data_source P t n) t n [] (flow_items d P t n f) ((a.flows n f here).directed d) tt in
         (λ e h. let p = from_flow P t d e h in (m p.0.0 p.0.1 p.1.0).0 e p.1.1, task_once P t d (λ n f here. (m n f here).1)),
     λ w. (tasks Matching).1 (λ t of_job. record {
       start = tt;

@@ -14,7 +14,9 @@ use Rattle.ptg_base.specs.declared.edge.WriteBack.{WriteBack}
 use Rattle.plan_core.specs.declared.flow.DepPlan.{DepPlan}
 use Rattle.plan_core.specs.declared.flow.FlowPlan.{FlowPlan}
 use Rattle.plan_core.specs.declared.plan.Plan.{Plan}
+use Rattle.plan_core.specs.declared.target.Arg.{Arg}
 use Rattle.plan_core.specs.declared.target.Target.{Target}
+use Rattle.plan_core.specs.declared.target.Target.TheVariants as target
 use Rattle.range_space.proofs.MemberLists.{IsIn-append_left, from_append}
 use Rattle.dep_iter.specs.declared.direction.Direction.{Direction}
 use Rattle.dep_iter.specs.declared.direction.Direction.TheVariants.{In, Out}
@@ -22,19 +24,22 @@ use Rattle.dep_iter.specs.declared.source.Source.{Source}
 use Rattle.dep_iter.specs.Tasks.{flows_of, locals_of}
 use Rattle.dep_iter.specs.Active.{flow_ins, held_target, held_targets, held_then, takes_first}
 use Rattle.dep_iter.specs.Directions.{dependences, edges_before, edges_of, first_alone, near_flow}
-use Rattle.dep_iter.specs.Edges.{edges_into, in_edges_before}
+use Rattle.dep_iter.specs.Edges.{data_source, edges_into, in_edges_before}
 use Rattle.dep_iter.specs.Items.{edge_of, items_to, out_edges_before, write_of, items}
+use Rattle.dep_iter.specs.Arguments.{combinations}
 use Rattle.dep_iter.proofs.Belonging.{held-none}
-use Rattle.dep_iter.proofs.Joining.{filter_map-append, filter_map-flat_map, map-flat_map}
+use Rattle.dep_iter.proofs.Distinctness.{distinct_in, distinct_out}
+use Rattle.dep_iter.proofs.Joining.{filter_map-append, filter_map-flat_map, map-flat_map, map-map}
 use Rattle.edge_accept.specs.Flows.{edges_into_flow, ins_of_flows, items_of_flows}
 use Rattle.edge_accept.proofs.Lists.{flat_map-end}
 use Rattle.edge_accept.proofs.TaskFlows.{in_edges-flows, into_flow_is, items-by_flow, sent_flow_is}
 use Rattle.edge_match.specs.declared.counted.Counted.{Counted}
+use Rattle.edge_match.specs.declared.dependences.Named.{Named}
 use Rattle.edge_match.specs.declared.fault.MatchFault.{MatchFault}
 use Rattle.edge_match.specs.declared.phase.Phase.{Phase}
 use Rattle.edge_match.specs.declared.task_at.FlowAt.{FlowAt}
 use Rattle.edge_match.specs.Counted.{Checked}
-use Rattle.edge_match.specs.FlowParts.{CheckedAt, FlowMarks, before_at, held_at}
+use Rattle.edge_match.specs.FlowParts.{CheckedAt, FlowMarks, before_at, edge_named, held_at}
 use Rattle.edge_match.specs.Marks.{Mark, edge_marks, flow_items, held_items, item_marks, items_at, numbered, write_marks}
 use Rattle.edge_match.proofs.Parts.{stop, followed, unchecked}
 
@@ -161,6 +166,15 @@ held_then-is true x later = refl
 held_then-is false x later = refl
 
 -- the edges that the first dependences of a flow give
+first_edges : (at : FlowAt) (d : Direction) (k : ℕ) → before_at d at k ≡ filter_map edge_of (held_items d at.task.now
+    (locals_of at.plan.now at.task.now) at.number at.flow.now.kind (take k (dependences d at.flow.now)))
+unfolding in_edges_before out_edges_before
+first_edges at In k =
+    let env = locals_of at.plan.now at.task.now in
+    let held = held_targets (takes_first at.flow.now.kind) (take k at.flow.now.ins) env in
+    rw at.here (sym (ap (filter_map edge_of) (in_items at.task.now env at.number held) ∙ edges_only _))
+first_edges at Out k = rw at.here refl
+
 module _ (at : FlowAt) (d : Direction) where
   abbrev pub alone : Bool
   alone = first_alone d at.flow.now.kind
@@ -172,13 +186,10 @@ module _ (at : FlowAt) (d : Direction) where
   all ms = ms at.phase (data_source at.plan.now at.task.now at.number) at.task.now at.number
 
   pub before-is : (k : ℕ) → before_at d at k ≡ filter_map edge_of (held_at d at (take k (dependences d at.flow.now)))
-  before-is k = rw (sym at.locals) at (first_edges d k)
-    where
-      first_edges : (d : Direction) (k : ℕ) → edges_before d at.plan.now at.task.now at.number k
-          ≡ filter_map edge_of (held_items d at.task.now (locals_of at.plan.now at.task.now) at.number at.flow.now.kind (take k (dependences d at.flow.now)))
-      unfolding in_edges_before out_edges_before
-      first_edges In k = rw at.here (sym (ap (filter_map edge_of) (in_items _ _ _ _) ∙ edges_only _))
-      first_edges Out k = rw at.here refl
+  before-is k = rw (sym at.locals) at (first_edges at d k)
+
+  pub nothing_before : before_at d at 0 ≡ []
+  nothing_before = before-is 0
 
   -- the dependence at hand, and the later ones
   module _ (k : ℕ) (dep : DepPlan) (later : List DepPlan) (rest : drop k (dependences d at.flow.now) ≡ dep ∷ later) where
@@ -235,12 +246,32 @@ module _ (at : FlowAt) (d : Direction) where
           let ends : held alone = subst held (sym any) (held-end first dep at.env.now x holds) in
           let all_first = held_targets alone first at.env.now in
           let same : before_at d at (k + 1) ≡ before_at d at k ++ filter_map edge_of here =
-              one_longer ∙ ap (λ xs. filter_map edge_of (given xs)) ends
-              ∙ ap (filter_map edge_of) (flat_map-end (items_at d at.task.now at.env.now at.number) all_first x)
-              ∙ filter_map-append edge_of (given all_first) here ∙ ap (λ l. l ++ filter_map edge_of here) (sym (before-is k)) in
+          one_longer ∙ ap (λ xs. filter_map edge_of (given xs)) ends
+          ∙ ap (filter_map edge_of) (flat_map-end (items_at d at.task.now at.env.now at.number) all_first x)
+          ∙ filter_map-append edge_of (given all_first) here ∙ ap (λ l. l ++ filter_map edge_of here) (sym (before-is k)) in
           let rest_is : others alone ≡ all (from (k + 1) later) =
-              ap others any ∙ ap (λ es. all (item_marks d es (held_at d at later))) (sym same) in
+          ap others any ∙ ap (λ es. all (item_marks d es (held_at d at later))) (sym same) in
           rw split (followed h (rw rest_is more))
+
+-- a target that names no task and no place stands for nothing
+pub no_items : (d : Direction) (t : Task) (env : List ℤ) (n : ℕ)
+    → (items_at d t env n target.New ≡ []) × (items_at d t env n target.Null ≡ [])
+no_items In t env n = (refl, refl)
+no_items Out t env n = (refl, refl)
+
+-- the edges that a target names in one dependence, and that no two of them are the same
+module _ (at : FlowAt) (k class flow : ℕ) (args : List Arg) where
+  abbrev named : Named
+  named = record { dependence = k; class = class; flow = flow }
+
+  pub named_items : (d : Direction) → items_at d at.task.now at.env.now at.number (target.Task class flow args)
+      ≡ map item.Edge (map (edge_named d at named) (combinations args at.env.now))
+  named_items In = refl
+  named_items Out = sym (map-map item.Edge (edge_named Out at named) (combinations args at.env.now))
+
+  pub differ : (d : Direction) → HasNoRepeats (map (edge_named d at named) (combinations args at.env.now))
+  differ In = distinct_in at.task.now at.env.now at.number (target.Task class flow args)
+  differ Out = rw (named_items Out, edges_only _) at (distinct_out at.task.now at.env.now at.number (target.Task class flow args))
 
 -- flows with their numbers
 abbrev pub flows_at : Plan → Task → List (ℕ × FlowPlan)

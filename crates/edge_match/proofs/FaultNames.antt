@@ -43,20 +43,20 @@ IsNamed P m = IsTask P m.task × ((n : ℕ) → m.flow ≡ Some n → n < length
 
 -- the marks at a flow of a task
 module _ (P : Plan) (t : Task) (of_job : IsTask P t) (n : ℕ) (below : n < length (flows_of P t)) where
-  at_flow : (c : Check) → IsNamed P (mark t (Some n) c)
-  at_flow c = (of_job, λ k q. let same : n ≡ k = cc in subst (λ m. m < length (flows_of P t)) same below)
+  at_flow : IsTask P t × ((k : ℕ) → Some n ≡ Some k → k < length (flows_of P t))
+  at_flow = (of_job, λ k q. let same : n ≡ k = cc in subst (λ m. m < length (flows_of P t)) same below)
 
   named_start : (phase : Phase) (f : FlowPlan) → AllByRecursion (IsNamed P) (flow_start phase P t n f)
-  named_start Connecting f = (at_flow _, (at_flow _, tt))
+  named_start Connecting f = (at_flow, (at_flow, tt))
   named_start Matching f = tt
 
   named_edge : (phase : Phase) (d : Direction) (s : Source) (earlier : List Edge) (e : Edge) → AllByRecursion (IsNamed P) (edge_marks d earlier e phase s t n)
-  named_edge Connecting In s earlier e = (at_flow _, (at_flow _, tt))
-  named_edge Connecting Out s earlier e = (at_flow _, (at_flow _, (at_flow _, tt)))
-  named_edge Matching d s earlier e = (at_flow _, (at_flow _, tt))
+  named_edge Connecting In s earlier e = (at_flow, (at_flow, tt))
+  named_edge Connecting Out s earlier e = (at_flow, (at_flow, (at_flow, tt)))
+  named_edge Matching d s earlier e = (at_flow, (at_flow, tt))
 
   named_write : (phase : Phase) (s : Source) (w : WriteBack) → AllByRecursion (IsNamed P) (write_marks w phase s t n)
-  named_write Connecting s w = (at_flow _, (at_flow _, (at_flow _, (at_flow _, tt))))
+  named_write Connecting s w = (at_flow, (at_flow, (at_flow, (at_flow, tt))))
   named_write Matching s w = tt
 
   named_items : (phase : Phase) (d : Direction) (s : Source) (earlier : List Edge) (is : List Item) → AllByRecursion (IsNamed P) (item_marks d earlier is phase s t n)

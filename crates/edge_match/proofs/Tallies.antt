@@ -1,7 +1,6 @@
 -- How the counts go on with an edge, an item or a place.
-use Rattle.std.proofs.Common.{◌≡◌, ◌↔◌, ◌+◌, Bool, List, [], ◌∷◌, IsTrue, ◌⊎◌, inl, inr, refl, ap, ◌∙◌, Option, None, Some}
-use Rattle.std.proofs.Common.{MatchOption, is_some, length-append, arith}
-use Rattle.std.proofs.lemmas.Bool.{false≢true}
+use Rattle.std.proofs.Common.{◌≡◌, ◌↔◌, ◌+◌, Bool, List, [], ◌∷◌, IsTrue, ◌⊎◌, inl, inr, refl, ap, ◌∙◌, Some}
+use Rattle.std.proofs.Common.{length-append, arith}
 use Rattle.ptg_base.specs.declared.edge.Edge.{Edge}
 use Rattle.ptg_base.specs.declared.place.Place.{Place}
 use Rattle.plan_core.specs.declared.plan.Plan.{Plan}
@@ -65,9 +64,3 @@ is_data-here at e In task flow h =
     let here = kind_of-here at.plan.now at.task.now at.number at.flow.now at.here in
     let kind : kind_of at.plan.now.classes e.to.class e.in_flow ≡ Some at.flow.now.kind = rw (task, flow) here in
     ap is_data kind
-
--- what is found exactly where a fact is so
-pub found_only : {X : Type 0} (A : Type 0) (B : X → Type 0) (o : Option X) → MatchOption o (A → ⊥) (λ x. A × B x)
-    → IsTrue (is_some o) ↔ A
-found_only A B None h = (λ k. absurd (false≢true k), λ a. absurd (h a))
-found_only A B (Some x) h = (λ k. h.0, λ a. refl)

@@ -1,12 +1,12 @@
 //! Checks of an edge or of a write-back of a flow.
 
-ghost use Rattle.std.specs.Prelude.{◌≡◌, ◌↔◌, List};
+ghost use Rattle.std.specs.Prelude.{◌≡◌, ◌↔◌, IsTrue, List};
 ghost use Rattle.ptg_base.specs.Lists.{IsIn};
 ghost use Rattle.ptg_base.specs.declared.edge.Edge.{Edge as EdgeValue};
 ghost use Rattle.ptg_base.specs.declared.edge.WriteBack.{WriteBack as WriteBackValue};
 ghost use Rattle.plan_core.specs.declared.plan.Plan.{Plan as PlanValue};
 ghost use Rattle.dep_iter.specs.Consistent.{is_data_edge};
-ghost use Rattle.dep_iter.specs.Directions.{near_flow, near_task};
+ghost use Rattle.dep_iter.specs.Directions.{HasOtherEnd, near_flow, near_task};
 ghost use Rattle.dep_iter.specs.Tasks.{IsTask};
 ghost use Rattle.dep_iter.specs.declared.direction.Direction.TheVariants as direction;
 ghost use Rattle.edge_match.specs.Counted.{Decides};
@@ -22,8 +22,15 @@ use crate::fault::{MatchCode, MatchFault};
 use crate::phase::Phase;
 use crate::task_at::FlowAt;
 use dep_iter::{Direction, LentEdge, far_locals, has_edge_before, is_task};
-use plan_core::is_data;
+use plan_core::{Plan, is_data};
 use ptg_base::Place;
+
+// Whether an edge is one at its other end.
+fn has_other_end(plan: &Plan, way: Direction, edge: &LentEdge) -> bool
+    ensures { IsTrue result ↔ HasOtherEnd way plan.now edge.now }
+{
+    far_locals(plan, way, edge).is_some()
+}
 
 // The code of an edge that is none at its other end.
 fn unmatched(way: Direction) -> MatchCode
@@ -81,8 +88,7 @@ fn match_edge(at: &FlowAt, way: Direction, k: usize, edge: &LentEdge) -> Result<
     ensures { (earlier : List EdgeValue) (s : CountedValue) → IsIn edge.now earlier ↔ IsIn edge.now (before_at way at.now k)
         → CheckedAt phase.Matching at.now s s result (edge_marks way earlier edge.now) }
 {
-    let other = far_locals(at.plan, way, edge);
-    at.require(other.is_some(), unmatched(way))?;
+    at.require(has_other_end(at.plan, way, edge), unmatched(way))?;
     let double = has_edge_before(at.plan, way, at.task, at.env, edge, k);
     at.require(!double, MatchCode::DoubleEdge)
 }

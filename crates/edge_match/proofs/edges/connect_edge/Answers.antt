@@ -26,7 +26,7 @@ returns c = λ earlier.
     let s = c.args.counted.now in
     let of_job = rw c.far_task.ensures at c.is_task.ensures in
     let far = c.in_ok-require.ensures.fact (IsOfJob (far_task way e)) s of_job refl in
-    let tile = rw c.is_data.ensures (is_data-here at e way c.requires.task c.requires.flow) in
-    let counted = c.count_edge-fits.ensures P e tile in
+    let tile = is_data-here at e way c.requires.task c.requires.flow in
+    let counted = c.count_edge-fits.ensures P e (rw c.is_data.ensures tile) in
     let last = c.require-2.ensures.checked (counts way e) s c.count_edge-fits.new.counted counted (counts_code way e) in
     followed (c.in_ok-check_tile.ensures Connecting s) (followed far last)
