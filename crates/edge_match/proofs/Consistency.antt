@@ -16,8 +16,8 @@ use Rattle.dep_iter.specs.declared.source.Source.{Source}
 use Rattle.dep_iter.specs.declared.source.Source.TheVariants as source
 use Rattle.dep_iter.specs.Consistent.{IsConsistent, IsWellConnected}
 use Rattle.dep_iter.specs.Directions.{HasOtherEnd, edges_of, far_task, near_task, opposite}
-use Rattle.dep_iter.specs.Edges.{data_source, in_edges}
-use Rattle.dep_iter.specs.Items.{item_flow, items, out_edges}
+use Rattle.dep_iter.specs.Edges.{data_source}
+use Rattle.dep_iter.specs.Items.{item_flow, items}
 use Rattle.dep_iter.specs.Tasks.{IsTask, all_tasks, flows_of, locals_of}
 use Rattle.dep_iter.proofs.Belonging.{in_edge_is, out_edge_is}
 use Rattle.dep_iter.proofs.Listing.{listed}

@@ -23,9 +23,9 @@ use Rattle.dep_iter.specs.declared.direction.Direction.TheVariants.{In, Out}
 use Rattle.dep_iter.specs.declared.source.Source.{Source}
 use Rattle.dep_iter.specs.Tasks.{flows_of, locals_of}
 use Rattle.dep_iter.specs.Active.{flow_ins, held_target, held_targets, held_then, takes_first}
-use Rattle.dep_iter.specs.Directions.{dependences, edges_before, edges_of, first_alone, near_flow}
+use Rattle.dep_iter.specs.Directions.{dependences, edges_of, first_alone, near_flow}
 use Rattle.dep_iter.specs.Edges.{data_source, edges_into, in_edges_before}
-use Rattle.dep_iter.specs.Items.{edge_of, items_to, out_edges_before, write_of, items}
+use Rattle.dep_iter.specs.Items.{edge_of, out_edges_before, write_of, items}
 use Rattle.dep_iter.specs.Arguments.{combinations}
 use Rattle.dep_iter.proofs.Belonging.{held-none}
 use Rattle.dep_iter.proofs.Distinctness.{distinct_in, distinct_out}
@@ -38,10 +38,9 @@ use Rattle.edge_match.specs.declared.dependences.Named.{Named}
 use Rattle.edge_match.specs.declared.fault.MatchFault.{MatchFault}
 use Rattle.edge_match.specs.declared.phase.Phase.{Phase}
 use Rattle.edge_match.specs.declared.task_at.FlowAt.{FlowAt}
-use Rattle.edge_match.specs.Counted.{Checked}
 use Rattle.edge_match.specs.FlowParts.{CheckedAt, FlowMarks, before_at, edge_named, held_at}
 use Rattle.edge_match.specs.Marks.{Mark, edge_marks, flow_items, held_items, item_marks, items_at, numbered, write_marks}
-use Rattle.edge_match.proofs.Parts.{stop, followed, unchecked}
+use Rattle.edge_match.proofs.Parts.{stop, followed}
 
 -- edges that are written as items
 pub edges_only : (es : List Edge) → filter_map edge_of (map item.Edge es) ≡ es
@@ -231,13 +230,6 @@ module _ (at : FlowAt) (d : Direction) where
           → CheckedAt at.phase at s v r (from k (dep ∷ later))
       stop_at e h = rw split (stop (others alone) e h)
 
-      pub end_at : {s u : Counted} {y : Unit {0}} → alone ≡ true
-          → CheckedAt at.phase at s u (Ok tt) (item_marks d (before_at d at k) here)
-          → CheckedAt at.phase at s u (Ok y) (from k (dep ∷ later))
-      end_at {s} {u} {y} one h =
-          let none : others alone ≡ [] = ap others one in
-          rw split (followed h (rw none unchecked))
-
       pub pass_at : {s u v : Counted} {r : Result (Unit {0}) MatchFault} → alone ≡ false
           → CheckedAt at.phase at s u (Ok tt) (item_marks d (before_at d at k) here)
           → CheckedAt at.phase at u v r (from (k + 1) later) → CheckedAt at.phase at s v r (from k (dep ∷ later))
@@ -252,12 +244,6 @@ module _ (at : FlowAt) (d : Direction) where
           let rest_is : others alone ≡ all (from (k + 1) later) =
           ap others any ∙ ap (λ es. all (item_marks d es (held_at d at later))) (sym same) in
           rw split (followed h (rw rest_is more))
-
--- a target that names no task and no place stands for nothing
-pub no_items : (d : Direction) (t : Task) (env : List ℤ) (n : ℕ)
-    → (items_at d t env n target.New ≡ []) × (items_at d t env n target.Null ≡ [])
-no_items In t env n = (refl, refl)
-no_items Out t env n = (refl, refl)
 
 -- the edges that a target names in one dependence, and that no two of them are the same
 module _ (at : FlowAt) (k class flow : ℕ) (args : List Arg) where

@@ -32,7 +32,7 @@ use Rattle.dep_iter.specs.declared.direction.Direction.{Direction}
 use Rattle.dep_iter.specs.declared.direction.Direction.TheVariants.{In, Out}
 use Rattle.edge_match.specs.Faults.{space_fault}
 use Rattle.edge_match.specs.FirstFault.{IsFirstFault, IsTaskFault}
-use Rattle.edge_match.specs.Marks.{Check, Mark, edge_marks, flow_items, flow_start, ill_flow, item_marks, mark, phase_marks, task_start}
+use Rattle.edge_match.specs.Marks.{Mark, edge_marks, flow_items, flow_start, ill_flow, item_marks, phase_marks, task_start}
 use Rattle.edge_match.specs.Marks.{write_marks}
 use Rattle.edge_match.proofs.Holding.{AtFlow, join, of_phase, parts}
 use Rattle.edge_accept.proofs.PlaceBits.{some_of}

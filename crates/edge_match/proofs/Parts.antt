@@ -7,10 +7,9 @@ use Rattle.std.proofs.lemmas.Result.{err_from_is_err_and}
 use Rattle.plan_core.specs.declared.plan.Plan.{Plan}
 use Rattle.edge_match.specs.declared.counted.Counted.{Counted}
 use Rattle.edge_match.specs.declared.fault.MatchFault.{MatchFault}
-use Rattle.edge_match.specs.Faults.{fault_at}
-use Rattle.edge_match.specs.Marks.{AllPass, Before, Fact, Holds, Is, Mark, Passes, add, add_all}
+use Rattle.edge_match.specs.Marks.{AllPass, Before, Mark, add, add_all}
 use Rattle.edge_match.specs.FirstFault.{FailsWith, IsFirstFailure}
-use Rattle.edge_match.specs.Counted.{Checked, Decides}
+use Rattle.edge_match.specs.Counted.{Checked}
 
 pub add_all-append : (b : Before) (xs ys : List Mark) → add_all b (xs ++ ys) ≡ add_all (add_all b xs) ys
 add_all-append b [] ys = refl
@@ -80,10 +79,6 @@ both_parts P s u v x (Err f) xs ys w t = record {
 pub followed : {P : Plan} {s u v : Counted} {x : Unit {0}} {r : Result (Unit {0}) MatchFault} {xs ys : List Mark}
     → Checked P s u (Ok x) xs → Checked P u v r ys → Checked P s v r (xs ++ ys)
 followed {P} {s} {u} {v} {x} {r} {xs} {ys} h k = both_parts P s u v x r xs ys h k
-
--- a fact counts nothing
-pub steady : {P : Plan} {s : Counted} {holds : Bool} (f : Fact) → IsTrue holds ↔ Holds P f → Decides P s s holds (Is f)
-steady f h = record { passes = λ b k. h; counted = λ t b k. k }
 
 -- the opposite of a test
 pub opposite : {A : Type 0} (b : Bool) → IsTrue b ↔ A → IsTrue (not b) ↔ (A → ⊥)

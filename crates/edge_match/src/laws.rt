@@ -22,6 +22,7 @@ pub fn all_edges_and_items_are_counted()
 {}
 
 /// A law: a plan is consistent where its spaces are sound and within their limits and all its marks pass.
+#[tactic(auto, using(crate::proofs::Consistency::passes_consistent))]
 pub fn a_plan_that_passes_is_consistent()
     ensures { (P : Plan) → AllByRecursion IsSound P.spaces → length (all_tasks P) ≤ 1000000 → prefix_total P.spaces ≤ 16000000 → AllPass P nothing (marks P) → IsConsistent P }
 {}
@@ -37,6 +38,7 @@ pub fn a_consistent_plan_has_no_fault()
 {}
 
 /// A law: each plan is consistent or has a first fault.
+#[tactic(auto, using(crate::proofs::Either::consistent_or_fault))]
 pub fn a_plan_is_consistent_or_has_a_first_fault()
     ensures { (P : Plan) → IsConsistent P ⊎ ((f : MatchFault) × IsFirstFault P f) }
 {}

@@ -1,7 +1,7 @@
 use Rattle.std.proofs.Common.{sym, ◌∙◌, length, ap, add-one, arith}
 use Rattle.range_space.proofs.MemberLists.{and_right}
 use Rattle.dep_iter.specs.Directions.{dependences}
-use Rattle.edge_match.proofs.Directed.{drop_cons, end_at, pass_at, skip, stop_at}
+use Rattle.edge_match.proofs.Directed.{drop_cons, pass_at, skip, stop_at}
 use Rattle.edge_match.proofs.dependences.+check_dependences.Goals as goal
 
 pub check_dependences-requires : goal.check_dependences-requires
@@ -34,13 +34,6 @@ returns-in_err-check_target m c =
     let holds = sym c.in-Some-held_target.ensures in
     let failed = c.in_err-check_target.ensures in
     rw cons (stop_at c.args.at.now c.args.way c.args.k _ _ (c.requires.last ∙ cons) _ holds c.from_residual.ensures.1 failed)
-
-pub returns-then-first_alone : goal.returns-then-first_alone
-returns-then-first_alone m c =
-    let cons = c.in-Some.ensures.cases.0 in
-    let holds = sym c.in-Some-held_target.ensures in
-    let one = sym c.first_alone.ensures ∙ c.if-first_alone.true in
-    rw cons (end_at c.args.at.now c.args.way c.args.k _ _ (c.requires.last ∙ cons) _ holds one c.in_ok-check_target.ensures)
 
 pub returns : goal.returns
 returns m c =

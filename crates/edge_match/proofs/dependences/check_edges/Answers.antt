@@ -1,11 +1,8 @@
-use Rattle.std.proofs.Common.{List, ℤ, ap, map, sym, subst, inl, refl, Ok}
+use Rattle.std.proofs.Common.{ap, map, sym, subst, inl, refl}
 use Rattle.edge_match.specs.FlowParts.{before_at, edge_named}
 use Rattle.edge_match.proofs.Directed.{Rest, one_more}
-use Rattle.edge_match.proofs.Parts.{stop, unchecked}
+use Rattle.edge_match.proofs.Parts.{stop}
 use Rattle.edge_match.proofs.dependences.check_edges.Goals as goal
-
-pub loop-values-init : goal.loop-values-init
-loop-values-init c = record { rest = λ v r w. w }
 
 pub loop-values-preserved : goal.loop-values-preserved
 loop-values-preserved c =
@@ -32,14 +29,4 @@ returns-in_err-check_edge c =
     let all = ap (map mk) (sym c.in-Some.ensures) in
     c.loop-values.invariant.rest _ _ (subst (Rest at way before c.loop-values.counted c.check_edge.new.counted c.from_residual.result) all
     (λ earlier agree once. stop _ c.from_residual.ensures.1 (one earlier (agree (mk c.in-Some.values) (inl refl)))))
-    before (λ e h. (λ x. x, λ x. x)) c.requires.distinct
-
-pub returns : goal.returns
-returns c =
-    let at = c.args.at.now in
-    let way = c.args.way in
-    let before = before_at way at c.args.named.dependence in
-    let s = c.loop-values.counted in
-    let none = ap (map (edge_named way at c.args.named)) (sym c.in_default.ensures.0) in
-    c.loop-values.invariant.rest _ _ (subst (Rest at way before s s (Ok tt)) none (λ earlier agree once. unchecked))
     before (λ e h. (λ x. x, λ x. x)) c.requires.distinct

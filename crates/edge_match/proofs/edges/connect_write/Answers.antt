@@ -1,4 +1,4 @@
-use Rattle.std.proofs.Common.{◌↔◌, IsTrue, refl, sym}
+use Rattle.std.proofs.Common.{refl, sym}
 use Rattle.ptg_base.specs.declared.edge.Item.TheVariants as item
 use Rattle.edge_match.specs.Marks.{CountsItem, IsNewPlace, IsPlace}
 use Rattle.edge_match.specs.declared.phase.Phase.TheVariants.{Connecting}
@@ -24,9 +24,6 @@ returns-in_err-require-2 c = λ w same.
     let fits = c.in_err-require-2.ensures.checked (CountsItem i) s c.add_item-fits.new.self counted refl in
     followed (c.in_ok-check_tile.ensures Connecting s)
     (followed exists (stop _ c.from_residual-in_err-require-2.ensures.1 fits))
-
-pub add_place-new-requires : goal.add_place-new-requires
-add_place-new-requires c = c.add_item-fits.ensures.room c.in_ok-require-2.ensures.holds
 
 pub returns : goal.returns
 returns c = λ w same.

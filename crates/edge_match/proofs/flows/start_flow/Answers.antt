@@ -1,7 +1,7 @@
 use Rattle.std.proofs.Common.{refl}
 use Rattle.dep_iter.specs.Edges.{data_source}
 use Rattle.edge_match.specs.Marks.{HasInput, HasSource}
-use Rattle.edge_match.proofs.Parts.{followed, stop, unchecked}
+use Rattle.edge_match.proofs.Parts.{followed, stop}
 use Rattle.edge_match.proofs.flows.start_flow.Goals as goal
 
 pub returns-in_err-require-in-Connecting : goal.returns-in_err-require-in-Connecting
@@ -20,6 +20,3 @@ returns-in_ok-require-in-Connecting c = λ s.
     let place = rw c.requires at c.has_place.ensures in
     let first = c.in_ok-require-in-Connecting.ensures.fact (HasInput at.flow.now.kind x) s input refl in
     rw c.in-Connecting.is (followed first (c.require-in-Connecting.ensures.fact (HasSource x) s place refl))
-
-pub returns-in-Matching : goal.returns-in-Matching
-returns-in-Matching c = λ s. rw c.in-Matching.is unchecked

@@ -5,13 +5,6 @@ use Rattle.edge_match.specs.Marks.{Is, mark}
 use Rattle.edge_match.proofs.Parts.{fails_at_once}
 use Rattle.edge_match.proofs.refusing.require.Goals as goal
 
-pub returns-then-holds-clause-checked : goal.returns-then-holds-clause-checked
-returns-then-holds-clause-checked c = λ P k s u d code.
-    record { after = λ b w. (((d.passes b w).0 c.if-holds.true, tt), d.counted c.if-holds.true b w) }
-
-pub returns-then-holds-clause-fact : goal.returns-then-holds-clause-fact
-returns-then-holds-clause-fact c = λ P f s h code. record { after = λ b w. ((h.0 c.if-holds.true, tt), w) }
-
 pub returns-else-holds-clause-checked : goal.returns-else-holds-clause-checked
 returns-else-holds-clause-checked c = λ P k s u d code.
     let t = c.args.t.now in

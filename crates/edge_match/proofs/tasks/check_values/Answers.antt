@@ -5,9 +5,6 @@ use Rattle.edge_match.specs.Marks.{HasValues, Is, ill_flow, mark}
 use Rattle.edge_match.proofs.Parts.{fails_at_once}
 use Rattle.edge_match.proofs.tasks.check_values.Goals as goal
 
-pub returns-in-Ok : goal.returns-in-Ok
-returns-in-Ok c = λ s. record { after = λ b k. ((c.in-Ok.ensures.well, tt), k) }
-
 pub returns-in-Err : goal.returns-in-Err
 returns-in-Err c = λ s.
     let P = c.args.task.now.plan.now in
