@@ -50,7 +50,7 @@ into_is t env n (target.Element coll indices) e h = absurd h
 into_is t env n target.New e h = absurd h
 into_is t env n target.Null e h = absurd h
 
-into_flow_is : (t : Task) (env : List ℤ) (n : ℕ) (f : FlowPlan) (e : Edge) → IsIn e (edges_into_flow t env n f) → e.in_flow ≡ n
+pub into_flow_is : (t : Task) (env : List ℤ) (n : ℕ) (f : FlowPlan) (e : Edge) → IsIn e (edges_into_flow t env n f) → e.in_flow ≡ n
 into_flow_is t env n f e h = let p = from_flat_map (edges_into t env n) (flow_ins env f) e h in into_is t env n p.0 e p.2
 
 into_flows_from : (t : Task) (env : List ℤ) (n : ℕ) (fs : List FlowPlan) (e : Edge) → IsIn e (ins_of_flows t env n fs) → (i : ℕ) × (e.in_flow ≡ n + i)
@@ -75,7 +75,7 @@ sent_is t env n (target.Element coll indices) i h = elim h [ inl e ↦ ap item_f
 sent_is t env n target.New i h = absurd h
 sent_is t env n target.Null i h = absurd h
 
-sent_flow_is : (t : Task) (env : List ℤ) (n : ℕ) (f : FlowPlan) (i : Item) → IsIn i (items_of_flow t env n f) → item_flow i ≡ n
+pub sent_flow_is : (t : Task) (env : List ℤ) (n : ℕ) (f : FlowPlan) (i : Item) → IsIn i (items_of_flow t env n f) → item_flow i ≡ n
 sent_flow_is t env n f i h = let p = from_flat_map (items_to t env n) (flow_outs env f) i h in sent_is t env n p.0 i p.2
 
 among_items : (t : Task) (env : List ℤ) (n : ℕ) (fs : List FlowPlan) (x : Item) → IsIn x (items_of_flows t env n fs) → (i : ℕ) × (f : FlowPlan) × ((slice_get fs i ≡ Some f) × IsIn x (items_of_flow t env (n + i) f))

@@ -1,5 +1,6 @@
 -- What the marks of the first phase count: all edges into tasks, all items and all places that are written.
-use Rattle.std.proofs.Common.{◌≡◌, ℕ, ◌+◌, List, [], ◌∷◌, ◌++◌, length, length-append, map, refl, ap, sym, ◌∙◌, append_assoc, Ok, arith}
+use Rattle.std.proofs.Common.{◌≡◌, ℕ, ◌+◌, List, [], ◌∷◌, ◌++◌, length, length-append, map, refl, ap, sym, ◌∙◌, subst}
+use Rattle.std.proofs.Common.{append_assoc, Ok, arith}
 use Rattle.std.proofs.lemmas.List.{append-nil}
 use Rattle.std.specs.List.{filter_map, flat_map}
 use Rattle.ptg_base.specs.Task.{Task}
@@ -11,16 +12,18 @@ use Rattle.ptg_base.specs.declared.edge.WriteBack.{WriteBack}
 use Rattle.plan_core.specs.declared.flow.FlowPlan.{FlowPlan}
 use Rattle.plan_core.specs.declared.plan.Plan.{Plan}
 use Rattle.dep_iter.specs.declared.source.Source.{Source}
-use Rattle.dep_iter.specs.Tasks.{all_tasks, flows_of}
+use Rattle.dep_iter.specs.declared.direction.Direction.TheVariants.{In, Out}
+use Rattle.dep_iter.specs.Tasks.{all_tasks}
 use Rattle.dep_iter.specs.Consistent.{all_in, all_items, all_writes}
 use Rattle.dep_iter.specs.Edges.{data_source, goal, in_edges}
 use Rattle.dep_iter.specs.Items.{items, write_of}
 use Rattle.dep_iter.proofs.Joining.{filter_map-append, filter_map-flat_map, map-append}
 use Rattle.edge_match.specs.declared.phase.Phase.TheVariants.{Connecting}
-use Rattle.edge_match.specs.Marks.{Before, Mark, add_all, edges_into_flow, flow_marks, flow_start, flows_marks, in_marks, item_marks, items_of_flow, nothing, phase_marks, task_marks, task_start}
+use Rattle.edge_match.specs.Marks.{Before, Mark, add_all, flow_items, flow_marks, flow_start, item_marks, nothing, phase_marks}
+use Rattle.edge_match.specs.Marks.{task_marks, task_start}
 use Rattle.edge_match.specs.declared.counted.Counted.{Counted}
 use Rattle.edge_match.specs.Counted.{Checked, IsCounted}
-use Rattle.edge_match.proofs.Directed.{flows_at, ins-numbered, items-numbered, marks-numbered}
+use Rattle.edge_match.proofs.Directed.{edges-numbered, flow_edges, flows_at, in_flow_items, items-numbered}
 use Rattle.edge_match.proofs.Parts.{add_all-append}
 
 abbrev places_of : List Item → List Place
@@ -48,42 +51,44 @@ adds_each : {A : Type 0} (f : A → List Mark) (g : A → List Edge) (h : A → 
 adds_each f g h each [] = adds_none
 adds_each f g h each (x ∷ xs) = adds_both (f x) (flat_map f xs) (g x) (flat_map g xs) (h x) (flat_map h xs) (each x) (adds_each f g h each xs)
 
-in_marks-add : (t : Task) (n : ℕ) (earlier es : List Edge) → Adds (in_marks Connecting t n earlier es) es []
-in_marks-add t n earlier [] = adds_none
-in_marks-add t n earlier (e ∷ es) = record {
+ins-add : (s : Source) (t : Task) (n : ℕ) (earlier es : List Edge) → Adds (item_marks In earlier (map item.Edge es) Connecting s t n) es []
+ins-add s t n earlier [] = adds_none
+ins-add s t n earlier (e ∷ es) = record {
   after = λ b.
-      (in_marks-add t n (earlier ++ e ∷ []) es).after (record b { ins = b.ins ++ e ∷ [] }) ∙ one_before _ _ _ _ _ _ (append_assoc b.ins (e ∷ []) es) refl refl;
+      (ins-add s t n (earlier ++ e ∷ []) es).after (record b { ins = b.ins ++ e ∷ [] })
+      ∙ one_before _ _ _ _ _ _ (append_assoc b.ins (e ∷ []) es) refl refl;
 }
 
-item_marks-add : (s : Source) (t : Task) (n : ℕ) (earlier : List Edge) (is : List Item) → Adds (item_marks Connecting s t n earlier is) [] is
-item_marks-add s t n earlier [] = adds_none
-item_marks-add s t n earlier (item.Edge e ∷ is) = record {
+items-add : (s : Source) (t : Task) (n : ℕ) (earlier : List Edge) (is : List Item) → Adds (item_marks Out earlier is Connecting s t n) [] is
+items-add s t n earlier [] = adds_none
+items-add s t n earlier (item.Edge e ∷ is) = record {
   after = λ b.
-      (item_marks-add s t n (earlier ++ e ∷ []) is).after (record b { items = b.items ++ item.Edge e ∷ [] }) ∙ one_before _ _ _ _ _ _ refl (append_assoc b.items (item.Edge e ∷ []) is) refl;
+      (items-add s t n (earlier ++ e ∷ []) is).after (record b { items = b.items ++ item.Edge e ∷ [] })
+      ∙ one_before _ _ _ _ _ _ refl (append_assoc b.items (item.Edge e ∷ []) is) refl;
 }
-item_marks-add s t n earlier (item.Write w ∷ is) = record {
+items-add s t n earlier (item.Write w ∷ is) = record {
   after = λ b.
-      (item_marks-add s t n earlier is).after (record { ins = b.ins; items = b.items ++ item.Write w ∷ []; places = b.places ++ w.place ∷ [] })
+      (items-add s t n earlier is).after (record { ins = b.ins; items = b.items ++ item.Write w ∷ []; places = b.places ++ w.place ∷ [] })
       ∙ one_before _ _ _ _ _ _ refl (append_assoc b.items (item.Write w ∷ []) is) (append_assoc b.places (w.place ∷ []) (places_of is));
 }
 
 adds_nothing : (ms : List Mark) → ((b : Before) → add_all b ms ≡ b) → Adds ms [] []
 adds_nothing ms h = record { after = λ b. h b ∙ adds_none.after b }
 
-flow_adds : (P : Plan) (t : Task) (n : ℕ) (f : FlowPlan) → Adds (flow_marks Connecting P t n f) (edges_into_flow P t n f) (items_of_flow P t n f)
-flow_adds P t n f =
-    let start = flow_start Connecting P t n f in
-    let es = edges_into_flow P t n f in
-    let is = items_of_flow P t n f in
-    let ins = in_marks Connecting t n [] es in
-    let out = item_marks Connecting (data_source P t n) t n [] is in
-    rw (append-nil es) at (adds_both (start ++ ins) out es [] [] is (adds_both start ins [] es [] [] (adds_nothing start (λ b. refl)) (in_marks-add t n [] es)) (item_marks-add (data_source P t n) t n [] is))
+flow_adds : (P : Plan) (t : Task) (a : ℕ × FlowPlan) → Adds (flow_marks Connecting P t a) (flow_edges In P t a.0 a.1) (flow_items Out P t a.0 a.1)
+flow_adds P t a =
+    let s = data_source P t a.0 in
+    let es = flow_edges In P t a.0 a.1 in
+    let is = flow_items Out P t a.0 a.1 in
+    let start = adds_nothing (flow_start Connecting P t a.0 a.1) (λ b. refl) in
+    let ins = subst (λ l. Adds (item_marks In [] l Connecting s t a.0) es []) (sym (in_flow_items P t a.0 a.1)) (ins-add s t a.0 [] es) in
+    rw (append-nil es) at (adds_both _ _ es [] [] is (adds_both _ _ [] es [] [] start ins) (items-add s t a.0 [] is))
 
 task_adds : (P : Plan) (t : Task) → Adds (task_marks Connecting P t) (in_edges P t) (items P t)
 task_adds P t =
-    let flows = flows_marks Connecting P t 0 (flows_of P t) in
-    let each = adds_each (λ (a : ℕ × FlowPlan). flow_marks Connecting P t a.0 a.1) (λ a. edges_into_flow P t a.0 a.1) (λ a. items_of_flow P t a.0 a.1) (λ a. flow_adds P t a.0 a.1) (flows_at P t) in
-    adds_both (task_start Connecting P t) flows [] (in_edges P t) [] (items P t) (adds_nothing (task_start Connecting P t) (λ b. refl)) (rw (marks-numbered P t Connecting, ins-numbered P t, items-numbered P t) each)
+    let each = adds_each (flow_marks Connecting P t) (λ a. flow_edges In P t a.0 a.1) (λ a. flow_items Out P t a.0 a.1) (flow_adds P t) (flows_at P t) in
+    let flows = rw (sym (edges-numbered P t In), sym (items-numbered P t)) at each in
+    adds_both _ _ [] (in_edges P t) [] (items P t) (adds_nothing (task_start Connecting P t) (λ b. refl)) flows
 
 -- what the first phase counts
 pub phase-adds : (P : Plan) → add_all nothing (phase_marks Connecting P) ≡ record { ins = all_in P; items = all_items P; places = map (λ (w : WriteBack). w.place) (all_writes P) }

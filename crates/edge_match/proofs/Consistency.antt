@@ -1,5 +1,5 @@
 -- A plan is consistent exactly where its spaces are sound and within their limits and all its marks pass.
-use Rattle.std.proofs.Common.{◌≡◌, ◌≢◌, ◌↔◌, ℕ, ◌≤◌, List, [], length, sym, ◌∙◌, subst, Some, slice_get, arith}
+use Rattle.std.proofs.Common.{◌≡◌, ◌≢◌, ◌↔◌, ℕ, ◌≤◌, List, [], length, refl, sym, ◌∙◌, subst, Some, slice_get, arith}
 use Rattle.std.specs.List.{AllByRecursion, flat_map}
 use Rattle.ptg_base.specs.Lists.{HasNoRepeats, IsIn}
 use Rattle.ptg_base.specs.Task.{Task}
@@ -9,27 +9,29 @@ use Rattle.ptg_base.specs.declared.edge.Item.TheVariants as item
 use Rattle.plan_core.specs.declared.flow.FlowPlan.{FlowPlan}
 use Rattle.plan_core.specs.declared.plan.Plan.{Plan}
 use Rattle.range_space.specs.Sound.{IsSound, prefix_total}
-use Rattle.range_space.proofs.MemberLists.{IsIn-flat_map, from_flat_map}
+use Rattle.range_space.proofs.MemberLists.{IsIn-flat_map, from_flat_map, from_map}
+use Rattle.dep_iter.specs.declared.direction.Direction.{Direction}
+use Rattle.dep_iter.specs.declared.direction.Direction.TheVariants.{In, Out}
+use Rattle.dep_iter.specs.declared.source.Source.{Source}
 use Rattle.dep_iter.specs.declared.source.Source.TheVariants as source
-use Rattle.dep_iter.specs.Tasks.{IsTask, all_tasks, flows_of}
 use Rattle.dep_iter.specs.Consistent.{IsConsistent, IsWellConnected}
-use Rattle.dep_iter.specs.Edges.{data_source, in_edges}
-use Rattle.dep_iter.specs.Items.{item_flow, items, out_edges}
+use Rattle.dep_iter.specs.Directions.{HasOtherEnd, edges_of, far_task, near_task, opposite}
+use Rattle.dep_iter.specs.Edges.{data_source}
+use Rattle.dep_iter.specs.Items.{item_flow, items}
+use Rattle.dep_iter.specs.Tasks.{IsTask, all_tasks, flows_of, locals_of}
 use Rattle.dep_iter.proofs.Belonging.{in_edge_is, out_edge_is}
 use Rattle.dep_iter.proofs.Listing.{listed}
 use Rattle.edge_accept.proofs.Lists.{once-flat_map}
-use Rattle.edge_accept.proofs.TaskFlows.{item_flow-sends, source_flow}
+use Rattle.edge_accept.proofs.TaskFlows.{item_flow-sends, sent_flow_is, source_flow}
 use Rattle.edge_accept.proofs.TaskLists.{once-all_tasks}
-use Rattle.dep_iter.specs.declared.direction.Direction.{Direction}
-use Rattle.dep_iter.specs.declared.direction.Direction.TheVariants.{In, Out}
 use Rattle.edge_match.specs.declared.phase.Phase.{Phase}
 use Rattle.edge_match.specs.declared.phase.Phase.TheVariants.{Connecting, Matching}
-use Rattle.dep_iter.specs.Directions.{edges_of, near_task}
-use Rattle.edge_match.specs.Directions.{other_end}
-use Rattle.edge_match.specs.Marks.{AllPass, Before, add_all, items_of_flow, marks, nothing, phase_marks}
+use Rattle.edge_match.specs.Marks.{AllPass, Before, add_all, flow_items, marks, nothing, phase_marks}
 use Rattle.edge_match.proofs.Added.{phase-adds}
-use Rattle.edge_match.proofs.Holding.{IsConnected, IsQuiet, all_quiet, connected, matched, matching, quiet_items, tile_of, AtTask, Holds, IsWithinLimits, all_pass_and, of_phase, once-each, once-part}
-use Rattle.edge_match.proofs.Directed.{edge_among, flow_edges, flow_items, near_is, numbered_flow, out_flow_items, pair_is, sent_by, write_among, at_flow, edges-numbered, flow_at_number, flows_at, items-numbered, once_numbered}
+use Rattle.edge_match.proofs.Directed.{at_flow, edge_among, edges-numbered, flow_at_number, flow_edges, flows_at, in_flow_items}
+use Rattle.edge_match.proofs.Directed.{items-numbered, near_is, once_numbered, pair_is, write_among}
+use Rattle.edge_match.proofs.Holding.{AllHold, AtTask, HoldsAt, IsConnected, IsQuiet, IsWithinLimits, all_pass_and, all_quiet}
+use Rattle.edge_match.proofs.Holding.{connected, matched, matching, of_phase, once-each, once-part, quiet_items}
 use Rattle.edge_match.proofs.Parts.{AllPass-append, AllPass-parts}
 
 same_flow : (fs : List FlowPlan) (a b : ℕ × FlowPlan) → slice_get fs a.0 ≡ Some a.1 → slice_get fs b.0 ≡ Some b.1 → a.0 ≡ b.0 → a ≡ b
@@ -43,17 +45,21 @@ module _ (P : Plan) (t : Task) (d : Direction) where
   edges_at a = flow_edges d P t a.0 a.1
 
   pub of_flow : (n : ℕ) (f : FlowPlan) (e : Edge) → slice_get (flows_of P t) n ≡ Some f → IsIn e (flow_edges d P t n f) → IsIn e (edges_of d P t)
-  of_flow n f e here h = rw (edges-numbered P t d) (IsIn-flat_map edges_at (flows_at P t) (numbered_flow n f) e (at_flow P t n f here) h)
+  of_flow n f e here h = rw (edges-numbered P t d) (IsIn-flat_map edges_at (flows_at P t) (n, f) e (at_flow P t n f here) h)
 
   pub from_flow : (e : Edge) → IsIn e (edges_of d P t) → (a : ℕ × FlowPlan) × ((slice_get (flows_of P t) a.0 ≡ Some a.1) × IsIn e (flow_edges d P t a.0 a.1))
-  from_flow e h = let p = from_flat_map edges_at (flows_at P t) e (rw (edges-numbered P t d) at h) in (p.0, (flow_at_number P t p.0 p.1, p.2))
+  from_flow e h =
+      let p = from_flat_map edges_at (flows_at P t) e (rw (edges-numbered P t d) at h) in
+      (p.0, (flow_at_number P t p.0 p.1, p.2))
 
   pub flow_once : HasNoRepeats (edges_of d P t) → (n : ℕ) (f : FlowPlan) → slice_get (flows_of P t) n ≡ Some f → HasNoRepeats (flow_edges d P t n f)
-  flow_once h n f here = once-part edges_at (flows_at P t) (numbered_flow n f) (rw (edges-numbered P t d) at h) (at_flow P t n f here)
+  flow_once h n f here = once-part edges_at (flows_at P t) (n, f) (rw (edges-numbered P t d) at h) (at_flow P t n f here)
 
   pub task_once : ((n : ℕ) (f : FlowPlan) → slice_get (flows_of P t) n ≡ Some f → HasNoRepeats (flow_edges d P t n f)) → HasNoRepeats (edges_of d P t)
-  task_once h = rw (edges-numbered P t d) (once-each edges_at (flows_at P t) (once_numbered 0 (flows_of P t)) (λ a k. h a.0 a.1 (flow_at_number P t a k))
-      (λ a b e k l x y. same_flow (flows_of P t) a b (flow_at_number P t a k) (flow_at_number P t b l) (sym (near_is d P t a.0 a.1 e x) ∙ near_is d P t b.0 b.1 e y)))
+  task_once h =
+      let same = flow_at_number P t in
+      rw (edges-numbered P t d) (once-each edges_at (flows_at P t) (once_numbered 0 (flows_of P t)) (λ a k. h a.0 a.1 (same a k)) (λ a b e k l x y.
+      same_flow (flows_of P t) a b (same a k) (same b l) (sym (near_is P t a.0 a.1 d e x) ∙ near_is P t b.0 b.1 d e y)))
 
 -- an edge is one of the task near it
 near : (d : Direction) (P : Plan) (t : Task) (e : Edge) → IsIn e (edges_of d P t) → near_task d e ≡ t
@@ -64,44 +70,52 @@ abbrev all_edges : Direction → Plan → List Edge
 all_edges d P = flat_map (edges_of d P) (all_tasks P)
 
 all_once : (d : Direction) (P : Plan) → ((t : Task) → IsTask P t → HasNoRepeats (edges_of d P t)) → HasNoRepeats (all_edges d P)
-all_once d P h = once-flat_map (edges_of d P) (all_tasks P) (once-all_tasks P) (λ t k. h t ((listed P t).1 k)) (λ t u e k l. sym (near d P t e k) ∙ near d P u e l)
+all_once d P h =
+    once-flat_map (edges_of d P) (all_tasks P) (once-all_tasks P) (λ t k. h t ((listed P t).1 k)) (λ t u e k l. sym (near d P t e k) ∙ near d P u e l)
 
--- the checks of the first phase hold where all tasks are well connected, and those of the second where edges match and none is twice
+-- the facts of the first phase hold where all tasks are well connected, and those of the second where edges match and none is twice
 module _ (P : Plan) where
   abbrev AllHoldIn : Phase → Type 0
-  AllHoldIn phase = AllByRecursion (λ m. Holds P m.check) (phase_marks phase P)
+  AllHoldIn phase = AllHold P (phase_marks phase P)
 
-  tasks : (phase : Phase) → AllHoldIn phase ↔ ((t : Task) → IsTask P t → AtTask (λ m. Holds P m.check) phase P t)
-  tasks phase = of_phase (λ m. Holds P m.check) phase P
+  tasks : (phase : Phase) → AllHoldIn phase ↔ ((t : Task) → IsTask P t → AtTask (λ m. HoldsAt P m.check) phase P t)
+  tasks phase = of_phase (λ m. HoldsAt P m.check) phase P
 
   well_connected : AllHoldIn Connecting → (t : Task) → IsTask P t → IsWellConnected P t
   well_connected all t of_job =
       let a = (tasks Connecting).0 all t of_job in
-      let exists = λ (d : Direction) (n : ℕ) (f : FlowPlan) (here : slice_get (flows_of P t) n ≡ Some f). (connected P (data_source P t n) t n d [] (flow_items d P t n f)).0 ((a.flows n f here).directed d) in
-      let sent = λ (i : Item) (h : IsIn i (items P t)).
-      let p = item_flow-sends P t i h in
-      exists Out (item_flow i) p.0 p.1.0 i (rw (out_flow_items P t (item_flow i) p.0) p.1.1) in
+      let exists = λ (d : Direction) (n : ℕ) (f : FlowPlan) (here : slice_get (flows_of P t) n ≡ Some f).
+      (connected P (data_source P t n) t n d [] (flow_items d P t n f)).0 ((a.flows n f here).directed d) in
+      let sent = λ (i : Item) (h : IsIn i (items P t)). let p = item_flow-sends P t i h in exists Out (item_flow i) p.0 p.1.0 i p.1.1 in
       record {
         well = a.start.0;
         inputs = λ n f here. (a.flows n f here).start.0;
         affinity_exists = a.start.1.0;
         sources_exist = λ n p e. let q = source_flow P t n (source.Place p) e (λ k. absurd cc) in (a.flows n q.0 q.1).start.1.0 p e;
         written_exist = λ w h. (sent (item.Write w) ((write_among (items P t) w).0 h)).1;
-        from_tasks = λ e h. let p = from_flow P t In e h in exists In p.0.0 p.0.1 p.1.0 (item.Edge e) ((edge_among (flow_items In P t p.0.0 p.0.1) e).0 p.1.1);
+        from_tasks = λ e h.
+            let p = from_flow P t In e h in
+            (exists In p.0.0 p.0.1 p.1.0 (item.Edge e) ((edge_among (flow_items In P t p.0.0 p.0.1) e).0 p.1.1)).1;
         to_tasks = λ e h. (sent (item.Edge e) ((edge_among (items P t) e).0 h)).1;
-        absent_sends_nothing = λ n i null h k. tile_of P _ i (sent i h) (subst (λ m. data_source P t m ≡ source.Null) (sym k) null);
+        absent_sends_nothing = λ n i null h k. has_tile i (sent i h) (subst (λ m. data_source P t m ≡ source.Null) (sym k) null);
       }
+    where
+      has_tile : {s : Source} (i : Item) → IsConnected P Out s i → s ≢ source.Null
+      has_tile (item.Edge e) h = h.0
+      has_tile (item.Write w) h = h.0
 
   module _ (t : Task) (c : IsWellConnected P t) (n : ℕ) (f : FlowPlan) (here : slice_get (flows_of P t) n ≡ Some f) where
     item_of : (i : Item) → IsIn i (flow_items Out P t n f) → IsIn i (items P t)
-    item_of i h = rw (items-numbered P t) (IsIn-flat_map (λ (a : ℕ × FlowPlan). items_of_flow P t a.0 a.1) (flows_at P t) (numbered_flow n f) i (at_flow P t n f here) (rw (out_flow_items P t n f) at h))
+    item_of i h = rw (items-numbered P t) (IsIn-flat_map (λ (a : ℕ × FlowPlan). flow_items Out P t a.0 a.1) (flows_at P t) (n, f) i (at_flow P t n f here) h)
 
     has_tile : (i : Item) → IsIn i (flow_items Out P t n f) → data_source P t n ≢ source.Null
-    has_tile i h null = c.absent_sends_nothing n i null (item_of i h) (sent_by P t n f i h)
+    has_tile i h null = c.absent_sends_nothing n i null (item_of i h) (sent_flow_is t (locals_of P t) n f i h)
 
-    item_exists : (d : Direction) (i : Item) → IsIn i (flow_items d P t n f) → IsConnected d P (data_source P t n) i
-    item_exists In (item.Edge e) h = c.from_tasks e (of_flow P t In n f e here ((edge_among (flow_items In P t n f) e).1 h))
-    item_exists In (item.Write w) h = tt
+    item_exists : (d : Direction) (i : Item) → IsIn i (flow_items d P t n f) → IsConnected P d (data_source P t n) i
+    item_exists In (item.Edge e) h = (tt, c.from_tasks e (of_flow P t In n f e here ((edge_among (flow_items In P t n f) e).1 h)))
+    item_exists In (item.Write w) h =
+        let e = (from_map item.Edge (flow_edges In P t n f) (item.Write w) (rw (in_flow_items P t n f) at h)).2 in
+        absurd cc
     item_exists Out (item.Edge e) h = (has_tile (item.Edge e) h, c.to_tasks e ((edge_among (items P t) e).1 (item_of (item.Edge e) h)))
     item_exists Out (item.Write w) h = (has_tile (item.Write w) h, c.written_exist w ((write_among (items P t) w).1 (item_of (item.Write w) h)))
 
@@ -118,26 +132,38 @@ module _ (P : Plan) where
 
   -- the edges of a task match, and none occurs twice
   abbrev AreMatched : Direction → Task → Type 0
-  AreMatched d t = ((e : Edge) → IsIn e (edges_of d P t) → Holds P (other_end d e)) × HasNoRepeats (edges_of d P t)
+  AreMatched d t = ((e : Edge) → IsIn e (edges_of d P t) → HasOtherEnd d P e) × HasNoRepeats (edges_of d P t)
 
   all_matched : AllHoldIn Matching ↔ ((d : Direction) (t : Task) → IsTask P t → AreMatched d t)
   all_matched = (
     λ all d t of_job.
         let a = (tasks Matching).0 all t of_job in
-        let m = λ (n : ℕ) (f : FlowPlan) (here : slice_get (flows_of P t) n ≡ Some f). matching P (data_source P t n) t n d [] (flow_items d P t n f) ((a.flows n f here).directed d) tt in
+        let m = λ (n : ℕ) (f : FlowPlan) (here : slice_get (flows_of P t) n ≡ Some f).
+        matching P d (data_source P t n) t n [] (flow_items d P t n f) ((a.flows n f here).directed d) tt in
         (λ e h. let p = from_flow P t d e h in (m p.0.0 p.0.1 p.1.0).0 e p.1.1, task_once P t d (λ n f here. (m n f here).1)),
     λ w. (tasks Matching).1 (λ t of_job. record {
       start = tt;
       flows = λ n f here. record {
         start = tt;
-        directed = λ d. matched P (data_source P t n) t n d [] (flow_items d P t n f) (λ e h. (w d t of_job).0 e (of_flow P t d n f e here h)) (flow_once P t d (w d t of_job).1 n f here);
+        directed = λ d.
+            let m = w d t of_job in
+            matched P d (data_source P t n) t n [] (flow_items d P t n f) (λ e h. m.0 e (of_flow P t d n f e here h)) (flow_once P t d m.1 n f here);
       };
     }),
   )
 
   -- nothing is counted in the second phase
   nothing_more : (b : Before) → add_all b (phase_marks Matching P) ≡ b
-  nothing_more b = all_quiet b (phase_marks Matching P) ((of_phase IsQuiet Matching P).1 (λ t of_job. record { start = tt; flows = λ n f here. record { start = tt; directed = λ d. quiet_items (data_source P t n) t n d [] (flow_items d P t n f) } }))
+  nothing_more b =
+      let quiet = λ (t : Task) (n : ℕ) (f : FlowPlan) (d : Direction). quiet_items P d (data_source P t n) t n [] (flow_items d P t n f) in
+      all_quiet b (phase_marks Matching P) ((of_phase IsQuiet Matching P).1 (λ t of_job. record { start = tt; flows = λ n f here. record { start = tt; directed = quiet t n f } }))
+
+  -- edges of all tasks that are matched in one direction are edges of all tasks in the other
+  others : (d : Direction) → ((t : Task) → IsTask P t → AreMatched d t) → (e : Edge) → IsIn e (all_edges d P) → IsIn e (all_edges (opposite d) P)
+  others d m e h =
+      let p = from_flat_map (edges_of d P) (all_tasks P) e h in
+      let q = (m p.0 ((listed P p.0).1 p.1)).0 e p.2 in
+      IsIn-flat_map (edges_of (opposite d) P) (all_tasks P) (far_task d e) e ((listed P (far_task d e)).0 q.0) q.1
 
   pub passes_consistent : AllPass P nothing (marks P) → AllByRecursion IsSound P.spaces → length (all_tasks P) ≤ 1000000 → prefix_total P.spaces ≤ 16000000 → IsConsistent P
   passes_consistent all sound tasks_at_most prefixes_at_most =
@@ -156,29 +182,26 @@ module _ (P : Plan) where
         items_at_most = w.items_at_most;
         no_in_edge_twice = all_once In P (λ t h. (m In t h).1);
         no_out_edge_twice = all_once Out P (λ t h. (m Out t h).1);
-        same_edges = λ e. (
-          λ h. let p = from_flat_map (in_edges P) (all_tasks P) e h in
-              let q = (m In p.0 ((listed P p.0).1 p.1)).0 e p.2 in
-              IsIn-flat_map (out_edges P) (all_tasks P) e.from e ((listed P e.from).0 q.0) q.1,
-          λ h. let p = from_flat_map (out_edges P) (all_tasks P) e h in
-              let q = (m Out p.0 ((listed P p.0).1 p.1)).0 e p.2 in
-              IsIn-flat_map (in_edges P) (all_tasks P) e.to e ((listed P e.to).0 q.0) q.1,
-        );
+        same_edges = λ e. (others In (m In) e, others Out (m Out) e);
       }
 
-  matched_in : IsConsistent P → (d : Direction) (t : Task) → IsTask P t → AreMatched d t
-  matched_in w In t of_job = (
-    λ e h. let p = from_flat_map (out_edges P) (all_tasks P) e ((w.same_edges e).0 (IsIn-flat_map (in_edges P) (all_tasks P) t e ((listed P t).0 of_job) h)) in
-        let same : e.from ≡ p.0 = near Out P p.0 e p.2 in
-        (subst (IsTask P) (sym same) ((listed P p.0).1 p.1), subst (λ u. IsIn e (out_edges P u)) (sym same) p.2),
-    once-part (in_edges P) (all_tasks P) t w.no_in_edge_twice ((listed P t).0 of_job),
+  -- the other way round
+  matched_in : (d : Direction) → HasNoRepeats (all_edges d P) → ((e : Edge) → IsIn e (all_edges d P) → IsIn e (all_edges (opposite d) P))
+      → (t : Task) → IsTask P t → AreMatched d t
+  matched_in d once same t of_job = (
+    λ e h. let p = from_flat_map (edges_of (opposite d) P) (all_tasks P) e (same e (IsIn-flat_map (edges_of d P) (all_tasks P) t e ((listed P t).0 of_job) h)) in
+        let far : far_task d e ≡ p.0 = far_is d e ∙ near (opposite d) P p.0 e p.2 in
+        (subst (IsTask P) (sym far) ((listed P p.0).1 p.1), subst (λ u. IsIn e (edges_of (opposite d) P u)) (sym far) p.2),
+    once-part (edges_of d P) (all_tasks P) t once ((listed P t).0 of_job),
   )
-  matched_in w Out t of_job = (
-    λ e h. let p = from_flat_map (in_edges P) (all_tasks P) e ((w.same_edges e).1 (IsIn-flat_map (out_edges P) (all_tasks P) t e ((listed P t).0 of_job) h)) in
-        let same : e.to ≡ p.0 = near In P p.0 e p.2 in
-        (subst (IsTask P) (sym same) ((listed P p.0).1 p.1), subst (λ u. IsIn e (in_edges P u)) (sym same) p.2),
-    once-part (out_edges P) (all_tasks P) t w.no_out_edge_twice ((listed P t).0 of_job),
-  )
+    where
+      far_is : (d : Direction) (e : Edge) → far_task d e ≡ near_task (opposite d) e
+      far_is In e = refl
+      far_is Out e = refl
+
+  both_matched : IsConsistent P → (d : Direction) (t : Task) → IsTask P t → AreMatched d t
+  both_matched w In = matched_in In w.no_in_edge_twice (λ e. (w.same_edges e).0)
+  both_matched w Out = matched_in Out w.no_out_edge_twice (λ e. (w.same_edges e).1)
 
   -- all marks of a consistent plan pass
   pub all_pass : IsConsistent P → AllPass P nothing (marks P)
@@ -186,4 +209,4 @@ module _ (P : Plan) where
       let b = add_all nothing (phase_marks Connecting P) in
       let limits : IsWithinLimits b = subst IsWithinLimits (sym (phase-adds P)) (record { ins_at_most = w.in_edges_at_most; items_at_most = w.items_at_most; written_once = w.written_once }) in
       AllPass-append P nothing (phase_marks Connecting P) (phase_marks Matching P) ((all_pass_and P nothing (phase_marks Connecting P)).1 (limits, all_connected w.connected)).1
-      ((all_pass_and P b (phase_marks Matching P)).1 (subst IsWithinLimits (sym (nothing_more b)) limits, all_matched.1 (matched_in w))).1
+      ((all_pass_and P b (phase_marks Matching P)).1 (subst IsWithinLimits (sym (nothing_more b)) limits, all_matched.1 (both_matched w))).1

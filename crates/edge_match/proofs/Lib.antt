@@ -6,5 +6,4 @@ pub mod Walks
 pub mod Holding
 pub mod Consistency
 pub mod OneFault
-pub mod Either
-pub mod FaultNames
+pub mod Named

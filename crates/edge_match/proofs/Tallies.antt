@@ -1,27 +1,25 @@
 -- How the counts go on with an edge, an item or a place.
-use Rattle.std.proofs.Common.{◌≡◌, ◌↔◌, ℕ, ◌+◌, Bool, List, [], ◌∷◌, IsTrue, ◌⊎◌, inl, inr, refl, ap, ◌∙◌, Some, slice_get, length-append, arith}
-use Rattle.ptg_base.specs.Task.{Task}
+use Rattle.std.proofs.Common.{◌≡◌, ◌↔◌, ◌+◌, Bool, List, [], ◌∷◌, IsTrue, ◌⊎◌, inl, inr, refl, ap, ◌∙◌, Some}
+use Rattle.std.proofs.Common.{length-append, arith}
 use Rattle.ptg_base.specs.declared.edge.Edge.{Edge}
 use Rattle.ptg_base.specs.declared.place.Place.{Place}
-use Rattle.plan_core.specs.declared.flow.FlowPlan.{FlowPlan}
 use Rattle.plan_core.specs.declared.plan.Plan.{Plan}
 use Rattle.plan_core.specs.declared.shape.Shape.{Shape}
 use Rattle.plan_core.specs.Kinds.{is_data, kind_of}
 use Rattle.plan_core.specs.Place.{HasPlace}
 use Rattle.range_space.proofs.MemberLists.{IsIn-append_left, IsIn-append_right, from_append}
 use Rattle.dep_iter.specs.Consistent.{is_data_edge}
-use Rattle.dep_iter.specs.Tasks.{flows_of}
+use Rattle.dep_iter.specs.declared.direction.Direction.{Direction}
+use Rattle.dep_iter.specs.declared.direction.Direction.TheVariants.{In, Out}
+use Rattle.dep_iter.specs.Directions.{near_flow, near_task}
 use Rattle.edge_accept.specs.Written.{FitsShapes, is_written}
 use Rattle.edge_accept.proofs.Taking.{kind_of-here}
 use Rattle.edge_match.specs.declared.counted.Counted.{Counted}
-use Rattle.dep_iter.specs.declared.direction.Direction.{Direction}
-use Rattle.dep_iter.specs.declared.direction.Direction.TheVariants.{In, Out}
 use Rattle.edge_match.specs.declared.fault.MatchCode.TheVariants as code
+use Rattle.edge_match.specs.declared.task_at.FlowAt.{FlowAt}
 use Rattle.edge_match.specs.Counted.{Decides}
-use Rattle.dep_iter.specs.Directions.{near_flow, near_task}
-use Rattle.edge_match.specs.Directions.{counts, other_end}
-use Rattle.edge_match.specs.FirstFault.{code_of, flow_at}
-use Rattle.edge_match.specs.Marks.{IsNewPlace}
+use Rattle.edge_match.specs.FirstFault.{code_of}
+use Rattle.edge_match.specs.Marks.{IsNewPlace, counts}
 
 module _ (P : Plan) (s u : Counted) where
   -- a place, by the answer of the set that it is added to
@@ -53,22 +51,16 @@ module _ (P : Plan) (s u : Counted) where
         };
   }
 
--- each direction has one code and one flow for what it counts, and for its other end
+-- what is counted has one code in each direction
 pub counts_code : (d : Direction) (e : Edge) → code_of (counts d e) ≡ code.TooManyEdges
 counts_code In e = refl
 counts_code Out e = refl
 
-pub counts_flow : (P : Plan) (n : ℕ) (d : Direction) (e : Edge) → flow_at P (Some n) (counts d e) ≡ Some n
-counts_flow P n In e = refl
-counts_flow P n Out e = refl
-
-pub other_end_flow : (P : Plan) (n : ℕ) (d : Direction) (e : Edge) → flow_at P (Some n) (other_end d e) ≡ Some n
-other_end_flow P n In e = refl
-other_end_flow P n Out e = refl
-
 -- whether an edge into a flow carries a tile
-pub is_data-here : (P : Plan) (t : Task) (n : ℕ) (f : FlowPlan) (e : Edge) (d : Direction) → slice_get (flows_of P t) n ≡ Some f → near_task d e ≡ t → near_flow d e ≡ n → d ≡ In → is_data_edge P e ≡ is_data (Some f.kind)
-is_data-here P t n f e Out here task flow h = absurd cc
-is_data-here P t n f e In here task flow h =
-    let kind : kind_of P.classes e.to.class e.in_flow ≡ Some f.kind = rw (task, flow) (kind_of-here P t n f here) in
+pub is_data-here : (at : FlowAt) (e : Edge) (d : Direction) → near_task d e ≡ at.task.now → near_flow d e ≡ at.number → d ≡ In
+    → is_data_edge at.plan.now e ≡ is_data (Some at.flow.now.kind)
+is_data-here at e Out task flow h = absurd cc
+is_data-here at e In task flow h =
+    let here = kind_of-here at.plan.now at.task.now at.number at.flow.now at.here in
+    let kind : kind_of at.plan.now.classes e.to.class e.in_flow ≡ Some at.flow.now.kind = rw (task, flow) here in
     ap is_data kind

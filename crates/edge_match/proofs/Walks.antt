@@ -1,5 +1,5 @@
 -- The pass over tasks, one after another, and how many of them have no edge into them.
-use Rattle.std.proofs.Common.{◌≡◌, ℕ, zero, suc, ℤ, ◌+◌, ◌≤◌, Bool, true, false, List, [], ◌∷◌, ◌++◌, length, length-append, drop, Some, slice_get, refl, ap, sym, ◌∙◌, subst, ◌⊎◌, inl, inr, Result, Ok, Err, ◌==◌, if◌then◌else◌, arith}
+use Rattle.std.proofs.Common.{◌≡◌, ℕ, ℤ, ◌+◌, Bool, true, false, List, [], ◌∷◌, ◌++◌, length, length-append, Some, slice_get, refl, ap, sym, ◌∙◌, subst, ◌⊎◌, inl, inr, Result, Ok, Err, ◌==◌, if◌then◌else◌, arith}
 use Rattle.std.proofs.lemmas.Bool.{eq-eqb, ne_eqb}
 use Rattle.std.proofs.lemmas.List.Elements.{filter-append}
 use Rattle.std.proofs.lemmas.Result.{err_from_is_err_and}
@@ -90,9 +90,3 @@ module _ (P : Plan) (phase : Phase) where
 
 pub in_class : (P : Plan) (class : ℕ) (s : ClassSpace) (ps : List ℤ) → slice_get P.spaces class ≡ Some s → IsIn ps (tasks s) → IsTask P (task class ps)
 in_class P class s ps here among = rw here among
-
-pub drop_past : {A : Type 0} (xs : List A) (k : ℕ) → length xs ≤ k → drop k xs ≡ []
-drop_past [] zero h = refl
-drop_past [] (suc k) h = refl
-drop_past (x ∷ xs) zero h = absurd (omega arith)
-drop_past (x ∷ xs) (suc k) h = drop_past xs k (omega arith)

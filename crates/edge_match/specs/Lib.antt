@@ -1,5 +1,5 @@
 pub mod Faults
 pub mod Marks
 pub mod FirstFault
-pub mod Directions
 pub mod Counted
+pub mod FlowParts

@@ -3,12 +3,11 @@
 ghost use Rattle.std.specs.Prelude.{◌≡◌, ◌+◌, ◌<◌, ◌^◌, IsTrue, drop, length, map};
 ghost use Rattle.ptg_base.specs.Lists.{HasNoRepeats};
 ghost use Rattle.ptg_base.specs.declared.edge.Item.TheVariants as item;
-ghost use Rattle.dep_iter.specs.Edges.{data_source};
+ghost use Rattle.dep_iter.specs.Directions.{dependences, edge_at};
 ghost use Rattle.dep_iter.specs.Links.{dependences_fit, fits};
 ghost use Rattle.dep_iter.specs.Tasks.{IsTask, task};
-ghost use Rattle.edge_match.specs.Counted.{Checked};
-ghost use Rattle.dep_iter.specs.Directions.{dependences, edge_at, edges_before};
-ghost use Rattle.edge_match.specs.Directions.{all_marks_at, held_items, items_at};
+ghost use Rattle.edge_match.specs.FlowParts.{CheckedAt, before_at, edge_named, held_at};
+ghost use Rattle.edge_match.specs.Marks.{item_marks, items_at};
 
 use crate::counted::Counted;
 use crate::edges::{check_edge, check_write};
@@ -21,12 +20,12 @@ use dep_iter::{
 use plan_core::{DepPlan, Target};
 use ptg_base::TaskId;
 
-// A dependence by its number, and the flow of a class that its target names.
+/// A dependence by its number, and the flow of a class that its target names.
 #[derive(Clone, Copy)]
-struct Named {
-    dependence: usize,
-    class: u32,
-    flow: u8,
+pub(crate) struct Named {
+    pub(crate) dependence: usize,
+    pub(crate) class: u32,
+    pub(crate) flow: u8,
 }
 
 // Checks the edges between the flow and the tasks with these parameters, which a dependence names.
@@ -38,8 +37,9 @@ fn check_edges(
     counted: &mut Counted,
 ) -> Result<(), MatchFault>
     requires of_job { IsTask at.now.plan.now at.now.task.now }
-    requires distinct { HasNoRepeats (map (λ ps. edge_at way at.now.task.now at.now.number (task named.class ps) named.flow) params) }
-    ensures { Checked at.now.plan.now counted.old counted.new result (all_marks_at way at.now.phase (data_source at.now.plan.now at.now.task.now at.now.number) at.now.task.now at.now.number (edges_before way at.now.plan.now at.now.task.now at.now.number named.dependence) (map (λ ps. item.Edge (edge_at way at.now.task.now at.now.number (task named.class ps) named.flow)) params)) }
+    requires distinct { HasNoRepeats (map (edge_named way at.now named) params) }
+    ensures { CheckedAt at.now.phase at.now counted.old counted.new result
+        (item_marks way (before_at way at.now named.dependence) (map item.Edge (map (edge_named way at.now named) params))) }
 {
     while let Some(values) = params.next() {
         let far = TaskId::new(named.class, values.as_slice());
@@ -49,7 +49,7 @@ fn check_edges(
     Ok(())
 }
 
-// Checks what a target of dependence `k` of the flow stands for.
+// Checks what a target of dependence `k` of the flow stands for. An in dependence writes nothing.
 fn check_target(
     at: &FlowAt,
     way: Direction,
@@ -59,7 +59,8 @@ fn check_target(
 ) -> Result<(), MatchFault>
     requires of_job { IsTask at.now.plan.now at.now.task.now }
     requires fit { IsTrue (fits at.now.plan.now target.now) }
-    ensures { Checked at.now.plan.now counted.old counted.new result (all_marks_at way at.now.phase (data_source at.now.plan.now at.now.task.now at.now.number) at.now.task.now at.now.number (edges_before way at.now.plan.now at.now.task.now at.now.number k) (items_at way at.now.task.now at.now.env.now at.now.number target.now)) }
+    ensures { CheckedAt at.now.phase at.now counted.old counted.new result
+        (item_marks way (before_at way at.now k) (items_at way at.now.task.now at.now.env.now at.now.number target.now)) }
 {
     match target {
         Target::Task(class, flow, args) => {
@@ -73,10 +74,10 @@ fn check_target(
             let params = Combinations::new(args.as_slice(), at.env);
             check_edges(at, way, named, params, counted)
         }
-        Target::Element(coll, indices) => {
-            let place = place_of(*coll, indices.as_slice(), at.env);
-            check_write(at, way, place, counted)
-        }
+        Target::Element(coll, indices) => match way {
+            Direction::In => Ok(()),
+            Direction::Out => check_write(at, place_of(*coll, indices.as_slice(), at.env), counted),
+        },
         Target::New => Ok(()),
         Target::Null => Ok(()),
     }
@@ -94,7 +95,8 @@ pub(crate) fn check_dependences(
     requires last { drop k (dependences way at.now.flow.now) ≡ deps.now }
     requires fit { IsTrue (dependences_fit at.now.plan.now deps.now) }
     requires room { k + length deps.now < 2 ^ 64 }
-    ensures { Checked at.now.plan.now counted.old counted.new result (all_marks_at way at.now.phase (data_source at.now.plan.now at.now.task.now at.now.number) at.now.task.now at.now.number (edges_before way at.now.plan.now at.now.task.now at.now.number k) (held_items way at.now.task.now at.now.env.now at.now.number at.now.flow.now.kind deps.now)) }
+    ensures { CheckedAt at.now.phase at.now counted.old counted.new result
+        (item_marks way (before_at way at.now k) (held_at way at.now deps.now)) }
 {
     let Some((d, later)) = deps.split_first() else {
         return Ok(());

@@ -1,19 +1,20 @@
 //! Checks of an edge or of a write-back of a flow.
 
-ghost use Rattle.std.specs.Prelude.{◌≡◌, ◌↔◌, List};
+ghost use Rattle.std.specs.Prelude.{◌≡◌, ◌↔◌, IsTrue, List};
 ghost use Rattle.ptg_base.specs.Lists.{IsIn};
 ghost use Rattle.ptg_base.specs.declared.edge.Edge.{Edge as EdgeValue};
 ghost use Rattle.ptg_base.specs.declared.edge.WriteBack.{WriteBack as WriteBackValue};
 ghost use Rattle.plan_core.specs.declared.plan.Plan.{Plan as PlanValue};
 ghost use Rattle.dep_iter.specs.Consistent.{is_data_edge};
-ghost use Rattle.dep_iter.specs.Edges.{data_source};
+ghost use Rattle.dep_iter.specs.Directions.{HasOtherEnd, near_flow, near_task};
 ghost use Rattle.dep_iter.specs.Tasks.{IsTask};
-ghost use Rattle.edge_match.specs.Counted.{Checked, Decides};
-ghost use Rattle.dep_iter.specs.Directions.{edges_before, near_flow, near_task};
-ghost use Rattle.edge_match.specs.Directions.{counts, edge_marks, other_end, tile_marks, write_marks};
-ghost use Rattle.edge_match.specs.FirstFault.{code_of};
-ghost use Rattle.edge_match.specs.declared.counted.Counted.{Counted as CountedValue};
 ghost use Rattle.dep_iter.specs.declared.direction.Direction.TheVariants as direction;
+ghost use Rattle.edge_match.specs.Counted.{Decides};
+ghost use Rattle.edge_match.specs.FlowParts.{CheckedAt, before_at};
+ghost use Rattle.edge_match.specs.FirstFault.{fact_code};
+ghost use Rattle.edge_match.specs.Marks.{HasOther, counts, edge_marks, tile_marks, write_marks};
+ghost use Rattle.edge_match.specs.declared.counted.Counted.{Counted as CountedValue};
+ghost use Rattle.edge_match.specs.declared.phase.Phase.{Phase as PhaseValue};
 ghost use Rattle.edge_match.specs.declared.phase.Phase.TheVariants as phase;
 
 use crate::counted::Counted;
@@ -26,14 +27,14 @@ use ptg_base::Place;
 
 // Whether an edge is one at its other end.
 fn has_other_end(plan: &Plan, way: Direction, edge: &LentEdge) -> bool
-    ensures { (s : CountedValue) → Decides plan.now s s result (other_end way edge.now) }
+    ensures { IsTrue result ↔ HasOtherEnd way plan.now edge.now }
 {
     far_locals(plan, way, edge).is_some()
 }
 
 // The code of an edge that is none at its other end.
 fn unmatched(way: Direction) -> MatchCode
-    ensures { (e : EdgeValue) → code_of (other_end way e) ≡ result }
+    ensures { (e : EdgeValue) → fact_code (HasOther way e) ≡ result }
 {
     match way {
         Direction::In => MatchCode::NoMatchingOut,
@@ -43,7 +44,8 @@ fn unmatched(way: Direction) -> MatchCode
 
 // Counts an edge, one that carries a tile or not, if it is not one too many.
 fn count_edge(way: Direction, carries_tile: bool, counted: &mut Counted) -> bool
-    ensures { (P : PlanValue) (e : EdgeValue) → (way ≡ direction.In → is_data_edge P e ≡ carries_tile) → Decides P counted.old counted.new result (counts way e) }
+    ensures { (P : PlanValue) (e : EdgeValue) → (way ≡ direction.In → is_data_edge P e ≡ carries_tile)
+        → Decides P counted.old counted.new result (counts way e) }
 {
     match way {
         Direction::In => counted.add_in(carries_tile),
@@ -53,7 +55,7 @@ fn count_edge(way: Direction, carries_tile: bool, counted: &mut Counted) -> bool
 
 // Whether what sends has a tile.
 fn check_tile(at: &FlowAt, way: Direction) -> Result<(), MatchFault>
-    ensures { (s : CountedValue) → Checked at.now.plan.now s s result (tile_marks way (data_source at.now.plan.now at.now.task.now at.now.number) at.now.task.now at.now.number) }
+    ensures { (p : PhaseValue) (s : CountedValue) → CheckedAt p at.now s s result (λ _. tile_marks way) }
 {
     match way {
         Direction::In => Ok(()),
@@ -70,7 +72,8 @@ fn connect_edge(
 ) -> Result<(), MatchFault>
     requires task { near_task way edge.now ≡ at.now.task.now }
     requires flow { near_flow way edge.now ≡ at.now.number }
-    ensures { (earlier : List EdgeValue) → Checked at.now.plan.now counted.old counted.new result (edge_marks way phase.Connecting (data_source at.now.plan.now at.now.task.now at.now.number) at.now.task.now at.now.number earlier edge.now) }
+    ensures { (earlier : List EdgeValue)
+        → CheckedAt phase.Connecting at.now counted.old counted.new result (edge_marks way earlier edge.now) }
 {
     check_tile(at, way)?;
     at.require(is_task(at.plan, edge.far_task(way)), MatchCode::OutOfSpace)?;
@@ -82,7 +85,8 @@ fn connect_edge(
 fn match_edge(at: &FlowAt, way: Direction, k: usize, edge: &LentEdge) -> Result<(), MatchFault>
     requires of_job { IsTask at.now.plan.now at.now.task.now }
     requires flow { near_flow way edge.now ≡ at.now.number }
-    ensures { (earlier : List EdgeValue) (s : CountedValue) → IsIn edge.now earlier ↔ IsIn edge.now (edges_before way at.now.plan.now at.now.task.now at.now.number k) → Checked at.now.plan.now s s result (edge_marks way phase.Matching (data_source at.now.plan.now at.now.task.now at.now.number) at.now.task.now at.now.number earlier edge.now) }
+    ensures { (earlier : List EdgeValue) (s : CountedValue) → IsIn edge.now earlier ↔ IsIn edge.now (before_at way at.now k)
+        → CheckedAt phase.Matching at.now s s result (edge_marks way earlier edge.now) }
 {
     at.require(has_other_end(at.plan, way, edge), unmatched(way))?;
     let double = has_edge_before(at.plan, way, at.task, at.env, edge, k);
@@ -100,7 +104,8 @@ pub(crate) fn check_edge(
     requires of_job { IsTask at.now.plan.now at.now.task.now }
     requires task { near_task way edge.now ≡ at.now.task.now }
     requires flow { near_flow way edge.now ≡ at.now.number }
-    ensures { (earlier : List EdgeValue) → IsIn edge.now earlier ↔ IsIn edge.now (edges_before way at.now.plan.now at.now.task.now at.now.number k) → Checked at.now.plan.now counted.old counted.new result (edge_marks way at.now.phase (data_source at.now.plan.now at.now.task.now at.now.number) at.now.task.now at.now.number earlier edge.now) }
+    ensures { (earlier : List EdgeValue) → IsIn edge.now earlier ↔ IsIn edge.now (before_at way at.now k)
+        → CheckedAt at.now.phase at.now counted.old counted.new result (edge_marks way earlier edge.now) }
 {
     match at.phase {
         Phase::Connecting => connect_edge(at, way, edge, counted),
@@ -110,7 +115,8 @@ pub(crate) fn check_edge(
 
 // Whether a place that the flow writes exists and is not written before, and the write-back is not one too many.
 fn connect_write(at: &FlowAt, place: Place, counted: &mut Counted) -> Result<(), MatchFault>
-    ensures { (w : WriteBackValue) → w.place ≡ place → Checked at.now.plan.now counted.old counted.new result (write_marks direction.Out phase.Connecting (data_source at.now.plan.now at.now.task.now at.now.number) at.now.task.now at.now.number w) }
+    ensures { (w : WriteBackValue) → w.place ≡ place
+        → CheckedAt phase.Connecting at.now counted.old counted.new result (write_marks w) }
 {
     check_tile(at, Direction::Out)?;
     at.require(at.plan.has_place(&place), MatchCode::BadPlace)?;
@@ -120,20 +126,17 @@ fn connect_write(at: &FlowAt, place: Place, counted: &mut Counted) -> Result<(),
     at.require(new, MatchCode::DoubleWrite)
 }
 
-// Checks a place that a dependence of the flow names. An in dependence writes nothing.
+// Checks a place that an out dependence of the flow names.
 pub(crate) fn check_write(
     at: &FlowAt,
-    way: Direction,
     place: Place,
     counted: &mut Counted,
 ) -> Result<(), MatchFault>
-    ensures { (w : WriteBackValue) → w.place ≡ place → Checked at.now.plan.now counted.old counted.new result (write_marks way at.now.phase (data_source at.now.plan.now at.now.task.now at.now.number) at.now.task.now at.now.number w) }
+    ensures { (w : WriteBackValue) → w.place ≡ place
+        → CheckedAt at.now.phase at.now counted.old counted.new result (write_marks w) }
 {
-    match way {
-        Direction::In => Ok(()),
-        Direction::Out => match at.phase {
-            Phase::Connecting => connect_write(at, place, counted),
-            Phase::Matching => Ok(()),
-        },
+    match at.phase {
+        Phase::Connecting => connect_write(at, place, counted),
+        Phase::Matching => Ok(()),
     }
 }

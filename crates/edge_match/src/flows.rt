@@ -1,6 +1,6 @@
 //! Checks of the flows of a task.
 
-ghost use Rattle.std.specs.Prelude.{◌≡◌, ◌≢◌, ◌↔◌, ◌+◌, ◌≤◌, ◌&&◌, IsTrue, Some, drop, length, slice_get};
+ghost use Rattle.std.specs.Prelude.{◌≡◌, ◌≢◌, ◌↔◌, ◌+◌, ◌≤◌, ◌&&◌, IsTrue, Some, drop, flat_map, length, slice_get};
 ghost use Rattle.ptg_base.specs.declared.place.Place.{Place as PlaceValue};
 ghost use Rattle.plan_core.specs.Place.{HasPlace};
 ghost use Rattle.dep_iter.specs.declared.source.Source.TheVariants as source_variant;
@@ -10,7 +10,7 @@ ghost use Rattle.dep_iter.specs.Links.{dependences_fit, flows_fit};
 ghost use Rattle.dep_iter.specs.Tasks as tasks;
 ghost use Rattle.dep_iter.specs.Tasks.{IsTask};
 ghost use Rattle.edge_match.specs.Counted.{Checked};
-ghost use Rattle.edge_match.specs.Marks.{flow_marks, flow_start, flows_marks};
+ghost use Rattle.edge_match.specs.Marks.{flow_marks, flow_start, numbered, way_marks};
 ghost use Rattle.edge_match.specs.declared.counted.Counted.{Counted as CountedValue};
 
 use crate::counted::Counted;
@@ -64,7 +64,8 @@ fn has_place(plan: &Plan, source: &Source) -> bool
 // Whether the flow has a source, if it must, and the place of its source exists. It is checked in the first phase.
 fn start_flow(at: &FlowAt, source: &Source) -> Result<(), MatchFault>
     requires { source.now ≡ data_source_of at.now.plan.now at.now.task.now at.now.number }
-    ensures { (s : CountedValue) → Checked at.now.plan.now s s result (flow_start at.now.phase at.now.plan.now at.now.task.now at.now.number at.now.flow.now) }
+    ensures { (s : CountedValue) → Checked at.now.plan.now s s result
+        (flow_start at.now.phase at.now.plan.now at.now.task.now at.now.number at.now.flow.now) }
 {
     match at.phase {
         Phase::Connecting => {
@@ -75,15 +76,25 @@ fn start_flow(at: &FlowAt, source: &Source) -> Result<(), MatchFault>
     }
 }
 
+// Checks the edges of the flow in one direction, and with those out of it what it writes.
+fn check_way(at: &FlowAt, way: Direction, counted: &mut Counted) -> Result<(), MatchFault>
+    requires { IsTask at.now.plan.now at.now.task.now }
+    ensures { Checked at.now.plan.now counted.old counted.new result
+        (way_marks way at.now.phase at.now.plan.now at.now.task.now at.now.number at.now.flow.now) }
+{
+    check_dependences(at, way, 0, way.dependences(at.flow), counted)
+}
+
 // Checks the flow, the edges into it and what it sends.
 fn check_flow(at: &FlowAt, source: &Source, counted: &mut Counted) -> Result<(), MatchFault>
     requires of_job { IsTask at.now.plan.now at.now.task.now }
     requires source { source.now ≡ data_source_of at.now.plan.now at.now.task.now at.now.number }
-    ensures { Checked at.now.plan.now counted.old counted.new result (flow_marks at.now.phase at.now.plan.now at.now.task.now at.now.number at.now.flow.now) }
+    ensures { Checked at.now.plan.now counted.old counted.new result
+        (flow_marks at.now.phase at.now.plan.now at.now.task.now (at.now.number, at.now.flow.now)) }
 {
     start_flow(at, source)?;
-    check_dependences(at, Direction::In, 0, at.flow.ins.as_slice(), counted)?;
-    check_dependences(at, Direction::Out, 0, at.flow.outs.as_slice(), counted)
+    check_way(at, Direction::In, counted)?;
+    check_way(at, Direction::Out, counted)
 }
 
 // Checks the flow with this number of a task.
@@ -96,7 +107,8 @@ fn check_flow_of(
     requires of_job { IsTask task.now.plan.now task.now.task.now }
     requires here { slice_get (tasks.flows_of task.now.plan.now task.now.task.now) number ≡ Some flow.now }
     requires fit { IsTrue (dependences_fit task.now.plan.now flow.now.ins && dependences_fit task.now.plan.now flow.now.outs) }
-    ensures { Checked task.now.plan.now counted.old counted.new result (flow_marks task.now.phase task.now.plan.now task.now.task.now number flow.now) }
+    ensures { Checked task.now.plan.now counted.old counted.new result
+        (flow_marks task.now.phase task.now.plan.now task.now.task.now (number, flow.now)) }
 {
     let source = data_source_under(task.plan, task.task, task.env, number);
     let at = FlowAt {
@@ -122,7 +134,8 @@ pub(crate) fn check_flows(
     requires last { drop number (tasks.flows_of task.now.plan.now task.now.task.now) ≡ flows.now }
     requires fit { IsTrue (flows_fit task.now.plan.now flows.now) }
     requires room { number + length flows.now ≤ 8 }
-    ensures { Checked task.now.plan.now counted.old counted.new result (flows_marks task.now.phase task.now.plan.now task.now.task.now number flows.now) }
+    ensures { Checked task.now.plan.now counted.old counted.new result
+        (flat_map (flow_marks task.now.phase task.now.plan.now task.now.task.now) (numbered number flows.now)) }
 {
     let Some((flow, others)) = flows.split_first() else {
         return Ok(());

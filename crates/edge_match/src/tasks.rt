@@ -1,12 +1,12 @@
 //! Checks of all tasks.
 
-ghost use Rattle.std.specs.Prelude.{◌≡◌, ◌<◌, ◌+◌, ◌^◌, ◌∷◌, [], None, Some, drop, length, map, slice_get};
+ghost use Rattle.std.specs.Prelude.{◌≡◌, ◌<◌, ◌+◌, ◌^◌, ◌∷◌, [], Some, drop, length, map, slice_get};
 ghost use Rattle.term_core.specs.declared.space.ClassSpace.{ClassSpace as ClassSpaceValue};
 ghost use Rattle.term_core.specs.WellSpace.{IsWellSpace};
 ghost use Rattle.range_space.specs.Tasks as range;
 ghost use Rattle.dep_iter.specs.Tasks.{IsTask, task, tasks_from};
 ghost use Rattle.edge_match.specs.Counted.{Checked, WentOver};
-ghost use Rattle.edge_match.specs.Marks.{HasValues, mark, task_marks, task_start};
+ghost use Rattle.edge_match.specs.Marks.{HasValues, Is, ill_flow, mark, task_marks, task_start};
 ghost use Rattle.edge_match.specs.declared.counted.Counted.{Counted as CountedValue};
 
 use crate::counted::Counted;
@@ -24,7 +24,8 @@ use term_core::ClassSpace;
 // Whether each expression that the task needs has a value.
 fn check_values(task: &TaskAt) -> Result<(), MatchFault>
     requires of_job { IsTask task.now.plan.now task.now.task.now }
-    ensures { (s : CountedValue) → Checked task.now.plan.now s s result (mark task.now.task.now None (HasValues task.now.task.now) ∷ []) }
+    ensures { (s : CountedValue) → Checked task.now.plan.now s s result
+        (mark task.now.task.now (ill_flow task.now.plan.now task.now.task.now) (Is (HasValues task.now.task.now)) ∷ []) }
 {
     match well_task_under(task.plan, task.task, task.env) {
         Ok(()) => Ok(()),
@@ -32,10 +33,12 @@ fn check_values(task: &TaskAt) -> Result<(), MatchFault>
     }
 }
 
-// Whether each expression that the task needs has a value, and the place of its affinity exists. It is checked in the first phase.
+// Whether each expression that the task needs has a value, and the place of its affinity exists. It is checked in the first
+// phase.
 fn start_task(task: &TaskAt) -> Result<(), MatchFault>
     requires of_job { IsTask task.now.plan.now task.now.task.now }
-    ensures { (s : CountedValue) → Checked task.now.plan.now s s result (task_start task.now.phase task.now.plan.now task.now.task.now) }
+    ensures { (s : CountedValue) → Checked task.now.plan.now s s result
+        (task_start task.now.phase task.now.plan.now task.now.task.now) }
 {
     match task.phase {
         Phase::Connecting => {

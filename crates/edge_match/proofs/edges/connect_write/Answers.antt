@@ -1,30 +1,29 @@
 use Rattle.std.proofs.Common.{refl, sym}
 use Rattle.ptg_base.specs.declared.edge.Item.TheVariants as item
 use Rattle.edge_match.specs.Marks.{CountsItem, IsNewPlace, IsPlace}
-use Rattle.edge_match.proofs.Parts.{followed, steady, stop}
+use Rattle.edge_match.specs.declared.phase.Phase.TheVariants.{Connecting}
+use Rattle.edge_match.proofs.Parts.{followed, stop}
 use Rattle.edge_match.proofs.edges.connect_write.Goals as goal
 
 pub returns-in_err-check_tile : goal.returns-in_err-check_tile
-returns-in_err-check_tile c = λ w same. stop _ c.from_residual.ensures.1 (c.in_err-check_tile.ensures c.args.counted.now)
+returns-in_err-check_tile c = λ w same.
+    stop _ c.from_residual.ensures.1 (c.in_err-check_tile.ensures Connecting c.args.counted.now)
 
 pub returns-in_err-require : goal.returns-in_err-require
 returns-in_err-require c = λ w same.
     let s = c.args.counted.now in
-    let exists = rw (sym same) at c.has_place.ensures in
-    followed (c.in_ok-check_tile.ensures s) (stop _ c.from_residual-in_err-require.ensures.1 (c.in_err-require.ensures.checked (IsPlace w.place) s s (steady _ (λ b. exists) (λ b. refl)) refl refl))
+    let exists = c.in_err-require.ensures.fact (IsPlace w.place) s (rw (sym same) at c.has_place.ensures) refl in
+    followed (c.in_ok-check_tile.ensures Connecting s) (stop _ c.from_residual-in_err-require.ensures.1 exists)
 
 pub returns-in_err-require-2 : goal.returns-in_err-require-2
 returns-in_err-require-2 c = λ w same.
-    let P = c.args.at.now.plan.now in
     let s = c.args.counted.now in
     let i = item.Write w in
-    let exists = rw (sym same) at c.has_place.ensures in
-    followed (c.in_ok-check_tile.ensures s)
-    (followed (c.in_ok-require.ensures.checked (IsPlace w.place) s s (steady _ (λ b. exists) (λ b. refl)) refl refl)
-    (stop _ c.from_residual-in_err-require-2.ensures.1 (c.in_err-require-2.ensures.checked (CountsItem i) s c.add_item-fits.new.self (c.add_item-fits.ensures.counted P i) refl refl)))
-
-pub add_place-new-requires : goal.add_place-new-requires
-add_place-new-requires c = c.add_item-fits.ensures.room c.in_ok-require-2.ensures.holds
+    let exists = c.in_ok-require.ensures.fact (IsPlace w.place) s (rw (sym same) at c.has_place.ensures) refl in
+    let counted = c.add_item-fits.ensures.counted c.args.at.now.plan.now i in
+    let fits = c.in_err-require-2.ensures.checked (CountsItem i) s c.add_item-fits.new.self counted refl in
+    followed (c.in_ok-check_tile.ensures Connecting s)
+    (followed exists (stop _ c.from_residual-in_err-require-2.ensures.1 fits))
 
 pub returns : goal.returns
 returns c = λ w same.
@@ -32,9 +31,8 @@ returns c = λ w same.
     let s = c.args.counted.now in
     let u = c.add_item-fits.new.self in
     let i = item.Write w in
-    let exists = rw (sym same) at c.has_place.ensures in
+    let exists = c.in_ok-require.ensures.fact (IsPlace w.place) s (rw (sym same) at c.has_place.ensures) refl in
+    let fits = c.in_ok-require-2.ensures.checked (CountsItem i) s u (c.add_item-fits.ensures.counted P i) refl in
     let new = rw (sym same) at (c.add_place-new.ensures P (c.has_place.ensures.0 c.in_ok-require.ensures.holds)) in
-    followed (c.in_ok-check_tile.ensures s)
-    (followed (c.in_ok-require.ensures.checked (IsPlace w.place) s s (steady _ (λ b. exists) (λ b. refl)) refl refl)
-    (followed (c.in_ok-require-2.ensures.checked (CountsItem i) s u (c.add_item-fits.ensures.counted P i) refl refl)
-    (c.require-3.ensures.checked (IsNewPlace w.place) u c.add_place-new.new.self new refl refl)))
+    followed (c.in_ok-check_tile.ensures Connecting s)
+    (followed exists (followed fits (c.require-3.ensures.checked (IsNewPlace w.place) u c.add_place-new.new.self new refl)))

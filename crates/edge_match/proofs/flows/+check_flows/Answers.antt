@@ -2,7 +2,7 @@ use Rattle.std.proofs.Common.{ap, ◌∙◌, length, add-one, arith}
 use Rattle.range_space.proofs.MemberLists.{and_right}
 use Rattle.dep_iter.specs.Tasks.{flows_of}
 use Rattle.edge_match.proofs.Directed.{drop_cons}
-use Rattle.edge_match.proofs.Parts.{stop, followed}
+use Rattle.edge_match.proofs.Parts.{followed}
 use Rattle.edge_match.proofs.flows.+check_flows.Goals as goal
 
 pub check_flow_of-requires-clause-here : goal.check_flow_of-requires-clause-here
@@ -19,9 +19,6 @@ check_flows-requires m c =
       omega (arith, shorter, c.decreases),
       (c.requires.of_job, (rw add-one last, (and_right _ _ (rw c.in-Some.ensures.cases.0 at c.requires.fit), omega arith))),
     )
-
-pub returns-in_err-check_flow_of : goal.returns-in_err-check_flow_of
-returns-in_err-check_flow_of m c = rw c.in-Some.ensures.cases.0 (stop _ c.from_residual.ensures.1 c.in_err-check_flow_of.ensures)
 
 pub returns : goal.returns
 returns m c = rw c.in-Some.ensures.cases.0 (followed c.in_ok-check_flow_of.ensures (rw add-one at c.check_flows.ensures))

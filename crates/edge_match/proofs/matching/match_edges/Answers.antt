@@ -1,10 +1,7 @@
 use Rattle.std.proofs.Common.{Err, ap, inl, inr}
 use Rattle.edge_match.specs.declared.fault.MatchRefusal.{MatchRefusal}
-use Rattle.edge_match.proofs.OneFault.{consistent_none, fault_or_memory}
+use Rattle.edge_match.proofs.OneFault.{fault_or_memory}
 use Rattle.edge_match.proofs.matching.match_edges.Goals as goal
-
-pub returns-in-Ok-clause-refused : goal.returns-in-Ok-clause-refused
-returns-in-Ok-clause-refused c = λ f h. absurd (consistent_none c.args.plan f c.in-Ok.ensures.consistent.0 h)
 
 pub returns-in-Err-clause-refused : goal.returns-in-Err-clause-refused
 returns-in-Err-clause-refused c = λ f h.

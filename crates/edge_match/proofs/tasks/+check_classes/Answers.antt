@@ -3,7 +3,7 @@ use Rattle.std.proofs.lemmas.List.{length-map}
 use Rattle.range_space.specs.Tasks.{tasks}
 use Rattle.dep_iter.specs.Tasks.{task, tasks_from}
 use Rattle.edge_accept.proofs.Lists.{at_least_one, drop_at}
-use Rattle.edge_match.proofs.Walks.{drop_past, went_nowhere, went_stop, went_then}
+use Rattle.edge_match.proofs.Walks.{went_stop, went_then}
 use Rattle.edge_match.proofs.tasks.+check_classes.Goals as goal
 
 pub check_class-requires-clause-room : goal.check_class-requires-clause-room
@@ -29,11 +29,6 @@ check_classes-requires m c =
     let a = (c.in_ok-check_class.ensures s found.1).at_most in
     let b : c.check_class.new.roots + length (tasks_from (suc class) rest) < 2 ^ 64 = omega arith in
     (omega arith, rw add-one b)
-
-pub returns-then-class-len : goal.returns-then-class-len
-returns-then-class-len m c =
-    let n = c.args.plan.now.well_made.one_space_each in
-    rw (drop_past c.args.plan.now.spaces c.args.class (omega arith)) (went_nowhere _ _ _ _ _)
 
 pub returns-in_err-check_class : goal.returns-in_err-check_class
 returns-in_err-check_class m c =

@@ -5,22 +5,11 @@ use Rattle.edge_match.specs.Counted.{WentOver}
 use Rattle.edge_match.proofs.Walks.{in_class, went_nowhere, went_stop, went_then}
 use Rattle.edge_match.proofs.tasks.check_class.Goals as goal
 
-pub loop-params-init : goal.loop-params-init
-loop-params-init c = record { can_next = tt; is_finite = tt; rest = λ v n r w. w; within = λ ps h. h; room = omega arith }
-
 pub check_next-requires-clause-task : goal.check_next-requires-clause-task
 check_next-requires-clause-task c =
     let all = c.into_iter-params-iterator.ensures.into_iter_gives ∙ c.new-params-items.ensures in
     let among = c.loop-params.invariant.within c.in-Some.params (rw c.in-Some.ensures.steps (inl refl)) in
     rw (c.new-t.ensures, c.as_slice.ensures.same) (in_class c.args.plan.now c.args.class c.space_of-space.result.now c.in-Some.params c.space_of-space.ensures.space (rw all at among))
-
-pub check_next-requires-clause-room : goal.check_next-requires-clause-room
-check_next-requires-clause-room c =
-    let all = ap length (c.into_iter-params-iterator.ensures.into_iter_gives ∙ c.new-params-items.ensures) in
-    let left = ap length c.in-Some.ensures.steps in
-    let so_far = c.loop-params.invariant.room in
-    let room = c.requires.room c.space_of-space.result.now c.space_of-space.ensures.space in
-    omega arith
 
 pub loop-params-preserved : goal.loop-params-preserved
 loop-params-preserved c =

@@ -1,12 +1,7 @@
-use Rattle.std.proofs.Common.{inl, inr, [], ◌∷◌, Err, refl}
-use Rattle.edge_match.proofs.Parts.{stop}
-use Rattle.edge_match.proofs.Walks.{went_next, went_stop}
+use Rattle.std.proofs.Common.{inl, inr}
+use Rattle.edge_match.proofs.Walks.{went_next}
 use Rattle.edge_match.proofs.tasks.check_next.Goals as goal
 use Rattle.edge_match.proofs.tasks.check_next.Goals.{then-counted-before, else-counted-before}
-
-pub returns-in_err-check_task : goal.returns-in_err-check_task
-returns-in_err-check_task c =
-    went_stop c.args.plan.now c.args.phase c.args.counted.now c.check_task.new.counted c.check_task.new.counted _ _ c.from_residual.result _ (c.args.t.now ∷ []) [] c.from_residual.ensures.1 (stop {r = Err _} [] refl c.in_err-check_task.ensures)
 
 pub returns : goal.returns
 returns c =

@@ -1,18 +1,17 @@
 use Rattle.std.proofs.Common.{refl}
 use Rattle.dep_iter.specs.Hints.{affinity}
 use Rattle.edge_match.specs.Marks.{IsPlace}
-use Rattle.edge_match.proofs.Parts.{steady, stop, followed, unchecked}
+use Rattle.edge_match.proofs.Parts.{followed, stop}
 use Rattle.edge_match.proofs.tasks.start_task.Goals as goal
 
 pub returns-in_err-check_values-in-Connecting : goal.returns-in_err-check_values-in-Connecting
-returns-in_err-check_values-in-Connecting c = λ s. rw c.in-Connecting.is (stop _ c.from_residual.ensures.1 (c.in_err-check_values-in-Connecting.ensures s))
+returns-in_err-check_values-in-Connecting c = λ s.
+    rw c.in-Connecting.is (stop _ c.from_residual.ensures.1 (c.in_err-check_values-in-Connecting.ensures s))
 
 pub returns-in_ok-check_values-in-Connecting : goal.returns-in_ok-check_values-in-Connecting
 returns-in_ok-check_values-in-Connecting c = λ s.
     let P = c.args.task.now.plan.now in
     let t = c.args.task.now.task.now in
     let exists = rw c.affinity_under-place.ensures at c.has_place-exists.ensures in
-    rw c.in-Connecting.is (followed (c.in_ok-check_values-in-Connecting.ensures s) (c.require.ensures.checked P (IsPlace (affinity P t)) s s (steady _ (λ b. exists) (λ b. refl)) refl refl))
-
-pub returns-in-Matching : goal.returns-in-Matching
-returns-in-Matching c = λ s. rw c.in-Matching.is unchecked
+    let place = c.require.ensures.fact P (IsPlace (affinity P t)) s exists refl in
+    rw c.in-Connecting.is (followed (c.in_ok-check_values-in-Connecting.ensures s) place)

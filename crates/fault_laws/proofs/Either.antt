@@ -19,15 +19,15 @@ use Rattle.plan_core.specs.declared.shape.Shape.{Shape}
 use Rattle.dep_iter.specs.declared.source.Source.{Source}
 use Rattle.dep_iter.specs.declared.source.Source.TheVariants as source
 use Rattle.dep_iter.specs.Consistent.{IsConsistent, takes_tile}
-use Rattle.dep_iter.specs.Edges.{in_edges}
-use Rattle.dep_iter.specs.Items.{out_edges}
+use Rattle.dep_iter.specs.Directions.{edges_of, far_task, opposite}
 use Rattle.dep_iter.specs.Tasks.{IsTask, all_tasks}
 use Rattle.dep_iter.specs.Well.{ill_part}
 use Rattle.dep_iter.proofs.Listing.{length-tasks_from, listed}
 use Rattle.edge_match.specs.declared.fault.MatchFault.{MatchFault}
 use Rattle.edge_match.specs.Faults.{fault_at, space_fault}
-use Rattle.edge_match.specs.Marks.{AllPass, Before, Check, CountsIn, CountsItem, HasIn, HasInput, HasOut, HasSource, HasTile, HasValues, IsNewEdge, IsNewPlace, IsOfJob, IsPlace, Mark, Passes, add, marks, nothing}
-use Rattle.edge_match.specs.FirstFault.{IsFirstFailure, IsFirstFault, code_of, flow_at}
+use Rattle.edge_match.specs.Marks.{AllPass, Before, Check, CountsIn, CountsItem, Fact, HasInput, HasOther, HasSource, HasTile}
+use Rattle.edge_match.specs.Marks.{HasValues, Holds, Is, IsNewEdge, IsNewPlace, IsOfJob, IsPlace, Mark, Passes, add, marks, nothing}
+use Rattle.edge_match.specs.FirstFault.{IsFirstFailure, IsFirstFault, code_of}
 use Rattle.edge_match.proofs.Consistency.{passes_consistent}
 use Rattle.std.proofs.lemmas.Int.{by_lt_z, ints}
 use Rattle.std.specs.Cmp.{unsigned_Decides, signed_Decides}
@@ -137,30 +137,32 @@ decided_null source.New = inr (λ h. absurd cc)
 decided_null source.Null = inl refl
 decided_null source.Nothing = inr (λ h. absurd cc)
 
-decided_source : (P : Plan) (b : Before) (s : Source) → IsDecided (Passes P b (HasSource s))
-decided_source P b (source.Task e) = inl (λ p h. absurd cc)
-decided_source P b (source.Place q) =
+decided_source : (P : Plan) (s : Source) → IsDecided (Holds P (HasSource s))
+decided_source P (source.Task e) = inl (λ p h. absurd cc)
+decided_source P (source.Place q) =
     decided_like (λ h p e. let same : q ≡ p = cc in subst (HasPlace P.colls) same h) (λ h. h q refl) (decided_place P.colls q)
-decided_source P b source.New = inl (λ p h. absurd cc)
-decided_source P b source.Null = inl (λ p h. absurd cc)
-decided_source P b source.Nothing = inl (λ p h. absurd cc)
+decided_source P source.New = inl (λ p h. absurd cc)
+decided_source P source.Null = inl (λ p h. absurd cc)
+decided_source P source.Nothing = inl (λ p h. absurd cc)
 
 -- ---- checks and marks
 
--- each check passes or does not
+-- each fact holds or does not, and each check passes or does not
+decided_fact : (P : Plan) (f : Fact) → IsDecided (Holds P f)
+decided_fact P (HasValues t) = decided_none (ill_part P t)
+decided_fact P (IsPlace p) = decided_place P.colls p
+decided_fact P (HasInput kind s) = decided_if (decided_true (takes_tile kind)) (decided_not (decided_nothing s))
+decided_fact P (HasSource s) = decided_source P s
+decided_fact P (IsOfJob t) = decided_task P t
+decided_fact P (HasTile s) = decided_not (decided_null s)
+decided_fact P (HasOther d e) = decided_both (decided_task P (far_task d e)) (decided_in same_or_other_edge e (edges_of (opposite d) P (far_task d e)))
+decided_fact P (IsNewEdge earlier e) = decided_not (decided_in same_or_other_edge e earlier)
+
 decided_check : (P : Plan) (b : Before) (c : Check) → IsDecided (Passes P b c)
-decided_check P b (HasValues t) = decided_none (ill_part P t)
-decided_check P b (IsPlace p) = decided_place P.colls p
-decided_check P b (HasInput kind s) = decided_if (decided_true (takes_tile kind)) (decided_not (decided_nothing s))
-decided_check P b (HasSource s) = decided_source P b s
-decided_check P b (IsOfJob t) = decided_task P t
+decided_check P b (Is f) = decided_fact P f
 decided_check P b (CountsIn e) = decided_below (length b.ins) 4000000
-decided_check P b (HasTile s) = decided_not (decided_null s)
 decided_check P b (CountsItem i) = decided_below (length b.items) 4000000
 decided_check P b (IsNewPlace p) = decided_not (decided_in same_or_other_place p b.places)
-decided_check P b (HasOut e) = decided_both (decided_task P e.from) (decided_in same_or_other_edge e (out_edges P e.from))
-decided_check P b (HasIn e) = decided_both (decided_task P e.to) (decided_in same_or_other_edge e (in_edges P e.to))
-decided_check P b (IsNewEdge earlier e) = decided_not (decided_in same_or_other_edge e earlier)
 
 -- all marks pass, or there is a first one that does not
 pass_or_failure : (P : Plan) (b : Before) (ms : List Mark) → AllPass P b ms ⊎ ((f : MatchFault) × IsFirstFailure P b ms f)
@@ -180,7 +182,8 @@ pass_or_failure P b (m ∷ ms) = elim (decided_check P b m.check) [
       },
     )
   ]
-  | inr none ↦ inr (fault_at (code_of m.check) m.task (flow_at P m.flow m.check), record { passed = []; failed = m; rest = ms; split = refl; all_pass = tt; fails = (none, refl) })
+  | inr none ↦
+      inr (fault_at (code_of m.check) m.task m.flow, record { passed = []; failed = m; rest = ms; split = refl; all_pass = tt; fails = (none, refl) })
 ]
 
 -- ---- the walk through the spaces

@@ -1,0 +1,6 @@
+//! Each plan is consistent or has a first fault, and what a first fault names exists.
+#![tactic(auto)]
+
+mod laws;
+
+pub use laws::{a_first_fault_names_what_exists, a_plan_is_consistent_or_has_a_first_fault};
