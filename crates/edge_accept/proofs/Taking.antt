@@ -1,6 +1,5 @@
 -- Edges into tasks that are looked up and counted, one after another.
 use Rattle.std.proofs.Common.{◌≡◌, ℕ, ◌+◌, ℤ, Bool, true, false, List, [], ◌∷◌, ◌++◌, length, length-append, refl, ap, sym, ◌∙◌, subst, append_assoc, Option, Some, None, slice_get, inl, inr, if◌then◌else◌, arith}
-use Rattle.std.proofs.lemmas.List.{append-nil}
 use Rattle.std.proofs.lemmas.List.Elements.{filter-append}
 use Rattle.std.specs.Bool.{OnTrue}
 use Rattle.std.specs.List.{filter, flat_map}
@@ -38,16 +37,15 @@ data_end p e false h n = rw h (omega arith)
 
 module _ (P : Plan) (earlier : List Edge) where
   pub taken_nil : (s : Ins) → AreTaken P earlier s s []
-  taken_nil s = record { sent = λ e h. absurd h; fresh = λ e h k. h; edges = omega arith; data_edges = omega arith; receivers = refl }
+  taken_nil s = record { sent = λ e h. absurd h; fresh = λ e h k. h; edges = omega arith; data_edges = omega arith }
 
   pub taken_one : (s u : Ins) (e : Edge) (d : Bool) → IsSent P e → (IsIn e earlier → ⊥) → is_data_edge P e ≡ d
-      → u.edges ≡ s.edges + 1 → u.data_edges ≡ (if d then s.data_edges + 1 else s.data_edges) → u.receivers ≡ s.receivers → AreTaken P earlier s u (e ∷ [])
-  taken_one s u e d sent new is edges tiles receivers = record {
+      → u.edges ≡ s.edges + 1 → u.data_edges ≡ (if d then s.data_edges + 1 else s.data_edges) → AreTaken P earlier s u (e ∷ [])
+  taken_one s u e d sent new is edges tiles = record {
     sent = λ x h. elim h [ inl k ↦ subst (IsSent P) (sym k) sent | inr none ↦ absurd none ];
     fresh = λ x h i. elim h [ inl k ↦ new (subst (λ (z : Edge). IsIn z earlier) k i) | inr none ↦ none ];
     edges = edges;
     data_edges = tiles ∙ sym (data_end (is_data_edge P) e d is s.data_edges);
-    receivers = receivers;
   }
 
   pub taken_append : (s u v : Ins) (xs ys : List Edge) → AreTaken P earlier s u xs → AreTaken P earlier u v ys → AreTaken P earlier s v (xs ++ ys)
@@ -63,7 +61,6 @@ module _ (P : Plan) (earlier : List Edge) where
         fresh = λ x k n. elim (from_append x xs ys k) [ inl i ↦ a.fresh x i n | inr i ↦ b.fresh x i n ];
         edges = omega arith;
         data_edges = omega arith;
-        receivers = b.receivers ∙ a.receivers;
       }
 
   pub once_nil : (s : Ins) → AreTakenOnce P earlier s s []
@@ -82,30 +79,10 @@ module _ (P : Plan) (earlier : List Edge) where
           fresh = λ e h k. b.taken.fresh e h (IsIn-append_left e earlier xs k);
           edges = b.taken.edges;
           data_edges = b.taken.data_edges;
-          receivers = b.taken.receivers;
         };
         once = b.once;
       } in
       once_both s u v xs ys a c (λ e h k. b.taken.fresh e k (IsIn-append_right e earlier xs h))
-
-  -- the edges of a list up to those that are left
-  pub record IsSoFar (s u : Ins) (all left : List Edge) : Type 0 where
-    pub done : List Edge
-    pub split : all ≡ done ++ left
-    pub taken : AreTaken P earlier s u done
-
-  pub nothing_yet : (s : Ins) (all : List Edge) → IsSoFar s s all all
-  nothing_yet s all = record { done = []; split = refl; taken = taken_nil s }
-
-  pub one_more : (s u v : Ins) (all : List Edge) (e : Edge) (more : List Edge) → IsSoFar s u all (e ∷ more) → AreTaken P earlier u v (e ∷ []) → IsSoFar s v all more
-  one_more s u v all e more w k = record {
-    done = w.done ++ e ∷ [];
-    split = w.split ∙ sym (append_assoc w.done (e ∷ []) more);
-    taken = taken_append s u v w.done (e ∷ []) w.taken k;
-  }
-
-  pub all_done : (s u : Ins) (all : List Edge) → IsSoFar s u all [] → AreTaken P earlier s u all
-  all_done s u all w = subst (AreTaken P earlier s u) (sym (w.split ∙ append-nil w.done)) w.taken
 
 -- the targets of dependences that hold, with one more dependence at the end
 pub held-end_none : (ds : List DepPlan) (d : DepPlan) (env : List ℤ) → held_target d env ≡ None → held_targets false (ds ++ d ∷ []) env ≡ held_targets false ds env
@@ -128,7 +105,7 @@ before-is P t n f done rest k here all split e = rw (here, all, split, take-firs
 
 pub once_forget : (P : Plan) (earlier : List Edge) (s u : Ins) (es : List Edge) → AreTakenOnce P earlier s u es → AreTakenOnce P [] s u es
 once_forget P earlier s u es a = record {
-  taken = record { sent = a.taken.sent; fresh = λ e h k. k; edges = a.taken.edges; data_edges = a.taken.data_edges; receivers = a.taken.receivers };
+  taken = record { sent = a.taken.sent; fresh = λ e h k. k; edges = a.taken.edges; data_edges = a.taken.data_edges };
   once = a.once;
 }
 

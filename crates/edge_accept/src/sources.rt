@@ -2,9 +2,6 @@
 
 ghost use Rattle.std.specs.Prelude.{◌≡◌, ◌+◌, ◌<◌, ◌^◌, ◌++◌, [], List, IsTrue, false, true, length, flat_map};
 ghost use Rattle.std.specs.Bool.{OnTrue};
-ghost use Rattle.ptg_base.specs.declared.place.Place.{Place as PlaceValue};
-ghost use Rattle.plan_core.specs.Place.{HasPlace};
-ghost use Rattle.dep_iter.specs.declared.source.Source.TheVariants as source_variant;
 ghost use Rattle.plan_core.specs.declared.flow.DepPlan.{DepPlan as DepPlanValue};
 ghost use Rattle.dep_iter.specs.Active as active;
 ghost use Rattle.dep_iter.specs.Active.{held_targets};
@@ -20,17 +17,14 @@ use crate::sending::flow_sent;
 use dep_iter::{Source, data_source_under, held_target, takes_first, takes_tile};
 use plan_core::{DepPlan, Target};
 
-// Whether the place of the flow's source exists, if it is one.
+// Whether the flow's source is a place that exists.
 fn has_place(at: &FlowAt) -> bool
     requires of_job { IsTask at.now.plan.now at.now.task.now }
-    ensures { IsTrue result → (p : PlaceValue) → data_source_of at.now.plan.now at.now.task.now at.now.number ≡ source_variant.Place p → HasPlace at.now.plan.now.colls p }
+    ensures { OnTrue result (HasSoundSource at.now.plan.now at.now.task.now at.now.env.now at.now.number at.now.flow.now) }
 {
     match data_source_under(at.plan, at.task, at.env, at.number) {
-        Source::Task(_) => true,
         Source::Place(p) => at.plan.has_place(&p),
-        Source::New => true,
-        Source::Null => true,
-        Source::Nothing => true,
+        _ => false,
     }
 }
 

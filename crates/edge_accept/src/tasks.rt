@@ -1,6 +1,6 @@
 //! The walk over all tasks.
 
-ghost use Rattle.std.specs.Prelude.{◌≡◌, ◌+◌, ◌<◌, ◌∷◌, [], List, Some, drop, length, map, slice_get};
+ghost use Rattle.std.specs.Prelude.{◌≡◌, ◌<◌, ◌∷◌, [], List, Some, drop, length, map, slice_get};
 ghost use Rattle.std.specs.Bool.{OnTrue};
 ghost use Rattle.term_core.specs.declared.space.ClassSpace.{ClassSpace as ClassSpaceValue};
 ghost use Rattle.term_core.specs.WellSpace.{IsWellSpace};
@@ -9,18 +9,17 @@ ghost use Rattle.range_space.specs.Tasks as range;
 ghost use Rattle.dep_iter.specs.Hints as hints;
 ghost use Rattle.dep_iter.specs.Tasks.{IsTask, all_tasks, locals_of, task, tasks_from};
 ghost use Rattle.dep_iter.specs.Well.{IsWellTask};
-ghost use Rattle.edge_accept.specs.Flows.{TakesIns};
-ghost use Rattle.edge_accept.specs.Tallies.{Sends, WentOver};
+ghost use Rattle.dep_iter.specs.Items.{write_backs};
+ghost use Rattle.edge_accept.specs.Tallies.{AreWritten, Sends, TakesIns, WentOver};
 
 use crate::at::TaskAt;
 use crate::flows::take_flows;
-use crate::ins::Ins;
 use crate::sending::flows_sent;
 use crate::tally::Tally;
-use crate::writes::write_places;
-use dep_iter::{affinity_under, flows_of, task_with, well_task_under};
+use dep_iter::{affinity_under, flows_of, task_with, well_task_under, write_backs_under};
+use place_set::PlaceSet;
 use plan_core::Plan;
-use ptg_base::TaskId;
+use ptg_base::{TaskId, WriteBack};
 use range_space::AllLocals;
 use term_core::ClassSpace;
 
@@ -38,19 +37,45 @@ fn is_sound(task: &TaskAt) -> bool
 }
 
 // Counts the edges into a task, if each is sent, and it as a receiver if there is one.
-fn take_ins(task: &TaskAt, ins: &mut Ins) -> bool
+fn take_ins(task: &TaskAt, tally: &mut Tally) -> bool
     requires of_job { IsTask task.now.plan.now task.now.task.now }
     requires well { IsWellTask task.now.plan.now task.now.task.now }
-    ensures { OnTrue result (TakesIns task.now.plan.now task.now.task.now ins.old ins.new) }
+    ensures { OnTrue result (TakesIns task.now.plan.now task.now.task.now tally.old tally.new) }
 {
-    let before = ins.edges;
-    if !take_flows(task, 0, flows_of(task.plan, task.task), ins) {
+    let before = tally.ins.edges;
+    if !take_flows(task, 0, flows_of(task.plan, task.task), &mut tally.ins) {
         return false;
     }
-    if ins.edges == before {
+    if tally.ins.edges == before {
         return true;
     }
-    ins.add_receiver();
+    let Some(receivers) = tally.receivers.checked_add(1) else {
+        return false;
+    };
+    tally.receivers = receivers;
+    true
+}
+
+// Adds the place of a write-back, if it exists and was not added before.
+fn write_place(plan: &Plan, write: &WriteBack, written: &mut PlaceSet) -> bool
+    ensures { OnTrue result (AreWritten plan.now.colls written.old written.new (write.now ∷ [])) }
+{
+    if !plan.has_place(&write.place) {
+        return false;
+    }
+    written.insert(write.place)
+}
+
+// Adds the places that a task writes, if each exists and was not written before.
+fn write_places(task: &TaskAt, written: &mut PlaceSet) -> bool
+    requires of_job { IsTask task.now.plan.now task.now.task.now }
+    ensures { OnTrue result (AreWritten task.now.plan.now.colls written.old written.new (write_backs task.now.plan.now task.now.task.now)) }
+{
+    for write in write_backs_under(task.plan, task.task, task.env) {
+        if !write_place(task.plan, &write, written) {
+            return false;
+        }
+    }
     true
 }
 
@@ -80,7 +105,7 @@ fn accept_task(plan: &Plan, t: &TaskId, env: &[i64], tally: &mut Tally) -> bool
     if !is_sound(&task) {
         return false;
     }
-    if !take_ins(&task, &mut tally.ins) {
+    if !take_ins(&task, tally) {
         return false;
     }
     send(&task, tally)
