@@ -1,5 +1,5 @@
 -- What the first fault of a plan names.
-use Rattle.std.proofs.Common.{◌≡◌, ℕ, suc, ◌+◌, ◌<◌, ℤ, Bool, true, false, List, [], ◌∷◌, ◌++◌, length, length-append, refl, ap, sym, ◌∙◌, subst, Option, Some, None, slice_get, if◌then◌else◌, ◌⊎◌, inl, inr, Result, Ok, Err, arith}
+use Rattle.std.proofs.Common.{◌≡◌, ℕ, suc, ◌+◌, ◌<◌, ℤ, Bool, true, false, List, [], ◌∷◌, ◌++◌, length, length-append, refl, ap, sym, ◌∙◌, subst, Option, Some, None, slice_get, IsSomeAnd, if◌then◌else◌, ◌⊎◌, inl, inr, Result, Ok, Err, arith}
 use Rattle.std.proofs.lemmas.Option.{slice_get_within}
 use Rattle.std.specs.List.{AllByRecursion}
 use Rattle.std.specs.Option.{option_and_then, option_map, option_map_or, unwrap_or}
@@ -35,7 +35,6 @@ use Rattle.edge_match.specs.FirstFault.{IsFirstFault, IsTaskFault, flow_at}
 use Rattle.edge_match.specs.Marks.{Check, CountsIn, CountsItem, HasIn, HasInput, HasOut, HasSource, HasTile, IsNewEdge, IsNewPlace, IsOfJob, IsPlace, Mark, flow_start, mark, phase_marks, task_start}
 use Rattle.edge_match.proofs.Directed.{flow_items}
 use Rattle.edge_match.proofs.Holding.{AtFlow, join, of_items, of_phase, parts}
-use Rattle.edge_accept.proofs.PlaceBits.{some_of}
 
 -- a mark is at a task of the job, and the flow of its fault, if it is one's, is one of that task
 pub record IsNamed (P : Plan) (m : Mark) : Type 0 where
@@ -166,6 +165,10 @@ outer_fewer ss k vs s w h =
     let e : k ≡ p.number = let c = stopped_class (0 + p.number) (length p.space.defs) _ _ w.visit (BadExpr k vs) p.fact w.stops in omega arith in
     let same : p.space ≡ s = let a = p.here in let b = subst (λ m. slice_get ss m ≡ Some s) e h in cc in
     subst (λ (z : ClassSpace). length vs < length z.defs) same (stopped_values (0 + p.number) (length p.space.defs) _ _ w.visit k vs p.fact w.stops)
+
+some_of : {A : Type 0} (o : Option A) (Q : A → Type 0) → IsSomeAnd o Q → (x : A) × (o ≡ Some x) × Q x
+some_of None Q h = absurd h
+some_of (Some x) Q h = (x, refl, h)
 
 pub class_exists : (P : Plan) (f : MatchFault) → IsFirstFault P f → f.class < length P.classes
 class_exists P f (inl a) =
