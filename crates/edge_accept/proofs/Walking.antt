@@ -1,5 +1,6 @@
 -- The walk over tasks, one task after another.
-use Rattle.std.proofs.Common.{◌≡◌, ◌+◌, Bool, true, false, List, [], ◌∷◌, ◌++◌, length, length-append, map, refl, ap, sym, ◌∙◌, subst, append_assoc, ◌==◌, if◌then◌else◌, inl, inr, arith}
+use Rattle.std.proofs.Common.{◌≡◌, ◌+◌, List, [], ◌∷◌, ◌++◌, length, length-append, map, refl, ap, sym, ◌∙◌, subst, append_assoc, ◌==◌, inl, inr, arith}
+use Rattle.std.proofs.lemmas.Bool.{eq-eqb, ne_eqb}
 use Rattle.std.proofs.lemmas.List.{append-nil}
 use Rattle.std.proofs.lemmas.List.Elements.{filter-append}
 use Rattle.std.specs.List.{filter, flat_map}
@@ -33,17 +34,19 @@ module _ (colls : List Shape) where
         (b.added (ps ++ map place_of xs) (a.added ps k));
   }
 
--- a task counts as one without an edge into it, or as a receiver
-pub root_test : (P : Plan) (t : Task) (b : Bool) → (goal P t == 0) ≡ b → length (filter (λ u. goal P u == 0) (t ∷ [])) ≡ (if b then 1 else 0)
-root_test P t true h = rw h refl
-root_test P t false h = rw h refl
+-- a task without an edge into it is one root, and one with edges none
+pub one_root : (P : Plan) (t : Task) → goal P t ≡ 0 → length (filter (λ u. goal P u == 0) (t ∷ [])) ≡ 1
+one_root P t h = rw (eq-eqb (goal P t) 0 h) refl
+
+pub no_root : (P : Plan) (t : Task) → (goal P t ≡ 0 → ⊥) → length (filter (λ u. goal P u == 0) (t ∷ [])) ≡ 0
+no_root P t h = rw (ne_eqb (goal P t) 0 h) refl
 
 module _ (P : Plan) where
   pub went_nil : (s : Tally) → WentOver P s s []
   went_nil s = record {
     sound = λ t h. absurd h;
     taken = taken_nil P [] s.ins;
-    receivers = omega arith;
+    roots = omega arith;
     outs = omega arith;
     writes = omega arith;
     written = written_nil P.colls s.written;
@@ -52,12 +55,10 @@ module _ (P : Plan) where
   pub went_one : (s u v : Tally) (t : Task) → IsWellTask P t → HasPlace P.colls (affinity P t) → TakesIns P t s u → Sends P t u v → WentOver P s v (t ∷ [])
   went_one s u v t well place takes sends =
       let sound : IsSoundTask P t = record { well = well; affinity_exists = place; sources = takes.sources; ins_once = takes.taken.once } in
-      let r1 = takes.receivers in
-      let r2 = sends.receivers in
       record {
         sound = λ x h. elim h [ inl e ↦ subst (IsSoundTask P) (sym e) sound | inr none ↦ absurd none ];
         taken = rw (append-nil (in_edges P t), sends.ins) takes.taken.taken;
-        receivers = omega arith;
+        roots = sends.roots ∙ takes.roots;
         outs = rw (append-nil (out_edges P t)) (sends.outs ∙ ap (λ n. n + length (out_edges P t)) takes.outs);
         writes = rw (append-nil (write_backs P t)) (sends.writes ∙ ap (λ n. n + length (write_backs P t)) takes.writes);
         written = rw (append-nil (write_backs P t)) (subst (λ w. AreWritten P.colls w v.written (write_backs P t)) takes.written sends.written);
@@ -67,10 +68,9 @@ module _ (P : Plan) where
   went_then s u v xs ys a b =
       let root = λ (t : Task). goal P t == 0 in
       let ws = flat_map-append (write_backs P) xs ys in
-      let l = length-append xs ys in
       let f = ap length (filter-append root xs ys) ∙ length-append (filter root xs) (filter root ys) in
-      let r1 = a.receivers in
-      let r2 = b.receivers in
+      let r1 = a.roots in
+      let r2 = b.roots in
       let o = ap length (flat_map-append (out_edges P) xs ys) ∙ length-append (flat_map (out_edges P) xs) (flat_map (out_edges P) ys) in
       let o1 = a.outs in
       let o2 = b.outs in
@@ -80,7 +80,7 @@ module _ (P : Plan) where
       record {
         sound = λ t h. elim (from_append t xs ys h) [ inl k ↦ a.sound t k | inr k ↦ b.sound t k ];
         taken = rw (flat_map-append (in_edges P) xs ys) (taken_append P [] s.ins u.ins v.ins (flat_map (in_edges P) xs) (flat_map (in_edges P) ys) a.taken b.taken);
-        receivers = omega arith;
+        roots = omega arith;
         outs = omega arith;
         writes = omega arith;
         written = rw ws (written_append P.colls s.written u.written v.written (flat_map (write_backs P) xs) (flat_map (write_backs P) ys) a.written b.written);

@@ -26,11 +26,11 @@ abbrev pub items_of_flow : Task → List ℤ → ℕ → FlowPlan → List Item
 items_of_flow t env n f = flat_map (items_to t env n) (flow_outs env f)
 
 -- the same of these flows, which are numbered from n on
-unfoldable pub ins_of_flows : Task → List ℤ → ℕ → List FlowPlan → List Edge
+abbrev pub ins_of_flows : Task → List ℤ → ℕ → List FlowPlan → List Edge
 ins_of_flows t env n [] = []
 ins_of_flows t env n (f ∷ fs) = edges_into_flow t env n f ++ ins_of_flows t env (suc n) fs
 
-unfoldable pub items_of_flows : Task → List ℤ → ℕ → List FlowPlan → List Item
+abbrev pub items_of_flows : Task → List ℤ → ℕ → List FlowPlan → List Item
 items_of_flows t env n [] = []
 items_of_flows t env n (f ∷ fs) = items_of_flow t env n f ++ items_of_flows t env (suc n) fs
 

@@ -38,11 +38,11 @@ pub record AreWritten (colls : List Shape) (old new : PlaceSet) (ws : List Write
   pub exist : (w : WriteBack) → IsIn w ws → HasPlace colls w.place
   pub added : (ps : List Place) → IsOnceIn colls old ps → IsOnceIn colls new (ps ++ map place_of ws)
 
--- the edges into a task were counted, and it as a receiver if there are any; and its flows have sound sources
+-- the edges into a task were counted, and the task where there are none; and its flows have sound sources
 pub record TakesIns (P : Plan) (t : Task) (old new : Tally) : Type 0 where
   pub sources : HasSoundSources P t
   pub taken : AreTakenOnce P [] old.ins new.ins (in_edges P t)
-  pub receivers : new.receivers + length (filter (λ u. goal P u == 0) (t ∷ [])) ≡ old.receivers + 1
+  pub roots : new.roots ≡ old.roots + length (filter (λ u. goal P u == 0) (t ∷ []))
   pub outs : new.outs ≡ old.outs
   pub writes : new.writes ≡ old.writes
   pub written : new.written ≡ old.written
@@ -50,7 +50,7 @@ pub record TakesIns (P : Plan) (t : Task) (old new : Tally) : Type 0 where
 -- what a task sends was counted, and the places that it writes were added
 pub record Sends (P : Plan) (t : Task) (old new : Tally) : Type 0 where
   pub ins : new.ins ≡ old.ins
-  pub receivers : new.receivers ≡ old.receivers
+  pub roots : new.roots ≡ old.roots
   pub outs : new.outs ≡ old.outs + length (out_edges P t)
   pub writes : new.writes ≡ old.writes + length (write_backs P t)
   pub written : AreWritten P.colls old.written new.written (write_backs P t)
@@ -59,7 +59,7 @@ pub record Sends (P : Plan) (t : Task) (old new : Tally) : Type 0 where
 pub record WentOver (P : Plan) (old new : Tally) (ts : List Task) : Type 0 where
   pub sound : (t : Task) → IsIn t ts → IsSoundTask P t
   pub taken : AreTaken P [] old.ins new.ins (flat_map (in_edges P) ts)
-  pub receivers : new.receivers + length (filter (λ t. goal P t == 0) ts) ≡ old.receivers + length ts
+  pub roots : new.roots ≡ old.roots + length (filter (λ t. goal P t == 0) ts)
   pub outs : new.outs ≡ old.outs + length (flat_map (out_edges P) ts)
   pub writes : new.writes ≡ old.writes + length (flat_map (write_backs P) ts)
   pub written : AreWritten P.colls old.written new.written (flat_map (write_backs P) ts)

@@ -13,12 +13,12 @@ pub(crate) struct Sent {
     pub(crate) writes: u64,
 }
 
-/// The edges into tasks, the tasks that have any, the edges out of tasks and the write-backs that were counted,
+/// The edges into tasks, the tasks without any, the edges out of tasks and the write-backs that were counted,
 /// and the places that are written.
 #[derive(Drop)]
 pub(crate) struct Tally {
     pub(crate) ins: Ins,
-    pub(crate) receivers: u64,
+    pub(crate) roots: u64,
     pub(crate) outs: u64,
     pub(crate) writes: u64,
     pub(crate) written: PlaceSet,
@@ -32,7 +32,7 @@ impl Tally {
         ensures writes { OnTrue result (self.new.writes ≡ self.old.writes + sent.writes) }
         ensures at_most { OnTrue result (sent.edges + sent.writes ≤ 4000000) }
         ensures ins { self.new.ins ≡ self.old.ins }
-        ensures receivers { self.new.receivers ≡ self.old.receivers }
+        ensures roots { self.new.roots ≡ self.old.roots }
         ensures written { self.new.written ≡ self.old.written }
     {
         let outs = self.outs.saturating_add(sent.edges);

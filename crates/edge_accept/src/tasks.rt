@@ -1,6 +1,6 @@
 //! The walk over all tasks.
 
-ghost use Rattle.std.specs.Prelude.{◌≡◌, ◌<◌, ◌∷◌, [], List, Some, drop, length, map, slice_get};
+ghost use Rattle.std.specs.Prelude.{◌≡◌, ◌<◌, ◌∷◌, [], Some, drop, length, map, slice_get};
 ghost use Rattle.std.specs.Bool.{OnTrue};
 ghost use Rattle.term_core.specs.declared.space.ClassSpace.{ClassSpace as ClassSpaceValue};
 ghost use Rattle.term_core.specs.WellSpace.{IsWellSpace};
@@ -24,35 +24,32 @@ use range_space::AllLocals;
 use term_core::ClassSpace;
 
 // Whether each expression that the task needs has a value, and the place of its affinity exists.
-fn is_sound(task: &TaskAt) -> bool
-    requires of_job { IsTask task.now.plan.now task.now.task.now }
-    ensures well { OnTrue result (IsWellTask task.now.plan.now task.now.task.now) }
-    ensures place { OnTrue result (HasPlace task.now.plan.now.colls (hints.affinity task.now.plan.now task.now.task.now)) }
+fn is_sound(plan: &Plan, t: &TaskId, env: &[i64]) -> bool
+    requires of_job { IsTask plan.now t.now }
+    requires locals { env.now ≡ locals_of plan.now t.now }
+    ensures well { OnTrue result (IsWellTask plan.now t.now) }
+    ensures place { OnTrue result (HasPlace plan.now.colls (hints.affinity plan.now t.now)) }
 {
-    if well_task_under(task.plan, task.task, task.env).is_err() {
+    if well_task_under(plan, t, env).is_err() {
         return false;
     }
-    task.plan
-        .has_place(&affinity_under(task.plan, task.task, task.env))
+    plan.has_place(&affinity_under(plan, t, env))
 }
 
-// Counts the edges into a task, if each is sent, and it as a receiver if there is one.
+// Counts the edges into a task, if each is sent, and it as a root if there is none.
 fn take_ins(task: &TaskAt, tally: &mut Tally) -> bool
     requires of_job { IsTask task.now.plan.now task.now.task.now }
-    requires well { IsWellTask task.now.plan.now task.now.task.now }
     ensures { OnTrue result (TakesIns task.now.plan.now task.now.task.now tally.old tally.new) }
 {
     let before = tally.ins.edges;
-    if !take_flows(task, 0, flows_of(task.plan, task.task), &mut tally.ins) {
+    if !take_flows(task, 0, &mut tally.ins) {
         return false;
     }
-    if tally.ins.edges == before {
-        return true;
-    }
-    let Some(receivers) = tally.receivers.checked_add(1) else {
+    let root = if tally.ins.edges == before { 1 } else { 0 };
+    let Some(roots) = tally.roots.checked_add(root) else {
         return false;
     };
-    tally.receivers = receivers;
+    tally.roots = roots;
     true
 }
 
@@ -82,10 +79,9 @@ fn write_places(task: &TaskAt, written: &mut PlaceSet) -> bool
 // Counts what a task sends, if it is not too much and each place that it writes exists and was not written before.
 fn send(task: &TaskAt, tally: &mut Tally) -> bool
     requires of_job { IsTask task.now.plan.now task.now.task.now }
-    requires well { IsWellTask task.now.plan.now task.now.task.now }
     ensures { OnTrue result (Sends task.now.plan.now task.now.task.now tally.old tally.new) }
 {
-    let sent = flows_sent(flows_of(task.plan, task.task), task.env);
+    let sent = flows_sent(task.flows, task.env);
     if !tally.add_sent(sent) {
         return false;
     }
@@ -101,10 +97,16 @@ fn accept_task(plan: &Plan, t: &TaskId, env: &[i64], tally: &mut Tally) -> bool
     requires locals { env.now ≡ locals_of plan.now t.now }
     ensures { OnTrue result (WentOver plan.now tally.old tally.new (t.now ∷ [])) }
 {
-    let task = TaskAt { plan, task: t, env };
-    if !is_sound(&task) {
+    if !is_sound(plan, t, env) {
         return false;
     }
+    let flows = flows_of(plan, t);
+    let task = TaskAt {
+        plan,
+        task: t,
+        env,
+        flows,
+    };
     if !take_ins(&task, tally) {
         return false;
     }
@@ -138,7 +140,7 @@ fn accept_class(plan: &Plan, class: u32, tally: &mut Tally) -> bool
 
 // Goes over the tasks of the classes from this number on, in walk order.
 fn accept_classes(plan: &Plan, class: u32, tally: &mut Tally) -> bool
-    ensures { OnTrue result ((ss : List ClassSpaceValue) → drop class plan.now.spaces ≡ ss → WentOver plan.now tally.old tally.new (tasks_from class ss)) }
+    ensures { OnTrue result (WentOver plan.now tally.old tally.new (tasks_from class (drop class plan.now.spaces))) }
 {
     if class as usize >= plan.classes.len() {
         return true;

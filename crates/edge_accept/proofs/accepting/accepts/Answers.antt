@@ -2,15 +2,12 @@ use Rattle.std.proofs.Common.{refl, arith}
 use Rattle.edge_accept.proofs.Conclusion.{consistent}
 use Rattle.edge_accept.proofs.accepting.accepts.Goals as goal
 
-pub overflow_sub-result : goal.overflow_sub-result
-overflow_sub-result c = let r = c.if-not-accept_all.ensures.receivers in let t = c.requires.tasks in omega arith
-
 pub returns : goal.returns
 returns c =
     let P = c.args.plan.now in
     let w = c.if-not-accept_all.ensures in
     let t = c.requires.tasks in
-    let r = w.receivers in
+    let r = w.roots in
     let e = w.taken.edges in
     let d = w.taken.data_edges in
     let b = w.writes in

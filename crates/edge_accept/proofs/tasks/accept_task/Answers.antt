@@ -1,6 +1,10 @@
+use Rattle.goal_count.proofs.WellFlows.{well_flows}
 use Rattle.range_space.proofs.Nesting.{on_true}
 use Rattle.edge_accept.proofs.Walking.{went_one}
 use Rattle.edge_accept.proofs.tasks.accept_task.Goals as goal
+
+pub invariant_of-task-clause-well : goal.invariant_of-task-clause-well
+invariant_of-task-clause-well c = rw (c.requires.locals, c.flows_of-flows.ensures.flows) (well_flows c.args.plan.now c.args.t.now c.if-not-is_sound.ensures.well)
 
 pub returns : goal.returns
 returns c =

@@ -1,16 +1,10 @@
 use Rattle.std.proofs.Common.{◌≡◌, [], sym, arith}
 use Rattle.std.proofs.lemmas.List.{nil_from_length}
 use Rattle.dep_iter.specs.Items.{write_backs}
-use Rattle.goal_count.proofs.WellFlows.{well_flows}
 use Rattle.range_space.proofs.Nesting.{on_true}
 use Rattle.edge_accept.proofs.Walking.{written_nil}
 use Rattle.edge_accept.proofs.TaskFlows.{items-by_flow}
 use Rattle.edge_accept.proofs.tasks.send.Goals as goal
-
-pub flows_sent-sent-requires : goal.flows_sent-sent-requires
-flows_sent-sent-requires c =
-    let task = c.args.task.now in
-    rw (task.locals, c.flows_of.ensures.flows) (well_flows task.plan.now task.task.now c.requires.well)
 
 pub returns-then-sent-eq0 : goal.returns-then-sent-eq0
 returns-then-sent-eq0 c =
@@ -18,7 +12,7 @@ returns-then-sent-eq0 c =
     let P = task.plan.now in
     let t = task.task.now in
     let add = c.if-not-add_sent.ensures in
-    let sent = rw (task.locals, c.flows_of.ensures.flows, sym (items-by_flow P t)) at (c.flows_sent-sent.ensures t 0) in
+    let sent = rw (task.locals, task.flows_are, sym (items-by_flow P t)) at (c.flows_sent-sent.ensures t 0) in
     let a = add.at_most in
     let e = sent.edges (omega arith) in
     let w = sent.writes (omega arith) in
@@ -26,7 +20,7 @@ returns-then-sent-eq0 c =
     let n = add.writes in
     let z = c.if-sent-eq0.true in
     let none : write_backs P t ≡ [] = nil_from_length (write_backs P t) (omega arith) in
-    record { ins = add.ins; receivers = add.receivers; outs = omega arith; writes = omega arith; written = rw (none, add.written) (written_nil P.colls c.args.tally.now.written) }
+    record { ins = add.ins; roots = add.roots; outs = omega arith; writes = omega arith; written = rw (none, add.written) (written_nil P.colls c.args.tally.now.written) }
 
 pub returns : goal.returns
 returns c =
@@ -34,10 +28,10 @@ returns c =
     let P = task.plan.now in
     let t = task.task.now in
     let add = c.if-not-add_sent.ensures in
-    let sent = rw (task.locals, c.flows_of.ensures.flows, sym (items-by_flow P t)) at (c.flows_sent-sent.ensures t 0) in
+    let sent = rw (task.locals, task.flows_are, sym (items-by_flow P t)) at (c.flows_sent-sent.ensures t 0) in
     let a = add.at_most in
     let e = sent.edges (omega arith) in
     let w = sent.writes (omega arith) in
     let o = add.outs in
     let n = add.writes in
-    on_true c.write_places.result (λ h. record { ins = add.ins; receivers = add.receivers; outs = omega arith; writes = omega arith; written = h }) (rw add.written at c.write_places.ensures)
+    on_true c.write_places.result (λ h. record { ins = add.ins; roots = add.roots; outs = omega arith; writes = omega arith; written = h }) (rw add.written at c.write_places.ensures)
