@@ -26,15 +26,22 @@ use Rattle.edge_accept.proofs.Pigeonhole.{pigeonhole}
 use Rattle.edge_accept.proofs.TaskFlows.{item_flow-sends, length-items, source_flow}
 use Rattle.edge_accept.proofs.TaskLists.{once-all_tasks}
 
-module _ (P : Plan) (s c : Tally) (w : WentOver P s c (all_tasks P)) (edges : s.ins.edges ≡ 0) (outs : s.outs ≡ 0) (writes : s.writes ≡ 0) (balanced : c.ins.edges ≡ c.outs) where
+module _ (P : Plan) (s c : Tally) (w : WentOver P s c (all_tasks P)) (edges : s.ins.edges ≡ 0) (outs : s.outs ≡ 0)
+    (writes : s.writes ≡ 0) (balanced : c.ins.edges ≡ c.outs) where
   ins_once : HasNoRepeats (all_in P)
-  ins_once = once-flat_map (in_edges P) (all_tasks P) (once-all_tasks P) (λ t h. (w.sound t h).ins_once) (λ t u e h k. sym ((in_edge_is P t e).0 h).0 ∙ ((in_edge_is P u e).0 k).0)
+  ins_once = once-flat_map (in_edges P) (all_tasks P) (once-all_tasks P) (λ t h. (w.sound t h).ins_once)
+      (λ t u e h k. sym ((in_edge_is P t e).0 h).0 ∙ ((in_edge_is P u e).0 k).0)
 
   among_outs : (e : Edge) → IsIn e (all_in P) → IsIn e (all_out P)
-  among_outs e h = let q = w.taken.sent e h in IsIn-flat_map (out_edges P) (all_tasks P) e.from e ((listed P e.from).0 q.0) q.1
+  among_outs e h =
+      let q = w.taken.sent e h in
+      IsIn-flat_map (out_edges P) (all_tasks P) e.from e ((listed P e.from).0 q.0) q.1
 
   matched : HasNoRepeats (all_out P) × ((e : Edge) → IsIn e (all_out P) → IsIn e (all_in P))
-  matched = let i = w.taken.edges in let o = w.outs in pigeonhole (all_in P) (all_out P) ins_once among_outs (omega arith)
+  matched =
+      let i = w.taken.edges in
+      let o = w.outs in
+      pigeonhole (all_in P) (all_out P) ins_once among_outs (omega arith)
 
   -- an edge out of a task is one into a task of the job
   to_task : (t : Task) → IsTask P t → (e : Edge) → IsIn e (out_edges P t) → IsTask P e.to
@@ -53,13 +60,15 @@ module _ (P : Plan) (s c : Tally) (w : WentOver P s c (all_tasks P)) (edges : s.
         well = a.well;
         inputs = λ n f h takes none. sound n f source.Nothing none h takes;
         affinity_exists = a.affinity_exists;
-        sources_exist = λ n p e. let q = source_flow P t n (source.Place p) e (λ k. absurd cc) in sound n q.0 (source.Place p) e q.1;
+        sources_exist = λ n p e. let q = source_flow P t n (source.Place p) e (λ k. absurd cc) in
+            sound n q.0 (source.Place p) e q.1;
         written_exist = λ x h. w.written.exist x (IsIn-flat_map (write_backs P) (all_tasks P) t x here h);
         from_tasks = λ e h. (w.taken.sent e (IsIn-flat_map (in_edges P) (all_tasks P) t e here h)).0;
         to_tasks = to_task t of_job;
         absent_sends_nothing = λ n i null h k.
             let p = item_flow-sends P t i h in
-            let none = sound (item_flow i) p.0 source.Null (subst (λ m. data_source P t m ≡ source.Null) (sym k) null) p.1.0 in
+            let is = subst (λ m. data_source P t m ≡ source.Null) (sym k) null in
+            let none = sound (item_flow i) p.0 source.Null is p.1.0 in
             subst (IsIn i) none p.1.1;
       }
 
@@ -72,7 +81,8 @@ module _ (P : Plan) (s c : Tally) (w : WentOver P s c (all_tasks P)) (edges : s.
       let k = w.writes in
       omega arith
 
-  pub consistent : IsSetOf P.colls s.written [] → AllByRecursion IsSound P.spaces → length (all_tasks P) ≤ 1000000 → prefix_total P.spaces ≤ 16000000 → IsConsistent P
+  pub consistent : IsSetOf P.colls s.written [] → AllByRecursion IsSound P.spaces → length (all_tasks P) ≤ 1000000
+      → prefix_total P.spaces ≤ 16000000 → IsConsistent P
   consistent empty sound tasks_at_most prefixes_at_most =
       let items = length-all_items in
       let few = c.items_at_most in

@@ -1,5 +1,6 @@
 -- What is sent, by counts that may stop.
-use Rattle.std.proofs.Common.{◌≡◌, ℕ, zero, suc, ◌+◌, ◌*◌, ℤ, List, [], ◌∷◌, ◌++◌, length, length-append, map, refl, ap, sym, ◌∙◌, arith}
+use Rattle.std.proofs.Common.{◌≡◌, ℕ, zero, suc, ◌+◌, ◌*◌, ℤ, List, [], ◌∷◌, ◌++◌, length, length-append, map, refl, ap}
+use Rattle.std.proofs.Common.{sym, ◌∙◌, arith}
 use Rattle.std.proofs.lemmas.List.{length-map, nil_from_length}
 use Rattle.std.proofs.Math.Nat.{mul_comm, suc-mul, zero-mul}
 use Rattle.std.specs.List.{filter_map}
@@ -27,7 +28,8 @@ times (suc a) (suc b) m n r e h k at_most =
     let v = k (omega arith) in
     t ∙ ap (λ x. x * suc b) u ∙ ap (λ x. m * x) v
 
-pub sent_append : (s u v : Sent) (xs ys : List Item) → IsCount v.edges (s.edges + u.edges) → IsCount v.writes (s.writes + u.writes) → AreSent s xs → AreSent u ys → AreSent v (xs ++ ys)
+pub sent_append : (s u v : Sent) (xs ys : List Item) → IsCount v.edges (s.edges + u.edges)
+    → IsCount v.writes (s.writes + u.writes) → AreSent s xs → AreSent u ys → AreSent v (xs ++ ys)
 sent_append s u v xs ys e w a b = record {
   edges = λ h.
       let k = e h in
@@ -53,11 +55,13 @@ sent_nothing s xs a e w =
     nil_from_length xs (omega arith)
 
 -- one edge for each combination of values
-edges_only : (mk : List ℤ → Edge) (ps : List (List ℤ)) → length (filter_map edge_of (map (λ p. item.Edge (mk p)) ps)) ≡ length ps
+edges_only : (mk : List ℤ → Edge) (ps : List (List ℤ))
+    → length (filter_map edge_of (map (λ p. item.Edge (mk p)) ps)) ≡ length ps
 edges_only mk [] = refl
 edges_only mk (p ∷ ps) = let e = edges_only mk ps in omega arith
 
-pub sent_edges : (s : Sent) (mk : List ℤ → Edge) (ps : List (List ℤ)) → IsCount s.edges (length ps) → s.writes ≡ 0 → AreSent s (map (λ p. item.Edge (mk p)) ps)
+pub sent_edges : (s : Sent) (mk : List ℤ → Edge) (ps : List (List ℤ)) → IsCount s.edges (length ps) → s.writes ≡ 0
+    → AreSent s (map (λ p. item.Edge (mk p)) ps)
 sent_edges s mk ps e w =
     let n = edges_only mk ps in
     let m = length-items (map (λ p. item.Edge (mk p)) ps) in

@@ -4,6 +4,5 @@ pub mod Pigeonhole
 pub mod TaskLists
 pub mod TaskFlows
 pub mod Taking
-pub mod SoundSources
 pub mod Walking
 pub mod Conclusion

@@ -1,5 +1,7 @@
 -- Edges into tasks that are looked up and counted, one after another.
-use Rattle.std.proofs.Common.{◌≡◌, ℕ, zero, suc, ◌+◌, take, drop, ℤ, Bool, true, false, List, [], ◌∷◌, ◌++◌, length, length-append, refl, ap, sym, ◌∙◌, subst, Option, Some, None, slice_get, inl, inr, if◌then◌else◌, arith}
+use Rattle.std.proofs.Common.{◌≡◌, ℕ, zero, suc, ◌+◌, take, drop, ℤ, Bool, true, false, List, [], ◌∷◌, ◌++◌, length}
+use Rattle.std.proofs.Common.{length-append, refl, ap, sym, ◌∙◌, subst, Option, Some, None, slice_get, inl, inr}
+use Rattle.std.proofs.Common.{if◌then◌else◌, arith}
 use Rattle.std.proofs.lemmas.List.{append-nil}
 use Rattle.std.proofs.lemmas.List.Elements.{filter-append}
 use Rattle.std.specs.Bool.{OnTrue}
@@ -41,7 +43,8 @@ module _ (P : Plan) (earlier : List Edge) where
   taken_nil s = record { sent = λ e h. absurd h; fresh = λ e h k. h; edges = omega arith; data_edges = omega arith }
 
   pub taken_one : (s u : Ins) (e : Edge) (d : Bool) → IsSent P e → (IsIn e earlier → ⊥) → is_data_edge P e ≡ d
-      → u.edges ≡ s.edges + 1 → u.data_edges ≡ (if d then s.data_edges + 1 else s.data_edges) → AreTaken P earlier s u (e ∷ [])
+      → u.edges ≡ s.edges + 1 → u.data_edges ≡ (if d then s.data_edges + 1 else s.data_edges)
+      → AreTaken P earlier s u (e ∷ [])
   taken_one s u e d sent new is edges tiles = record {
     sent = λ x h. elim h [ inl k ↦ subst (IsSent P) (sym k) sent | inr none ↦ absurd none ];
     fresh = λ x h i. elim h [ inl k ↦ new (subst (λ (z : Edge). IsIn z earlier) k i) | inr none ↦ none ];
@@ -100,33 +103,43 @@ held_then-append : (o : Option Target) (xs ys : List Target) → held_then false
 held_then-append None xs ys = refl
 held_then-append (Some x) xs ys = refl
 
-held-take : (ds : List DepPlan) (k : ℕ) (d : DepPlan) (env : List ℤ) → slice_get ds k ≡ Some d → held_targets false (take (suc k) ds) env ≡ held_targets false (take k ds) env ++ held_targets false (d ∷ []) env
+held-take : (ds : List DepPlan) (k : ℕ) (d : DepPlan) (env : List ℤ) → slice_get ds k ≡ Some d
+    → held_targets false (take (suc k) ds) env ≡ held_targets false (take k ds) env ++ held_targets false (d ∷ []) env
 held-take [] k d env e = absurd cc
 held-take (c ∷ ds) zero d env e = let same : c ≡ d = cc in rw same refl
-held-take (c ∷ ds) (suc k) d env e = ap (held_then false (held_target c env)) (held-take ds k d env e) ∙ held_then-append (held_target c env) (held_targets false (take k ds) env) (held_targets false (d ∷ []) env)
+held-take (c ∷ ds) (suc k) d env e =
+    ap (held_then false (held_target c env)) (held-take ds k d env e)
+    ∙ held_then-append (held_target c env) (held_targets false (take k ds) env) (held_targets false (d ∷ []) env)
 
 -- the edges that the dependences of a CTL flow from number k on give, by dependence k
-module _ (P : Plan) (t : Task) (env : List ℤ) (n : ℕ) (f : FlowPlan) (locals : env ≡ locals_of P t) (here : slice_get (flows_of P t) n ≡ Some f) (ctl : takes_first f.kind ≡ false)
+module _ (P : Plan) (t : Task) (env : List ℤ) (n : ℕ) (f : FlowPlan) (locals : env ≡ locals_of P t)
+    (here : slice_get (flows_of P t) n ≡ Some f) (ctl : takes_first f.kind ≡ false)
     (k : ℕ) (d : DepPlan) (this : slice_get f.ins k ≡ Some d) where
-  before-next : in_edges_before P t n (suc k) ≡ in_edges_before P t n k ++ flat_map (edges_into t env n) (held_targets false (d ∷ []) env)
+  before-next : in_edges_before P t n (suc k)
+      ≡ in_edges_before P t n k ++ flat_map (edges_into t env n) (held_targets false (d ∷ []) env)
   unfolding in_edges_before
   before-next =
-      rw (here, ctl, locals) (
-      ap (flat_map (edges_into t (locals_of P t) n)) (held-take f.ins k d (locals_of P t) this)
-      ∙ flat_map-append (edges_into t (locals_of P t) n) (held_targets false (take k f.ins) (locals_of P t)) (held_targets false (d ∷ []) (locals_of P t)))
+      let E = edges_into t (locals_of P t) n in
+      let held = λ (ds : List DepPlan). held_targets false ds (locals_of P t) in
+      rw (here, ctl, locals)
+      (ap (flat_map E) (held-take f.ins k d (locals_of P t) this) ∙ flat_map-append E (held (take k f.ins)) (held (d ∷ [])))
 
   abbrev pub Rest : ℕ → Ins → Ins → Type 0
-  Rest m s u = AreTakenOnce P (in_edges_before P t n m) s u (flat_map (edges_into t env n) (held_targets false (drop m f.ins) env))
+  Rest m s u =
+      AreTakenOnce P (in_edges_before P t n m) s u (flat_map (edges_into t env n) (held_targets false (drop m f.ins) env))
 
   pub rest_none : (s u : Ins) → held_target d env ≡ None → Rest (suc k) s u → Rest k s u
   rest_none s u none rest =
-      let same : in_edges_before P t n (suc k) ≡ in_edges_before P t n k = before-next ∙ rw none (append-nil (in_edges_before P t n k)) in
+      let before = in_edges_before P t n k in
+      let same : in_edges_before P t n (suc k) ≡ before = before-next ∙ rw none (append-nil before) in
       rw (drop_at f.ins k d this, held-none false d (drop (suc k) f.ins) env none, sym same) rest
 
-  pub rest_some : (s u v : Ins) (x : Target) → held_target d env ≡ Some x → AreTakenOnce P (in_edges_before P t n k) s u (edges_into t env n x) → Rest (suc k) u v → Rest k s v
+  pub rest_some : (s u v : Ins) (x : Target) → held_target d env ≡ Some x
+      → AreTakenOnce P (in_edges_before P t n k) s u (edges_into t env n x) → Rest (suc k) u v → Rest k s v
   rest_some s u v x holds first rest =
       let E = edges_into t env n in
       let later = flat_map E (held_targets false (drop (suc k) f.ins) env) in
-      let same : in_edges_before P t n (suc k) ≡ in_edges_before P t n k ++ E x = before-next ∙ rw (holds, append-nil (E x)) refl in
+      let before = in_edges_before P t n k in
+      let same : in_edges_before P t n (suc k) ≡ before ++ E x = before-next ∙ rw (holds, append-nil (E x)) refl in
       rw (drop_at f.ins k d this, held-more d (drop (suc k) f.ins) env x holds)
-      (once_after P (in_edges_before P t n k) s u v (E x) later first (subst (λ l. AreTakenOnce P l u v later) same rest))
+      (once_after P before s u v (E x) later first (subst (λ l. AreTakenOnce P l u v later) same rest))

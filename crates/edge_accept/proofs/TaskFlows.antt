@@ -1,5 +1,7 @@
 -- The edges into a task and what it sends, flow by flow.
-use Rattle.std.proofs.Common.{◌≡◌, ◌≢◌, ◌≤◌, ℕ, zero, suc, ◌+◌, ℤ, List, [], ◌∷◌, ◌++◌, length, map, refl, ap, sym, ◌∙◌, subst, append_assoc, add-zero, Option, Some, None, IsTrue, Bool, slice_get, inl, inr, arith}
+use Rattle.std.proofs.Common.{◌≡◌, ◌≢◌, ◌≤◌, ℕ, zero, suc, ◌+◌, ℤ, List, [], ◌∷◌, ◌++◌, length, map, refl, ap, sym, ◌∙◌}
+use Rattle.std.proofs.Common.{subst, append_assoc, add-zero, Option, Some, None, IsTrue, Bool, slice_get, inl, inr}
+use Rattle.std.proofs.Common.{arith}
 use Rattle.std.proofs.lemmas.Bool.{cases_lt}
 use Rattle.std.specs.List.{filter_map, flat_map, list_all}
 use Rattle.std.specs.Option.{option_map_or}
@@ -16,9 +18,9 @@ use Rattle.range_space.proofs.MemberLists.{and_left, and_right, from_append, fro
 use Rattle.dep_iter.specs.declared.source.Source.{Source}
 use Rattle.dep_iter.specs.declared.source.Source.TheVariants as source
 use Rattle.dep_iter.specs.Tasks.{flows_of, locals_of, task}
-use Rattle.dep_iter.specs.Active.{by_flow, flow_ins, flow_outs}
+use Rattle.dep_iter.specs.Active.{by_flow, flow_ins, flow_outs, held_targets, takes_first}
 use Rattle.dep_iter.specs.Arguments.{combinations}
-use Rattle.dep_iter.specs.Edges.{data_source, edge, edges_into, in_edges}
+use Rattle.dep_iter.specs.Edges.{data_source, edge, edges_into, in_edges, source_among}
 use Rattle.dep_iter.specs.Items.{edge_of, item_flow, items, items_to, write_of}
 use Rattle.edge_accept.specs.Flows.{edges_into_flow, ins_of_flows, items_of_flow, items_of_flows}
 
@@ -52,7 +54,8 @@ into_is t env n target.Null e h = absurd h
 into_flow_is : (t : Task) (env : List ℤ) (n : ℕ) (f : FlowPlan) (e : Edge) → IsIn e (edges_into_flow t env n f) → e.in_flow ≡ n
 into_flow_is t env n f e h = let p = from_flat_map (edges_into t env n) (flow_ins env f) e h in into_is t env n p.0 e p.2
 
-into_flows_from : (t : Task) (env : List ℤ) (n : ℕ) (fs : List FlowPlan) (e : Edge) → IsIn e (ins_of_flows t env n fs) → n ≤ e.in_flow
+into_flows_from : (t : Task) (env : List ℤ) (n : ℕ) (fs : List FlowPlan) (e : Edge) → IsIn e (ins_of_flows t env n fs)
+    → n ≤ e.in_flow
 into_flows_from t env n [] e h = absurd h
 into_flows_from t env n (f ∷ fs) e h = elim (from_append e (edges_into_flow t env n f) (ins_of_flows t env (suc n) fs) h) [
   | inl a ↦ let k = into_flow_is t env n f e a in omega arith
@@ -110,14 +113,21 @@ length-items (item.Edge e ∷ is) = let k = length-items is in omega arith
 length-items (item.Write w ∷ is) = let k = length-items is in omega arith
 
 -- what is so of a flow and of those after it
-pub from_this : (Q : ℕ → FlowPlan → Type 0) (fs : List FlowPlan) (k : ℕ) (g : FlowPlan) → slice_get fs k ≡ Some g → Q k g → ((i : ℕ) (f : FlowPlan) → k + 1 ≤ i → slice_get fs i ≡ Some f → Q i f)
+pub from_this : (Q : ℕ → FlowPlan → Type 0) (fs : List FlowPlan) (k : ℕ) (g : FlowPlan) → slice_get fs k ≡ Some g
+    → Q k g → ((i : ℕ) (f : FlowPlan) → k + 1 ≤ i → slice_get fs i ≡ Some f → Q i f)
     → (i : ℕ) (f : FlowPlan) → k ≤ i → slice_get fs i ≡ Some f → Q i f
 from_this Q fs k g this here later i f least at = elim (cases_lt k i) [
   | inl l ↦ later i f (omega arith) at
   | inr l ↦ let e : i ≡ k = omega arith in let same : f ≡ g = let a = rw e at at in cc in rw (e, same) here
 ]
 
-pub all_at : {A : Type 0} (p : A → Bool) (xs : List A) (k : ℕ) (x : A) → IsTrue (list_all p xs) → slice_get xs k ≡ Some x → IsTrue (p x)
+pub all_at : {A : Type 0} (p : A → Bool) (xs : List A) (k : ℕ) (x : A) → IsTrue (list_all p xs)
+    → slice_get xs k ≡ Some x → IsTrue (p x)
 all_at p [] k x h e = absurd cc
 all_at p (y ∷ xs) zero x h e = let same : x ≡ y = cc in rw same (and_left (p y) (list_all p xs) h)
 all_at p (y ∷ xs) (suc k) x h e = all_at p xs k x (and_right (p y) (list_all p xs) h) e
+
+-- the source of a flow, by its in dependences
+pub source-is : (P : Plan) (t : Task) (n : ℕ) (f : FlowPlan) (env : List ℤ) (first : Bool) → env ≡ locals_of P t → slice_get (flows_of P t) n ≡ Some f → takes_first f.kind ≡ first → data_source P t n ≡ source_among t env n (held_targets first f.ins env)
+unfolding data_source
+source-is P t n f env first locals here is = rw (here, sym locals, sym is) refl

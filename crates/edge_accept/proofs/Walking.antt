@@ -1,5 +1,6 @@
 -- The walk over tasks, one task after another.
-use Rattle.std.proofs.Common.{◌≡◌, ◌+◌, List, [], ◌∷◌, ◌++◌, length, length-append, map, refl, ap, sym, ◌∙◌, subst, append_assoc, ◌==◌, inl, inr, arith}
+use Rattle.std.proofs.Common.{◌≡◌, ◌+◌, List, [], ◌∷◌, ◌++◌, length, length-append, map, refl, ap, sym, ◌∙◌, subst}
+use Rattle.std.proofs.Common.{append_assoc, ◌==◌, inl, inr, arith}
 use Rattle.std.proofs.lemmas.Bool.{eq-eqb, ne_eqb}
 use Rattle.std.proofs.lemmas.List.{append-nil}
 use Rattle.std.proofs.lemmas.List.Elements.{filter-append}
@@ -26,7 +27,8 @@ module _ (colls : List Shape) where
   pub written_nil : (w : PlaceSet) → AreWritten colls w w []
   written_nil w = record { exist = λ x h. absurd h; added = λ ps k. rw append-nil k }
 
-  pub written_append : (w u v : PlaceSet) (xs ys : List WriteBack) → AreWritten colls w u xs → AreWritten colls u v ys → AreWritten colls w v (xs ++ ys)
+  pub written_append : (w u v : PlaceSet) (xs ys : List WriteBack) → AreWritten colls w u xs → AreWritten colls u v ys
+      → AreWritten colls w v (xs ++ ys)
   written_append w u v xs ys a b = record {
     exist = λ x h. elim (from_append x xs ys h) [ inl k ↦ a.exist x k | inr k ↦ b.exist x k ];
     added = λ ps k.
@@ -52,7 +54,8 @@ module _ (P : Plan) where
     written = written_nil P.colls s.written;
   }
 
-  pub went_one : (s u v : Tally) (t : Task) → IsWellTask P t → HasPlace P.colls (affinity P t) → TakesIns P t s u → Sends P t u v → WentOver P s v (t ∷ [])
+  pub went_one : (s u v : Tally) (t : Task) → IsWellTask P t → HasPlace P.colls (affinity P t) → TakesIns P t s u
+      → Sends P t u v → WentOver P s v (t ∷ [])
   went_one s u v t well place takes sends =
       let sound : IsSoundTask P t = record { well = well; affinity_exists = place; sources = takes.sources; ins_once = takes.taken.once } in
       record {
@@ -64,9 +67,11 @@ module _ (P : Plan) where
         written = rw (append-nil (write_backs P t)) (subst (λ w. AreWritten P.colls w v.written (write_backs P t)) takes.written sends.written);
       }
 
-  pub went_then : (s u v : Tally) (xs ys : List Task) → WentOver P s u xs → WentOver P u v ys → WentOver P s v (xs ++ ys)
+  pub went_then : (s u v : Tally) (xs ys : List Task) → WentOver P s u xs → WentOver P u v ys
+      → WentOver P s v (xs ++ ys)
   went_then s u v xs ys a b =
       let root = λ (t : Task). goal P t == 0 in
+      let es = flat_map-append (in_edges P) xs ys in
       let ws = flat_map-append (write_backs P) xs ys in
       let f = ap length (filter-append root xs ys) ∙ length-append (filter root xs) (filter root ys) in
       let r1 = a.roots in
@@ -79,7 +84,7 @@ module _ (P : Plan) where
       let w2 = b.writes in
       record {
         sound = λ t h. elim (from_append t xs ys h) [ inl k ↦ a.sound t k | inr k ↦ b.sound t k ];
-        taken = rw (flat_map-append (in_edges P) xs ys) (taken_append P [] s.ins u.ins v.ins (flat_map (in_edges P) xs) (flat_map (in_edges P) ys) a.taken b.taken);
+        taken = rw es (taken_append P [] s.ins u.ins v.ins (flat_map (in_edges P) xs) (flat_map (in_edges P) ys) a.taken b.taken);
         roots = omega arith;
         outs = omega arith;
         writes = omega arith;

@@ -1,5 +1,7 @@
--- What the walk shows of a task: that it is well, and that each edge into it is sent. Source: PaRSEC (2013), in which each edge is written at both ends.
-use Rattle.std.specs.Prelude.{◌≡◌, ◌+◌, ℕ, suc, ℤ, List, [], ◌∷◌, ◌++◌, flat_map, filter, length, IsTrue, slice_get, Some}
+-- What the walk shows of a task: that it is well, and that each edge into it is sent.
+-- Source: PaRSEC (2013), in which each edge is written at both ends.
+use Rattle.std.specs.Prelude.{◌≡◌, ◌+◌, ℕ, suc, ℤ, List, [], ◌∷◌, ◌++◌, flat_map, filter, length, IsTrue, slice_get}
+use Rattle.std.specs.Prelude.{Some}
 use Rattle.ptg_base.specs.Lists.{HasNoRepeats, IsIn}
 use Rattle.ptg_base.specs.Task.{Task}
 use Rattle.ptg_base.specs.declared.edge.Edge.{Edge}

@@ -13,8 +13,10 @@ use crate::sources::take_flow;
 // Whether the flows of a task from this number on may start from their sources; the edges into them are counted.
 pub(crate) fn take_flows(task: &TaskAt, number: u8, ins: &mut Ins) -> bool
     requires of_job { IsTask task.now.plan.now task.now.task.now }
-    ensures sources { OnTrue result ((n : ℕ) (f : FlowPlanValue) → number ≤ n → slice_get task.now.flows.now n ≡ Some f → HasSoundSource task.now.plan.now task.now.task.now task.now.env.now n f) }
-    ensures taken { OnTrue result (AreTakenOnce task.now.plan.now [] ins.old ins.new (ins_of_flows task.now.task.now task.now.env.now number (drop number task.now.flows.now))) }
+    ensures sources { OnTrue result ((n : ℕ) (f : FlowPlanValue) → number ≤ n → slice_get task.now.flows.now n ≡ Some f
+        → HasSoundSource task.now.plan.now task.now.task.now task.now.env.now n f) }
+    ensures taken { OnTrue result (AreTakenOnce task.now.plan.now [] ins.old ins.new
+        (ins_of_flows task.now.task.now task.now.env.now number (drop number task.now.flows.now))) }
 {
     let Some(flow) = task.flows.get(number as usize) else {
         return true;

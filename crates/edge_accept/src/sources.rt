@@ -4,7 +4,8 @@ ghost use Rattle.std.specs.Prelude.{◌≡◌, [], IsTrue, false, true, drop, fl
 ghost use Rattle.std.specs.Bool.{OnTrue};
 ghost use Rattle.dep_iter.specs.Active as active;
 ghost use Rattle.dep_iter.specs.Active.{held_targets};
-ghost use Rattle.dep_iter.specs.Edges.{data_source as data_source_of, edges_into, in_edges_before, source_among, source_at};
+ghost use Rattle.dep_iter.specs.Edges.{data_source as data_source_of, edges_into, in_edges_before, source_among};
+ghost use Rattle.dep_iter.specs.Edges.{source_at};
 ghost use Rattle.dep_iter.specs.Links.{dependences_fit, fits};
 ghost use Rattle.dep_iter.specs.Tasks.{IsTask};
 ghost use Rattle.edge_accept.specs.Flows.{AreTakenOnce, IsSoundSource, HasSoundSource, edges_into_flow, items_of_flow};
@@ -19,7 +20,8 @@ use plan_core::{DepPlan, Target};
 // Whether the flow's source is a place that exists.
 fn has_place(at: &FlowAt) -> bool
     requires of_job { IsTask at.now.plan.now at.now.task.now }
-    ensures { OnTrue result (HasSoundSource at.now.plan.now at.now.task.now at.now.env.now at.now.number at.now.flow.now) }
+    ensures { OnTrue result
+        (HasSoundSource at.now.plan.now at.now.task.now at.now.env.now at.now.number at.now.flow.now) }
 {
     match data_source_under(at.plan, at.task, at.env, at.number) {
         Source::Place(p) => at.plan.has_place(&p),
@@ -64,8 +66,14 @@ fn take_first(at: &FlowAt, deps: &[DepPlan], ins: &mut Ins) -> bool
 fn take_all(at: &FlowAt, k: usize, ins: &mut Ins) -> bool
     requires of_job { IsTask at.now.plan.now at.now.task.now }
     requires all { active.takes_first at.now.flow.now.kind ≡ false }
-    ensures source { OnTrue result (IsSoundSource at.now.plan.now at.now.flow.now (items_of_flow at.now.task.now at.now.env.now at.now.number at.now.flow.now) (source_among at.now.task.now at.now.env.now at.now.number (held_targets false (drop k at.now.flow.now.ins) at.now.env.now))) }
-    ensures taken { OnTrue result (AreTakenOnce at.now.plan.now (in_edges_before at.now.plan.now at.now.task.now at.now.number k) ins.old ins.new (flat_map (edges_into at.now.task.now at.now.env.now at.now.number) (held_targets false (drop k at.now.flow.now.ins) at.now.env.now))) }
+    ensures source { OnTrue result (IsSoundSource at.now.plan.now at.now.flow.now
+        (items_of_flow at.now.task.now at.now.env.now at.now.number at.now.flow.now)
+        (source_among at.now.task.now at.now.env.now at.now.number
+        (held_targets false (drop k at.now.flow.now.ins) at.now.env.now))) }
+    ensures taken { OnTrue result (AreTakenOnce at.now.plan.now
+        (in_edges_before at.now.plan.now at.now.task.now at.now.number k) ins.old ins.new
+        (flat_map (edges_into at.now.task.now at.now.env.now at.now.number)
+        (held_targets false (drop k at.now.flow.now.ins) at.now.env.now))) }
 {
     let Some(d) = at.flow.ins.as_slice().get(k) else {
         return true;

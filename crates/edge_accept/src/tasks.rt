@@ -66,7 +66,8 @@ fn write_place(plan: &Plan, write: &WriteBack, written: &mut PlaceSet) -> bool
 // Adds the places that a task writes, if each exists and was not written before.
 fn write_places(task: &TaskAt, written: &mut PlaceSet) -> bool
     requires of_job { IsTask task.now.plan.now task.now.task.now }
-    ensures { OnTrue result (AreWritten task.now.plan.now.colls written.old written.new (write_backs task.now.plan.now task.now.task.now)) }
+    ensures { OnTrue result
+        (AreWritten task.now.plan.now.colls written.old written.new (write_backs task.now.plan.now task.now.task.now)) }
 {
     for write in write_backs_under(task.plan, task.task, task.env) {
         if !write_place(task.plan, &write, written) {

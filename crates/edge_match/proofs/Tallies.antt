@@ -1,5 +1,6 @@
 -- How the counts go on with an edge, an item or a place.
-use Rattle.std.proofs.Common.{◌≡◌, ◌↔◌, ℕ, ◌+◌, Bool, List, [], ◌∷◌, ◌++◌, IsTrue, refl, ap, ◌∙◌, Some, slice_get, length-append, arith}
+use Rattle.std.proofs.Common.{◌≡◌, ◌↔◌, ℕ, ◌+◌, Bool, List, [], ◌∷◌, ◌++◌, IsTrue, refl, ap, ◌∙◌, Some, slice_get}
+use Rattle.std.proofs.Common.{length-append, arith}
 use Rattle.ptg_base.specs.Lists.{IsIn}
 use Rattle.ptg_base.specs.Task.{Task}
 use Rattle.ptg_base.specs.declared.edge.Edge.{Edge}
@@ -23,7 +24,8 @@ use Rattle.edge_match.specs.Marks.{IsNewPlace}
 
 module _ (P : Plan) (s u : Counted) where
   -- a place, by the answer of the set that it is added to
-  pub one_more_place : (p : Place) → HasPlace P.colls p → u.ins ≡ s.ins → u.data_edges ≡ s.data_edges → u.items ≡ s.items → u.writes ≡ s.writes + 1 → (new : Bool)
+  pub one_more_place : (p : Place) → HasPlace P.colls p → u.ins ≡ s.ins → u.data_edges ≡ s.data_edges
+        → u.items ≡ s.items → u.writes ≡ s.writes + 1 → (new : Bool)
       → ((ps : List Place) → HasPlace P.colls p → IsSetOf P.colls s.written ps → IsTrue new ↔ (IsIn p ps → ⊥))
       → ((ps : List Place) → HasPlace P.colls p → IsSetOf P.colls s.written ps → IsSetOf P.colls u.written (ps ++ p ∷ []))
       → Decides P s u new (IsNewPlace p)

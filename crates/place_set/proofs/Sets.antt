@@ -1,5 +1,6 @@
 -- Sets of places, by one truth value for each place.
-use Rattle.std.proofs.Common.{◌≡◌, ◌≢◌, ◌↔◌, ◌++◌, ◌⊎◌, ℕ, zero, suc, ℤ, List, [], ◌∷◌, Bool, false, map, refl, ap, ◌∙◌, subst, inl, inr, slice_get, slice_set, IsSomeAnd, IsTrue, Option, Some, None, arith}
+use Rattle.std.proofs.Common.{◌≡◌, ◌≢◌, ◌↔◌, ◌++◌, ◌⊎◌, ℕ, zero, suc, ℤ, List, [], ◌∷◌, Bool, false, map, refl, ap, ◌∙◌}
+use Rattle.std.proofs.Common.{subst, inl, inr, slice_get, slice_set, IsSomeAnd, IsTrue, Option, Some, None, arith}
 use Rattle.std.proofs.lemmas.Bool.{false≢true}
 use Rattle.std.proofs.lemmas.Int.{ints}
 use Rattle.std.specs.List.{AllByRecursion}
@@ -17,7 +18,8 @@ in_columns None j h = rw h (omega (arith, ints), omega (arith, ints))
 in_columns (Some c) j h = h
 
 -- the rows of the collection of a place, which are within them
-set_of : (cs : List Shape) (ss : List Rows) (n : ℕ) (i j : ℤ) → map size_of ss ≡ map size cs → IsSomeAnd (slice_get cs n) (λ c. IsRow c.rows i × IsColumn c.cols j)
+set_of : (cs : List Shape) (ss : List Rows) (n : ℕ) (i j : ℤ) → map size_of ss ≡ map size cs
+    → IsSomeAnd (slice_get cs n) (λ c. IsRow c.rows i × IsColumn c.cols j)
     → (s : Rows) × (slice_get ss n ≡ Some s) × IsWithin s i j
 set_of [] ss n i j e h = absurd h
 set_of (c ∷ cs) [] n i j e h = absurd cc
@@ -37,7 +39,8 @@ get_set (z ∷ xs) zero (suc m) x y h = inr (λ e. absurd cc, refl)
 get_set (z ∷ xs) (suc n) zero x y h = inr (λ e. absurd cc, refl)
 get_set (z ∷ xs) (suc n) (suc m) x y h = elim (get_set xs n m x y h) [ inl a ↦ inl (ap suc a.0, a.1) | inr b ↦ inr (λ e. b.0 cc, b.1) ]
 
-sizes_kept : (ss : List Rows) (n : ℕ) (s u : Rows) → slice_get ss n ≡ Some s → size_of u ≡ size_of s → map size_of (slice_set ss n u) ≡ map size_of ss
+sizes_kept : (ss : List Rows) (n : ℕ) (s u : Rows) → slice_get ss n ≡ Some s → size_of u ≡ size_of s
+    → map size_of (slice_set ss n u) ≡ map size_of ss
 sizes_kept [] n s u h e = refl
 sizes_kept (z ∷ ss) zero s u h e = cc
 sizes_kept (z ∷ ss) (suc n) s u h e = ap (λ l. size_of z ∷ l) (sizes_kept ss n s u h e)
@@ -64,7 +67,8 @@ module _ (colls : List Shape) (w v : PlaceSet) (p : Place) (s u : Rows) (ps : Li
       let same : a.0 ≡ s = let b = a.1 in cc in
       subst (λ (z : Rows). IsWithin z p.i p.j) same a.2
 
-  pub is_fresh : (new : Bool) → (IsWithin s p.i p.j → IsTrue new ↔ (IsTrue (has_at s p.i p.j) → ⊥)) → IsTrue new ↔ (IsIn p ps → ⊥)
+  pub is_fresh : (new : Bool) → (IsWithin s p.i p.j → IsTrue new ↔ (IsTrue (has_at s p.i p.j) → ⊥))
+      → IsTrue new ↔ (IsIn p ps → ⊥)
   unfolding has
   is_fresh new fresh =
       let f = fresh within in
@@ -103,11 +107,13 @@ module _ (colls : List Shape) (w v : PlaceSet) (p : Place) (s u : Rows) (ps : Li
 abbrev pub HasNone : Rows → Type 0
 HasNone s = (i j : ℤ) → IsTrue (has_at s i j) → ⊥
 
-none_in : (ss : List Rows) → AllByRecursion HasNone ss → (n : ℕ) (i j : ℤ) → IsTrue (option_map_or (λ (s : Rows). has_at s i j) (slice_get ss n) false) → ⊥
+none_in : (ss : List Rows) → AllByRecursion HasNone ss → (n : ℕ) (i j : ℤ)
+    → IsTrue (option_map_or (λ (s : Rows). has_at s i j) (slice_get ss n) false) → ⊥
 none_in [] h n i j e = false≢true e
 none_in (s ∷ ss) h zero i j e = h.0 i j e
 none_in (s ∷ ss) h (suc n) i j e = none_in ss h.1 n i j e
 
-pub is_empty : (colls : List Shape) (w : PlaceSet) → map size_of w.sets.items ≡ map size colls → AllByRecursion HasNone w.sets.items → IsSetOf colls w []
+pub is_empty : (colls : List Shape) (w : PlaceSet) → map size_of w.sets.items ≡ map size colls
+    → AllByRecursion HasNone w.sets.items → IsSetOf colls w []
 unfolding has
 is_empty colls w shapes none = record { shapes = shapes; members = λ p there. (none_in w.sets.items none p.coll p.i p.j, λ h. absurd h) }

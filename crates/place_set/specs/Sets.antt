@@ -1,5 +1,7 @@
--- Which places a set has, by one truth value for each place of a collection, row by row. Source: this project's own choice.
-use Rattle.std.specs.Prelude.{◌≡◌, ◌↔◌, ℕ, ℤ, ◌+◌, ◌*◌, List, Bool, false, map, Option, Some, None, unsigned_abs, slice_get, slice_index_or, IsTrue}
+-- Which places a set has, by one truth value for each place of a collection, row by row.
+-- Source: this project's own choice.
+use Rattle.std.specs.Prelude.{◌≡◌, ◌↔◌, ℕ, ℤ, ◌+◌, ◌*◌, List, Bool, false, map, Option, Some, None, unsigned_abs}
+use Rattle.std.specs.Prelude.{slice_get, slice_index_or, IsTrue}
 use Rattle.std.specs.Option.{option_map_or}
 use Rattle.ptg_base.specs.Lists.{IsIn}
 use Rattle.ptg_base.specs.declared.place.Place.{Place}

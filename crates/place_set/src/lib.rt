@@ -32,7 +32,8 @@ impl Rows {
 
     // The number of a place by its row and column, if it has them.
     fn index(&self, i: i64, j: i64) -> Option<usize>
-        ensures { MatchOption result (IsWithin self.now i j → ⊥) (λ k. (k ≡ unsigned_abs i * self.now.cols + unsigned_abs j) × (k < length self.now.has.items)) }
+        ensures { MatchOption result (IsWithin self.now i j → ⊥)
+            (λ k. (k ≡ unsigned_abs i * self.now.cols + unsigned_abs j) × (k < length self.now.has.items)) }
     {
         if i < 0 || j < 0 {
             return None;
@@ -51,7 +52,8 @@ impl Rows {
         ensures rows { self.new.rows ≡ self.old.rows }
         ensures cols { self.new.cols ≡ self.old.cols }
         ensures fresh { IsWithin self.old i j → IsTrue result ↔ (IsTrue (has_at self.old i j) → ⊥) }
-        ensures added { IsWithin self.old i j → (k l : ℤ) → IsWithin self.old k l → IsTrue (has_at self.new k l) ↔ (IsTrue (has_at self.old k l) ⊎ ((k ≡ i) × (l ≡ j))) }
+        ensures added { IsWithin self.old i j → (k l : ℤ) → IsWithin self.old k l
+            → IsTrue (has_at self.new k l) ↔ (IsTrue (has_at self.old k l) ⊎ ((k ≡ i) × (l ≡ j))) }
     {
         let Some(k) = self.index(i, j) else {
             return false;

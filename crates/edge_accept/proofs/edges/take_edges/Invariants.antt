@@ -10,7 +10,8 @@ invariant-loop-values l =
     let before = in_edges_before l.at.plan.now l.at.task.now l.at.number l.named.dependence in
     let mk = λ (ps : List ℤ). edge (task l.named.class ps) l.named.flow l.at.task.now l.at.number in
     record {
-      then : (u : Ins) → AreTaken l.at.plan.now before l.ins u (map mk l.params) → AreTaken l.at.plan.now before l.initial.ins u (map mk l.initial.params);
+      then : (u : Ins) → AreTaken l.at.plan.now before l.ins u (map mk l.params)
+          → AreTaken l.at.plan.now before l.initial.ins u (map mk l.initial.params);
     }
 
 abbrev pub decreases-loop-values : goal.decreases-loop-values

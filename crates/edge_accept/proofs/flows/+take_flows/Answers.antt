@@ -15,7 +15,8 @@ returns-clause-sources m c =
     let l = c.in-Some.ensures.lookup in
     let this = at_index task.flows.now c.args.number c.in-Some.flow.now l.3.0 l.1 in
     on_true c.take_flows.result
-    (from_this (HasSoundSource task.plan.now task.task.now task.env.now) task.flows.now c.args.number c.in-Some.flow.now this c.if-not-take_flow.ensures.source)
+    (from_this (HasSoundSource task.plan.now task.task.now task.env.now) task.flows.now c.args.number c.in-Some.flow.now this
+    c.if-not-take_flow.ensures.source)
     c.take_flows.ensures.sources
 
 pub returns-clause-taken : goal.returns-clause-taken
@@ -29,7 +30,8 @@ returns-clause-taken m c =
     let l = c.in-Some.ensures.lookup in
     rw (drop_at task.flows.now n f (at_index task.flows.now n f l.3.0 l.1))
     (on_true c.take_flows.result
-    (λ k. once_both task.plan.now [] c.args.ins.now c.take_flow.new.ins c.take_flows.new.ins (edges_into_flow t env n f) (ins_of_flows t env (suc n) fs) c.if-not-take_flow.ensures.taken k (flows_apart t env n f fs))
+    (λ k. once_both task.plan.now [] c.args.ins.now c.take_flow.new.ins c.take_flows.new.ins (edges_into_flow t env n f)
+    (ins_of_flows t env (suc n) fs) c.if-not-take_flow.ensures.taken k (flows_apart t env n f fs))
     (rw add-one at c.take_flows.ensures.taken))
 
 pub invariant_of-at-clause-here : goal.invariant_of-at-clause-here

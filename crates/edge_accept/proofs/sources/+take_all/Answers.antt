@@ -11,7 +11,8 @@ returns-in_default-held_target-clause-taken m c =
     let this = at_index at.flow.now.ins c.args.k c.in-Some.d.now l.3.0 l.1 in
     let none = sym c.in_default-held_target.ensures in
     on_true c.take_all.result
-    (rest_none at.plan.now at.task.now at.env.now at.number at.flow.now at.locals at.here c.requires.all c.args.k c.in-Some.d.now this c.args.ins.now c.take_all.new.ins none)
+    (rest_none at.plan.now at.task.now at.env.now at.number at.flow.now at.locals at.here c.requires.all
+    c.args.k c.in-Some.d.now this c.args.ins.now c.take_all.new.ins none)
     (rw add-one at c.take_all.ensures.taken)
 
 pub returns-clause-taken : goal.returns-clause-taken
@@ -21,5 +22,7 @@ returns-clause-taken m c =
     let this = at_index at.flow.now.ins c.args.k c.in-Some.d.now l.3.0 l.1 in
     let holds = sym c.in-Some-held_target.ensures in
     on_true c.take_all-2.result
-    (rest_some at.plan.now at.task.now at.env.now at.number at.flow.now at.locals at.here c.requires.all c.args.k c.in-Some.d.now this c.args.ins.now c.take_target.new.ins c.take_all-2.new.ins c.in-Some-held_target.target.now holds c.if-not-take_target.ensures.taken)
+    (rest_some at.plan.now at.task.now at.env.now at.number at.flow.now at.locals at.here c.requires.all
+    c.args.k c.in-Some.d.now this c.args.ins.now c.take_target.new.ins c.take_all-2.new.ins c.in-Some-held_target.target.now
+    holds c.if-not-take_target.ensures.taken)
     (rw add-one at c.take_all-2.ensures.taken)

@@ -3,7 +3,7 @@ use Rattle.std.specs.List.{flat_map}
 use Rattle.range_space.proofs.Nesting.{on_true}
 use Rattle.dep_iter.specs.Active.{held_targets}
 use Rattle.dep_iter.specs.Edges.{edges_into, in_edges_before}
-use Rattle.edge_accept.proofs.SoundSources.{source-is}
+use Rattle.edge_accept.proofs.TaskFlows.{source-is}
 use Rattle.edge_accept.proofs.Taking.{once_forget}
 use Rattle.edge_accept.proofs.sources.take_flow.Goals as goal
 

@@ -12,6 +12,7 @@ invariant-loop-locals l = record {
   can_next : (goal.iterator-loop-locals).can_next l.locals-iterator;
   is_finite : (goal.iterator-loop-locals).is_finite l.locals-iterator;
   among : (x : List ℤ) → IsIn x l.locals-iterator → IsIn x l.initial.locals-iterator;
-  then : (s : ClassSpace) (u : Tally) → slice_get l.plan.spaces l.class ≡ Some s → WentOver l.plan l.tally u (map (task l.class) (map (params_of s.params) l.locals-iterator))
+  then : (s : ClassSpace) (u : Tally) → slice_get l.plan.spaces l.class ≡ Some s
+      → WentOver l.plan l.tally u (map (task l.class) (map (params_of s.params) l.locals-iterator))
       → WentOver l.plan l.initial.tally u (map (task l.class) (map (params_of s.params) l.initial.locals-iterator));
 }

@@ -1,10 +1,13 @@
-use Rattle.std.proofs.Common.{◌≡◌, ◌↔◌, ◌<◌, ◌+◌, ◌*◌, ◌⊎◌, ℕ, zero, suc, ℤ, pos, negsuc, ◌≤ℤ◌, List, [], ◌∷◌, Bool, true, false, length, slice_index_or, slice_set, unsigned_abs, IsTrue, FitsSigned, w64, inl, inr, refl, ap, ◌∙◌, sym, rules, arith}
+use Rattle.std.proofs.Common.{◌≡◌, ◌↔◌, ◌<◌, ◌+◌, ◌*◌, ◌⊎◌, ℕ, zero, suc, ℤ, pos, negsuc, ◌≤ℤ◌, List, [], ◌∷◌, Bool}
+use Rattle.std.proofs.Common.{true, false, length, slice_index_or, slice_set, unsigned_abs, IsTrue, FitsSigned, w64}
+use Rattle.std.proofs.Common.{inl, inr, refl, ap, ◌∙◌, sym, rules, arith}
 use Rattle.std.proofs.lemmas.Int.{ints, to_z-of_z}
 use Rattle.std.proofs.lemmas.Nat.{same_from_place}
 use Rattle.plan_core.specs.Place.{IsRow}
 use Rattle.place_set.proofs.rows.Rows.insert.Goals as goal
 
-set_bit : (bits : List Bool) (m n : ℕ) → m < length bits → IsTrue (slice_index_or (slice_set bits m true) n false) ↔ (IsTrue (slice_index_or bits n false) ⊎ (n ≡ m))
+set_bit : (bits : List Bool) (m n : ℕ) → m < length bits
+    → IsTrue (slice_index_or (slice_set bits m true) n false) ↔ (IsTrue (slice_index_or bits n false) ⊎ (n ≡ m))
 set_bit [] m n h = absurd (omega arith)
 set_bit (b ∷ bits) zero zero h = (λ w. inr refl, λ w. refl)
 set_bit (b ∷ bits) zero (suc n) h = (λ w. inl w, λ w. elim w [ inl a ↦ a | inr e ↦ absurd cc ])
@@ -35,8 +38,13 @@ returns-clause-added c = λ within k l place.
       λ h. elim (w.0 h) [
         | inl a ↦ inl a
         | inr q ↦
-            let p = same_from_place (unsigned_abs k) (unsigned_abs l) (unsigned_abs i) (unsigned_abs j) s.cols (abs_below l s.cols place.1) (abs_below j s.cols within.1) (q ∙ e) in
+            let f = abs_below l s.cols place.1 in
+            let g = abs_below j s.cols within.1 in
+            let p = same_from_place (unsigned_abs k) (unsigned_abs l) (unsigned_abs i) (unsigned_abs j) s.cols f g (q ∙ e) in
             inr (one_abs k i place.0.0 within.0.0 p.0, one_abs l j place.1.0 within.1.0 p.1)
       ],
-      λ h. w.1 (elim h [ inl a ↦ inl a | inr q ↦ inr (ap (λ n. unsigned_abs n * s.cols + unsigned_abs l) q.0 ∙ ap (λ n. unsigned_abs i * s.cols + unsigned_abs n) q.1 ∙ sym e) ]),
+      λ h. w.1 (elim h [
+        | inl a ↦ inl a
+        | inr q ↦ inr (ap (λ n. unsigned_abs n * s.cols + unsigned_abs l) q.0 ∙ ap (λ n. unsigned_abs i * s.cols + unsigned_abs n) q.1 ∙ sym e)
+      ]),
     )
