@@ -25,7 +25,7 @@ use Rattle.edge_match.specs.Marks.{IsNewPlace}
 module _ (P : Plan) (s u : Counted) where
   -- a place, by the answer of the set that it is added to
   pub one_more_place : (p : Place) → HasPlace P.colls p → u.ins ≡ s.ins → u.data_edges ≡ s.data_edges
-        → u.items ≡ s.items → u.writes ≡ s.writes + 1 → (new : Bool)
+      → u.items ≡ s.items → u.writes ≡ s.writes + 1 → (new : Bool)
       → ((ps : List Place) → HasPlace P.colls p → IsSetOf P.colls s.written ps → IsTrue new ↔ (IsIn p ps → ⊥))
       → ((ps : List Place) → HasPlace P.colls p → IsSetOf P.colls s.written ps → IsSetOf P.colls u.written (ps ++ p ∷ []))
       → Decides P s u new (IsNewPlace p)
