@@ -326,7 +326,6 @@ module _ (P : Plan) (t : Task) where
   marks-numbered phase = marks_from phase 0 (flows_of P t)
 
   ins_from : (n : ℕ) (fs : List FlowPlan) → ins_of_flows t (locals_of P t) n fs ≡ flat_map (λ (a : ℕ × FlowPlan). edges_into_flow P t a.0 a.1) (numbered n fs)
-  unfolding ins_of_flows
   ins_from n [] = refl
   ins_from n (f ∷ fs) = ap (λ l. edges_into_flow P t n f ++ l) (ins_from (suc n) fs)
 
@@ -334,7 +333,6 @@ module _ (P : Plan) (t : Task) where
   ins-numbered = in_edges-flows P t ∙ ins_from 0 (flows_of P t)
 
   items_from : (n : ℕ) (fs : List FlowPlan) → items_of_flows t (locals_of P t) n fs ≡ flat_map (λ (a : ℕ × FlowPlan). items_of_flow P t a.0 a.1) (numbered n fs)
-  unfolding items_of_flows
   items_from n [] = refl
   items_from n (f ∷ fs) = ap (λ l. items_of_flow P t n f ++ l) (items_from (suc n) fs)
 
