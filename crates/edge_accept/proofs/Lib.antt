@@ -1,14 +1,8 @@
-pub mod PlaceBits
-pub mod Places
-pub mod WordBits
-pub mod Capped
+pub mod Counting
 pub mod Lists
 pub mod Pigeonhole
 pub mod TaskLists
 pub mod TaskFlows
 pub mod Taking
-pub mod SoundSources
-pub mod SentCounts
-pub mod TaskSends
 pub mod Walking
 pub mod Conclusion

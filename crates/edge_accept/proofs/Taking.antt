@@ -1,5 +1,7 @@
 -- Edges into tasks that are looked up and counted, one after another.
-use Rattle.std.proofs.Common.{◌≡◌, ℕ, ◌+◌, ℤ, Bool, true, false, List, [], ◌∷◌, ◌++◌, length, length-append, refl, ap, sym, ◌∙◌, subst, append_assoc, Option, Some, None, slice_get, inl, inr, if◌then◌else◌, arith}
+use Rattle.std.proofs.Common.{◌≡◌, ℕ, zero, suc, ◌+◌, take, drop, ℤ, Bool, true, false, List, [], ◌∷◌, ◌++◌, length}
+use Rattle.std.proofs.Common.{length-append, refl, ap, sym, ◌∙◌, subst, Option, Some, None, slice_get, inl, inr}
+use Rattle.std.proofs.Common.{if◌then◌else◌, arith}
 use Rattle.std.proofs.lemmas.List.{append-nil}
 use Rattle.std.proofs.lemmas.List.Elements.{filter-append}
 use Rattle.std.specs.Bool.{OnTrue}
@@ -22,7 +24,7 @@ use Rattle.dep_iter.specs.Edges.{edges_into, in_edges_before}
 use Rattle.dep_iter.proofs.Belonging.{held-more, held-none}
 use Rattle.edge_accept.specs.declared.ins.Ins.{Ins}
 use Rattle.edge_accept.specs.Flows.{AreTaken, AreTakenOnce, IsSent}
-use Rattle.edge_accept.proofs.Lists.{flat_map-end, once-append, take-first}
+use Rattle.edge_accept.proofs.Lists.{drop_at, flat_map-append, once-append}
 
 -- whether an edge carries a tile is said by the kind of the flow that it goes into
 kind_here : (o : Option ClassPlan) (n : ℕ) (f : FlowPlan) → slice_get (option_map_or (λ (c : ClassPlan). c.flows) o []) n ≡ Some f → option_map (λ (f : FlowPlan). f.kind) (option_and_then (λ (c : ClassPlan). slice_get c.flows n) o) ≡ Some f.kind
@@ -38,16 +40,16 @@ data_end p e false h n = rw h (omega arith)
 
 module _ (P : Plan) (earlier : List Edge) where
   pub taken_nil : (s : Ins) → AreTaken P earlier s s []
-  taken_nil s = record { sent = λ e h. absurd h; fresh = λ e h k. h; edges = omega arith; data_edges = omega arith; receivers = refl }
+  taken_nil s = record { sent = λ e h. absurd h; fresh = λ e h k. h; edges = omega arith; data_edges = omega arith }
 
   pub taken_one : (s u : Ins) (e : Edge) (d : Bool) → IsSent P e → (IsIn e earlier → ⊥) → is_data_edge P e ≡ d
-      → u.edges ≡ s.edges + 1 → u.data_edges ≡ (if d then s.data_edges + 1 else s.data_edges) → u.receivers ≡ s.receivers → AreTaken P earlier s u (e ∷ [])
-  taken_one s u e d sent new is edges tiles receivers = record {
+      → u.edges ≡ s.edges + 1 → u.data_edges ≡ (if d then s.data_edges + 1 else s.data_edges)
+      → AreTaken P earlier s u (e ∷ [])
+  taken_one s u e d sent new is edges tiles = record {
     sent = λ x h. elim h [ inl k ↦ subst (IsSent P) (sym k) sent | inr none ↦ absurd none ];
     fresh = λ x h i. elim h [ inl k ↦ new (subst (λ (z : Edge). IsIn z earlier) k i) | inr none ↦ none ];
     edges = edges;
     data_edges = tiles ∙ sym (data_end (is_data_edge P) e d is s.data_edges);
-    receivers = receivers;
   }
 
   pub taken_append : (s u v : Ins) (xs ys : List Edge) → AreTaken P earlier s u xs → AreTaken P earlier u v ys → AreTaken P earlier s v (xs ++ ys)
@@ -63,7 +65,6 @@ module _ (P : Plan) (earlier : List Edge) where
         fresh = λ x k n. elim (from_append x xs ys k) [ inl i ↦ a.fresh x i n | inr i ↦ b.fresh x i n ];
         edges = omega arith;
         data_edges = omega arith;
-        receivers = b.receivers ∙ a.receivers;
       }
 
   pub once_nil : (s : Ins) → AreTakenOnce P earlier s s []
@@ -82,53 +83,14 @@ module _ (P : Plan) (earlier : List Edge) where
           fresh = λ e h k. b.taken.fresh e h (IsIn-append_left e earlier xs k);
           edges = b.taken.edges;
           data_edges = b.taken.data_edges;
-          receivers = b.taken.receivers;
         };
         once = b.once;
       } in
       once_both s u v xs ys a c (λ e h k. b.taken.fresh e k (IsIn-append_right e earlier xs h))
 
-  -- the edges of a list up to those that are left
-  pub record IsSoFar (s u : Ins) (all left : List Edge) : Type 0 where
-    pub done : List Edge
-    pub split : all ≡ done ++ left
-    pub taken : AreTaken P earlier s u done
-
-  pub nothing_yet : (s : Ins) (all : List Edge) → IsSoFar s s all all
-  nothing_yet s all = record { done = []; split = refl; taken = taken_nil s }
-
-  pub one_more : (s u v : Ins) (all : List Edge) (e : Edge) (more : List Edge) → IsSoFar s u all (e ∷ more) → AreTaken P earlier u v (e ∷ []) → IsSoFar s v all more
-  one_more s u v all e more w k = record {
-    done = w.done ++ e ∷ [];
-    split = w.split ∙ sym (append_assoc w.done (e ∷ []) more);
-    taken = taken_append s u v w.done (e ∷ []) w.taken k;
-  }
-
-  pub all_done : (s u : Ins) (all : List Edge) → IsSoFar s u all [] → AreTaken P earlier s u all
-  all_done s u all w = subst (AreTaken P earlier s u) (sym (w.split ∙ append-nil w.done)) w.taken
-
--- the targets of dependences that hold, with one more dependence at the end
-pub held-end_none : (ds : List DepPlan) (d : DepPlan) (env : List ℤ) → held_target d env ≡ None → held_targets false (ds ++ d ∷ []) env ≡ held_targets false ds env
-held-end_none [] d env e = ap (λ o. held_then false o []) e
-held-end_none (c ∷ ds) d env e = ap (held_then false (held_target c env)) (held-end_none ds d env e)
-
-held_then-end : (o : Option Target) (xs : List Target) (x : Target) → held_then false o (xs ++ x ∷ []) ≡ held_then false o xs ++ x ∷ []
-held_then-end None xs x = refl
-held_then-end (Some y) xs x = refl
-
-pub held-end : (ds : List DepPlan) (d : DepPlan) (env : List ℤ) (x : Target) → held_target d env ≡ Some x → held_targets false (ds ++ d ∷ []) env ≡ held_targets false ds env ++ x ∷ []
-held-end [] d env x e = ap (λ o. held_then false o []) e
-held-end (c ∷ ds) d env x e = ap (held_then false (held_target c env)) (held-end ds d env x e) ∙ held_then-end (held_target c env) (held_targets false ds env) x
-
--- the edges that the first dependences of a CTL flow give
-pub before-is : (P : Plan) (t : Task) (n : ℕ) (f : FlowPlan) (done rest : List DepPlan) (k : ℕ) → slice_get (flows_of P t) n ≡ Some f → takes_first f.kind ≡ false → f.ins ≡ done ++ rest → length done ≡ k
-    → in_edges_before P t n k ≡ flat_map (edges_into t (locals_of P t) n) (held_targets false done (locals_of P t))
-unfolding in_edges_before
-before-is P t n f done rest k here all split e = rw (here, all, split, take-first done rest k e) refl
-
 pub once_forget : (P : Plan) (earlier : List Edge) (s u : Ins) (es : List Edge) → AreTakenOnce P earlier s u es → AreTakenOnce P [] s u es
 once_forget P earlier s u es a = record {
-  taken = record { sent = a.taken.sent; fresh = λ e h k. k; edges = a.taken.edges; data_edges = a.taken.data_edges; receivers = a.taken.receivers };
+  taken = record { sent = a.taken.sent; fresh = λ e h k. k; edges = a.taken.edges; data_edges = a.taken.data_edges };
   once = a.once;
 }
 
@@ -136,26 +98,48 @@ pub either_way : {X : Type 0} (b : Bool) → X → OnTrue b X
 either_way true x = x
 either_way false x = tt
 
--- the edges that the dependences of a CTL flow from number k on give, after those before them
-abbrev pub Rest : Plan → Task → List ℤ → ℕ → List DepPlan → ℕ → List DepPlan → Ins → Ins → Type 0
-Rest P t env n all k deps s u = (done : List DepPlan) → all ≡ done ++ deps → length done ≡ k → AreTakenOnce P (flat_map (edges_into t env n) (held_targets false done env)) s u (flat_map (edges_into t env n) (held_targets false deps env))
+-- the targets of the first dependences, with one more
+held_then-append : (o : Option Target) (xs ys : List Target) → held_then false o (xs ++ ys) ≡ held_then false o xs ++ ys
+held_then-append None xs ys = refl
+held_then-append (Some x) xs ys = refl
 
-longer : (done : List DepPlan) (d : DepPlan) (k : ℕ) → length done ≡ k → length (done ++ d ∷ []) ≡ k + 1
-longer done d k e = let l = length-append done (d ∷ []) in omega arith
+held-take : (ds : List DepPlan) (k : ℕ) (d : DepPlan) (env : List ℤ) → slice_get ds k ≡ Some d
+    → held_targets false (take (suc k) ds) env ≡ held_targets false (take k ds) env ++ held_targets false (d ∷ []) env
+held-take [] k d env e = absurd cc
+held-take (c ∷ ds) zero d env e = let same : c ≡ d = cc in rw same refl
+held-take (c ∷ ds) (suc k) d env e =
+    ap (held_then false (held_target c env)) (held-take ds k d env e)
+    ∙ held_then-append (held_target c env) (held_targets false (take k ds) env) (held_targets false (d ∷ []) env)
 
-module _ (P : Plan) (t : Task) (env : List ℤ) (n : ℕ) (all : List DepPlan) (k : ℕ) (d : DepPlan) (later : List DepPlan) where
-  pub rest_none : (s u : Ins) → held_target d env ≡ None → Rest P t env n all (k + 1) later s u → Rest P t env n all k (d ∷ later) s u
-  rest_none s u none rest done split len =
-      let more = rest (done ++ d ∷ []) (split ∙ sym (append_assoc done (d ∷ []) later)) (longer done d k len) in
-      rw (held-none false d later env none) (rw (held-end_none done d env none) at more)
+-- the edges that the dependences of a CTL flow from number k on give, by dependence k
+module _ (P : Plan) (t : Task) (env : List ℤ) (n : ℕ) (f : FlowPlan) (locals : env ≡ locals_of P t)
+    (here : slice_get (flows_of P t) n ≡ Some f) (ctl : takes_first f.kind ≡ false)
+    (k : ℕ) (d : DepPlan) (this : slice_get f.ins k ≡ Some d) where
+  before-next : in_edges_before P t n (suc k)
+      ≡ in_edges_before P t n k ++ flat_map (edges_into t env n) (held_targets false (d ∷ []) env)
+  unfolding in_edges_before
+  before-next =
+      let E = edges_into t (locals_of P t) n in
+      let held = λ (ds : List DepPlan). held_targets false ds (locals_of P t) in
+      rw (here, ctl, locals)
+      (ap (flat_map E) (held-take f.ins k d (locals_of P t) this) ∙ flat_map-append E (held (take k f.ins)) (held (d ∷ [])))
 
-  pub rest_some : (f : FlowPlan) (s u v : Ins) (x : Target) → env ≡ locals_of P t → slice_get (flows_of P t) n ≡ Some f → takes_first f.kind ≡ false → all ≡ f.ins → held_target d env ≡ Some x
-      → AreTakenOnce P (in_edges_before P t n k) s u (edges_into t env n x) → Rest P t env n all (k + 1) later u v → Rest P t env n all k (d ∷ later) s v
-  rest_some f s u v x locals here ctl are holds first rest done split len =
+  abbrev pub Rest : ℕ → Ins → Ins → Type 0
+  Rest m s u =
+      AreTakenOnce P (in_edges_before P t n m) s u (flat_map (edges_into t env n) (held_targets false (drop m f.ins) env))
+
+  pub rest_none : (s u : Ins) → held_target d env ≡ None → Rest (suc k) s u → Rest k s u
+  rest_none s u none rest =
+      let before = in_edges_before P t n k in
+      let same : in_edges_before P t n (suc k) ≡ before = before-next ∙ rw none (append-nil before) in
+      rw (drop_at f.ins k d this, held-none false d (drop (suc k) f.ins) env none, sym same) rest
+
+  pub rest_some : (s u v : Ins) (x : Target) → held_target d env ≡ Some x
+      → AreTakenOnce P (in_edges_before P t n k) s u (edges_into t env n x) → Rest (suc k) u v → Rest k s v
+  rest_some s u v x holds first rest =
       let E = edges_into t env n in
-      let earlier = flat_map E (held_targets false done env) in
-      let before = before-is P t n f done (d ∷ later) k here ctl (sym are ∙ split) len ∙ sym (ap (λ (v : List ℤ). flat_map (edges_into t v n) (held_targets false done v)) locals) in
-      let more = rest (done ++ d ∷ []) (split ∙ sym (append_assoc done (d ∷ []) later)) (longer done d k len) in
-      let same : flat_map E (held_targets false (done ++ d ∷ []) env) ≡ earlier ++ E x = ap (flat_map E) (held-end done d env x holds) ∙ flat_map-end E (held_targets false done env) x in
-      rw (held-more d later env x holds)
-      (once_after P earlier s u v (E x) (flat_map E (held_targets false later env)) (subst (λ l. AreTakenOnce P l s u (E x)) before first) (subst (λ l. AreTakenOnce P l u v (flat_map E (held_targets false later env))) same more))
+      let later = flat_map E (held_targets false (drop (suc k) f.ins) env) in
+      let before = in_edges_before P t n k in
+      let same : in_edges_before P t n (suc k) ≡ before ++ E x = before-next ∙ rw (holds, append-nil (E x)) refl in
+      rw (drop_at f.ins k d this, held-more d (drop (suc k) f.ins) env x holds)
+      (once_after P before s u v (E x) later first (subst (λ l. AreTakenOnce P l u v later) same rest))

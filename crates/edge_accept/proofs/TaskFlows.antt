@@ -1,6 +1,9 @@
 -- The edges into a task and what it sends, flow by flow.
-use Rattle.std.proofs.Common.{◌≡◌, ◌≢◌, ℕ, zero, suc, ◌+◌, ℤ, List, [], ◌∷◌, ◌++◌, length, map, refl, ap, sym, ◌∙◌, subst, append_assoc, add-zero, zero-add, Option, Some, None, slice_get, inl, inr, arith}
-use Rattle.std.specs.List.{filter_map, flat_map}
+use Rattle.std.proofs.Common.{◌≡◌, ◌≢◌, ◌≤◌, ℕ, zero, suc, ◌+◌, ℤ, List, [], ◌∷◌, ◌++◌, length, map, refl, ap, sym, ◌∙◌}
+use Rattle.std.proofs.Common.{subst, append_assoc, add-zero, Option, Some, None, IsTrue, Bool, slice_get, inl, inr}
+use Rattle.std.proofs.Common.{arith}
+use Rattle.std.proofs.lemmas.Bool.{cases_lt}
+use Rattle.std.specs.List.{filter_map, flat_map, list_all}
 use Rattle.std.specs.Option.{option_map_or}
 use Rattle.ptg_base.specs.Lists.{IsIn}
 use Rattle.ptg_base.specs.Task.{Task}
@@ -11,13 +14,13 @@ use Rattle.plan_core.specs.declared.flow.FlowPlan.{FlowPlan}
 use Rattle.plan_core.specs.declared.plan.Plan.{Plan}
 use Rattle.plan_core.specs.declared.target.Target.{Target}
 use Rattle.plan_core.specs.declared.target.Target.TheVariants as target
-use Rattle.range_space.proofs.MemberLists.{from_append, from_flat_map, from_map}
+use Rattle.range_space.proofs.MemberLists.{and_left, and_right, from_append, from_flat_map, from_map}
 use Rattle.dep_iter.specs.declared.source.Source.{Source}
 use Rattle.dep_iter.specs.declared.source.Source.TheVariants as source
 use Rattle.dep_iter.specs.Tasks.{flows_of, locals_of, task}
-use Rattle.dep_iter.specs.Active.{by_flow, flow_ins, flow_outs}
+use Rattle.dep_iter.specs.Active.{by_flow, flow_ins, flow_outs, held_targets, takes_first}
 use Rattle.dep_iter.specs.Arguments.{combinations}
-use Rattle.dep_iter.specs.Edges.{data_source, edge, edges_into, in_edges}
+use Rattle.dep_iter.specs.Edges.{data_source, edge, edges_into, in_edges, source_among}
 use Rattle.dep_iter.specs.Items.{edge_of, item_flow, items, items_to, write_of}
 use Rattle.edge_accept.specs.Flows.{edges_into_flow, ins_of_flows, items_of_flow, items_of_flows}
 
@@ -26,12 +29,10 @@ numbered g n [] rest = refl
 numbered g n (x ∷ xs) rest = ap (λ l. g n x ++ l) (numbered g n xs rest) ∙ sym (append_assoc (g n x) (flat_map (g n) xs) (flat_map (λ (a : ℕ × Target). g a.0 a.1) rest))
 
 ins-flows : (t : Task) (env : List ℤ) (n : ℕ) (fs : List FlowPlan) → flat_map (λ (a : ℕ × Target). edges_into t env a.0 a.1) (by_flow (flow_ins env) n fs) ≡ ins_of_flows t env n fs
-unfolding ins_of_flows
 ins-flows t env n [] = refl
 ins-flows t env n (f ∷ fs) = numbered (edges_into t env) n (flow_ins env f) (by_flow (flow_ins env) (suc n) fs) ∙ ap (λ l. edges_into_flow t env n f ++ l) (ins-flows t env (suc n) fs)
 
 items-flows : (t : Task) (env : List ℤ) (n : ℕ) (fs : List FlowPlan) → flat_map (λ (a : ℕ × Target). items_to t env a.0 a.1) (by_flow (flow_outs env) n fs) ≡ items_of_flows t env n fs
-unfolding items_of_flows
 items-flows t env n [] = refl
 items-flows t env n (f ∷ fs) = numbered (items_to t env) n (flow_outs env f) (by_flow (flow_outs env) (suc n) fs) ∙ ap (λ l. items_of_flow t env n f ++ l) (items-flows t env (suc n) fs)
 
@@ -53,12 +54,12 @@ into_is t env n target.Null e h = absurd h
 pub into_flow_is : (t : Task) (env : List ℤ) (n : ℕ) (f : FlowPlan) (e : Edge) → IsIn e (edges_into_flow t env n f) → e.in_flow ≡ n
 into_flow_is t env n f e h = let p = from_flat_map (edges_into t env n) (flow_ins env f) e h in into_is t env n p.0 e p.2
 
-into_flows_from : (t : Task) (env : List ℤ) (n : ℕ) (fs : List FlowPlan) (e : Edge) → IsIn e (ins_of_flows t env n fs) → (i : ℕ) × (e.in_flow ≡ n + i)
-unfolding ins_of_flows
+into_flows_from : (t : Task) (env : List ℤ) (n : ℕ) (fs : List FlowPlan) (e : Edge) → IsIn e (ins_of_flows t env n fs)
+    → n ≤ e.in_flow
 into_flows_from t env n [] e h = absurd h
 into_flows_from t env n (f ∷ fs) e h = elim (from_append e (edges_into_flow t env n f) (ins_of_flows t env (suc n) fs) h) [
-  | inl a ↦ (0, into_flow_is t env n f e a ∙ sym (add-zero n))
-  | inr b ↦ let p = into_flows_from t env (suc n) fs e b in (suc p.0, (let q = p.1 in omega arith))
+  | inl a ↦ let k = into_flow_is t env n f e a in omega arith
+  | inr b ↦ let k = into_flows_from t env (suc n) fs e b in omega arith
 ]
 
 -- the edges into a flow are none of those into the flows after it
@@ -66,7 +67,6 @@ pub flows_apart : (t : Task) (env : List ℤ) (n : ℕ) (f : FlowPlan) (fs : Lis
 flows_apart t env n f fs e h k =
     let a = into_flow_is t env n f e h in
     let b = into_flows_from t env (suc n) fs e k in
-    let c = b.1 in
     omega arith
 
 sent_is : (t : Task) (env : List ℤ) (n : ℕ) (x : Target) (i : Item) → IsIn i (items_to t env n x) → item_flow i ≡ n
@@ -79,7 +79,6 @@ pub sent_flow_is : (t : Task) (env : List ℤ) (n : ℕ) (f : FlowPlan) (i : Ite
 sent_flow_is t env n f i h = let p = from_flat_map (items_to t env n) (flow_outs env f) i h in sent_is t env n p.0 i p.2
 
 among_items : (t : Task) (env : List ℤ) (n : ℕ) (fs : List FlowPlan) (x : Item) → IsIn x (items_of_flows t env n fs) → (i : ℕ) × (f : FlowPlan) × ((slice_get fs i ≡ Some f) × IsIn x (items_of_flow t env (n + i) f))
-unfolding items_of_flows
 among_items t env n [] x h = absurd h
 among_items t env n (f ∷ fs) x h = elim (from_append x (items_of_flow t env n f) (items_of_flows t env (suc n) fs) h) [
   | inl a ↦ (0, f, (refl, rw add-zero a))
@@ -113,30 +112,22 @@ length-items [] = refl
 length-items (item.Edge e ∷ is) = let k = length-items is in omega arith
 length-items (item.Write w ∷ is) = let k = length-items is in omega arith
 
--- the edges and the items of flows, by the first one
-pub no_ins : (t : Task) (env : List ℤ) (n : ℕ) → ins_of_flows t env n [] ≡ []
-unfolding ins_of_flows
-no_ins t env n = refl
+-- what is so of a flow and of those after it
+pub from_this : (Q : ℕ → FlowPlan → Type 0) (fs : List FlowPlan) (k : ℕ) (g : FlowPlan) → slice_get fs k ≡ Some g
+    → Q k g → ((i : ℕ) (f : FlowPlan) → k + 1 ≤ i → slice_get fs i ≡ Some f → Q i f)
+    → (i : ℕ) (f : FlowPlan) → k ≤ i → slice_get fs i ≡ Some f → Q i f
+from_this Q fs k g this here later i f least at = elim (cases_lt k i) [
+  | inl l ↦ later i f (omega arith) at
+  | inr l ↦ let e : i ≡ k = omega arith in let same : f ≡ g = let a = rw e at at in cc in rw (e, same) here
+]
 
-pub more_ins : (t : Task) (env : List ℤ) (n : ℕ) (f : FlowPlan) (fs : List FlowPlan) → ins_of_flows t env n (f ∷ fs) ≡ edges_into_flow t env n f ++ ins_of_flows t env (suc n) fs
-unfolding ins_of_flows
-more_ins t env n f fs = refl
+pub all_at : {A : Type 0} (p : A → Bool) (xs : List A) (k : ℕ) (x : A) → IsTrue (list_all p xs)
+    → slice_get xs k ≡ Some x → IsTrue (p x)
+all_at p [] k x h e = absurd cc
+all_at p (y ∷ xs) zero x h e = let same : x ≡ y = cc in rw same (and_left (p y) (list_all p xs) h)
+all_at p (y ∷ xs) (suc k) x h e = all_at p xs k x (and_right (p y) (list_all p xs) h) e
 
-pub no_items : (t : Task) (env : List ℤ) (n : ℕ) → items_of_flows t env n [] ≡ []
-unfolding items_of_flows
-no_items t env n = refl
-
-pub more_items : (t : Task) (env : List ℤ) (n : ℕ) (f : FlowPlan) (fs : List FlowPlan) → items_of_flows t env n (f ∷ fs) ≡ items_of_flow t env n f ++ items_of_flows t env (suc n) fs
-unfolding items_of_flows
-more_items t env n f fs = refl
-
--- what is so of a first flow and of those after it
-pub of_all : (Q : ℕ → FlowPlan → Type 0) (n : ℕ) (g : FlowPlan) (fs : List FlowPlan) → Q n g → ((i : ℕ) (f : FlowPlan) → slice_get fs i ≡ Some f → Q ((n + 1) + i) f) → (i : ℕ) (f : FlowPlan) → slice_get (g ∷ fs) i ≡ Some f → Q (n + i) f
-of_all Q n g fs here later zero f e = let same : g ≡ f = cc in subst (λ m. Q m f) (sym (add-zero n)) (subst (Q n) same here)
-of_all Q n g fs here later (suc i) f e = let q : (n + 1) + i ≡ n + suc i = omega arith in subst (λ m. Q m f) q (later i f e)
-
-pub from_zero : (Q : ℕ → FlowPlan → Type 0) (fs : List FlowPlan) → ((i : ℕ) (f : FlowPlan) → slice_get fs i ≡ Some f → Q (0 + i) f) → (n : ℕ) (f : FlowPlan) → slice_get fs n ≡ Some f → Q n f
-from_zero Q fs h n f e = subst (λ m. Q m f) (zero-add n) (h n f e)
-
-pub later_flow : (fs : List FlowPlan) (n : ℕ) (f : FlowPlan) (all : List FlowPlan) → ((i : ℕ) → slice_get all (n + i) ≡ slice_get (f ∷ fs) i) → (i : ℕ) → slice_get all ((n + 1) + i) ≡ slice_get fs i
-later_flow fs n f all h i = let e : (n + 1) + i ≡ n + suc i = omega arith in ap (slice_get all) e ∙ h (suc i)
+-- the source of a flow, by its in dependences
+pub source-is : (P : Plan) (t : Task) (n : ℕ) (f : FlowPlan) (env : List ℤ) (first : Bool) → env ≡ locals_of P t → slice_get (flows_of P t) n ≡ Some f → takes_first f.kind ≡ first → data_source P t n ≡ source_among t env n (held_targets first f.ins env)
+unfolding data_source
+source-is P t n f env first locals here is = rw (here, sym locals, sym is) refl

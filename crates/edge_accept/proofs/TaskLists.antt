@@ -1,5 +1,5 @@
 -- The tasks of a plan: none is listed twice.
-use Rattle.std.proofs.Common.{◌≡◌, ℕ, suc, ◌≤◌, ℤ, List, [], ◌∷◌, ◌++◌, map, refl, ap, sym, subst, Some, slice_get, inl, inr, arith}
+use Rattle.std.proofs.Common.{◌≡◌, ℕ, suc, ◌≤◌, List, [], ◌∷◌, map, refl, ap, Some, slice_get, inl, inr, arith}
 use Rattle.std.proofs.lemmas.Option.{slice_get_within}
 use Rattle.ptg_base.specs.Lists.{HasNoRepeats, IsIn}
 use Rattle.ptg_base.specs.Task.{Task}
@@ -8,8 +8,8 @@ use Rattle.term_core.specs.WellSpace.{IsWellSpace}
 use Rattle.plan_core.specs.declared.plan.Plan.{Plan}
 use Rattle.range_space.specs.Tasks.{tasks}
 use Rattle.range_space.proofs.Distinct.{distinct_tasks}
-use Rattle.range_space.proofs.MemberLists.{IsIn-append_right, from_append, from_map}
-use Rattle.dep_iter.specs.Tasks.{IsTask, all_tasks, task, tasks_from}
+use Rattle.range_space.proofs.MemberLists.{from_append, from_map}
+use Rattle.dep_iter.specs.Tasks.{all_tasks, task, tasks_from}
 use Rattle.edge_accept.proofs.Lists.{at_least_one, once-append, once-map}
 
 class_from : (n : ℕ) (ss : List ClassSpace) (t : Task) → IsIn t (tasks_from n ss) → n ≤ t.class
@@ -37,10 +37,3 @@ well_space P k s h =
 
 pub once-all_tasks : (P : Plan) → HasNoRepeats (all_tasks P)
 once-all_tasks P = once-tasks 0 P.spaces (well_space P)
-
--- the task at hand is one of its class
-pub at_hand : (P : Plan) (class : ℕ) (s : ClassSpace) (done : List Task) (params : List ℤ) (more : List Task) → slice_get P.spaces class ≡ Some s → map (task class) (tasks s) ≡ done ++ task class params ∷ more → IsTask P (task class params)
-at_hand P class s done params more here split =
-    let p = from_map (task class) (tasks s) (task class params) (rw split (IsIn-append_right (task class params) done (task class params ∷ more) (inl refl))) in
-    let same : params ≡ p.0 = ap (λ (t : Task). t.params) p.2 in
-    rw here (subst (λ l. IsIn l (tasks s)) (sym same) p.1)

@@ -1,11 +1,11 @@
--- What the walk shows of a task: that it is well, that each edge into it is sent, and that each place that it names exists. Source: PaRSEC (2013), in which each edge is written at both ends.
-use Rattle.std.specs.Prelude.{◌≡◌, ◌≢◌, ◌+◌, ◌==◌, ℕ, suc, ℤ, List, [], ◌∷◌, ◌++◌, flat_map, filter, length, IsTrue, slice_get, Some}
+-- What the walk shows of a task: that it is well, and that each edge into it is sent.
+-- Source: PaRSEC (2013), in which each edge is written at both ends.
+use Rattle.std.specs.Prelude.{◌≡◌, ◌+◌, ℕ, suc, ℤ, List, [], ◌∷◌, ◌++◌, flat_map, filter, length, IsTrue, slice_get}
+use Rattle.std.specs.Prelude.{Some}
 use Rattle.ptg_base.specs.Lists.{HasNoRepeats, IsIn}
 use Rattle.ptg_base.specs.Task.{Task}
-use Rattle.ptg_base.specs.declared.place.Place.{Place}
 use Rattle.ptg_base.specs.declared.edge.Edge.{Edge}
 use Rattle.ptg_base.specs.declared.edge.Item.{Item}
-use Rattle.ptg_base.specs.declared.edge.WriteBack.{WriteBack}
 use Rattle.plan_core.specs.declared.flow.FlowPlan.{FlowPlan}
 use Rattle.plan_core.specs.declared.plan.Plan.{Plan}
 use Rattle.plan_core.specs.Place.{HasPlace}
@@ -14,9 +14,9 @@ use Rattle.dep_iter.specs.declared.source.Source.TheVariants as source
 use Rattle.dep_iter.specs.Tasks.{IsTask, flows_of, locals_of}
 use Rattle.dep_iter.specs.Active.{flow_ins, flow_outs}
 use Rattle.dep_iter.specs.Consistent.{is_data_edge, takes_tile}
-use Rattle.dep_iter.specs.Edges.{data_source, edges_into, goal, in_edges}
+use Rattle.dep_iter.specs.Edges.{data_source, edges_into, in_edges}
 use Rattle.dep_iter.specs.Hints.{affinity}
-use Rattle.dep_iter.specs.Items.{items_to, out_edges, write_backs}
+use Rattle.dep_iter.specs.Items.{items_to, out_edges}
 use Rattle.dep_iter.specs.Well.{IsWellTask}
 use Rattle.edge_accept.specs.declared.ins.Ins.{Ins}
 
@@ -28,11 +28,11 @@ abbrev pub items_of_flow : Task → List ℤ → ℕ → FlowPlan → List Item
 items_of_flow t env n f = flat_map (items_to t env n) (flow_outs env f)
 
 -- the same of these flows, which are numbered from n on
-unfoldable pub ins_of_flows : Task → List ℤ → ℕ → List FlowPlan → List Edge
+abbrev pub ins_of_flows : Task → List ℤ → ℕ → List FlowPlan → List Edge
 ins_of_flows t env n [] = []
 ins_of_flows t env n (f ∷ fs) = edges_into_flow t env n f ++ ins_of_flows t env (suc n) fs
 
-unfoldable pub items_of_flows : Task → List ℤ → ℕ → List FlowPlan → List Item
+abbrev pub items_of_flows : Task → List ℤ → ℕ → List FlowPlan → List Item
 items_of_flows t env n [] = []
 items_of_flows t env n (f ∷ fs) = items_of_flow t env n f ++ items_of_flows t env (suc n) fs
 
@@ -46,37 +46,33 @@ pub record AreTaken (P : Plan) (earlier : List Edge) (old new : Ins) (es : List 
   pub fresh : (e : Edge) → IsIn e es → IsIn e earlier → ⊥
   pub edges : new.edges ≡ old.edges + length es
   pub data_edges : new.data_edges ≡ old.data_edges + length (filter (is_data_edge P) es)
-  pub receivers : new.receivers ≡ old.receivers
 
 -- and none occurs twice
 pub record AreTakenOnce (P : Plan) (earlier : List Edge) (old new : Ins) (es : List Edge) : Type 0 where
   pub taken : AreTaken P earlier old new es
   pub once : HasNoRepeats es
 
--- where the tile of a flow comes from, if the flow sends these items: it has an in dependence that holds, if it must; a place exists; and from `NULL` nothing is sent
-pub record IsSoundSource (P : Plan) (f : FlowPlan) (sent : List Item) (s : Source) : Type 0 where
-  pub input : IsTrue (takes_tile f.kind) → s ≢ source.Nothing
-  pub place_exists : (p : Place) → s ≡ source.Place p → HasPlace P.colls p
-  pub absent_sends_nothing : s ≡ source.Null → sent ≡ []
+-- where the tile of a flow may come from, if the flow sends these items: from a place that exists; from `NULL` only where
+-- nothing is sent; and from nowhere only where the flow takes no tile
+abbrev pub IsSoundSource : Plan → FlowPlan → List Item → Source → Type 0
+IsSoundSource P f sent (source.Task e) = Unit {0}
+IsSoundSource P f sent (source.Place p) = HasPlace P.colls p
+IsSoundSource P f sent source.New = Unit {0}
+IsSoundSource P f sent source.Null = sent ≡ []
+IsSoundSource P f sent source.Nothing = IsTrue (takes_tile f.kind) → ⊥
 
 -- the source of flow n of a task with these locals
 abbrev pub HasSoundSource : Plan → Task → List ℤ → ℕ → FlowPlan → Type 0
 HasSoundSource P t env n f = IsSoundSource P f (items_of_flow t env n f) (data_source P t n)
 
--- all that the walk shows of a task
-pub record IsAccepted (P : Plan) (t : Task) : Type 0 where
+-- each flow of a task has a sound source
+abbrev pub HasSoundSources : Plan → Task → Type 0
+HasSoundSources P t =
+    (n : ℕ) (f : FlowPlan) → slice_get (flows_of P t) n ≡ Some f → HasSoundSource P t (locals_of P t) n f
+
+-- what the walk shows of a task itself
+pub record IsSoundTask (P : Plan) (t : Task) : Type 0 where
   pub well : IsWellTask P t
   pub affinity_exists : HasPlace P.colls (affinity P t)
-  pub sources : (n : ℕ) (f : FlowPlan) → slice_get (flows_of P t) n ≡ Some f → HasSoundSource P t (locals_of P t) n f
-  pub ins_sent : (e : Edge) → IsIn e (in_edges P t) → IsSent P e
+  pub sources : HasSoundSources P t
   pub ins_once : HasNoRepeats (in_edges P t)
-  pub written_exist : (w : WriteBack) → IsIn w (write_backs P t) → HasPlace P.colls w.place
-
--- the edges into a task were counted, each is sent and none occurs twice, and its flows have sound sources
-pub record TakesIns (P : Plan) (t : Task) (old new : Ins) : Type 0 where
-  pub sources : (n : ℕ) (f : FlowPlan) → slice_get (flows_of P t) n ≡ Some f → HasSoundSource P t (locals_of P t) n f
-  pub sent : (e : Edge) → IsIn e (in_edges P t) → IsSent P e
-  pub once : HasNoRepeats (in_edges P t)
-  pub edges : new.edges ≡ old.edges + length (in_edges P t)
-  pub data_edges : new.data_edges ≡ old.data_edges + length (filter (is_data_edge P) (in_edges P t))
-  pub receivers : new.receivers + length (filter (λ u. goal P u == 0) (t ∷ [])) ≡ old.receivers + 1

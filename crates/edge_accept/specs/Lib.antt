@@ -1,4 +1,2 @@
-pub mod Bits
-pub mod Written
 pub mod Flows
 pub mod Tallies

@@ -9,8 +9,8 @@ ghost use Rattle.dep_iter.specs.Tasks.{all_tasks};
 use crate::ins::Ins;
 use crate::tally::Tally;
 use crate::tasks::accept_all;
-use crate::written::Written;
 use dep_iter::Counts;
+use place_set::PlaceSet;
 use plan_core::Plan;
 use ptg_base::OutOfMemory;
 use std::alloc::Global;
@@ -27,10 +27,14 @@ pub fn accepts(alloc: Global, plan: &Plan, tasks: u64) -> Result<Option<Counts>,
     ensures { IfOk result (λ accepted. IfSome accepted (λ counts. IsConsistent plan.now × HasCounts plan.now counts)) }
 {
     let mut tally = Tally {
-        ins: Ins::new(),
+        ins: Ins {
+            edges: 0,
+            data_edges: 0,
+        },
+        roots: 0,
         outs: 0,
         writes: 0,
-        written: Written::new(alloc, plan.colls.as_slice())?,
+        written: PlaceSet::new(alloc, plan.colls.as_slice())?,
     };
     if !accept_all(plan, tasks, &mut tally) {
         return Ok(None);
@@ -40,7 +44,7 @@ pub fn accepts(alloc: Global, plan: &Plan, tasks: u64) -> Result<Option<Counts>,
     }
     Ok(Some(Counts {
         tasks,
-        roots: tasks - tally.ins.receivers,
+        roots: tally.roots,
         edges: tally.ins.edges,
         data_edges: tally.ins.data_edges,
         writes: tally.writes,

@@ -1,6 +1,6 @@
 //! How much tasks send, by arithmetic: no edge is walked.
 
-ghost use Rattle.std.specs.Prelude.{◌≡◌, ◌≤◌, ◌++◌, ℕ, List, IsTrue, [], false, flat_map, length};
+ghost use Rattle.std.specs.Prelude.{◌≡◌, ◌++◌, ℕ, List, IsTrue, [], false, flat_map, length};
 ghost use Rattle.std.specs.Bool.{OnTrue};
 ghost use Rattle.std.specs.List.{list_all};
 ghost use Rattle.ptg_base.specs.Task.{Task};
@@ -12,77 +12,47 @@ ghost use Rattle.dep_iter.specs.Arguments.{arg_values, combinations};
 ghost use Rattle.dep_iter.specs.Items.{items_to};
 ghost use Rattle.dep_iter.specs.Well.{are_well, has_arg, has_arguments, is_well_flow};
 ghost use Rattle.edge_accept.specs.Flows.{items_of_flow, items_of_flows};
-ghost use Rattle.edge_accept.specs.Tallies as tallies;
-ghost use Rattle.edge_accept.specs.Tallies.{AreSent};
+ghost use Rattle.edge_accept.specs.Tallies.{AreSent, IsCount};
 
-use crate::sent::Sent;
+use crate::tally::Sent;
 use dep_iter::held_target;
 use plan_core::{Arg, DepPlan, FlowPlan, Target};
 use range_space::steps_of;
 use term_core::Range;
 
-// One more than the most edges that a job may have.
-const TOO_MANY: u64 = 4_000_001;
-
-// The number, or 4,000,001 where it is more.
-fn capped(n: u64) -> u64
-    ensures { result ≡ tallies.capped n }
-{
-    if n < TOO_MANY { n } else { TOO_MANY }
-}
-
 impl Sent {
-    // So many edges and write-backs.
-    fn of(edges: u64, writes: u64) -> Sent
-        requires edges { edges ≤ 4000001 }
-        requires writes { writes ≤ 4000001 }
-        ensures edges { result.edges ≡ edges }
-        ensures writes { result.writes ≡ writes }
-    {
-        Sent { edges, writes }
-    }
-
     // Both together.
     fn and(self, other: Sent) -> Sent
         ensures { (xs ys : List ItemValue) → AreSent self xs → AreSent other ys → AreSent result (xs ++ ys) }
     {
-        let edges = capped(self.edges + other.edges);
-        let writes = capped(self.writes + other.writes);
-        Sent::of(edges, writes)
+        Sent {
+            edges: self.edges.saturating_add(other.edges),
+            writes: self.writes.saturating_add(other.writes),
+        }
     }
 
     // Whether nothing is sent.
     pub(crate) fn is_nothing(self) -> bool
         ensures { OnTrue result ((xs : List ItemValue) → AreSent self xs → xs ≡ []) }
     {
-        if self.edges > 0 {
-            return false;
-        }
-        self.writes == 0
+        self.edges.saturating_add(self.writes) == 0
     }
 }
 
-// How many values a range has, at most 4,000,001.
+// How many values a range has.
 fn value_count(range: &Range, env: &[i64]) -> u64
-    ensures { result ≡ tallies.capped (length (or_empty (range_values range.now env.now))) }
+    ensures { IsCount result (length (or_empty (range_values range.now env.now))) }
 {
     match steps_of(range, env) {
-        Ok(steps) => {
-            let count = steps.count();
-            if count < 4_000_001 {
-                count as u64
-            } else {
-                TOO_MANY
-            }
-        }
+        Ok(steps) => steps.count().min(u128::from(u64::MAX)) as u64,
         Err(_) => 0,
     }
 }
 
-// How many values an argument has that has its values, at most 4,000,001. What is no range has one, which is not evaluated.
+// How many values an argument has that has its values. What is no range has one, which is not evaluated.
 fn arg_count(arg: &Arg, env: &[i64]) -> u64
     requires { IsTrue (has_arg env.now arg.now) }
-    ensures { result ≡ tallies.capped (length (or_empty (arg_values arg.now env.now))) }
+    ensures { IsCount result (length (or_empty (arg_values arg.now env.now))) }
 {
     match arg {
         Arg::One(_) => 1,
@@ -90,17 +60,17 @@ fn arg_count(arg: &Arg, env: &[i64]) -> u64
     }
 }
 
-// How many combinations the values of these arguments have: the product of their counts, which stops at 4,000,001. An argument without a value makes it 0, however many values the others have.
+// How many combinations the values of these arguments have: the product of their counts. An argument without a value
+// makes it 0, however many values the others have.
 fn combination_count(args: &[Arg], env: &[i64]) -> u64
     requires { IsTrue (list_all (has_arg env.now) args.now) }
-    ensures { result ≡ tallies.capped (length (combinations args.now env.now)) }
+    ensures { IsCount result (length (combinations args.now env.now)) }
 {
     let Some((arg, others)) = args.split_first() else {
         return 1;
     };
     let here = arg_count(arg, env);
-    let rest = combination_count(others, env);
-    capped(here * rest)
+    here.saturating_mul(combination_count(others, env))
 }
 
 // What a target stands for.
@@ -109,13 +79,18 @@ fn target_sent(target: &Target, env: &[i64]) -> Sent
     ensures { (t : Task) (n : ℕ) → AreSent result (items_to t env.now n target.now) }
 {
     match target {
-        Target::Task(_, _, args) => {
-            let edges = combination_count(args.as_slice(), env);
-            Sent::of(edges, 0)
-        }
-        Target::Element(_, _) => Sent::of(0, 1),
-        Target::New => Sent::of(0, 0),
-        Target::Null => Sent::of(0, 0),
+        Target::Task(_, _, args) => Sent {
+            edges: combination_count(args.as_slice(), env),
+            writes: 0,
+        },
+        Target::Element(_, _) => Sent {
+            edges: 0,
+            writes: 1,
+        },
+        Target::New | Target::Null => Sent {
+            edges: 0,
+            writes: 0,
+        },
     }
 }
 
@@ -125,7 +100,10 @@ fn held_sent(deps: &[DepPlan], env: &[i64]) -> Sent
     ensures { (t : Task) (n : ℕ) → AreSent result (flat_map (items_to t env.now n) (held_targets false deps.now env.now)) }
 {
     let Some((d, later)) = deps.split_first() else {
-        return Sent::of(0, 0);
+        return Sent {
+            edges: 0,
+            writes: 0,
+        };
     };
     let Some(target) = held_target(d, env) else {
         return held_sent(later, env);
@@ -149,7 +127,10 @@ pub(crate) fn flows_sent(flows: &[FlowPlan], env: &[i64]) -> Sent
     ensures { (t : Task) (n : ℕ) → AreSent result (items_of_flows t env.now n flows.now) }
 {
     let Some((flow, others)) = flows.split_first() else {
-        return Sent::of(0, 0);
+        return Sent {
+            edges: 0,
+            writes: 0,
+        };
     };
     let here = flow_sent(flow, env);
     let rest = flows_sent(others, env);

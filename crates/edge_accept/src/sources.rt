@@ -1,14 +1,11 @@
 //! Where the tile of a flow comes from, and the edges into it, by its dependences.
 
-ghost use Rattle.std.specs.Prelude.{◌≡◌, ◌+◌, ◌<◌, ◌^◌, ◌++◌, [], List, IsTrue, false, true, length, flat_map};
+ghost use Rattle.std.specs.Prelude.{◌≡◌, [], IsTrue, false, true, drop, flat_map};
 ghost use Rattle.std.specs.Bool.{OnTrue};
-ghost use Rattle.ptg_base.specs.declared.place.Place.{Place as PlaceValue};
-ghost use Rattle.plan_core.specs.Place.{HasPlace};
-ghost use Rattle.dep_iter.specs.declared.source.Source.TheVariants as source_variant;
-ghost use Rattle.plan_core.specs.declared.flow.DepPlan.{DepPlan as DepPlanValue};
 ghost use Rattle.dep_iter.specs.Active as active;
 ghost use Rattle.dep_iter.specs.Active.{held_targets};
-ghost use Rattle.dep_iter.specs.Edges.{data_source as data_source_of, edges_into, source_among, source_at};
+ghost use Rattle.dep_iter.specs.Edges.{data_source as data_source_of, edges_into, in_edges_before, source_among};
+ghost use Rattle.dep_iter.specs.Edges.{source_at};
 ghost use Rattle.dep_iter.specs.Links.{dependences_fit, fits};
 ghost use Rattle.dep_iter.specs.Tasks.{IsTask};
 ghost use Rattle.edge_accept.specs.Flows.{AreTakenOnce, IsSoundSource, HasSoundSource, edges_into_flow, items_of_flow};
@@ -20,17 +17,15 @@ use crate::sending::flow_sent;
 use dep_iter::{Source, data_source_under, held_target, takes_first, takes_tile};
 use plan_core::{DepPlan, Target};
 
-// Whether the place of the flow's source exists, if it is one.
+// Whether the flow's source is a place that exists.
 fn has_place(at: &FlowAt) -> bool
     requires of_job { IsTask at.now.plan.now at.now.task.now }
-    ensures { IsTrue result → (p : PlaceValue) → data_source_of at.now.plan.now at.now.task.now at.now.number ≡ source_variant.Place p → HasPlace at.now.plan.now.colls p }
+    ensures { OnTrue result
+        (HasSoundSource at.now.plan.now at.now.task.now at.now.env.now at.now.number at.now.flow.now) }
 {
     match data_source_under(at.plan, at.task, at.env, at.number) {
-        Source::Task(_) => true,
         Source::Place(p) => at.plan.has_place(&p),
-        Source::New => true,
-        Source::Null => true,
-        Source::Nothing => true,
+        _ => false,
     }
 }
 
@@ -67,25 +62,29 @@ fn take_first(at: &FlowAt, deps: &[DepPlan], ins: &mut Ins) -> bool
     }
 }
 
-// Counts the edges into a CTL flow that these dependences give, each of which names tasks; they are numbered from `k` on.
-fn take_all(at: &FlowAt, k: usize, deps: &[DepPlan], ins: &mut Ins) -> bool
+// Counts the edges into a CTL flow that its dependences from number `k` on give, each of which names tasks.
+fn take_all(at: &FlowAt, k: usize, ins: &mut Ins) -> bool
     requires of_job { IsTask at.now.plan.now at.now.task.now }
     requires all { active.takes_first at.now.flow.now.kind ≡ false }
-    requires fit { IsTrue (dependences_fit at.now.plan.now deps.now) }
-    requires room { k + length deps.now < 2 ^ 64 }
-    ensures source { OnTrue result (IsSoundSource at.now.plan.now at.now.flow.now (items_of_flow at.now.task.now at.now.env.now at.now.number at.now.flow.now) (source_among at.now.task.now at.now.env.now at.now.number (held_targets false deps.now at.now.env.now))) }
-    ensures taken { OnTrue result ((done : List DepPlanValue) → at.now.flow.now.ins ≡ done ++ deps.now → length done ≡ k → AreTakenOnce at.now.plan.now (flat_map (edges_into at.now.task.now at.now.env.now at.now.number) (held_targets false done at.now.env.now)) ins.old ins.new (flat_map (edges_into at.now.task.now at.now.env.now at.now.number) (held_targets false deps.now at.now.env.now))) }
+    ensures source { OnTrue result (IsSoundSource at.now.plan.now at.now.flow.now
+        (items_of_flow at.now.task.now at.now.env.now at.now.number at.now.flow.now)
+        (source_among at.now.task.now at.now.env.now at.now.number
+        (held_targets false (drop k at.now.flow.now.ins) at.now.env.now))) }
+    ensures taken { OnTrue result (AreTakenOnce at.now.plan.now
+        (in_edges_before at.now.plan.now at.now.task.now at.now.number k) ins.old ins.new
+        (flat_map (edges_into at.now.task.now at.now.env.now at.now.number)
+        (held_targets false (drop k at.now.flow.now.ins) at.now.env.now))) }
 {
-    let Some((d, later)) = deps.split_first() else {
+    let Some(d) = at.flow.ins.as_slice().get(k) else {
         return true;
     };
     let Some(target) = held_target(d, at.env) else {
-        return take_all(at, k + 1, later, ins);
+        return take_all(at, k + 1, ins);
     };
     if !take_target(at, k, target, ins) {
         return false;
     }
-    take_all(at, k + 1, later, ins)
+    take_all(at, k + 1, ins)
 }
 
 // Whether the flow may start from its source; the edges into it are counted.
@@ -97,6 +96,6 @@ pub(crate) fn take_flow(at: &FlowAt, ins: &mut Ins) -> bool
     if takes_first(at.flow.kind) {
         take_first(at, at.flow.ins.as_slice(), ins)
     } else {
-        take_all(at, 0, at.flow.ins.as_slice(), ins)
+        take_all(at, 0, ins)
     }
 }

@@ -4,16 +4,24 @@ ghost use Rattle.std.specs.Prelude.{◌≡◌, ◌+◌, ◌≤◌};
 ghost use Rattle.std.specs.Bool.{OnTrue};
 
 use crate::ins::{Ins, MOST_EDGES};
-use crate::sent::Sent;
-use crate::written::Written;
+use place_set::PlaceSet;
 
-/// The edges into tasks, the edges out of them and the write-backs that were counted, and the places that are written.
+/// How many edges and how many write-backs are sent. A number over 4,000,000 says only that they are too many.
+#[derive(Clone, Copy)]
+pub(crate) struct Sent {
+    pub(crate) edges: u64,
+    pub(crate) writes: u64,
+}
+
+/// The edges into tasks, the tasks without any, the edges out of tasks and the write-backs that were counted,
+/// and the places that are written.
 #[derive(Drop)]
 pub(crate) struct Tally {
     pub(crate) ins: Ins,
+    pub(crate) roots: u64,
     pub(crate) outs: u64,
     pub(crate) writes: u64,
-    pub(crate) written: Written,
+    pub(crate) written: PlaceSet,
     pub(crate) ghost items_at_most: { outs + writes ≤ 4000000 },
 }
 
@@ -24,11 +32,12 @@ impl Tally {
         ensures writes { OnTrue result (self.new.writes ≡ self.old.writes + sent.writes) }
         ensures at_most { OnTrue result (sent.edges + sent.writes ≤ 4000000) }
         ensures ins { self.new.ins ≡ self.old.ins }
+        ensures roots { self.new.roots ≡ self.old.roots }
         ensures written { self.new.written ≡ self.old.written }
     {
-        let outs = self.outs + sent.edges;
-        let writes = self.writes + sent.writes;
-        if outs + writes > MOST_EDGES {
+        let outs = self.outs.saturating_add(sent.edges);
+        let writes = self.writes.saturating_add(sent.writes);
+        if outs.saturating_add(writes) > MOST_EDGES {
             return false;
         }
         self.outs = outs;

@@ -1,6 +1,6 @@
 //! The walk over all tasks.
 
-ghost use Rattle.std.specs.Prelude.{◌≡◌, ◌+◌, ◌<◌, ◌∷◌, [], List, Some, drop, length, map, slice_get};
+ghost use Rattle.std.specs.Prelude.{◌≡◌, ◌<◌, ◌∷◌, [], Some, drop, length, map, slice_get};
 ghost use Rattle.std.specs.Bool.{OnTrue};
 ghost use Rattle.term_core.specs.declared.space.ClassSpace.{ClassSpace as ClassSpaceValue};
 ghost use Rattle.term_core.specs.WellSpace.{IsWellSpace};
@@ -9,58 +9,80 @@ ghost use Rattle.range_space.specs.Tasks as range;
 ghost use Rattle.dep_iter.specs.Hints as hints;
 ghost use Rattle.dep_iter.specs.Tasks.{IsTask, all_tasks, locals_of, task, tasks_from};
 ghost use Rattle.dep_iter.specs.Well.{IsWellTask};
-ghost use Rattle.edge_accept.specs.Flows.{TakesIns};
-ghost use Rattle.edge_accept.specs.Tallies.{Sends, WentOver};
+ghost use Rattle.dep_iter.specs.Items.{write_backs};
+ghost use Rattle.edge_accept.specs.Tallies.{AreWritten, Sends, TakesIns, WentOver};
 
 use crate::at::TaskAt;
 use crate::flows::take_flows;
-use crate::ins::Ins;
 use crate::sending::flows_sent;
 use crate::tally::Tally;
-use crate::writes::write_places;
-use dep_iter::{affinity_under, flows_of, task_with, well_task_under};
+use dep_iter::{affinity_under, flows_of, task_with, well_task_under, write_backs_under};
+use place_set::PlaceSet;
 use plan_core::Plan;
-use ptg_base::TaskId;
+use ptg_base::{TaskId, WriteBack};
 use range_space::AllLocals;
 use term_core::ClassSpace;
 
 // Whether each expression that the task needs has a value, and the place of its affinity exists.
-fn is_sound(task: &TaskAt) -> bool
-    requires of_job { IsTask task.now.plan.now task.now.task.now }
-    ensures well { OnTrue result (IsWellTask task.now.plan.now task.now.task.now) }
-    ensures place { OnTrue result (HasPlace task.now.plan.now.colls (hints.affinity task.now.plan.now task.now.task.now)) }
+fn is_sound(plan: &Plan, t: &TaskId, env: &[i64]) -> bool
+    requires of_job { IsTask plan.now t.now }
+    requires locals { env.now ≡ locals_of plan.now t.now }
+    ensures well { OnTrue result (IsWellTask plan.now t.now) }
+    ensures place { OnTrue result (HasPlace plan.now.colls (hints.affinity plan.now t.now)) }
 {
-    if well_task_under(task.plan, task.task, task.env).is_err() {
+    if well_task_under(plan, t, env).is_err() {
         return false;
     }
-    task.plan
-        .has_place(&affinity_under(task.plan, task.task, task.env))
+    plan.has_place(&affinity_under(plan, t, env))
 }
 
-// Counts the edges into a task, if each is sent, and it as a receiver if there is one.
-fn take_ins(task: &TaskAt, ins: &mut Ins) -> bool
+// Counts the edges into a task, if each is sent, and it as a root if there is none.
+fn take_ins(task: &TaskAt, tally: &mut Tally) -> bool
     requires of_job { IsTask task.now.plan.now task.now.task.now }
-    requires well { IsWellTask task.now.plan.now task.now.task.now }
-    ensures { OnTrue result (TakesIns task.now.plan.now task.now.task.now ins.old ins.new) }
+    ensures { OnTrue result (TakesIns task.now.plan.now task.now.task.now tally.old tally.new) }
 {
-    let before = ins.edges;
-    if !take_flows(task, 0, flows_of(task.plan, task.task), ins) {
+    let before = tally.ins.edges;
+    if !take_flows(task, 0, &mut tally.ins) {
         return false;
     }
-    if ins.edges == before {
-        return true;
+    let root = if tally.ins.edges == before { 1 } else { 0 };
+    let Some(roots) = tally.roots.checked_add(root) else {
+        return false;
+    };
+    tally.roots = roots;
+    true
+}
+
+// Adds the place of a write-back, if it exists and was not added before.
+fn write_place(plan: &Plan, write: &WriteBack, written: &mut PlaceSet) -> bool
+    ensures { OnTrue result (AreWritten plan.now.colls written.old written.new (write.now ∷ [])) }
+{
+    if !plan.has_place(&write.place) {
+        return false;
     }
-    ins.add_receiver();
+    written.insert(write.place)
+}
+
+// Adds the places that a task writes, if each exists and was not written before.
+fn write_places(task: &TaskAt, written: &mut PlaceSet) -> bool
+    requires of_job { IsTask task.now.plan.now task.now.task.now }
+    ensures { OnTrue result
+        (AreWritten task.now.plan.now.colls written.old written.new (write_backs task.now.plan.now task.now.task.now)) }
+{
+    for write in write_backs_under(task.plan, task.task, task.env) {
+        if !write_place(task.plan, &write, written) {
+            return false;
+        }
+    }
     true
 }
 
 // Counts what a task sends, if it is not too much and each place that it writes exists and was not written before.
 fn send(task: &TaskAt, tally: &mut Tally) -> bool
     requires of_job { IsTask task.now.plan.now task.now.task.now }
-    requires well { IsWellTask task.now.plan.now task.now.task.now }
     ensures { OnTrue result (Sends task.now.plan.now task.now.task.now tally.old tally.new) }
 {
-    let sent = flows_sent(flows_of(task.plan, task.task), task.env);
+    let sent = flows_sent(task.flows, task.env);
     if !tally.add_sent(sent) {
         return false;
     }
@@ -76,11 +98,17 @@ fn accept_task(plan: &Plan, t: &TaskId, env: &[i64], tally: &mut Tally) -> bool
     requires locals { env.now ≡ locals_of plan.now t.now }
     ensures { OnTrue result (WentOver plan.now tally.old tally.new (t.now ∷ [])) }
 {
-    let task = TaskAt { plan, task: t, env };
-    if !is_sound(&task) {
+    if !is_sound(plan, t, env) {
         return false;
     }
-    if !take_ins(&task, &mut tally.ins) {
+    let flows = flows_of(plan, t);
+    let task = TaskAt {
+        plan,
+        task: t,
+        env,
+        flows,
+    };
+    if !take_ins(&task, tally) {
         return false;
     }
     send(&task, tally)
@@ -113,7 +141,7 @@ fn accept_class(plan: &Plan, class: u32, tally: &mut Tally) -> bool
 
 // Goes over the tasks of the classes from this number on, in walk order.
 fn accept_classes(plan: &Plan, class: u32, tally: &mut Tally) -> bool
-    ensures { OnTrue result ((ss : List ClassSpaceValue) → drop class plan.now.spaces ≡ ss → WentOver plan.now tally.old tally.new (tasks_from class ss)) }
+    ensures { OnTrue result (WentOver plan.now tally.old tally.new (tasks_from class (drop class plan.now.spaces))) }
 {
     if class as usize >= plan.classes.len() {
         return true;

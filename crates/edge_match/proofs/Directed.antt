@@ -300,7 +300,6 @@ module _ (P : Plan) (t : Task) where
 
   ins_from : (n : ℕ) (fs : List FlowPlan)
       → ins_of_flows t (locals_of P t) n fs ≡ flat_map (λ (a : ℕ × FlowPlan). flow_edges In P t a.0 a.1) (numbered n fs)
-  unfolding ins_of_flows
   ins_from n [] = refl
   ins_from n (f ∷ fs) =
       ap (λ l. l ++ ins_of_flows t (locals_of P t) (suc n) fs) (sym (in_flow_edges P t n f))
@@ -308,7 +307,6 @@ module _ (P : Plan) (t : Task) where
 
   items_from : (n : ℕ) (fs : List FlowPlan)
       → items_of_flows t (locals_of P t) n fs ≡ flat_map (λ (a : ℕ × FlowPlan). flow_items Out P t a.0 a.1) (numbered n fs)
-  unfolding items_of_flows
   items_from n [] = refl
   items_from n (f ∷ fs) = ap (λ l. flow_items Out P t n f ++ l) (items_from (suc n) fs)
 

@@ -1,18 +1,17 @@
 -- How the counts go on with an edge, an item or a place.
-use Rattle.std.proofs.Common.{◌≡◌, ◌↔◌, ◌+◌, Bool, List, [], ◌∷◌, IsTrue, ◌⊎◌, inl, inr, refl, ap, ◌∙◌, Some}
+use Rattle.std.proofs.Common.{◌≡◌, ◌↔◌, ◌+◌, Bool, List, [], ◌∷◌, ◌++◌, IsTrue, refl, ap, ◌∙◌, Some}
 use Rattle.std.proofs.Common.{length-append, arith}
+use Rattle.ptg_base.specs.Lists.{IsIn}
 use Rattle.ptg_base.specs.declared.edge.Edge.{Edge}
 use Rattle.ptg_base.specs.declared.place.Place.{Place}
 use Rattle.plan_core.specs.declared.plan.Plan.{Plan}
-use Rattle.plan_core.specs.declared.shape.Shape.{Shape}
 use Rattle.plan_core.specs.Kinds.{is_data, kind_of}
 use Rattle.plan_core.specs.Place.{HasPlace}
-use Rattle.range_space.proofs.MemberLists.{IsIn-append_left, IsIn-append_right, from_append}
 use Rattle.dep_iter.specs.Consistent.{is_data_edge}
 use Rattle.dep_iter.specs.declared.direction.Direction.{Direction}
 use Rattle.dep_iter.specs.declared.direction.Direction.TheVariants.{In, Out}
 use Rattle.dep_iter.specs.Directions.{near_flow, near_task}
-use Rattle.edge_accept.specs.Written.{FitsShapes, is_written}
+use Rattle.place_set.specs.Sets.{IsSetOf}
 use Rattle.edge_accept.proofs.Taking.{kind_of-here}
 use Rattle.edge_match.specs.declared.counted.Counted.{Counted}
 use Rattle.edge_match.specs.declared.fault.MatchCode.TheVariants as code
@@ -23,15 +22,13 @@ use Rattle.edge_match.specs.Marks.{IsNewPlace, counts}
 
 module _ (P : Plan) (s u : Counted) where
   -- a place, by the answer of the set that it is added to
-  pub one_more_place : (p : Place) → HasPlace P.colls p → u.ins ≡ s.ins → u.data_edges ≡ s.data_edges → u.items ≡ s.items → u.writes ≡ s.writes + 1
-      → ((colls : List Shape) → FitsShapes colls s.written → FitsShapes colls u.written) → (new : Bool)
-      → ((colls : List Shape) → FitsShapes colls s.written → HasPlace colls p → IsTrue new ↔ (IsTrue (is_written s.written p) → ⊥))
-      → ((colls : List Shape) → FitsShapes colls s.written → HasPlace colls p → (q : Place) → HasPlace colls q → IsTrue (is_written u.written q) ↔ (IsTrue (is_written s.written q) ⊎ (q ≡ p))) → Decides P s u new (IsNewPlace p)
-  one_more_place p there ins edges items writes fits new fresh added = record {
-    passes = λ b k. (
-      λ h w. (fresh P.colls k.fits there).0 h ((k.written p there).1 w),
-      λ n. (fresh P.colls k.fits there).1 (λ w. n ((k.written p there).0 w)),
-    );
+  pub one_more_place : (p : Place) → HasPlace P.colls p → u.ins ≡ s.ins → u.data_edges ≡ s.data_edges
+      → u.items ≡ s.items → u.writes ≡ s.writes + 1 → (new : Bool)
+      → ((ps : List Place) → HasPlace P.colls p → IsSetOf P.colls s.written ps → IsTrue new ↔ (IsIn p ps → ⊥))
+      → ((ps : List Place) → HasPlace P.colls p → IsSetOf P.colls s.written ps → IsSetOf P.colls u.written (ps ++ p ∷ []))
+      → Decides P s u new (IsNewPlace p)
+  one_more_place p there ins edges items writes new fresh added = record {
+    passes = λ b k. fresh b.places there k.written;
     counted = λ t b k.
         let l = length-append b.places (p ∷ []) in
         let m = k.writes in
@@ -40,14 +37,7 @@ module _ (P : Plan) (s u : Counted) where
           data_edges = edges ∙ k.data_edges;
           items = items ∙ k.items;
           writes = omega arith;
-          fits = fits P.colls k.fits;
-          written = λ q h. (
-            λ w. elim ((added P.colls k.fits there q h).0 w) [ inl a ↦ IsIn-append_left q b.places (p ∷ []) ((k.written q h).0 a) | inr e ↦ IsIn-append_right q b.places (p ∷ []) (inl e) ],
-            λ w. (added P.colls k.fits there q h).1 (elim (from_append q b.places (p ∷ []) w) [
-              | inl a ↦ inl ((k.written q h).1 a)
-              | inr e ↦ elim e [ inl same ↦ inr same | inr none ↦ absurd none ]
-            ]),
-          );
+          written = added b.places there k.written;
         };
   }
 

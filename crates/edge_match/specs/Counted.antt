@@ -1,10 +1,7 @@
 -- What the pass has counted, against what came before a mark, and what a part of the pass shows. Source: this project's own choice.
 use Rattle.std.specs.Prelude.{◌≡◌, ◌==◌, ◌+◌, ◌≤◌, ℕ, ◌↔◌, List, length, filter, flat_map, Bool, IsTrue, Result, MatchResult, OnOk}
-use Rattle.ptg_base.specs.Lists.{IsIn}
 use Rattle.ptg_base.specs.Task.{Task}
-use Rattle.ptg_base.specs.declared.place.Place.{Place}
 use Rattle.plan_core.specs.declared.plan.Plan.{Plan}
-use Rattle.plan_core.specs.Place.{HasPlace}
 use Rattle.dep_iter.specs.declared.counts.Counts.{Counts}
 use Rattle.dep_iter.specs.Tasks.{all_tasks}
 use Rattle.dep_iter.specs.Edges.{goal}
@@ -17,7 +14,7 @@ use Rattle.edge_match.specs.declared.phase.Phase.{Phase}
 use Rattle.edge_match.specs.declared.phase.Phase.TheVariants.{Connecting, Matching}
 use Rattle.edge_match.specs.Marks.{Before, Check, Mark, AllPass, Passes, add, add_all, task_marks}
 use Rattle.edge_match.specs.FirstFault.{IsFirstFailure, IsFirstFault}
-use Rattle.edge_accept.specs.Written.{FitsShapes, is_written}
+use Rattle.place_set.specs.Sets.{IsSetOf}
 
 -- the counts are those of what came before
 pub record IsCounted (P : Plan) (c : Counted) (b : Before) : Type 0 where
@@ -25,8 +22,7 @@ pub record IsCounted (P : Plan) (c : Counted) (b : Before) : Type 0 where
   pub data_edges : c.data_edges ≡ length (filter (is_data_edge P) b.ins)
   pub items : c.items ≡ length b.items
   pub writes : c.writes ≡ length b.places
-  pub fits : FitsShapes P.colls c.written
-  pub written : (p : Place) → HasPlace P.colls p → IsTrue (is_written c.written p) ↔ IsIn p b.places
+  pub written : IsSetOf P.colls c.written b.places
 
 -- a test that went from these counts to those holds where this check passes, and then it is counted
 pub record Decides (P : Plan) (old new : Counted) (holds : Bool) (c : Check) : Type 0 where

@@ -2,7 +2,7 @@
 
 ghost use Rattle.std.specs.Prelude.{◌≤◌};
 
-use edge_accept::Written;
+use place_set::PlaceSet;
 
 /// How many edges into tasks and items were counted, how many of those edges carry a tile, and which places are written.
 #[derive(Drop)]
@@ -11,7 +11,7 @@ pub(crate) struct Counted {
     pub(crate) data_edges: u64,
     pub(crate) items: u64,
     pub(crate) writes: u64,
-    pub(crate) written: Written,
+    pub(crate) written: PlaceSet,
     pub(crate) ghost ins_at_most: { ins ≤ 4000000 },
     pub(crate) ghost data_at_most: { data_edges ≤ ins },
     pub(crate) ghost items_at_most: { items ≤ 4000000 },

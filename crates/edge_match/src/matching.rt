@@ -1,6 +1,6 @@
 //! Whether a plan is consistent, or its first fault.
 
-ghost use Rattle.std.specs.Prelude.{◌≡◌, ◌+◌, ◌<◌, ◌^◌, ◌⊎◌, Err, IfErr, IfOk, IsTrue, MatchResult, length};
+ghost use Rattle.std.specs.Prelude.{◌≡◌, ◌+◌, ◌<◌, ◌^◌, ◌⊎◌, [], Err, IfErr, IfOk, MatchResult, length};
 ghost use Rattle.plan_core.specs.declared.plan.Plan.{Plan as PlanValue};
 ghost use Rattle.dep_iter.specs.Consistent.{HasCounts, IsConsistent};
 ghost use Rattle.dep_iter.specs.Tasks.{all_tasks};
@@ -8,10 +8,9 @@ ghost use Rattle.edge_match.specs.Counted.{AreCounts, IsCounted, IsRefusalOf, We
 ghost use Rattle.edge_match.specs.Faults as faults;
 ghost use Rattle.edge_match.specs.FirstFault.{IsFirstFailure, IsFirstFault};
 ghost use Rattle.edge_match.specs.Marks.{AllPass, marks, nothing};
-ghost use Rattle.edge_accept.specs.Written.{FitsShapes, is_written};
+ghost use Rattle.place_set.specs.Sets.{IsSetOf};
 ghost use Rattle.edge_match.specs.declared.fault.MatchFault.{MatchFault as MatchFaultValue};
 ghost use Rattle.edge_match.specs.declared.fault.MatchRefusal.TheVariants as refusal;
-ghost use Rattle.ptg_base.specs.declared.place.Place.{Place as PlaceValue};
 
 use crate::counted::Counted;
 use crate::fault::{MatchCode, MatchFault, MatchRefusal};
@@ -22,7 +21,8 @@ use crate::laws::{
 use crate::phase::Phase;
 use crate::tasks::check_classes;
 use dep_iter::{Counts, Matched, all_tasks_are_listed};
-use edge_accept::{Written, accepts};
+use edge_accept::accepts;
+use place_set::PlaceSet;
 use plan_core::Plan;
 use range_space::{Numbers, SpaceFault, space_size};
 use std::alloc::Global;
@@ -61,8 +61,8 @@ fn check_phase(
 }
 
 // Nothing is counted yet.
-fn nothing_counted(written: Written) -> Counted
-    ensures { (P : PlanValue) → FitsShapes P.colls written → ((p : PlaceValue) → IsTrue (is_written written p) → ⊥) → IsCounted P result nothing }
+fn nothing_counted(written: PlaceSet) -> Counted
+    ensures { (P : PlanValue) → IsSetOf P.colls written [] → IsCounted P result nothing }
 {
     Counted {
         ins: 0,
@@ -110,7 +110,7 @@ fn check_plan(alloc: Global, plan: &Plan) -> Result<Counts, MatchRefusal>
         Ok(None) => (),
         Err(_) => return Err(MatchRefusal::OutOfMemory),
     }
-    let Ok(written) = Written::new(alloc, plan.colls.as_slice()) else {
+    let Ok(written) = PlaceSet::new(alloc, plan.colls.as_slice()) else {
         return Err(MatchRefusal::OutOfMemory);
     };
     match check_tasks(plan, tasks, nothing_counted(written)) {
@@ -120,7 +120,7 @@ fn check_plan(alloc: Global, plan: &Plan) -> Result<Counts, MatchRefusal>
 }
 
 /// The plan, as one that is consistent, with its counts; or its first fault, and the plan back. Takes time according to the numbers of tasks and edges,
-/// and a bit of memory for each place of a collection.
+/// and a byte of memory for each place of a collection.
 pub fn match_edges(alloc: Global, plan: Plan) -> Result<Matched, (MatchRefusal, Plan)>
     ensures found { IfOk result (λ m. (m ≡ plan) × IsConsistent plan) }
     ensures back { IfErr result (λ e. e.1 ≡ plan) }

@@ -1,5 +1,5 @@
 -- What the first fault of a plan names.
-use Rattle.std.proofs.Common.{◌≡◌, ℕ, suc, ◌+◌, ◌<◌, ℤ, List, [], ◌∷◌, ◌++◌, length, length-append, refl, ap, sym, ◌∙◌, subst, Option, Some, slice_get, inl, inr, Result, Ok, Err, arith}
+use Rattle.std.proofs.Common.{◌≡◌, ℕ, suc, ◌+◌, ◌<◌, ℤ, List, [], ◌∷◌, ◌++◌, length, length-append, refl, ap, sym, ◌∙◌, subst, Option, Some, None, IsSomeAnd, slice_get, inl, inr, Result, Ok, Err, arith}
 use Rattle.std.proofs.lemmas.Option.{slice_get_within}
 use Rattle.std.specs.Option.{option_map_or}
 use Rattle.ptg_base.specs.Lists.{IsIn}
@@ -18,7 +18,6 @@ use Rattle.dep_iter.specs.Tasks.{IsTask, task}
 use Rattle.edge_match.specs.declared.fault.MatchFault.{MatchFault}
 use Rattle.edge_match.specs.Faults.{space_fault}
 use Rattle.edge_match.specs.FirstFault.{IsFirstFault, IsTaskFault}
-use Rattle.edge_accept.proofs.PlaceBits.{some_of}
 use Rattle.edge_match.proofs.Named.{names_task}
 
 -- a visit of this class, with fewer values than so many where a definition has none
@@ -78,6 +77,10 @@ outer_fewer ss k vs s w h =
     let e : k ≡ p.number = let c = stopped_class (0 + p.number) (length p.space.defs) _ _ w.visit (BadExpr k vs) p.fact w.stops in omega arith in
     let same : p.space ≡ s = let a = p.here in let b = subst (λ m. slice_get ss m ≡ Some s) e h in cc in
     subst (λ (z : ClassSpace). length vs < length z.defs) same (stopped_values (0 + p.number) (length p.space.defs) _ _ w.visit k vs p.fact w.stops)
+
+some_of : {A : Type 0} (o : Option A) (Q : A → Type 0) → IsSomeAnd o Q → (x : A) × (o ≡ Some x) × Q x
+some_of None Q h = absurd h
+some_of (Some x) Q h = (x, refl, h)
 
 pub class_exists : (P : Plan) (f : MatchFault) → IsFirstFault P f → f.class < length P.classes
 class_exists P f (inl a) =

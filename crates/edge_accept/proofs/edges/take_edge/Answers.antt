@@ -19,4 +19,4 @@ returns c =
     c.in-Some.ensures.0
     (λ k. false≢true (sym c.if-has_edge_before.false ∙ found.1 k))
     (ap is_data here)
-    (OnTrue_at h c.add.ensures.edges) (OnTrue_at h (rw c.is_data.ensures at c.add.ensures.data_edges)) (OnTrue_at h c.add.ensures.receivers))
+    (OnTrue_at h c.add.ensures.edges) (OnTrue_at h (rw c.is_data.ensures at c.add.ensures.data_edges)))

@@ -1,4 +1,4 @@
-use Rattle.std.proofs.Common.{suc, drop, map, add-one, refl, sym, ◌∙◌, arith}
+use Rattle.std.proofs.Common.{suc, drop, map, add-one, arith}
 use Rattle.range_space.specs.Tasks.{tasks}
 use Rattle.range_space.proofs.Nesting.{on_true}
 use Rattle.dep_iter.specs.Tasks.{task, tasks_from}
@@ -16,4 +16,5 @@ returns m c =
     let rest = drop (suc class) P.spaces in
     let u = c.accept_class.new.tally in
     let more = rw add-one at c.accept_classes.ensures in
-    on_true c.accept_classes.result (λ k ss e. rw (sym e ∙ drop_at P.spaces class s found.1) (went_then P c.args.tally.now u c.accept_classes.new.tally (map (task class) (tasks s)) (tasks_from (suc class) rest) (c.if-not-accept_class.ensures s found.1) (k rest refl))) more
+    rw (drop_at P.spaces class s found.1)
+    (on_true c.accept_classes.result (went_then P c.args.tally.now u c.accept_classes.new.tally (map (task class) (tasks s)) (tasks_from (suc class) rest) (c.if-not-accept_class.ensures s found.1)) more)

@@ -1,7 +1,12 @@
-use Rattle.std.proofs.Common.{refl}
-use Rattle.edge_accept.proofs.Walking.{went_by}
+use Rattle.goal_count.proofs.WellFlows.{well_flows}
+use Rattle.range_space.proofs.Nesting.{on_true}
+use Rattle.edge_accept.proofs.Walking.{went_one}
 use Rattle.edge_accept.proofs.tasks.accept_task.Goals as goal
+
+pub invariant_of-task-clause-well : goal.invariant_of-task-clause-well
+invariant_of-task-clause-well c = rw (c.requires.locals, c.flows_of-flows.ensures.flows) (well_flows c.args.plan.now c.args.t.now c.if-not-is_sound.ensures.well)
 
 pub returns : goal.returns
 returns c =
-    went_by c.args.plan.now c.args.tally.now _ c.send.new.tally c.args.t.now c.send.result c.send.ensures c.if-not-is_sound.ensures.well c.if-not-is_sound.ensures.place c.if-not-take_ins.ensures refl refl refl
+    let sound = c.if-not-is_sound.ensures in
+    on_true c.send.result (went_one c.args.plan.now c.args.tally.now c.take_ins.new.tally c.send.new.tally c.args.t.now sound.well sound.place c.if-not-take_ins.ensures) c.send.ensures
