@@ -1,7 +1,8 @@
 -- How the values of a loop go on from one to the next.
-use Rattle.std.proofs.Common.{◌≡◌, ℕ, suc, ℤ, pos, ◌+ℤ◌, ◌-ℤ◌, unsigned_abs, int_lt, Bool, true, false, List, [], ◌∷◌, refl, ap, sym, ◌∙◌, Option, Some, None, SomeIff, FitsSigned, w64, arith}
+use Rattle.std.proofs.Common.{◌≡◌, ℕ, suc, ℤ, pos, ◌+ℤ◌, ◌-ℤ◌, unsigned_abs, int_lt, true, false, List, [], ◌∷◌, refl, ap, sym, ◌∙◌, Option, Some, None, SomeIff, FitsSigned, w64, arith}
 use Rattle.std.proofs.lemmas.Int.{ints}
 use Rattle.body_eval.specs.Meaning.{upwards, turn_values}
+use Rattle.list_lemmas.proofs.Truth.{by_test}
 
 -- the values from a number on, or none where there is none
 abbrev pub values_left : Option ℤ → ℤ → List ℤ
@@ -11,10 +12,6 @@ values_left (Some v) hi = turn_values v hi
 -- how far v is below hi
 abbrev gap : ℤ → ℤ → ℕ
 gap hi v = unsigned_abs (hi -ℤ v)
-
-by_test : {P : Type 0} (b : Bool) → (b ≡ true → P) → (b ≡ false → P) → P
-by_test true on_true on_false = on_true refl
-by_test false on_true on_false = on_false refl
 
 pub values_past : (v hi : ℤ) → int_lt hi v ≡ true → turn_values v hi ≡ []
 unfolding turn_values

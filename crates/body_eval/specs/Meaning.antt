@@ -1,4 +1,5 @@
--- What a body does to the tiles of its task, within a budget of units. Source: the language of bodies is this project's own choice.
+-- What a body does to the tiles of its task, within a budget of units. Source: the language of bodies is this project's
+-- own choice.
 use Rattle.std.specs.Prelude.{ℕ, zero, suc, ◌-◌, ℤ, pos, ◌+ℤ◌, ◌-ℤ◌, int_lt, unsigned_abs, List, [], ◌∷◌, ◌++◌, length, replicate, Result, Ok, Err, Option, if◌then◌else◌}
 use Rattle.term_core.specs.Term.{Term}
 use Rattle.term_core.specs.Arith.{holds}
@@ -41,7 +42,8 @@ turns block n (v ∷ more) s = first_then (λ t. block (assigned n v t)) (turns 
 
 -- `for i = lo .. hi { .. }`, by what its block does: lo is evaluated first, then hi, each once
 abbrev pub for_meaning : ℕ → Term → Term → (State → Result State Trap) → State → Result State Trap
-for_meaning n lo hi block s = and_then (value_in s lo) (λ a. and_then (value_in s hi) (λ b. turns block n (turn_values a b) s))
+for_meaning n lo hi block s =
+    and_then (value_in s lo) (λ a. and_then (value_in s hi) (λ b. turns block n (turn_values a b) s))
 
 -- the state after statements in order, or the first trap; each statement costs one unit as it starts
 abbrev pub run : StatementList → State → Result State Trap
@@ -59,7 +61,8 @@ opening locals slots tiles units =
 
 -- the tiles of a task after its body within so many units, or why it trapped
 abbrev pub meaning_within : ℕ → Body → List ℤ → List (Option (List ℤ)) → Result (List (Option (List ℤ))) Trap
-meaning_within units body locals tiles = and_then (run body.statements (opening locals body.slots tiles units)) (λ s. Ok s.tiles)
+meaning_within units body locals tiles =
+    and_then (run body.statements (opening locals body.slots tiles units)) (λ s. Ok s.tiles)
 
 -- the units that a task may use: 2 ^ 24
 unfoldable pub task_budget : ℕ

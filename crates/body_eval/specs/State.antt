@@ -6,7 +6,8 @@ use Rattle.term_core.specs.declared.trap.Trap.{Trap}
 use Rattle.term_core.specs.declared.trap.Trap.TheVariants.{Budget}
 use Rattle.body_eval.specs.Element.{put_element, body_value}
 
--- what a body has of its own while it runs: the values of the task's locals and of its variables, and the units that it has left
+-- what a body has of its own while it runs: the values of the task's locals and of its variables, and the units that it
+-- has left
 pub record Frame : Type 0 where
   pub slots : List ℤ
   pub units_left : ℕ

@@ -69,8 +69,10 @@ fn run_statement(
     scratch: &mut Scratch,
     tiles: &mut [Option<Tile>],
 ) -> Result<(), Trap>
-    ensures ok { OnOk result (statement_meaning statement.now (state_of scratch.old tiles.old) ≡ Ok (state_of scratch.new tiles.new)) }
-    ensures trap { IfErr result (λ cause. statement_meaning statement.now (state_of scratch.old tiles.old) ≡ Err cause) }
+    ensures ok { OnOk result
+        (statement_meaning statement.now (state_of scratch.old tiles.old) ≡ Ok (state_of scratch.new tiles.new)) }
+    ensures trap { IfErr result (λ cause.
+        statement_meaning statement.now (state_of scratch.old tiles.old) ≡ Err cause) }
     ensures sizes { KeepsSizes tiles.old tiles.new }
 {
     match statement {
@@ -122,8 +124,12 @@ fn run_turns(
     scratch: &mut Scratch,
     tiles: &mut [Option<Tile>],
 ) -> Result<(), Trap>
-    ensures ok { OnOk result (turns (run turn.now) variable.number (turn_values variable.lo variable.hi) (state_of scratch.old tiles.old) ≡ Ok (state_of scratch.new tiles.new)) }
-    ensures trap { IfErr result (λ cause. turns (run turn.now) variable.number (turn_values variable.lo variable.hi) (state_of scratch.old tiles.old) ≡ Err cause) }
+    ensures ok { OnOk result
+        (turns (run turn.now) variable.number (turn_values variable.lo variable.hi) (state_of scratch.old tiles.old)
+        ≡ Ok (state_of scratch.new tiles.new)) }
+    ensures trap { IfErr result (λ cause.
+        turns (run turn.now) variable.number (turn_values variable.lo variable.hi) (state_of scratch.old tiles.old)
+        ≡ Err cause) }
     ensures sizes { KeepsSizes tiles.old tiles.new }
 {
     let LoopVariable { number, lo, hi } = variable;

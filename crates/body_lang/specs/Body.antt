@@ -1,4 +1,5 @@
--- The body that tokens are, and the first fault of a body. The language of bodies, its codes and their order are this project's own choice.
+-- The body that tokens are, and the first fault of a body. The language of bodies, its codes and their order are this
+-- project's own choice.
 use Rattle.std.specs.Prelude.{◌≡◌, ℕ, List, None, Ok, Err, ◌⊎◌}
 use Rattle.jdf_lex.specs.declared.fault.JdfFault.{JdfFault}
 use Rattle.grammar_core.specs.declared.token.Spot.{Spot}

@@ -32,4 +32,5 @@ with_word front w (Some n) = front
 -- the words in front, then those of the second list that are new, in the order of their first use
 abbrev pub words_in_order : List (List ℕ) → List (List ℕ) → List (List ℕ)
 words_in_order front [] = front
-words_in_order front (w ∷ more) = words_in_order (with_word front w (position (λ (v : List ℕ). bytes_eq v w) front)) more
+words_in_order front (w ∷ more) =
+    words_in_order (with_word front w (position (λ (v : List ℕ). bytes_eq v w) front)) more

@@ -9,7 +9,8 @@ pub fn one_answer()
     ensures either { BodyOrFault }
 {}
 
-/// A law: each trap of a body has the number of its own word, and the words are those of the text, each once, in the order of their first use.
+/// A law: each trap of a body has the number of its own word, and the words are those of the text, each once, in the
+/// order of their first use.
 pub fn traps_have_their_words()
     ensures own { OwnWords }
     ensures once { WordsOnce }

@@ -28,7 +28,8 @@ fn broken(
     fault: ReadFault,
 ) -> JdfRefusal
     requires { fault.left ≤ length tokens.now }
-    ensures { ReturnsRefusal result (broken_fault (environment_of scope.now) tokens.now finish (length tokens.now - fault.left) fault.code) }
+    ensures { ReturnsRefusal result
+        (broken_fault (environment_of scope.now) tokens.now finish (length tokens.now - fault.left) fault.code) }
 {
     let index = tokens.len() - fault.left;
     match front_fault(alloc, scope, tokens, index) {
@@ -37,9 +38,10 @@ fn broken(
     }
 }
 
-/// Reads a body: the body and its trap words, in the order of their first use; or its first fault. The scope says what names mean.
-/// After a fault of the text (Syntax, BadNumber, ExprTooLong, TooDeep, TooManyVars) no name is judged. Where the tokens end too
-/// early that is Syntax at `finish`, the spot after them.
+/// Reads a body: the body and its trap words, in the order of their first use; or its first fault. The scope says what
+/// names mean.
+/// After a fault of the text (Syntax, BadNumber, ExprTooLong, TooDeep, TooManyVars) no name is judged. Where the tokens
+/// end too early that is Syntax at `finish`, the spot after them.
 pub fn read_body(
     alloc: Global,
     tokens: &[Token],
@@ -47,7 +49,8 @@ pub fn read_body(
     scope: &Scope,
 ) -> Result<(Body, Seq<Text>), JdfRefusal>
     // What is read is the body that the tokens are; a fault is the first one of the body.
-    ensures exact { FindsOrRefuses (IsBody (environment_of scope.now) tokens.now) (IsBodyFault (environment_of scope.now) tokens.now finish) result }
+    ensures exact { FindsOrRefuses (IsBody (environment_of scope.now) tokens.now)
+        (IsBodyFault (environment_of scope.now) tokens.now finish) result }
     // The body is well made for the locals and the flows of the scope.
     ensures well { IfOk result (λ x. IsWellBody (length scope.now.locals) (length scope.now.flows) x.0) }
 {

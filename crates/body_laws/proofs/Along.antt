@@ -17,6 +17,7 @@ use Rattle.body_names.specs.declared.variable.Variable.{Variable}
 use Rattle.body_names.specs.Meanings.{meaning_of}
 use Rattle.body_names.specs.Expressions.{Resolved, value_of, read_flow}
 use Rattle.body_names.specs.TokenScan.{TokenScan, after_terminal, after_token, previous_is, role_of, fault_of, judged_as, judged, judged_among}
+use Rattle.std.proofs.lemmas.Bool.{and_parts, not-true}
 
 -- ---- one after another
 
@@ -28,7 +29,8 @@ pub after_same : {A B F : Type 0} (r : Result A F) (f g : A → Result B F) → 
 after_same (Ok x) f g h = h x
 after_same (Err e) f g h = refl
 
--- what is known after the first tokens, or the first fault of a name among them; the last list has the tokens after them
+-- what is known after the first tokens, or the first fault of a name among them; the last list has the tokens after
+-- them
 abbrev pub along : Environment → TokenScan → List Token → List Token → Resolved TokenScan
 along scope st [] r = Ok st
 along scope st (x ∷ w) r = and_then (judged scope st (x ∷ (w ++ r))) (λ _. along scope (after_token x st) w r)
@@ -75,14 +77,6 @@ six_false false false false false true f h = absurd cc
 six_false false false false false false true h = absurd cc
 six_false false false false false false false h = (refl, refl, refl, refl, refl, refl)
 
-both_true : (a b : Bool) → (a && b) ≡ true → (a ≡ true) × (b ≡ true)
-both_true true b h = (refl, h)
-both_true false b h = absurd cc
-
-not_true : (b : Bool) → not b ≡ true → b ≡ false
-not_true true h = absurd cc
-not_true false h = refl
-
 -- inside, the token after a name decides its role
 inside_role : (last : Option Terminal) (s : List Token) → is_inside last ≡ true → role_of last s ≡ cond (starts (is terminal.LeftBracket) s) role.Element role.Value
 inside_role None s h = absurd cc
@@ -101,7 +95,7 @@ pub quiet_after : (x : Token) (st : TokenScan) → is_quiet (terminal_of x) ≡ 
 quiet_after x st h = ap (with_previous (terminal_of x)) (quiet_terminal (terminal_of x) x.text st h)
 
 pub quiet_judged : (scope : Environment) (x : Token) (s : List Token) (st : TokenScan) → is_quiet (terminal_of x) ≡ true → judged scope st (x ∷ s) ≡ Ok tt
-quiet_judged scope x s st h = rw (not_true (names Body (terminal_of x)) (both_true (is_plain (terminal_of x)) (not (names Body (terminal_of x))) h).1) refl
+quiet_judged scope x s st h = rw (not-true (names Body (terminal_of x)) (and_parts (is_plain (terminal_of x)) (not (names Body (terminal_of x))) h).1) refl
 
 -- inside, a name declares nothing
 name_terminal : (k : Terminal) (text : List ℕ) (st : TokenScan) → names Body k ≡ true → is_inside st.previous ≡ true → after_terminal k text st ≡ st
@@ -124,7 +118,8 @@ name_plain _ h = absurd cc
 
 -- ---- a stretch of tokens inside of an expression
 
--- The tokens s up to the rest r: of their names the verdict says whether they have a fault, and nothing else changes along them.
+-- The tokens s up to the rest r: of their names the verdict says whether they have a fault, and nothing else changes
+-- along them.
 pub record Judges (scope : Environment) (s r : List Token) (verdict : List Variable → Resolved (Unit {0})) : Type 0 where
   pub word : List Token
   pub parts : s ≡ word ++ r
@@ -157,7 +152,7 @@ module _ (scope : Environment) where
         word = x ∷ [];
         parts = e;
         ends = terminal_of x;
-        plain = (both_true (is_plain (terminal_of x)) (not (names Body (terminal_of x))) q).0;
+        plain = (and_parts (is_plain (terminal_of x)) (not (names Body (terminal_of x))) q).0;
         judges = λ st i. rw (quiet_judged scope x r st q) (ap (λ (m : TokenScan). Ok m) (quiet_after x st q));
       }
 

@@ -28,16 +28,10 @@ use Rattle.body_names.specs.Bindings.{Bindings, block_opened, block_closed, next
 use Rattle.body_names.specs.Statements.{Resolver, declare, set, put, in_block, if_else, for_loop, trap, follow, resolved}
 use Rattle.body_laws.specs.Renaming.{named, renamed_word, with_words, renamed_term, renamed, reads, occurs, DeclaredSame, LoopedSame}
 use Rattle.body_names.proofs.Well.{after_ok}
+use Rattle.list_lemmas.proofs.Truth.{first_false, second_false, or-false}
+use Rattle.list_lemmas.proofs.Texts.{bytes_eq-sym_false}
 
 -- ---- tests
-
-first_false : (a b : Bool) → (a || b) ≡ false → a ≡ false
-first_false true b h = h
-first_false false b h = refl
-
-second_false : (a b : Bool) → (a || b) ≡ false → b ≡ false
-second_false true b h = absurd cc
-second_false false b h = h
 
 other_true : (a b : Bool) → (a || b) ≡ true → b ≡ false → a ≡ true
 other_true true b h k = refl
@@ -46,17 +40,6 @@ other_true false b h k = absurd cc
 or_assoc : (a b c : Bool) → (a || (b || c)) ≡ ((a || b) || c)
 or_assoc true b c = refl
 or_assoc false b c = refl
-
-flip_false : (xs ys : List ℕ) → bytes_eq xs ys ≡ false → bytes_eq ys xs ≡ false
-flip_false xs ys h = go (bytes_eq ys xs) refl
-  where
-    go : (b : Bool) → bytes_eq ys xs ≡ b → bytes_eq ys xs ≡ false
-    go false e = e
-    go true e = let same : bytes_eq xs ys ≡ true = (bytes_eq-Decides xs ys).1 (sym ((bytes_eq-Decides ys xs).0 e)) in absurd cc
-
-or_false : (b : Bool) → (b || false) ≡ b
-or_false true = refl
-or_false false = refl
 
 pair_is : {A B : Type 0} (x y : A × B) → (let a : Resolved (A × B) = Ok x in let b : Resolved (A × B) = Ok y in a ≡ b) → x ≡ y
 pair_is x y e = cc
@@ -185,7 +168,7 @@ module _ (scope : Environment) (old new : List ℕ) (pre : List Variable) (v : V
         go true e =
             let there : has w.text post ≡ true = subst (λ (z : List ℕ). has z post ≡ true) (sym ((bytes_eq-Decides w.text old).0 e)) hidden in
             ap (λ (o : Option Variable). variable_or o (no_variable w.text)) (look_hidden post w.text there)
-        go false e = ap (λ (o : Option Variable). variable_or o (no_variable w.text)) (look_apart post w.text (flip_false w.text old e) (flip_false w.text new apart))
+        go false e = ap (λ (o : Option Variable). variable_or o (no_variable w.text)) (look_apart post w.text (bytes_eq-sym_false w.text old e) (bytes_eq-sym_false w.text new apart))
     word_same false hidden w apart = go (bytes_eq w.text old) refl
       where
         go : (b : Bool) → bytes_eq w.text old ≡ b → meaning_of scope (under_new post) (cond b (named new w) w).text ≡ meaning_of scope (under_old post) w.text
@@ -194,7 +177,7 @@ module _ (scope : Environment) (old new : List ℕ) (pre : List Variable) (v : V
             let seen : last_named (under_old post) w.text ≡ Some v = ap (last_named (under_old post)) same ∙ sees v post old is_old hidden in
             ap (λ (o : Option Variable). variable_or o (no_variable new)) (sees other post new refl no_new)
             ∙ sym (ap (λ (o : Option Variable). variable_or o (no_variable w.text)) seen)
-        go false e = ap (λ (o : Option Variable). variable_or o (no_variable w.text)) (look_apart post w.text (flip_false w.text old e) (flip_false w.text new apart))
+        go false e = ap (λ (o : Option Variable). variable_or o (no_variable w.text)) (look_apart post w.text (bytes_eq-sym_false w.text old e) (bytes_eq-sym_false w.text new apart))
 
     value_spot : (b : Bool) (w : Word) (m : Meaning) → value_of (cond b (named new w) w) m ≡ value_of w m
     value_spot true w (meaning.Variable n) = refl
@@ -357,7 +340,7 @@ module _ (scope : Environment) (old new : List ℕ) (pre : List Variable) (v : V
     new_apart u a = has_append new post (u ∷ []) ∙ rw (no_new, a) refl
 
     old_hides : (u : Variable) → has old (post ++ u ∷ []) ≡ (h || bytes_eq u.name old)
-    old_hides u = has_append old post (u ∷ []) ∙ (ap (λ (b : Bool). b || (bytes_eq u.name old || false)) hidden ∙ ap (λ (b : Bool). h || b) (or_false (bytes_eq u.name old)))
+    old_hides u = has_append old post (u ∷ []) ∙ (ap (λ (b : Bool). b || (bytes_eq u.name old || false)) hidden ∙ ap (λ (b : Bool). h || b) (or-false (bytes_eq u.name old)))
 
     -- the variable that a declaration adds
     abbrev added : Bindings → Word → Bool → Variable
@@ -366,7 +349,7 @@ module _ (scope : Environment) (old new : List ℕ) (pre : List Variable) (v : V
     fresh_new : (k : Bindings) (w : Word) (u : Unit {0}) → bytes_eq w.text new ≡ false → require_fresh w (old_of post k) ≡ Ok u → require_fresh w (new_of post k) ≡ Ok tt
     fresh_new k w u a is =
         let none = fresh_is (has w.text (drop k.outside (under_old post))) w u is in
-        let same = drop_has v other w.text (flip_false w.text new a) k.outside pre post none in
+        let same = drop_has v other w.text (bytes_eq-sym_false w.text new a) k.outside pre post none in
         ap (fresh_test w) same
 
     declare_goes : (k : Bindings) (w : Word) (e : Expression) → bytes_eq w.text new ≡ false → reads new e ≡ false → (y : Stmt × Bindings) → declare scope w e (old_of post k) ≡ Ok y

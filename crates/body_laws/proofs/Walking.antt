@@ -1,4 +1,5 @@
--- Single tokens of statements, as they are judged, and when the scan of the tokens agrees with the bindings of the tree.
+-- Single tokens of statements, as they are judged, and when the scan of the tokens agrees with the bindings of the
+-- tree.
 use Rattle.std.proofs.Common.{◌≡◌, ℕ, Bool, true, false, List, ◌∷◌, ◌++◌, Ok, Err, refl, sym, ap, ◌∙◌, subst, arith}
 use Rattle.std.specs.Prelude.{Option, Some, None, ◌||◌, not}
 use Rattle.std.proofs.lemmas.Bool.Decides.{nat_tests}

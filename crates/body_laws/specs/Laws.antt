@@ -16,21 +16,29 @@ use Rattle.body_laws.specs.Declarations.{declarations}
 
 -- A text never declares too many variables where it has no fault, so no name is refused because of their number.
 abbrev pub NameNeverTooMany : Type 0
-NameNeverTooMany = (scope : Environment) (tokens : List Token) (f : JdfFault) → IsNameFault scope tokens f → f.code ≢ TooManyVars
+NameNeverTooMany =
+    (scope : Environment) (tokens : List Token) (f : JdfFault) → IsNameFault scope tokens f → f.code ≢ TooManyVars
 
 -- Beside the locals of the class, a body has a slot for each variable that it declares.
 abbrev pub SlotForEach : Type 0
-SlotForEach = (scope : Environment) (tokens : List Token) (x : Body × List (List ℕ)) (h : IsBody scope tokens x) → x.0.slots ≡ length scope.locals + declarations h.tree
+SlotForEach =
+    (scope : Environment) (tokens : List Token) (x : Body × List (List ℕ)) (h : IsBody scope tokens x)
+    → x.0.slots ≡ length scope.locals + declarations h.tree
 
 -- In a text without a fault the names have the same first fault, or none, by the tokens beside them and by the tree.
 abbrev pub TokensAgreeWithTree : Type 0
-TokensAgreeWithTree = (scope : Environment) (tokens : List Token) (tree : Statements) → IsText productions body tokens tree None → front_fault scope tokens (length tokens) ≡ fault_of (body_of scope tree)
+TokensAgreeWithTree =
+    (scope : Environment) (tokens : List Token) (tree : Statements) → IsText productions body tokens tree None
+    → front_fault scope tokens (length tokens) ≡ fault_of (body_of scope tree)
 
 -- The names at the front of such a text have no fault, or that of the tree.
 abbrev pub FrontsAgreeWithTree : Type 0
-FrontsAgreeWithTree = (scope : Environment) (tokens : List Token) (tree : Statements) (n : ℕ) → IsText productions body tokens tree None
+FrontsAgreeWithTree =
+    (scope : Environment) (tokens : List Token) (tree : Statements) (n : ℕ) → IsText productions body tokens tree None
     → (front_fault scope tokens n ≡ Ok tt) ⊎ (front_fault scope tokens n ≡ fault_of (body_of scope tree))
 
 -- Of the tokens after a front, only the next one changes how the names in the front are judged.
 abbrev pub OnlyTheNextCounts : Type 0
-OnlyTheNextCounts = (scope : Environment) (front rest other : List Token) (n : ℕ) → n < length front → front_fault scope (front ++ rest) n ≡ front_fault scope (front ++ other) n
+OnlyTheNextCounts =
+    (scope : Environment) (front rest other : List Token) (n : ℕ) → n < length front
+    → front_fault scope (front ++ rest) n ≡ front_fault scope (front ++ other) n

@@ -33,13 +33,15 @@ with_words f (Choose c a b) = Choose (with_words f c) (with_words f a) (with_wor
 abbrev pub renamed_term : List ℕ → List ℕ → Expression → Expression
 renamed_term old new e = with_words (renamed_word old new) e
 
--- statements that see a variable, with its new name: it is seen to the end of its block, also in the blocks within, but not where
--- a variable that is declared further in has its name
+-- statements that see a variable, with its new name: it is seen to the end of its block, also in the blocks within, but
+-- not where a variable that is declared further in has its name
 abbrev pub renamed : List ℕ → List ℕ → Statements → Statements
 renamed old new Done = Done
-renamed old new (DeclareThen w e rest) = DeclareThen w (renamed_term old new e) (if bytes_eq w.text old then rest else renamed old new rest)
+renamed old new (DeclareThen w e rest) =
+    DeclareThen w (renamed_term old new e) (if bytes_eq w.text old then rest else renamed old new rest)
 renamed old new (SetThen w e rest) = SetThen (renamed_word old new w) (renamed_term old new e) (renamed old new rest)
-renamed old new (PutThen w at e rest) = PutThen w (renamed_term old new at) (renamed_term old new e) (renamed old new rest)
+renamed old new (PutThen w at e rest) =
+    PutThen w (renamed_term old new at) (renamed_term old new e) (renamed old new rest)
 renamed old new (IfThen c first second rest) =
     IfThen (renamed_term old new c) (renamed old new first) (renamed old new second) (renamed old new rest)
 renamed old new (ForThen w lo hi turn rest) =
@@ -61,25 +63,33 @@ occurs name Done = false
 occurs name (DeclareThen w e rest) = bytes_eq w.text name || (reads name e || occurs name rest)
 occurs name (SetThen w e rest) = bytes_eq w.text name || (reads name e || occurs name rest)
 occurs name (PutThen w at e rest) = reads name at || (reads name e || occurs name rest)
-occurs name (IfThen c first second rest) = reads name c || (occurs name first || (occurs name second || occurs name rest))
-occurs name (ForThen w lo hi turn rest) = bytes_eq w.text name || (reads name lo || (reads name hi || (occurs name turn || occurs name rest)))
+occurs name (IfThen c first second rest) =
+    reads name c || (occurs name first || (occurs name second || occurs name rest))
+occurs name (ForThen w lo hi turn rest) =
+    bytes_eq w.text name || (reads name lo || (reads name hi || (occurs name turn || occurs name rest)))
 occurs name (TrapThen w rest) = occurs name rest
 
 -- the variable of this name that a declaration adds
 abbrev pub declared_variable : Environment → List ℕ → Bindings → Variable
 declared_variable scope name k = record { name = name; slot = next_slot scope k; is_loop_variable = false }
 
--- Giving the variable of a declaration another name, which occurs nowhere else, changes nothing in the statements from there to the
--- end of the block where these have no fault; and of what is known after them it changes only that variable's name.
+-- Giving the variable of a declaration another name, which occurs nowhere else, changes nothing in the statements from
+-- there to the end of the block where these have no fault; and of what is known after them it changes only that
+-- variable's name.
 abbrev pub DeclaredSame : Type 0
-DeclaredSame = (scope : Environment) (k : Bindings) (new : List ℕ) (w : Word) (e : Expression) (rest : Statements) (x : StatementList × Bindings)
+DeclaredSame =
+    (scope : Environment) (k : Bindings) (new : List ℕ) (w : Word) (e : Expression) (rest : Statements)
+    (x : StatementList × Bindings)
     → list_any (λ (v : Variable). bytes_eq v.name new) k.seen ≡ false → occurs new (DeclareThen w e rest) ≡ false
     → resolved scope (DeclareThen w e rest) k ≡ Ok x
     → (more : List Variable) × (x.1.seen ≡ k.seen ++ declared_variable scope w.text k ∷ more)
     × (resolved scope (DeclareThen (named new w) e (renamed w.text new rest)) k ≡ Ok (x.0, record x.1 { seen = k.seen ++ declared_variable scope new k ∷ more }))
 
--- Giving the variable of a loop another name, which does not occur in its block, changes nothing where the loop has no fault.
+-- Giving the variable of a loop another name, which does not occur in its block, changes nothing where the loop has no
+-- fault.
 abbrev pub LoopedSame : Type 0
-LoopedSame = (scope : Environment) (k : Bindings) (new : List ℕ) (w : Word) (lo hi : Expression) (turn : Statements) (x : Stmt × Bindings)
+LoopedSame =
+    (scope : Environment) (k : Bindings) (new : List ℕ) (w : Word) (lo hi : Expression) (turn : Statements)
+    (x : Stmt × Bindings)
     → occurs new turn ≡ false → for_loop scope w lo hi (resolved scope turn) k ≡ Ok x
     → for_loop scope (named new w) lo hi (resolved scope (renamed w.text new turn)) k ≡ Ok x

@@ -19,7 +19,8 @@ pub fn a_slot_for_each_variable()
     ensures { SlotForEach }
 {}
 
-/// A law of `front_fault`, by which names are judged in a broken body: in a text without a fault it agrees with the tree, at each front of the text too, and of the tokens after a front only the next one matters.
+/// A law of `front_fault`, by which names are judged in a broken body: in a text without a fault it agrees with the
+/// tree, at each front of the text too, and of the tokens after a front only the next one matters.
 pub fn names_agree()
     ensures whole { TokensAgreeWithTree }
     ensures front { FrontsAgreeWithTree }

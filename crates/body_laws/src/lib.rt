@@ -1,4 +1,5 @@
-//! Laws of bodies that no program cites: a variable's name does not matter, and the names of a broken text are judged as in a tree.
+//! Laws of bodies that no program cites: a variable's name does not matter, and the names of a broken text are judged
+//! as in a tree.
 #![tactic(auto)]
 
 mod laws;

@@ -1,8 +1,6 @@
 -- The slots of the variables that are seen.
-use Rattle.std.proofs.Common.{◌≡◌, ℕ, zero, suc, ◌<◌, ◌≤◌, Bool, true, false, cond, List, [], ◌∷◌, ◌++◌, length, take, refl, sym, subst, arith}
-use Rattle.std.specs.Prelude.{Some, None, reverse, find, position, nat_lt}
-use Rattle.std.specs.List.{position_or_len}
-use Rattle.std.proofs.lemmas.Bool.{ltb-true}
+use Rattle.std.proofs.Common.{◌≡◌, ℕ, zero, suc, ◌<◌, ◌≤◌, Bool, true, false, cond, List, [], ◌∷◌, ◌++◌, take, sym, subst, arith}
+use Rattle.std.specs.Prelude.{Some, reverse, find}
 use Rattle.std.proofs.lemmas.List.{reverse-append}
 use Rattle.body_names.specs.declared.variable.Variable.{Variable}
 
@@ -42,14 +40,3 @@ slot_found first end p (x ∷ xs) v h e = first_or (p x) e (slot_found first end
 
 pub last_found : (first end : ℕ) (p : Variable → Bool) (xs : List Variable) (v : Variable) → AreSlots first end xs → find p (reverse xs) ≡ Some v → (first ≤ v.slot) × (v.slot < end)
 last_found first end p xs v h e = slot_found first end p (reverse xs) v (slots_reverse first end xs h) e
-
--- a place is one of the list
-pub place_below : {X : Type 0} (p : X → Bool) (xs : List X) (n : ℕ) → position p xs ≡ Some n → n < length xs
-place_below p xs n e = go (nat_lt (position_or_len p xs) (length xs)) refl e
-  where
-    some : (a b : ℕ) → Some a ≡ Some b → a ≡ b
-    some a b e = cc
-
-    go : (b : Bool) → nat_lt (position_or_len p xs) (length xs) ≡ b → cond b (Some (position_or_len p xs)) None ≡ Some n → n < length xs
-    go true t e = let same = some (position_or_len p xs) n e in let below : position_or_len p xs < length xs = ltb-true (position_or_len p xs) (length xs) t in omega (arith, same, below)
-    go false t e = absurd cc

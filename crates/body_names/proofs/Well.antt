@@ -2,7 +2,7 @@
 use Rattle.std.proofs.Common.{◌≡◌, ℕ, ◌<◌, ◌≤◌, Bool, true, false, cond, List, length, Result, Ok, Err, refl, subst, arith}
 use Rattle.std.specs.Prelude.{◌&&◌, nat_lt, Option, Some, None, slice_get}
 use Rattle.std.specs.Str.{bytes_eq}
-use Rattle.std.proofs.lemmas.Bool.{lt-ltb}
+use Rattle.std.proofs.lemmas.Bool.{lt-ltb, and_from}
 use Rattle.term_core.specs.declared.flow.FlowKind.{FlowKind}
 use Rattle.term_core.specs.declared.flow.FlowKind.TheVariants as kind
 use Rattle.term_core.specs.Term.{Term}
@@ -17,16 +17,14 @@ use Rattle.body_names.specs.declared.scope.FlowName.{FlowName}
 use Rattle.body_names.specs.declared.variable.Variable.{Variable}
 use Rattle.body_names.specs.Meanings.{last_named, variable_or, local_named, local_or, integer_or, collection_or_nothing, meaning_of, flow_named}
 use Rattle.body_names.specs.Expressions.{Resolved, value_of, slot_of, readable, writable, if_flow, flow_by, read_flow, written_flow, term_of}
-use Rattle.body_names.proofs.Slots.{AreSlots, last_found, place_below}
+use Rattle.body_names.proofs.Slots.{AreSlots, last_found}
+use Rattle.list_lemmas.proofs.Places.{position_within}
 
 -- ---- what comes before a value
 
 pub after_ok : {A B F : Type 0} (r : Result A F) (f : A → Result B F) (y : B) → and_then r f ≡ Ok y → (x : A) × (r ≡ Ok x) × (f x ≡ Ok y)
 after_ok (Ok x) f y e = (x, refl, e)
 after_ok (Err d) f y e = absurd cc
-
-pub both : (a b : Bool) → a ≡ true → b ≡ true → (a && b) ≡ true
-both a b h k = rw (h, k) refl
 
 value_is : {A : Type 0} (x y : A) → (let a : Resolved A = Ok x in let b : Resolved A = Ok y in a ≡ b) → x ≡ y
 value_is x y e = cc
@@ -66,7 +64,7 @@ module _ (scope : Environment) (end : ℕ) (room : length scope.locals ≤ end) 
         variable_there (last_named seen name) (local_or (local_named scope name) (integer_or (scope.integer name) (collection_or_nothing (scope.is_collection name))))
         (λ v e. last_found (length scope.locals) end (λ (v : Variable). bytes_eq v.name name) seen v slots e)
         (local_there (local_named scope name) (integer_or (scope.integer name) (collection_or_nothing (scope.is_collection name)))
-        (λ n e. place_below (λ (text : List ℕ). bytes_eq text name) scope.locals n e) (global_there (scope.integer name) (scope.is_collection name)))
+        (λ n e. position_within (λ (text : List ℕ). bytes_eq text name) scope.locals n e) (global_there (scope.integer name) (scope.is_collection name)))
 
     -- the meaning of a name is closed
     value_closed : (w : Word) (m : Meaning) (t : Term) → IsThere m → value_of w m ≡ Ok t → is_closed_with end (length scope.flows) t ≡ true
@@ -109,10 +107,10 @@ module _ (scope : Environment) (end : ℕ) (room : length scope.locals ≤ end) 
     flow_below use_of same w m (Some n) below e = let k = flow_is use_of same w n m (slice_get scope.flows n) e in let b = below n refl in omega (arith, k, b)
 
     pub read_below : (w : Word) (m : ℕ) → read_flow scope w ≡ Ok m → m < length scope.flows
-    read_below w m e = flow_below readable readable_is w m (flow_named scope w.text) (λ n h. place_below (λ (x : FlowName). bytes_eq x.name w.text) scope.flows n h) e
+    read_below w m e = flow_below readable readable_is w m (flow_named scope w.text) (λ n h. position_within (λ (x : FlowName). bytes_eq x.name w.text) scope.flows n h) e
 
     pub written_below : (w : Word) (m : ℕ) → written_flow scope w ≡ Ok m → m < length scope.flows
-    written_below w m e = flow_below writable writable_is w m (flow_named scope w.text) (λ n h. place_below (λ (x : FlowName). bytes_eq x.name w.text) scope.flows n h) e
+    written_below w m e = flow_below writable writable_is w m (flow_named scope w.text) (λ n h. position_within (λ (x : FlowName). bytes_eq x.name w.text) scope.flows n h) e
 
     -- ---- expressions
 
@@ -122,18 +120,18 @@ module _ (scope : Environment) (end : ℕ) (room : length scope.locals ≤ end) 
     term_closed (Elem w at) t e =
         let a = after_ok (read_flow scope w) (λ flow. and_then (term_of scope seen at) (λ i. Ok (term.Elem flow i))) t e in
         let b = after_ok (term_of scope seen at) (λ i. Ok (term.Elem a.0 i)) t a.2 in
-        rw (← (value_is (term.Elem a.0 b.0) t b.2)) (both (nat_lt a.0 (length scope.flows)) (is_closed_with end (length scope.flows) b.0) (lt-ltb a.0 (length scope.flows) (read_below w a.0 a.1)) (term_closed at b.0 b.1))
+        rw (← (value_is (term.Elem a.0 b.0) t b.2)) (and_from (nat_lt a.0 (length scope.flows)) (is_closed_with end (length scope.flows) b.0) (lt-ltb a.0 (length scope.flows) (read_below w a.0 a.1)) (term_closed at b.0 b.1))
     term_closed (Unary o x spot) t e =
         let a = after_ok (term_of scope seen x) (λ y. Ok (term.Unary o y)) t e in
         rw (← (value_is (term.Unary o a.0) t a.2)) (term_closed x a.0 a.1)
     term_closed (Binary o x y) t e =
         let a = after_ok (term_of scope seen x) (λ u. and_then (term_of scope seen y) (λ v. Ok (term.Binary o u v))) t e in
         let b = after_ok (term_of scope seen y) (λ v. Ok (term.Binary o a.0 v)) t a.2 in
-        rw (← (value_is (term.Binary o a.0 b.0) t b.2)) (both (is_closed_with end (length scope.flows) a.0) (is_closed_with end (length scope.flows) b.0) (term_closed x a.0 a.1) (term_closed y b.0 b.1))
+        rw (← (value_is (term.Binary o a.0 b.0) t b.2)) (and_from (is_closed_with end (length scope.flows) a.0) (is_closed_with end (length scope.flows) b.0) (term_closed x a.0 a.1) (term_closed y b.0 b.1))
     term_closed (Choose c x y) t e =
         let a = after_ok (term_of scope seen c) (λ u. and_then (term_of scope seen x) (λ v. and_then (term_of scope seen y) (λ w. Ok (term.Choose u v w)))) t e in
         let b = after_ok (term_of scope seen x) (λ v. and_then (term_of scope seen y) (λ w. Ok (term.Choose a.0 v w))) t a.2 in
         let d = after_ok (term_of scope seen y) (λ w. Ok (term.Choose a.0 b.0 w)) t b.2 in
         rw (← (value_is (term.Choose a.0 b.0 d.0) t d.2))
-        (both (is_closed_with end (length scope.flows) a.0 && is_closed_with end (length scope.flows) b.0) (is_closed_with end (length scope.flows) d.0)
-        (both (is_closed_with end (length scope.flows) a.0) (is_closed_with end (length scope.flows) b.0) (term_closed c a.0 a.1) (term_closed x b.0 b.1)) (term_closed y d.0 d.1))
+        (and_from (is_closed_with end (length scope.flows) a.0 && is_closed_with end (length scope.flows) b.0) (is_closed_with end (length scope.flows) d.0)
+        (and_from (is_closed_with end (length scope.flows) a.0) (is_closed_with end (length scope.flows) b.0) (term_closed c a.0 a.1) (term_closed x b.0 b.1)) (term_closed y d.0 d.1))

@@ -1,7 +1,7 @@
 -- The body that is resolved is well made: its statements.
 use Rattle.std.proofs.Common.{◌≡◌, ℕ, ◌+◌, ◌<◌, ◌≤◌, Bool, true, false, cond, List, [], ◌∷◌, length, Ok, refl, subst, arith}
 use Rattle.std.specs.Prelude.{◌&&◌, nat_lt, nat_le, Some, None}
-use Rattle.std.proofs.lemmas.Bool.{lt-ltb, ltb-true}
+use Rattle.std.proofs.lemmas.Bool.{lt-ltb, ltb-true, and_from}
 use Rattle.std.proofs.lemmas.Bool.Decides.{nat_tests}
 use Rattle.jdf_lex.specs.declared.fault.JdfCode.TheVariants.{TooManyVars}
 use Rattle.term_core.specs.declared.body.Stmt.{Stmt}
@@ -21,13 +21,13 @@ use Rattle.body_names.specs.Expressions.{Resolved, fault_at, slot_of, written_fl
 use Rattle.body_names.specs.Bindings.{Bindings, no_bindings, block_opened, block_closed, next_slot, with_variable, require_room, require_fresh, numbered, word_number}
 use Rattle.body_names.specs.Statements.{Resolver, declare, set, put, in_block, if_else, for_loop, trap, follow, resolved}
 use Rattle.body_names.proofs.Slots.{AreSlots, slots_append, slots_take, slots_raise}
-use Rattle.body_names.proofs.Well.{after_ok, both, set_there, written_below, term_closed}
+use Rattle.body_names.proofs.Well.{after_ok, set_there, written_below, term_closed}
 
 pair_is : {A B : Type 0} (x y : A × B) → (let a : Resolved (A × B) = Ok x in let b : Resolved (A × B) = Ok y in a ≡ b) → x ≡ y
 pair_is x y e = cc
 
 slot_test : (locals end n : ℕ) → locals ≤ n → n < end → is_variable locals end n ≡ true
-slot_test locals end n h k = both (nat_le locals n) (nat_lt n end) (grind (arith, nat_tests)) (lt-ltb n end k)
+slot_test locals end n h k = and_from (nat_le locals n) (nat_lt n end) (grind (arith, nat_tests)) (lt-ltb n end k)
 
 module _ (scope : Environment) where
   -- the variables that are seen have slots among those of the variables so far
@@ -46,10 +46,10 @@ module _ (scope : Environment) where
   is_well end (stmt.Trap w) = true
 
   then_well : (end : ℕ) (s : Stmt) (rest : StatementList) → is_well end s ≡ true → are_well_made (length scope.locals) end (length scope.flows) rest ≡ true → are_well_made (length scope.locals) end (length scope.flows) (then s rest) ≡ true
-  then_well end (stmt.Set n e) rest h k = both (is_well end (stmt.Set n e)) (are_well_made (length scope.locals) end (length scope.flows) rest) h k
-  then_well end (stmt.Put flow at e) rest h k = both (is_well end (stmt.Put flow at e)) (are_well_made (length scope.locals) end (length scope.flows) rest) h k
-  then_well end (stmt.If c first second) rest h k = both (is_well end (stmt.If c first second)) (are_well_made (length scope.locals) end (length scope.flows) rest) h k
-  then_well end (stmt.For n lo hi turn) rest h k = both (is_well end (stmt.For n lo hi turn)) (are_well_made (length scope.locals) end (length scope.flows) rest) h k
+  then_well end (stmt.Set n e) rest h k = and_from (is_well end (stmt.Set n e)) (are_well_made (length scope.locals) end (length scope.flows) rest) h k
+  then_well end (stmt.Put flow at e) rest h k = and_from (is_well end (stmt.Put flow at e)) (are_well_made (length scope.locals) end (length scope.flows) rest) h k
+  then_well end (stmt.If c first second) rest h k = and_from (is_well end (stmt.If c first second)) (are_well_made (length scope.locals) end (length scope.flows) rest) h k
+  then_well end (stmt.For n lo hi turn) rest h k = and_from (is_well end (stmt.For n lo hi turn)) (are_well_made (length scope.locals) end (length scope.flows) rest) h k
   then_well end (stmt.Trap w) rest h k = k
 
   -- what follows what was known before, and a test that each number of slots from there on passes
@@ -96,7 +96,7 @@ module _ (scope : Environment) where
         rises = omega arith;
         sound = declared_sound k w.text false sound (has_room w k a.0 a.1);
         well = λ end le.
-            both (is_variable (length scope.locals) end (next_slot scope k)) (is_closed_with end (length scope.flows) d.0)
+            and_from (is_variable (length scope.locals) end (next_slot scope k)) (is_closed_with end (length scope.flows) d.0)
             (slot_test (length scope.locals) end (next_slot scope k) (omega arith) (omega (arith, le))) (closed_at k sound e d.0 d.1 end (omega (arith, le)));
       })
 
@@ -110,7 +110,7 @@ module _ (scope : Environment) where
         rises = omega arith;
         sound = sound;
         well = λ end le.
-            both (is_variable (length scope.locals) end a.0) (is_closed_with end (length scope.flows) b.0)
+            and_from (is_variable (length scope.locals) end a.0) (is_closed_with end (length scope.flows) b.0)
             (slot_test (length scope.locals) end a.0 there.0 (let t = there.1 in omega (arith, t, le))) (closed_at k sound e b.0 b.1 end le);
       })
 
@@ -125,8 +125,8 @@ module _ (scope : Environment) where
         rises = omega arith;
         sound = sound;
         well = λ end le.
-            both (nat_lt a.0 (length scope.flows) && is_closed_with end (length scope.flows) b.0) (is_closed_with end (length scope.flows) d.0)
-            (both (nat_lt a.0 (length scope.flows)) (is_closed_with end (length scope.flows) b.0) (lt-ltb a.0 (length scope.flows) there) (closed_at k sound at b.0 b.1 end le)) (closed_at k sound e d.0 d.1 end le);
+            and_from (nat_lt a.0 (length scope.flows) && is_closed_with end (length scope.flows) b.0) (is_closed_with end (length scope.flows) d.0)
+            (and_from (nat_lt a.0 (length scope.flows)) (is_closed_with end (length scope.flows) b.0) (lt-ltb a.0 (length scope.flows) there) (closed_at k sound at b.0 b.1 end le)) (closed_at k sound e d.0 d.1 end le);
       })
 
   opened_sound : (k : Bindings) → IsSound k → IsSound (block_opened k)
@@ -161,8 +161,8 @@ module _ (scope : Environment) where
         rises = omega (arith, up, on);
         sound = i.sound;
         well = λ end le.
-            both (is_closed_with end (length scope.flows) a.0 && are_well_made (length scope.locals) end (length scope.flows) b.0.0) (are_well_made (length scope.locals) end (length scope.flows) d.0.0)
-            (both (is_closed_with end (length scope.flows) a.0) (are_well_made (length scope.locals) end (length scope.flows) b.0.0) (closed_at k sound c a.0 a.1 end (omega (arith, le, up, on))) (g.well end (omega (arith, le, on)))) (i.well end le);
+            and_from (is_closed_with end (length scope.flows) a.0 && are_well_made (length scope.locals) end (length scope.flows) b.0.0) (are_well_made (length scope.locals) end (length scope.flows) d.0.0)
+            (and_from (is_closed_with end (length scope.flows) a.0) (are_well_made (length scope.locals) end (length scope.flows) b.0.0) (closed_at k sound c a.0 a.1 end (omega (arith, le, up, on))) (g.well end (omega (arith, le, on)))) (i.well end le);
       })
 
   counted_well : (w : Word) (lo hi : Expression) (turn : Resolver) → IsBlock turn → (k : Bindings) → IsSound k → IsStatement k (for_loop scope w lo hi turn k)
@@ -180,9 +180,9 @@ module _ (scope : Environment) where
         rises = omega (arith, up);
         sound = g.1.sound;
         well = λ end le.
-            both (is_variable (length scope.locals) end (next_slot scope k) && is_closed_with end (length scope.flows) b.0 && is_closed_with end (length scope.flows) d.0) (are_well_made (length scope.locals) end (length scope.flows) f.0.0)
-            (both (is_variable (length scope.locals) end (next_slot scope k) && is_closed_with end (length scope.flows) b.0) (is_closed_with end (length scope.flows) d.0)
-            (both (is_variable (length scope.locals) end (next_slot scope k)) (is_closed_with end (length scope.flows) b.0)
+            and_from (is_variable (length scope.locals) end (next_slot scope k) && is_closed_with end (length scope.flows) b.0 && is_closed_with end (length scope.flows) d.0) (are_well_made (length scope.locals) end (length scope.flows) f.0.0)
+            (and_from (is_variable (length scope.locals) end (next_slot scope k) && is_closed_with end (length scope.flows) b.0) (is_closed_with end (length scope.flows) d.0)
+            (and_from (is_variable (length scope.locals) end (next_slot scope k)) (is_closed_with end (length scope.flows) b.0)
             (slot_test (length scope.locals) end (next_slot scope k) (omega arith) (omega (arith, le, up))) (closed_at k sound lo b.0 b.1 end (omega (arith, le, up)))) (closed_at k sound hi d.0 d.1 end (omega (arith, le, up)))) (g.1.well end le);
       })
 

@@ -27,7 +27,8 @@ no_bindings = record { seen = []; outside = 0; declared = 0; words = [] }
 
 -- the bindings of a table of the code
 abbrev pub bindings_of : BindingTable → Bindings
-bindings_of names = record { seen = names.seen.items; outside = names.outside; declared = names.declared; words = names.words }
+bindings_of names =
+    record { seen = names.seen.items; outside = names.outside; declared = names.declared; words = names.words }
 
 -- inside of a block that opens here
 abbrev pub block_opened : Bindings → Bindings
@@ -46,13 +47,15 @@ abbrev pub with_variable : Environment → List ℕ → Bool → Bindings → Bi
 with_variable scope name is_loop_variable k =
     record k { seen = k.seen ++ record { name = name; slot = next_slot scope k; is_loop_variable = is_loop_variable } ∷ []; declared = k.declared + 1 }
 
--- There is room for one more variable. In a body that was read there always is: its text was refused at the `int` or `for` of the 257th.
+-- There is room for one more variable. In a body that was read there always is: its text was refused at the `int` or
+-- `for` of the 257th.
 abbrev pub require_room : Word → Bindings → Resolved (Unit {0})
 require_room w k = if nat_lt k.declared 256 then Ok tt else fault_at w TooManyVars
 
 -- the innermost block has no variable of this name
 abbrev pub require_fresh : Word → Bindings → Resolved (Unit {0})
-require_fresh w k = if list_any (λ (v : Variable). bytes_eq v.name w.text) (drop k.outside k.seen) then fault_at w NameTwice else Ok tt
+require_fresh w k =
+    if list_any (λ (v : Variable). bytes_eq v.name w.text) (drop k.outside k.seen) then fault_at w NameTwice else Ok tt
 
 -- the number of a trap word: its number among the words so far, or the next one
 abbrev pub numbered : List ℕ → Bindings → Option ℕ → ℕ × Bindings

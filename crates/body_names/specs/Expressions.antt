@@ -1,4 +1,5 @@
--- The expressions of a body with their names resolved, or the first name in the text's order that has a fault. Source: this project's own choice.
+-- The expressions of a body with their names resolved, or the first name in the text's order that has a fault. Source:
+-- this project's own choice.
 use Rattle.std.specs.Prelude.{ℕ, List, Option, Some, None, Result, Ok, Err, slice_get}
 use Rattle.jdf_lex.specs.declared.fault.JdfCode.{JdfCode}
 use Rattle.jdf_lex.specs.declared.fault.JdfCode.TheVariants.{UnknownName, WrongKind, CtlMixed, ReadAssigned, NotAssignable}
@@ -74,8 +75,10 @@ written_flow scope w = flow_by writable scope w (flow_named scope w.text)
 abbrev pub term_of : Environment → List Variable → Expression → Resolved Term
 term_of scope seen (Num z spot) = Ok (term.Num z)
 term_of scope seen (Name w) = value_of w (meaning_of scope seen w.text)
-term_of scope seen (Elem w at) = and_then (read_flow scope w) (λ flow. and_then (term_of scope seen at) (λ i. Ok (term.Elem flow i)))
+term_of scope seen (Elem w at) =
+    and_then (read_flow scope w) (λ flow. and_then (term_of scope seen at) (λ i. Ok (term.Elem flow i)))
 term_of scope seen (Unary o a spot) = and_then (term_of scope seen a) (λ x. Ok (term.Unary o x))
-term_of scope seen (Binary o a b) = and_then (term_of scope seen a) (λ x. and_then (term_of scope seen b) (λ y. Ok (term.Binary o x y)))
+term_of scope seen (Binary o a b) =
+    and_then (term_of scope seen a) (λ x. and_then (term_of scope seen b) (λ y. Ok (term.Binary o x y)))
 term_of scope seen (Choose c a b) =
     and_then (term_of scope seen c) (λ x. and_then (term_of scope seen a) (λ y. and_then (term_of scope seen b) (λ z. Ok (term.Choose x y z))))

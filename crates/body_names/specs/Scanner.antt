@@ -4,4 +4,10 @@ use Rattle.body_names.specs.Bindings.{bindings_of}
 use Rattle.body_names.specs.TokenScan.{TokenScan}
 
 abbrev pub scan_of : Scanner → TokenScan
-scan_of scanner = record { bindings = bindings_of scanner.bindings; open_blocks = scanner.open_blocks.items; naming = scanner.naming; previous = scanner.previous }
+scan_of scanner =
+    record {
+      bindings = bindings_of scanner.bindings;
+      open_blocks = scanner.open_blocks.items;
+      naming = scanner.naming;
+      previous = scanner.previous;
+    }

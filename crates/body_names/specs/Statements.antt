@@ -1,4 +1,5 @@
--- The statements of a body with their names resolved, or the first name in the text's order that has a fault. Source: this project's own choice.
+-- The statements of a body with their names resolved, or the first name in the text's order that has a fault. Source:
+-- this project's own choice.
 use Rattle.std.specs.Prelude.{ℕ, ◌+◌, true, false, List, length, Ok}
 use Rattle.term_core.specs.declared.body.Body.{Body}
 use Rattle.term_core.specs.declared.body.Stmt.{Stmt}
@@ -29,7 +30,9 @@ declare scope w e k =
 
 -- `x = e;`
 abbrev pub set : Environment → Word → Expression → Bindings → Resolved (Stmt × Bindings)
-set scope w e k = and_then (slot_of w (meaning_of scope k.seen w.text)) (λ n. and_then (term_of scope k.seen e) (λ x. Ok (stmt.Set n x, k)))
+set scope w e k =
+    and_then (slot_of w (meaning_of scope k.seen w.text)) (λ n.
+    and_then (term_of scope k.seen e) (λ x. Ok (stmt.Set n x, k)))
 
 -- `A[at] = e;`
 abbrev pub put : Environment → Word → Expression → Expression → Bindings → Resolved (Stmt × Bindings)
@@ -65,8 +68,10 @@ resolved scope Done k = Ok (list.Done, k)
 resolved scope (DeclareThen w e rest) k = follow (declare scope w e k) (resolved scope rest)
 resolved scope (SetThen w e rest) k = follow (set scope w e k) (resolved scope rest)
 resolved scope (PutThen w at e rest) k = follow (put scope w at e k) (resolved scope rest)
-resolved scope (IfThen c first second rest) k = follow (if_else scope c (resolved scope first) (resolved scope second) k) (resolved scope rest)
-resolved scope (ForThen w lo hi turn rest) k = follow (for_loop scope w lo hi (resolved scope turn) k) (resolved scope rest)
+resolved scope (IfThen c first second rest) k =
+    follow (if_else scope c (resolved scope first) (resolved scope second) k) (resolved scope rest)
+resolved scope (ForThen w lo hi turn rest) k =
+    follow (for_loop scope w lo hi (resolved scope turn) k) (resolved scope rest)
 resolved scope (TrapThen w rest) k = follow (trap w k) (resolved scope rest)
 
 -- one statement alone

@@ -1,4 +1,5 @@
--- The names at the front of a body that is broken further on. Such a body has no tree, so each name is judged by the tokens beside it.
+-- The names at the front of a body that is broken further on. Such a body has no tree, so each name is judged by the
+-- tokens beside it.
 -- Source: this project's own choice.
 use Rattle.std.specs.Prelude.{ℕ, suc, zero, ◌-◌, Bool, true, false, ◌||◌, List, [], ◌∷◌, ◌++◌, length, take, Option, Some, None, Ok, if◌then◌else◌, slice_get}
 use Rattle.grammar_core.specs.declared.token.Token.{Token}
@@ -20,7 +21,8 @@ use Rattle.body_names.specs.Bindings.{Bindings, no_bindings, block_opened, requi
 -- what is known at a token of a body
 pub record TokenScan : Type 0 where
   pub bindings : Bindings
-  -- for each block that is open, the innermost last, how many variables were seen before it, and how many of these were of blocks around
+  -- for each block that is open, the innermost last, how many variables were seen before it, and how many of these were
+  -- of blocks around
   pub open_blocks : List (ℕ × ℕ)
   -- the variable whose declaration has begun
   pub naming : Option (List ℕ)
@@ -35,12 +37,14 @@ at_first = record { bindings = no_bindings; open_blocks = []; naming = None; pre
 
 -- a variable is seen from here on; its slot does not matter
 abbrev pub with_seen : List ℕ → Bool → Bindings → Bindings
-with_seen name is_loop_variable k = record k { seen = k.seen ++ record { name = name; slot = 0; is_loop_variable = is_loop_variable } ∷ [] }
+with_seen name is_loop_variable k =
+    record k { seen = k.seen ++ record { name = name; slot = 0; is_loop_variable = is_loop_variable } ∷ [] }
 
 -- the declaration that has begun takes effect
 abbrev pub declared_by : Option (List ℕ) → Bool → TokenScan → TokenScan
 declared_by None is_loop_variable st = st
-declared_by (Some name) is_loop_variable st = record st { bindings = with_seen name is_loop_variable st.bindings; naming = None }
+declared_by (Some name) is_loop_variable st =
+    record st { bindings = with_seen name is_loop_variable st.bindings; naming = None }
 
 abbrev pub declared : Bool → TokenScan → TokenScan
 declared is_loop_variable st = declared_by st.naming is_loop_variable st
@@ -68,7 +72,10 @@ previous_is k (Some j) = is k j
 
 -- a name begins a declaration after `int` and after `for`
 abbrev pub named_by : List ℕ → TokenScan → TokenScan
-named_by name st = if previous_is terminal.Int st.previous || previous_is terminal.For st.previous then record st { naming = Some name } else st
+named_by name st =
+    if previous_is terminal.Int st.previous || previous_is terminal.For st.previous
+    then record st { naming = Some name }
+    else st
 
 -- a variable is seen after the `;` of its declaration, and that of a loop in the loop's block
 abbrev pub after_terminal : Terminal → List ℕ → TokenScan → TokenScan
@@ -113,13 +120,15 @@ judged_as role.Value scope k w = fault_of (value_of w (meaning_of scope k.seen w
 -- the first of the tokens, where it is a name
 abbrev pub judged : Environment → TokenScan → List Token → Resolved (Unit {0})
 judged scope st [] = Ok tt
-judged scope st (x ∷ s) = if names Body (terminal_of x) then judged_as (role_of st.previous s) scope st.bindings (word_of x) else Ok tt
+judged scope st (x ∷ s) =
+    if names Body (terminal_of x) then judged_as (role_of st.previous s) scope st.bindings (word_of x) else Ok tt
 
 -- the first fault of the names among so many tokens from here on
 abbrev pub judged_among : Environment → TokenScan → ℕ → List Token → Resolved (Unit {0})
 judged_among scope st zero s = Ok tt
 judged_among scope st (suc n) [] = Ok tt
-judged_among scope st (suc n) (x ∷ s) = and_then (judged scope st (x ∷ s)) (λ _. judged_among scope (after_token x st) n s)
+judged_among scope st (suc n) (x ∷ s) =
+    and_then (judged scope st (x ∷ s)) (λ _. judged_among scope (after_token x st) n s)
 
 -- the first fault of the names among the first n tokens of a body
 abbrev pub front_fault : Environment → List Token → ℕ → Resolved (Unit {0})

@@ -91,7 +91,10 @@ pub(crate) fn add_variable(
     is_loop_variable: bool,
 ) -> Result<(), OutOfMemory>
     requires { bindings.old.declared < 256 }
-    ensures { OnOk result (bindings_of bindings.new ≡ with_variable (environment_of context.now.scope.now) word.now.text is_loop_variable (bindings_of bindings.old)) }
+    ensures { OnOk result
+        (bindings_of bindings.new
+        ≡ with_variable (environment_of context.now.scope.now) word.now.text is_loop_variable
+        (bindings_of bindings.old)) }
 {
     let slot = next_slot(context.scope, bindings);
     let name = Text::of(context.alloc, word.text.bytes())?;
@@ -106,7 +109,8 @@ pub(crate) fn add_variable(
 
 /// Closes a block, before which so many variables were seen, so many of them of blocks around.
 pub(crate) fn close(bindings: &mut BindingTable, seen: usize, outside: usize)
-    ensures { bindings_of bindings.new ≡ record (bindings_of bindings.old) { seen = take seen bindings.old.seen.items; outside = outside } }
+    ensures { bindings_of bindings.new
+        ≡ record (bindings_of bindings.old) { seen = take seen bindings.old.seen.items; outside = outside } }
 {
     bindings.seen.truncate(seen);
     bindings.outside = outside;

@@ -34,7 +34,8 @@ pub(crate) fn value_of(word: &Word, meaning: Meaning) -> Result<Expr, JdfRefusal
 
 /// The slot of a name that a statement assigns to.
 pub(crate) fn slot_of(scope: &Scope, seen: &[Variable], word: &Word) -> Result<u16, JdfRefusal>
-    ensures { Returns (λ n. n) result (slot_of word.now (meaning_of (environment_of scope.now) seen.now word.now.text)) }
+    ensures { Returns (λ n. n) result
+        (slot_of word.now (meaning_of (environment_of scope.now) seen.now word.now.text)) }
 {
     match meaning_of(scope, seen, &word.text) {
         Meaning::Variable(slot) => Ok(slot),
@@ -60,7 +61,8 @@ pub(crate) fn term_of(
 
 #[tactic(auto, using(crate::proofs::Refusals::refuses_before))]
 fn node_term(context: &Context, seen: &[Variable], node: &ExprNode) -> Result<Expr, JdfRefusal>
-    ensures { Returns (λ e. e) result (term_of (environment_of context.now.scope.now) seen.now (expression_of node.now)) }
+    ensures { Returns (λ e. e) result
+        (term_of (environment_of context.now.scope.now) seen.now (expression_of node.now)) }
 {
     match node {
         ExprNode::Num(value, _) => Ok(Expr::num(*value)),
@@ -96,7 +98,8 @@ fn binary(
     a: Expr,
     b: Result<Expr, JdfRefusal>,
 ) -> Result<Expr, JdfRefusal>
-    ensures { (second : Resolved Term) → Returns (λ e. e) b second → Returns (λ e. e) result (and_then second (λ y. Ok (Binary operator a y))) }
+    ensures { (second : Resolved Term) → Returns (λ e. e) b second
+        → Returns (λ e. e) result (and_then second (λ y. Ok (Binary operator a y))) }
 {
     Ok(Expr::binary(alloc, operator, a, b?)?)
 }
@@ -109,7 +112,8 @@ fn choose(
     a: Result<Expr, JdfRefusal>,
     b: Result<Expr, JdfRefusal>,
 ) -> Result<Expr, JdfRefusal>
-    ensures { (first second : Resolved Term) → Returns (λ e. e) a first → Returns (λ e. e) b second → Returns (λ e. e) result (and_then first (λ y. and_then second (λ z. Ok (Choose c y z)))) }
+    ensures { (first second : Resolved Term) → Returns (λ e. e) a first → Returns (λ e. e) b second
+        → Returns (λ e. e) result (and_then first (λ y. and_then second (λ z. Ok (Choose c y z)))) }
 {
     let a = a?;
     Ok(Expr::choose(alloc, c, a, b?)?)

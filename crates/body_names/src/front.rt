@@ -72,7 +72,8 @@ fn judge(
     }
 }
 
-/// The first fault of a name among the first `count` tokens of a body, which is broken at the token after them; or none.
+/// The first fault of a name among the first `count` tokens of a body, which is broken at the token after them; or
+/// none.
 pub fn front_fault(
     alloc: Global,
     scope: &Scope,
@@ -94,7 +95,8 @@ fn judge_all(
     count: usize,
 ) -> Result<(), JdfRefusal>
     requires { count ≤ length tokens.now }
-    ensures { Returns (λ _. tt) result (judged_among (environment_of scope.now) (scan_of scanner.old) count tokens.now) }
+    ensures { Returns (λ _. tt) result
+        (judged_among (environment_of scope.now) (scan_of scanner.old) count tokens.now) }
 {
     for index in 0..count {
         judge(alloc, scope, scanner, &tokens[index..])?;

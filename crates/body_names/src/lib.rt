@@ -1,4 +1,5 @@
-//! Resolves the names of a body: its statements with slots, numbers and flows for names, or the first name that has a fault.
+//! Resolves the names of a body: its statements with slots, numbers and flows for names, or the first name that has a
+//! fault.
 #![tactic(auto)]
 
 mod bindings;

@@ -12,7 +12,8 @@ use ptg_base::Text;
 // The variable of this name that was declared last. It recurses as deep as there are variables, at most 256.
 #[tactic(auto, using(crate::proofs::Last::last_is, crate::proofs::Last::last_is_before))]
 fn last_named<'a>(seen: &'a [Variable], name: &[u8]) -> Option<&'a Variable>
-    ensures { MatchOption result (last_named seen.now name.now ≡ None) (λ v. last_named seen.now name.now ≡ Some v.now) }
+    ensures { MatchOption result (last_named seen.now name.now ≡ None) (λ v.
+        last_named seen.now name.now ≡ Some v.now) }
 {
     let (last, front) = seen.split_last()?;
     if last.name.bytes() == name {

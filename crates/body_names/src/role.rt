@@ -11,7 +11,8 @@ use jdf_lex::Token;
 pub enum Role {
     /// It names a variable that `int` declares.
     Declared,
-    /// It is not looked up: a loop's variable, a trap word, or the name that begins a statement, where neither `=` nor `[` follows.
+    /// It is not looked up: a loop's variable, a trap word, or the name that begins a statement, where neither `=` nor
+    /// `[` follows.
     NotLookedUp,
     /// A variable is assigned.
     Assigned,

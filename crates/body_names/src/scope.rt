@@ -14,7 +14,8 @@ pub struct FlowName {
     pub kind: FlowKind,
 }
 
-/// What the names in a body may mean beside its own variables. Of two definitions or two flows of one name it is the first.
+/// What the names in a body may mean beside its own variables. Of two definitions or two flows of one name it is the
+/// first.
 #[derive(Drop)]
 pub struct Scope<'a> {
     /// The definitions of the class, in the text's order: at most 16.

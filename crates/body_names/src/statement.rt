@@ -23,7 +23,8 @@ fn declare(
     word: &Word,
     value: &ExprTree,
 ) -> Result<Stmt, JdfRefusal>
-    ensures { Returns (λ s. (s, bindings_of bindings.new)) result (declare (environment_of context.now.scope.now) word.now value.now (bindings_of bindings.old)) }
+    ensures { Returns (λ s. (s, bindings_of bindings.new)) result
+        (declare (environment_of context.now.scope.now) word.now value.now (bindings_of bindings.old)) }
 {
     require_room(word, bindings)?;
     require_fresh(word, bindings)?;
@@ -40,7 +41,8 @@ fn set(
     word: &Word,
     value: &ExprTree,
 ) -> Result<Stmt, JdfRefusal>
-    ensures { Returns (λ s. (s, bindings_of bindings.now)) result (set (environment_of context.now.scope.now) word.now value.now (bindings_of bindings.now)) }
+    ensures { Returns (λ s. (s, bindings_of bindings.now)) result
+        (set (environment_of context.now.scope.now) word.now value.now (bindings_of bindings.now)) }
 {
     let seen = bindings.seen.as_slice();
     let slot = slot_of(context.scope, seen, word)?;
@@ -56,7 +58,8 @@ fn put(
     at: &ExprTree,
     value: &ExprTree,
 ) -> Result<Stmt, JdfRefusal>
-    ensures { Returns (λ s. (s, bindings_of bindings.now)) result (put (environment_of context.now.scope.now) word.now at.now value.now (bindings_of bindings.now)) }
+    ensures { Returns (λ s. (s, bindings_of bindings.now)) result
+        (put (environment_of context.now.scope.now) word.now at.now value.now (bindings_of bindings.now)) }
 {
     let seen = bindings.seen.as_slice();
     let flow = written_flow(context.scope, word)?;
@@ -80,7 +83,8 @@ fn in_block(
     bindings: &mut BindingTable,
     tree: &BlockTree,
 ) -> Result<Block, JdfRefusal>
-    ensures { Returns (λ b. (b, bindings_of bindings.new)) result (in_block block_opened (resolved (environment_of context.now.scope.now) tree.now) (bindings_of bindings.old)) }
+    ensures { Returns (λ b. (b, bindings_of bindings.new)) result
+        (in_block block_opened (resolved (environment_of context.now.scope.now) tree.now) (bindings_of bindings.old)) }
 {
     let seen = bindings.seen.len();
     let outside = bindings.outside;
@@ -99,7 +103,10 @@ fn if_else(
     first: &BlockTree,
     second: &BlockTree,
 ) -> Result<Stmt, JdfRefusal>
-    ensures { Returns (λ s. (s, bindings_of bindings.new)) result (if_else (environment_of context.now.scope.now) condition.now (resolved (environment_of context.now.scope.now) first.now) (resolved (environment_of context.now.scope.now) second.now) (bindings_of bindings.old)) }
+    ensures { Returns (λ s. (s, bindings_of bindings.new)) result
+        (if_else (environment_of context.now.scope.now) condition.now
+        (resolved (environment_of context.now.scope.now) first.now)
+        (resolved (environment_of context.now.scope.now) second.now) (bindings_of bindings.old)) }
 {
     let condition = term_of(context, bindings.seen.as_slice(), condition)?;
     let first = in_block(context, bindings, first)?;
@@ -123,7 +130,9 @@ fn for_loop(
     bounds: Bounds,
     turn: &BlockTree,
 ) -> Result<Stmt, JdfRefusal>
-    ensures { Returns (λ s. (s, bindings_of bindings.new)) result (for_loop (environment_of context.now.scope.now) word.now bounds.entry.low.now bounds.entry.high.now (resolved (environment_of context.now.scope.now) turn.now) (bindings_of bindings.old)) }
+    ensures { Returns (λ s. (s, bindings_of bindings.new)) result
+        (for_loop (environment_of context.now.scope.now) word.now bounds.entry.low.now bounds.entry.high.now
+        (resolved (environment_of context.now.scope.now) turn.now) (bindings_of bindings.old)) }
 {
     require_room(word, bindings)?;
     let low = term_of(context, bindings.seen.as_slice(), bounds.low)?;
@@ -144,7 +153,8 @@ fn statement(
     bindings: &mut BindingTable,
     tree: &StmtTree,
 ) -> Result<Stmt, JdfRefusal>
-    ensures { Returns (λ s. (s, bindings_of bindings.new)) result (statement_of (environment_of context.now.scope.now) tree.now (bindings_of bindings.old)) }
+    ensures { Returns (λ s. (s, bindings_of bindings.new)) result
+        (statement_of (environment_of context.now.scope.now) tree.now (bindings_of bindings.old)) }
 {
     match tree {
         StmtTree::Declare(word, value) => declare(context, bindings, word, value),
@@ -167,7 +177,8 @@ pub(crate) fn block(
     bindings: &mut BindingTable,
     tree: &BlockTree,
 ) -> Result<Block, JdfRefusal>
-    ensures { Returns (λ b. (b, bindings_of bindings.new)) result (resolved (environment_of context.now.scope.now) tree.now (bindings_of bindings.old)) }
+    ensures { Returns (λ b. (b, bindings_of bindings.new)) result
+        (resolved (environment_of context.now.scope.now) tree.now (bindings_of bindings.old)) }
 {
     let mut list = Seq::new(context.alloc);
     for statement_tree in tree.as_slice() {

@@ -30,8 +30,8 @@ pub struct BindingTable {
 #[derive(Drop)]
 pub struct Scanner {
     pub bindings: BindingTable,
-    /// For each block that is open, the innermost last, how many variables were seen before it, and how many of these were
-    /// of blocks around.
+    /// For each block that is open, the innermost last, how many variables were seen before it, and how many of these
+    /// were of blocks around.
     pub open_blocks: Vec<(usize, usize)>,
     /// The variable whose declaration has begun.
     pub naming: Option<Text>,

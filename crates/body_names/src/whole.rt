@@ -15,8 +15,9 @@ use ptg_base::{Seq, Text};
 use std::alloc::Global;
 use term_core::Body;
 
-/// Resolves the names of a body: the body and its trap words, in the order of their first use; or the first fault of a name, in the text's order: NameTwice, UnknownName, WrongKind, CtlMixed, ReadAssigned,
-/// NotAssignable, or TooManyVars at the name of the 257th variable. More trap words than a 32-bit number can count are OutOfMemory.
+/// Resolves the names of a body: the body and its trap words, in the order of their first use; or the first fault of a
+/// name, in the text's order: NameTwice, UnknownName, WrongKind, CtlMixed, ReadAssigned, NotAssignable, or TooManyVars
+/// at the name of the 257th variable. More trap words than a 32-bit number can count are OutOfMemory.
 #[tactic(auto, using(crate::proofs::Refusals::refuses_before))]
 pub fn resolve(
     alloc: Global,

@@ -66,7 +66,8 @@ bound_is s (suc i) opened closed e f = rw (e, f, begins_alike (is terminal.LeftB
 next_of : (q : Terminal → Bool) (b : Bool) (x : Token) (r rest : List Token) → rest ≡ x ∷ r → b ≡ starts q rest → q (terminal_of x) ≡ b
 next_of q b x r rest e h = sym (h ∙ ap (starts q) e)
 
--- what the code knows at a token: those before it are counted, and the limit is as far on as the tokens from here on say
+-- what the code knows at a token: those before it are counted, and the limit is as far on as the tokens from here on
+-- say
 pub record BlocksSoFar (s : List Token) (i opened closed : ℕ) : Type 0 where
   pub opens : opened ≡ how_many (is terminal.LeftBrace) (take i s)
   pub closes : closed ≡ how_many (is terminal.RightBrace) (take i s)

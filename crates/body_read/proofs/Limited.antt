@@ -1,7 +1,7 @@
 -- The two limits of a body as one: the smaller of their indices, and its code.
 use Rattle.std.proofs.Common.{◌≡◌, ℕ, suc, ◌-◌, ◌+◌, ◌≤◌, ◌<◌, Bool, true, false, cond, List, [], ◌∷◌, ◌++◌, length, take, drop, Ok, Err, refl, inl, inr, sym, ap, ◌∙◌, arith}
 use Rattle.std.specs.Prelude.{◌==◌, nat_lt, nat_le, min, if◌then◌else◌}
-use Rattle.std.proofs.lemmas.Bool.{le-ltb, lt-ltb, cases_lt}
+use Rattle.std.proofs.lemmas.Bool.{le-ltb, lt-ltb, cases_lt, le-leb, lt-leb}
 use Rattle.std.proofs.lemmas.Bool.Decides.{nat_tests}
 use Rattle.grammar_core.specs.declared.token.Token.{Token}
 use Rattle.grammar_core.specs.declared.code.Code.{Code}
@@ -68,12 +68,6 @@ left_of (Err n) = n.0
 
 -- ---- one limit after another
 
-yes_le : (a b : ℕ) → a ≤ b → nat_le a b ≡ true
-yes_le a b h = grind (arith, nat_tests)
-
-no_le : (a b : ℕ) → b < a → nat_le a b ≡ false
-no_le a b h = grind (arith, nat_tests)
-
 -- what a limit makes of reading that took n of so many tokens
 abbrev limit : {A : Type 0} → ℕ → ℕ → Code → ℕ → Read A → Read A
 limit size l e n r = cond (nat_lt l n) (Err (size - l, e)) r
@@ -84,18 +78,18 @@ module _ {A : Type 0} (a b size : ℕ) (c d : Code) where
     | inl lt ↦
         let low : min a b ≡ b = omega (arith, lt) in
         let again : size - (size - a) ≡ a = omega (arith, h, fits) in
-        rw (again, low, no_le a b lt, lt-ltb b a lt, lt-ltb b n (omega (arith, lt, h))) refl
+        rw (again, low, lt-leb a b lt, lt-ltb b a lt, lt-ltb b n (omega (arith, lt, h))) refl
     | inr le ↦
         let low : min a b ≡ a = omega (arith, le) in
         let again : size - (size - a) ≡ a = omega (arith, h, fits) in
-        rw (again, low, yes_le a b le, le-ltb b a le, lt-ltb a n h) refl
+        rw (again, low, le-leb a b le, le-ltb b a le, lt-ltb a n h) refl
   ]
 
   kept : (n : ℕ) (r : Read A) → n ≤ a → limit size b d n r ≡ limit size (min a b) (cond (nat_le a b) c d) n r
   kept n r h = elim (cases_lt b n) [
     | inl lt ↦
         let low : min a b ≡ b = omega (arith, lt, h) in
-        rw (low, no_le a b (omega (arith, lt, h)), lt-ltb b n lt) refl
+        rw (low, lt-leb a b (omega (arith, lt, h)), lt-ltb b n lt) refl
     | inr le ↦ rw (le-ltb b n le, le-ltb (min a b) n (omega (arith, le, h))) refl
   ]
 

@@ -75,17 +75,21 @@ fn whole(alloc: Global, tokens: &[Token]) -> Result<BlockTree, ReadRefusal>
     Ok(tree)
 }
 
-/// Reads the statements of a body; or says how many tokens are left at the first fault of its text, and which fault that is.
+/// Reads the statements of a body; or says how many tokens are left at the first fault of its text, and which fault
+/// that is.
 /// What its names mean is not looked at.
 pub fn tree(alloc: Global, tokens: &[Token]) -> Result<BlockTree, ReadRefusal>
     // What is read is the tree of the text.
     ensures found { IfOk result (λ tree. IsText productions body tokens.now tree None) }
     // A text that has a tree is read, unless memory runs out.
-    ensures only { (tree : Statements) → IsText productions body tokens.now tree None → (result ≡ Ok tree) ⊎ (result ≡ Err OutOfMemory) }
+    ensures only { (tree : Statements) → IsText productions body tokens.now tree None
+        → (result ≡ Ok tree) ⊎ (result ≡ Err OutOfMemory) }
     // A fault that is answered is the first one of the text.
-    ensures fault { (left : ℕ) → (c : Code) → result ≡ Err (fault_with left c) → (left ≤ length tokens.now) × IsFirstFault productions body tokens.now (length tokens.now - left) c }
+    ensures fault { (left : ℕ) → (c : Code) → result ≡ Err (fault_with left c)
+        → (left ≤ length tokens.now) × IsFirstFault productions body tokens.now (length tokens.now - left) c }
     // Where the text has a first fault that is the answer, unless memory runs out.
-    ensures refused { (p : ℕ) → (c : Code) → IsFirstFault productions body tokens.now p c → (result ≡ Err (fault_with (length tokens.now - p) c)) ⊎ (result ≡ Err OutOfMemory) }
+    ensures refused { (p : ℕ) → (c : Code) → IsFirstFault productions body tokens.now p c
+        → (result ≡ Err (fault_with (length tokens.now - p) c)) ⊎ (result ≡ Err OutOfMemory) }
 {
     whole(alloc, tokens)
 }
@@ -97,11 +101,14 @@ pub fn read(alloc: Global, tokens: &[Token], finish: Spot) -> Result<BlockTree, 
     // What is read is the tree of the text.
     ensures found { IfOk result (λ tree. IsText productions body tokens.now tree None) }
     // A text that has a tree is read, unless memory runs out.
-    ensures only { (tree : Statements) → IsText productions body tokens.now tree None → (result ≡ Ok tree) ⊎ (result ≡ Err OutOfMemory) }
+    ensures only { (tree : Statements) → IsText productions body tokens.now tree None
+        → (result ≡ Ok tree) ⊎ (result ≡ Err OutOfMemory) }
     // A fault that is answered is the first one of the text.
-    ensures fault { (f : JdfFault) → result ≡ Err (Fault f) → (p : ℕ) × (c : Code) × IsFirstFault productions body tokens.now p c × (f ≡ fault_at tokens.now finish p c) }
+    ensures fault { (f : JdfFault) → result ≡ Err (Fault f)
+        → (p : ℕ) × (c : Code) × IsFirstFault productions body tokens.now p c × (f ≡ fault_at tokens.now finish p c) }
     // Where the text has a first fault that is the answer, unless memory runs out.
-    ensures refused { (p : ℕ) → (c : Code) → IsFirstFault productions body tokens.now p c → (result ≡ Err (Fault (fault_at tokens.now finish p c))) ⊎ (result ≡ Err OutOfMemory) }
+    ensures refused { (p : ℕ) → (c : Code) → IsFirstFault productions body tokens.now p c
+        → (result ≡ Err (Fault (fault_at tokens.now finish p c))) ⊎ (result ≡ Err OutOfMemory) }
 {
     match whole(alloc, tokens) {
         Ok(tree) => Ok(tree),

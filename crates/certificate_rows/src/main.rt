@@ -1,5 +1,6 @@
-//! Rows of certificates: each is a job with its certificate, written down in a file, and what the checkers say of that and of all
-//! lists that differ from it in one entry. The words name the files. Prints the rows that came out otherwise.
+//! Rows of certificates: each is a job with its certificate, written down in a file, and what the checkers say of that
+//! and of all lists that differ from it in one entry. The words name the files. Prints the rows that came out
+//! otherwise.
 #![tactic(auto)]
 
 mod certificates;

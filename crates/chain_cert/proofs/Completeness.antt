@@ -9,8 +9,11 @@ use Rattle.plan_core.specs.declared.plan.Plan.{Plan}
 use Rattle.plan_core.specs.declared.class.ClassPlan.{ClassPlan}
 use Rattle.body_eval.specs.Meaning.{body_meaning}
 use Rattle.coll_data.specs.Data.{Data}
-use Rattle.range_space.proofs.MemberLists.{IsIn-map}
-use Rattle.range_space.proofs.Stepping.{by_test}
+use Rattle.list_lemmas.proofs.Members.{IsIn-map, list_all-from_members}
+use Rattle.list_lemmas.proofs.Truth.{by_test}
+use Rattle.list_lemmas.proofs.Counts.{all_pass, count-all, length-filter}
+use Rattle.list_lemmas.proofs.Distinct.{no_longer, HasNoRepeats-left}
+use Rattle.list_lemmas.proofs.Tasks.{member_or_not}
 use Rattle.dep_iter.specs.Tasks.{IsTask, all_tasks, locals_of}
 use Rattle.dep_iter.specs.Edges.{in_edges}
 use Rattle.dep_iter.specs.Consistent.{IsConsistent}
@@ -21,13 +24,11 @@ use Rattle.flow_meaning.specs.Starting.{starting_tiles}
 use Rattle.flow_meaning.specs.Ending.{ended_on, has_outputs}
 use Rattle.flow_meaning.specs.Backward.{ended, has_all_sources, source_tile}
 use Rattle.flow_meaning.specs.Answer.{answer, answer_by, ran, trapped, waiting}
-use Rattle.flow_meaning.specs.Counting.{count}
+use Rattle.list_lemmas.specs.Counting.{count}
 use Rattle.flow_meaning.specs.Final.{final_data}
-use Rattle.flow_meaning.proofs.Counting.{all_pass, count-all}
-use Rattle.flow_meaning.proofs.Members.{all_from, source_is_task}
+use Rattle.flow_meaning.proofs.Members.{source_is_task}
 use Rattle.flow_meaning.proofs.Enough.{fixed}
 use Rattle.flow_meaning.proofs.SourceEdges.{class_of}
-use Rattle.task_order.proofs.Lists.{at_most, length-filter, member_or_not, once_left}
 use Rattle.task_order.proofs.Running.{all_outputs}
 use Rattle.chain_cert.specs.Chains.{HasNoCycle, IsCycle, IsSourceOf}
 use Rattle.chain_cert.specs.Completing.{IsComplete}
@@ -70,7 +71,7 @@ repeats_or_not (x ∷ xs) = elim (repeats_or_not xs) [
           between = p.0;
           after = p.1;
           split = ap (λ l. x ∷ l) p.2;
-          once = (p.3, once_left p.0 (x ∷ p.1) (subst HasNoRepeats p.2 once));
+          once = (p.3, HasNoRepeats-left p.0 (x ∷ p.1) (subst HasNoRepeats p.2 once));
         })
   ]
 ]
@@ -110,7 +111,7 @@ module _ (P : Plan) (con : IsConsistent P) where
   -- a walk back over more tasks than there are has a cycle
   pub long_walk : (t : Task) (ss : List Task) → IsTask P t → IsBackFrom P con t ss → length (all_tasks P) ≤ length ss → (c : List Task) × IsCycle P c
   long_walk t ss job b long = elim (repeats_or_not (t ∷ ss)) [
-    | inl once ↦ let few = at_most (t ∷ ss) (all_tasks P) once (λ u i. (listed P u).0 (back_tasks t ss job b u i)) in absurd (omega (arith, few, long))
+    | inl once ↦ let few = no_longer (t ∷ ss) (all_tasks P) once (λ u i. (listed P u).0 (back_tasks t ss job b u i)) in absurd (omega (arith, few, long))
     | inr r ↦ loops t ss job b r
   ]
 
@@ -119,7 +120,7 @@ module _ (P : Plan) (con : IsConsistent P) where
     ends_after : (t : Task) → IsTask P t → ((e : Edge) → IsIn e (in_edges P t) → has_outputs (ended P G e.from) ≡ true) → is_some (ended P G t) ≡ true
     unfolding ended_on
     ends_after t job outputs =
-        let all : has_all_sources P (ended P G) t ≡ true = all_from (λ (e : Edge). has_outputs (ended P G e.from)) (in_edges P t) outputs in
+        let all : has_all_sources P (ended P G) t ≡ true = list_all-from_members (λ (e : Edge). has_outputs (ended P G e.from)) (in_edges P t) outputs in
         let h = class_of P t job in
         ap is_some (fixed P G con t job ∙ ap (λ b. cond b (ended_on P G (source_tile (ended P G)) t) None) all
         ∙ ap (λ o. option_map (λ (c : ClassPlan). body_meaning c.body (locals_of P t) (starting_tiles P G (source_tile (ended P G)) t)) o) h.class_is)

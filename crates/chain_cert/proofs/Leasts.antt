@@ -8,28 +8,25 @@ use Rattle.ptg_base.specs.Task.{Task}
 use Rattle.ptg_base.specs.TaskOrder.{task_before}
 use Rattle.ptg_base.specs.declared.edge.Edge.{Edge}
 use Rattle.plan_core.specs.declared.plan.Plan.{Plan}
-use Rattle.range_space.proofs.Stepping.{by_test}
-use Rattle.range_space.proofs.MemberLists.{IsIn-append_left, IsIn-append_right, from_append}
+use Rattle.list_lemmas.proofs.Truth.{by_test}
+use Rattle.list_lemmas.proofs.Members.{IsIn-append_left, IsIn-append_right, from_push}
+use Rattle.list_lemmas.proofs.Places.{slice_get_there, drop_from}
+use Rattle.list_lemmas.proofs.Tasks.{before_trans}
 use Rattle.term_core.specs.declared.space.ClassSpace.{ClassSpace}
 use Rattle.range_space.specs.Tasks.{tasks}
 use Rattle.dep_iter.specs.Tasks.{task, tasks_from}
 use Rattle.dep_iter.specs.Edges.{in_edges, sources}
-use Rattle.task_order.proofs.Listing.{at_least_one, drop_at}
 use Rattle.chain_cert.specs.Finding.{IsHeaviestRow, IsLeastWhere}
-use Rattle.chain_cert.proofs.TaskSorting.{before_then, not_itself}
-
--- one more element
-in_push : {A : Type 0} (x y : A) (xs : List A) → IsIn x (xs ++ y ∷ []) → IsIn x xs ⊎ (x ≡ y)
-in_push x y xs i = elim (from_append x xs (y ∷ []) i) [ inl old ↦ inl old | inr new ↦ elim new [ inl e ↦ inr e | inr never ↦ absurd never ] ]
+use Rattle.chain_cert.proofs.TaskSorting.{not_itself}
 
 module _ (test : Task → Bool) (ts : List Task) (t : Task) where
   -- one more task that does not pass the test
   pub least_skips : (o : Option Task) → test t ≡ false → IsLeastWhere test ts o → IsLeastWhere test (ts ++ t ∷ []) o
-  least_skips None fails h = λ u i. elim (in_push u t ts i) [ inl old ↦ h u old | inr e ↦ ap test e ∙ fails ]
+  least_skips None fails h = λ u i. elim (from_push u ts t i) [ inl old ↦ h u old | inr e ↦ ap test e ∙ fails ]
   least_skips (Some b) fails h = (
     IsIn-append_left b ts (t ∷ []) h.0,
     h.1,
-    λ u i k. elim (in_push u t ts i) [ inl old ↦ h.2 u old k | inr e ↦ absurd (false≢true (sym fails ∙ sym (ap test e) ∙ k)) ],
+    λ u i k. elim (from_push u ts t i) [ inl old ↦ h.2 u old k | inr e ↦ absurd (false≢true (sym fails ∙ sym (ap test e) ∙ k)) ],
   )
 
   -- one more that does
@@ -37,7 +34,7 @@ module _ (test : Task → Bool) (ts : List Task) (t : Task) where
   least_first passes h = (
     IsIn-append_right t ts (t ∷ []) (inl refl),
     passes,
-    λ u i k. elim (in_push u t ts i) [
+    λ u i k. elim (from_push u ts t i) [
       | inl old ↦ absurd (false≢true (sym (h u old) ∙ k))
       | inr e ↦ false_from_ne_true (task_before u t) (λ b. not_itself t (subst (λ v. task_before v t ≡ true) e b))
     ],
@@ -47,8 +44,8 @@ module _ (test : Task → Bool) (ts : List Task) (t : Task) where
   least_new b passes less h = (
     IsIn-append_right t ts (t ∷ []) (inl refl),
     passes,
-    λ u i k. elim (in_push u t ts i) [
-      | inl old ↦ false_from_ne_true (task_before u t) (λ q. false≢true (sym (h.2 u old k) ∙ before_then u t b q less))
+    λ u i k. elim (from_push u ts t i) [
+      | inl old ↦ false_from_ne_true (task_before u t) (λ q. false≢true (sym (h.2 u old k) ∙ before_trans u t b q less))
       | inr e ↦ false_from_ne_true (task_before u t) (λ q. not_itself t (subst (λ v. task_before v t ≡ true) e q))
     ],
   )
@@ -57,7 +54,7 @@ module _ (test : Task → Bool) (ts : List Task) (t : Task) where
   least_old b more h = (
     IsIn-append_left b ts (t ∷ []) h.0,
     h.1,
-    λ u i k. elim (in_push u t ts i) [ inl old ↦ h.2 u old k | inr e ↦ ap (λ v. task_before v b) e ∙ more ],
+    λ u i k. elim (from_push u ts t i) [ inl old ↦ h.2 u old k | inr e ↦ ap (λ v. task_before v b) e ∙ more ],
   )
 
 -- of these edges some are left, and of the sources of those before them the least is known
@@ -91,7 +88,7 @@ module _ (rows : List (Task × ℕ)) (row : Task × ℕ) where
   pub heaviest_first : IsHeaviestRow rows None → IsHeaviestRow (rows ++ row ∷ []) (Some row)
   heaviest_first none = (
     IsIn-append_right row rows (row ∷ []) (inl refl),
-    λ r i. elim (in_push r row rows i) [
+    λ r i. elim (from_push r rows row i) [
       | inl old ↦ absurd (subst (IsIn r) none old)
       | inr e ↦ (omega (arith, ap (λ (x : Task × ℕ). x.1) e), λ _. false_from_ne_true (task_before r.0 row.0) (λ b. not_itself row.0 (subst (λ (x : Task × ℕ). task_before x.0 row.0 ≡ true) e b)))
     ],
@@ -100,12 +97,12 @@ module _ (rows : List (Task × ℕ)) (row : Task × ℕ) where
   pub heaviest_new : (best : Task × ℕ) → (best.1 < row.1) ⊎ ((row.1 ≡ best.1) × (task_before row.0 best.0 ≡ true)) → IsHeaviestRow rows (Some best) → IsHeaviestRow (rows ++ row ∷ []) (Some row)
   heaviest_new best more h = (
     IsIn-append_right row rows (row ∷ []) (inl refl),
-    λ r i. elim (in_push r row rows i) [
+    λ r i. elim (from_push r rows row i) [
       | inl old ↦
           let o = h.1 r old in
           elim more [
             | inl lt ↦ (omega (arith, o.0, lt), λ e. absurd (omega (arith, e, o.0, lt)))
-            | inr p ↦ (omega (arith, o.0, p.0), λ e. false_from_ne_true (task_before r.0 row.0) (λ b. false≢true (sym (o.1 (omega (arith, e, p.0))) ∙ before_then r.0 row.0 best.0 b p.1)))
+            | inr p ↦ (omega (arith, o.0, p.0), λ e. false_from_ne_true (task_before r.0 row.0) (λ b. false≢true (sym (o.1 (omega (arith, e, p.0))) ∙ before_trans r.0 row.0 best.0 b p.1)))
           ]
       | inr e ↦ (omega (arith, ap (λ (x : Task × ℕ). x.1) e), λ _. false_from_ne_true (task_before r.0 row.0) (λ b. not_itself row.0 (subst (λ (x : Task × ℕ). task_before x.0 row.0 ≡ true) e b)))
     ],
@@ -114,7 +111,7 @@ module _ (rows : List (Task × ℕ)) (row : Task × ℕ) where
   pub heaviest_old : (best : Task × ℕ) → ((best.1 < row.1) ⊎ ((row.1 ≡ best.1) × (task_before row.0 best.0 ≡ true)) → ⊥) → IsHeaviestRow rows (Some best) → IsHeaviestRow (rows ++ row ∷ []) (Some best)
   heaviest_old best less h = (
     IsIn-append_left best rows (row ∷ []) h.0,
-    λ r i. elim (in_push r row rows i) [
+    λ r i. elim (from_push r rows row i) [
       | inl old ↦ h.1 r old
       | inr e ↦
           let level : r.1 ≡ row.1 = ap (λ (x : Task × ℕ). x.1) e in
@@ -152,10 +149,10 @@ module _ (P : Plan) (test : Task → Bool) (class : ℕ) (ss : List ClassSpace) 
       → ((rest : List ClassSpace) (ts : List Task) → drop (class + 1) P.spaces ≡ rest → IsLeastWhere test ts b → IsLeastWhere test (ts ++ tasks_from (class + 1) rest) c)
       → (ts : List Task) → IsLeastWhere test ts a → IsLeastWhere test (ts ++ tasks_from class ss) c
   least_then a b c lt first later ts h =
-      let found = at_least_one P.spaces class lt in
+      let found = slice_get_there P.spaces class lt in
       let rest = drop (class + 1) P.spaces in
       let here = map (task class) (tasks found.0) in
-      let split : found.0 ∷ rest ≡ ss = ap (λ k. found.0 ∷ drop k P.spaces) (add-one class) ∙ sym (drop_at P.spaces class found.0 found.1) ∙ is in
+      let split : found.0 ∷ rest ≡ ss = ap (λ k. found.0 ∷ drop k P.spaces) (add-one class) ∙ sym (drop_from P.spaces class found.0 found.1) ∙ is in
       subst (λ l. IsLeastWhere test l c) (append_assoc ts here (tasks_from (class + 1) rest) ∙ ap (λ k. ts ++ (here ++ tasks_from k rest)) (add-one class) ∙ ap (λ l. ts ++ tasks_from class l) split)
       (later rest (ts ++ here) refl (first found.0 ts found.1 h))
 

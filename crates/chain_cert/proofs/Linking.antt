@@ -10,13 +10,12 @@ use Rattle.ptg_base.specs.TaskLaws.{same_task-decides}
 use Rattle.ptg_base.specs.declared.edge.Edge.{Edge}
 use Rattle.plan_core.specs.declared.plan.Plan.{Plan}
 use Rattle.coll_data.specs.Data.{Data}
-use Rattle.range_space.proofs.MemberLists.{IsIn-append_right, from_map}
-use Rattle.range_space.proofs.Stepping.{by_test}
+use Rattle.list_lemmas.proofs.Members.{IsIn-append_right, from_map, member_passes}
+use Rattle.list_lemmas.proofs.Truth.{by_test}
 use Rattle.dep_iter.specs.Tasks.{IsTask, all_tasks}
 use Rattle.dep_iter.specs.Edges.{in_edges}
 use Rattle.flow_meaning.specs.Ending.{Ended, has_outputs, ended_on}
 use Rattle.flow_meaning.specs.Backward.{ended, ended_within, has_all_sources, source_tile}
-use Rattle.flow_meaning.proofs.Members.{all_at}
 use Rattle.chain_cert.specs.Chains.{BeginsWith, IsChain, IsCycle, IsSourceOf}
 use Rattle.chain_cert.specs.Checking.{IsLinked}
 
@@ -78,7 +77,7 @@ module _ (P : Plan) (G : Data) (ts : List Task) (c : IsCycle P ts) where
       let e = from_map (λ (d : Edge). d.from) (in_edges P t) p.0 p.2 in
       let lost : ended_within P G n e.0.from ≡ None = ap (ended_within P G n) (sym e.2) ∙ not_within n p.0 p.1 in
       let fails : has_all_sources P (ended_within P G n) t ≡ false =
-      false_from_ne_true (has_all_sources P (ended_within P G n) t) (λ all. no_outputs (ended_within P G n e.0.from) lost (all_at (λ (d : Edge). has_outputs (ended_within P G n d.from)) (in_edges P t) all e.0 e.1)) in
+      false_from_ne_true (has_all_sources P (ended_within P G n) t) (λ all. no_outputs (ended_within P G n e.0.from) lost (member_passes (λ (d : Edge). has_outputs (ended_within P G n d.from)) (in_edges P t) all e.0 e.1)) in
       ap (λ b. cond b (ended_on P G (source_tile (ended_within P G n)) t) None) fails
 
   pub never_ends : (t : Task) → IsIn t ts → ended P G t ≡ None

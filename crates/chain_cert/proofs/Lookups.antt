@@ -2,11 +2,11 @@
 use Rattle.std.proofs.Common.{◌≡◌, ℕ, ◌<◌, IsTrue, slice_index_or, add-one, Option, Some, None, MatchOption, zero, suc, take, drop, length, append_assoc, arith, ◌+◌, ◌↔◌, true, List, [], ◌∷◌, ◌++◌, refl, ap, sym, ◌∙◌, subst, inl, inr}
 use Rattle.std.specs.Prelude.{nat_le}
 use Rattle.std.proofs.lemmas.Bool.{leb-true, le-leb}
-use Rattle.std.proofs.lemmas.List.{append-nil}
+use Rattle.std.proofs.lemmas.List.{append-nil, take-append-drop}
 use Rattle.ptg_base.specs.Lists.{IsIn}
 use Rattle.ptg_base.specs.Task.{Task}
 use Rattle.ptg_base.specs.TaskOrder.{task_before}
-use Rattle.range_space.proofs.MemberLists.{IsIn-append_left, IsIn-append_right, IsIn-map, from_append, from_map}
+use Rattle.list_lemmas.proofs.Members.{IsIn-append_left, IsIn-append_right, IsIn-map, from_append, from_map}
 use Rattle.ptg_base.specs.declared.edge.Edge.{Edge}
 use Rattle.plan_core.specs.declared.plan.Plan.{Plan}
 use Rattle.dep_iter.specs.Edges.{in_edges}
@@ -80,14 +80,8 @@ module _ (before : List (Task × ℕ)) (row : Task × ℕ) (later : List (Task �
     λ e. IsIn-append_right (t, k) before (row ∷ later) (inl (λ i. (same i, e i))),
   )
 
--- the parts of a list, split in two, with a first element in the second
-take_and_drop : {A : Type 0} (n : ℕ) (xs : List A) → take n xs ++ drop n xs ≡ xs
-take_and_drop zero xs = refl
-take_and_drop (suc n) [] = refl
-take_and_drop (suc n) (x ∷ xs) = ap (λ l. x ∷ l) (take_and_drop n xs)
-
 pub split_rows : (rows before after later : List (Task × ℕ)) (row : Task × ℕ) (n : ℕ) → before ≡ take n rows → after ≡ drop n rows → after ≡ row ∷ later → before ++ row ∷ later ≡ rows
-split_rows rows before after later row n b a s = ap (λ l. l ++ row ∷ later) b ∙ ap (λ l. take n rows ++ l) (sym s ∙ a) ∙ take_and_drop n rows
+split_rows rows before after later row n b a s = ap (λ l. l ++ row ∷ later) b ∙ ap (λ l. take n rows ++ l) (sym s ∙ a) ∙ take-append-drop n rows
 
 -- the edges before those that are left come from sources that a level is above
 pub record AboveSoFar (levels : List (Task × ℕ)) (w n : ℕ) (all left : List Edge) : Type 0 where

@@ -4,7 +4,7 @@ use Rattle.std.proofs.lemmas.Bool.{eq-eqb, eqb-true, false≢true}
 use Rattle.ptg_base.specs.Lists.{IsIn}
 use Rattle.ptg_base.specs.Task.{Task}
 use Rattle.plan_core.specs.declared.plan.Plan.{Plan}
-use Rattle.range_space.proofs.MemberLists.{from_map}
+use Rattle.list_lemmas.proofs.Members.{from_map}
 use Rattle.dep_iter.specs.Tasks.{IsTask}
 use Rattle.chain_cert.specs.Certificates.{HasTasksInOrder}
 use Rattle.chain_cert.specs.Chains.{IsChain}
@@ -29,7 +29,8 @@ module _ (P : Plan) (ws : List ℕ) (levels : List (Task × ℕ)) (order : HasTa
       (p.0.1, subst (λ (row : Task × ℕ). IsIn row levels) (λ i. (sym p.2 i, p.0.1)) p.1)
 
   module _ (high : AreHighEnough P ws levels levels) where
-    -- a chain is no heavier than the level of its last task, and what comes before it is no heavier than that of a source
+    -- a chain is no heavier than the level of its last task, and what comes before it is no heavier than that of a
+    -- source
     climb : (t : Task) (ts : List Task) (n below : ℕ) → IsChain P (t ∷ ts) → IsIn (t, n) levels → below + weight ws t ≤ n → below + chain_weight ws (t ∷ ts) ≤ greatest_level levels
     climb t [] n below c i h = omega (arith, h, at_most_greatest levels (t, n) i)
     climb t (u ∷ us) n below c i h =

@@ -10,12 +10,12 @@ use Rattle.ptg_base.specs.TaskComparing.{same_task}
 use Rattle.ptg_base.specs.TaskLaws.{same_task-decides}
 use Rattle.ptg_base.specs.declared.edge.Edge.{Edge}
 use Rattle.plan_core.specs.declared.plan.Plan.{Plan}
-use Rattle.range_space.proofs.MemberLists.{IsIn-append_left, IsIn-append_right, from_append, from_map}
-use Rattle.range_space.proofs.Stepping.{by_test}
+use Rattle.list_lemmas.proofs.Members.{IsIn-append_left, IsIn-append_right, from_append, from_map}
+use Rattle.list_lemmas.proofs.Truth.{by_test}
+use Rattle.list_lemmas.proofs.Counts.{weigh-push}
 use Rattle.dep_iter.specs.Tasks.{IsTask}
 use Rattle.dep_iter.specs.Edges.{in_edges, sources}
 use Rattle.flow_meaning.specs.Order.{IsLegalAfter, MayFollow}
-use Rattle.flow_meaning.proofs.Counting.{weigh-push}
 use Rattle.chain_cert.specs.Chains.{EndsWith, IsChain, IsSourceOf}
 use Rattle.chain_cert.specs.Checking.{AreWeights}
 use Rattle.chain_cert.specs.Levels.{IsLevel}

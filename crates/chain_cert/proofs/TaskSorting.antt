@@ -7,13 +7,14 @@ use Rattle.ptg_base.specs.Lists.{HasNoRepeats, IsIn}
 use Rattle.ptg_base.specs.Task.{Task}
 use Rattle.ptg_base.specs.TaskOrder.{in_task_order, insert_by, task_before}
 use Rattle.ptg_base.specs.TaskComparing.{task_cmp}
-use Rattle.ptg_base.specs.TaskLaws.{task_cmp-compares, task_cmp-total}
+use Rattle.ptg_base.specs.TaskLaws.{task_cmp-compares}
 use Rattle.plan_core.specs.declared.plan.Plan.{Plan}
-use Rattle.range_space.proofs.Stepping.{by_test}
+use Rattle.list_lemmas.proofs.Truth.{by_test}
+use Rattle.list_lemmas.proofs.Tasks.{distinct_once, before_trans}
+use Rattle.list_lemmas.proofs.Distinct.{onto}
 use Rattle.dep_iter.specs.Tasks.{IsTask, all_tasks}
 use Rattle.dep_iter.proofs.Listing.{listed}
 use Rattle.flow_meaning.proofs.Once.{tasks_once}
-use Rattle.task_order.proofs.Lists.{distinct_once, onto}
 use Rattle.chain_cert.specs.Certificates.{HasTasksInOrder, tasks_in_order}
 use Rattle.chain_cert.specs.Checking.{AreInPlace, IsBeforeFirst, IsRising, tasks_of}
 
@@ -36,9 +37,6 @@ not_both a b h k = let l = (task_cmp-compares a b).before.1 h in let g = (task_c
 
 pub not_itself : (a : Task) → task_before a a ≡ true → ⊥
 not_itself a h = not_both a a h h
-
-pub before_then : (a b c : Task) → task_before a b ≡ true → task_before b c ≡ true → task_before a c ≡ true
-before_then a b c h k = (task_cmp-compares a c).before.0 (task_cmp-total.trans a b c ((task_cmp-compares a b).before.1 h) ((task_cmp-compares b c).before.1 k))
 
 -- what is inserted is a member, and so are those that were
 past : (t u : Task) (us : List Task) → task_before u t ≡ true → insert_by (λ (v : Task). v) t (u ∷ us) ≡ u ∷ insert_by (λ (v : Task). v) t us
@@ -96,7 +94,7 @@ rising_insert t (u ∷ us) new up =
       | After k ↦ absurd (false≢true (sym h ∙ k))
     ] in
     let first : (v : Task) → IsIn v (u ∷ us) → task_before t v ≡ true =
-    λ v i. elim i [ inl q ↦ subst (λ w. task_before t w ≡ true) (sym q) less | inr later ↦ before_then t u v less (up.0 v later) ] in
+    λ v i. elim i [ inl q ↦ subst (λ w. task_before t w ≡ true) (sym q) less | inr later ↦ before_trans t u v less (up.0 v later) ] in
     let all : IsRising (t ∷ u ∷ us) = (first, up) in
     subst IsRising (sym (here t u us h)) all)
 
@@ -136,7 +134,7 @@ place_rising P [] h = tt
 place_rising P (t ∷ []) h = (λ u i. absurd i, tt)
 place_rising P (t ∷ u ∷ us) h =
     let rest = place_rising P (u ∷ us) h.1 in
-    (λ v i. elim i [ inl e ↦ subst (λ w. task_before t w ≡ true) (sym e) h.0.1 | inr later ↦ before_then t u v h.0.1 (rest.0 v later) ], rest)
+    (λ v i. elim i [ inl e ↦ subst (λ w. task_before t w ≡ true) (sym e) h.0.1 | inr later ↦ before_trans t u v h.0.1 (rest.0 v later) ], rest)
 
 pub place_task : (P : Plan) (ts : List Task) → AreInPlace P ts → (t : Task) → IsIn t ts → IsTask P t
 place_task P [] h t i = absurd i

@@ -8,13 +8,13 @@ use Rattle.ptg_base.specs.Lists.{IsIn}
 use Rattle.ptg_base.specs.Task.{Task}
 use Rattle.ptg_base.specs.TaskComparing.{same_task}
 use Rattle.plan_core.specs.declared.plan.Plan.{Plan}
-use Rattle.range_space.proofs.MemberLists.{from_map}
+use Rattle.list_lemmas.proofs.Members.{from_map}
+use Rattle.list_lemmas.proofs.Counts.{weigh-push}
+use Rattle.list_lemmas.proofs.Distinct.{no_longer as at_most}
 use Rattle.dep_iter.specs.Tasks.{IsTask, all_tasks}
 use Rattle.dep_iter.specs.Edges.{sources}
 use Rattle.dep_iter.specs.Consistent.{IsConsistent}
 use Rattle.dep_iter.proofs.Listing.{listed}
-use Rattle.flow_meaning.proofs.Counting.{weigh-push}
-use Rattle.task_order.proofs.Lists.{at_most}
 use Rattle.chain_cert.specs.Certificates.{AreLevels}
 use Rattle.chain_cert.specs.Chains.{HasNoCycle, IsChain, IsSourceOf}
 use Rattle.chain_cert.specs.Checking.{tasks_of}

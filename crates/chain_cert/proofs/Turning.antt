@@ -5,11 +5,11 @@ use Rattle.ptg_base.specs.Lists.{HasNoRepeats, IsIn}
 use Rattle.ptg_base.specs.Task.{Task}
 use Rattle.ptg_base.specs.declared.edge.Edge.{Edge}
 use Rattle.plan_core.specs.declared.plan.Plan.{Plan}
-use Rattle.range_space.proofs.MemberLists.{from_map}
+use Rattle.list_lemmas.proofs.Members.{from_map}
+use Rattle.list_lemmas.proofs.Distinct.{HasNoRepeats-right}
 use Rattle.dep_iter.specs.Tasks.{IsTask}
 use Rattle.dep_iter.specs.Edges.{in_edges}
 use Rattle.dep_iter.specs.Consistent.{IsConsistent}
-use Rattle.task_order.proofs.Lists.{once_right}
 use Rattle.chain_cert.specs.Chains.{BeginsWith, IsChain, IsCycle, IsSourceOf}
 use Rattle.chain_cert.specs.Printed.{IsPrintedCycle, IsWalkBack, IsWalkedBack}
 
@@ -95,4 +95,4 @@ printed_is_cycle P con R c p =
     let is : c ≡ turned p.between (t ∷ []) = p.turned ∙ sym (append-nil (reverse (t ∷ p.between))) ∙ sym (turned_is (t ∷ p.between) []) in
     let walk = from_start P con R p.before (p.between ++ t ∷ []) t (subst (IsWalkBack P R) (append_assoc p.before (t ∷ p.between) (t ∷ [])) p.walk) in
     let steps = ends_at P con R t p.between t walk.1 in
-    subst (IsCycle P) (sym is) (loop_is_cycle P con t p.between walk.0 (walked_back P con R t p.between steps.0) steps.1 (once_right p.before (t ∷ p.between) p.once))
+    subst (IsCycle P) (sym is) (loop_is_cycle P con t p.between walk.0 (walked_back P con R t p.between steps.0) steps.1 (HasNoRepeats-right p.before (t ∷ p.between) p.once))

@@ -6,12 +6,12 @@ use Rattle.ptg_base.specs.Lists.{HasNoRepeats, IsIn}
 use Rattle.ptg_base.specs.Task.{Task}
 use Rattle.plan_core.specs.declared.plan.Plan.{Plan}
 use Rattle.coll_data.specs.Data.{Data}
-use Rattle.range_space.proofs.MemberLists.{IsIn-append_right}
+use Rattle.list_lemmas.proofs.Members.{IsIn-append_right}
+use Rattle.list_lemmas.proofs.Distinct.{HasNoRepeats-apart}
 use Rattle.dep_iter.specs.Tasks.{IsTask, all_tasks}
 use Rattle.dep_iter.specs.Consistent.{IsConsistent}
 use Rattle.dep_iter.proofs.Listing.{listed}
 use Rattle.flow_meaning.specs.Answer.{ran}
-use Rattle.task_order.proofs.Lists.{apart}
 use Rattle.chain_cert.specs.declared.certificate.Certificate.{Certificate}
 use Rattle.chain_cert.specs.declared.certificate.Certificate.TheVariants.{Chain, Cycle, Trapped}
 use Rattle.chain_cert.specs.Certificates.{AreLevels, IsCertificate}
@@ -137,7 +137,7 @@ module _ (P : Plan) (R : List Task) where
     | inr q ↦
         let whole : b ++ u ∷ [] ≡ ((a ++ t ∷ []) ++ q.0) ++ q.1 ∷ [] = p.1 ∙ ap (λ l. a ++ t ∷ [] ++ l) q.2 ∙ sym (append_assoc (a ++ t ∷ []) q.0 (q.1 ∷ [])) in
         let front : b ≡ a ++ (t ∷ [] ++ q.0) = (same_ends b ((a ++ t ∷ []) ++ q.0) u q.1 whole).0 ∙ append_assoc a (t ∷ []) q.0 in
-        absurd (apart a (t ∷ [] ++ q.0) (subst HasNoRepeats front once) t i (inl refl))
+        absurd (HasNoRepeats-apart a (t ∷ [] ++ q.0) (subst HasNoRepeats front once) t i (inl refl))
   ]
 
   pub cycle_one : (c d : List Task) → IsPrintedCycle P R c → IsPrintedCycle P R d → c ≡ d

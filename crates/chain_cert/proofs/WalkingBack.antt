@@ -1,5 +1,5 @@
 -- The printed cycle, by a walk back over the tasks that are left.
-use Rattle.std.proofs.Common.{◌≡◌, ℕ, suc, ◌<◌, ◌↔◌, ◌||◌, true, false, cond, not, List, [], ◌∷◌, ◌++◌, length, drop, take, find, slice_get, reverse, refl, ap, sym, ◌∙◌, subst, inl, inr, Option, Some, None, is_some, MatchOption, IfSome, arith, length-append}
+use Rattle.std.proofs.Common.{◌≡◌, ℕ, suc, ◌<◌, ◌↔◌, true, false, cond, not, List, [], ◌∷◌, ◌++◌, length, drop, take, find, slice_get, reverse, refl, ap, sym, ◌∙◌, subst, inl, inr, Option, Some, None, is_some, MatchOption, IfSome, arith, length-append}
 use Rattle.std.specs.List.{list_any}
 use Rattle.std.specs.Map.{lookup}
 use Rattle.std.proofs.lemmas.Bool.{false≢true, false_from_ne_true}
@@ -11,14 +11,14 @@ use Rattle.ptg_base.specs.TaskComparing.{same_task}
 use Rattle.ptg_base.specs.TaskLaws.{same_task-decides}
 use Rattle.ptg_base.specs.declared.edge.Edge.{Edge}
 use Rattle.plan_core.specs.declared.plan.Plan.{Plan}
-use Rattle.range_space.proofs.MemberLists.{IsIn-append_right, IsIn-map}
-use Rattle.range_space.proofs.Stepping.{by_test}
+use Rattle.list_lemmas.proofs.Members.{IsIn-append_right, IsIn-map}
+use Rattle.list_lemmas.proofs.Distinct.{no_longer, HasNoRepeats-append}
+use Rattle.list_lemmas.proofs.Tasks.{member_or_not, none_member}
+use Rattle.list_lemmas.proofs.Places.{drop_from}
 use Rattle.dep_iter.specs.Tasks.{IsTask, all_tasks}
 use Rattle.dep_iter.specs.Edges.{in_edges, sources}
 use Rattle.dep_iter.specs.Consistent.{IsConsistent}
 use Rattle.dep_iter.proofs.Listing.{listed}
-use Rattle.task_order.proofs.Lists.{at_most, member_or_not, once_both}
-use Rattle.task_order.proofs.Listing.{drop_at}
 use Rattle.task_order.proofs.Orders.{from_outside}
 use Rattle.indexmap.specs.IndexSet.{insert_key}
 use Rattle.task_order.specs.Greatest.{IsGreatestOrder}
@@ -66,7 +66,7 @@ module _ (P : Plan) (order : List Task) (table : List (Task × ℕ)) (l : LacksT
   some_out = by (all_tasks P) (λ t i. (listed P t).1 i) none_all
     where
       none_all : ((t : Task) → IsIn t (all_tasks P) → IsIn t order) → ⊥
-      none_all all = absurd (omega (arith, l.some_left, at_most (all_tasks P) order (all_once P) all))
+      none_all all = absurd (omega (arith, l.some_left, no_longer (all_tasks P) order (all_once P) all))
 
       by : (ts : List Task) → ((t : Task) → IsIn t ts → IsTask P t) → (((t : Task) → IsIn t ts → IsIn t order) → ⊥) → (t : Task) × IsTask P t × (IsIn t order → ⊥)
       by [] job not_all = absurd (not_all (λ t i. absurd i))
@@ -97,17 +97,6 @@ module _ (P : Plan) (order : List Task) (table : List (Task × ℕ)) (l : LacksT
     least = λ u k. h.2 u k.source (out_left u k.left);
   })
 
--- what a look-up finds among keys, and where
-not_met : (t : Task) (ks : List Task) → list_any (same_task t) ks ≡ false → IsIn t ks → ⊥
-not_met t [] e i = i
-not_met t (k ∷ ks) e i =
-    by_test (same_task t k)
-    (λ q. false≢true (sym e ∙ ap (λ b. b || list_any (same_task t) ks) q))
-    (λ q. elim i [
-      | inl same ↦ false≢true (sym q ∙ (same_task-decides t k).1 same)
-      | inr later ↦ not_met t ks (sym (ap (λ b. b || list_any (same_task t) ks) q) ∙ e) later
-    ])
-
 pub found_is : (t : Task) (ks : List Task) (u : Task) → find (same_task t) ks ≡ Some u → u ≡ t
 found_is t ks u e = subst (λ o. IfSome o (λ k. k ≡ t)) e (IfSome-find_same {eq = same_task} same_task-decides t ks)
 
@@ -118,18 +107,18 @@ pub record IsWalking (P : Plan) (R met : List Task) (next : Option Task) : Type 
 
 -- keys with one more that is new
 pub met_push : (t : Task) (ks : List Task) → list_any (same_task t) ks ≡ false → HasNoRepeats ks → HasNoRepeats (ks ++ t ∷ [])
-met_push t ks e once = once_both ks (t ∷ []) once ((λ i. i), tt) (λ x i j. elim j [ inl q ↦ not_met t ks e (subst (λ u. IsIn u ks) q i) | inr never ↦ never ])
+met_push t ks e once = HasNoRepeats-append ks (t ∷ []) once ((λ i. i), tt) (λ x i j. elim j [ inl q ↦ none_member t ks e (subst (λ u. IsIn u ks) q i) | inr never ↦ never ])
 
 -- there is room for one more task
 pub walk_room : (P : Plan) → IsConsistent P → (R met : List Task) (t : Task) → list_any (same_task t) met ≡ false → IsWalking P R met (Some t) → length met < length (all_tasks P)
 walk_room P con R met t new w =
-    let few = at_most (met ++ t ∷ []) (all_tasks P) (met_push t met new w.once) (λ u i. (listed P u).0 (walk_left P con R (met ++ t ∷ []) w.walk u i).task) in
+    let few = no_longer (met ++ t ∷ []) (all_tasks P) (met_push t met new w.once) (λ u i. (listed P u).0 (walk_left P con R (met ++ t ∷ []) w.walk u i).task) in
     omega (arith, few, length-append met (t ∷ []))
 
 -- a task that comes again closes the cycle
 pub closes : (P : Plan) (R met : List Task) (t u : Task) (at : ℕ) (cycle : List Task) → slice_get met at ≡ Some u → u ≡ t → IsWalking P R met (Some t) → cycle ≡ reverse (drop at met) → IsPrintedCycle P R cycle
 closes P R met t u at cycle here same w is =
-    let from : drop at met ≡ t ∷ drop (suc at) met = drop_at met at u here ∙ ap (λ v. v ∷ drop (suc at) met) same in
+    let from : drop at met ≡ t ∷ drop (suc at) met = drop_from met at u here ∙ ap (λ v. v ∷ drop (suc at) met) same in
     let split : met ≡ take at met ++ t ∷ drop (suc at) met = sym (take-append-drop at met) ∙ ap (λ l. take at met ++ l) from in
     record {
       before = take at met;

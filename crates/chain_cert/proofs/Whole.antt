@@ -8,7 +8,9 @@ use Rattle.ptg_base.specs.TaskOrder.{in_task_order}
 use Rattle.ptg_base.specs.TaskComparing.{same_task}
 use Rattle.ptg_base.specs.declared.edge.Edge.{Edge}
 use Rattle.plan_core.specs.declared.plan.Plan.{Plan}
-use Rattle.range_space.proofs.MemberLists.{IsIn-map, from_append, from_map}
+use Rattle.list_lemmas.proofs.Members.{IsIn-map, from_append, from_map}
+use Rattle.list_lemmas.proofs.Distinct.{no_longer, onto}
+use Rattle.list_lemmas.proofs.Tasks.{member_or_not, once_each}
 use Rattle.dep_iter.specs.Tasks.{IsTask, all_tasks}
 use Rattle.dep_iter.specs.Edges.{in_edges}
 use Rattle.dep_iter.specs.Consistent.{IsConsistent}
@@ -16,9 +18,7 @@ use Rattle.dep_iter.proofs.Listing.{listed}
 use Rattle.flow_meaning.specs.Order.{IsLegalAfter, IsLegalOrder}
 use Rattle.run_answer.specs.Rows.{AreOfDifferentTasks}
 use Rattle.task_order.specs.Greatest.{IsGreatestOrder}
-use Rattle.task_order.proofs.Lists.{at_most, member_or_not, onto}
 use Rattle.task_order.proofs.Orders.{from_outside, legal_once, legal_tasks}
-use Rattle.task_order.proofs.Running.{once_each}
 use Rattle.chain_cert.specs.Certificates.{AreLevels, tasks_in_order}
 use Rattle.chain_cert.specs.Chains.{HasNoCycle, IsCycle, IsSourceOf}
 use Rattle.chain_cert.specs.Checking.{tasks_of}
@@ -63,7 +63,7 @@ module _ (P : Plan) (order : List Task) (legal : IsLegalOrder P order) where
   order_among t i = (listed P t).0 (legal_tasks P [] order legal t i)
 
   pub order_at_most : length order ≤ length (all_tasks P)
-  order_at_most = at_most order (all_tasks P) order_once order_among
+  order_at_most = no_longer order (all_tasks P) order_once order_among
 
   -- the next task of the order, after those that a table has
   pub next_task : IsConsistent P → (ws : List ℕ) (i : ℕ) (t : Task) (table : List (Task × ℕ)) → i < length order → t ≡ slice_index_or order i t → HasLevels P ws (take i order) table → IsNextTask P ws (take i order) table t
@@ -134,6 +134,6 @@ module _ (P : Plan) (con : IsConsistent P) (order : List Task) (g : IsGreatestOr
     λ e. no_cycle P order g.legal (omega (arith, e)),
     λ none.
         let few = order_at_most P order g.legal in
-        let many = at_most (all_tasks P) order (all_once P) (λ t i. all_inside none t ((listed P t).1 i)) in
+        let many = no_longer (all_tasks P) order (all_once P) (λ t i. all_inside none t ((listed P t).1 i)) in
         omega (arith, few, many),
   )

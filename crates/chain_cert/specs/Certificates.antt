@@ -1,4 +1,5 @@
--- The certificate of a job: a heaviest chain with the levels of all tasks, or a cycle, or neither where a task trapped. Source: this project's own choice.
+-- The certificate of a job: a heaviest chain with the levels of all tasks, or a cycle, or neither where a task trapped.
+-- Source: this project's own choice.
 use Rattle.std.specs.Prelude.{◌≡◌, ◌≢◌, ℕ, List, [], map}
 use Rattle.ptg_base.specs.Lists.{IsIn}
 use Rattle.ptg_base.specs.Task.{Task}
@@ -28,6 +29,7 @@ pub record AreLevels (P : Plan) (ws : List ℕ) (levels : List (Task × ℕ)) : 
 
 -- where no task trapped: without a cycle the printed chain with the levels, else the printed cycle
 abbrev pub IsCertificate : Plan → Data → List ℕ → Certificate → Type 0
-IsCertificate P G ws (Chain chain levels) = (trapped P G ≡ []) × HasNoCycle P × IsPrintedChain P ws chain × AreLevels P ws levels
+IsCertificate P G ws (Chain chain levels) =
+    (trapped P G ≡ []) × HasNoCycle P × IsPrintedChain P ws chain × AreLevels P ws levels
 IsCertificate P G ws (Cycle cycle) = (trapped P G ≡ []) × IsPrintedCycle P (ran P G) cycle
 IsCertificate P G ws Trapped = trapped P G ≢ []

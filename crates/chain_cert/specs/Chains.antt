@@ -1,4 +1,5 @@
--- Chains and cycles of tasks. Source: DAGuE (Parallel Computing, 2012): the tasks of a job and the edges between them are a directed graph; chains and cycles are the usual paths and simple cycles of it.
+-- Chains and cycles of tasks. Source: DAGuE (Parallel Computing, 2012): the tasks of a job and the edges between them
+-- are a directed graph; chains and cycles are the usual paths and simple cycles of it.
 use Rattle.std.specs.Prelude.{◌≡◌, List, [], ◌∷◌, ◌++◌}
 use Rattle.ptg_base.specs.Lists.{HasNoRepeats, IsIn}
 use Rattle.ptg_base.specs.Task.{Task}

@@ -12,7 +12,8 @@ abbrev pub greatest_level : List (Task × ℕ) → ℕ
 greatest_level [] = 0
 greatest_level (row ∷ rows) = max row.1 (greatest_level rows)
 
--- each level is at least the weight of its task, and at least the level of each source and that weight; the chain weighs the greatest level
+-- each level is at least the weight of its task, and at least the level of each source and that weight; the chain
+-- weighs the greatest level
 pub record ShowsHeaviest (P : Plan) (ws : List ℕ) (chain : List Task) (levels : List (Task × ℕ)) : Type 0 where
   pub tasks : HasTasksInOrder P levels
   pub own : (t : Task) (n : ℕ) → IsIn (t, n) levels → weight ws t ≤ n

@@ -52,12 +52,15 @@ rows_by table ts = map (λ (t : Task). (t, level_in table t)) ts
 -- the least in task order of those of these tasks that pass a test, if there is one
 abbrev pub IsLeastWhere : (Task → Bool) → List Task → Option Task → Type 0
 IsLeastWhere test ts None = (u : Task) → IsIn u ts → test u ≡ false
-IsLeastWhere test ts (Some t) = IsIn t ts × (test t ≡ true) × ((u : Task) → IsIn u ts → test u ≡ true → task_before u t ≡ false)
+IsLeastWhere test ts (Some t) =
+    IsIn t ts × (test t ≡ true) × ((u : Task) → IsIn u ts → test u ≡ true → task_before u t ≡ false)
 
 -- a row of the greatest level, and of those the one with the least task, if there is one
 abbrev pub IsHeaviestRow : List (Task × ℕ) → Option (Task × ℕ) → Type 0
 IsHeaviestRow rows None = rows ≡ []
-IsHeaviestRow rows (Some best) = IsIn best rows × ((row : Task × ℕ) → IsIn row rows → (row.1 ≤ best.1) × (row.1 ≡ best.1 → task_before row.0 best.0 ≡ false))
+IsHeaviestRow rows (Some best) =
+    IsIn best rows
+    × ((row : Task × ℕ) → IsIn row rows → (row.1 ≤ best.1) × (row.1 ≡ best.1 → task_before row.0 best.0 ≡ false))
 
 -- whether a heaviest chain with the level n comes to a task of the weight w by this source
 abbrev pub is_heaviest_source : List (Task × ℕ) → ℕ → ℕ → Task → Bool

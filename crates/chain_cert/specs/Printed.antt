@@ -28,12 +28,15 @@ pub record IsHeaviestSource (P : Plan) (ws : List ℕ) (t s : Task) : Type 0 whe
   pub source_level : IsLevel P ws s level
   pub task_level : IsLevel P ws t (level + weight ws t)
 
--- the tasks that come before t in the printed chain, from t back: none where the level of t is its weight, else the least heaviest source, and those before it
+-- the tasks that come before t in the printed chain, from t back: none where the level of t is its weight, else the
+-- least heaviest source, and those before it
 abbrev pub IsTracedBack : Plan → List ℕ → Task → List Task → Type 0
 IsTracedBack P ws t [] = IsLevel P ws t (weight ws t)
-IsTracedBack P ws t (s ∷ ss) = (IsLevel P ws t (weight ws t) → ⊥) × IsLeast (IsHeaviestSource P ws t) s × IsTracedBack P ws s ss
+IsTracedBack P ws t (s ∷ ss) =
+    (IsLevel P ws t (weight ws t) → ⊥) × IsLeast (IsHeaviestSource P ws t) s × IsTracedBack P ws s ss
 
--- the printed chain from its end back: the least of the tasks of the greatest level, and those before it; none where the job has no task
+-- the printed chain from its end back: the least of the tasks of the greatest level, and those before it; none where
+-- the job has no task
 abbrev pub IsChainBack : Plan → List ℕ → List Task → Type 0
 IsChainBack P ws [] = all_tasks P ≡ []
 IsChainBack P ws (t ∷ ts) = IsLeast (HasGreatestLevel P ws) t × IsTracedBack P ws t ts
@@ -64,7 +67,8 @@ abbrev pub IsWalkBack : Plan → List Task → List Task → Type 0
 IsWalkBack P ran [] = ⊥
 IsWalkBack P ran (t ∷ ts) = IsLeast (IsTaskLeft P ran) t × IsWalkedBack P ran t ts
 
--- the printed cycle: where the walk back comes to a task for the second time, the tasks from its first coming on, turned round
+-- the printed cycle: where the walk back comes to a task for the second time, the tasks from its first coming on,
+-- turned round
 pub record IsPrintedCycle (P : Plan) (ran cycle : List Task) : Type 0 where
   -- the tasks before the first coming, the task that comes twice, and the tasks between
   pub before : List Task

@@ -6,14 +6,15 @@ use Rattle.name_table.specs.Names.{value_named}
 use Rattle.plan_core.specs.declared.class.ClassPlan.{ClassPlan}
 use Rattle.plan_core.specs.declared.plan.Plan.{Plan}
 use Rattle.coll_data.specs.Data.{Data}
-use Rattle.flow_meaning.specs.Counting.{weigh}
+use Rattle.list_lemmas.specs.Counting.{weigh}
 
 -- a number as a weight: below 0 it counts as 0, above 1,000,000 as 1,000,000
 abbrev pub clamped : ℤ → ℕ
 clamped (pos n) = min n 1000000
 clamped (negsuc n) = 0
 
--- the weight of a class: the integer `weight_CLASS` of the data, whether the JDF declares it or not; 1 where there is none
+-- the weight of a class: the integer `weight_CLASS` of the data, whether the JDF declares it or not; 1 where there is
+-- none
 abbrev pub class_weight : Data → ClassPlan → ℕ
 class_weight G c = option_map_or clamped (value_named G.ints (codes "weight_" ++ c.name)) 1
 

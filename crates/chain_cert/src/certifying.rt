@@ -54,7 +54,8 @@ fn all_levels(
 ) -> Result<Vec<(TaskId, u64)>, OutOfMemory>
     requires legal { IsLegalOrder m.now order.items }
     requires all { length order.items ≡ length (all_tasks m.now) }
-    ensures { IfOk result (λ rows. (ws : List ℕ) → HasLevels m.now ws order.items table.now.entries → AreLevels m.now ws rows.items) }
+    ensures { IfOk result (λ rows.
+        (ws : List ℕ) → HasLevels m.now ws order.items table.now.entries → AreLevels m.now ws rows.items) }
 {
     let _ = m.plan();
     rows_by(alloc, table, sorted(order).as_slice())
@@ -89,7 +90,8 @@ pub fn certify(
     weights: &[u64],
 ) -> Result<Certificate, OutOfMemory>
     requires { AreWeights weights.now }
-    ensures certificate { IfOk result (λ c. (G : Data) → outcome.now ≡ answer m.now G → IsCertificate m.now G weights.now c) }
+    ensures certificate { IfOk result (λ c.
+        (G : Data) → outcome.now ≡ answer m.now G → IsCertificate m.now G weights.now c) }
     ensures accepted { IfOk result (IsAccepted m.now weights.now) }
 {
     let _ = m.plan();

@@ -47,8 +47,8 @@ fn class_weight(alloc: Global, class: &ClassPlan, given: &Given) -> Result<u64, 
     }
 }
 
-/// The weights of the classes of a job, by number: the integer `weight_CLASS` of the data, whether the JDF declares it or
-/// not, cut to 0 .. 1,000,000, and 1 where there is none.
+/// The weights of the classes of a job, by number: the integer `weight_CLASS` of the data, whether the JDF declares it
+/// or not, cut to 0 .. 1,000,000, and 1 where there is none.
 pub fn weights(alloc: Global, plan: &Plan, given: &Given) -> Result<Seq<u64>, OutOfMemory>
     ensures weights { IfOk result (λ ws. ws ≡ weighing.class_weights plan.now given.now) }
     ensures bounded { IfOk result AreWeights }

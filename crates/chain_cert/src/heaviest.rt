@@ -37,8 +37,8 @@ fn greatest_level(rows: &[(TaskId, u64)]) -> u64
 }
 
 /// Whether the levels show that no chain is heavier than this one: they are all tasks in task order, each level is at
-/// least the weight of its task and at least the level of each source and that weight, and the chain weighs the greatest
-/// level.
+/// least the weight of its task and at least the level of each source and that weight, and the chain weighs the
+/// greatest level.
 pub fn check_chain(
     m: &Matched,
     weights: &[u64],
@@ -49,7 +49,9 @@ pub fn check_chain(
     // It takes no memory.
     ensures answers { IsOk result }
     ensures exact { IfOk result (λ shows. IsTrue shows ↔ ShowsHeaviest m.now weights.now chain.now levels.now) }
-    ensures heaviest { IfOk result (λ shows. IsTrue shows → (ts : List Task) → IsChain m.now ts → weighing.chain_weight weights.now ts ≤ weighing.chain_weight weights.now chain.now) }
+    ensures heaviest { IfOk result (λ shows.
+        IsTrue shows → (ts : List Task) → IsChain m.now ts
+        → weighing.chain_weight weights.now ts ≤ weighing.chain_weight weights.now chain.now) }
 {
     if !has_tasks_in_order(m, levels) {
         return Ok(false);

@@ -17,7 +17,8 @@ ghost use Rattle.chain_cert.specs.Printed.{IsPrintedCycle};
 
 /// A law: a job has, with its data and weights, one certificate at most.
 pub fn one_certificate()
-    ensures { (P : Plan) (G : Data) (ws : List ℕ) (c d : Certificate) → IsConsistent P → IsCertificate P G ws c → IsCertificate P G ws d → c ≡ d }
+    ensures { (P : Plan) (G : Data) (ws : List ℕ) (c d : Certificate) → IsConsistent P → IsCertificate P G ws c
+        → IsCertificate P G ws d → c ≡ d }
 {}
 
 /// A law: the printed cycle is a cycle, whichever tasks ran.
@@ -32,10 +33,12 @@ pub fn a_job_is_complete_without_cycle_and_trap()
 
 /// A law: what the checkers check holds of every certificate.
 pub fn the_checkers_accept_certificates()
-    ensures { (P : Plan) (G : Data) (ws : List ℕ) (c : Certificate) → IsConsistent P → IsCertificate P G ws c → IsAccepted P ws c }
+    ensures { (P : Plan) (G : Data) (ws : List ℕ) (c : Certificate) → IsConsistent P → IsCertificate P G ws c
+        → IsAccepted P ws c }
 {}
 
 /// A law: a greatest legal order has all tasks exactly where there is no cycle.
 pub fn a_greatest_order_is_whole_without_cycle()
-    ensures { (P : Plan) (ts : List Task) → IsConsistent P → IsGreatestOrder P ts → (length ts ≡ length (all_tasks P)) ↔ HasNoCycle P }
+    ensures { (P : Plan) (ts : List Task) → IsConsistent P → IsGreatestOrder P ts
+        → (length ts ≡ length (all_tasks P)) ↔ HasNoCycle P }
 {}

@@ -9,7 +9,8 @@ use ptg_base::TaskId;
 
 // The least so far, after one more task, which may count or not.
 pub(crate) fn lesser(least: Option<TaskId>, t: &TaskId, counts: bool) -> Option<TaskId>
-    ensures { (test : Task → Bool) (ts : List Task) → counts ≡ test t.now → IsLeastWhere test ts least → IsLeastWhere test (ts ++ t.now ∷ []) result }
+    ensures { (test : Task → Bool) (ts : List Task) → counts ≡ test t.now → IsLeastWhere test ts least
+        → IsLeastWhere test (ts ++ t.now ∷ []) result }
 {
     if !counts {
         return least;

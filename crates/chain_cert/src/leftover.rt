@@ -43,7 +43,9 @@ fn least_left_of(
     class: u32,
 ) -> Option<TaskId>
     requires { class < length m.now.classes }
-    ensures { (s : ClassSpaceValue) (ts : List Task) → slice_get m.now.spaces class ≡ Some s → IsLeastWhere (finding.is_left table.now.entries) ts least → IsLeastWhere (finding.is_left table.now.entries) (ts ++ map (task class) (range.tasks s)) result }
+    ensures { (s : ClassSpaceValue) (ts : List Task) → slice_get m.now.spaces class ≡ Some s
+        → IsLeastWhere (finding.is_left table.now.entries) ts least
+        → IsLeastWhere (finding.is_left table.now.entries) (ts ++ map (task class) (range.tasks s)) result }
 {
     let mut least = least;
     for params in Space::new(space_of(m, class)) {
@@ -60,7 +62,9 @@ fn least_left_from(
     m: &Matched,
     class: u32,
 ) -> Option<TaskId>
-    ensures { (ss : List ClassSpaceValue) (ts : List Task) → drop class m.now.spaces ≡ ss → IsLeastWhere (finding.is_left table.now.entries) ts least → IsLeastWhere (finding.is_left table.now.entries) (ts ++ tasks_from class ss) result }
+    ensures { (ss : List ClassSpaceValue) (ts : List Task) → drop class m.now.spaces ≡ ss
+        → IsLeastWhere (finding.is_left table.now.entries) ts least
+        → IsLeastWhere (finding.is_left table.now.entries) (ts ++ tasks_from class ss) result }
 {
     if class as usize >= m.plan().classes.len() {
         return least;

@@ -47,7 +47,9 @@ fn note_level(
 ) -> Result<(), OutOfMemory>
     requires weights { AreWeights weights.now }
     requires next { (before : List Task) × IsNextTask m.now weights.now before table.old.entries t.now }
-    ensures { OnOk result ((before : List Task) → IsNextTask m.now weights.now before table.old.entries t.now → HasLevels m.now weights.now (before ++ t.now ∷ []) table.new.entries) }
+    ensures { OnOk result
+        ((before : List Task) → IsNextTask m.now weights.now before table.old.entries t.now
+        → HasLevels m.now weights.now (before ++ t.now ∷ []) table.new.entries) }
 {
     let level = weight_of(weights, t) + greatest_before(table, m.plan(), t);
     table.insert(t.copy(), level)?;

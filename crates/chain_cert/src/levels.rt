@@ -67,7 +67,8 @@ pub(crate) fn has_tasks_in_order(m: &Matched, rows: &[(TaskId, u64)]) -> bool
 // The level in the row of a task, if there is one, where the rows are in task order.
 fn level_of(rows: &[(TaskId, u64)], t: &TaskId) -> Option<u64>
     requires { IsRising (tasks_of rows.now) }
-    ensures { MatchOption result ((k : ℕ) → IsIn (t.now, k) rows.now → ⊥) (λ n. (k : ℕ) → IsIn (t.now, k) rows.now ↔ (k ≡ n)) }
+    ensures { MatchOption result ((k : ℕ) → IsIn (t.now, k) rows.now → ⊥) (λ n.
+        (k : ℕ) → IsIn (t.now, k) rows.now ↔ (k ≡ n)) }
 {
     let (before, after) = rows.split_at(rows.len() / 2);
     let Some((row, later)) = after.split_first() else {

@@ -23,7 +23,8 @@ use std::alloc::Global;
 
 // Whether a row has a greater level than another, or the same and a lesser task.
 fn is_heavier(row: &(TaskId, u64), best: &(TaskId, u64)) -> bool
-    ensures { IsTrue result ↔ ((best.now.1 < row.now.1) ⊎ ((row.now.1 ≡ best.now.1) × (task_before row.now.0 best.now.0 ≡ true))) }
+    ensures { IsTrue result
+        ↔ ((best.now.1 < row.now.1) ⊎ ((row.now.1 ≡ best.now.1) × (task_before row.now.0 best.now.0 ≡ true))) }
 {
     row.1 > best.1 || (row.1 == best.1 && is_before(&row.0, &best.0))
 }
@@ -96,7 +97,9 @@ fn step_back(
 ) -> Option<TaskId>
     requires levels { HasAllLevels m.now weights.now table.now.entries }
     requires task { IsTask m.now t.now }
-    ensures { MatchOption result (IsLevel m.now weights.now t.now (weighing.weight weights.now t.now)) (λ s. (IsLevel m.now weights.now t.now (weighing.weight weights.now t.now) → ⊥) × IsLeast (IsHeaviestSource m.now weights.now t.now) s) }
+    ensures { MatchOption result (IsLevel m.now weights.now t.now (weighing.weight weights.now t.now)) (λ s.
+        (IsLevel m.now weights.now t.now (weighing.weight weights.now t.now) → ⊥)
+        × IsLeast (IsHeaviestSource m.now weights.now t.now) s) }
 {
     let plan = m.plan();
     let w = weight_of(weights, t);

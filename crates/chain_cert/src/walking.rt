@@ -31,7 +31,8 @@ pub(crate) fn printed_cycle(
     m: &Matched,
 ) -> Result<Seq<TaskId>, OutOfMemory>
     requires { (order : List Task) × LacksTasks m.now order table.now.entries }
-    ensures { IfOk result (λ cycle. (order : List Task) → LacksTasks m.now order table.now.entries → IsPrintedCycle m.now order cycle) }
+    ensures { IfOk result (λ cycle.
+        (order : List Task) → LacksTasks m.now order table.now.entries → IsPrintedCycle m.now order cycle) }
 {
     let plan = m.plan();
     let mut met: IndexSet<TaskId> = IndexSet::new(alloc);

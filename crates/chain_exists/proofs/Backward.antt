@@ -5,12 +5,13 @@ use Rattle.std.proofs.lemmas.Bool.{false≢true, eqb-true, eq-eqb}
 use Rattle.ptg_base.specs.Lists.{HasNoRepeats, IsIn}
 use Rattle.ptg_base.specs.Task.{Task}
 use Rattle.plan_core.specs.declared.plan.Plan.{Plan}
-use Rattle.range_space.proofs.Stepping.{by_test}
+use Rattle.list_lemmas.proofs.Truth.{by_test}
+use Rattle.list_lemmas.proofs.Distinct.{no_longer, HasNoRepeats-append}
+use Rattle.list_lemmas.proofs.Tasks.{member_or_not}
 use Rattle.dep_iter.specs.Tasks.{IsTask, all_tasks}
 use Rattle.dep_iter.specs.Edges.{sources}
 use Rattle.dep_iter.specs.Consistent.{IsConsistent}
 use Rattle.dep_iter.proofs.Listing.{listed}
-use Rattle.task_order.proofs.Lists.{at_most, member_or_not, once_both}
 use Rattle.chain_cert.specs.Certificates.{AreLevels}
 use Rattle.chain_cert.specs.Chains.{HasNoCycle}
 use Rattle.chain_cert.specs.Finding.{HasAllLevels, IsHeaviestRow, LacksTasks, is_heaviest_source, is_left, level_in}
@@ -80,8 +81,8 @@ module _ (P : Plan) (con : IsConsistent P) (order : List Task) (table : List (Ta
     | inl i ↦ inl (closed met t i w)
     | inr new ↦
         let once : HasNoRepeats (met ++ t ∷ []) =
-        once_both met (t ∷ []) w.once ((λ i. i), tt) (λ x i j. elim j [ inl q ↦ new (subst (λ u. IsIn u met) q i) | inr never ↦ never ]) in
-        let few = at_most (met ++ t ∷ []) (all_tasks P) once (λ u i. (listed P u).0 (walk_left P con order (met ++ t ∷ []) w.walk u i).task) in
+        HasNoRepeats-append met (t ∷ []) w.once ((λ i. i), tt) (λ x i j. elim j [ inl q ↦ new (subst (λ u. IsIn u met) q i) | inr never ↦ never ]) in
+        let few = no_longer (met ++ t ∷ []) (all_tasks P) once (λ u i. (listed P u).0 (walk_left P con order (met ++ t ∷ []) w.walk u i).task) in
         let next = least_of (is_left table) (sources P t) in
         inr (omega (arith, few, length-append met (t ∷ [])), on once next.0 (walk_next P order table lacks con met t next.0 w.walk next.1))
   ]

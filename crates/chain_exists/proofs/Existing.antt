@@ -10,7 +10,8 @@ use Rattle.dep_iter.proofs.Listing.{listed}
 use Rattle.flow_meaning.specs.declared.outcome.TrapRow.{TrapRow}
 use Rattle.flow_meaning.specs.Answer.{ran, trapped}
 use Rattle.task_order.specs.Greatest.{IsGreatestOrder}
-use Rattle.task_order.proofs.Lists.{at_most, member_or_not}
+use Rattle.list_lemmas.proofs.Distinct.{no_longer}
+use Rattle.list_lemmas.proofs.Tasks.{member_or_not}
 use Rattle.task_order.proofs.Orders.{legal_once, legal_tasks}
 use Rattle.task_order.proofs.Running.{members_ran}
 use Rattle.chain_cert.specs.declared.certificate.Certificate.{Certificate}
@@ -39,7 +40,7 @@ module _ (P : Plan) (con : IsConsistent P) (order : List Task) (g : IsGreatestOr
   module _ (G : Data) (ws : List ℕ) (calm : trapped P G ≡ []) where
     chain_certificate : ((t : Task) → IsIn t (all_tasks P) → IsIn t order) → (c : Certificate) × IsCertificate P G ws c
     chain_certificate inside =
-        let none = no_cycle P order g.legal (at_most (all_tasks P) order (all_once P) inside) in
+        let none = no_cycle P order g.legal (no_longer (all_tasks P) order (all_once P) inside) in
         let rows = level_rows P ws (tasks_in_order P) (λ t i. levels_in P ws order g.legal t (inside t ((listed P t).0 ((sorted_task P t).0 i)))) in
         let levels : AreLevels P ws rows.0 = record { tasks = rows.1.tasks; each = rows.1.each } in
         let chain = some_chain P con ws none rows.0 levels (λ t job. rows.1.found t ((sorted_task P t).1 job)) in
@@ -50,7 +51,7 @@ module _ (P : Plan) (con : IsConsistent P) (order : List Task) (g : IsGreatestOr
         let rows = level_rows P ws order (levels_in P ws order g.legal) in
         let once = legal_once P [] order g.legal in
         let few : length (t ∷ order) ≤ length (all_tasks P) =
-        at_most (t ∷ order) (all_tasks P) (out, once) (λ u j. elim j [ inl e ↦ subst (λ v. IsIn v (all_tasks P)) (sym e) i | inr later ↦ (listed P u).0 (legal_tasks P [] order g.legal u later) ]) in
+        no_longer (t ∷ order) (all_tasks P) (out, once) (λ u j. elim j [ inl e ↦ subst (λ v. IsIn v (all_tasks P)) (sym e) i | inr later ↦ (listed P u).0 (legal_tasks P [] order g.legal u later) ]) in
         let lacks : LacksTasks P order rows.0 = record {
           greatest = g;
           members = λ u. (

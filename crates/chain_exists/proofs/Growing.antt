@@ -6,14 +6,15 @@ use Rattle.ptg_base.specs.Lists.{IsIn}
 use Rattle.ptg_base.specs.Task.{Task}
 use Rattle.ptg_base.specs.declared.edge.Edge.{Edge}
 use Rattle.plan_core.specs.declared.plan.Plan.{Plan}
-use Rattle.range_space.proofs.MemberLists.{from_append, from_map}
-use Rattle.range_space.proofs.Stepping.{by_test}
+use Rattle.list_lemmas.proofs.Members.{from_append, from_map}
+use Rattle.list_lemmas.proofs.Truth.{by_test}
+use Rattle.list_lemmas.proofs.Distinct.{no_longer}
+use Rattle.list_lemmas.proofs.Tasks.{member_or_not}
 use Rattle.dep_iter.specs.Tasks.{IsTask, all_tasks}
 use Rattle.dep_iter.specs.Edges.{in_edges, sources}
 use Rattle.dep_iter.proofs.Listing.{listed}
 use Rattle.flow_meaning.specs.Order.{IsLegalAfter, IsLegalOrder, MayFollow}
 use Rattle.task_order.specs.Greatest.{IsGreatestOrder}
-use Rattle.task_order.proofs.Lists.{at_most, member_or_not}
 use Rattle.task_order.proofs.Orders.{legal_once, legal_push, legal_tasks}
 use Rattle.chain_cert.specs.Chains.{IsSourceOf}
 use Rattle.chain_cert.specs.Levels.{IsLevel}
@@ -53,7 +54,7 @@ module _ (P : Plan) where
   ]
 
   legal_at_most : (ts : List Task) → IsLegalOrder P ts → length ts ≤ length (all_tasks P)
-  legal_at_most ts legal = at_most ts (all_tasks P) (legal_once P [] ts legal) (λ t i. (listed P t).0 (legal_tasks P [] ts legal t i))
+  legal_at_most ts legal = no_longer ts (all_tasks P) (legal_once P [] ts legal) (λ t i. (listed P t).0 (legal_tasks P [] ts legal t i))
 
   -- a legal order after which none may follow is a greatest one
   stops : (ts : List Task) → IsLegalOrder P ts → ((t : Task) → IsIn t (all_tasks P) → MayFollow P ts t → ⊥) → IsGreatestOrder P ts

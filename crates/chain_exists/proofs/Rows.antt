@@ -10,7 +10,7 @@ use Rattle.ptg_base.specs.TaskComparing.{same_task}
 use Rattle.ptg_base.specs.TaskLaws.{same_task-decides}
 use Rattle.ptg_base.specs.TaskOrder.{task_before}
 use Rattle.plan_core.specs.declared.plan.Plan.{Plan}
-use Rattle.range_space.proofs.Stepping.{by_test}
+use Rattle.list_lemmas.proofs.Truth.{by_test}
 use Rattle.chain_cert.specs.Checking.{tasks_of}
 use Rattle.chain_cert.specs.Finding.{IsHeaviestRow, IsLeastWhere}
 use Rattle.chain_cert.specs.Levels.{IsLevel}

@@ -1,8 +1,8 @@
 -- An element whose names are resolved exists.
-use Rattle.std.proofs.Common.{◌≡◌, ℕ, zero, suc, ◌<◌, Bool, true, false, not, ◌==◌, cond, List, [], ◌∷◌, length, Some, None, slice_get, IsTrue, refl, sym, ◌∙◌, ap, arith}
+use Rattle.std.proofs.Common.{◌≡◌, ℕ, Bool, true, false, not, ◌==◌, cond, List, [], length, Some, None, slice_get, IsTrue, sym, ◌∙◌, ap}
 use Rattle.std.specs.List.{position, list_all}
 use Rattle.std.specs.Option.{option_map_or}
-use Rattle.std.proofs.lemmas.Bool.{eqb-true, eq-eqb}
+use Rattle.std.proofs.lemmas.Bool.{eqb-true, eq-eqb, and_from, not-false}
 use Rattle.term_core.specs.Term.{Term}
 use Rattle.term_core.specs.Value.{is_closed}
 use Rattle.term_core.specs.declared.space.ClassSpace.{ClassSpace}
@@ -13,27 +13,20 @@ use Rattle.plan_core.specs.Targets.{dimensions, has_dimensions, is_element}
 use Rattle.check_names.specs.Alphabet.{Word, DefTree, ArgTree, Arity}
 use Rattle.check_names.specs.Names.{Job, is_declared, coll_is, coll_named}
 use Rattle.check_names.specs.Arguments.{index_of, indices_faults, indices_of}
-use Rattle.check_names.proofs.Closed.{both_true, position_within, pair_parts}
+use Rattle.check_names.proofs.Closed.{pair_parts}
 use Rattle.check_names.proofs.ClosedArguments.{closed_indices}
-use Rattle.check_names.proofs.NoFaults.{first_nil, holds_not}
+use Rattle.check_names.proofs.NoFaults.{holds_not}
 use Rattle.check_names.proofs.Parts.{each_length}
 use Rattle.check_flows.specs.Places.{dimensions_of, collection_faults, element_faults, element_of}
 use Rattle.check_flows.specs.PartsOfJob.{HaveParts}
-
-pub not_false : (b : Bool) → not b ≡ false → b ≡ true
-not_false true e = refl
-not_false false e = absurd cc
-
-pub at_index : {A : Type 0} (xs : List A) (n : ℕ) → n < length xs → (x : A) × (slice_get xs n ≡ Some x)
-at_index [] n h = absurd (omega (arith, h))
-at_index (x ∷ xs) zero h = (x, refl)
-at_index (x ∷ xs) (suc n) h = at_index xs n (omega (arith, h))
+use Rattle.list_lemmas.proofs.Places.{position_within, slice_get_there}
+use Rattle.list_lemmas.proofs.Joins.{first_nil}
 
 pub coll_there : (job : Job) (name : List ℕ) (n : ℕ) → coll_named job name ≡ Some n → (c : Coll) × (slice_get job.given.colls n ≡ Some c)
 coll_there job name n e = go (is_declared job name) e
   where
     go : (b : Bool) → cond b (position (coll_is name) job.given.colls) None ≡ Some n → (c : Coll) × (slice_get job.given.colls n ≡ Some c)
-    go true f = at_index job.given.colls n (position_within (coll_is name) job.given.colls n f)
+    go true f = slice_get_there job.given.colls n (position_within (coll_is name) job.given.colls n f)
     go false f = absurd cc
 
 pub element_exists : (job : Job) (classes : List ClassPlan) (spaces : List ClassSpace) (colls : List Shape) → HaveParts job classes spaces colls
@@ -45,7 +38,7 @@ element_exists job classes spaces colls parts seen w args x h e =
     let arity : collection_faults job w (length args) (Some x.0) ≡ [] = ap (collection_faults job w (length args)) (sym p.0) ∙ first_nil (collection_faults job w (length args) (coll_named job w.text)) (indices_faults job seen args) h in
     let same = holds_not (not (dimensions_of job x.0 == length args)) w.spot Arity arity in
     let known : dimensions_of job x.0 ≡ dimensions c.0.shape.1 = ap (λ o. option_map_or (λ (c : Coll). dimensions c.shape.1) o 0) c.1 in
-    let count : dimensions c.0.shape.1 ≡ length args = sym known ∙ eqb-true (dimensions_of job x.0) (length args) (not_false (dimensions_of job x.0 == length args) same) in
+    let count : dimensions c.0.shape.1 ≡ length args = sym known ∙ eqb-true (dimensions_of job x.0) (length args) (not-false (dimensions_of job x.0 == length args) same) in
     let as_many : dimensions s.0.cols ≡ length x.1 = ap dimensions s.2.cols ∙ (count ∙ sym (each_length (index_of job seen) args x.1 p.1)) in
-    both_true (has_dimensions colls x.0 (length x.1)) (list_all (is_closed (length seen)) x.1)
+    and_from (has_dimensions colls x.0 (length x.1)) (list_all (is_closed (length seen)) x.1)
     (ap (λ o. option_map_or (λ (s : Shape). dimensions s.cols == length x.1) o false) s.1 ∙ eq-eqb (dimensions s.0.cols) (length x.1) as_many) (closed_indices job seen args x.1 p.1)

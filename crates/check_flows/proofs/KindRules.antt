@@ -10,16 +10,15 @@ use Rattle.plan_core.specs.declared.target.Target.TheVariants as plan
 use Rattle.plan_core.specs.Closed.{is_span}
 use Rattle.plan_core.specs.Kinds as kinds
 use Rattle.plan_core.specs.Flows.{is_in_target, is_out_target}
-use Rattle.check_names.proofs.Closed.{both_true}
+use Rattle.std.proofs.lemmas.Bool.{and_from, not-false}
 use Rattle.check_flows.specs.Kinds.{is_control, is_write, are_mixed}
-use Rattle.check_flows.proofs.Elements.{not_false}
 
 -- two flows of which none carries order and the other a tile
 pub same_sort : (k j : FlowKind) → are_mixed k j ≡ false → is_control j ≡ is_control k
 same_sort k j e = go (is_control k) (is_control j) e
   where
     go : (a b : Bool) → cond a (not b) b ≡ false → b ≡ a
-    go true b f = not_false b f
+    go true b f = not-false b f
     go false b f = f
 
 data_kind : (j : FlowKind) → is_control j ≡ false → kinds.is_data (Some j) ≡ true
@@ -36,9 +35,9 @@ control_kind Ctl h = refl
 
 pub in_task : (classes : List ClassPlan) (k j : FlowKind) (n m : ℕ) (args : List Arg) → kinds.kind_of classes n m ≡ Some j → is_control j ≡ is_control k → is_write k ≡ false → (is_control k ≡ false → list_any is_span args ≡ false)
     → IsTrue (is_in_target classes k (plan.Task n m args))
-in_task classes Read j n m args at same w spans = both_true (kinds.is_data (kinds.kind_of classes n m)) (not (list_any is_span args)) (ap kinds.is_data at ∙ data_kind j same) (ap not (spans refl))
+in_task classes Read j n m args at same w spans = and_from (kinds.is_data (kinds.kind_of classes n m)) (not (list_any is_span args)) (ap kinds.is_data at ∙ data_kind j same) (ap not (spans refl))
 in_task classes Write j n m args at same w spans = absurd cc
-in_task classes Rw j n m args at same w spans = both_true (kinds.is_data (kinds.kind_of classes n m)) (not (list_any is_span args)) (ap kinds.is_data at ∙ data_kind j same) (ap not (spans refl))
+in_task classes Rw j n m args at same w spans = and_from (kinds.is_data (kinds.kind_of classes n m)) (not (list_any is_span args)) (ap kinds.is_data at ∙ data_kind j same) (ap not (spans refl))
 in_task classes Ctl j n m args at same w spans = ap kinds.is_control at ∙ control_kind j same
 
 pub out_task : (classes : List ClassPlan) (k j : FlowKind) (n m : ℕ) (args : List Arg) → kinds.kind_of classes n m ≡ Some j → is_control j ≡ is_control k → IsTrue (is_out_target classes k (plan.Task n m args))

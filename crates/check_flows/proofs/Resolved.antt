@@ -14,8 +14,10 @@ use Rattle.check_names.specs.Returns.{both, each_option}
 use Rattle.check_names.specs.Names.{Job, class_named, flow_named, coll_named}
 use Rattle.check_names.specs.Arguments.{arguments_faults, arguments_of, indices_faults, indices_of}
 use Rattle.check_names.specs.Expressions.{option_faults, option_term}
-use Rattle.check_names.proofs.NoFaults.{first_nil, rest_nil, itself}
-use Rattle.check_names.proofs.AllThere.{some_map, some_both, not_none, both_there, each_there, maybe_there}
+use Rattle.list_lemmas.proofs.Joins.{first_nil, rest_nil}
+use Rattle.list_lemmas.proofs.Texts.{bytes_eq-self}
+use Rattle.list_lemmas.proofs.Options.{IsSome-option_map}
+use Rattle.check_names.proofs.AllThere.{some_both, not_none, both_there, each_there, maybe_there}
 use Rattle.check_names.proofs.Resolved.{option_there, arguments_there, indices_there}
 use Rattle.check_flows.specs.Kinds.{is_control}
 use Rattle.check_flows.specs.Places.{collection_faults, element_faults, element_of}
@@ -58,7 +60,7 @@ target_there job seen (tree.Task flow class args) h =
     let number = class_named job class.text in
     both_there task_from (task_of job flow number) (arguments_of job seen args) (task_faults flow class (length args) (class_at job number)) (arguments_faults job seen args)
     (task_there job flow class (length args) number) (arguments_there job seen args) h
-target_there job seen (tree.Element coll args) h = some_map (λ (x : ℕ × List Term). plan.Element x.0 x.1) (element_of job seen coll args) (element_there job seen coll args h)
+target_there job seen (tree.Element coll args) h = IsSome-option_map (λ (x : ℕ × List Term). plan.Element x.0 x.1) (element_of job seen coll args) (element_there job seen coll args h)
 target_there job seen (tree.New spot) h = refl
 target_there job seen (tree.Null spot) h = refl
 
@@ -90,7 +92,7 @@ ways_there job seen flow deps h =
 -- each flow may have the type DEFAULT
 default_allowed : (d : Data) (kind : FlowKind) → IsSome (allowed_type d kind default_name)
 default_allowed d kind =
-    subst (λ b. IsSome (cond (is_control kind && not b) None (cond b (Some 0) (option_map suc (position (type_is default_name) d.types))))) (sym (itself default_name)) (go (is_control kind))
+    subst (λ b. IsSome (cond (is_control kind && not b) None (cond b (Some 0) (option_map suc (position (type_is default_name) d.types))))) (sym (bytes_eq-self default_name)) (go (is_control kind))
   where
     go : (c : Bool) → IsSome (cond (c && not true) None (cond true (Some 0) (option_map suc (position (type_is default_name) d.types))))
     go true = refl

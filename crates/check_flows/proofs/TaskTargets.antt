@@ -1,14 +1,11 @@
 -- The class and the flow that a target in tasks names.
-use Rattle.std.proofs.Common.{◌≡◌, ℕ, Option, Some, None, slice_get, option_and_then, refl, sym, ◌∙◌, ap}
+use Rattle.std.proofs.Common.{◌≡◌, ℕ, Some, slice_get, option_and_then, sym, ◌∙◌, ap}
 use Rattle.check_names.specs.Alphabet.{Word, FlowTree, ClassTree}
 use Rattle.check_names.specs.Names.{Job, word_is, class_named, class_of, flow_named, flow_of}
-use Rattle.check_names.proofs.Closed.{position_within, pair_parts}
+use Rattle.check_names.proofs.Closed.{pair_parts}
 use Rattle.check_flows.specs.Targets.{class_at, task_of}
-use Rattle.check_flows.proofs.Elements.{at_index}
-
-and_then_there : {A B : Type 0} (f : A → Option B) (o : Option A) (y : B) → option_and_then f o ≡ Some y → (x : A) × (o ≡ Some x) × (f x ≡ Some y)
-and_then_there f None y e = absurd cc
-and_then_there f (Some x) y e = (x, refl, e)
+use Rattle.list_lemmas.proofs.Places.{position_within, slice_get_there}
+use Rattle.list_lemmas.proofs.Options.{from_option_and_then}
 
 pub record TaskThere (job : Job) (flow class : Word) (x : ℕ × ℕ) : Type 0 where
   pub class_tree : ClassTree
@@ -22,8 +19,8 @@ pub record TaskThere (job : Job) (flow class : Word) (x : ℕ × ℕ) : Type 0 w
 pub task_there : (job : Job) (flow class : Word) (x : ℕ × ℕ) → task_of job flow (class_named job class.text) ≡ Some x → TaskThere job flow class x
 task_there job flow class x e =
     let p = pair_parts (class_named job class.text) (option_and_then (λ (c : ClassTree). flow_named c flow.text) (class_at job (class_named job class.text))) x e in
-    let c = and_then_there (λ (c : ClassTree). flow_named c flow.text) (class_at job (class_named job class.text)) x.1 p.1 in
-    let f = at_index c.0.flows x.1 (position_within (λ (f : FlowTree). word_is flow.text f.name) c.0.flows x.1 c.2) in
+    let c = from_option_and_then (λ (c : ClassTree). flow_named c flow.text) (class_at job (class_named job class.text)) x.1 p.1 in
+    let f = slice_get_there c.0.flows x.1 (position_within (λ (f : FlowTree). word_is flow.text f.name) c.0.flows x.1 c.2) in
     record {
       class_tree = c.0;
       flow_tree = f.0;

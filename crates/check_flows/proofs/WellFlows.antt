@@ -1,7 +1,7 @@
 -- A flow whose names are resolved, and that breaks no rule, is one that a plan may have.
 use Rattle.std.proofs.Common.{◌≡◌, ℕ, suc, ◌+◌, Bool, true, false, not, ◌&&◌, cond, List, [], ◌∷◌, ◌++◌, length, filter, flat_map, Option, Some, None, is_some, IsSome, nat_le, IsTrue, refl, sym, ◌∙◌, ap, subst, arith}
 use Rattle.std.specs.List.{list_all, AllByRecursion}
-use Rattle.std.proofs.lemmas.Bool.{false≢true, le-leb}
+use Rattle.std.proofs.lemmas.Bool.{false≢true, le-leb, and_from}
 use Rattle.std.proofs.lemmas.List.Filters.{length-filter_both}
 use Rattle.term_core.specs.Term.{Term}
 use Rattle.term_core.specs.declared.space.ClassSpace.{ClassSpace}
@@ -19,24 +19,26 @@ use Rattle.check_names.specs.Alphabet.{JdfFault, DefTree, TargetTree, DepTree, F
 use Rattle.check_names.specs.Names.{Job}
 use Rattle.check_names.specs.Returns.{both, each, each_option}
 use Rattle.check_names.specs.Expressions.{term_of, option_faults, option_term}
-use Rattle.check_names.proofs.Closed.{both_true, some_once, pair_parts}
+use Rattle.check_names.proofs.Closed.{pair_parts}
 use Rattle.check_names.proofs.ClosedArguments.{closed_option}
-use Rattle.check_names.proofs.NoFaults.{first_nil, rest_nil, parts_of, option_there}
+use Rattle.check_names.proofs.NoFaults.{parts_of, option_there}
 use Rattle.check_names.proofs.Parts.{each_length}
 use Rattle.check_flows.specs.Datatypes.{written_faults, first_written, type_of_flow, flow_type}
 use Rattle.check_flows.specs.Targets.{target_of}
 use Rattle.check_flows.specs.Dependences.{target_faults, second_faults, type_faults, dependence_faults, dependence_of, is_of_way, dependences_of, dependences_faults, ways_of, flow_faults, flow_from, flow_plan}
-use Rattle.check_flows.specs.PartsOfJob.{IsFlowOf, HaveParts}
+use Rattle.check_flows.specs.PartsOfJob.{HaveParts}
 use Rattle.check_flows.proofs.TypeRules.{datatype_allowed}
 use Rattle.check_flows.proofs.Ways.{dep_from}
 use Rattle.check_flows.proofs.WellTargets.{allowed, IsWellTarget, target_well}
+use Rattle.std.proofs.lemmas.Option.{same_Some}
+use Rattle.list_lemmas.proofs.Joins.{first_nil, rest_nil}
 
 -- ---- lists
 
 -- what holds of each element that is kept
 parts_kept : {A B : Type 0} (f : A → Option B) (g : A → List JdfFault) (keep : A → Bool) (p : B → Bool) (P : A → Type 0) → ((a : A) (b : B) → keep a ≡ true → P a → g a ≡ [] → f a ≡ Some b → IsTrue (p b))
     → (xs : List A) (ys : List B) → AllByRecursion P xs → flat_map g (filter keep xs) ≡ [] → each f (filter keep xs) ≡ Some ys → IsTrue (list_all p ys)
-parts_kept f g keep p P h [] ys all none e = subst (λ l. IsTrue (list_all p l)) (some_once [] ys e) refl
+parts_kept f g keep p P h [] ys all none e = subst (λ l. IsTrue (list_all p l)) (same_Some [] ys e) refl
 parts_kept {A} {B} f g keep p P h (x ∷ xs) ys all none e = go (keep x) refl (λ zs n s. parts_kept f g keep p P h xs zs all.1 n s) none e
   where
     go : (b : Bool) → keep x ≡ b → ((zs : List B) → flat_map g (filter keep xs) ≡ [] → each f (filter keep xs) ≡ Some zs → IsTrue (list_all p zs))
@@ -44,7 +46,7 @@ parts_kept {A} {B} f g keep p P h (x ∷ xs) ys all none e = go (keep x) refl (�
     go true k more n s =
         let q = parts_of (λ y ys. y ∷ ys) (f x) (each f (filter keep xs)) ys s in
         subst (λ l. IsTrue (list_all p l)) q.4
-        (both_true (p q.0) (list_all p q.1) (h x q.0 k all.0 (first_nil (g x) (flat_map g (filter keep xs)) n) q.2) (more q.1 (rest_nil (g x) (flat_map g (filter keep xs)) n) q.3))
+        (and_from (p q.0) (list_all p q.1) (h x q.0 k all.0 (first_nil (g x) (flat_map g (filter keep xs)) n) q.2) (more q.1 (rest_nil (g x) (flat_map g (filter keep xs)) n) q.3))
     go false k more n s = more ys n s
 
 of_way : (inward : Bool) (dep : DepTree) → is_of_way inward dep ≡ true → dep.inward ≡ inward
@@ -66,22 +68,22 @@ module _ (job : Job) (classes : List ClassPlan) (spaces : List ClassSpace) (coll
     where
       passes : (b : Bool) (q : Target) → IsWellTarget classes spaces colls (length seen) p.datatype p.kind b q → IsTrue (ends classes spaces colls (length seen) p b q)
       passes true q w =
-          both_true (exists_target classes spaces colls (length seen) q && has_datatype classes colls p.datatype q) (allowed classes p.kind true q)
-          (both_true (exists_target classes spaces colls (length seen) q) (has_datatype classes colls p.datatype q) w.exists w.typed) w.kind
+          and_from (exists_target classes spaces colls (length seen) q && has_datatype classes colls p.datatype q) (allowed classes p.kind true q)
+          (and_from (exists_target classes spaces colls (length seen) q) (has_datatype classes colls p.datatype q) w.exists w.typed) w.kind
       passes false q w =
-          both_true (exists_target classes spaces colls (length seen) q && has_datatype classes colls p.datatype q) (allowed classes p.kind false q)
-          (both_true (exists_target classes spaces colls (length seen) q) (has_datatype classes colls p.datatype q) w.exists w.typed) w.kind
+          and_from (exists_target classes spaces colls (length seen) q && has_datatype classes colls p.datatype q) (allowed classes p.kind false q)
+          (and_from (exists_target classes spaces colls (length seen) q) (has_datatype classes colls p.datatype q) w.exists w.typed) w.kind
 
   -- a second target has a guard, and passes
   second_passes : (inward : Bool) (guard : Option Expression) (g : Option Term) (no : Option TargetTree) (o : Option Target) → (IsSome no → IsSome guard) → option_term job seen guard ≡ Some g
       → second_faults (target_faults job seen flow inward) no ≡ [] → each_option (target_of job seen) no ≡ Some o → IsTrue (is_second (ends classes spaces colls (length seen) p inward) g o)
-  second_passes inward guard g None o guarded eg h e = subst (λ z. IsTrue (is_second (ends classes spaces colls (length seen) p inward) g z)) (some_once None o e) refl
+  second_passes inward guard g None o guarded eg h e = subst (λ z. IsTrue (is_second (ends classes spaces colls (length seen) p inward) g z)) (same_Some None o e) refl
   second_passes inward None g (Some t) o guarded eg h e = absurd (false≢true (guarded refl))
   second_passes inward (Some c) g (Some t) o guarded eg h e =
       let q = option_there (target_of job seen) t o e in
       let w = option_there (term_of job seen) c g eg in
       subst (λ z. IsTrue (is_second (ends classes spaces colls (length seen) p inward) g z)) q.2
-      (both_true (is_some g) (ends classes spaces colls (length seen) p inward q.0) (ap is_some (sym w.2)) (target_passes inward t q.0 h q.1))
+      (and_from (is_some g) (ends classes spaces colls (length seen) p inward q.0) (ap is_some (sym w.2)) (target_passes inward t q.0 h q.1))
 
   dependence_passes : (inward : Bool) (dep : DepTree) (d : DepPlan) → is_of_way inward dep ≡ true → HasGuardForSecond dep → dependence_faults job seen flow dep ≡ [] → dependence_of job seen dep ≡ Some d
       → IsTrue (is_dependence (length seen) (ends classes spaces colls (length seen) p inward) d)
@@ -96,8 +98,8 @@ module _ (job : Job) (classes : List ClassPlan) (spaces : List ClassSpace) (coll
       let no : second_faults (target_faults job seen flow inward) dep.no ≡ [] = ap (λ b. second_faults (target_faults job seen flow b) dep.no) (sym same) ∙ rest_nil first second targets in
       let passes = ends classes spaces colls (length seen) p inward in
       subst (λ z. IsTrue (is_dependence (length seen) passes z)) q.4
-      (both_true (is_closed_option (length seen) q.0 && passes q.1.0) (is_second passes q.0 q.1.1)
-      (both_true (is_closed_option (length seen) q.0) (passes q.1.0) (closed_option job seen dep.guard q.0 q.2) (target_passes inward dep.yes q.1.0 yes two.0)) (second_passes inward dep.guard q.0 dep.no q.1.1 guarded q.2 no two.1))
+      (and_from (is_closed_option (length seen) q.0 && passes q.1.0) (is_second passes q.0 q.1.1)
+      (and_from (is_closed_option (length seen) q.0) (passes q.1.0) (closed_option job seen dep.guard q.0 q.2) (target_passes inward dep.yes q.1.0 yes two.0)) (second_passes inward dep.guard q.0 dep.no q.1.1 guarded q.2 no two.1))
 
   dependences_pass : (inward : Bool) (deps : List DepTree) (ds : List DepPlan) → AllByRecursion HasGuardForSecond deps → dependences_faults job seen flow inward deps ≡ [] → dependences_of job seen inward deps ≡ Some ds
       → IsTrue (list_all (is_dependence (length seen) (ends classes spaces colls (length seen) p inward)) ds)
@@ -111,15 +113,6 @@ both_counts job seen deps ins outs e f =
     let a = each_length (dependence_of job seen) (filter (is_of_way true) deps) ins e in
     let b = each_length (dependence_of job seen) (filter (is_of_way false) deps) outs f in
     (λ i. a i + b i) ∙ length-filter_both (is_of_way true) (is_of_way false) (λ dep. refl) deps
-
--- the flow has the kind and the datatype of its tree
-pub flow_is : (job : Job) (seen : List DefTree) (flow : FlowTree) (p : FlowPlan) → flow_plan job seen flow ≡ Some p → IsFlowOf job.given flow p
-flow_is job seen flow p e =
-    let q = parts_of (flow_from flow) (flow_type job.given flow) (ways_of job seen flow.deps) p e in
-    subst (IsFlowOf job.given flow) q.4 (record { kind = refl; datatype = q.2 })
-
-pub flow_name : (job : Job) (seen : List DefTree) (flow : FlowTree) (p : FlowPlan) → flow_plan job seen flow ≡ Some p → p.name ≡ flow.name.text
-flow_name job seen flow p e = let q = parts_of (flow_from flow) (flow_type job.given flow) (ways_of job seen flow.deps) p e in ap (λ (f : FlowPlan). f.name) (sym q.4)
 
 pub well_flow : (job : Job) (classes : List ClassPlan) (spaces : List ClassSpace) (colls : List Shape) → HaveParts job classes spaces colls → (seen : List DefTree) (flow : FlowTree) (p : FlowPlan) → IsFlowWithinLimits flow
     → flow_faults job seen flow ≡ [] → flow_plan job seen flow ≡ Some p → IsTrue (is_flow classes spaces colls (suc (length job.given.types)) (length seen) p)
@@ -139,8 +132,8 @@ well_flow job classes spaces colls parts seen flow p within h e =
     let all_in = list_all (is_dependence locals (is_source classes spaces colls locals made)) q.1.0 in
     let all_out = list_all (is_dependence locals (is_destination classes spaces colls locals made)) q.1.1 in
     subst (λ z. IsTrue (is_flow classes spaces colls types locals z)) q.4
-    (both_true (typed && few && all_in) all_out
-    (both_true (typed && few) all_in
-    (both_true typed few (datatype_allowed job.given flow.kind (type_of_flow flow) q.0 q.2) (le-leb (length q.1.0 + length q.1.1) 16 (omega (arith, count, short))))
+    (and_from (typed && few && all_in) all_out
+    (and_from (typed && few) all_in
+    (and_from typed few (datatype_allowed job.given flow.kind (type_of_flow flow) q.0 q.2) (le-leb (length q.1.0 + length q.1.1) 16 (omega (arith, count, short))))
     (dependences_pass job classes spaces colls parts seen flow made q.2 refl true flow.deps q.1.0 within.deps (first_nil ins outs none) two.0))
     (dependences_pass job classes spaces colls parts seen flow made q.2 refl false flow.deps q.1.1 within.deps (rest_nil ins outs none) two.1))

@@ -1,8 +1,9 @@
--- A target whose names are resolved, and that breaks no rule, exists, has the flow's datatype and is one that the flow may have.
+-- A target whose names are resolved, and that breaks no rule, exists, has the flow's datatype and is one that the flow
+-- may have.
 use Rattle.std.proofs.Common.{◌≡◌, ℕ, Bool, true, false, not, ◌&&◌, ◌==◌, cond, List, [], ◌++◌, length, Some, option_map, is_some, IsTrue, refl, sym, ◌∙◌, ap, subst}
 use Rattle.std.specs.List.{list_all}
 use Rattle.std.specs.Option.{option_map_or}
-use Rattle.std.proofs.lemmas.Bool.{false≢true, eqb-true, eq-eqb}
+use Rattle.std.proofs.lemmas.Bool.{false≢true, eqb-true, eq-eqb, and_from, not-false}
 use Rattle.term_core.specs.Term.{Term}
 use Rattle.term_core.specs.declared.flow.FlowKind.{FlowKind}
 use Rattle.term_core.specs.declared.space.ClassSpace.{ClassSpace}
@@ -21,9 +22,9 @@ use Rattle.check_names.specs.Alphabet.{Spot, Word, ArgTree, DefTree, TargetTree,
 use Rattle.check_names.specs.Faults.{fault_if}
 use Rattle.check_names.specs.Names.{Job, coll_named, class_named}
 use Rattle.check_names.specs.Arguments.{argument_of, arguments_faults, arguments_of, ranges_faults, indices_of}
-use Rattle.check_names.proofs.Closed.{both_true, some_once, pair_parts}
+use Rattle.check_names.proofs.Closed.{pair_parts}
 use Rattle.check_names.proofs.ClosedArguments.{closed_arguments, no_ranges}
-use Rattle.check_names.proofs.NoFaults.{first_nil, rest_nil, holds_not, parts_of, mapped_there}
+use Rattle.check_names.proofs.NoFaults.{holds_not, parts_of}
 use Rattle.check_names.proofs.Parts.{each_length}
 use Rattle.check_flows.specs.Kinds.{is_control, is_write}
 use Rattle.check_flows.specs.Datatypes.{type_of_flow, flow_type}
@@ -32,10 +33,13 @@ use Rattle.check_flows.specs.Targets.{first_spot, class_faults, task_faults, cla
 use Rattle.check_flows.specs.Rules.{mixes_flows, is_mixed, task_ranges, in_faults, out_faults, has_other_type, is_other_flow, type_differs, rule_faults}
 use Rattle.check_flows.specs.Dependences.{target_faults}
 use Rattle.check_flows.specs.PartsOfJob.{HaveParts}
-use Rattle.check_flows.proofs.Elements.{not_false, coll_there, element_exists}
+use Rattle.check_flows.proofs.Elements.{coll_there, element_exists}
 use Rattle.check_flows.proofs.TaskTargets.{TaskThere, task_there}
 use Rattle.check_flows.proofs.KindRules.{same_sort, in_task, out_task, in_element, out_element, in_new, in_null, out_null}
 use Rattle.check_flows.proofs.TypeRules.{flows_agree, element_agrees}
+use Rattle.std.proofs.lemmas.Option.{same_Some as some_once}
+use Rattle.list_lemmas.proofs.Joins.{first_nil, rest_nil}
+use Rattle.list_lemmas.proofs.Options.{from_option_map}
 
 -- what a direction allows
 abbrev pub allowed : List ClassPlan → FlowKind → Bool → Target → Bool
@@ -83,11 +87,11 @@ module _ (job : Job) (classes : List ClassPlan) (spaces : List ClassSpace) (coll
         let p = parts.flow x.0 x.1 c there.flow_tree there.class_is there.flow_is in
         let known : class_faults name class (length args) c ≡ [] = ap (task_faults name class (length args)) (sym there.known) ∙ first_nil (task_faults name class (length args) (class_at job (class_named job class.text))) (arguments_faults job seen args) h in
         let arity = holds_not (not (length c.params == length args)) class.spot Arity (first_nil _ _ known) in
-        let count : length c.params ≡ length ys = eqb-true (length c.params) (length args) (not_false (length c.params == length args) arity) ∙ sym (each_length (argument_of job seen) args ys closed) in
+        let count : length c.params ≡ length ys = eqb-true (length c.params) (length args) (not-false (length c.params == length args) arity) ∙ sym (each_length (argument_of job seen) args ys closed) in
         let params : IsTrue (has_params spaces x.0 (length ys)) = subst (λ m. IsTrue (has_params spaces x.0 m)) count (parts.params x.0 c there.class_is) in
         let named : IsTrue (is_some (kinds.flow_of classes x.0 x.1)) = ap is_some p.1 in
-        both_true (is_some (kinds.flow_of classes x.0 x.1) && has_params spaces x.0 (length ys)) (list_all (is_closed_arg (length seen)) ys)
-        (both_true (is_some (kinds.flow_of classes x.0 x.1)) (has_params spaces x.0 (length ys)) named params) (closed_arguments job seen args ys closed)
+        and_from (is_some (kinds.flow_of classes x.0 x.1) && has_params spaces x.0 (length ys)) (list_all (is_closed_arg (length seen)) ys)
+        (and_from (is_some (kinds.flow_of classes x.0 x.1)) (has_params spaces x.0 (length ys)) named params) (closed_arguments job seen args ys closed)
 
     task_sort : is_mixed job flow.kind (tree.Task name class args) ≡ false → is_control there.flow_tree.kind ≡ is_control flow.kind
     task_sort h = same_sort flow.kind there.flow_tree.kind (ap (mixes_flows flow.kind) (sym there.named) ∙ h)
@@ -134,7 +138,7 @@ module _ (job : Job) (classes : List ClassPlan) (spaces : List ClassSpace) (coll
 
   element_well : (inward : Bool) (name : Word) (args : List ArgTree) (t : Target) → target_faults job seen flow inward (tree.Element name args) ≡ [] → target_of job seen (tree.Element name args) ≡ Some t → IsWell inward t
   element_well inward name args t h e =
-      let q = mapped_there (λ (x : ℕ × List Term). plan.Element x.0 x.1) (element_of job seen name args) t e in
+      let q = from_option_map (λ (x : ℕ × List Term). plan.Element x.0 x.1) (element_of job seen name args) t e in
       let x = q.0 in
       let named = first_nil (named_faults job seen (tree.Element name args)) (rule_faults job flow inward (tree.Element name args)) h in
       let rules = keeps_rules job flow inward (tree.Element name args) (rest_nil (named_faults job seen (tree.Element name args)) (rule_faults job flow inward (tree.Element name args)) h) in

@@ -1,4 +1,5 @@
--- The datatypes of flows and collections: the number of elements of a tile goes by its type's name. Source: the JDF documentation; that a flow has the type of its first dependence is this project's own choice.
+-- The datatypes of flows and collections: the number of elements of a tile goes by its type's name. Source: the JDF
+-- documentation; that a flow has the type of its first dependence is this project's own choice.
 use Rattle.std.specs.Prelude.{ℕ, suc, Bool, not, ◌&&◌, List, [], ◌∷◌, codes, Option, Some, None, is_none, option_map, position, if◌then◌else◌}
 use Rattle.std.specs.Option.{option_map_or}
 use Rattle.std.specs.Str.{bytes_eq}

@@ -1,4 +1,5 @@
--- Dependences and flows. Source: PaRSEC 2013 and the JDF documentation; that all dependences of a flow have one datatype is this project's own choice.
+-- Dependences and flows. Source: PaRSEC 2013 and the JDF documentation; that all dependences of a flow have one
+-- datatype is this project's own choice.
 use Rattle.std.specs.Prelude.{ℕ, Bool, true, false, not, ◌&&◌, List, [], ◌++◌, filter, flat_map, Option, Some, None}
 use Rattle.std.specs.Str.{bytes_eq}
 use Rattle.term_core.specs.Term.{Term}
@@ -60,18 +61,21 @@ abbrev pub dependences_of : Job → List DefTree → Bool → List DepTree → O
 dependences_of job seen inward deps = each (dependence_of job seen) (filter (is_of_way inward) deps)
 
 abbrev pub dependences_faults : Job → List DefTree → FlowTree → Bool → List DepTree → List JdfFault
-dependences_faults job seen flow inward deps = flat_map (dependence_faults job seen flow) (filter (is_of_way inward) deps)
+dependences_faults job seen flow inward deps =
+    flat_map (dependence_faults job seen flow) (filter (is_of_way inward) deps)
 
 -- both the in dependences and the out dependences
 abbrev pub ways_of : Job → List DefTree → List DepTree → Option (List DepPlan × List DepPlan)
 ways_of job seen deps = both (λ x y. (x, y)) (dependences_of job seen true deps) (dependences_of job seen false deps)
 
 abbrev pub ways_faults : Job → List DefTree → FlowTree → List DepTree → List JdfFault
-ways_faults job seen flow deps = dependences_faults job seen flow true deps ++ dependences_faults job seen flow false deps
+ways_faults job seen flow deps =
+    dependences_faults job seen flow true deps ++ dependences_faults job seen flow false deps
 
 -- all faults of a flow: that its type is none of the data is a fault of its first dependence, and is listed twice
 abbrev pub flow_faults : Job → List DefTree → FlowTree → List JdfFault
-flow_faults job seen flow = written_faults job.given flow.kind (first_written flow.deps) ++ ways_faults job seen flow flow.deps
+flow_faults job seen flow =
+    written_faults job.given flow.kind (first_written flow.deps) ++ ways_faults job seen flow flow.deps
 
 -- the flow with a datatype and dependences
 abbrev pub flow_from : FlowTree → ℕ → List DepPlan × List DepPlan → FlowPlan

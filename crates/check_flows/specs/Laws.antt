@@ -29,8 +29,12 @@ FlowsAreWellMade =
 
 -- An element that breaks no rule is resolved.
 abbrev pub ElementIsResolved : Type 0
-ElementIsResolved = (job : Job) (seen : List DefTree) (w : Word) (args : List ArgTree) → element_faults job seen w args ≡ [] → IsSome (element_of job seen w args)
+ElementIsResolved =
+    (job : Job) (seen : List DefTree) (w : Word) (args : List ArgTree) → element_faults job seen w args ≡ []
+    → IsSome (element_of job seen w args)
 
 -- So is a flow.
 abbrev pub FlowIsResolved : Type 0
-FlowIsResolved = (job : Job) (seen : List DefTree) (flow : FlowTree) → flow_faults job seen flow ≡ [] → IsSome (flow_plan job seen flow)
+FlowIsResolved =
+    (job : Job) (seen : List DefTree) (flow : FlowTree) → flow_faults job seen flow ≡ []
+    → IsSome (flow_plan job seen flow)

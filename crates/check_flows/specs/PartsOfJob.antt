@@ -22,8 +22,12 @@ pub record IsShapeOf (c : Coll) (s : Shape) : Type 0 where
   pub cols : s.cols ≡ c.shape.1
   pub datatype : s.datatype ≡ c.datatype
 
--- By number, the classes have each flow of the text, the spaces each class with as many parameters, and the collections each of the data.
+-- By number, the classes have each flow of the text, the spaces each class with as many parameters, and the collections
+-- each of the data.
 pub record HaveParts (job : Job) (classes : List ClassPlan) (spaces : List ClassSpace) (colls : List Shape) : Type 0 where
-  pub flow : (n m : ℕ) (c : ClassTree) (f : FlowTree) → slice_get job.jdf.classes n ≡ Some c → slice_get c.flows m ≡ Some f → (p : FlowPlan) × (flow_of classes n m ≡ Some p) × IsFlowOf job.given f p
-  pub params : (n : ℕ) (c : ClassTree) → slice_get job.jdf.classes n ≡ Some c → IsTrue (has_params spaces n (length c.params))
-  pub coll : (n : ℕ) (c : Coll) → slice_get job.given.colls n ≡ Some c → (s : Shape) × (slice_get colls n ≡ Some s) × IsShapeOf c s
+  pub flow : (n m : ℕ) (c : ClassTree) (f : FlowTree) → slice_get job.jdf.classes n ≡ Some c
+      → slice_get c.flows m ≡ Some f → (p : FlowPlan) × (flow_of classes n m ≡ Some p) × IsFlowOf job.given f p
+  pub params : (n : ℕ) (c : ClassTree) → slice_get job.jdf.classes n ≡ Some c
+      → IsTrue (has_params spaces n (length c.params))
+  pub coll : (n : ℕ) (c : Coll) → slice_get job.given.colls n ≡ Some c
+      → (s : Shape) × (slice_get colls n ≡ Some s) × IsShapeOf c s

@@ -17,11 +17,13 @@ dimensions_of job n = option_map_or (λ (c : Coll). dimensions c.shape.1) (slice
 -- the faults of a name where a collection is named, with so many indices, by the collection's number
 abbrev pub collection_faults : Job → Word → ℕ → Option ℕ → List JdfFault
 collection_faults job w count (Some n) = fault_if (not (dimensions_of job n == count)) w.spot Arity
-collection_faults job w count None = fault w.spot (if is_some (int_named job w.text) then WrongKind else UnknownName) ∷ []
+collection_faults job w count None =
+    fault w.spot (if is_some (int_named job w.text) then WrongKind else UnknownName) ∷ []
 
 -- the faults of a collection with its indices, where these definitions are seen: a range is no index
 abbrev pub element_faults : Job → List DefTree → Word → List ArgTree → List JdfFault
-element_faults job seen w args = collection_faults job w (length args) (coll_named job w.text) ++ indices_faults job seen args
+element_faults job seen w args =
+    collection_faults job w (length args) (coll_named job w.text) ++ indices_faults job seen args
 
 -- the number of the collection, and the indices
 abbrev pub element_of : Job → List DefTree → Word → List ArgTree → Option (ℕ × List Term)

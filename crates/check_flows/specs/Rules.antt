@@ -1,4 +1,5 @@
--- Which targets a flow may have, by its kind and its datatype. Source: PaRSEC 2013 and the JDF documentation; the codes, and that a flow and its targets have one datatype, are this project's own choice.
+-- Which targets a flow may have, by its kind and its datatype. Source: PaRSEC 2013 and the JDF documentation; the
+-- codes, and that a flow and its targets have one datatype, are this project's own choice.
 use Rattle.std.specs.Prelude.{ℕ, Bool, true, false, not, ◌&&◌, ◌==◌, List, [], ◌++◌, Option, None, option_and_then, slice_get, if◌then◌else◌}
 use Rattle.std.specs.Option.{option_map_or}
 use Rattle.std.specs.Str.{bytes_eq}
@@ -16,7 +17,8 @@ use Rattle.check_flows.specs.Targets.{first_spot}
 
 -- the flow that a target names, if it is one of a task and there is one
 abbrev pub flow_of_target : Job → TargetTree → Option FlowTree
-flow_of_target job (tree.Task flow class args) = option_and_then (λ (c : ClassTree). flow_of c flow.text) (class_of job class.text)
+flow_of_target job (tree.Task flow class args) =
+    option_and_then (λ (c : ClassTree). flow_of c flow.text) (class_of job class.text)
 flow_of_target job (tree.Element coll args) = None
 flow_of_target job (tree.New spot) = None
 flow_of_target job (tree.Null spot) = None
@@ -25,7 +27,8 @@ flow_of_target job (tree.Null spot) = None
 abbrev pub mixes_flows : FlowKind → Option FlowTree → Bool
 mixes_flows kind named = option_map_or (λ (f : FlowTree). are_mixed kind f.kind) named false
 
--- whether order would go to a tile, or a tile to order: a CTL flow has only CTL flows as targets, and no other flow has one
+-- whether order would go to a tile, or a tile to order: a CTL flow has only CTL flows as targets, and no other flow has
+-- one
 abbrev pub is_mixed : Job → FlowKind → TargetTree → Bool
 is_mixed job kind (tree.Task flow class args) = mixes_flows kind (flow_of_target job (tree.Task flow class args))
 is_mixed job kind (tree.Element coll args) = is_control kind
@@ -52,7 +55,8 @@ task_ranges (tree.Element coll args) = []
 task_ranges (tree.New spot) = []
 task_ranges (tree.Null spot) = []
 
--- the faults of the target of an in dependence of a flow of this kind: a tile that is only written comes from no task and is there; a tile has one source
+-- the faults of the target of an in dependence of a flow of this kind: a tile that is only written comes from no task
+-- and is there; a tile has one source
 abbrev pub in_faults : FlowKind → TargetTree → List JdfFault
 in_faults kind t =
     fault_if (is_write kind && is_no_start t) (first_spot t) WriteInput ++ (if is_control kind then [] else task_ranges t)
@@ -63,7 +67,9 @@ out_faults t = fault_if (is_new t) (first_spot t) NewSent
 
 -- whether the tiles of the collection with this number have another type
 abbrev pub has_other_type : Data → List ℕ → ℕ → Bool
-has_other_type d type n = option_map_or (λ (c : Coll). option_map_or (λ m. not (m == c.datatype)) (type_number d type) true) (slice_get d.colls n) false
+has_other_type d type n =
+    option_map_or (λ (c : Coll). option_map_or (λ m. not (m == c.datatype)) (type_number d type) true)
+    (slice_get d.colls n) false
 
 -- whether a flow carries tiles of another type
 abbrev pub is_other_flow : List ℕ → FlowTree → Bool
@@ -71,8 +77,10 @@ is_other_flow type f = not (is_control f.kind) && not (bytes_eq (type_of_flow f)
 
 -- whether a target of a flow whose tiles have this type is a data flow or an element of another type
 abbrev pub type_differs : Job → List ℕ → TargetTree → Bool
-type_differs job type (tree.Task flow class args) = option_map_or (is_other_flow type) (flow_of_target job (tree.Task flow class args)) false
-type_differs job type (tree.Element coll args) = option_map_or (has_other_type job.given type) (coll_named job coll.text) false
+type_differs job type (tree.Task flow class args) =
+    option_map_or (is_other_flow type) (flow_of_target job (tree.Task flow class args)) false
+type_differs job type (tree.Element coll args) =
+    option_map_or (has_other_type job.given type) (coll_named job coll.text) false
 type_differs job type (tree.New spot) = false
 type_differs job type (tree.Null spot) = false
 

@@ -24,7 +24,8 @@ abbrev pub class_faults : Word → Word → ℕ → ClassTree → List JdfFault
 class_faults flow name count class =
     fault_if (not (length class.params == count)) name.spot Arity ++ fault_if (is_none (flow_named class flow.text)) flow.spot NoSuchFlow
 
--- the faults of the names of a flow and a class, and of the number of arguments: of an unknown class nothing else is said
+-- the faults of the names of a flow and a class, and of the number of arguments: of an unknown class nothing else is
+-- said
 abbrev pub task_faults : Word → Word → ℕ → Option ClassTree → List JdfFault
 task_faults flow name count None = fault name.spot UnknownName ∷ []
 task_faults flow name count (Some class) = class_faults flow name count class
@@ -35,11 +36,13 @@ class_at job number = option_and_then (slice_get job.jdf.classes) number
 
 -- the numbers of a class and of a flow of it
 abbrev pub task_of : Job → Word → Option ℕ → Option (ℕ × ℕ)
-task_of job flow number = both (λ x y. (x, y)) number (option_and_then (λ (c : ClassTree). flow_named c flow.text) (class_at job number))
+task_of job flow number =
+    both (λ x y. (x, y)) number (option_and_then (λ (c : ClassTree). flow_named c flow.text) (class_at job number))
 
 -- the faults of what a target names, where these definitions are seen
 abbrev pub named_faults : Job → List DefTree → TargetTree → List JdfFault
-named_faults job seen (tree.Task flow class args) = task_faults flow class (length args) (class_at job (class_named job class.text)) ++ arguments_faults job seen args
+named_faults job seen (tree.Task flow class args) =
+    task_faults flow class (length args) (class_at job (class_named job class.text)) ++ arguments_faults job seen args
 named_faults job seen (tree.Element coll args) = element_faults job seen coll args
 named_faults job seen (tree.New spot) = []
 named_faults job seen (tree.Null spot) = []
@@ -48,6 +51,7 @@ named_faults job seen (tree.Null spot) = []
 abbrev pub target_of : Job → List DefTree → TargetTree → Option Target
 target_of job seen (tree.Task flow class args) =
     both (λ (x : ℕ × ℕ) (y : List Arg). plan.Task x.0 x.1 y) (task_of job flow (class_named job class.text)) (arguments_of job seen args)
-target_of job seen (tree.Element coll args) = option_map (λ (x : ℕ × List Term). plan.Element x.0 x.1) (element_of job seen coll args)
+target_of job seen (tree.Element coll args) =
+    option_map (λ (x : ℕ × List Term). plan.Element x.0 x.1) (element_of job seen coll args)
 target_of job seen (tree.New spot) = Some plan.New
 target_of job seen (tree.Null spot) = Some plan.Null

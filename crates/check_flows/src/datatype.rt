@@ -68,7 +68,8 @@ pub(crate) fn written_type(
     written: &Option<Word>,
 ) -> Result<u32, JdfRefusal>
     requires { length given.now.types ≤ 15 }
-    ensures { ReturnsChecked result (allowed_type given.now kind (type_of_written written.now)) (written_faults given.now kind written.now) }
+    ensures { ReturnsChecked result (allowed_type given.now kind (type_of_written written.now))
+        (written_faults given.now kind written.now) }
 {
     match written {
         None => Ok(0),
@@ -92,7 +93,8 @@ pub(crate) fn type_of_flow(flow: &FlowTree) -> &[u8]
 /// The number of the type of a flow.
 pub(crate) fn flow_type(given: &Given, flow: &FlowTree) -> Result<u32, JdfRefusal>
     requires { length given.now.types ≤ 15 }
-    ensures { ReturnsChecked result (flow_type given.now flow.now) (written_faults given.now flow.now.kind (first_written flow.now.deps)) }
+    ensures { ReturnsChecked result (flow_type given.now flow.now)
+        (written_faults given.now flow.now.kind (first_written flow.now.deps)) }
 {
     match flow.deps.as_slice().first() {
         None => Ok(0),

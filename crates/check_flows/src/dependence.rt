@@ -26,7 +26,8 @@ fn target(
     target: &TargetTree,
 ) -> Result<Target, JdfRefusal>
     requires { IsContext context.now }
-    ensures { ReturnsChecked result (target_of (job_of context.now) context.now.seen.now target.now) (target_faults (job_of context.now) context.now.seen.now flow.now inward target.now) }
+    ensures { ReturnsChecked result (target_of (job_of context.now) context.now.seen.now target.now)
+        (target_faults (job_of context.now) context.now.seen.now flow.now inward target.now) }
 {
     and_rules(
         named_target(context, target),
@@ -42,7 +43,8 @@ fn second(
     no: &Option<TargetTree>,
 ) -> Result<Option<Target>, JdfRefusal>
     requires { IsContext context.now }
-    ensures { ReturnsChecked result (each_option (target_of (job_of context.now) context.now.seen.now) no.now) (second_faults (target_faults (job_of context.now) context.now.seen.now flow.now inward) no.now) }
+    ensures { ReturnsChecked result (each_option (target_of (job_of context.now) context.now.seen.now) no.now)
+        (second_faults (target_faults (job_of context.now) context.now.seen.now flow.now inward) no.now) }
 {
     match no {
         None => Ok(None),
@@ -82,7 +84,8 @@ fn dependence(
     dependence: &DepTree,
 ) -> Result<DepPlan, JdfRefusal>
     requires { IsContext context.now }
-    ensures { ReturnsChecked result (dependence_of (job_of context.now) context.now.seen.now dependence.now) (dependence_faults (job_of context.now) context.now.seen.now flow.now dependence.now) }
+    ensures { ReturnsChecked result (dependence_of (job_of context.now) context.now.seen.now dependence.now)
+        (dependence_faults (job_of context.now) context.now.seen.now flow.now dependence.now) }
 {
     let inward = dependence.inward;
     let targets = join(
@@ -119,7 +122,8 @@ fn dependences(
     deps: &[DepTree],
 ) -> Result<Seq<DepPlan>, JdfRefusal>
     requires { IsContext context.now }
-    ensures { ReturnsChecked result (dependences_of (job_of context.now) context.now.seen.now inward deps.now) (dependences_faults (job_of context.now) context.now.seen.now flow.now inward deps.now) }
+    ensures { ReturnsChecked result (dependences_of (job_of context.now) context.now.seen.now inward deps.now)
+        (dependences_faults (job_of context.now) context.now.seen.now flow.now inward deps.now) }
 {
     let mut parts = Ok(Seq::new(context.alloc));
     for each in deps {
@@ -133,7 +137,9 @@ fn dependences(
 // Both the in dependences and the out dependences of a flow.
 fn both_ways(context: &Context, flow: &FlowTree) -> Result<(Seq<DepPlan>, Seq<DepPlan>), JdfRefusal>
     requires { IsContext context.now }
-    ensures { ReturnsChecked {A = List DepPlan × List DepPlan} result (ways_of (job_of context.now) context.now.seen.now flow.now.deps) (ways_faults (job_of context.now) context.now.seen.now flow.now flow.now.deps) }
+    ensures { ReturnsChecked {A = List DepPlan × List DepPlan} result
+        (ways_of (job_of context.now) context.now.seen.now flow.now.deps)
+        (ways_faults (job_of context.now) context.now.seen.now flow.now flow.now.deps) }
 {
     let deps = flow.deps.as_slice();
     join(
@@ -163,7 +169,8 @@ fn flow_with(
 /// A flow of a class, with its names resolved.
 pub fn flow(context: &Context, flow: &FlowTree) -> Result<FlowPlan, JdfRefusal>
     requires { IsContext context.now }
-    ensures { ReturnsChecked result (flow_plan (job_of context.now) context.now.seen.now flow.now) (flow_faults (job_of context.now) context.now.seen.now flow.now) }
+    ensures { ReturnsChecked result (flow_plan (job_of context.now) context.now.seen.now flow.now)
+        (flow_faults (job_of context.now) context.now.seen.now flow.now) }
 {
     let ways = both_ways(context, flow);
     match join(flow_type(context.given, flow), ways) {

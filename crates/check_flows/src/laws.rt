@@ -7,8 +7,8 @@ pub fn a_resolved_element_exists()
     ensures { ElementsExist }
 {}
 
-/// A law: a flow whose names are resolved, and that breaks no rule, is one that a plan with the parts of the job may have. Its
-/// targets exist, have its datatype, and are those that a flow of its kind may have.
+/// A law: a flow whose names are resolved, and that breaks no rule, is one that a plan with the parts of the job may
+/// have. Its targets exist, have its datatype, and are those that a flow of its kind may have.
 pub fn a_resolved_flow_is_well_made()
     ensures { FlowsAreWellMade }
 {}

@@ -41,7 +41,8 @@ fn no_collection(context: &Context, name: &Text) -> JdfCode
 
 // The number of a collection, which must have so many dimensions.
 fn dimensioned(context: &Context, word: &Word, count: usize, number: u32) -> Result<u32, JdfRefusal>
-    ensures { ReturnsChecked result (Some number) (collection_faults (job_of context.now) word.now count (Some number)) }
+    ensures { ReturnsChecked result (Some number)
+        (collection_faults (job_of context.now) word.now count (Some number)) }
 {
     let differs = dimensions_of(context, number) != count;
     and_rules(Ok(number), fault_if(differs, word.spot, JdfCode::Arity))
@@ -50,7 +51,8 @@ fn dimensioned(context: &Context, word: &Word, count: usize, number: u32) -> Res
 // The number of a collection that is named with so many indices.
 fn collection(context: &Context, word: &Word, count: usize) -> Result<u32, JdfRefusal>
     requires { IsContext context.now }
-    ensures { ReturnsChecked result (coll_named (job_of context.now) word.now.text) (collection_faults (job_of context.now) word.now count (coll_named (job_of context.now) word.now.text)) }
+    ensures { ReturnsChecked result (coll_named (job_of context.now) word.now.text)
+        (collection_faults (job_of context.now) word.now count (coll_named (job_of context.now) word.now.text)) }
 {
     match coll_named(context, &word.text) {
         None => Err(fault_at(word.spot, no_collection(context, &word.text))),
@@ -65,7 +67,8 @@ pub fn element(
     args: &[ArgTree],
 ) -> Result<(u32, Seq<Expr>), JdfRefusal>
     requires { IsContext context.now }
-    ensures { ReturnsChecked result (element_of (job_of context.now) context.now.seen.now word.now args.now) (element_faults (job_of context.now) context.now.seen.now word.now args.now) }
+    ensures { ReturnsChecked result (element_of (job_of context.now) context.now.seen.now word.now args.now)
+        (element_faults (job_of context.now) context.now.seen.now word.now args.now) }
 {
     join(
         collection(context, word, args.len()),

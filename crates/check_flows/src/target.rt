@@ -45,7 +45,8 @@ pub(crate) fn flow_named(class: &ClassTree, name: &Text) -> Option<usize>
 // The number of a flow of a class.
 fn flow_number(class: &ClassTree, word: &Word) -> Result<u8, JdfRefusal>
     requires { IsBoundedClass class.now }
-    ensures { ReturnsChecked result (flow_named class.now word.now.text) (fault_if (is_none (flow_named class.now word.now.text)) word.now.spot NoSuchFlow) }
+    ensures { ReturnsChecked result (flow_named class.now word.now.text)
+        (fault_if (is_none (flow_named class.now word.now.text)) word.now.spot NoSuchFlow) }
 {
     match flow_named(class, &word.text) {
         None => Err(fault_at(word.spot, JdfCode::NoSuchFlow)),
@@ -56,7 +57,10 @@ fn flow_number(class: &ClassTree, word: &Word) -> Result<u8, JdfRefusal>
 // The numbers of a class and of a flow of it, which are named with so many arguments.
 fn task(context: &Context, flow: &Word, name: &Word, count: usize) -> Result<(u32, u8), JdfRefusal>
     requires { IsContext context.now }
-    ensures { ReturnsChecked result (task_of (job_of context.now) flow.now (class_named (job_of context.now) name.now.text)) (task_faults flow.now name.now count (class_at (job_of context.now) (class_named (job_of context.now) name.now.text))) }
+    ensures { ReturnsChecked result
+        (task_of (job_of context.now) flow.now (class_named (job_of context.now) name.now.text))
+        (task_faults flow.now name.now count
+        (class_at (job_of context.now) (class_named (job_of context.now) name.now.text))) }
 {
     let Some(number) = class_named(context, &name.text) else {
         return Err(fault_at(name.spot, JdfCode::UnknownName));
@@ -78,7 +82,13 @@ fn task_target(
     args: &[ArgTree],
 ) -> Result<Target, JdfRefusal>
     requires { IsContext context.now }
-    ensures { ReturnsChecked result (both (λ (x : ℕ × ℕ) y. Task x.0 x.1 y) (task_of (job_of context.now) flow.now (class_named (job_of context.now) name.now.text)) (arguments_of (job_of context.now) context.now.seen.now args.now)) (task_faults flow.now name.now (length args.now) (class_at (job_of context.now) (class_named (job_of context.now) name.now.text)) ++ arguments_faults (job_of context.now) context.now.seen.now args.now) }
+    ensures { ReturnsChecked result
+        (both (λ (x : ℕ × ℕ) y. Task x.0 x.1 y)
+        (task_of (job_of context.now) flow.now (class_named (job_of context.now) name.now.text))
+        (arguments_of (job_of context.now) context.now.seen.now args.now))
+        (task_faults flow.now name.now (length args.now)
+        (class_at (job_of context.now) (class_named (job_of context.now) name.now.text))
+        ++ arguments_faults (job_of context.now) context.now.seen.now args.now) }
 {
     let known = task(context, flow, name, args.len());
     match join(known, arguments(context, args)) {
@@ -90,7 +100,8 @@ fn task_target(
 /// A target with its names resolved.
 pub(crate) fn named_target(context: &Context, target: &TargetTree) -> Result<Target, JdfRefusal>
     requires { IsContext context.now }
-    ensures { ReturnsChecked result (target_of (job_of context.now) context.now.seen.now target.now) (named_faults (job_of context.now) context.now.seen.now target.now) }
+    ensures { ReturnsChecked result (target_of (job_of context.now) context.now.seen.now target.now)
+        (named_faults (job_of context.now) context.now.seen.now target.now) }
 {
     match target {
         TargetTree::Task(flow, name, args) => task_target(context, flow, name, args.as_slice()),

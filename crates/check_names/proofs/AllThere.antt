@@ -1,23 +1,16 @@
 -- Parts that are there where no rule is broken.
-use Rattle.std.proofs.Common.{◌≡◌, List, [], ◌∷◌, ◌++◌, flat_map, Option, Some, None, option_map, is_none, refl}
+use Rattle.std.proofs.Common.{◌≡◌, List, [], ◌∷◌, ◌++◌, flat_map, Option, Some, None, is_none, refl}
 use Rattle.std.specs.Option.{IsSome}
 use Rattle.check_names.specs.Alphabet.{Spot, JdfCode, JdfFault}
 use Rattle.check_names.specs.Faults.{fault, fault_if}
 use Rattle.check_names.specs.Returns.{both, each, each_option}
-use Rattle.check_names.proofs.NoFaults.{first_nil, rest_nil}
-
-pub some_map : {A B : Type 0} (f : A → B) (o : Option A) → IsSome o → IsSome (option_map f o)
-some_map f None h = absurd cc
-some_map f (Some x) h = refl
+use Rattle.list_lemmas.proofs.Joins.{first_nil, rest_nil}
+use Rattle.list_lemmas.proofs.Options.{IsSome-option_map}
 
 pub some_both : {A B C : Type 0} (f : A → B → C) (o : Option A) (p : Option B) → IsSome o → IsSome p → IsSome (both f o p)
 some_both f None p h k = absurd cc
 some_both f (Some x) None h k = absurd cc
 some_both f (Some x) (Some y) h k = refl
-
-pub some_value : {A : Type 0} (o : Option A) → IsSome o → (x : A) × (o ≡ Some x)
-some_value None h = absurd cc
-some_value (Some x) h = (x, refl)
 
 pub not_none : {A : Type 0} (o : Option A) (spot : Spot) (code : JdfCode) → fault_if (is_none o) spot code ≡ [] → IsSome o
 not_none None spot code h = absurd cc
@@ -38,4 +31,4 @@ each_there f g h (x ∷ xs) e = both_there (λ y ys. y ∷ ys) (f x) (each f xs)
 -- a part that may be left out
 pub maybe_there : {A B : Type 0} (f : A → Option B) (g : Option A → List JdfFault) → ((a : A) → g (Some a) ≡ [] → IsSome (f a)) → (o : Option A) → g o ≡ [] → IsSome (each_option f o)
 maybe_there f g h None e = refl
-maybe_there f g h (Some a) e = some_map (λ b. Some b) (f a) (h a e)
+maybe_there f g h (Some a) e = IsSome-option_map (λ b. Some b) (f a) (h a e)

@@ -1,9 +1,7 @@
 -- Terms whose names are resolved name only locals that are seen.
-use Rattle.std.proofs.Common.{◌≡◌, ℕ, ℤ, ◌+◌, ◌<◌, Bool, true, false, ◌&&◌, cond, List, [], ◌∷◌, length, Option, Some, None, option_map, IsTrue, refl, sym, ◌∙◌, ap, subst, arith}
+use Rattle.std.proofs.Common.{◌≡◌, ℕ, ℤ, ◌<◌, ◌&&◌, List, length, Option, Some, None, option_map, IsTrue, refl, ap, subst}
 use Rattle.std.specs.Option.{option_or}
-use Rattle.std.specs.List.{position, position_from}
-use Rattle.std.proofs.lemmas.Bool.{lt-ltb}
-use Rattle.std.proofs.lemmas.Iterator.Adapters.{position_from-zero}
+use Rattle.std.proofs.lemmas.Bool.{lt-ltb, and_from}
 use Rattle.term_core.specs.Term.{Term}
 use Rattle.term_core.specs.Term as term
 use Rattle.term_core.specs.Value.{is_closed}
@@ -19,54 +17,37 @@ use Rattle.check_names.specs.Returns.{both}
 use Rattle.check_names.specs.Expressions.{term_of, option_term}
 use Rattle.check_names.specs.Arguments.{range_of}
 use Rattle.check_names.specs.Definitions.{definition_of}
-
-pub both_true : (a b : Bool) → IsTrue a → IsTrue b → IsTrue (a && b)
-both_true true b h k = k
-both_true false b h k = h
-
-pub some_once : {A : Type 0} (x y : A) → Some x ≡ Some y → x ≡ y
-some_once x y e = cc
-
--- the index that `position` finds is within the list
-from_within : {A : Type 0} (p : A → Bool) (i : ℕ) (xs : List A) (n : ℕ) → position_from p i xs ≡ Some n → n < i + length xs
-from_within p i [] n e = absurd cc
-from_within {A} p i (x ∷ xs) n e = go (p x) e (from_within p (i + 1) xs n)
-  where
-    go : (b : Bool) → cond b (Some i) (position_from p (i + 1) xs) ≡ Some n → (position_from p (i + 1) xs ≡ Some n → n < (i + 1) + length xs) → n < i + length (x ∷ xs)
-    go true f more = let same : i ≡ n = cc in omega (arith, same)
-    go false f more = omega (arith, more f)
-
-pub position_within : {A : Type 0} (p : A → Bool) (xs : List A) (n : ℕ) → position p xs ≡ Some n → n < length xs
-position_within p xs n e = let f : position_from p 0 xs ≡ Some n = sym (position_from-zero p xs) ∙ e in omega (arith, from_within p 0 xs n f)
+use Rattle.list_lemmas.proofs.Places.{position_within}
+use Rattle.std.proofs.lemmas.Option.{same_Some}
 
 closed_name : (seen : List DefTree) (name : List ℕ) (o : Option ℕ) (z : Option Term) (t : Term) → ((n : ℕ) → o ≡ Some n → n < length seen) → ((x : Term) → z ≡ Some x → IsTrue (is_closed (length seen) x))
     → option_or (option_map term.Local o) z ≡ Some t → IsTrue (is_closed (length seen) t)
 closed_name seen name None z t within other e = other t e
-closed_name seen name (Some n) z t within other e = subst (λ x. IsTrue (is_closed (length seen) x)) (some_once (term.Local n) t e) (lt-ltb n (length seen) (within n refl))
+closed_name seen name (Some n) z t within other e = subst (λ x. IsTrue (is_closed (length seen) x)) (same_Some (term.Local n) t e) (lt-ltb n (length seen) (within n refl))
 
 closed_int : (seen : List DefTree) (o : Option ℤ) (t : Term) → option_map term.Num o ≡ Some t → IsTrue (is_closed (length seen) t)
 closed_int seen None t e = absurd cc
-closed_int seen (Some z) t e = subst (λ x. IsTrue (is_closed (length seen) x)) (some_once (term.Num z) t e) refl
+closed_int seen (Some z) t e = subst (λ x. IsTrue (is_closed (length seen) x)) (same_Some (term.Num z) t e) refl
 
 -- operations on closed terms
 one_closed : (n : ℕ) (f : Term → Term) (o : Option Term) (t : Term) → ((x : Term) → IsTrue (is_closed n x) → IsTrue (is_closed n (f x))) → ((x : Term) → o ≡ Some x → IsTrue (is_closed n x)) → option_map f o ≡ Some t → IsTrue (is_closed n t)
 one_closed n f None t keeps h e = absurd cc
-one_closed n f (Some x) t keeps h e = subst (λ y. IsTrue (is_closed n y)) (some_once (f x) t e) (keeps x (h x refl))
+one_closed n f (Some x) t keeps h e = subst (λ y. IsTrue (is_closed n y)) (same_Some (f x) t e) (keeps x (h x refl))
 
 two_closed : {A B : Type 0} (P : A → Type 0) (Q : B → Type 0) (R : Term → Type 0) (f : A → B → Term) (o : Option A) (p : Option B) (t : Term) → ((x : A) (y : B) → P x → Q y → R (f x y))
     → ((x : A) → o ≡ Some x → P x) → ((y : B) → p ≡ Some y → Q y) → both f o p ≡ Some t → R t
 two_closed P Q R f None p t keeps h k e = absurd cc
 two_closed P Q R f (Some x) None t keeps h k e = absurd cc
-two_closed P Q R f (Some x) (Some y) t keeps h k e = subst R (some_once (f x y) t e) (keeps x y (h x refl) (k y refl))
+two_closed P Q R f (Some x) (Some y) t keeps h k e = subst R (same_Some (f x y) t e) (keeps x y (h x refl) (k y refl))
 
 -- two parts that are there
 pub pair_parts : {A B : Type 0} (o : Option A) (p : Option B) (z : A × B) → both (λ x y. (x, y)) o p ≡ Some z → (o ≡ Some z.0) × (p ≡ Some z.1)
 pair_parts None p z e = absurd cc
 pair_parts (Some x) None z e = absurd cc
-pair_parts (Some x) (Some y) z e = let same : (x, y) ≡ z = some_once (x, y) z e in (ap (λ w. Some w.0) same, ap (λ w. Some w.1) same)
+pair_parts (Some x) (Some y) z e = let same : (x, y) ≡ z = same_Some (x, y) z e in (ap (λ w. Some w.0) same, ap (λ w. Some w.1) same)
 
 pub closed_term : (job : Job) (seen : List DefTree) (e : Expression) (t : Term) → term_of job seen e ≡ Some t → IsTrue (is_closed (length seen) t)
-closed_term job seen (Num z spot) t h = subst (λ x. IsTrue (is_closed (length seen) x)) (some_once (term.Num z) t h) refl
+closed_term job seen (Num z spot) t h = subst (λ x. IsTrue (is_closed (length seen) x)) (same_Some (term.Num z) t h) refl
 closed_term job seen (Name w) t h =
     closed_name seen w.text (local_named seen w.text) (option_map term.Num (int_named job w.text)) t
     (λ n e. position_within (λ (d : DefTree). word_is w.text d.name) seen n e) (λ x e. closed_int seen (int_named job w.text) x e) h
@@ -74,22 +55,22 @@ closed_term job seen (Elem w at) t h = absurd cc
 closed_term job seen (Unary o a spot) t h = one_closed (length seen) (term.Unary o) (term_of job seen a) t (λ x k. k) (λ x k. closed_term job seen a x k) h
 closed_term job seen (Binary o a b) t h =
     two_closed (λ x. IsTrue (is_closed (length seen) x)) (λ y. IsTrue (is_closed (length seen) y)) (λ z. IsTrue (is_closed (length seen) z)) (term.Binary o) (term_of job seen a) (term_of job seen b) t
-    (λ x y k l. both_true (is_closed (length seen) x) (is_closed (length seen) y) k l) (λ x k. closed_term job seen a x k) (λ x k. closed_term job seen b x k) h
+    (λ x y k l. and_from (is_closed (length seen) x) (is_closed (length seen) y) k l) (λ x k. closed_term job seen a x k) (λ x k. closed_term job seen b x k) h
 closed_term job seen (Choose c a b) t h =
     two_closed (λ x. IsTrue (is_closed (length seen) x)) (λ (y : Term × Term). IsTrue (is_closed (length seen) y.0) × IsTrue (is_closed (length seen) y.1)) (λ z. IsTrue (is_closed (length seen) z))
     (λ x (y : Term × Term). term.Choose x y.0 y.1) (term_of job seen c) (both (λ x y. (x, y)) (term_of job seen a) (term_of job seen b)) t
-    (λ x y k l. both_true (is_closed (length seen) x && is_closed (length seen) y.0) (is_closed (length seen) y.1) (both_true (is_closed (length seen) x) (is_closed (length seen) y.0) k l.0) l.1)
+    (λ x y k l. and_from (is_closed (length seen) x && is_closed (length seen) y.0) (is_closed (length seen) y.1) (and_from (is_closed (length seen) x) (is_closed (length seen) y.0) k l.0) l.1)
     (λ x k. closed_term job seen c x k)
     (λ y k. let p = pair_parts (term_of job seen a) (term_of job seen b) y k in (closed_term job seen a y.0 p.0, closed_term job seen b y.1 p.1)) h
 
 -- the same of an expression that may be left out
 pub closed_step : (job : Job) (seen : List DefTree) (e : Option Expression) (o : Option Term) → option_term job seen e ≡ Some o → IsTrue (is_closed_step (length seen) o)
-closed_step job seen None o h = subst (λ x. IsTrue (is_closed_step (length seen) x)) (some_once None o h) refl
+closed_step job seen None o h = subst (λ x. IsTrue (is_closed_step (length seen) x)) (same_Some None o h) refl
 closed_step job seen (Some e) o h = go (term_of job seen e) (λ x k. closed_term job seen e x k) h
   where
     go : (r : Option Term) → ((x : Term) → r ≡ Some x → IsTrue (is_closed (length seen) x)) → option_map (λ b. Some b) r ≡ Some o → IsTrue (is_closed_step (length seen) o)
     go None k f = absurd cc
-    go (Some x) k f = subst (λ y. IsTrue (is_closed_step (length seen) y)) (some_once (Some x) o f) (k x refl)
+    go (Some x) k f = subst (λ y. IsTrue (is_closed_step (length seen) y)) (same_Some (Some x) o f) (k x refl)
 
 pub closed_range : (job : Job) (seen : List DefTree) (lo hi : Expression) (step : Option Expression) (r : Range) → range_of job seen lo hi step ≡ Some r → IsTrue (is_closed_def (length seen) (def.Span r))
 closed_range job seen lo hi step r h = go (term_of job seen lo) (both (λ x y. (x, y)) (term_of job seen hi) (option_term job seen step)) (λ x k. closed_term job seen lo x k) (λ y k. pair_parts (term_of job seen hi) (option_term job seen step) y k) h
@@ -100,19 +81,19 @@ closed_range job seen lo hi step r h = go (term_of job seen lo) (both (λ x y. (
     go (Some x) None h k f = absurd cc
     go (Some x) (Some y) h k f =
         let q = k y refl in
-        let same : record { lo = x; hi = y.0; step = y.1 } ≡ r = some_once _ r f in
+        let same : record { lo = x; hi = y.0; step = y.1 } ≡ r = same_Some _ r f in
         subst (λ s. IsTrue (is_closed_def (length seen) (def.Span s))) same
-        (both_true (is_closed (length seen) x && is_closed (length seen) y.0) (is_closed_step (length seen) y.1)
-        (both_true (is_closed (length seen) x) (is_closed (length seen) y.0) (h x refl) (closed_term job seen hi y.0 q.0)) (closed_step job seen step y.1 q.1))
+        (and_from (is_closed (length seen) x && is_closed (length seen) y.0) (is_closed_step (length seen) y.1)
+        (and_from (is_closed (length seen) x) (is_closed (length seen) y.0) (h x refl) (closed_term job seen hi y.0 q.0)) (closed_step job seen step y.1 q.1))
 
 pub closed_definition : (job : Job) (seen : List DefTree) (a : ArgTree) (d : Def) → definition_of job seen a ≡ Some d → IsTrue (is_closed_def (length seen) d)
 closed_definition job seen (tree.One e) d h = go (term_of job seen e) (λ x k. closed_term job seen e x k) h
   where
     go : (o : Option Term) → ((x : Term) → o ≡ Some x → IsTrue (is_closed (length seen) x)) → option_map def.Value o ≡ Some d → IsTrue (is_closed_def (length seen) d)
     go None k f = absurd cc
-    go (Some x) k f = subst (λ y. IsTrue (is_closed_def (length seen) y)) (some_once (def.Value x) d f) (k x refl)
+    go (Some x) k f = subst (λ y. IsTrue (is_closed_def (length seen) y)) (same_Some (def.Value x) d f) (k x refl)
 closed_definition job seen (tree.Span spot lo hi step) d h = go (range_of job seen lo hi step) (λ r k. closed_range job seen lo hi step r k) h
   where
     go : (o : Option Range) → ((r : Range) → o ≡ Some r → IsTrue (is_closed_def (length seen) (def.Span r))) → option_map def.Span o ≡ Some d → IsTrue (is_closed_def (length seen) d)
     go None k f = absurd cc
-    go (Some r) k f = subst (λ y. IsTrue (is_closed_def (length seen) y)) (some_once (def.Span r) d f) (k r refl)
+    go (Some r) k f = subst (λ y. IsTrue (is_closed_def (length seen) y)) (same_Some (def.Span r) d f) (k r refl)

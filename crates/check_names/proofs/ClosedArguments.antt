@@ -13,21 +13,24 @@ use Rattle.check_names.specs.Names.{Job}
 use Rattle.check_names.specs.Returns.{each}
 use Rattle.check_names.specs.Expressions.{term_of, option_term}
 use Rattle.check_names.specs.Arguments.{range_of, argument_of, range_faults, ranges_faults, index_of, arguments_of, indices_of}
-use Rattle.check_names.proofs.Closed.{some_once, closed_term, closed_range}
-use Rattle.check_names.proofs.NoFaults.{first_nil, rest_nil, parts_of, parts_all, option_there, mapped_there}
+use Rattle.check_names.proofs.Closed.{closed_term, closed_range}
+use Rattle.check_names.proofs.NoFaults.{parts_of, parts_all, option_there}
+use Rattle.std.proofs.lemmas.Option.{same_Some}
+use Rattle.list_lemmas.proofs.Joins.{first_nil, rest_nil}
+use Rattle.list_lemmas.proofs.Options.{from_option_map}
 
 pub closed_option : (job : Job) (seen : List DefTree) (e : Option Expression) (o : Option Term) → option_term job seen e ≡ Some o → IsTrue (is_closed_option (length seen) o)
-closed_option job seen None o h = subst (λ x. IsTrue (is_closed_option (length seen) x)) (some_once None o h) refl
+closed_option job seen None o h = subst (λ x. IsTrue (is_closed_option (length seen) x)) (same_Some None o h) refl
 closed_option job seen (Some e) o h =
     let p = option_there (term_of job seen) e o h in
     subst (λ x. IsTrue (is_closed_option (length seen) x)) p.2 (closed_term job seen e p.0 p.1)
 
 closed_argument : (job : Job) (seen : List DefTree) (a : ArgTree) (x : Arg) → argument_of job seen a ≡ Some x → IsTrue (is_closed_arg (length seen) x)
 closed_argument job seen (tree.One e) x h =
-    let p = mapped_there plan.One (term_of job seen e) x h in
+    let p = from_option_map plan.One (term_of job seen e) x h in
     subst (λ y. IsTrue (is_closed_arg (length seen) y)) p.2 (closed_term job seen e p.0 p.1)
 closed_argument job seen (tree.Span spot lo hi step) x h =
-    let p = mapped_there plan.Span (range_of job seen lo hi step) x h in
+    let p = from_option_map plan.Span (range_of job seen lo hi step) x h in
     subst (λ y. IsTrue (is_closed_arg (length seen) y)) p.2 (closed_range job seen lo hi step p.0 p.1)
 
 pub closed_arguments : (job : Job) (seen : List DefTree) (args : List ArgTree) (xs : List Arg) → arguments_of job seen args ≡ Some xs → IsTrue (list_all (is_closed_arg (length seen)) xs)
@@ -42,11 +45,11 @@ closed_indices job seen args ts h = parts_all (index_of job seen) (is_closed (le
 
 -- an argument that is no range
 one_argument : (job : Job) (seen : List DefTree) (code : JdfCode) (a : ArgTree) (x : Arg) → range_faults code a ≡ [] → argument_of job seen a ≡ Some x → is_span x ≡ false
-one_argument job seen code (tree.One e) x h k = let p = mapped_there plan.One (term_of job seen e) x k in ap is_span (sym p.2)
+one_argument job seen code (tree.One e) x h k = let p = from_option_map plan.One (term_of job seen e) x k in ap is_span (sym p.2)
 one_argument job seen code (tree.Span spot lo hi step) x h k = absurd cc
 
 pub no_ranges : (job : Job) (seen : List DefTree) (code : JdfCode) (args : List ArgTree) (xs : List Arg) → ranges_faults code args ≡ [] → arguments_of job seen args ≡ Some xs → list_any is_span xs ≡ false
-no_ranges job seen code [] xs h e = ap (list_any is_span) (sym (some_once [] xs e))
+no_ranges job seen code [] xs h e = ap (list_any is_span) (sym (same_Some [] xs e))
 no_ranges job seen code (a ∷ args) xs h e =
     let q = parts_of (λ y ys. y ∷ ys) (argument_of job seen a) (each (argument_of job seen) args) xs e in
     let first = one_argument job seen code a q.0 (first_nil (range_faults code a) (flat_map (range_faults code) args) h) q.2 in

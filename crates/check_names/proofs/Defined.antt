@@ -1,13 +1,12 @@
 -- Definitions that see those before them, in lists that grow by one.
 use Rattle.std.proofs.Common.{◌≡◌, ℕ, ◌+◌, ◌<◌, List, [], ◌∷◌, ◌++◌, take, length, get_or, Option, Some, None, Result, refl, sym, ◌∙◌, ap, subst}
-use Rattle.std.proofs.lemmas.List.{take_more, append-nil}
+use Rattle.std.proofs.lemmas.List.{take_more, append-nil, append_assoc}
 use Rattle.ptg_base.specs.declared.refusal.Refusal.{Refusal}
 use Rattle.term_core.specs.declared.space.Def.{Def}
 use Rattle.check_names.specs.Alphabet.{JdfFault, Word, DefTree}
 use Rattle.check_names.specs.Names.{Job}
 use Rattle.check_names.specs.Returns.{ReturnsChecked, both}
 use Rattle.check_names.specs.Definitions.{definition_faults, definitions_faults, definition_of, definitions_of}
-use Rattle.check_names.proofs.Parts.{append_assoc}
 
 defined_more : (job : Job) (before defs : List DefTree) (d : DefTree)
     → definitions_of job before (defs ++ d ∷ []) ≡ both (λ xs x. xs ++ x ∷ []) (definitions_of job before defs) (definition_of job (before ++ defs) d.value)

@@ -1,15 +1,15 @@
 -- Names given twice in lists that grow by one.
 use Rattle.std.proofs.Common.{◌≡◌, ℕ, ◌+◌, ◌<◌, Bool, true, false, not, ◌||◌, List, [], ◌∷◌, ◌++◌, take, length, get_or, Some, Result, if◌then◌else◌, sym, ◌∙◌, ap, subst}
 use Rattle.std.specs.Str.{bytes_eq}
-use Rattle.std.proofs.lemmas.List.{take_more, append-nil}
+use Rattle.std.proofs.lemmas.List.{take_more, append-nil, append_assoc}
 use Rattle.ptg_base.specs.declared.refusal.Refusal.{Refusal}
 use Rattle.name_table.specs.Names.{has_name}
 use Rattle.check_names.specs.Alphabet.{JdfCode, JdfFault, Word}
 use Rattle.check_names.specs.Faults.{fault_if}
 use Rattle.check_names.specs.Repeats.{is_taken, repeats_after, repeats}
 use Rattle.check_names.specs.Returns.{ReturnsChecked}
-use Rattle.check_names.proofs.Named.{or-assoc, or-false, has_added}
-use Rattle.check_names.proofs.Parts.{append_assoc}
+use Rattle.check_names.proofs.Named.{has_added}
+use Rattle.list_lemmas.proofs.Truth.{or-assoc, or-false}
 
 pub taken_more : {A : Type 0} (word : A → Word) (xs : List A) (x : A) (n : List ℕ) → is_taken word (xs ++ x ∷ []) n ≡ (is_taken word xs n || bytes_eq (word x).text n)
 taken_more word [] x n = or-false (bytes_eq (word x).text n)

@@ -10,7 +10,6 @@ pub mod GivenTwice
 pub mod Defined
 pub mod Ranges
 pub mod Spaces
-pub mod Within
 pub mod Closed
 pub mod NoFaults
 pub mod Distinct

@@ -2,16 +2,9 @@
 use Rattle.std.proofs.Common.{◌≡◌, ℕ, ◌+◌, ◌<◌, Bool, true, false, not, ◌||◌, List, [], ◌∷◌, ◌++◌, map, take, length, get_or, if◌then◌else◌, refl, sym, ◌∙◌, ap, subst}
 use Rattle.std.specs.Str.{bytes_eq}
 use Rattle.std.specs.Cmp.Lexicographic.{bytes_decides}
-use Rattle.std.proofs.lemmas.List.{take_more}
+use Rattle.std.proofs.lemmas.List.{take_more, map_push}
 use Rattle.name_table.specs.Names.{has_name}
-
-pub or-assoc : (a b c : Bool) → ((a || b) || c) ≡ (a || (b || c))
-or-assoc true b c = refl
-or-assoc false b c = refl
-
-pub or-false : (a : Bool) → (a || false) ≡ a
-or-false true = refl
-or-false false = refl
+use Rattle.list_lemmas.proofs.Truth.{or-false, or-assoc}
 
 -- one name more
 pub has_pushed : (names : List (List ℕ)) (x n : List ℕ) → has_name (names ++ x ∷ []) n ≡ (has_name names n || bytes_eq x n)
@@ -42,13 +35,9 @@ has_added names after x n new e s = go (has_name names x) refl
         let more : after ≡ names ++ x ∷ [] = s ∙ ap (λ b. if b then names ++ x ∷ [] else names) (e ∙ ap not none) in
         ap (λ l. has_name l n) more ∙ has_pushed names x n
 
-map_pushed : {X : Type 0} (f : X → List ℕ) (xs : List X) (x : X) → map f (xs ++ x ∷ []) ≡ map f xs ++ f x ∷ []
-map_pushed f [] x = refl
-map_pushed f (y ∷ xs) x = ap (λ l. f y ∷ l) (map_pushed f xs x)
-
 -- one element more, and its name
 pub has_more : {X : Type 0} (f : X → List ℕ) (xs : List X) (i : ℕ) (d : X) (n : List ℕ) → i < length xs
     → has_name (map f (take (i + 1) xs)) n ≡ (has_name (map f (take i xs)) n || bytes_eq (f (get_or xs i d)) n)
 has_more f xs i d n lt =
     ap (λ l. has_name (map f l) n) (take_more xs i d lt)
-    ∙ (ap (λ l. has_name l n) (map_pushed f (take i xs) (get_or xs i d)) ∙ has_pushed (map f (take i xs)) (f (get_or xs i d)) n)
+    ∙ (ap (λ l. has_name l n) (map_push f (take i xs) (get_or xs i d)) ∙ has_pushed (map f (take i xs)) (f (get_or xs i d)) n)

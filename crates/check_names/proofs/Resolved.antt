@@ -15,8 +15,9 @@ use Rattle.check_names.specs.Expressions.{name_term, name_code, expression_fault
 use Rattle.check_names.specs.Arguments.{argument_faults, range_of, argument_of, index_faults, index_of, arguments_faults, arguments_of, indices_faults, indices_of}
 use Rattle.check_names.specs.Definitions.{is_ranged_local, definition_faults, definitions_faults, definition_of, definitions_of, parameter_faults, parameter_of, space_faults, space_of}
 use Rattle.check_names.specs.Repeats.{repeats}
-use Rattle.check_names.proofs.NoFaults.{first_nil, rest_nil}
-use Rattle.check_names.proofs.AllThere.{some_map, some_both, not_none, no_nil, both_there, each_there, maybe_there}
+use Rattle.list_lemmas.proofs.Joins.{first_nil, rest_nil}
+use Rattle.list_lemmas.proofs.Options.{IsSome-option_map}
+use Rattle.check_names.proofs.AllThere.{some_both, not_none, no_nil, both_there, each_there, maybe_there}
 use Rattle.check_names.proofs.Operations.{choice}
 use Rattle.check_names.proofs.Ranges.{range_from}
 use Rattle.check_names.proofs.Spaces.{space_from}
@@ -25,7 +26,7 @@ pub term_there : (job : Job) (seen : List DefTree) (e : Expression) → expressi
 term_there job seen (Num z spot) h = refl
 term_there job seen (Name w) h = not_none (name_term job seen w.text) w.spot (name_code job w.text) h
 term_there job seen (Elem w at) h = no_nil (expression_faults job seen at) w.spot UnknownName h
-term_there job seen (Unary o a spot) h = some_map (term.Unary o) (term_of job seen a) (term_there job seen a h)
+term_there job seen (Unary o a spot) h = IsSome-option_map (term.Unary o) (term_of job seen a) (term_there job seen a h)
 term_there job seen (Binary o a b) h = both_there (term.Binary o) (term_of job seen a) (term_of job seen b) (expression_faults job seen a) (expression_faults job seen b) (term_there job seen a) (term_there job seen b) h
 term_there job seen (Choose c a b) h =
     both_there choice (term_of job seen c) (both (λ x y. (x, y)) (term_of job seen a) (term_of job seen b)) (expression_faults job seen c) (expression_faults job seen a ++ expression_faults job seen b) (term_there job seen c)
@@ -42,8 +43,8 @@ range_there job seen lo hi step h =
     (both_there (λ x y. (x, y)) (term_of job seen hi) (option_term job seen step) (expression_faults job seen hi) (option_faults job seen step) (term_there job seen hi) (option_there job seen step)) h
 
 argument_there : (job : Job) (seen : List DefTree) (arg : ArgTree) → argument_faults job seen arg ≡ [] → IsSome (argument_of job seen arg)
-argument_there job seen (tree.One e) h = some_map plan.One (term_of job seen e) (term_there job seen e h)
-argument_there job seen (tree.Span spot lo hi step) h = some_map plan.Span (range_of job seen lo hi step) (range_there job seen lo hi step h)
+argument_there job seen (tree.One e) h = IsSome-option_map plan.One (term_of job seen e) (term_there job seen e h)
+argument_there job seen (tree.Span spot lo hi step) h = IsSome-option_map plan.Span (range_of job seen lo hi step) (range_there job seen lo hi step h)
 
 index_there : (job : Job) (seen : List DefTree) (arg : ArgTree) → index_faults job seen arg ≡ [] → IsSome (index_of job seen arg)
 index_there job seen (tree.One e) h = term_there job seen e (first_nil (expression_faults job seen e) [] h)
@@ -58,8 +59,8 @@ indices_there job seen args h = each_there (index_of job seen) (index_faults job
 -- ---- spaces
 
 definition_there : (job : Job) (before : List DefTree) (value : ArgTree) → argument_faults job before value ≡ [] → IsSome (definition_of job before value)
-definition_there job before (tree.One e) h = some_map def.Value (term_of job before e) (term_there job before e h)
-definition_there job before (tree.Span spot lo hi step) h = some_map def.Span (range_of job before lo hi step) (range_there job before lo hi step h)
+definition_there job before (tree.One e) h = IsSome-option_map def.Value (term_of job before e) (term_there job before e h)
+definition_there job before (tree.Span spot lo hi step) h = IsSome-option_map def.Span (range_of job before lo hi step) (range_there job before lo hi step h)
 
 definitions_there : (job : Job) (params : List Word) (before defs : List DefTree) → definitions_faults job params before defs ≡ [] → IsSome (definitions_of job before defs)
 definitions_there job params before [] h = refl

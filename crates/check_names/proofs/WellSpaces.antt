@@ -3,7 +3,7 @@ use Rattle.std.proofs.Common.{◌≡◌, ◌≢◌, ℕ, suc, ◌+◌, ◌<◌, 
 use Rattle.std.specs.List.{position_from, list_all, list_any}
 use Rattle.std.specs.Str.{bytes_eq}
 use Rattle.std.specs.Cmp.Lexicographic.{bytes_decides}
-use Rattle.std.proofs.lemmas.Bool.{lt-ltb, false≢true, eq-eqb, ne_eqb}
+use Rattle.std.proofs.lemmas.Bool.{lt-ltb, false≢true, eq-eqb, ne_eqb, and_from, or_left, or_right, or_parts}
 use Rattle.std.proofs.lemmas.Iterator.Adapters.{position_from-zero}
 use Rattle.term_core.specs.WellSpace.{are_closed, is_closed_def, is_among, spans_are_params, are_different, IsWellSpace}
 use Rattle.term_core.specs.Term.{Term}
@@ -19,11 +19,15 @@ use Rattle.check_names.specs.Returns.{both, each}
 use Rattle.check_names.specs.Expressions.{term_of}
 use Rattle.check_names.specs.Arguments.{argument_faults}
 use Rattle.check_names.specs.Definitions.{is_range, is_ranged_local, definition_faults, definitions_faults, definition_of, definitions_of, parameter_of, parameter_faults, space_faults, space_of}
-use Rattle.check_names.proofs.Closed.{both_true, some_once, position_within, closed_definition}
-use Rattle.check_names.proofs.Parts.{append_assoc}
+use Rattle.check_names.proofs.Closed.{closed_definition}
+use Rattle.std.proofs.lemmas.Option.{same_Some}
+use Rattle.list_lemmas.proofs.Places.{position_within}
+use Rattle.std.proofs.lemmas.List.{append_assoc}
+use Rattle.list_lemmas.proofs.Joins.{first_nil, rest_nil}
+use Rattle.list_lemmas.proofs.Texts.{bytes_eq-self}
 use Rattle.check_names.proofs.Spaces.{space_from}
 use Rattle.check_names.proofs.GivenTwice.{taken_more}
-use Rattle.check_names.proofs.NoFaults.{first_nil, rest_nil, holds_not, true_or, or_true, neither, itself, parts_of}
+use Rattle.check_names.proofs.NoFaults.{holds_not, parts_of}
 use Rattle.check_names.proofs.Distinct.{names_after}
 
 -- ---- where names are found
@@ -33,7 +37,7 @@ from_after p i [] k e = absurd cc
 from_after {A} p i (x ∷ xs) k e = go (p x) e (from_after p (i + 1) xs k)
   where
     go : (b : Bool) → cond b (Some i) (position_from p (i + 1) xs) ≡ Some k → (position_from p (i + 1) xs ≡ Some k → i + 1 ≤ k) → i ≤ k
-    go true f more = let same : i ≡ k = some_once i k f in omega (arith, same)
+    go true f more = let same : i ≡ k = same_Some i k f in omega (arith, same)
     go false f more = omega (arith, more f)
 
 -- two tests that find the same index hold of one element
@@ -43,8 +47,8 @@ found_by_both {A} p q i (x ∷ xs) k e f = go (p x) (q x) refl refl (λ g h. fou
   where
     go : (b c : Bool) → p x ≡ b → q x ≡ c → (position_from p (i + 1) xs ≡ Some k → position_from q (i + 1) xs ≡ Some k → (y : A) × (p y ≡ true) × (q y ≡ true)) → cond b (Some i) (position_from p (i + 1) xs) ≡ Some k → cond c (Some i) (position_from q (i + 1) xs) ≡ Some k → (y : A) × (p y ≡ true) × (q y ≡ true)
     go true true s t more g h = (x, s, t)
-    go true false s t more g h = let same : i ≡ k = some_once i k g in let after : i + 1 ≤ k = from_after q (i + 1) xs k h in absurd (omega (arith, same, after))
-    go false true s t more g h = let same : i ≡ k = some_once i k h in let after : i + 1 ≤ k = from_after p (i + 1) xs k g in absurd (omega (arith, same, after))
+    go true false s t more g h = let same : i ≡ k = same_Some i k g in let after : i + 1 ≤ k = from_after q (i + 1) xs k h in absurd (omega (arith, same, after))
+    go false true s t more g h = let same : i ≡ k = same_Some i k h in let after : i + 1 ≤ k = from_after p (i + 1) xs k g in absurd (omega (arith, same, after))
     go false false s t more g h = more g h
 
 same_name : (defs : List DefTree) (n m : List ℕ) (k : ℕ) → local_named defs n ≡ Some k → local_named defs m ≡ Some k → n ≡ m
@@ -58,7 +62,7 @@ from_found : (name : List ℕ) (i : ℕ) (before : List DefTree) (d : DefTree) (
     → position_from (λ (x : DefTree). word_is name x.name) i (before ++ d ∷ rest) ≡ Some (i + length before)
 from_found name i [] d rest h e = let same : i ≡ i + length {A = DefTree} [] = omega arith in ap (λ b. cond b (Some i) (position_from (λ (x : DefTree). word_is name x.name) (i + 1) rest)) e ∙ ap (λ n. Some n) same
 from_found name i (b ∷ before) d rest h e =
-    let n = neither (word_is name b.name) (is_taken (λ (x : DefTree). x.name) before name) h in
+    let n = or_parts (word_is name b.name) (is_taken (λ (x : DefTree). x.name) before name) h in
     let same : (i + 1) + length before ≡ i + length (b ∷ before) = omega arith in
     ap (λ c. cond c (Some i) (position_from (λ (x : DefTree). word_is name x.name) (i + 1) (before ++ d ∷ rest))) n.0 ∙ (from_found name (i + 1) before d rest n.1 e ∙ ap (λ k. Some k) same)
 
@@ -66,49 +70,49 @@ from_found name i (b ∷ before) d rest h e =
 found_at : (before : List DefTree) (d : DefTree) (rest : List DefTree) → is_taken (λ (x : DefTree). x.name) before d.name.text ≡ false → local_named (before ++ d ∷ rest) d.name.text ≡ Some (length before)
 found_at before d rest h =
     let same : 0 + length before ≡ length before = omega arith in
-    position_from-zero (λ (x : DefTree). word_is d.name.text x.name) (before ++ d ∷ rest) ∙ (from_found d.name.text 0 before d rest h (itself d.name.text) ∙ ap (λ n. Some n) same)
+    position_from-zero (λ (x : DefTree). word_is d.name.text x.name) (before ++ d ∷ rest) ∙ (from_found d.name.text 0 before d rest h (bytes_eq-self d.name.text) ∙ ap (λ n. Some n) same)
 
 -- ---- the definitions
 
 pub definitions_length : (job : Job) (before defs : List DefTree) (ds : List Def) → definitions_of job before defs ≡ Some ds → length ds ≡ length defs
-definitions_length job before [] ds e = ap length (sym (some_once [] ds e))
+definitions_length job before [] ds e = ap length (sym (same_Some [] ds e))
 definitions_length job before (d ∷ defs) ds e =
     let p = parts_of (λ x xs. x ∷ xs) (definition_of job before d.value) (definitions_of job (before ++ d ∷ []) defs) ds e in
     ap length (sym p.4) ∙ ap (λ n. suc n) (definitions_length job (before ++ d ∷ []) defs p.1 p.3)
 
 definitions_closed : (job : Job) (before defs : List DefTree) (n : ℕ) (ds : List Def) → n ≡ length before → definitions_of job before defs ≡ Some ds → IsTrue (are_closed n ds)
-definitions_closed job before [] n ds same e = subst (λ l. IsTrue (are_closed n l)) (some_once [] ds e) refl
+definitions_closed job before [] n ds same e = subst (λ l. IsTrue (are_closed n l)) (same_Some [] ds e) refl
 definitions_closed job before (d ∷ defs) n ds same e =
     let p = parts_of (λ x xs. x ∷ xs) (definition_of job before d.value) (definitions_of job (before ++ d ∷ []) defs) ds e in
     let next : suc n ≡ length (before ++ d ∷ []) = omega (arith, same, length-append before (d ∷ [])) in
     let first : IsTrue (is_closed_def n p.0) = subst (λ m. IsTrue (is_closed_def m p.0)) (sym same) (closed_definition job before d.value p.0 p.2) in
-    subst (λ l. IsTrue (are_closed n l)) p.4 (both_true (is_closed_def n p.0) (are_closed (suc n) p.1) first (definitions_closed job (before ++ d ∷ []) defs (suc n) p.1 next p.3))
+    subst (λ l. IsTrue (are_closed n l)) p.4 (and_from (is_closed_def n p.0) (are_closed (suc n) p.1) first (definitions_closed job (before ++ d ∷ []) defs (suc n) p.1 next p.3))
 
 -- ---- the parameters
 
 params_within : (defs : List DefTree) (params : List Word) (ps : List ℕ) (n : ℕ) → n ≡ length defs → each (parameter_of defs) params ≡ Some ps → IsTrue (list_all (λ p. nat_lt p n) ps)
-params_within defs [] ps n same e = subst (λ l. IsTrue (list_all (λ p. nat_lt p n) l)) (some_once [] ps e) refl
+params_within defs [] ps n same e = subst (λ l. IsTrue (list_all (λ p. nat_lt p n) l)) (same_Some [] ps e) refl
 params_within defs (w ∷ params) ps n same e =
     let p = parts_of (λ x xs. x ∷ xs) (parameter_of defs w) (each (parameter_of defs) params) ps e in
     let first : p.0 < n = omega (arith, same, position_within (λ (d : DefTree). word_is w.text d.name) defs p.0 p.2) in
-    subst (λ l. IsTrue (list_all (λ p. nat_lt p n) l)) p.4 (both_true (nat_lt p.0 n) (list_all (λ p. nat_lt p n) p.1) (lt-ltb p.0 n first) (params_within defs params p.1 n same p.3))
+    subst (λ l. IsTrue (list_all (λ p. nat_lt p n) l)) p.4 (and_from (nat_lt p.0 n) (list_all (λ p. nat_lt p n) p.1) (lt-ltb p.0 n first) (params_within defs params p.1 n same p.3))
 
 among_none : (defs : List DefTree) (name : List ℕ) (k : ℕ) (params : List Word) (ps : List ℕ) → local_named defs name ≡ Some k → is_taken (λ (w : Word). w) params name ≡ false → each (parameter_of defs) params ≡ Some ps → is_among k ps ≡ false
-among_none defs name k [] ps at h e = ap (is_among k) (sym (some_once [] ps e))
+among_none defs name k [] ps at h e = ap (is_among k) (sym (same_Some [] ps e))
 among_none defs name k (w ∷ params) ps at h e =
     let p = parts_of (λ x xs. x ∷ xs) (parameter_of defs w) (each (parameter_of defs) params) ps e in
-    let n = neither (bytes_eq w.text name) (is_taken (λ (w : Word). w) params name) h in
+    let n = or_parts (bytes_eq w.text name) (is_taken (λ (w : Word). w) params name) h in
     let other : p.0 ≢ k = λ s. false≢true (sym n.0 ∙ (bytes_decides w.text name).1 (same_name defs w.text name k (p.2 ∙ ap (λ m. Some m) s) at)) in
     ap (is_among k) (sym p.4) ∙ (ap (λ b. b || is_among k p.1) (ne_eqb p.0 k other) ∙ among_none defs name k params p.1 at n.1 p.3)
 
 params_different : (defs : List DefTree) (before params : List Word) (ps : List ℕ) → repeats_after (λ (w : Word). w) NameTwice before params ≡ [] → each (parameter_of defs) params ≡ Some ps → IsTrue (are_different ps)
-params_different defs before [] ps h e = subst (λ l. IsTrue (are_different l)) (some_once [] ps e) refl
+params_different defs before [] ps h e = subst (λ l. IsTrue (are_different l)) (same_Some [] ps e) refl
 params_different defs before (w ∷ params) ps h e =
     let p = parts_of (λ x xs. x ∷ xs) (parameter_of defs w) (each (parameter_of defs) params) ps e in
     let later = rest_nil _ _ h in
-    let taken : is_taken (λ (w : Word). w) (before ++ w ∷ []) w.text ≡ true = taken_more (λ (w : Word). w) before w w.text ∙ or_true (is_taken (λ (w : Word). w) before w.text) (bytes_eq w.text w.text) (itself w.text) in
+    let taken : is_taken (λ (w : Word). w) (before ++ w ∷ []) w.text ≡ true = taken_more (λ (w : Word). w) before w w.text ∙ or_right (is_taken (λ (w : Word). w) before w.text) (bytes_eq w.text w.text) (bytes_eq-self w.text) in
     let none = among_none defs w.text p.0 params p.1 p.2 (names_after (λ (w : Word). w) NameTwice (before ++ w ∷ []) params later w.text taken) p.3 in
-    subst (λ l. IsTrue (are_different l)) p.4 (both_true (not (is_among p.0 p.1)) (are_different p.1) (ap not none) (params_different defs (before ++ w ∷ []) params p.1 later p.3))
+    subst (λ l. IsTrue (are_different l)) p.4 (and_from (not (is_among p.0 p.1)) (are_different p.1) (ap not none) (params_different defs (before ++ w ∷ []) params p.1 later p.3))
 
 among_some : (defs : List DefTree) (name : List ℕ) (k : ℕ) (params : List Word) (ps : List ℕ) → local_named defs name ≡ Some k → list_any (word_is name) params ≡ true → each (parameter_of defs) params ≡ Some ps → is_among k ps ≡ true
 among_some defs name k [] ps at h e = absurd (false≢true h)
@@ -118,9 +122,9 @@ among_some defs name k (w ∷ params) ps at h e =
   where
     go : (b : Bool) → word_is name w ≡ b → (x : ℕ) (xs : List ℕ) → parameter_of defs w ≡ Some x → (list_any (word_is name) params ≡ true → is_among k xs ≡ true) → (b || list_any (word_is name) params) ≡ true → is_among k (x ∷ xs) ≡ true
     go true t x xs here more f =
-        let same : x ≡ k = some_once x k (sym here ∙ (ap (local_named defs) ((bytes_decides w.text name).0 t) ∙ at)) in
-        true_or (x == k) (is_among k xs) (eq-eqb x k same)
-    go false t x xs here more f = or_true (x == k) (is_among k xs) (more f)
+        let same : x ≡ k = same_Some x k (sym here ∙ (ap (local_named defs) ((bytes_decides w.text name).0 t) ∙ at)) in
+        or_left (x == k) (is_among k xs) (eq-eqb x k same)
+    go false t x xs here more f = or_right (x == k) (is_among k xs) (more f)
 
 -- ---- the ranges
 
@@ -136,7 +140,7 @@ is_a_range job before (tree.Span spot lo hi step) r h = refl
 spans_among : (job : Job) (params : List Word) (all before defs : List DefTree) (n : ℕ) (ds : List Def) (ps : List ℕ) → n ≡ length before → before ++ defs ≡ all
     → repeats_after (λ (d : DefTree). d.name) LocalTwice before defs ≡ [] → definitions_faults job params before defs ≡ [] → each (parameter_of all) params ≡ Some ps → definitions_of job before defs ≡ Some ds
     → IsTrue (spans_are_params n ds ps)
-spans_among job params all before [] n ds ps same whole r h q e = subst (λ l. IsTrue (spans_are_params n l ps)) (some_once [] ds e) refl
+spans_among job params all before [] n ds ps same whole r h q e = subst (λ l. IsTrue (spans_are_params n l ps)) (same_Some [] ds e) refl
 spans_among job params all before (d ∷ defs) n ds ps same whole r h q e =
     let p = parts_of (λ x xs. x ∷ xs) (definition_of job before d.value) (definitions_of job (before ++ d ∷ []) defs) ds e in
     let fresh = holds_not (is_taken (λ (x : DefTree). x.name) before d.name.text) d.name.spot LocalTwice (first_nil _ _ r) in
@@ -156,13 +160,13 @@ spans_among job params all before (d ∷ defs) n ds ps same whole r h q e =
     go : (x : Def) (xs : List Def) → definition_of job before d.value ≡ Some x → local_named all d.name.text ≡ Some n → is_ranged_local params d ≡ false → IsTrue (spans_are_params (suc n) xs ps) → IsTrue (spans_are_params n (x ∷ xs) ps)
     go (def.Value t) xs k at ranged more = more
     go (def.Span t) xs k at ranged more =
-        both_true (is_among n ps) (spans_are_params (suc n) xs ps)
+        and_from (is_among n ps) (spans_are_params (suc n) xs ps)
         (among_some all d.name.text n params ps at (is_named (is_range d.value) (list_any (word_is d.name.text) params) (is_a_range job before d.value t k) ranged) q) more
 
 pub pair_of : (o : Option (List Def)) (q : Option (List ℕ)) (z : ClassSpace) → both (λ x y. record { defs = x; params = y }) o q ≡ Some z → (x : List Def) × (y : List ℕ) × (o ≡ Some x) × (q ≡ Some y) × (space_from x y ≡ z)
 pair_of None q z f = absurd cc
 pair_of (Some x) None z f = absurd cc
-pair_of (Some x) (Some y) z f = (x, y, refl, refl, some_once (space_from x y) z f)
+pair_of (Some x) (Some y) z f = (x, y, refl, refl, same_Some (space_from x y) z f)
 
 -- a resolved space that breaks no rule is well made
 pub well_space : (job : Job) (params : List Word) (defs : List DefTree) (s : ClassSpace) → length defs ≤ 16 → space_faults job params defs ≡ [] → space_of job params defs ≡ Some s → IsWellSpace s

@@ -1,4 +1,5 @@
--- Arguments: expressions and ranges. Source: PaRSEC 2013 for broadcasts and gathers by ranges, and the JDF documentation.
+-- Arguments: expressions and ranges. Source: PaRSEC 2013 for broadcasts and gathers by ranges, and the JDF
+-- documentation.
 use Rattle.std.specs.Prelude.{List, [], ◌∷◌, ◌++◌, Option, None, option_map, flat_map}
 use Rattle.term_core.specs.Term.{Term}
 use Rattle.term_core.specs.declared.space.Range.{Range}

@@ -15,7 +15,8 @@ pub record AreGlobals (job : Job) (globals : Globals) : Type 0 where
   pub ints : (name : List ℕ) → value_named globals.ints name ≡ int_named job name
   pub colls : (name : List ℕ) → value_named globals.colls name ≡ coll_named job name
 
--- The tables are those of the JDF and its data, whose lists are not too long, and at most 16 definitions are seen. The data have at most 15 types beside DEFAULT.
+-- The tables are those of the JDF and its data, whose lists are not too long, and at most 16 definitions are seen. The
+-- data have at most 15 types beside DEFAULT.
 pub record IsContext (context : Context) : Type 0 where
   pub globals : AreGlobals (job_of context) context.globals.now
   pub bounded : IsBoundedJdf context.jdf.now

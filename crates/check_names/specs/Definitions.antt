@@ -1,4 +1,5 @@
--- The definitions and the parameters of a class. Source: the JDF documentation; that a definition sees only those before it, and that ranges define parameters alone, are this project's own choice.
+-- The definitions and the parameters of a class. Source: the JDF documentation; that a definition sees only those
+-- before it, and that ranges define parameters alone, are this project's own choice.
 use Rattle.std.specs.Prelude.{ℕ, Bool, true, false, not, ◌&&◌, List, [], ◌∷◌, ◌++◌, flat_map, Option, Some, is_none, option_map}
 use Rattle.std.specs.List.{list_any}
 use Rattle.jdf_tree.specs.declared.tree.ArgTree.TheVariants as tree
@@ -24,11 +25,13 @@ is_ranged_local params d = is_range d.value && not (list_any (word_is d.name.tex
 
 -- the faults of a definition, where those before it are seen
 abbrev pub definition_faults : Job → List Word → List DefTree → DefTree → List JdfFault
-definition_faults job params before d = argument_faults job before d.value ++ fault_if (is_ranged_local params d) d.name.spot RangedLocal
+definition_faults job params before d =
+    argument_faults job before d.value ++ fault_if (is_ranged_local params d) d.name.spot RangedLocal
 
 abbrev pub definitions_faults : Job → List Word → List DefTree → List DefTree → List JdfFault
 definitions_faults job params before [] = []
-definitions_faults job params before (d ∷ defs) = definition_faults job params before d ++ definitions_faults job params (before ++ d ∷ []) defs
+definitions_faults job params before (d ∷ defs) =
+    definition_faults job params before d ++ definitions_faults job params (before ++ d ∷ []) defs
 
 -- a definition with its names resolved, where those before it are seen
 abbrev pub definition_of : Job → List DefTree → ArgTree → Option Def
@@ -37,7 +40,8 @@ definition_of job before (tree.Span spot lo hi step) = option_map plan.Span (ran
 
 abbrev pub definitions_of : Job → List DefTree → List DefTree → Option (List Def)
 definitions_of job before [] = Some []
-definitions_of job before (d ∷ defs) = both (λ x xs. x ∷ xs) (definition_of job before d.value) (definitions_of job (before ++ d ∷ []) defs)
+definitions_of job before (d ∷ defs) =
+    both (λ x xs. x ∷ xs) (definition_of job before d.value) (definitions_of job (before ++ d ∷ []) defs)
 
 -- a parameter that no definition defines
 abbrev pub parameter_faults : List DefTree → Word → List JdfFault
@@ -55,4 +59,5 @@ space_faults job params defs =
 
 -- the space of a class: its definitions, and the number of the definition of each parameter
 abbrev pub space_of : Job → List Word → List DefTree → Option ClassSpace
-space_of job params defs = both (λ x y. record { defs = x; params = y }) (definitions_of job [] defs) (each (parameter_of defs) params)
+space_of job params defs =
+    both (λ x y. record { defs = x; params = y }) (definitions_of job [] defs) (each (parameter_of defs) params)

@@ -1,4 +1,5 @@
--- The expressions of a class, outside of its body: the faults of their names, and the terms that they are. Source: the JDF documentation.
+-- The expressions of a class, outside of its body: the faults of their names, and the terms that they are. Source: the
+-- JDF documentation.
 use Rattle.std.specs.Prelude.{ℕ, List, [], ◌∷◌, ◌++◌, Option, Some, None, is_some, is_none, option_map, if◌then◌else◌}
 use Rattle.std.specs.Option.{option_or}
 use Rattle.term_core.specs.Term.{Term}
@@ -11,7 +12,8 @@ use Rattle.check_names.specs.Names.{Job, int_named, coll_named, local_named}
 
 -- the term of a name: the first local of this name among those that are seen, which hides a global, or an integer
 abbrev pub name_term : Job → List DefTree → List ℕ → Option Term
-name_term job seen name = option_or (option_map term.Local (local_named seen name)) (option_map term.Num (int_named job name))
+name_term job seen name =
+    option_or (option_map term.Local (local_named seen name)) (option_map term.Num (int_named job name))
 
 -- the code of a name that stands for no number: a collection is of the wrong kind
 abbrev pub name_code : Job → List ℕ → JdfCode
@@ -28,7 +30,8 @@ expression_faults job seen (Name w) = name_faults job seen w
 expression_faults job seen (Elem w at) = expression_faults job seen at ++ fault w.spot UnknownName ∷ []
 expression_faults job seen (Unary o a spot) = expression_faults job seen a
 expression_faults job seen (Binary o a b) = expression_faults job seen a ++ expression_faults job seen b
-expression_faults job seen (Choose c a b) = expression_faults job seen c ++ (expression_faults job seen a ++ expression_faults job seen b)
+expression_faults job seen (Choose c a b) =
+    expression_faults job seen c ++ (expression_faults job seen a ++ expression_faults job seen b)
 
 -- the term of an expression, where each of its names means a number
 abbrev pub term_of : Job → List DefTree → Expression → Option Term
@@ -37,7 +40,9 @@ term_of job seen (Name w) = name_term job seen w.text
 term_of job seen (Elem w at) = None
 term_of job seen (Unary o a spot) = option_map (term.Unary o) (term_of job seen a)
 term_of job seen (Binary o a b) = both (term.Binary o) (term_of job seen a) (term_of job seen b)
-term_of job seen (Choose c a b) = both (λ x (y : Term × Term). term.Choose x y.0 y.1) (term_of job seen c) (both (λ x y. (x, y)) (term_of job seen a) (term_of job seen b))
+term_of job seen (Choose c a b) =
+    both (λ x (y : Term × Term). term.Choose x y.0 y.1) (term_of job seen c)
+    (both (λ x y. (x, y)) (term_of job seen a) (term_of job seen b))
 
 -- the same of an expression that may be left out
 abbrev pub option_faults : Job → List DefTree → Option Expression → List JdfFault

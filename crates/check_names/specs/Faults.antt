@@ -1,4 +1,5 @@
--- Faults in the order of the text, and the first of several. That a text is refused with the first of all its faults, and which code comes first at one place, are this project's own choice.
+-- Faults in the order of the text, and the first of several. That a text is refused with the first of all its faults,
+-- and which code comes first at one place, are this project's own choice.
 use Rattle.std.specs.Prelude.{ℕ, Bool, true, false, ◌&&◌, ◌||◌, nat_eq, nat_lt, List, [], ◌∷◌, Option, Some, None, if◌then◌else◌}
 use Rattle.check_names.specs.Alphabet.{Spot, JdfCode, JdfFault}
 use denote.Enum.Declared.{tag_of}

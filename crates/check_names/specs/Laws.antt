@@ -17,36 +17,54 @@ use Rattle.check_names.specs.Repeats.{repeats}
 
 -- Words of which none is given twice are distinct names.
 abbrev pub NamesAreDistinct : Type 0
-NamesAreDistinct = (code : JdfCode) (words : List Word) → repeats (λ (w : Word). w) code words ≡ [] → IsTrue (are_distinct (map (λ (w : Word). w.text) words))
+NamesAreDistinct =
+    (code : JdfCode) (words : List Word) → repeats (λ (w : Word). w) code words ≡ []
+    → IsTrue (are_distinct (map (λ (w : Word). w.text) words))
 
 -- Arguments that are resolved name only definitions that are seen.
 abbrev pub ArgumentsAreClosed : Type 0
-ArgumentsAreClosed = (job : Job) (seen : List DefTree) (args : List ArgTree) (xs : List Arg) → arguments_of job seen args ≡ Some xs → IsTrue (list_all (is_closed_arg (length seen)) xs)
+ArgumentsAreClosed =
+    (job : Job) (seen : List DefTree) (args : List ArgTree) (xs : List Arg) → arguments_of job seen args ≡ Some xs
+    → IsTrue (list_all (is_closed_arg (length seen)) xs)
 
 -- So do indices.
 abbrev pub IndicesAreClosed : Type 0
-IndicesAreClosed = (job : Job) (seen : List DefTree) (args : List ArgTree) (ts : List Term) → indices_of job seen args ≡ Some ts → IsTrue (list_all (is_closed (length seen)) ts)
+IndicesAreClosed =
+    (job : Job) (seen : List DefTree) (args : List ArgTree) (ts : List Term) → indices_of job seen args ≡ Some ts
+    → IsTrue (list_all (is_closed (length seen)) ts)
 
 -- So does an expression that may be left out.
 abbrev pub OptionIsClosed : Type 0
-OptionIsClosed = (job : Job) (seen : List DefTree) (e : Option Expression) (o : Option Term) → option_term job seen e ≡ Some o → IsTrue (is_closed_option (length seen) o)
+OptionIsClosed =
+    (job : Job) (seen : List DefTree) (e : Option Expression) (o : Option Term) → option_term job seen e ≡ Some o
+    → IsTrue (is_closed_option (length seen) o)
 
 -- Where no argument is a range, none is resolved to one.
 abbrev pub ArgumentsAreNoRanges : Type 0
-ArgumentsAreNoRanges = (job : Job) (seen : List DefTree) (code : JdfCode) (args : List ArgTree) (xs : List Arg) → ranges_faults code args ≡ [] → arguments_of job seen args ≡ Some xs → list_any is_span xs ≡ false
+ArgumentsAreNoRanges =
+    (job : Job) (seen : List DefTree) (code : JdfCode) (args : List ArgTree) (xs : List Arg)
+    → ranges_faults code args ≡ [] → arguments_of job seen args ≡ Some xs → list_any is_span xs ≡ false
 
 -- Arguments that break no rule are resolved.
 abbrev pub ArgumentsAreResolved : Type 0
-ArgumentsAreResolved = (job : Job) (seen : List DefTree) (args : List ArgTree) → arguments_faults job seen args ≡ [] → IsSome (arguments_of job seen args)
+ArgumentsAreResolved =
+    (job : Job) (seen : List DefTree) (args : List ArgTree) → arguments_faults job seen args ≡ []
+    → IsSome (arguments_of job seen args)
 
 -- So are indices.
 abbrev pub IndicesAreResolved : Type 0
-IndicesAreResolved = (job : Job) (seen : List DefTree) (args : List ArgTree) → indices_faults job seen args ≡ [] → IsSome (indices_of job seen args)
+IndicesAreResolved =
+    (job : Job) (seen : List DefTree) (args : List ArgTree) → indices_faults job seen args ≡ []
+    → IsSome (indices_of job seen args)
 
 -- So is an expression that may be left out.
 abbrev pub OptionIsResolved : Type 0
-OptionIsResolved = (job : Job) (seen : List DefTree) (e : Option Expression) → option_faults job seen e ≡ [] → IsSome (option_term job seen e)
+OptionIsResolved =
+    (job : Job) (seen : List DefTree) (e : Option Expression) → option_faults job seen e ≡ []
+    → IsSome (option_term job seen e)
 
 -- So is the space of a class.
 abbrev pub SpaceIsResolved : Type 0
-SpaceIsResolved = (job : Job) (params : List Word) (defs : List DefTree) → space_faults job params defs ≡ [] → IsSome (space_of job params defs)
+SpaceIsResolved =
+    (job : Job) (params : List Word) (defs : List DefTree) → space_faults job params defs ≡ []
+    → IsSome (space_of job params defs)

@@ -1,4 +1,5 @@
--- How long the lists of a JDF are at most. A text with longer ones is refused before its names are looked at. Source: this project's own choice.
+-- How long the lists of a JDF are at most. A text with longer ones is refused before its names are looked at. Source:
+-- this project's own choice.
 use Rattle.std.specs.Prelude.{◌≤◌, length}
 use Rattle.std.specs.List.{AllByRecursion}
 use Rattle.check_names.specs.Alphabet.{FlowTree, ClassTree, Jdf}

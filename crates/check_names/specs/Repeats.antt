@@ -12,7 +12,8 @@ is_taken word xs name = list_any (λ x. word_is name (word x)) xs
 -- a fault at each name that is also that of an earlier one; the first list has those before
 abbrev pub repeats_after : {A : Type 0} → (A → Word) → JdfCode → List A → List A → List JdfFault
 repeats_after word code before [] = []
-repeats_after word code before (x ∷ xs) = fault_if (is_taken word before (word x).text) (word x).spot code ++ repeats_after word code (before ++ x ∷ []) xs
+repeats_after word code before (x ∷ xs) =
+    fault_if (is_taken word before (word x).text) (word x).spot code ++ repeats_after word code (before ++ x ∷ []) xs
 
 abbrev pub repeats : {A : Type 0} → (A → Word) → JdfCode → List A → List JdfFault
 repeats word code xs = repeats_after word code [] xs

@@ -25,7 +25,10 @@ pub fn range(
     step: &Option<ExprTree>,
 ) -> Result<Range, JdfRefusal>
     requires { IsContext context.now }
-    ensures { ReturnsChecked result (range_of (job_of context.now) context.now.seen.now lo.now hi.now step.now) (expression_faults (job_of context.now) context.now.seen.now lo.now ++ (expression_faults (job_of context.now) context.now.seen.now hi.now ++ option_faults (job_of context.now) context.now.seen.now step.now)) }
+    ensures { ReturnsChecked result (range_of (job_of context.now) context.now.seen.now lo.now hi.now step.now)
+        (expression_faults (job_of context.now) context.now.seen.now lo.now
+        ++ (expression_faults (job_of context.now) context.now.seen.now hi.now
+        ++ option_faults (job_of context.now) context.now.seen.now step.now)) }
 {
     let rest = join(term_of(context, hi), option_term(context, step));
     match join(term_of(context, lo), rest) {
@@ -41,7 +44,8 @@ pub fn range(
 // An argument of a task, with its names resolved.
 fn argument(context: &Context, arg: &ArgTree) -> Result<Arg, JdfRefusal>
     requires { IsContext context.now }
-    ensures { ReturnsChecked result (argument_of (job_of context.now) context.now.seen.now arg.now) (argument_faults (job_of context.now) context.now.seen.now arg.now) }
+    ensures { ReturnsChecked result (argument_of (job_of context.now) context.now.seen.now arg.now)
+        (argument_faults (job_of context.now) context.now.seen.now arg.now) }
 {
     match arg {
         ArgTree::One(e) => Ok(Arg::One(term_of(context, e)?)),
@@ -52,7 +56,8 @@ fn argument(context: &Context, arg: &ArgTree) -> Result<Arg, JdfRefusal>
 // An index of an element, with its names resolved. A range is none.
 fn index(context: &Context, arg: &ArgTree) -> Result<Expr, JdfRefusal>
     requires { IsContext context.now }
-    ensures { ReturnsChecked result (index_of (job_of context.now) context.now.seen.now arg.now) (index_faults (job_of context.now) context.now.seen.now arg.now) }
+    ensures { ReturnsChecked result (index_of (job_of context.now) context.now.seen.now arg.now)
+        (index_faults (job_of context.now) context.now.seen.now arg.now) }
 {
     match arg {
         ArgTree::One(e) => term_of(context, e),
@@ -67,7 +72,8 @@ fn index(context: &Context, arg: &ArgTree) -> Result<Expr, JdfRefusal>
 /// The arguments of a task, with their names resolved.
 pub fn arguments(context: &Context, args: &[ArgTree]) -> Result<Seq<Arg>, JdfRefusal>
     requires { IsContext context.now }
-    ensures { ReturnsChecked result (arguments_of (job_of context.now) context.now.seen.now args.now) (arguments_faults (job_of context.now) context.now.seen.now args.now) }
+    ensures { ReturnsChecked result (arguments_of (job_of context.now) context.now.seen.now args.now)
+        (arguments_faults (job_of context.now) context.now.seen.now args.now) }
 {
     let mut parts = Ok(Seq::new(context.alloc));
     for arg in args {
@@ -79,7 +85,8 @@ pub fn arguments(context: &Context, args: &[ArgTree]) -> Result<Seq<Arg>, JdfRef
 /// The indices of an element, with their names resolved.
 pub fn indices(context: &Context, args: &[ArgTree]) -> Result<Seq<Expr>, JdfRefusal>
     requires { IsContext context.now }
-    ensures { ReturnsChecked result (indices_of (job_of context.now) context.now.seen.now args.now) (indices_faults (job_of context.now) context.now.seen.now args.now) }
+    ensures { ReturnsChecked result (indices_of (job_of context.now) context.now.seen.now args.now)
+        (indices_faults (job_of context.now) context.now.seen.now args.now) }
 {
     let mut parts = Ok(Seq::new(context.alloc));
     for arg in args {

@@ -19,7 +19,8 @@ pub struct Globals {
     pub colls: NameTable<u32>,
 }
 
-/// What names are resolved with: where memory comes from, a JDF and its data, the globals by name, and the definitions that are seen.
+/// What names are resolved with: where memory comes from, a JDF and its data, the globals by name, and the definitions
+/// that are seen.
 #[derive(Clone, Copy)]
 pub struct Context<'a> {
     pub alloc: Global,

@@ -41,7 +41,8 @@ fn is_ranged_local(params: &[Word], definition: &DefTree) -> bool
 // The value of a definition, with its names resolved.
 fn value(context: &Context, value: &ArgTree) -> Result<Def, JdfRefusal>
     requires { IsContext context.now }
-    ensures { ReturnsChecked result (definition_of (job_of context.now) context.now.seen.now value.now) (argument_faults (job_of context.now) context.now.seen.now value.now) }
+    ensures { ReturnsChecked result (definition_of (job_of context.now) context.now.seen.now value.now)
+        (argument_faults (job_of context.now) context.now.seen.now value.now) }
 {
     match value {
         ArgTree::One(e) => Ok(Def::Value(term_of(context, e)?)),
@@ -52,7 +53,8 @@ fn value(context: &Context, value: &ArgTree) -> Result<Def, JdfRefusal>
 // A definition, where those before it are seen.
 fn definition(context: &Context, params: &[Word], definition: &DefTree) -> Result<Def, JdfRefusal>
     requires { IsContext context.now }
-    ensures { ReturnsChecked result (definition_of (job_of context.now) context.now.seen.now definition.now.value) (definition_faults (job_of context.now) params.now context.now.seen.now definition.now) }
+    ensures { ReturnsChecked result (definition_of (job_of context.now) context.now.seen.now definition.now.value)
+        (definition_faults (job_of context.now) params.now context.now.seen.now definition.now) }
 {
     let is_ranged = is_ranged_local(params, definition);
     and_rules(
@@ -69,7 +71,8 @@ fn definitions(
 ) -> Result<Seq<Def>, JdfRefusal>
     requires context { IsContext context.now }
     requires at_most { length definitions.now ≤ 16 }
-    ensures { ReturnsChecked result (definitions_of (job_of context.now) [] definitions.now) (definitions_faults (job_of context.now) params.now [] definitions.now) }
+    ensures { ReturnsChecked result (definitions_of (job_of context.now) [] definitions.now)
+        (definitions_faults (job_of context.now) params.now [] definitions.now) }
 {
     let mut parts = Ok(Seq::new(context.alloc));
     for i in 0..definitions.len() {
@@ -86,7 +89,8 @@ fn definitions(
 // The number of the definition of a parameter.
 fn parameter(definitions: &[DefTree], param: &Word) -> Result<u8, JdfRefusal>
     requires { length definitions.now ≤ 16 }
-    ensures { ReturnsChecked result (parameter_of definitions.now param.now) (parameter_faults definitions.now param.now) }
+    ensures { ReturnsChecked result (parameter_of definitions.now param.now)
+        (parameter_faults definitions.now param.now) }
 {
     match local_named(definitions, &param.text) {
         None => Err(fault_at(param.spot, JdfCode::ParamUndefined)),
@@ -101,7 +105,8 @@ fn parameters(
     params: &[Word],
 ) -> Result<Seq<u8>, JdfRefusal>
     requires { length definitions.now ≤ 16 }
-    ensures { ReturnsChecked result (each (parameter_of definitions.now) params.now) (flat_map (parameter_faults definitions.now) params.now) }
+    ensures { ReturnsChecked result (each (parameter_of definitions.now) params.now)
+        (flat_map (parameter_faults definitions.now) params.now) }
 {
     let mut parts = Ok(Seq::new(alloc));
     for param in params {
@@ -114,7 +119,8 @@ fn parameters(
 fn params_of(alloc: Global, definitions: &[DefTree], params: &[Word]) -> Result<Params, JdfRefusal>
     requires definitions { length definitions.now ≤ 16 }
     requires params { length params.now ≤ 8 }
-    ensures { ReturnsChecked {A = List ℕ} result (each (parameter_of definitions.now) params.now) (flat_map (parameter_faults definitions.now) params.now) }
+    ensures { ReturnsChecked {A = List ℕ} result (each (parameter_of definitions.now) params.now)
+        (flat_map (parameter_faults definitions.now) params.now) }
 {
     match parameters(alloc, definitions, params) {
         Err(refusal) => Err(refusal),
@@ -127,7 +133,8 @@ fn space_by(context: &Context, params: &[Word], defs: &[DefTree]) -> Result<Clas
     requires context { IsContext context.now }
     requires params { length params.now ≤ 8 }
     requires definitions { length defs.now ≤ 16 }
-    ensures { ReturnsChecked result (space_of (job_of context.now) params.now defs.now) (space_faults (job_of context.now) params.now defs.now) }
+    ensures { ReturnsChecked result (space_of (job_of context.now) params.now defs.now)
+        (space_faults (job_of context.now) params.now defs.now) }
 {
     let known = and_rules(
         definitions(context, params, defs),
@@ -147,7 +154,8 @@ fn space_by(context: &Context, params: &[Word], defs: &[DefTree]) -> Result<Clas
 pub fn space(context: &Context, class: &ClassTree) -> Result<ClassSpace, JdfRefusal>
     requires context { IsContext context.now }
     requires bounded { IsBoundedClass class.now }
-    ensures { ReturnsChecked result (space_of (job_of context.now) class.now.params class.now.defs) (space_faults (job_of context.now) class.now.params class.now.defs) }
+    ensures { ReturnsChecked result (space_of (job_of context.now) class.now.params class.now.defs)
+        (space_faults (job_of context.now) class.now.params class.now.defs) }
 {
     space_by(context, class.params.as_slice(), class.defs.as_slice())
 }

@@ -32,7 +32,8 @@ fn name_code(context: &Context, name: &Text) -> JdfCode
 // The term of a name, where these definitions are seen.
 fn name_term(context: &Context, word: &Word) -> Result<Expr, JdfRefusal>
     requires { IsContext context.now }
-    ensures { ReturnsChecked result (name_term (job_of context.now) context.now.seen.now word.now.text) (name_faults (job_of context.now) context.now.seen.now word.now) }
+    ensures { ReturnsChecked result (name_term (job_of context.now) context.now.seen.now word.now.text)
+        (name_faults (job_of context.now) context.now.seen.now word.now) }
 {
     if let Some(number) = local_named(context.seen, &word.text) {
         return Ok(Expr::local(number as u16));
@@ -50,7 +51,8 @@ fn binary(
     first: Result<Expr, JdfRefusal>,
     second: Result<Expr, JdfRefusal>,
 ) -> Result<Expr, JdfRefusal>
-    ensures { (p q : Option Term) (fs gs : List JdfFault) → ReturnsChecked first p fs → ReturnsChecked second q gs → ReturnsChecked result (both (Binary operator) p q) (fs ++ gs) }
+    ensures { (p q : Option Term) (fs gs : List JdfFault) → ReturnsChecked first p fs → ReturnsChecked second q gs
+        → ReturnsChecked result (both (Binary operator) p q) (fs ++ gs) }
 {
     match join(first, second) {
         Err(refusal) => Err(refusal),
@@ -64,7 +66,9 @@ fn choose(
     condition: Result<Expr, JdfRefusal>,
     branches: Result<(Expr, Expr), JdfRefusal>,
 ) -> Result<Expr, JdfRefusal>
-    ensures { (p : Option Term) (q : Option (Term × Term)) (fs gs : List JdfFault) → ReturnsChecked condition p fs → ReturnsChecked {A = Term × Term} branches q gs → ReturnsChecked result (both (λ x (y : Term × Term). Choose x y.0 y.1) p q) (fs ++ gs) }
+    ensures { (p : Option Term) (q : Option (Term × Term)) (fs gs : List JdfFault) → ReturnsChecked condition p fs
+        → ReturnsChecked {A = Term × Term} branches q gs
+        → ReturnsChecked result (both (λ x (y : Term × Term). Choose x y.0 y.1) p q) (fs ++ gs) }
 {
     match join(condition, branches) {
         Err(refusal) => Err(refusal),
@@ -75,7 +79,8 @@ fn choose(
 // The term of an expression, where these definitions are seen.
 fn node_term(context: &Context, node: &ExprNode) -> Result<Expr, JdfRefusal>
     requires { IsContext context.now }
-    ensures { ReturnsChecked result (term_of (job_of context.now) context.now.seen.now (expression_of node.now)) (expression_faults (job_of context.now) context.now.seen.now (expression_of node.now)) }
+    ensures { ReturnsChecked result (term_of (job_of context.now) context.now.seen.now (expression_of node.now))
+        (expression_faults (job_of context.now) context.now.seen.now (expression_of node.now)) }
 {
     match node {
         ExprNode::Num(value, _) => Ok(Expr::num(*value)),
@@ -106,7 +111,8 @@ fn node_term(context: &Context, node: &ExprNode) -> Result<Expr, JdfRefusal>
 /// The term of an expression, where these definitions are seen.
 pub fn term_of(context: &Context, tree: &ExprTree) -> Result<Expr, JdfRefusal>
     requires { IsContext context.now }
-    ensures { ReturnsChecked result (term_of (job_of context.now) context.now.seen.now tree.now) (expression_faults (job_of context.now) context.now.seen.now tree.now) }
+    ensures { ReturnsChecked result (term_of (job_of context.now) context.now.seen.now tree.now)
+        (expression_faults (job_of context.now) context.now.seen.now tree.now) }
 {
     node_term(context, tree.node())
 }
@@ -114,7 +120,8 @@ pub fn term_of(context: &Context, tree: &ExprTree) -> Result<Expr, JdfRefusal>
 /// The same of an expression that may be left out.
 pub fn option_term(context: &Context, tree: &Option<ExprTree>) -> Result<Option<Expr>, JdfRefusal>
     requires { IsContext context.now }
-    ensures { ReturnsChecked result (option_term (job_of context.now) context.now.seen.now tree.now) (option_faults (job_of context.now) context.now.seen.now tree.now) }
+    ensures { ReturnsChecked result (option_term (job_of context.now) context.now.seen.now tree.now)
+        (option_faults (job_of context.now) context.now.seen.now tree.now) }
 {
     match tree {
         None => Ok(None),

@@ -1,4 +1,5 @@
-//! What the names of a JDF mean outside of bodies: its expressions, arguments and definitions with their names resolved, or their first fault.
+//! What the names of a JDF mean outside of bodies: its expressions, arguments and definitions with their names
+//! resolved, or their first fault.
 #![tactic(auto)]
 
 mod argument;

@@ -28,7 +28,8 @@ pub fn join<A: Drop, B: Drop>(
     first: Result<A, JdfRefusal>,
     second: Result<B, JdfRefusal>,
 ) -> Result<(A, B), JdfRefusal>
-    ensures { (p : Option A) (q : Option B) (fs gs : List JdfFault) → ReturnsChecked first p fs → ReturnsChecked second q gs → ReturnsChecked result (both (λ x y. (x, y)) p q) (fs ++ gs) }
+    ensures { (p : Option A) (q : Option B) (fs gs : List JdfFault) → ReturnsChecked first p fs
+        → ReturnsChecked second q gs → ReturnsChecked result (both (λ x y. (x, y)) p q) (fs ++ gs) }
 {
     match first {
         Ok(a) => match second {
@@ -51,7 +52,8 @@ pub fn refused<A: Drop, B: Drop>(
     spot: Spot,
     code: JdfCode,
 ) -> Result<B, JdfRefusal>
-    ensures { (p : Option A) (q : Option B) (fs : List JdfFault) → ReturnsChecked part p fs → ReturnsChecked result q (fs ++ fault spot code ∷ []) }
+    ensures { (p : Option A) (q : Option B) (fs : List JdfFault) → ReturnsChecked part p fs
+        → ReturnsChecked result q (fs ++ fault spot code ∷ []) }
 {
     let fault = fault_at(spot, code);
     match part {
@@ -65,7 +67,8 @@ pub fn with_part<A: Drop>(
     parts: Result<Seq<A>, JdfRefusal>,
     part: Result<A, JdfRefusal>,
 ) -> Result<Seq<A>, JdfRefusal>
-    ensures { (p : Option (List A)) (q : Option A) (fs gs : List JdfFault) → ReturnsChecked parts p fs → ReturnsChecked part q gs → ReturnsChecked result (both (λ xs x. xs ++ x ∷ []) p q) (fs ++ gs) }
+    ensures { (p : Option (List A)) (q : Option A) (fs gs : List JdfFault) → ReturnsChecked parts p fs
+        → ReturnsChecked part q gs → ReturnsChecked result (both (λ xs x. xs ++ x ∷ []) p q) (fs ++ gs) }
 {
     match join(parts, part) {
         Err(refusal) => Err(refusal),
@@ -81,7 +84,8 @@ pub fn and_rules<A: Drop>(
     part: Result<A, JdfRefusal>,
     rules: Result<(), JdfRefusal>,
 ) -> Result<A, JdfRefusal>
-    ensures { (p : Option A) (fs gs : List JdfFault) → ReturnsChecked part p fs → ReturnsChecked rules (Some tt) gs → ReturnsChecked result p (fs ++ gs) }
+    ensures { (p : Option A) (fs gs : List JdfFault) → ReturnsChecked part p fs → ReturnsChecked rules (Some tt) gs
+        → ReturnsChecked result p (fs ++ gs) }
 {
     match join(part, rules) {
         Err(refusal) => Err(refusal),

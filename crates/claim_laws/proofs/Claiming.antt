@@ -2,7 +2,8 @@
 use Rattle.std.proofs.Common.{◌≡◌, ◌≢◌, ℕ, ◌<◌, Bool, true, false, cond, ◌==◌, ◌&&◌, ◌||◌, List, [], ◌∷◌, map, nat_lt, Some, None, refl, sym, ap, ◌∙◌, subst, arith, eq-eqb, ne_eqb}
 use Rattle.std.specs.Prelude.{filter}
 use Rattle.std.proofs.lemmas.Bool.{false_from_ne_true, le-ltb}
-use Rattle.range_space.proofs.Stepping.{by_test}
+use Rattle.list_lemmas.proofs.Truth.{by_test, and-false}
+use Rattle.list_lemmas.proofs.Counts.{weigh-push}
 use Rattle.ptg_base.specs.Task.{Task}
 use Rattle.ptg_base.specs.TaskComparing.{same_task}
 use Rattle.ptg_base.specs.TaskLaws.{same_task-decides}
@@ -11,11 +12,10 @@ use Rattle.plan_core.specs.declared.plan.Plan.{Plan}
 use Rattle.coll_data.specs.Data.{Data}
 use Rattle.dep_iter.specs.Edges.{goal}
 use Rattle.dep_iter.specs.Tasks.{all_tasks}
-use Rattle.flow_meaning.specs.Counting.{as_number}
+use Rattle.list_lemmas.specs.Counting.{as_number}
 use Rattle.flow_meaning.specs.Machine.{Claim, MachineState, MayClaim, arrived, claim_count, state_after}
 use Rattle.flow_meaning.specs.Table.{entry_of, is_waiting, table_entry, waiting_tasks, waiting_rows}
 use Rattle.flow_meaning.specs.declared.outcome.WaitRow.{WaitRow}
-use Rattle.flow_meaning.proofs.Counting.{weigh-push}
 
 -- whether a task has an entry, by how often it was claimed, how many edges into it were sent, and how many there are
 abbrev is_there : ℕ → ℕ → ℕ → Bool
@@ -33,15 +33,11 @@ claimed_not_there : (claims came all : ℕ) → 0 < claims → is_there claims c
 claimed_not_there claims came all some =
     ap (λ b. (b && (came == all)) || (b && (nat_lt 0 came && nat_lt came all))) (ne_eqb claims 0 (λ e. absurd (omega arith)))
 
-and_never : (a : Bool) → (a && false) ≡ false
-and_never true = refl
-and_never false = refl
-
 full_not_waiting : (claims came all : ℕ) → came ≡ all → waits_by claims came all ≡ false
 full_not_waiting claims came all full =
     ap (λ b. (claims == 0) && (nat_lt 0 came && b)) (le-ltb came all (omega arith))
-    ∙ ap (λ b. (claims == 0) && b) (and_never (nat_lt 0 came))
-    ∙ and_never (claims == 0)
+    ∙ ap (λ b. (claims == 0) && b) (and-false (nat_lt 0 came))
+    ∙ and-false (claims == 0)
 
 claimed_not_waiting : (claims came all : ℕ) → 0 < claims → waits_by claims came all ≡ false
 claimed_not_waiting claims came all some = ap (λ b. b && (nat_lt 0 came && nat_lt came all)) (ne_eqb claims 0 (λ e. absurd (omega arith)))

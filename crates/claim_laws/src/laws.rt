@@ -7,12 +7,17 @@ ghost use Rattle.coll_data.specs.Data.{Data};
 ghost use Rattle.flow_meaning.specs.Machine.{Claim, MachineState, MayClaim, state_after};
 ghost use Rattle.flow_meaning.specs.Table.{entry_of, table_entry, waiting_rows, written};
 
-/// A law: a task that may be claimed has an entry in the table; a claim takes the entry of its task and leaves every other entry
-/// as it was, and with them the rows of the tasks that wait and the write-backs that were sent.
+/// A law: a task that may be claimed has an entry in the table; a claim takes the entry of its task and leaves every
+/// other entry as it was, and with them the rows of the tasks that wait and the write-backs that were sent.
 pub fn a_claim_takes_its_own_entry()
-    ensures there { (P : Plan) (S : MachineState) (t : Task) → MayClaim P S t → table_entry P S t ≡ Some (entry_of P S t) }
-    ensures taken { (P : Plan) (G : Data) (S : MachineState) (t : Task) → table_entry P (state_after P G S (Claim t)) t ≡ None }
-    ensures others { (P : Plan) (G : Data) (S : MachineState) (t u : Task) → t ≢ u → table_entry P (state_after P G S (Claim t)) u ≡ table_entry P S u }
-    ensures waits { (P : Plan) (G : Data) (S : MachineState) (t : Task) → MayClaim P S t → waiting_rows P (state_after P G S (Claim t)) ≡ waiting_rows P S }
-    ensures writes { (P : Plan) (G : Data) (S : MachineState) (t : Task) → written (state_after P G S (Claim t)) ≡ written S }
+    ensures there { (P : Plan) (S : MachineState) (t : Task) → MayClaim P S t
+        → table_entry P S t ≡ Some (entry_of P S t) }
+    ensures taken { (P : Plan) (G : Data) (S : MachineState) (t : Task)
+        → table_entry P (state_after P G S (Claim t)) t ≡ None }
+    ensures others { (P : Plan) (G : Data) (S : MachineState) (t u : Task) → t ≢ u
+        → table_entry P (state_after P G S (Claim t)) u ≡ table_entry P S u }
+    ensures waits { (P : Plan) (G : Data) (S : MachineState) (t : Task) → MayClaim P S t
+        → waiting_rows P (state_after P G S (Claim t)) ≡ waiting_rows P S }
+    ensures writes { (P : Plan) (G : Data) (S : MachineState) (t : Task)
+        → written (state_after P G S (Claim t)) ≡ written S }
 {}

@@ -6,7 +6,7 @@ use Rattle.coll_data.specs.declared.coll.Coll.{Coll}
 use Rattle.coll_data.specs.Data.{Data}
 use Rattle.coll_data.specs.Tiles.{IsRow, IsColumn, HasPlace, tile_index, tile_at}
 use Rattle.coll_data.specs.WellMade.{elements_by_type, IsWellColl, IsWellMade, IsTileOf}
-use Rattle.coll_data.proofs.Lists.{each_at}
+use Rattle.list_lemmas.proofs.Places.{each_at}
 use Rattle.coll_data.proofs.TileIndex.{tile_exists}
 
 -- the elements of a type past DEFAULT

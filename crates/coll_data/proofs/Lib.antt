@@ -1,4 +1,3 @@
-pub mod Lists
 pub mod TileIndex
 pub mod Found
 pub mod Replaced

@@ -1,7 +1,7 @@
 -- Data stay well made where a tile is replaced by one of as many numbers.
 use Rattle.std.proofs.Common.{◌≡◌, ℕ, zero, suc, ◌+◌, ◌*◌, ℤ, List, [], ◌∷◌, length, set, get_or, Option, Some, None, IfSome, IsSomeAnd, slice_get, slice_index, refl, sym, ap, ◌∙◌, subst, arith}
 use Rattle.std.specs.Option.{option_map_or}
-use Rattle.std.specs.List.{AllByRecursion, sum_by}
+use Rattle.std.specs.List.{sum_by}
 use Rattle.std.proofs.lemmas.List.{length-set}
 use Rattle.std.proofs.lemmas.List.Sums.{sum_by-cons}
 use Rattle.std.proofs.lemmas.Option.{get_or_from_slice_get}
@@ -11,12 +11,7 @@ use Rattle.coll_data.specs.Data.{Data}
 use Rattle.coll_data.specs.Replacing.{coll_with, with_tile_at}
 use Rattle.coll_data.specs.Tiles.{HasPlace, IsColumn, IsRow, tile_index}
 use Rattle.coll_data.specs.WellMade.{elements_by_type, element_total, IsTileOf, IsWellColl, IsWellMade}
-use Rattle.coll_data.proofs.Lists.{each_at}
-
-all_set : {A : Type 0} (P : A → Type 0) (xs : List A) (k : ℕ) (y : A) → AllByRecursion P xs → P y → AllByRecursion P (set xs k y)
-all_set P [] k y h p = h
-all_set P (x ∷ xs) zero y h p = (p, h.1)
-all_set P (x ∷ xs) (suc k) y h p = (h.0, all_set P xs k y h.1 p)
+use Rattle.list_lemmas.proofs.Places.{each_at, each_set}
 
 -- a sum stays where an element is replaced by one of the same weight
 sum_same : {A : Type 0} (f : A → ℕ) (xs : List A) (k : ℕ) (x y : A) → slice_get xs k ≡ Some x → f y ≡ f x → sum_by f (set xs k y) ≡ sum_by f xs
@@ -36,7 +31,7 @@ well_with elements c (Some k) tile w fits = record {
   has_tiles = w.has_tiles;
   tiles_at_most = w.tiles_at_most;
   all_tiles = length-set c.tiles k tile ∙ w.all_tiles;
-  tile_lengths = all_set (λ (t : List ℤ). length t ≡ slice_index elements c.datatype) c.tiles k tile w.tile_lengths fits;
+  tile_lengths = each_set (λ (t : List ℤ). length t ≡ slice_index elements c.datatype) c.tiles k tile w.tile_lengths fits;
 }
 
 as_many : (c : Coll) (o : Option ℕ) (tile : List ℤ) → length (option_map_or (λ k. set c.tiles k tile) o c.tiles) ≡ length c.tiles
@@ -65,14 +60,15 @@ module _ (d : Data) (well : IsWellMade d) (p : Place) (tile : List ℤ) (fits : 
         record {
           types_at_most = well.types_at_most;
           element_counts = well.element_counts;
-          colls = all_set (IsWellColl (elements_by_type d)) d.colls p.coll new_coll well.colls now;
+          colls = each_set (IsWellColl (elements_by_type d)) d.colls p.coll new_coll well.colls now;
           elements_at_most = omega (arith, well.elements_at_most, total);
         }
 
     replaced_is : having d (set d.colls p.coll new_coll) ≡ with_tile_at d p tile
     replaced_is = ap (λ o. having d (option_map_or (λ (x : Coll). set d.colls p.coll (coll_with x p.i p.j tile)) o d.colls)) (sym there)
 
--- what `with_tile_at` makes of the data `d`, whose fields are `inside`, where the collection `old` becomes `new` among `was`
+-- what `with_tile_at` makes of the data `d`, whose fields are `inside`, where the collection `old` becomes `new` among
+-- `was`
 pub record IsReplaced (inside d : Data) (p : Place) (tile : List ℤ) (colls : List Coll) : Type 0 where
   pub well_made : IsWellMade (having inside colls)
   pub is : having inside colls ≡ with_tile_at d p tile

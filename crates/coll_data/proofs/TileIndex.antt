@@ -1,17 +1,14 @@
 -- Places have the indices below the number of tiles.
-use Rattle.std.proofs.Common.{◌≡◌, ℕ, zero, suc, ◌+◌, ◌*◌, ◌<◌, ◌≤◌, ◌↔◌, ℤ, pos, negsuc, ◌⊎◌, inl, inr, get_or, nat_lt, Bool, true, false, List, [], length, Option, Some, None, IsSome, slice_get, option_and_then, refl, subst, rules, arith}
+use Rattle.std.proofs.Common.{◌≡◌, ℕ, zero, suc, ◌+◌, ◌*◌, ◌<◌, ◌≤◌, ◌↔◌, ℤ, pos, negsuc, ◌⊎◌, inl, inr, get_or, nat_lt, List, [], length, Option, Some, None, IsSome, slice_get, option_and_then, refl, subst, rules, arith}
 use Rattle.std.proofs.lemmas.Int.{ints}
 use Rattle.std.proofs.lemmas.Nat.{row_fits}
 use Rattle.std.proofs.lemmas.Option.{slice_get-get_or}
 use Rattle.std.proofs.lemmas.Bool.Decides.{nat_tests}
 use Rattle.coll_data.specs.Tiles.{tile_count, IsRow, IsColumn, below, tile_index}
+use Rattle.list_lemmas.proofs.Truth.{by_test}
 
 pub row_and_column : (row column rows cols : ℕ) → row < rows → column < cols → row * cols + column < rows * cols
 row_and_column row column rows cols h k = let e = row_fits row cols rows cols h (omega arith) in omega arith
-
-by_test : {P : Type 0} (b : Bool) → (b ≡ true → P) → (b ≡ false → P) → P
-by_test true on_true on_false = on_true refl
-by_test false on_true on_false = on_false refl
 
 -- a number is below a limit, as this index, or it is not
 pub record IsIndex (limit : ℕ) (n : ℤ) (k : ℕ) : Type 0 where

@@ -2,7 +2,8 @@
 use Rattle.std.specs.Prelude.{ℕ, ℤ, List}
 use Rattle.coll_data.specs.declared.coll.Coll.{Coll}
 
--- the types past DEFAULT with their numbers of elements, the elements of DEFAULT, the integers, the collections, and how many records there were
+-- the types past DEFAULT with their numbers of elements, the elements of DEFAULT, the integers, the collections, and
+-- how many records there were
 pub record Data : Type 0 where
   pub types : List (List ℕ × ℕ)
   pub elems : ℕ

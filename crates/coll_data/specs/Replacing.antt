@@ -8,7 +8,8 @@ use Rattle.coll_data.specs.Tiles.{tile_index}
 
 -- a collection with the tile in row i and column j replaced, if there is one
 abbrev pub coll_with : Coll → ℤ → ℤ → List ℤ → Coll
-coll_with c i j tile = record c { tiles = option_map_or (λ k. slice_set c.tiles k tile) (tile_index c.shape.0 c.shape.1 i j) c.tiles }
+coll_with c i j tile =
+    record c { tiles = option_map_or (λ k. slice_set c.tiles k tile) (tile_index c.shape.0 c.shape.1 i j) c.tiles }
 
 -- the data with the tile at a place replaced, if there is such a place
 abbrev pub with_tile_at : Data → Place → List ℤ → Data

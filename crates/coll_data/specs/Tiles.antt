@@ -18,11 +18,15 @@ abbrev pub below : ℕ → ℤ → Option ℕ
 below limit (pos n) = if nat_lt n limit then Some n else None
 below limit (negsuc n) = None
 
--- the index of the tile in row i and column j: all tiles of the rows before it come first, and those before it in its row
+-- the index of the tile in row i and column j: all tiles of the rows before it come first, and those before it in its
+-- row
 abbrev pub tile_index : ℕ → Option ℕ → ℤ → ℤ → Option ℕ
 tile_index rows None i j = option_and_then (λ column. below rows i) (below 1 j)
-tile_index rows (Some cols) i j = option_and_then (λ column. option_map (λ row. row * cols + column) (below rows i)) (below cols j)
+tile_index rows (Some cols) i j =
+    option_and_then (λ column. option_map (λ row. row * cols + column) (below rows i)) (below cols j)
 
 -- the tile at a place, if there is one
 abbrev pub tile_at : List Coll → Place → Option (List ℤ)
-tile_at colls p = option_and_then (λ (c : Coll). option_and_then (slice_get c.tiles) (tile_index c.shape.0 c.shape.1 p.i p.j)) (slice_get colls p.coll)
+tile_at colls p =
+    option_and_then (λ (c : Coll). option_and_then (slice_get c.tiles) (tile_index c.shape.0 c.shape.1 p.i p.j))
+    (slice_get colls p.coll)

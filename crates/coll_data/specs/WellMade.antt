@@ -13,7 +13,8 @@ is_element_count n = nat_le 1 n && nat_le n 4096
 abbrev pub elements_by_type : Data → List ℕ
 elements_by_type d = d.elems ∷ map (λ (type : List ℕ × ℕ). type.1) d.types
 
--- a collection of one of these types with 1 to 65,536 places, a tile for each, and as many numbers in each tile as its type has elements
+-- a collection of one of these types with 1 to 65,536 places, a tile for each, and as many numbers in each tile as its
+-- type has elements
 pub record IsWellColl (elements : List ℕ) (c : Coll) : Type 0 where
   pub datatype : c.datatype < length elements
   pub has_tiles : 1 ≤ tile_count c.shape.0 c.shape.1
@@ -25,7 +26,8 @@ pub record IsWellColl (elements : List ℕ) (c : Coll) : Type 0 where
 abbrev pub element_total : List ℕ → List Coll → ℕ
 element_total elements colls = sum_by (λ (c : Coll). length c.tiles * slice_index elements c.datatype) colls
 
--- at most 16 types, DEFAULT among them, each with 1 to 4,096 elements; collections of these, with at most 2 ^ 24 elements in all
+-- at most 16 types, DEFAULT among them, each with 1 to 4,096 elements; collections of these, with at most 2 ^ 24
+-- elements in all
 pub record IsWellMade (d : Data) : Type 0 where
   pub types_at_most : length d.types ≤ 15
   pub element_counts : IsTrue (list_all is_element_count (elements_by_type d))
@@ -34,4 +36,5 @@ pub record IsWellMade (d : Data) : Type 0 where
 
 -- the tile has as many numbers as the type of the collection with this number has elements
 abbrev pub IsTileOf : Data → ℕ → List ℤ → Type 0
-IsTileOf d coll tile = IfSome (slice_get d.colls coll) (λ (c : Coll). length tile ≡ slice_index (elements_by_type d) c.datatype)
+IsTileOf d coll tile =
+    IfSome (slice_get d.colls coll) (λ (c : Coll). length tile ≡ slice_index (elements_by_type d) c.datatype)

@@ -33,7 +33,8 @@ impl Coll {
     // The tile in this row and column, if there is one.
     pub(crate) fn tile(&self, i: i64, j: i64) -> Option<&Tile>
         requires { tile_count self.now.shape.0 self.now.shape.1 ≤ 65536 }
-        ensures { option_copied result ≡ option_and_then (slice_get self.now.tiles) (tile_index self.now.shape.0 self.now.shape.1 i j) }
+        ensures { option_copied result
+            ≡ option_and_then (slice_get self.now.tiles) (tile_index self.now.shape.0 self.now.shape.1 i j) }
     {
         let (rows, cols) = self.shape;
         let index = tile_index(rows, cols, i, j)?;

@@ -14,8 +14,8 @@ use std::marker::Model;
 
 /// The data of a job, in the order of their file. Contracts see plain lists and numbers.
 ///
-/// There are at most 16 types, with 1 to 4,096 elements each, and at most 65,536 tiles a collection, with 16,777,216 elements
-/// in all. Each collection has a tile for each place, and each tile as many numbers as its type has elements.
+/// There are at most 16 types, with 1 to 4,096 elements each, and at most 65,536 tiles a collection, with 16,777,216
+/// elements in all. Each collection has a tile for each place, and each tile as many numbers as its type has elements.
 pub struct Given {
     types: Seq<(Text, u32)>,
     elems: u32,
@@ -42,9 +42,12 @@ impl Model for Given {
 
     ghost Value = { Data };
 
-    ghost view = { λ g. record { types = g.types; elems = g.elems; ints = g.ints; colls = g.colls; rows_read = g.rows_read } };
+    ghost view = { λ g.
+        record { types = g.types; elems = g.elems; ints = g.ints; colls = g.colls; rows_read = g.rows_read } };
 
-    ghost invariant = { λ g. IsWellMade (record { types = g.types; elems = g.elems; ints = g.ints; colls = g.colls; rows_read = g.rows_read }) };
+    ghost invariant = { λ g.
+        IsWellMade
+        (record { types = g.types; elems = g.elems; ints = g.ints; colls = g.colls; rows_read = g.rows_read }) };
 }
 
 impl Given {
@@ -57,7 +60,8 @@ impl Given {
         colls: Seq<Coll>,
         rows_read: u64,
     ) -> Given
-        requires { IsWellMade (record { types = types; elems = elems; ints = ints; colls = colls; rows_read = rows_read }) }
+        requires { IsWellMade
+            (record { types = types; elems = elems; ints = ints; colls = colls; rows_read = rows_read }) }
         ensures { result ≡ record { types = types; elems = elems; ints = ints; colls = colls; rows_read = rows_read } }
     {
         Given {

@@ -9,8 +9,9 @@ use Rattle.data_read.specs.Reading.{all_records, as_data, data_of, later_records
 use Rattle.data_read.specs.WholeRecords.{Row, data_of_records}
 use Rattle.data_read.specs.WholeTexts.{NoneFits, AreByRecords}
 use Rattle.data_read.proofs.FirstCodes.{no_code, no_fault}
-use Rattle.data_read.proofs.Choices.{by_result, no_value}
+use Rattle.data_read.proofs.Choices.{no_value}
 use Rattle.data_read.proofs.OneMore.{AreOrdered, one_more}
+use Rattle.list_lemmas.proofs.Options.{by_result}
 
 none_ordered : (elems : ℕ) → AreOrdered elems []
 none_ordered elems = record { known = tt; named = tt; apart = tt }

@@ -1,19 +1,16 @@
 -- Digits that spell a number that is not too large.
-use Rattle.std.specs.Prelude.{◌&&◌, nat_le}
-use Rattle.std.proofs.Common.{◌≡◌, ℕ, ◌≤◌, Bool, true, false, cond, List, [], ◌∷◌, Option, Some, None, refl, arith}
+use Rattle.std.specs.Prelude.{nat_le}
+use Rattle.std.proofs.Common.{◌≡◌, ℕ, ◌≤◌, true, false, cond, List, [], ◌∷◌, Option, Some, None, refl, arith}
 use Rattle.std.specs.Prelude.{MatchOption, IfSome}
 use Rattle.std.specs.List.{list_all}
 use Rattle.std.proofs.lemmas.Bool.{leb-true}
 use Rattle.ptg_base.specs.Decimal.{decimal, is_decimal, is_digit}
-
-both_right : (a b : Bool) → (a && b) ≡ true → b ≡ true
-both_right true b h = h
-both_right false b h = absurd cc
+use Rattle.std.specs.Cmp.{second_so}
 
 at_most : (most : ℕ) (bytes : List ℕ) → is_decimal most bytes ≡ true → decimal bytes ≤ most
 unfolding is_decimal
 at_most most [] e = absurd cc
-at_most most (b ∷ bs) e = leb-true (decimal (b ∷ bs)) most (both_right (list_all is_digit (b ∷ bs)) (nat_le (decimal (b ∷ bs)) most) e)
+at_most most (b ∷ bs) e = leb-true (decimal (b ∷ bs)) most (second_so (list_all is_digit (b ∷ bs)) (nat_le (decimal (b ∷ bs)) most) e)
 
 abbrev Spelled : ℕ → List ℕ → Option ℕ → Type 0
 Spelled most bytes o = MatchOption o (is_decimal most bytes ≡ false) (λ n. (is_decimal most bytes ≡ true) × (n ≡ decimal bytes))

@@ -10,7 +10,8 @@ use Rattle.data_read.specs.WholeRecords.{Row, data_of_records}
 use Rattle.data_read.specs.WholeTexts.{HasFaultAfter, HasNoRecord, IsFirstFault}
 use Rattle.data_read.proofs.FirstCodes.{code_is_fault, code_is_fault_at_start, fault_at_start_has_code, fault_has_code}
 use Rattle.data_read.proofs.AllRecords.{are_read, read_all}
-use Rattle.data_read.proofs.Choices.{by_result, no_value}
+use Rattle.data_read.proofs.Choices.{no_value}
+use Rattle.list_lemmas.proofs.Options.{by_result}
 
 same_fault : {A : Type 0} (a b : DataFault) → ◌≡◌ {A = Result A DataFault} (Err a) (Err b) → a ≡ b
 same_fault a b e = cc

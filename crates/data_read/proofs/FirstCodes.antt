@@ -1,8 +1,7 @@
 -- The fault of a record is the first code that fits it.
 use Rattle.std.specs.Prelude.{◌==◌, ◌&&◌, ◌||◌, ◌-◌, ◌*◌, nat_le, nat_lt, is_none, find}
-use Rattle.std.proofs.Common.{◌≡◌, ℕ, ◌+◌, Bool, true, false, not, List, length, drop, codes, bytes_eq, Some, None, Result, Ok, Err, refl, sym, ◌∙◌, ap, subst}
+use Rattle.std.proofs.Common.{◌≡◌, ℕ, ◌+◌, Bool, true, false, not, List, length, drop, codes, Some, None, Result, Ok, Err, refl, sym, ◌∙◌, ap}
 use Rattle.std.specs.Option.{option_map_or}
-use Rattle.std.specs.Cmp.Lexicographic.{bytes_decides}
 use Rattle.coll_data.specs.Tiles.{tile_count}
 use Rattle.coll_data.specs.declared.fault.DataCode.{DataCode}
 use Rattle.coll_data.specs.declared.fault.DataCode.TheVariants.{BadName, NameTwice, UnknownType, BadNumber, TooManyTiles, TooManyElements}
@@ -11,10 +10,10 @@ use Rattle.data_read.specs.Draft.{Draft, coll_named, is_new, slot_at, type_named
 use Rattle.data_read.specs.Records.{coll_of, coll_record, collof_record, column, columns, element_count, first_record, first_value, int_record, later_record, numbers, shape_of, tile_record, type_record}
 use Rattle.data_read.specs.WholeRecords.{Row, begins}
 use Rattle.data_read.specs.Codes.{all_codes, both_pass, code_of, first_code, first_code_at_start, is_over}
-use Rattle.data_read.proofs.Choices.{by_test, by_option, by_result}
-
-other_word : (word a b : List ℕ) → bytes_eq word a ≡ true → bytes_eq a b ≡ false → bytes_eq word b ≡ false
-other_word word a b here apart = subst (λ (w : List ℕ). bytes_eq w b ≡ false) (sym ((bytes_decides word a).0 here)) apart
+use Rattle.data_read.proofs.Choices.{by_option}
+use Rattle.list_lemmas.proofs.Truth.{by_test}
+use Rattle.list_lemmas.proofs.Options.{by_result}
+use Rattle.list_lemmas.proofs.Texts.{bytes_eq-apart}
 
 has_code : {A : Type 0} (r : Result A DataCode) (code : DataCode) → code_of r ≡ Some code → r ≡ Err code
 has_code (Ok a) code e = absurd cc
@@ -24,10 +23,10 @@ has_code (Err c) code e = let same : c ≡ code = cc in ap (λ x. Err x) same
 
 type_code : (d : Draft) (row : Row) → begins (codes "elems") row ≡ true → code_of (type_record d row) ≡ first_code d row
 type_code d row w =
-    let i = other_word (field row 0) (codes "elems") (codes "int") w refl in
-    let c = other_word (field row 0) (codes "elems") (codes "coll") w refl in
-    let o = other_word (field row 0) (codes "elems") (codes "collof") w refl in
-    let t = other_word (field row 0) (codes "elems") (codes "tile") w refl in
+    let i = bytes_eq-apart (field row 0) (codes "elems") (codes "int") w refl in
+    let c = bytes_eq-apart (field row 0) (codes "elems") (codes "coll") w refl in
+    let o = bytes_eq-apart (field row 0) (codes "elems") (codes "collof") w refl in
+    let t = bytes_eq-apart (field row 0) (codes "elems") (codes "tile") w refl in
     by_test (length row == 2)
     (λ two. rw (w, i, c, o, t, two) refl)
     (λ two.
@@ -51,10 +50,10 @@ type_code d row w =
 
 int_code : (d : Draft) (row : Row) → begins (codes "int") row ≡ true → code_of (int_record d row) ≡ first_code d row
 int_code d row w =
-    let e = other_word (field row 0) (codes "int") (codes "elems") w refl in
-    let c = other_word (field row 0) (codes "int") (codes "coll") w refl in
-    let o = other_word (field row 0) (codes "int") (codes "collof") w refl in
-    let t = other_word (field row 0) (codes "int") (codes "tile") w refl in
+    let e = bytes_eq-apart (field row 0) (codes "int") (codes "elems") w refl in
+    let c = bytes_eq-apart (field row 0) (codes "int") (codes "coll") w refl in
+    let o = bytes_eq-apart (field row 0) (codes "int") (codes "collof") w refl in
+    let t = bytes_eq-apart (field row 0) (codes "int") (codes "tile") w refl in
     by_test (length row == 3)
     (λ three.
     by_test (is_name (field row 1))
@@ -70,8 +69,8 @@ int_code d row w =
 
 -- ---- collections
 
--- whether a code fits a record of a collection of the type of this name, whose own name is the field of the number given; `|| false`
--- is what the tests of other words leave
+-- whether a code fits a record of a collection of the type of this name, whose own name is the field of the number
+-- given; `|| false` is what the tests of other words leave
 abbrev coll_fits : Draft → Row → List ℕ → ℕ → DataCode → Bool
 coll_fits d row type at BadName = not (is_name type && is_name (field row at)) || false
 coll_fits d row type at NameTwice = not (is_new d (field row at))
@@ -110,20 +109,20 @@ coll_of_code d row type at =
 
 coll_code : (d : Draft) (row : Row) → begins (codes "coll") row ≡ true → code_of (coll_record d row) ≡ first_code d row
 coll_code d row w =
-    let e = other_word (field row 0) (codes "coll") (codes "elems") w refl in
-    let i = other_word (field row 0) (codes "coll") (codes "int") w refl in
-    let o = other_word (field row 0) (codes "coll") (codes "collof") w refl in
-    let t = other_word (field row 0) (codes "coll") (codes "tile") w refl in
+    let e = bytes_eq-apart (field row 0) (codes "coll") (codes "elems") w refl in
+    let i = bytes_eq-apart (field row 0) (codes "coll") (codes "int") w refl in
+    let o = bytes_eq-apart (field row 0) (codes "coll") (codes "collof") w refl in
+    let t = bytes_eq-apart (field row 0) (codes "coll") (codes "tile") w refl in
     by_test ((length row == 3) || (length row == 4))
     (λ count. rw (e, i, w, o, t, count) (coll_of_code d row (codes "DEFAULT") 1))
     (λ count. rw (e, i, w, o, t, count) refl)
 
 collof_code : (d : Draft) (row : Row) → begins (codes "collof") row ≡ true → code_of (collof_record d row) ≡ first_code d row
 collof_code d row w =
-    let e = other_word (field row 0) (codes "collof") (codes "elems") w refl in
-    let i = other_word (field row 0) (codes "collof") (codes "int") w refl in
-    let c = other_word (field row 0) (codes "collof") (codes "coll") w refl in
-    let t = other_word (field row 0) (codes "collof") (codes "tile") w refl in
+    let e = bytes_eq-apart (field row 0) (codes "collof") (codes "elems") w refl in
+    let i = bytes_eq-apart (field row 0) (codes "collof") (codes "int") w refl in
+    let c = bytes_eq-apart (field row 0) (codes "collof") (codes "coll") w refl in
+    let t = bytes_eq-apart (field row 0) (codes "collof") (codes "tile") w refl in
     by_test ((length row == 4) || (length row == 5))
     (λ count. rw (e, i, c, w, t, count) (coll_of_code d row (field row 1) 2))
     (λ count. rw (e, i, c, w, t, count) refl)
@@ -132,10 +131,10 @@ collof_code d row w =
 
 tile_code : (d : Draft) (row : Row) → begins (codes "tile") row ≡ true → code_of (tile_record d row) ≡ first_code d row
 tile_code d row w =
-    let e = other_word (field row 0) (codes "tile") (codes "elems") w refl in
-    let i = other_word (field row 0) (codes "tile") (codes "int") w refl in
-    let c = other_word (field row 0) (codes "tile") (codes "coll") w refl in
-    let o = other_word (field row 0) (codes "tile") (codes "collof") w refl in
+    let e = bytes_eq-apart (field row 0) (codes "tile") (codes "elems") w refl in
+    let i = bytes_eq-apart (field row 0) (codes "tile") (codes "int") w refl in
+    let c = bytes_eq-apart (field row 0) (codes "tile") (codes "coll") w refl in
+    let o = bytes_eq-apart (field row 0) (codes "tile") (codes "collof") w refl in
     by_test (nat_le 4 (length row))
     (λ four.
     by_test (is_name (field row 1))

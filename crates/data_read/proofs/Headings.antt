@@ -8,19 +8,13 @@ use Rattle.data_read.specs.declared.growing.GrowingColl.{GrowingColl}
 use Rattle.data_read.specs.Draft.{coll_index, type_among}
 use Rattle.data_read.specs.Fields.{field}
 use Rattle.data_read.specs.WholeRecords.{Heading, Row, begins, declares, given_tile, heading_at, heading_in, name_at, tile_in, type_name_in, with_tiles}
-use Rattle.data_read.proofs.Choices.{by_test, by_option, chosen}
+use Rattle.data_read.proofs.Choices.{by_option}
 use Rattle.data_read.proofs.WholeLists.{all_of, left_out, map_same, none_kept, range_constant, range_same}
+use Rattle.list_lemmas.proofs.Truth.{by_test, chosen}
+use Rattle.list_lemmas.proofs.Texts.{bytes_eq-sym_false}
+use Rattle.list_lemmas.proofs.Options.{none_from_one_more}
 
 -- ---- names
-
-pub apart_back : (a b : List ℕ) → bytes_eq a b ≡ false → bytes_eq b a ≡ false
-apart_back a b apart =
-    false_from_ne_true (bytes_eq b a)
-    (λ same. false≢true (sym apart ∙ (bytes_decides a b).1 (sym ((bytes_decides b a).0 same))))
-
--- a name that is another name's is no third one
-pub same_apart : (a b c : List ℕ) → bytes_eq a b ≡ true → bytes_eq b c ≡ false → bytes_eq a c ≡ false
-same_apart a b c same apart = subst (λ n. bytes_eq n c ≡ false) (sym ((bytes_decides a b).0 same)) apart
 
 -- no two collections have one name
 abbrev pub AreApart : List Heading → Type 0
@@ -51,22 +45,18 @@ pub apart_push : (hs : List Heading) (h : Heading) → AreApart hs → has_name 
 apart_push [] h all none = (refl, tt)
 apart_push (g ∷ gs) h all none =
     let parts = parts_of (bytes_eq h.name g.name) (has_name h.name gs) none in
-    (any_push (λ (k : Heading). bytes_eq g.name k.name) gs h all.0 (apart_back h.name g.name parts.0), apart_push gs h all.1 parts.1)
+    (any_push (λ (k : Heading). bytes_eq g.name k.name) gs h all.0 (bytes_eq-sym_false h.name g.name parts.0), apart_push gs h all.1 parts.1)
   where
     parts_of : (a b : Bool) → (a || b) ≡ false → (a ≡ false) × (b ≡ false)
     parts_of true b e = absurd cc
     parts_of false b e = (refl, e)
-
-pub more_is_none : (o : Option ℕ) → option_map (λ n. n + 1) o ≡ None → o ≡ None
-more_is_none None e = refl
-more_is_none (Some m) e = absurd cc
 
 -- a name without a collection
 pub no_name : (rows : List Row) (name : List ℕ) (hs : List Heading) → coll_index name (map (with_tiles rows) hs) ≡ None → has_name name hs ≡ false
 no_name rows name [] none = refl
 no_name rows name (h ∷ hs) none = elim (chosen (bytes_eq name h.name) (Some 0) (option_map (λ n. n + 1) (coll_index name (map (with_tiles rows) hs))) None none) [
   | inl here ↦ absurd (let never : ◌≡◌ {A = Option ℕ} (Some 0) None = here.1 in cc)
-  | inr later ↦ rw later.0 (no_name rows name hs (more_is_none (coll_index name (map (with_tiles rows) hs)) later.1))
+  | inr later ↦ rw later.0 (no_name rows name hs (none_from_one_more (coll_index name (map (with_tiles rows) hs)) later.1))
 ]
 
 -- a name with a collection

@@ -9,7 +9,8 @@ use Rattle.data_read.specs.declared.growing.Known.{Known}
 use Rattle.data_read.specs.declared.growing.Known.TheVariants.{Integer, Collection}
 use Rattle.data_read.specs.Draft.{coll_index}
 use Rattle.data_read.specs.Growing.{coll_or_int, meaning}
-use Rattle.data_read.proofs.Choices.{chosen}
+use Rattle.list_lemmas.proofs.Truth.{chosen, or-false}
+use Rattle.list_lemmas.proofs.Options.{none_from_one_more, some_from_one_more}
 
 abbrev pub of_int : List ℕ → List ℕ × ℤ → Bool
 of_int name int = bytes_eq name int.0
@@ -34,20 +35,12 @@ no_meaning None false e = refl
 
 -- ---- the number of a collection
 
-more_is_none : (o : Option ℕ) → option_map (λ n. n + 1) o ≡ None → o ≡ None
-more_is_none None e = refl
-more_is_none (Some m) e = absurd cc
-
-more_is_some : (o : Option ℕ) (at : ℕ) → option_map (λ n. n + 1) o ≡ Some at → (m : ℕ) × (o ≡ Some m) × (m + 1 ≡ at)
-more_is_some None at e = absurd cc
-more_is_some (Some m) at e = (m, refl, cc)
-
 pub index_within : (name : List ℕ) (colls : List GrowingColl) (at : ℕ) → coll_index name colls ≡ Some at → at < length colls
 index_within name [] at e = absurd cc
 index_within name (c ∷ cs) at e = elim (chosen (bytes_eq name c.name) (Some 0) (option_map (λ n. n + 1) (coll_index name cs)) (Some at) e) [
   | inl here ↦ let first : 0 ≡ at = (let same : ◌≡◌ {A = Option ℕ} (Some 0) (Some at) = here.1 in cc) in omega arith
   | inr later ↦
-      let m = more_is_some (coll_index name cs) at later.1 in
+      let m = some_from_one_more (coll_index name cs) at later.1 in
       let within = index_within name cs m.0 m.1 in
       let next : m.0 + 1 ≡ at = m.2 in
       omega arith
@@ -62,7 +55,7 @@ index_push_new name [] coll none same = cond-true (bytes_eq name coll.name) (Som
 index_push_new name (c ∷ cs) coll none same = elim (chosen (bytes_eq name c.name) (Some 0) (option_map (λ n. n + 1) (coll_index name cs)) None none) [
   | inl here ↦ absurd (let never : ◌≡◌ {A = Option ℕ} (Some 0) None = here.1 in cc)
   | inr later ↦
-      let rest = index_push_new name cs coll (more_is_none (coll_index name cs) later.1) same in
+      let rest = index_push_new name cs coll (none_from_one_more (coll_index name cs) later.1) same in
       let one : length cs + 1 ≡ length (c ∷ cs) = omega arith in
       cond-false (bytes_eq name c.name) (Some 0) (option_map (λ n. n + 1) (coll_index name (cs ++ coll ∷ []))) later.0
       ∙ ap (option_map (λ n. n + 1)) rest ∙ ap (λ (n : ℕ). Some n) one
@@ -82,10 +75,6 @@ any_push p (y ∷ xs) x = ap (λ t. p y || t) (any_push p xs x) ∙ or_assoc (p 
     or_assoc : (a b c : Bool) → (a || (b || c)) ≡ ((a || b) || c)
     or_assoc true b c = refl
     or_assoc false b c = refl
-
-or_false : (b : Bool) → (b || false) ≡ b
-or_false true = refl
-or_false false = refl
 
 or_true : (b : Bool) → (b || true) ≡ true
 or_true true = refl
@@ -119,7 +108,7 @@ module _ (ints : List (List ℕ × ℤ)) (colls : List GrowingColl) (table : Lis
         named_push_new n table (name, Integer) (was n ∙ none) here ∙ ap (λ b. coll_or_int None b) (sym any) ∙ ap (λ o. coll_or_int o (list_any (of_int n) (ints ++ int ∷ []))) (sym parts.0)
     | inr other ↦
         let any : list_any (of_int n) (ints ++ int ∷ []) ≡ list_any (of_int n) ints =
-        any_push (of_int n) ints int ∙ ap (λ t. list_any (of_int n) ints || t) (ap (bytes_eq n) named ∙ other) ∙ or_false (list_any (of_int n) ints) in
+        any_push (of_int n) ints int ∙ ap (λ t. list_any (of_int n) ints || t) (ap (bytes_eq n) named ∙ other) ∙ or-false (list_any (of_int n) ints) in
         named_push_other n table (name, Integer) other ∙ was n ∙ ap (λ b. coll_or_int (coll_index n colls) b) (sym any)
   ]
 

@@ -2,7 +2,6 @@
 use Rattle.std.specs.Prelude.{◌==◌, ◌&&◌, ◌||◌, nat_le, nat_lt}
 use Rattle.std.proofs.Common.{◌≡◌, ℕ, ◌+◌, ◌-◌, ◌*◌, ℤ, Bool, true, false, not, List, [], ◌∷◌, ◌++◌, length, map, drop, slice_get, codes, bytes_eq, Option, Some, None, is_some, option_map, Result, Ok, refl, sym, ◌∙◌, ap, subst}
 use Rattle.std.specs.List.{AllByRecursion, filter_map, list_any, sum_by}
-use Rattle.std.specs.Cmp.Lexicographic.{bytes_decides}
 use Rattle.std.proofs.lemmas.Bool.{cond-true, false≢true, or_from, or_left, or_right}
 use Rattle.std.proofs.lemmas.List.{map-append}
 use Rattle.std.proofs.lemmas.List.Sums.{sum_by_push}
@@ -15,15 +14,19 @@ use Rattle.data_read.specs.Fields.{field, is_name, whole}
 use Rattle.data_read.specs.Draft.{Draft, coll_index, coll_named, is_new, opened, type_among, type_named, with_coll, with_int, with_tile, with_type}
 use Rattle.data_read.specs.Records.{coll_of, coll_record, collof_record, column, columns, element_count, first_value, free_index, int_record, later_record, new_tile, numbers, shape_of, asked_coll, tile_record, type_record}
 use Rattle.data_read.specs.WholeRecords.{Heading, Row, all_types, begins, data_of_records, declares, elements_of, heading_at, heading_in, headings_of, index_in, int_in, ints_of, name_at, shape_in, type_in, type_name_in, types_of, with_tiles}
-use Rattle.data_read.proofs.Choices.{by_test, by_option, by_result, no_value}
-use Rattle.data_read.proofs.Soundness.{all_push, all_weaker}
+use Rattle.data_read.proofs.Choices.{by_option, no_value}
+use Rattle.list_lemmas.proofs.Truth.{by_test}
+use Rattle.list_lemmas.proofs.Options.{by_result}
+use Rattle.list_lemmas.proofs.Places.{each_push, each_weaker}
+use Rattle.list_lemmas.proofs.Texts.{bytes_eq-apart}
 use Rattle.data_read.proofs.SoundRecords.{no_draft, same_draft, same_size}
 use Rattle.data_read.proofs.SoundTiles.{coll_is_there}
 use Rattle.data_read.proofs.WholeLists.{kept_push, kept_same, left_out}
 use Rattle.data_read.proofs.Headings.{AreApart, HasKnownType, IsOfKnown, apart_push, colls_kept, heading_kept, name_kept, new_coll, no_name, some_name, type_kept}
 use Rattle.data_read.proofs.TileChanges.{Gives, tile_among}
 
--- what holds of records that have no fault: each type and each collection that one of them names is that of an earlier one
+-- what holds of records that have no fault: each type and each collection that one of them names is that of an earlier
+-- one
 pub record AreOrdered (elems : ℕ) (rows : List Row) : Type 0 where
   pub known : AllByRecursion (HasKnownType (all_types elems rows)) rows
   pub named : AllByRecursion (IsOfKnown (headings_of elems rows)) rows
@@ -33,9 +36,6 @@ pub record AreOrdered (elems : ℕ) (rows : List Row) : Type 0 where
 pub record IsOneMore (elems : ℕ) (rows : List Row) (row : Row) (e : Draft) : Type 0 where
   pub is : e ≡ data_of_records elems (rows ++ row ∷ [])
   pub ordered : AreOrdered elems (rows ++ row ∷ [])
-
-other_word : (word a b : List ℕ) → bytes_eq word a ≡ true → bytes_eq a b ≡ false → bytes_eq word b ≡ false
-other_word word a b here apart = subst (λ (w : List ℕ). bytes_eq w b ≡ false) (sym ((bytes_decides word a).0 here)) apart
 
 -- a record that is not of a collection, and is no tile
 record IsPlain (row : Row) : Type 0 where
@@ -53,10 +53,10 @@ no_heading row none types = rw none refl
 type_made : (elems : ℕ) (rows : List Row) (row : Row) (n : ℕ) → AreOrdered elems rows → begins (codes "elems") row ≡ true → element_count (field row 2) ≡ Some n
     → IsOneMore elems rows row (with_type (data_of_records elems rows) (field row 1) n)
 type_made elems rows row n ordered word count =
-    let no_int = other_word (field row 0) (codes "elems") (codes "int") word refl in
-    let c = other_word (field row 0) (codes "elems") (codes "coll") word refl in
-    let o = other_word (field row 0) (codes "elems") (codes "collof") word refl in
-    let t = other_word (field row 0) (codes "elems") (codes "tile") word refl in
+    let no_int = bytes_eq-apart (field row 0) (codes "elems") (codes "int") word refl in
+    let c = bytes_eq-apart (field row 0) (codes "elems") (codes "coll") word refl in
+    let o = bytes_eq-apart (field row 0) (codes "elems") (codes "collof") word refl in
+    let t = bytes_eq-apart (field row 0) (codes "elems") (codes "tile") word refl in
     let none = (plain row c o t).declares_none in
     let more = rows ++ row ∷ [] in
     let new : List ℕ × ℕ = (field row 1, n) in
@@ -65,7 +65,7 @@ type_made elems rows row n ordered word count =
     let ints : ints_of more ≡ ints_of rows = left_out int_in rows row (rw no_int refl) in
     let all : all_types elems more ≡ old ++ new ∷ [] = ap (λ (ts : List (List ℕ × ℕ)). (codes "DEFAULT", elems) ∷ ts) types in
     let same = kept_same (heading_in (old ++ new ∷ [])) (heading_in old) rows
-    (all_weaker (HasKnownType old) (λ (r : Row). heading_in (old ++ new ∷ []) r ≡ heading_in old r) rows (heading_kept old new) ordered.known) in
+    (each_weaker (HasKnownType old) (λ (r : Row). heading_in (old ++ new ∷ []) r ≡ heading_in old r) rows (heading_kept old new) ordered.known) in
     let headings : headings_of elems more ≡ headings_of elems rows =
     left_out (heading_in (all_types elems more)) rows row (no_heading row none (all_types elems more))
     ∙ ap (λ (ts : List (List ℕ × ℕ)). filter_map (heading_in ts) rows) all ∙ same in
@@ -76,12 +76,12 @@ type_made elems rows row n ordered word count =
       is = λ i. record { types = sym types i; elems = elems; ints = sym ints i; colls = sym colls i; elements = sym total i };
       ordered = record {
         known = subst (λ (ts : List (List ℕ × ℕ)). AllByRecursion (HasKnownType ts) more) (sym all)
-            (all_push (HasKnownType (old ++ new ∷ [])) rows row
-            (all_weaker (HasKnownType old) (HasKnownType (old ++ new ∷ [])) rows
+            (each_push (HasKnownType (old ++ new ∷ [])) rows row
+            (each_weaker (HasKnownType old) (HasKnownType (old ++ new ∷ [])) rows
             (λ r has is. let found = has is in (found.0, type_kept (type_name_in r) 0 old new found.0 found.1)) ordered.known)
             (λ is. absurd (false≢true (sym none ∙ is))));
         named = subst (λ (hs : List Heading). AllByRecursion (IsOfKnown hs) more) (sym headings)
-            (all_push (IsOfKnown (headings_of elems rows)) rows row ordered.named (λ is. absurd (false≢true (sym t ∙ is))));
+            (each_push (IsOfKnown (headings_of elems rows)) rows row ordered.named (λ is. absurd (false≢true (sym t ∙ is))));
         apart = subst AreApart (sym headings) ordered.apart;
       };
     }
@@ -128,9 +128,9 @@ still_ordered elems rows row ordered other none known =
     let headings = same_headings elems rows row other none in
     record {
       known = subst (λ (ts : List (List ℕ × ℕ)). AllByRecursion (HasKnownType ts) (rows ++ row ∷ [])) (sym (same_all elems rows row other))
-          (all_push (HasKnownType (all_types elems rows)) rows row ordered.known (λ is. absurd (false≢true (sym none ∙ is))));
+          (each_push (HasKnownType (all_types elems rows)) rows row ordered.known (λ is. absurd (false≢true (sym none ∙ is))));
       named = subst (λ (hs : List Heading). AllByRecursion (IsOfKnown hs) (rows ++ row ∷ [])) (sym headings)
-          (all_push (IsOfKnown (headings_of elems rows)) rows row ordered.named known);
+          (each_push (IsOfKnown (headings_of elems rows)) rows row ordered.named known);
       apart = subst AreApart (sym headings) ordered.apart;
     }
 
@@ -139,10 +139,10 @@ still_ordered elems rows row ordered other none known =
 int_made : (elems : ℕ) (rows : List Row) (row : Row) (z : ℤ) → AreOrdered elems rows → begins (codes "int") row ≡ true → whole (field row 2) ≡ Some z
     → IsOneMore elems rows row (with_int (data_of_records elems rows) (field row 1) z)
 int_made elems rows row z ordered word value =
-    let other = other_word (field row 0) (codes "int") (codes "elems") word refl in
-    let c = other_word (field row 0) (codes "int") (codes "coll") word refl in
-    let o = other_word (field row 0) (codes "int") (codes "collof") word refl in
-    let t = other_word (field row 0) (codes "int") (codes "tile") word refl in
+    let other = bytes_eq-apart (field row 0) (codes "int") (codes "elems") word refl in
+    let c = bytes_eq-apart (field row 0) (codes "int") (codes "coll") word refl in
+    let o = bytes_eq-apart (field row 0) (codes "int") (codes "collof") word refl in
+    let t = bytes_eq-apart (field row 0) (codes "int") (codes "tile") word refl in
     let none = (plain row c o t).declares_none in
     let more = rows ++ row ∷ [] in
     let types = same_types elems rows row other in
@@ -213,10 +213,10 @@ coll_made elems rows row known shape ordered other no_int t word type is new =
       is = λ i. record { types = sym types i; elems = elems; ints = sym ints i; colls = sym colls i; elements = sym total i };
       ordered = record {
         known = subst (λ (ts : List (List ℕ × ℕ)). AllByRecursion (HasKnownType ts) more) (sym all)
-            (all_push (HasKnownType (all_types elems rows)) rows row ordered.known (λ _. (known, type)));
+            (each_push (HasKnownType (all_types elems rows)) rows row ordered.known (λ _. (known, type)));
         named = subst (λ (gs : List Heading). AllByRecursion (IsOfKnown gs) more) (sym headings)
-            (all_push (IsOfKnown (hs ++ h ∷ [])) rows row
-            (all_weaker (IsOfKnown hs) (IsOfKnown (hs ++ h ∷ [])) rows (λ r has tile. name_kept (field r 1) hs h (has tile)) ordered.named)
+            (each_push (IsOfKnown (hs ++ h ∷ [])) rows row
+            (each_weaker (IsOfKnown hs) (IsOfKnown (hs ++ h ∷ [])) rows (λ r has tile. name_kept (field r 1) hs h (has tile)) ordered.named)
             (λ tile. absurd (false≢true (sym t ∙ tile))));
         apart = subst AreApart (sym headings) (apart_push hs h ordered.apart free);
       };
@@ -270,9 +270,9 @@ coll_of_more elems rows row e ordered other no_int t word is =
 
 pub coll_more : (elems : ℕ) (rows : List Row) (row : Row) (e : Draft) → AreOrdered elems rows → begins (codes "coll") row ≡ true → coll_record (data_of_records elems rows) row ≡ Ok e → IsOneMore elems rows row e
 coll_more elems rows row e ordered word is =
-    let other = other_word (field row 0) (codes "coll") (codes "elems") word refl in
-    let no_int = other_word (field row 0) (codes "coll") (codes "int") word refl in
-    let t = other_word (field row 0) (codes "coll") (codes "tile") word refl in
+    let other = bytes_eq-apart (field row 0) (codes "coll") (codes "elems") word refl in
+    let no_int = bytes_eq-apart (field row 0) (codes "coll") (codes "int") word refl in
+    let t = bytes_eq-apart (field row 0) (codes "coll") (codes "tile") word refl in
     by_test ((length row == 3) || (length row == 4))
     (λ h. let is = rw h at is in
     coll_of_more elems rows row e ordered other no_int t (or_left (begins (codes "coll") row) (begins (codes "collof") row) word) (rw word is))
@@ -281,10 +281,10 @@ coll_more elems rows row e ordered word is =
 pub collof_more : (elems : ℕ) (rows : List Row) (row : Row) (e : Draft) → AreOrdered elems rows → begins (codes "collof") row ≡ true → collof_record (data_of_records elems rows) row ≡ Ok e → IsOneMore elems rows row e
 collof_more elems rows row e ordered word is =
     let d = data_of_records elems rows in
-    let other = other_word (field row 0) (codes "collof") (codes "elems") word refl in
-    let no_int = other_word (field row 0) (codes "collof") (codes "int") word refl in
-    let c = other_word (field row 0) (codes "collof") (codes "coll") word refl in
-    let t = other_word (field row 0) (codes "collof") (codes "tile") word refl in
+    let other = bytes_eq-apart (field row 0) (codes "collof") (codes "elems") word refl in
+    let no_int = bytes_eq-apart (field row 0) (codes "collof") (codes "int") word refl in
+    let c = bytes_eq-apart (field row 0) (codes "collof") (codes "coll") word refl in
+    let t = bytes_eq-apart (field row 0) (codes "collof") (codes "tile") word refl in
     by_test ((length row == 4) || (length row == 5))
     (λ h. let is = rw h at is in
     let type : type_name_in row ≡ field row 1 = rw c refl in
@@ -371,10 +371,10 @@ tile_made : (elems : ℕ) (rows : List Row) (row : Row) (at : ℕ) (coll : Growi
     → coll_index (field row 1) (map (with_tiles rows) (headings_of elems rows)) ≡ Some at → slice_get (map (with_tiles rows) (headings_of elems rows)) at ≡ Some coll
     → IsOneMore elems rows row (with_tile (data_of_records elems rows) at coll index (opened coll.elements values))
 tile_made elems rows row at coll index values ordered gives found got =
-    let other = other_word (field row 0) (codes "tile") (codes "elems") gives.word refl in
-    let no_int = other_word (field row 0) (codes "tile") (codes "int") gives.word refl in
-    let c = other_word (field row 0) (codes "tile") (codes "coll") gives.word refl in
-    let o = other_word (field row 0) (codes "tile") (codes "collof") gives.word refl in
+    let other = bytes_eq-apart (field row 0) (codes "tile") (codes "elems") gives.word refl in
+    let no_int = bytes_eq-apart (field row 0) (codes "tile") (codes "int") gives.word refl in
+    let c = bytes_eq-apart (field row 0) (codes "tile") (codes "coll") gives.word refl in
+    let o = bytes_eq-apart (field row 0) (codes "tile") (codes "collof") gives.word refl in
     let none = or_from (begins (codes "coll") row) (begins (codes "collof") row) c o in
     let more = rows ++ row ∷ [] in
     let hs = headings_of elems rows in

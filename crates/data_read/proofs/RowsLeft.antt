@@ -17,7 +17,8 @@ use Rattle.csv.specs.declared.parser.Terminator.TheVariants as term
 use Rattle.csv.specs.declared.reader.Reader.{Reader}
 use Rattle.csv.proofs.ReadFacts.{rows-end, rows-more}
 use Rattle.data_read.specs.Rows.{HasRows, IsOfReading, NextRow, bytes_of}
-use Rattle.data_read.proofs.Choices.{by_test, by_option}
+use Rattle.data_read.proofs.Choices.{by_option}
+use Rattle.list_lemmas.proofs.Truth.{by_test}
 
 -- ---- a record ends between two records
 

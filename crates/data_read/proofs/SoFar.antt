@@ -14,10 +14,11 @@ use Rattle.ptg_base.specs.declared.refusal.Refusal.TheVariants.{Fault, OutOfMemo
 use Rattle.data_read.specs.Growing.{refusal_at}
 use Rattle.ptg_base.specs.Returns.{ReturnsRefusal}
 use Rattle.data_read.specs.Rows.{HasRows, NextRow}
-use Rattle.data_read.proofs.Choices.{by_result, no_value}
+use Rattle.data_read.proofs.Choices.{no_value}
 use Rattle.data_read.proofs.Soundness.{IsSound, well_made}
 use Rattle.data_read.proofs.SoundRecords.{begun_sound}
 use Rattle.data_read.proofs.SoundTiles.{later_sound}
+use Rattle.list_lemmas.proofs.Options.{by_result}
 
 abbrev Rows : Type 0
 Rows = List (List (List ℕ))
@@ -25,8 +26,8 @@ Rows = List (List (List ℕ))
 abbrev SliceReader : Type 0
 SliceReader = Reader (Bor (List ℕ))
 
--- of these records, which are added to this draft from row 2 on, that of this row is the next one, and those that are left make
--- of the draft so far what all of them make
+-- of these records, which are added to this draft from row 2 on, that of this row is the next one, and those that are
+-- left make of the draft so far what all of them make
 pub record AddedSoFar (rows : Rows) (first : Draft) (row : ℕ) (d : Draft) (reader : SliceReader) : Type 0 where
   pub left : Rows
   pub has : HasRows reader left

@@ -1,8 +1,8 @@
 -- Each record leaves the data so far sound.
 use Rattle.std.specs.Prelude.{◌==◌, ◌&&◌, ◌||◌, nat_le, nat_lt}
-use Rattle.std.proofs.Common.{◌≡◌, ℕ, zero, suc, ◌+◌, ◌*◌, ◌<◌, ◌≤◌, ℤ, pos, negsuc, Bool, true, false, List, [], ◌∷◌, ◌++◌, length, map, get_or, replicate, codes, bytes_eq, Option, Some, None, option_map, option_and_then, Result, Ok, Err, IsTrue, refl, sym, ◌∙◌, ap, subst, inl, inr, arith}
+use Rattle.std.proofs.Common.{◌≡◌, ℕ, zero, suc, ◌+◌, ◌*◌, ◌<◌, ◌≤◌, ℤ, pos, negsuc, true, List, [], ◌∷◌, ◌++◌, length, map, get_or, replicate, codes, bytes_eq, Option, Some, None, option_map, option_and_then, Result, Ok, Err, IsTrue, refl, sym, ◌∙◌, ap, subst, inl, inr, arith}
 use Rattle.std.specs.List.{list_all, AllByRecursion}
-use Rattle.std.proofs.lemmas.Bool.{leb-true, ltb-true}
+use Rattle.std.proofs.lemmas.Bool.{leb-true, ltb-true, and_parts}
 use Rattle.std.proofs.lemmas.List.{length-replicate, length-map, length_push, map-append}
 use Rattle.std.proofs.lemmas.List.Sums.{sum_by_push}
 use Rattle.std.specs.Prelude.{if◌then◌else◌}
@@ -14,8 +14,11 @@ use Rattle.data_read.specs.declared.growing.AskedColl.{AskedColl}
 use Rattle.data_read.specs.Fields.{field, is_name, whole}
 use Rattle.data_read.specs.Draft.{Draft, begun, is_new, type_among, type_named, with_coll, with_type}
 use Rattle.data_read.specs.Records.{as_element_count, columns, coll_of, coll_record, collof_record, element_count, first_record, int_record, shape_of, side, asked_coll, type_record}
-use Rattle.data_read.proofs.Choices.{chosen, by_test, by_option, by_result, no_value}
-use Rattle.data_read.proofs.Soundness.{HasLength, IsSound, IsSoundColl, all_push, all_replicate, all_true_push, all_weaker, at_push, counts_of, elements_in}
+use Rattle.data_read.proofs.Choices.{by_option, no_value}
+use Rattle.data_read.proofs.Soundness.{HasLength, IsSound, IsSoundColl, all_replicate, all_true_push, at_push, counts_of, elements_in}
+use Rattle.list_lemmas.proofs.Truth.{chosen, by_test}
+use Rattle.list_lemmas.proofs.Options.{by_result}
+use Rattle.list_lemmas.proofs.Places.{each_push, each_weaker}
 
 -- ---- the first record
 
@@ -73,7 +76,7 @@ with_type_sound d name n sound count room =
     record {
       types_at_most = omega (arith, length_push d.types (name, n));
       counts = subst (λ ns. IsTrue (list_all is_element_count ns)) same (all_true_push is_element_count (counts_of d) n sound.counts count);
-      colls = subst (λ ns. AllByRecursion (IsSoundColl ns) d.colls) same (all_weaker (IsSoundColl (counts_of d)) (IsSoundColl (counts_of d ++ n ∷ [])) d.colls (coll_grown (counts_of d) n) sound.colls);
+      colls = subst (λ ns. AllByRecursion (IsSoundColl ns) d.colls) same (each_weaker (IsSoundColl (counts_of d)) (IsSoundColl (counts_of d ++ n ∷ [])) d.colls (coll_grown (counts_of d) n) sound.colls);
       total = sound.total;
       at_most = sound.at_most;
     }
@@ -153,7 +156,7 @@ with_coll_sound d name shape datatype elements sound within is some few room =
     record {
       types_at_most = sound.types_at_most;
       counts = sound.counts;
-      colls = all_push (IsSoundColl (counts_of d)) d.colls coll sound.colls
+      colls = each_push (IsSoundColl (counts_of d)) d.colls coll sound.colls
           (record { datatype = within; elements = is; has_tiles = some; tiles_at_most = few; all_tiles = size; lengths = all_replicate (HasLength elements) count None (length-replicate elements (pos 0)) });
       total = sum_by_push elements_in d.colls coll ∙ ap (λ n. n + elements_in coll) sound.total ∙ ap (λ n. d.elements + n * elements) size;
       at_most = room;
@@ -167,16 +170,12 @@ record HasTiles (shape : ℕ × Option ℕ) : Type 0 where
 abbrev IsSide : ℕ → Type 0
 IsSide n = (1 ≤ n) × (n ≤ 65536)
 
-pub both_true : (a b : Bool) → (a && b) ≡ true → (a ≡ true) × (b ≡ true)
-both_true true b h = (refl, h)
-both_true false b h = absurd cc
-
 side_parts : (z : ℤ) (n : ℕ) → side z ≡ Some n → IsSide n
 side_parts (negsuc m) n e = absurd cc
 side_parts (pos m) n e = elim (chosen (nat_le 1 m && nat_le m 65536) (Some m) None (Some n) e) [
   | inl w ↦
       let same : m ≡ n = (let s : ◌≡◌ {A = Option ℕ} (Some m) (Some n) = w.1 in cc) in
-      let tests = both_true (nat_le 1 m) (nat_le m 65536) w.0 in
+      let tests = and_parts (nat_le 1 m) (nat_le m 65536) w.0 in
       let low = leb-true 1 m tests.0 in
       let high = leb-true m 65536 tests.1 in
       (omega arith, omega arith)

@@ -2,7 +2,7 @@
 use Rattle.std.specs.Prelude.{◌&&◌, nat_le}
 use Rattle.std.proofs.Common.{◌≡◌, ℕ, ◌+◌, ◌-◌, ◌*◌, ℤ, List, length, drop, get_or, set, slice_get, codes, bytes_eq, Option, Some, None, option_map, Result, Ok, refl, sym, ◌∙◌, ap, subst, arith, length-set}
 use Rattle.std.specs.List.{sum_by}
-use Rattle.std.proofs.lemmas.Bool.{leb-true}
+use Rattle.std.proofs.lemmas.Bool.{leb-true, and_parts}
 use Rattle.std.proofs.lemmas.List.{length-drop}
 use Rattle.std.proofs.lemmas.List.Sums.{sum_by-set}
 use Rattle.std.proofs.lemmas.Option.{get_or_from_slice_get, slice_get_within, option_and_then_some}
@@ -11,10 +11,13 @@ use Rattle.data_read.specs.declared.growing.GrowingColl.{GrowingColl}
 use Rattle.data_read.specs.Fields.{field, is_name, whole}
 use Rattle.data_read.specs.Draft.{Draft, coll_index, coll_named, with_tile}
 use Rattle.data_read.specs.Records.{column, first_value, free_index, later_record, new_tile, numbers, tile_record}
-use Rattle.data_read.proofs.Choices.{by_test, by_option, by_result, no_value}
+use Rattle.data_read.proofs.Choices.{by_option, no_value}
 use Rattle.data_read.proofs.Values.{length_opened, numbers_length}
-use Rattle.data_read.proofs.Soundness.{HasLength, IsSound, IsSoundColl, all_at, all_set, counts_of, elements_in}
-use Rattle.data_read.proofs.SoundRecords.{both_true, coll_sound, collof_sound, int_sound, no_draft, same_draft, type_sound}
+use Rattle.data_read.proofs.Soundness.{HasLength, IsSound, IsSoundColl, counts_of, elements_in}
+use Rattle.data_read.proofs.SoundRecords.{coll_sound, collof_sound, int_sound, no_draft, same_draft, type_sound}
+use Rattle.list_lemmas.proofs.Truth.{by_test}
+use Rattle.list_lemmas.proofs.Options.{by_result}
+use Rattle.list_lemmas.proofs.Places.{each_at, each_set}
 
 -- ---- tiles
 
@@ -37,7 +40,7 @@ tile_length fields coll tile is =
     (λ values hv. let is = rw hv at is in
     by_result (free_index coll i j)
     (λ index hn. let is = rw hn at is in
-    let few = leb-true (length fields - first) coll.elements (both_true (nat_le 1 (length fields - first)) (nat_le (length fields - first) coll.elements) ht).1 in
+    let few = leb-true (length fields - first) coll.elements (and_parts (nat_le 1 (length fields - first)) (nat_le (length fields - first) coll.elements) ht).1 in
     let size : length values ≡ length fields - first = numbers_length (drop first fields) values hv ∙ length-drop first fields in
     ap (λ (t : ℕ × List ℤ). length t.1) (sym (same_tile _ _ is)) ∙ length_opened coll.elements values (omega arith))
     (λ code hn. let s = rw hn at is in no_value s)))))
@@ -45,7 +48,7 @@ tile_length fields coll tile is =
 
 with_tile_sound : (d : Draft) (at : ℕ) (coll : GrowingColl) (index : ℕ) (tile : List ℤ) → IsSound d → slice_get d.colls at ≡ Some coll → length tile ≡ coll.elements → IsSound (with_tile d at coll index tile)
 with_tile_sound d at coll index tile sound got size =
-    let old = all_at (IsSoundColl (counts_of d)) d.colls at coll sound.colls got in
+    let old = each_at (IsSoundColl (counts_of d)) d.colls at coll sound.colls got in
     let new : GrowingColl = record coll { tiles = set coll.tiles index (Some tile) } in
     let same_size : length (set coll.tiles index (Some tile)) ≡ length coll.tiles = length-set coll.tiles index (Some tile) in
     let change = sum_by-set elements_in d.colls at new coll (slice_get_within d.colls at coll got) in
@@ -55,14 +58,14 @@ with_tile_sound d at coll index tile sound got size =
     record {
       types_at_most = sound.types_at_most;
       counts = sound.counts;
-      colls = all_set (IsSoundColl (counts_of d)) d.colls at new sound.colls
+      colls = each_set (IsSoundColl (counts_of d)) d.colls at new sound.colls
           (record {
             datatype = old.datatype;
             elements = old.elements;
             has_tiles = old.has_tiles;
             tiles_at_most = old.tiles_at_most;
             all_tiles = same_size ∙ old.all_tiles;
-            lengths = all_set (HasLength coll.elements) coll.tiles index (Some tile) old.lengths size;
+            lengths = each_set (HasLength coll.elements) coll.tiles index (Some tile) old.lengths size;
           });
       total = unchanged (sum_by elements_in (set d.colls at new)) (elements_in (get_or d.colls at coll)) (sum_by elements_in d.colls) (elements_in new) (elements_in coll) change before after ∙ was;
       at_most = sound.at_most;

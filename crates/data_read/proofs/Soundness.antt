@@ -1,6 +1,6 @@
 -- What holds of the data so far after each record, and that the data are well made at the end.
 use Rattle.std.specs.Prelude.{◌&&◌}
-use Rattle.std.proofs.Common.{◌≡◌, ℕ, zero, suc, ◌+◌, ◌*◌, ◌<◌, ◌≤◌, ℤ, pos, Bool, true, false, List, [], ◌∷◌, ◌++◌, length, map, get_or, set, slice_get, replicate, unwrap_or, Option, Some, IsTrue, refl, sym, ◌∙◌, ap, subst, arith}
+use Rattle.std.proofs.Common.{◌≡◌, ℕ, zero, suc, ◌+◌, ◌*◌, ◌<◌, ◌≤◌, ℤ, pos, Bool, true, false, List, [], ◌∷◌, ◌++◌, length, map, get_or, replicate, unwrap_or, Option, IsTrue, refl, sym, ◌∙◌, ap, arith}
 use Rattle.std.specs.List.{list_all, AllByRecursion, sum_by}
 use Rattle.std.proofs.lemmas.List.{length-map}
 use Rattle.std.proofs.lemmas.List.Sums.{sum_by-cons}
@@ -12,31 +12,13 @@ use Rattle.data_read.specs.Draft.{Draft, data_after, finished}
 
 -- ---- lists
 
-pub all_push : {A : Type 0} (P : A → Type 0) (xs : List A) (x : A) → AllByRecursion P xs → P x → AllByRecursion P (xs ++ x ∷ [])
-all_push P [] x all one = (one, tt)
-all_push P (y ∷ ys) x all one = (all.0, all_push P ys x all.1 one)
-
-pub all_set : {A : Type 0} (P : A → Type 0) (xs : List A) (i : ℕ) (x : A) → AllByRecursion P xs → P x → AllByRecursion P (set xs i x)
-all_set P [] i x all one = tt
-all_set P (y ∷ ys) zero x all one = (one, all.1)
-all_set P (y ∷ ys) (suc i) x all one = (all.0, all_set P ys i x all.1 one)
-
 all_map : {A B : Type 0} (f : A → B) (P : A → Type 0) (Q : B → Type 0) (xs : List A) → ((x : A) → P x → Q (f x)) → AllByRecursion P xs → AllByRecursion Q (map f xs)
 all_map f P Q [] each all = tt
 all_map f P Q (x ∷ xs) each all = (each x all.0, all_map f P Q xs each all.1)
 
-pub all_weaker : {A : Type 0} (P Q : A → Type 0) (xs : List A) → ((x : A) → P x → Q x) → AllByRecursion P xs → AllByRecursion Q xs
-all_weaker P Q [] each all = tt
-all_weaker P Q (x ∷ xs) each all = (each x all.0, all_weaker P Q xs each all.1)
-
 pub all_replicate : {A : Type 0} (P : A → Type 0) (n : ℕ) (x : A) → P x → AllByRecursion P (replicate n x)
 all_replicate P zero x one = tt
 all_replicate P (suc n) x one = (one, all_replicate P n x one)
-
-pub all_at : {A : Type 0} (P : A → Type 0) (xs : List A) (i : ℕ) (x : A) → AllByRecursion P xs → slice_get xs i ≡ Some x → P x
-all_at P [] i x all e = absurd cc
-all_at P (y ∷ ys) zero x all e = let same : y ≡ x = cc in subst P same all.0
-all_at P (y ∷ ys) (suc i) x all e = all_at P ys i x all.1 e
 
 pub at_push : (xs : List ℕ) (x n : ℕ) → n < length xs → get_or (xs ++ x ∷ []) n 0 ≡ get_or xs n 0
 at_push [] x n within = absurd (omega arith)

@@ -10,10 +10,12 @@ use Rattle.data_read.specs.Draft.{coll_index, opened}
 use Rattle.data_read.specs.Fields.{field}
 use Rattle.data_read.specs.Records.{first_value, numbers}
 use Rattle.data_read.specs.WholeRecords.{Heading, Row, begins, given_tile, index_in, tile_in, with_tiles}
-use Rattle.data_read.proofs.Choices.{chosen}
-use Rattle.data_read.proofs.Soundness.{all_weaker}
+use Rattle.list_lemmas.proofs.Truth.{chosen}
+use Rattle.list_lemmas.proofs.Places.{each_weaker}
+use Rattle.list_lemmas.proofs.Texts.{bytes_eq-apart}
+use Rattle.list_lemmas.proofs.Options.{some_from_one_more}
 use Rattle.data_read.proofs.WholeLists.{kept_push, left_out, map_same, none_pass, range_set}
-use Rattle.data_read.proofs.Headings.{AreApart, other_tile, places, same_apart, tiled, tiles_kept}
+use Rattle.data_read.proofs.Headings.{AreApart, other_tile, places, tiled, tiles_kept}
 
 no_first : (tiles : List (List ℤ)) → slice_get tiles 0 ≡ None → tiles ≡ []
 no_first [] none = refl
@@ -54,13 +56,9 @@ this_tile rows row h index values named gives =
 others_kept : (rows : List Row) (row : Row) (h : Heading) (hs : List Heading) → bytes_eq (field row 1) h.name ≡ true → AreApart (h ∷ hs) → map (with_tiles (rows ++ row ∷ [])) hs ≡ map (with_tiles rows) hs
 others_kept rows row h hs named apart =
     map_same (with_tiles (rows ++ row ∷ [])) (with_tiles rows) hs
-    (all_weaker (λ (g : Heading). bytes_eq h.name g.name ≡ false) (λ (g : Heading). with_tiles (rows ++ row ∷ []) g ≡ with_tiles rows g) hs
-    (λ g other. tiles_kept rows row g (other_tile row g (same_apart (field row 1) h.name g.name named other)))
+    (each_weaker (λ (g : Heading). bytes_eq h.name g.name ≡ false) (λ (g : Heading). with_tiles (rows ++ row ∷ []) g ≡ with_tiles rows g) hs
+    (λ g other. tiles_kept rows row g (other_tile row g (bytes_eq-apart (field row 1) h.name g.name named other)))
     (none_pass (λ (g : Heading). bytes_eq h.name g.name) hs apart.0))
-
-one_more : (o : Option ℕ) (at : ℕ) → option_map (λ n. n + 1) o ≡ Some at → (m : ℕ) × (o ≡ Some m) × (m + 1 ≡ at)
-one_more None at e = absurd cc
-one_more (Some m) at e = (m, refl, cc)
 
 -- the collection of the name is changed, and no other one
 pub tile_among : (rows : List Row) (row : Row) (hs : List Heading) (at : ℕ) (coll : GrowingColl) (index : ℕ) (values : List ℤ) → AreApart hs
@@ -76,7 +74,7 @@ tile_among rows row (h ∷ hs) zero coll index values apart found got gives =
           let rest = others_kept rows row h hs here.0 apart in
           λ i. first i ∷ rest i
       | inr later ↦
-          let more = one_more (coll_index (field row 1) (map (with_tiles rows) hs)) 0 later.1 in
+          let more = some_from_one_more (coll_index (field row 1) (map (with_tiles rows) hs)) 0 later.1 in
           let never = more.2 in
           absurd (omega (arith, never))
     ]
@@ -84,7 +82,7 @@ tile_among rows row (h ∷ hs) (suc m) coll index values apart found got gives =
     elim (chosen (bytes_eq (field row 1) h.name) (Some 0) (option_map (λ n. n + 1) (coll_index (field row 1) (map (with_tiles rows) hs))) (Some (suc m)) found) [
       | inl here ↦ absurd (let never : ◌≡◌ {A = Option ℕ} (Some 0) (Some (suc m)) = here.1 in cc)
       | inr later ↦
-          let more = one_more (coll_index (field row 1) (map (with_tiles rows) hs)) (suc m) later.1 in
+          let more = some_from_one_more (coll_index (field row 1) (map (with_tiles rows) hs)) (suc m) later.1 in
           let number : more.0 ≡ m = omega (arith, more.2) in
           let first = tiles_kept rows row h (other_tile row h later.0) in
           let rest = tile_among rows row hs m coll index values apart.1 (more.1 ∙ ap (λ (n : ℕ). Some n) number) got gives in

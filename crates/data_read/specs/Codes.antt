@@ -1,5 +1,5 @@
--- When each code of a fault fits a record, whatever the other codes do, and the order of the codes. Source: this project's own
--- choice.
+-- When each code of a fault fits a record, whatever the other codes do, and the order of the codes. Source: this
+-- project's own choice.
 use Rattle.std.specs.Prelude.{◌≡◌, ℕ, ◌+◌, ◌-◌, ◌*◌, Bool, false, not, ◌&&◌, ◌||◌, ◌==◌, nat_le, nat_lt, List, [], ◌∷◌, length, drop, codes, find, Option, Some, None, is_some, is_none, Result, Ok, Err, if◌then◌else◌}
 use Rattle.std.specs.Option.{option_map_or}
 use Rattle.coll_data.specs.Tiles.{tile_count}
@@ -23,13 +23,18 @@ is_int_with test row = begins (codes "int") row && test
 abbrev pub is_tile_with : Bool → Row → Bool
 is_tile_with test row = begins (codes "tile") row && test
 
--- a record of a collection that passes the test of the name of its type and of the number of the field with its own name
+-- a record of a collection that passes the test of the name of its type and of the number of the field with its own
+-- name
 abbrev pub is_coll_with : (List ℕ → ℕ → Bool) → Row → Bool
-is_coll_with test row = if begins (codes "coll") row then test (codes "DEFAULT") 1 else if begins (codes "collof") row then test (field row 1) 2 else false
+is_coll_with test row =
+    if begins (codes "coll") row
+    then test (codes "DEFAULT") 1
+    else if begins (codes "collof") row then test (field row 1) 2 else false
 
 -- a `tile` record that names a collection that passes the test
 abbrev pub is_of_coll_with : (GrowingColl → Bool) → Draft → Row → Bool
-is_of_coll_with test d row = is_tile_with (option_map_or (λ (found : ℕ × GrowingColl). test found.1) (coll_named d (field row 1)) false) row
+is_of_coll_with test d row =
+    is_tile_with (option_map_or (λ (found : ℕ × GrowingColl). test found.1) (coll_named d (field row 1)) false) row
 
 -- a test of two numbers, passed only where both are there
 abbrev pub both_pass : {A B : Type 0} → (A → B → Bool) → Option A → Option B → Bool
@@ -39,7 +44,9 @@ both_pass test a b = option_map_or (λ x. option_map_or (λ y. test x y) b false
 
 -- the first field is one of the five words
 abbrev pub has_word : Row → Bool
-has_word row = begins (codes "elems") row || begins (codes "int") row || begins (codes "coll") row || begins (codes "collof") row || begins (codes "tile") row
+has_word row =
+    begins (codes "elems") row || begins (codes "int") row || begins (codes "coll") row || begins (codes "collof") row
+    || begins (codes "tile") row
 
 -- the number of fields is not that of the word
 abbrev pub has_other_count : Row → Bool
@@ -60,15 +67,21 @@ has_bad_name row =
 
 -- an integer or a collection has the name of an earlier one
 abbrev pub has_taken_name : Draft → Row → Bool
-has_taken_name d row = is_int_with (not (is_new d (field row 1))) row || is_coll_with (λ type at. not (is_new d (field row at))) row
+has_taken_name d row =
+    is_int_with (not (is_new d (field row 1))) row || is_coll_with (λ type at. not (is_new d (field row at))) row
 
 -- the tile has no value, or more than its type has elements
 abbrev pub has_other_values : Row → GrowingColl → Bool
-has_other_values row coll = not (nat_le 1 (length row - first_value coll.shape.1) && nat_le (length row - first_value coll.shape.1) coll.elements)
+has_other_values row coll =
+    not
+    (nat_le 1 (length row - first_value coll.shape.1)
+    && nat_le (length row - first_value coll.shape.1) coll.elements)
 
 -- an index or a value of the tile is no whole number
 abbrev pub has_no_numbers : Row → GrowingColl → Bool
-has_no_numbers row coll = is_none (whole (field row 2)) || is_none (column coll.shape.1 row) || is_none (numbers (drop (first_value coll.shape.1) row))
+has_no_numbers row coll =
+    is_none (whole (field row 2)) || is_none (column coll.shape.1 row)
+    || is_none (numbers (drop (first_value coll.shape.1) row))
 
 -- a field that should be a whole number is none
 abbrev pub has_bad_number : Draft → Row → Bool
@@ -79,11 +92,16 @@ has_bad_number d row =
 
 -- the collection has no tile, or more than 65,536
 abbrev pub has_other_shape : Row → Bool
-has_other_shape row = is_coll_with (λ type at. both_pass (λ rows cols. is_none (shape_of rows cols)) (whole (field row (at + 1))) (columns row (at + 2))) row
+has_other_shape row =
+    is_coll_with
+    (λ type at.
+    both_pass (λ rows cols. is_none (shape_of rows cols)) (whole (field row (at + 1))) (columns row (at + 2)))
+    row
 
 -- the tiles of all collections have more than 2^24 elements, where a tile of this one has so many
 abbrev pub is_over : Draft → ℕ → Option (ℕ × Option ℕ) → Bool
-is_over d elements shape = option_map_or (λ (s : ℕ × Option ℕ). not (nat_le (d.elements + tile_count s.0 s.1 * elements) 16777216)) shape false
+is_over d elements shape =
+    option_map_or (λ (s : ℕ × Option ℕ). not (nat_le (d.elements + tile_count s.0 s.1 * elements) 16777216)) shape false
 
 -- the tiles of all collections so far have too many elements
 abbrev pub has_no_room : Draft → Row → Bool

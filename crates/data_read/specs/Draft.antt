@@ -6,8 +6,8 @@ use Rattle.coll_data.specs.Tiles.{tile_count, tile_index}
 use Rattle.coll_data.specs.declared.coll.Coll.{Coll}
 use Rattle.data_read.specs.declared.growing.GrowingColl.{GrowingColl}
 
--- the types past DEFAULT with their numbers of elements, the elements of DEFAULT, the integers, the collections, and how many
--- elements the tiles of all collections have
+-- the types past DEFAULT with their numbers of elements, the elements of DEFAULT, the integers, the collections, and
+-- how many elements the tiles of all collections have
 pub record Draft : Type 0 where
   pub types : List (List ℕ × ℕ)
   pub elems : ℕ
@@ -22,7 +22,8 @@ begun elems = record { types = []; elems = elems; ints = []; colls = []; element
 -- the number and the elements of the type of this name among these, which are numbered from the one given
 abbrev pub type_among : List ℕ → ℕ → List (List ℕ × ℕ) → Option (ℕ × ℕ)
 type_among name number [] = None
-type_among name number (type ∷ types) = if bytes_eq name type.0 then Some (number, type.1) else type_among name (number + 1) types
+type_among name number (type ∷ types) =
+    if bytes_eq name type.0 then Some (number, type.1) else type_among name (number + 1) types
 
 -- the number and the elements of the type of this name; DEFAULT is type 0
 abbrev pub type_named : Draft → List ℕ → Option (ℕ × ℕ)
@@ -31,11 +32,13 @@ type_named d name = type_among name 0 ((codes "DEFAULT", d.elems) ∷ d.types)
 -- the number of the first of these collections that has this name, counted from 0
 abbrev pub coll_index : List ℕ → List GrowingColl → Option ℕ
 coll_index name [] = None
-coll_index name (coll ∷ colls) = if bytes_eq name coll.name then Some 0 else option_map (λ n. n + 1) (coll_index name colls)
+coll_index name (coll ∷ colls) =
+    if bytes_eq name coll.name then Some 0 else option_map (λ n. n + 1) (coll_index name colls)
 
 -- the collection of this name with its number
 abbrev pub coll_named : Draft → List ℕ → Option (ℕ × GrowingColl)
-coll_named d name = option_and_then (λ at. option_map (λ coll. (at, coll)) (slice_get d.colls at)) (coll_index name d.colls)
+coll_named d name =
+    option_and_then (λ at. option_map (λ coll. (at, coll)) (slice_get d.colls at)) (coll_index name d.colls)
 
 -- neither an integer nor a collection has this name
 abbrev pub is_new : Draft → List ℕ → Bool
@@ -43,7 +46,9 @@ is_new d name = not (is_some (coll_index name d.colls) || list_any (λ (int : Li
 
 -- the index of the tile in row i and column j, and the values that a record gave for it, if one did
 abbrev pub slot_at : GrowingColl → ℤ → ℤ → Option (ℕ × Option (List ℤ))
-slot_at coll i j = option_and_then (λ index. option_map (λ tile. (index, tile)) (slice_get coll.tiles index)) (tile_index coll.shape.0 coll.shape.1 i j)
+slot_at coll i j =
+    option_and_then (λ index. option_map (λ tile. (index, tile)) (slice_get coll.tiles index))
+    (tile_index coll.shape.0 coll.shape.1 i j)
 
 -- the first numbers of a tile of so many elements; the others are 0
 abbrev pub opened : ℕ → List ℤ → List ℤ
@@ -61,13 +66,23 @@ with_int d name value = record d { ints = d.ints ++ (name, value) ∷ [] }
 abbrev pub with_coll : Draft → List ℕ → ℕ × Option ℕ → ℕ → ℕ → Draft
 with_coll d name shape datatype elements =
     record d {
-      colls = d.colls ++ record { name = name; shape = shape; datatype = datatype; elements = elements; tiles = replicate (tile_count shape.0 shape.1) None } ∷ [];
+      colls =
+          d.colls
+          ++ record {
+            name = name;
+            shape = shape;
+            datatype = datatype;
+            elements = elements;
+            tiles = replicate (tile_count shape.0 shape.1) None;
+          }
+          ∷ [];
       elements = d.elements + tile_count shape.0 shape.1 * elements;
     }
 
 -- the tile of this index of a collection is given
 abbrev pub with_tile : Draft → ℕ → GrowingColl → ℕ → List ℤ → Draft
-with_tile d at coll index tile = record d { colls = slice_set d.colls at (record coll { tiles = slice_set coll.tiles index (Some tile) }) }
+with_tile d at coll index tile =
+    record d { colls = slice_set d.colls at (record coll { tiles = slice_set coll.tiles index (Some tile) }) }
 
 -- a collection whose tiles are zeros where no record gave one
 abbrev pub finished : GrowingColl → Coll
@@ -76,4 +91,5 @@ finished coll =
 
 -- the data after so many records
 abbrev pub data_after : ℕ → Draft → Data
-data_after rows d = record { types = d.types; elems = d.elems; ints = d.ints; colls = map finished d.colls; rows_read = rows }
+data_after rows d =
+    record { types = d.types; elems = d.elems; ints = d.ints; colls = map finished d.colls; rows_read = rows }

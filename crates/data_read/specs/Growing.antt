@@ -15,7 +15,8 @@ use Rattle.data_read.specs.Draft.{Draft, coll_index}
 
 -- the data without where they lie in memory
 abbrev pub draft_of : Growing → Draft
-draft_of all = record { types = all.types; elems = all.elems; ints = all.ints; colls = all.colls.items; elements = all.elements }
+draft_of all =
+    record { types = all.types; elems = all.elems; ints = all.ints; colls = all.colls.items; elements = all.elements }
 
 -- a collection, or else an integer if there is one
 abbrev pub coll_or_int : Option ℕ → Bool → Option Known
@@ -24,7 +25,8 @@ coll_or_int None int = if int then Some Integer else None
 
 -- what a name stands for
 abbrev pub meaning : List (List ℕ × ℤ) → List GrowingColl → List ℕ → Option Known
-meaning ints colls name = coll_or_int (coll_index name colls) (list_any (λ (int : List ℕ × ℤ). bytes_eq name int.0) ints)
+meaning ints colls name =
+    coll_or_int (coll_index name colls) (list_any (λ (int : List ℕ × ℤ). bytes_eq name int.0) ints)
 
 -- the table has the names of the integers and the collections
 abbrev pub IsKeyed : Growing → Type 0

@@ -1,4 +1,5 @@
--- The data that a text spells, or its first fault: its records are those that csv reads, and each adds to the data before it.
+-- The data that a text spells, or its first fault: its records are those that csv reads, and each adds to the data
+-- before it.
 -- Source: this project's own choice; the records are those of RFC 4180 and of the csv crate.
 use Rattle.std.specs.Prelude.{ℕ, ◌+◌, List, [], ◌∷◌, length, Result, Ok, Err}
 use Rattle.csv.specs.Reading.{default_config, records, strip_bom}

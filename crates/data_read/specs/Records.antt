@@ -1,5 +1,5 @@
--- What one record adds to the data, or the first code of its faults. Each record is judged test by test, in the order of the
--- codes, and the first test that fails names its fault. Source: this project's own choice.
+-- What one record adds to the data, or the first code of its faults. Each record is judged test by test, in the order
+-- of the codes, and the first test that fails names its fault. Source: this project's own choice.
 use Rattle.std.specs.Prelude.{ℕ, ◌+◌, ◌-◌, ◌*◌, ℤ, pos, negsuc, Bool, not, ◌&&◌, ◌||◌, ◌==◌, nat_le, nat_lt, List, [], ◌∷◌, length, drop, codes, Option, Some, None, is_some, Result, Ok, Err, bytes_eq, option_map, option_and_then, if◌then◌else◌}
 use Rattle.coll_data.specs.Tiles.{tile_count}
 use Rattle.coll_data.specs.WellMade.{is_element_count}
@@ -72,10 +72,13 @@ side (negsuc n) = None
 -- the shape of so many rows and columns, if it has from 1 to 65,536 tiles
 abbrev pub shape_of : ℤ → Option ℤ → Option (ℕ × Option ℕ)
 shape_of rows None = option_map (λ r. (r, None)) (side rows)
-shape_of rows (Some cols) = option_and_then (λ r. option_and_then (λ c. if nat_le (r * c) 65536 then Some (r, Some c) else None) (side cols)) (side rows)
+shape_of rows (Some cols) =
+    option_and_then (λ r. option_and_then (λ c. if nat_le (r * c) 65536 then Some (r, Some c) else None) (side cols))
+    (side rows)
 
--- the shape, the type and the elements of a tile of a collection of the type of this name: its rows are the field of the number
--- given, and its columns the next one, if there is one. The tiles of all collections have at most 2 ^ 24 elements
+-- the shape, the type and the elements of a tile of a collection of the type of this name: its rows are the field of
+-- the number given, and its columns the next one, if there is one. The tiles of all collections have at most 2 ^ 24
+-- elements
 abbrev pub asked_coll : Draft → List ℕ → List (List ℕ) → ℕ → Result AskedColl DataCode
 asked_coll d type fields at =
     demand (type_named d type) UnknownType (λ known.
@@ -95,11 +98,13 @@ coll_of d type fields at =
 
 -- `coll,NAME,R` or `coll,NAME,R,C`: one collection more, of type DEFAULT
 abbrev pub coll_record : Draft → List (List ℕ) → Result Draft DataCode
-coll_record d fields = require ((length fields == 3) || (length fields == 4)) FieldCount (coll_of d (codes "DEFAULT") fields 1)
+coll_record d fields =
+    require ((length fields == 3) || (length fields == 4)) FieldCount (coll_of d (codes "DEFAULT") fields 1)
 
 -- `collof,TYPE,NAME,R` or `collof,TYPE,NAME,R,C`: one collection more, of the type of this name
 abbrev pub collof_record : Draft → List (List ℕ) → Result Draft DataCode
-collof_record d fields = require ((length fields == 4) || (length fields == 5)) FieldCount (coll_of d (field fields 1) fields 2)
+collof_record d fields =
+    require ((length fields == 4) || (length fields == 5)) FieldCount (coll_of d (field fields 1) fields 2)
 
 -- the field with the first value of a tile: it follows one index, or two where there are columns
 abbrev pub first_value : Option ℕ → ℕ
@@ -114,7 +119,8 @@ column (Some cols) fields = whole (field fields 3)
 -- the numbers that the fields spell, if each spells one
 abbrev pub numbers : List (List ℕ) → Option (List ℤ)
 numbers [] = Some []
-numbers (bytes ∷ fields) = option_and_then (λ z. option_map (λ zs. z ∷ zs) (numbers fields)) (whole (without_blanks bytes))
+numbers (bytes ∷ fields) =
+    option_and_then (λ z. option_map (λ zs. z ∷ zs) (numbers fields)) (whole (without_blanks bytes))
 
 -- the index of the tile in row i and column j, which no record gave before
 abbrev pub free_index : GrowingColl → ℤ → ℤ → Result ℕ DataCode
@@ -133,8 +139,8 @@ new_tile fields coll =
     and_then (free_index coll i j) (λ index.
     Ok (index, opened coll.elements values))))))
 
--- `tile,NAME,i,v0,..` or `tile,NAME,i,j,v0,..`: the opening values of a tile, as many as its type has elements at most; the
--- others are 0
+-- `tile,NAME,i,v0,..` or `tile,NAME,i,j,v0,..`: the opening values of a tile, as many as its type has elements at most;
+-- the others are 0
 abbrev pub tile_record : Draft → List (List ℕ) → Result Draft DataCode
 tile_record d fields =
     require (nat_le 4 (length fields)) FieldCount

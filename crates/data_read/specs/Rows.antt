@@ -13,7 +13,8 @@ use Rattle.csv.specs.declared.reader.Trim.TheVariants as trim
 abbrev pub bytes_of : Bor (List ℕ) → Option (List ℕ)
 bytes_of slice = Some slice.now
 
--- the reader stands between two records of a text, and these are the records of what is left of it, of any number of fields each
+-- the reader stands between two records of a text, and these are the records of what is left of it, of any number of
+-- fields each
 pub record HasRows (reader : Reader (Bor (List ℕ))) (rows : List (List (List ℕ))) : Type 0 where
   pub untrimmed : reader_trim reader ≡ trim.None
   pub ready : Ready reader

@@ -1,5 +1,6 @@
--- The data of a list of records, from the whole list at once: the types, the integers and the collections in the order of their
--- records, and for each place of a collection the tile that a record of that place gives. Source: this project's own choice.
+-- The data of a list of records, from the whole list at once: the types, the integers and the collections in the order
+-- of their records, and for each place of a collection the tile that a record of that place gives. Source: this
+-- project's own choice.
 use Rattle.std.specs.Prelude.{ℕ, ◌+◌, ◌*◌, ℤ, Bool, false, ◌&&◌, ◌||◌, ◌==◌, List, ◌∷◌, map, drop, codes, bytes_eq, slice_get, sum_by, Option, Some, None, option_map, option_and_then, if◌then◌else◌}
 use Rattle.std.specs.List.{filter_map, range_with_len}
 use Rattle.coll_data.specs.Tiles.{tile_count, tile_index}
@@ -20,7 +21,8 @@ begins word row = bytes_eq (field row 0) word
 
 -- the type of an `elems` record
 abbrev pub type_in : Row → Option (List ℕ × ℕ)
-type_in row = if begins (codes "elems") row then option_map (λ n. (field row 1, n)) (element_count (field row 2)) else None
+type_in row =
+    if begins (codes "elems") row then option_map (λ n. (field row 1, n)) (element_count (field row 2)) else None
 
 -- the types past DEFAULT of these records
 abbrev pub types_of : List Row → List (List ℕ × ℕ)
@@ -40,7 +42,8 @@ ints_of rows = filter_map int_in rows
 
 -- ---- collections without their tiles
 
--- a collection without its tiles: its name and shape, the number of its type, and how many elements each of its tiles has
+-- a collection without its tiles: its name and shape, the number of its type, and how many elements each of its tiles
+-- has
 pub record Heading : Type 0 where
   pub name : List ℕ
   pub shape : ℕ × Option ℕ
@@ -61,7 +64,8 @@ name_at row = if begins (codes "coll") row then 1 else 2
 
 -- the shape of a collection: its rows are the field of this number, and its columns the next one, if there is one
 abbrev pub shape_in : Row → ℕ → Option (ℕ × Option ℕ)
-shape_in row at = option_and_then (λ rows. option_and_then (shape_of rows) (columns row (at + 1))) (whole (field row at))
+shape_in row at =
+    option_and_then (λ rows. option_and_then (shape_of rows) (columns row (at + 1))) (whole (field row at))
 
 -- the heading of a collection of one of these types, with the name in the field of this number
 abbrev pub heading_at : Option (ℕ × ℕ) → Row → ℕ → Option Heading
@@ -72,7 +76,8 @@ heading_at type row at =
 
 -- the heading of the collection of a `coll` or a `collof` record
 abbrev pub heading_in : List (List ℕ × ℕ) → Row → Option Heading
-heading_in types row = if declares row then heading_at (type_among (type_name_in row) 0 types) row (name_at row) else None
+heading_in types row =
+    if declares row then heading_at (type_among (type_name_in row) 0 types) row (name_at row) else None
 
 -- the headings of the collections of these records
 abbrev pub headings_of : ℕ → List Row → List Heading
@@ -86,7 +91,9 @@ elements_of h = tile_count h.shape.0 h.shape.1 * h.elements
 
 -- the index of the place of a `tile` record, in a collection of this shape
 abbrev pub index_in : ℕ × Option ℕ → Row → Option ℕ
-index_in shape row = option_and_then (λ i. option_and_then (λ j. tile_index shape.0 shape.1 i j) (column shape.1 row)) (whole (field row 2))
+index_in shape row =
+    option_and_then (λ i. option_and_then (λ j. tile_index shape.0 shape.1 i j) (column shape.1 row))
+    (whole (field row 2))
 
 -- the number is there, and is this one
 abbrev pub is_index : ℕ → Option ℕ → Bool
@@ -95,11 +102,13 @@ is_index index (Some n) = n == index
 
 -- the record is that of the tile of this index of a collection
 abbrev pub is_of_tile : Heading → ℕ → Row → Bool
-is_of_tile h index row = begins (codes "tile") row && bytes_eq (field row 1) h.name && is_index index (index_in h.shape row)
+is_of_tile h index row =
+    begins (codes "tile") row && bytes_eq (field row 1) h.name && is_index index (index_in h.shape row)
 
 -- the tile that a record of this place gives: its values, and zeros after them
 abbrev pub tile_in : Heading → ℕ → Row → Option (List ℤ)
-tile_in h index row = if is_of_tile h index row then option_map (opened h.elements) (numbers (drop (first_value h.shape.1) row)) else None
+tile_in h index row =
+    if is_of_tile h index row then option_map (opened h.elements) (numbers (drop (first_value h.shape.1) row)) else None
 
 -- the tile that one of these records gives, if one does
 abbrev pub given_tile : Heading → List Row → ℕ → Option (List ℤ)

@@ -12,9 +12,12 @@ use Rattle.data_read.specs.WholeRecords.{Row, data_of_records}
 
 -- no code fits any of these records, each after the data of those before it
 abbrev pub NoneFits : ℕ → List Row → Type 0
-NoneFits elems rows = (before after : List Row) (row : Row) → rows ≡ before ++ row ∷ after → first_code (data_of_records elems before) row ≡ None
+NoneFits elems rows =
+    (before after : List Row) (row : Row) → rows ≡ before ++ row ∷ after
+    → first_code (data_of_records elems before) row ≡ None
 
--- the first record says how many elements a tile of type DEFAULT has, no code fits a later one, and the data are those of all records
+-- the first record says how many elements a tile of type DEFAULT has, no code fits a later one, and the data are those
+-- of all records
 pub record AreByRecords (first : Row) (rows : List Row) (given : Data) : Type 0 where
   pub elems : first_record first ≡ Ok given.elems
   pub none_fits : NoneFits given.elems rows
@@ -46,4 +49,6 @@ HasNoRecord rows fault = (rows ≡ []) × (fault ≡ record { row = 1; code = No
 
 -- the fault of a text is that of its first record that has one, or that there is no record
 abbrev pub FaultIsFirst : Type 0
-FaultIsFirst = (text : List ℕ) (fault : DataFault) → (data_of text ≡ Err fault) ↔ (HasNoRecord (records_of text) fault ⊎ IsFirstFault (records_of text) fault)
+FaultIsFirst =
+    (text : List ℕ) (fault : DataFault)
+    → (data_of text ≡ Err fault) ↔ (HasNoRecord (records_of text) fault ⊎ IsFirstFault (records_of text) fault)

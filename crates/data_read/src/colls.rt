@@ -72,7 +72,8 @@ fn asked_coll(
     requires { at ≤ 3 }
     ensures asked_coll { result ≡ asked_coll (draft_of all.now) datatype.now (fields_of row.now) at }
     ensures tiles_at_most { IfOk result (λ size. tile_count size.shape.0 size.shape.1 ≤ 65536) }
-    ensures room { IfOk result (λ size. all.now.elements + tile_count size.shape.0 size.shape.1 * size.elements ≤ 16777216) }
+    ensures room { IfOk result (λ size.
+        all.now.elements + tile_count size.shape.0 size.shape.1 * size.elements ≤ 16777216) }
 {
     let Some((datatype, elements)) = type_named(all, datatype) else {
         return Err(DataCode::UnknownType);
@@ -119,7 +120,8 @@ fn push_coll(
     requires fresh { IsTrue (is_new (draft_of all.old) name) }
     requires tiles_at_most { tile_count size.shape.0 size.shape.1 ≤ 65536 }
     requires room { all.old.elements + tile_count size.shape.0 size.shape.1 * size.elements ≤ 16777216 }
-    ensures step { OnOk result (draft_of all.new ≡ with_coll (draft_of all.old) name size.shape size.datatype size.elements) }
+    ensures step { OnOk result
+        (draft_of all.new ≡ with_coll (draft_of all.old) name size.shape size.datatype size.elements) }
     ensures keyed { OnOk result (IsKeyed all.new) }
 {
     let (rows, cols) = size.shape;
@@ -138,7 +140,8 @@ fn push_coll(
     Ok(())
 }
 
-// Adds the collection of a record, of the type of this name; the name of the collection is the field of the number given.
+// Adds the collection of a record, of the type of this name; the name of the collection is the field of the number
+// given.
 fn add_coll_of(
     alloc: Global,
     all: &mut Growing,
@@ -148,7 +151,8 @@ fn add_coll_of(
 ) -> Result<(), Refusal<DataCode>>
     requires keyed { IsKeyed all.old }
     requires near { at ≤ 2 }
-    ensures step { ReturnsDraft result (coll_of (draft_of all.old) datatype.now (fields_of row.now) at) (draft_of all.new) }
+    ensures step { ReturnsDraft result (coll_of (draft_of all.old) datatype.now (fields_of row.now) at)
+        (draft_of all.new) }
     ensures keyed { OnOk result (IsKeyed all.new) }
 {
     let bytes = field(row, at);

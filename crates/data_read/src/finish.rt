@@ -26,7 +26,8 @@ fn whole_tiles(
     tiles: Seq<Option<Tile>>,
     elements: u32,
 ) -> Result<Seq<Tile>, OutOfMemory>
-    ensures { IfOk result (λ whole. whole ≡ map (λ (tile : Option (List ℤ)). unwrap_or tile (replicate elements (pos 0))) tiles) }
+    ensures { IfOk result (λ whole.
+        whole ≡ map (λ (tile : Option (List ℤ)). unwrap_or tile (replicate elements (pos 0))) tiles) }
 {
     let mut whole = Seq::new(alloc);
     for tile in tiles.into_vec() {

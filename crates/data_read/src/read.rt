@@ -32,7 +32,8 @@ fn read_rows(
     row: &mut ByteRecord,
 ) -> Result<Given, DataRefusal>
     requires { (rows : List (List (List ℕ))) × HasRows reader.old rows }
-    ensures { (rows : List (List (List ℕ))) → HasRows reader.old rows → Returns (λ given. given) result (as_data (length rows) (all_records rows)) }
+    ensures { (rows : List (List (List ℕ))) → HasRows reader.old rows
+        → Returns (λ given. given) result (as_data (length rows) (all_records rows)) }
 {
     if !next_row(reader, row)? {
         return Err(refused(1, DataCode::NoElems));
@@ -54,7 +55,10 @@ fn add_later_rows(
 ) -> Result<u64, DataRefusal>
     requires keyed { IsKeyed all.old }
     requires rows { (rows : List (List (List ℕ))) × HasRows reader.old rows }
-    ensures { (rows : List (List (List ℕ))) → HasRows reader.old rows → MatchResult result (λ count. (later_records 2 (draft_of all.old) rows ≡ Ok (draft_of all.new)) × (count ≡ length rows + 1)) (λ refusal. ReturnsRefusal refusal (later_records 2 (draft_of all.old) rows)) }
+    ensures { (rows : List (List (List ℕ))) → HasRows reader.old rows
+        → MatchResult result
+        (λ count. (later_records 2 (draft_of all.old) rows ≡ Ok (draft_of all.new)) × (count ≡ length rows + 1))
+        (λ refusal. ReturnsRefusal refusal (later_records 2 (draft_of all.old) rows)) }
 {
     for number in 2..u64::MAX {
         if !next_row(reader, row)? {
@@ -85,11 +89,12 @@ fn refused(row: u64, code: DataCode) -> DataRefusal
     Refusal::Fault(DataFault { row, code })
 }
 
-/// The data that a text of at most 16 MiB spells. A text that spells none is refused with its first fault: that of the first
-/// record that has one, with the first code that fits it.
+/// The data that a text of at most 16 MiB spells. A text that spells none is refused with its first fault: that of the
+/// first record that has one, with the first code that fits it.
 pub fn read_data(alloc: Global, bytes: &[u8]) -> Result<Given, DataRefusal>
     requires { length bytes.now ≤ 16777216 }
-    ensures exact { FindsOrRefuses (λ given. data_of bytes.now ≡ Ok given) (λ fault. data_of bytes.now ≡ Err fault) result }
+    ensures exact { FindsOrRefuses (λ given. data_of bytes.now ≡ Ok given) (λ fault. data_of bytes.now ≡ Err fault)
+        result }
 {
     read(alloc, bytes)
 }

@@ -37,7 +37,9 @@ fn first_record(row: &ByteRecord) -> Result<u32, DataCode>
 
 // The data of the first record.
 pub(crate) fn start(alloc: Global, row: &ByteRecord) -> Result<Growing, DataCode>
-    ensures start { MatchResult result (λ all. (first_record (fields_of row.now) ≡ Ok all.elems) × (draft_of all ≡ begun all.elems)) (λ code. first_record (fields_of row.now) ≡ Err code) }
+    ensures start { MatchResult result
+        (λ all. (first_record (fields_of row.now) ≡ Ok all.elems) × (draft_of all ≡ begun all.elems)) (λ code.
+        first_record (fields_of row.now) ≡ Err code) }
     ensures keyed { MatchResult result (λ all. IsKeyed all) (λ code. Unit {0}) }
 {
     let elems = first_record(row)?;

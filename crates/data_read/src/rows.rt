@@ -26,7 +26,8 @@ pub(crate) fn next_row(
     row: &mut ByteRecord,
 ) -> Result<bool, OutOfMemory>
     requires { (rows : List (List (List ℕ))) × HasRows reader.old rows }
-    ensures { (rows : List (List (List ℕ))) → HasRows reader.old rows → IfOk result (λ found. NextRow rows found (fields_of row.new) reader.new) }
+    ensures { (rows : List (List (List ℕ))) → HasRows reader.old rows
+        → IfOk result (λ found. NextRow rows found (fields_of row.new) reader.new) }
 {
     match reader.read_byte_record(row) {
         Ok(found) => Ok(found),
@@ -34,8 +35,8 @@ pub(crate) fn next_row(
     }
 }
 
-// Why a record was not read: records may have any number of fields, and bytes need not be text. A slice is read without faults,
-// so memory is left.
+// Why a record was not read: records may have any number of fields, and bytes need not be text. A slice is read without
+// faults, so memory is left.
 fn cause_of(error: &Error) -> OutOfMemory
     requires { IsOfReading (error_kind error.now) }
 {

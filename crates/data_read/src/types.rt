@@ -41,7 +41,10 @@ pub(crate) fn type_named(all: &Growing, name: &[u8]) -> Option<(u32, u32)>
 
 // The name and the elements of the type that the record adds.
 fn new_type<'a>(all: &Growing, row: &'a ByteRecord) -> Result<(&'a [u8], u32), DataCode>
-    ensures step { MatchResult result (λ type. type_record (draft_of all.now) (fields_of row.now) ≡ Ok (with_type (draft_of all.now) type.0.now type.1)) (λ code. type_record (draft_of all.now) (fields_of row.now) ≡ Err code) }
+    ensures step { MatchResult result
+        (λ type.
+        type_record (draft_of all.now) (fields_of row.now) ≡ Ok (with_type (draft_of all.now) type.0.now type.1))
+        (λ code. type_record (draft_of all.now) (fields_of row.now) ≡ Err code) }
     ensures at_most { MatchResult result (λ type. length all.now.types ≤ 14) (λ code. Unit {0}) }
 {
     if row.len() == 2 {

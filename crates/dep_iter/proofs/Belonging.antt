@@ -1,5 +1,5 @@
 -- Which links are among those of targets and of tasks.
-use Rattle.std.proofs.Common.{Option, ◌≡◌, ◌↔◌, ℕ, zero, suc, ◌+◌, ℤ, Bool, true, false, List, [], ◌∷◌, ◌++◌, length, take, map, refl, ap, sym, ◌∙◌, subst, append_assoc, add-zero, Some, None, slice_get, IsSomeAnd, IsTrue, inl, inr, arith}
+use Rattle.std.proofs.Common.{Option, ◌≡◌, ◌↔◌, ℕ, zero, suc, ◌+◌, ℤ, Bool, true, false, List, [], ◌∷◌, ◌++◌, take, map, refl, ap, sym, ◌∙◌, subst, add-zero, Some, None, slice_get, IsSomeAnd, IsTrue, inl, inr, arith}
 use Rattle.std.proofs.lemmas.Bool.{false≢true}
 use Rattle.std.specs.List.{flat_map}
 use Rattle.std.specs.Option.{option_map_or}
@@ -10,7 +10,8 @@ use Rattle.plan_core.specs.declared.flow.FlowPlan.{FlowPlan}
 use Rattle.plan_core.specs.declared.plan.Plan.{Plan}
 use Rattle.plan_core.specs.declared.target.Target.{Target}
 use Rattle.plan_core.specs.declared.target.Target.TheVariants as target
-use Rattle.range_space.proofs.MemberLists.{IsIn-append_left, IsIn-append_right, IsIn-flat_map, IsIn-map, from_append, from_flat_map, from_map}
+use Rattle.list_lemmas.proofs.Members.{IsIn-append_left, IsIn-append_right, IsIn-flat_map, IsIn-map, from_append, from_flat_map, from_map}
+use Rattle.std.proofs.lemmas.List.Concat.{flat_map-append}
 use Rattle.dep_iter.specs.declared.link.Link.{Link}
 use Rattle.dep_iter.specs.Tasks.{flows_of, locals_of}
 use Rattle.plan_core.specs.declared.flow.DepPlan.{DepPlan}
@@ -64,10 +65,6 @@ near_is env n target.Null l h = absurd h
 
 pub near_among : (env : List ℤ) (n : ℕ) (xs : List Target) (l : Link) → IsIn l (flat_map (links_to env n) xs) → l.near ≡ n
 near_among env n xs l h = let p = from_flat_map (links_to env n) xs l h in near_is env n p.0 l p.2
-
-flat_map-append : {A B : Type 0} (f : A → List B) (xs ys : List A) → flat_map f (xs ++ ys) ≡ flat_map f xs ++ flat_map f ys
-flat_map-append f [] ys = refl
-flat_map-append f (x ∷ xs) ys = ap (λ l. f x ++ l) (flat_map-append f xs ys) ∙ sym (append_assoc (f x) (flat_map f xs) (flat_map f ys))
 
 flat_map-numbered : (env : List ℤ) (n : ℕ) (xs : List Target) → all_links env (map (λ x. (n, x)) xs) ≡ flat_map (links_to env n) xs
 flat_map-numbered env n [] = refl
@@ -148,10 +145,6 @@ out_edge_is P t e = (
   λ h. rw (sym (out_edges-links P t)) (to_edges_out t (task_links P t false) e h.0 (to_task P t false (link_out e) h.1)),
 )
 
-pub empty_is : {A : Type 0} (xs : List A) → length xs ≡ 0 → xs ≡ []
-empty_is [] h = refl
-empty_is (x ∷ xs) h = absurd (omega arith)
-
 -- the targets that count of dependences, by whether the first one holds
 pub held-none : (first_only : Bool) (d : DepPlan) (ds : List DepPlan) (env : List ℤ) → held_target d env ≡ None → held_targets first_only (d ∷ ds) env ≡ held_targets first_only ds env
 held-none first_only d ds env e = ap (λ o. held_then first_only o (held_targets first_only ds env)) e
@@ -215,7 +208,8 @@ edge-none d P t e none h =
     let p = some_flow _ (slice_get (flows_of P t) (near_flow d e)) k.1 in
     none p.0 (k.0, p.1)
 
--- whether an edge is one of those that the first dependences of its flow give, into the task, out of it, and in the direction
+-- whether an edge is one of those that the first dependences of its flow give, into the task, out of it, and in the
+-- direction
 module _ (P : Plan) (t : Task) (e : Edge) (f : FlowPlan) (k : ℕ) where
   in_before-is : slice_get (flows_of P t) e.in_flow ≡ Some f
       → IsIn e (in_edges_before P t e.in_flow k) ↔ ((e.to ≡ t) × IsGiven In P t e f (take k f.ins))

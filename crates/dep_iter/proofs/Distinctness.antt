@@ -1,17 +1,19 @@
 -- No combination occurs twice.
-use Rattle.std.proofs.Common.{◌≡◌, ℕ, zero, suc, ℤ, pos, negsuc, ◌+ℤ◌, true, List, [], ◌∷◌, ◌++◌, map, refl, ap, sym, ◌∙◌, subst, Result, Ok, Err, inl, inr, arith}
+use Rattle.std.proofs.Common.{◌≡◌, ℕ, zero, suc, ℤ, pos, negsuc, ◌+ℤ◌, true, List, [], ◌∷◌, map, ap, sym, ◌∙◌, Result, Ok, Err, arith}
 use Rattle.std.proofs.lemmas.Int.{ints}
-use Rattle.std.specs.List.{filter_map, flat_map}
-use Rattle.ptg_base.specs.Lists.{HasNoRepeats, IsIn}
+use Rattle.std.specs.List.{filter_map}
+use Rattle.ptg_base.specs.Lists.{HasNoRepeats}
 use Rattle.ptg_base.specs.Task.{Task}
 use Rattle.term_core.specs.Value.{and_then}
 use Rattle.range_space.specs.declared.fault.SpanFault.{SpanFault}
 use Rattle.range_space.specs.Values.{is_within, values, while_within}
 use Rattle.range_space.specs.Fault.{Bounds, bounds, number}
 use Rattle.range_space.specs.Tasks.{or_empty}
-use Rattle.range_space.proofs.Stepping.{by_test, while_in, while_past}
+use Rattle.range_space.proofs.Stepping.{while_in, while_past}
 use Rattle.range_space.proofs.Members.{on_way}
-use Rattle.range_space.proofs.MemberLists.{from_append, from_flat_map, from_map}
+use Rattle.list_lemmas.proofs.Truth.{by_test}
+use Rattle.list_lemmas.proofs.Members.{from_map}
+use Rattle.list_lemmas.proofs.Distinct.{HasNoRepeats-flat_map, HasNoRepeats-map}
 use Rattle.plan_core.specs.declared.target.Arg.{Arg}
 use Rattle.plan_core.specs.declared.target.Arg.TheVariants.{One, Span}
 use Rattle.plan_core.specs.declared.target.Target.{Target}
@@ -23,30 +25,6 @@ use Rattle.dep_iter.specs.Items.{edge_of, items_to}
 use Rattle.dep_iter.specs.Links.{edge_in, edge_out, link, links_to}
 use Rattle.dep_iter.proofs.Belonging.{link_in, link_out}
 use Rattle.dep_iter.proofs.Joining.{edges_into-links, items_to-links}
-
-HasNoRepeats-append : {A : Type 0} (xs ys : List A) → HasNoRepeats xs → HasNoRepeats ys → ((x : A) → IsIn x xs → IsIn x ys → ⊥) → HasNoRepeats (xs ++ ys)
-HasNoRepeats-append [] ys w u apart = u
-HasNoRepeats-append (x ∷ xs) ys w u apart = (
-  λ t. elim (from_append x xs ys t) [ inl l ↦ w.0 l | inr r ↦ apart x (inl refl) r ],
-  HasNoRepeats-append xs ys w.1 u (λ z h k. apart z (inr h) k),
-)
-
-HasNoRepeats-flat_map : {A B : Type 0} (f : A → List B) (vs : List A) → HasNoRepeats vs → ((v : A) → HasNoRepeats (f v)) → ((v w : A) (x : B) → IsIn x (f v) → IsIn x (f w) → v ≡ w) → HasNoRepeats (flat_map f vs)
-HasNoRepeats-flat_map f [] w each apart = tt
-HasNoRepeats-flat_map f (v ∷ vs) w each apart =
-    HasNoRepeats-append (f v) (flat_map f vs) (each v) (HasNoRepeats-flat_map f vs w.1 each apart) (λ x h k.
-    let p = from_flat_map f vs x k in
-    let same = apart v p.0 x h p.2 in
-    w.0 (subst (λ z. IsIn z vs) (sym same) p.1))
-
-HasNoRepeats-map : {A B : Type 0} (f : A → B) (xs : List A) → HasNoRepeats xs → ((x y : A) → f x ≡ f y → x ≡ y) → HasNoRepeats (map f xs)
-HasNoRepeats-map f [] w one = tt
-HasNoRepeats-map f (x ∷ xs) w one = (
-  λ t. let p = from_map f xs (f x) t in
-      let same = one x p.0 p.2 in
-      w.0 (subst (λ z. IsIn z xs) (sym same) p.1),
-  HasNoRepeats-map f xs w.1 one,
-)
 
 -- a step leads away from a value
 not_back : (step v : ℤ) → is_within v step (v +ℤ step) ≡ true → ⊥
@@ -84,7 +62,7 @@ distinct_combinations [] env = (λ w. w, tt)
 distinct_combinations (a ∷ args) env =
     let cs = combinations args env in
     HasNoRepeats-flat_map (λ v. map (λ ws. v ∷ ws) cs) (or_empty (arg_values a env)) (distinct_arg a env)
-    (λ v. HasNoRepeats-map (λ ws. v ∷ ws) cs (distinct_combinations args env) (λ x y e. cc))
+    (λ v among. HasNoRepeats-map (λ ws. v ∷ ws) cs (distinct_combinations args env) (λ x y e. cc))
     (λ v w x h k.
     let p = from_map (λ ws. v ∷ ws) cs x h in
     let q = from_map (λ ws. w ∷ ws) cs x k in

@@ -9,13 +9,15 @@ use Rattle.plan_core.specs.declared.flow.DepPlan.{DepPlan}
 use Rattle.plan_core.specs.declared.flow.FlowPlan.{FlowPlan}
 use Rattle.plan_core.specs.declared.plan.Plan.{Plan}
 use Rattle.plan_core.specs.declared.target.Target.{Target}
-use Rattle.range_space.proofs.MemberLists.{IsIn-append_left, IsIn-append_right, IsIn-map, from_append, from_map}
+use Rattle.list_lemmas.proofs.Members.{IsIn-append_left, IsIn-append_right, IsIn-map, from_append, from_map}
+use Rattle.std.proofs.lemmas.List.{map-append}
+use Rattle.list_lemmas.proofs.Joins.{map-map}
 use Rattle.dep_iter.specs.declared.link.Link.{Link}
 use Rattle.dep_iter.specs.Active.{by_flow, flow_ins, held_target, held_targets}
 use Rattle.dep_iter.specs.Edges.{sources}
 use Rattle.dep_iter.specs.Links.{all_links, edge_in, flow_targets, link, links_to, task_links}
 use Rattle.dep_iter.proofs.Belonging.{by_flow-links, from_links, held-first, held-more, held-none, to_links}
-use Rattle.dep_iter.proofs.Joining.{in_edges-links, map-append, map-map}
+use Rattle.dep_iter.proofs.Joining.{in_edges-links}
 
 -- the task at the other end of a link
 abbrev pub far_of : Link → Task

@@ -1,13 +1,12 @@
 -- The tasks of a job as one list.
-use Rattle.std.proofs.Common.{◌≡◌, ◌↔◌, ℕ, zero, suc, ◌+◌, ◌≤◌, ℤ, List, [], ◌∷◌, length, map, refl, ap, sym, ◌∙◌, subst, add-zero, slice_get, IsSomeAnd, inl, inr, length-append, arith}
+use Rattle.std.proofs.Common.{◌≡◌, ◌↔◌, ℕ, zero, suc, ◌+◌, ℤ, List, [], ◌∷◌, length, map, refl, ap, sym, ◌∙◌, subst, add-zero, slice_get, IsSomeAnd, inl, inr, length-append, arith}
 use Rattle.std.proofs.lemmas.List.{length-map}
-use Rattle.std.specs.List.{flat_map}
 use Rattle.ptg_base.specs.Lists.{IsIn}
 use Rattle.ptg_base.specs.Task.{Task}
 use Rattle.term_core.specs.declared.space.ClassSpace.{ClassSpace}
 use Rattle.range_space.specs.Tasks.{tasks}
 use Rattle.range_space.specs.Walk.{task_total}
-use Rattle.range_space.proofs.MemberLists.{IsIn-append_left, IsIn-append_right, IsIn-map, from_append, from_map}
+use Rattle.list_lemmas.proofs.Members.{IsIn-append_left, IsIn-append_right, IsIn-map, from_append, from_map}
 use Rattle.plan_core.specs.declared.plan.Plan.{Plan}
 use Rattle.dep_iter.specs.Tasks.{IsTask, all_tasks, task, tasks_from}
 
@@ -42,13 +41,3 @@ pub length-tasks_from : (n : ℕ) (ss : List ClassSpace) → length (tasks_from 
 length-tasks_from n [] = refl
 length-tasks_from n (s ∷ ss) =
     length-append (map (task n) (tasks s)) (tasks_from (suc n) ss) ∙ ap (λ k. k + length (tasks_from (suc n) ss)) (length-map (tasks s) (task n)) ∙ ap (λ k. length (tasks s) + k) (length-tasks_from (suc n) ss)
-
--- a part of a joined list is no longer than the list
-pub length-part : {A B : Type 0} (f : A → List B) (xs : List A) (x : A) → IsIn x xs → length (f x) ≤ length (flat_map f xs)
-length-part f [] x h = absurd h
-length-part f (y ∷ xs) x h =
-    let e = length-append (f y) (flat_map f xs) in
-    elim h [
-      | inl k ↦ let l = ap (λ z. length (f z)) k in omega arith
-      | inr t ↦ let l = length-part f xs x t in omega arith
-    ]

@@ -5,24 +5,17 @@ use Rattle.std.specs.List.{flat_map}
 use Rattle.range_space.specs.declared.fault.SpanFault.{SpanFault}
 use Rattle.range_space.specs.declared.steps.Steps.{Steps}
 use Rattle.range_space.specs.Values.{is_within, values}
-use Rattle.range_space.proofs.Stepping.{by_test, values_in, values_past, values_unfit}
+use Rattle.range_space.proofs.Stepping.{values_in, values_past, values_unfit}
 use Rattle.range_space.proofs.Nesting.{values-one}
 use Rattle.term_core.specs.Value.{and_then}
 use Rattle.dep_iter.specs.declared.progression.Progression.{Progression}
 use Rattle.dep_iter.specs.Arguments.{product}
 use Rattle.dep_iter.specs.Combining.{steps_values, HaveFirst, HasOneEach, first_values, product_after, has_next, next_of, combinations_left, AddsSteps}
-
-or_left : (a b : Bool) → (a || b) ≡ false → a ≡ false
-or_left true b h = absurd (false≢true (sym h))
-or_left false b h = refl
+use Rattle.list_lemmas.proofs.Truth.{by_test, first_false, second_false, or-false, or-assoc}
 
 or_right : (a b : Bool) → a ≡ false → (a || b) ≡ true → b ≡ true
 or_right true b k h = absurd (false≢true (sym k))
 or_right false b k h = h
-
-or_neither : (a b : Bool) → (a || b) ≡ false → b ≡ false
-or_neither true b h = absurd (false≢true (sym h))
-or_neither false b h = h
 
 -- where the later lists have no combination, all have none
 pub none_later : (vs : List ℤ) (vss : List (List ℤ)) → product vss ≡ [] → product (vs ∷ vss) ≡ []
@@ -51,8 +44,8 @@ unfolding over
 product_after-none [] vs h = refl
 product_after-none (s ∷ ss) [] h = refl
 product_after-none (s ∷ ss) (v ∷ vs) h =
-    ap (λ (l : List (List ℤ)). map (λ ws. v ∷ ws) l ++ over ss (values (v +ℤ s.step) s.hi s.step)) (product_after-none ss vs (or_left _ _ h))
-    ∙ ap (over ss) (values_past s.hi s.step (v +ℤ s.step) (or_neither (has_next ss vs) _ h))
+    ap (λ (l : List (List ℤ)). map (λ ws. v ∷ ws) l ++ over ss (values (v +ℤ s.step) s.hi s.step)) (product_after-none ss vs (first_false _ _ h))
+    ∙ ap (over ss) (values_past s.hi s.step (v +ℤ s.step) (second_false (has_next ss vs) _ h))
 
 -- the one after another, and those after that
 pub product_after-next : (ss : List Progression) (vs : List ℤ) → HaveFirst ss → has_next ss vs ≡ true → product_after ss vs ≡ next_of ss vs ∷ product_after ss (next_of ss vs)
@@ -98,15 +91,6 @@ one_value r (Some s) h =
 pub all_added : (lists : List (List ℤ)) (new : List Progression) → AddsSteps lists [] new → (map steps_values new ≡ lists) × HaveFirst new
 all_added lists new w = (ap (map steps_values) w.extends ∙ w.same_values, rw w.extends w.have_first)
 
--- the same from the last progression: whether a combination comes after this one, and which
-or_false : (b : Bool) → (b || false) ≡ b
-or_false true = refl
-or_false false = refl
-
-or_assoc : (a b c : Bool) → ((a || b) || c) ≡ (a || (b || c))
-or_assoc true b c = refl
-or_assoc false b c = refl
-
 pub first_values-end : (ss : List Progression) (s : Progression) → first_values (ss ++ s ∷ []) ≡ first_values ss ++ s.lo ∷ []
 first_values-end [] s = refl
 first_values-end (x ∷ ss) s = ap (λ l. x.lo ∷ l) (first_values-end ss s)
@@ -130,12 +114,12 @@ length_each (s ∷ ss) [] w = absurd w
 length_each (s ∷ ss) (v ∷ vs) w = ap suc (length_each ss vs w)
 
 has_next-end : (ss : List Progression) (vs : List ℤ) (s : Progression) (v : ℤ) → HasOneEach ss vs → has_next (ss ++ s ∷ []) (vs ++ v ∷ []) ≡ (is_within s.hi s.step (v +ℤ s.step) || has_next ss vs)
-has_next-end [] [] s v w = sym (or_false (is_within s.hi s.step (v +ℤ s.step)))
+has_next-end [] [] s v w = sym (or-false (is_within s.hi s.step (v +ℤ s.step)))
 has_next-end [] (u ∷ vs) s v w = absurd w
 has_next-end (x ∷ ss) [] s v w = absurd w
 has_next-end (x ∷ ss) (u ∷ vs) s v w =
     ap (λ b. b || is_within x.hi x.step (u +ℤ x.step)) (has_next-end ss vs s v w)
-    ∙ or_assoc (is_within s.hi s.step (v +ℤ s.step)) (has_next ss vs) (is_within x.hi x.step (u +ℤ x.step))
+    ∙ or-assoc (is_within s.hi s.step (v +ℤ s.step)) (has_next ss vs) (is_within x.hi x.step (u +ℤ x.step))
 
 module _ (s : Progression) (v : ℤ) where
   has_next-step : (ss : List Progression) (vs : List ℤ) → HasOneEach ss vs → is_within s.hi s.step (v +ℤ s.step) ≡ true → has_next (ss ++ s ∷ []) (vs ++ v ∷ []) ≡ true

@@ -1,4 +1,6 @@
--- Which dependences of a task hold, and where they lead. Source: DAGuE (Parallel Computing, 2012) and PaRSEC (2013): of a data flow's in dependences the first that holds is active; of its out dependences, and of a CTL flow's dependences, all that hold.
+-- Which dependences of a task hold, and where they lead. Source: DAGuE (Parallel Computing, 2012) and PaRSEC (2013): of
+-- a data flow's in dependences the first that holds is active; of its out dependences, and of a CTL flow's dependences,
+-- all that hold.
 use Rattle.std.specs.Prelude.{ℕ, suc, ℤ, List, [], ◌∷◌, ◌++◌, map, Bool, true, false, Option, Some, None, Result, Ok}
 use Rattle.std.specs.Result.{result_unwrap_or}
 use Rattle.ptg_base.specs.Task.{Task}
@@ -14,7 +16,8 @@ use Rattle.plan_core.specs.declared.plan.Plan.{Plan}
 use Rattle.plan_core.specs.declared.target.Target.{Target}
 use Rattle.dep_iter.specs.Tasks.{locals_of, flows_of}
 
--- whether a guard holds under these locals, which is where it is not 0, or its fault; without a guard a dependence always holds
+-- whether a guard holds under these locals, which is where it is not 0, or its fault; without a guard a dependence
+-- always holds
 abbrev pub guard_value : Option Term → List ℤ → Result Bool ExprFault
 guard_value None env = Ok true
 guard_value (Some c) env = and_then (value c env) (λ v. Ok (holds v))

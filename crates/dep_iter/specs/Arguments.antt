@@ -20,7 +20,8 @@ abbrev pub product : List (List ℤ) → List (List ℤ)
 product [] = [] ∷ []
 product (vs ∷ vss) = flat_map (λ v. map (λ ws. v ∷ ws) (product vss)) vs
 
--- the combinations of values of arguments, the first argument outermost. An argument with a fault counts as one without values; a well task has none
+-- the combinations of values of arguments, the first argument outermost. An argument with a fault counts as one without
+-- values; a well task has none
 abbrev pub combinations : List Arg → List ℤ → List (List ℤ)
 combinations args env = product (map (λ a. or_empty (arg_values a env)) args)
 

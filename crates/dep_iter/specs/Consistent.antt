@@ -1,4 +1,5 @@
--- Consistent jobs. Source: PaRSEC (2013): each out edge has its in edge and each in edge its out edge; the limits, and that no place is written twice, are this project's own choice.
+-- Consistent jobs. Source: PaRSEC (2013): each out edge has its in edge and each in edge its out edge; the limits, and
+-- that no place is written twice, are this project's own choice.
 use Rattle.std.specs.Prelude.{◌≡◌, ◌≢◌, ◌≤◌, ◌↔◌, ◌==◌, ℕ, List, length, map, flat_map, filter, Bool, true, false, IsTrue, slice_get, Some}
 use Rattle.std.specs.List.{AllByRecursion}
 use Rattle.ptg_base.specs.Lists.{IsIn, HasNoRepeats}
@@ -34,7 +35,8 @@ pub record IsWellConnected (P : Plan) (t : Task) : Type 0 where
   -- each expression that it needs has a value
   pub well : IsWellTask P t
   -- each READ and RW flow has an in dependence that holds
-  pub inputs : (n : ℕ) (f : FlowPlan) → slice_get (flows_of P t) n ≡ Some f → IsTrue (takes_tile f.kind) → data_source P t n ≢ source.Nothing
+  pub inputs : (n : ℕ) (f : FlowPlan) → slice_get (flows_of P t) n ≡ Some f → IsTrue (takes_tile f.kind)
+      → data_source P t n ≢ source.Nothing
   -- each place of the affinity, of a source and of a write-back exists
   pub affinity_exists : HasPlace P.colls (affinity P t)
   pub sources_exist : (n : ℕ) (p : Place) → data_source P t n ≡ source.Place p → HasPlace P.colls p
@@ -66,7 +68,8 @@ is_data_edge P e = is_data (kind_of P.classes e.to.class e.in_flow)
 abbrev pub all_data : Plan → List Edge
 all_data P = filter (is_data_edge P) (all_in P)
 
--- That the two flows of a data edge have one datatype, and a collection that of the flow that reads or writes its tiles, is part of every plan (`IsWellMade`)
+-- That the two flows of a data edge have one datatype, and a collection that of the flow that reads or writes its
+-- tiles, is part of every plan (`IsWellMade`)
 pub record IsConsistent (P : Plan) : Type 0 where
   -- each definition has a value under each prefix
   pub sound : AllByRecursion IsSound P.spaces
@@ -86,7 +89,8 @@ pub record IsConsistent (P : Plan) : Type 0 where
 abbrev pub roots : Plan → List Task
 roots P = filter (λ t. goal P t == 0) (all_tasks P)
 
--- the counts of a job: its tasks, those without an edge into them, its edges, those that carry a tile, and its write-backs
+-- the counts of a job: its tasks, those without an edge into them, its edges, those that carry a tile, and its
+-- write-backs
 pub record HasCounts (P : Plan) (c : Counts) : Type 0 where
   pub all_tasks : c.tasks ≡ length (all_tasks P)
   pub all_roots : c.roots ≡ length (roots P)

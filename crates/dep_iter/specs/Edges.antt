@@ -17,9 +17,11 @@ use Rattle.dep_iter.specs.Arguments.{combinations, single_value, place_of}
 abbrev pub edge : Task → ℕ → Task → ℕ → Edge
 edge s out_flow t in_flow = record { from = s; out_flow = out_flow; to = t; in_flow = in_flow }
 
--- the edges to flow n of the task t that a target of an in dependence stands for: one for each combination of values of its arguments
+-- the edges to flow n of the task t that a target of an in dependence stands for: one for each combination of values of
+-- its arguments
 abbrev pub edges_into : Task → List ℤ → ℕ → Target → List Edge
-edges_into t env n (target.Task class flow args) = map (λ params. edge (task class params) flow t n) (combinations args env)
+edges_into t env n (target.Task class flow args) =
+    map (λ params. edge (task class params) flow t n) (combinations args env)
 edges_into t env n (target.Element coll indices) = []
 edges_into t env n target.New = []
 edges_into t env n target.Null = []
@@ -50,7 +52,9 @@ source_among t env n (x ∷ xs) = source_at t env n x
 
 -- where the tile of a data flow of a task comes from: the first in dependence that holds says it
 unfoldable pub data_source : Plan → Task → ℕ → Source
-data_source P t n = option_map_or (λ f. source_among t (locals_of P t) n (flow_ins (locals_of P t) f)) (slice_get (flows_of P t) n) source.Nothing
+data_source P t n =
+    option_map_or (λ f. source_among t (locals_of P t) n (flow_ins (locals_of P t) f)) (slice_get (flows_of P t) n)
+    source.Nothing
 
 -- the edges into flow n of a task that the first k in dependences of the flow give
 unfoldable pub in_edges_before : Plan → Task → ℕ → ℕ → List Edge

@@ -12,16 +12,21 @@ use Rattle.dep_iter.specs.Arguments.{place_of, value_or_zero}
 
 -- the place of the affinity of a task
 unfoldable pub affinity : Plan → Task → Place
-affinity P t = option_map_or (λ (c : ClassPlan). place_of c.affinity.0 c.affinity.1 (locals_of P t)) (slice_get P.classes t.class) (record { coll = 0; i = pos 0; j = pos 0 })
+affinity P t =
+    option_map_or (λ (c : ClassPlan). place_of c.affinity.0 c.affinity.1 (locals_of P t)) (slice_get P.classes t.class)
+    (record { coll = 0; i = pos 0; j = pos 0 })
 
--- the number of a row and a column among the places of a collection with so many columns, row by row; it is the row's in one dimension
+-- the number of a row and a column among the places of a collection with so many columns, row by row; it is the row's
+-- in one dimension
 abbrev pub number_in : Option ℕ → ℕ → ℕ → ℕ
 number_in None row column = row
 number_in (Some columns) row column = row * columns + column
 
--- the number of a place among those of its collection, none of whose rows and columns is negative; 0 where there is no such collection
+-- the number of a place among those of its collection, none of whose rows and columns is negative; 0 where there is no
+-- such collection
 abbrev pub place_number : Plan → Place → ℕ
-place_number P p = option_map_or (λ (s : Shape). number_in s.cols (unsigned_abs p.i) (unsigned_abs p.j)) (slice_get P.colls p.coll) 0
+place_number P p =
+    option_map_or (λ (s : Shape). number_in s.cols (unsigned_abs p.i) (unsigned_abs p.j)) (slice_get P.colls p.coll) 0
 
 -- the value of a priority, 0 where none is written
 abbrev pub priority_value : List ℤ → Option Term → ℤ
@@ -30,4 +35,5 @@ priority_value env (Some e) = value_or_zero env e
 
 -- the priority of a task
 unfoldable pub priority : Plan → Task → ℤ
-priority P t = option_map_or (λ (c : ClassPlan). priority_value (locals_of P t) c.priority) (slice_get P.classes t.class) (pos 0)
+priority P t =
+    option_map_or (λ (c : ClassPlan). priority_value (locals_of P t) c.priority) (slice_get P.classes t.class) (pos 0)

@@ -1,4 +1,5 @@
--- What a task sends: edges out of it and write-backs. Source: DAGuE (Parallel Computing, 2012) and PaRSEC (2013); that `-> NULL` sends nothing is this project's own choice.
+-- What a task sends: edges out of it and write-backs. Source: DAGuE (Parallel Computing, 2012) and PaRSEC (2013); that
+-- `-> NULL` sends nothing is this project's own choice.
 use Rattle.std.specs.Prelude.{ℕ, ℤ, List, [], ◌∷◌, map, flat_map, filter_map, take, false, Option, Some, None, slice_get}
 use Rattle.std.specs.Option.{option_map_or}
 use Rattle.ptg_base.specs.Task.{Task}
@@ -15,10 +16,13 @@ use Rattle.dep_iter.specs.Active.{active_outs, held_targets}
 use Rattle.dep_iter.specs.Arguments.{combinations, place_of}
 use Rattle.dep_iter.specs.Edges.{edge}
 
--- what flow n of the task t sends to a target: an edge for each combination of values of its arguments, or a write-back to a place
+-- what flow n of the task t sends to a target: an edge for each combination of values of its arguments, or a write-back
+-- to a place
 abbrev pub items_to : Task → List ℤ → ℕ → Target → List Item
-items_to t env n (target.Task class flow args) = map (λ params. item.Edge (edge t n (task class params) flow)) (combinations args env)
-items_to t env n (target.Element coll indices) = item.Write (record { from = t; flow = n; place = place_of coll indices env }) ∷ []
+items_to t env n (target.Task class flow args) =
+    map (λ params. item.Edge (edge t n (task class params) flow)) (combinations args env)
+items_to t env n (target.Element coll indices) =
+    item.Write (record { from = t; flow = n; place = place_of coll indices env }) ∷ []
 items_to t env n target.New = []
 items_to t env n target.Null = []
 

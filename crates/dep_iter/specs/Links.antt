@@ -1,4 +1,5 @@
--- The edges of a task seen from the task: the tasks at the other ends. A link is an edge in without the task that it goes into, or an edge out without the task that it comes from.
+-- The edges of a task seen from the task: the tasks at the other ends. A link is an edge in without the task that it
+-- goes into, or an edge out without the task that it comes from.
 use Rattle.std.specs.Prelude.{ℕ, ℤ, List, [], map, flat_map, Bool, true, false, ◌&&◌, is_some, length}
 use Rattle.std.specs.List.{list_all}
 use Rattle.std.specs.Option.{option_map_or}

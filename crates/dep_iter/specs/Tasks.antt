@@ -1,4 +1,5 @@
--- The tasks of a job, and the locals of a task, under which all that its class says of it is evaluated. Source: DAGuE (Parallel Computing, 2012): a task is named by its class and its parameters; the JDF documentation for locals.
+-- The tasks of a job, and the locals of a task, under which all that its class says of it is evaluated. Source: DAGuE
+-- (Parallel Computing, 2012): a task is named by its class and its parameters; the JDF documentation for locals.
 use Rattle.std.specs.Prelude.{ℕ, suc, ℤ, List, [], ◌∷◌, ◌++◌, map, find, unwrap_or, slice_get, IsSomeAnd}
 use Rattle.std.specs.Option.{option_map_or}
 use Rattle.std.specs.Ordering.{int_eq}
@@ -28,9 +29,11 @@ all_tasks P = tasks_from 0 P.spaces
 abbrev pub IsTask : Plan → Task → Type 0
 IsTask P t = IsSomeAnd (slice_get P.spaces t.class) (λ s. IsIn t.params (tasks s))
 
--- the full list of locals of a class in which the parameters have these values; it is empty where the class has no such task
+-- the full list of locals of a class in which the parameters have these values; it is empty where the class has no such
+-- task
 unfoldable pub locals_with : ClassSpace → List ℤ → List ℤ
-locals_with s params = unwrap_or (find (λ locals. pointwise int_eq (params_of s.params locals) params) (all_locals s)) []
+locals_with s params =
+    unwrap_or (find (λ locals. pointwise int_eq (params_of s.params locals) params) (all_locals s)) []
 
 -- the locals of a task
 abbrev pub locals_of : Plan → Task → List ℤ

@@ -12,7 +12,9 @@ use Rattle.dep_iter.specs.Links.{dependences_fit, flow_targets, flows_fit}
 
 -- the targets left: those of the dependences left of the flow at hand, and those of the flows after it
 abbrev pub targets_left : Bool → List ℤ → Position → List (ℕ × Target)
-targets_left inward env p = map (λ x. (p.flow, x)) (held_targets p.first_only p.deps.now env) ++ by_flow (flow_targets inward env) p.next_flow p.flows.now
+targets_left inward env p =
+    map (λ x. (p.flow, x)) (held_targets p.first_only p.deps.now env)
+    ++ by_flow (flow_targets inward env) p.next_flow p.flows.now
 
 -- whether the targets of all dependences left fit the plan
 abbrev pub position_fits : Plan → Position → Bool

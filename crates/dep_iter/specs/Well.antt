@@ -1,4 +1,5 @@
--- Well tasks: each expression that a task needs has a value, and no range that it needs has step 0. Source: the JDF documentation; the order in which a fault is looked for is this project's own choice.
+-- Well tasks: each expression that a task needs has a value, and no range that it needs has step 0. Source: the JDF
+-- documentation; the order in which a fault is looked for is this project's own choice.
 use Rattle.std.specs.Prelude.{◌≡◌, ℕ, suc, ℤ, List, [], ◌∷◌, Bool, true, false, ◌&&◌, Option, Some, None, Result, Ok, Err, is_ok, slice_get, if◌then◌else◌, option_map, option_and_then}
 use Rattle.std.specs.List.{list_all}
 use Rattle.ptg_base.specs.Task.{Task}
@@ -36,7 +37,8 @@ has_arguments env (target.Element coll indices) = list_all (has_value env) indic
 has_arguments env target.New = true
 has_arguments env target.Null = true
 
--- whether what a dependence needs has its values: the guard, and the arguments of the target if it holds; then the later ones, if they are needed:
+-- whether what a dependence needs has its values: the guard, and the arguments of the target if it holds; then the
+-- later ones, if they are needed:
 -- where the first that holds counts alone, only if this one does not
 abbrev pub is_well_then : Bool → List ℤ → Result (Option Target) ExprFault → Bool → Bool
 is_well_then first_only env (Err fault) later = false
@@ -49,7 +51,8 @@ abbrev pub are_well : Bool → List ℤ → List DepPlan → Bool
 are_well first_only env [] = true
 are_well first_only env (d ∷ ds) = is_well_then first_only env (active_target d env) (are_well first_only env ds)
 
--- whether what a flow needs has its values: its in dependences, up to the first that holds if it is a data flow, and its out dependences
+-- whether what a flow needs has its values: its in dependences, up to the first that holds if it is a data flow, and
+-- its out dependences
 abbrev pub is_well_flow : List ℤ → FlowPlan → Bool
 is_well_flow env f = are_well (takes_first f.kind) env f.ins && are_well false env f.outs
 
@@ -62,7 +65,8 @@ first_ill_flow env n (f ∷ fs) = if is_well_flow env f then first_ill_flow env 
 abbrev pub has_hints : List ℤ → ClassPlan → Bool
 has_hints env c = list_all (has_value env) c.affinity.1 && has_priority env c.priority
 
--- what of a task of the class is ill first, if anything: Some None is its affinity or its priority, and Some (Some n) its flow n
+-- what of a task of the class is ill first, if anything: Some None is its affinity or its priority, and Some (Some n)
+-- its flow n
 abbrev pub ill_part_of : List ℤ → ClassPlan → Option (Option ℕ)
 ill_part_of env c =
     if has_hints env c then option_map Some (first_ill_flow env 0 c.flows) else Some None

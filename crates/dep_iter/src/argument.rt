@@ -15,7 +15,8 @@ use term_core::{Expr, eval};
 
 // The value of an expression as a progression of one value.
 fn single_steps(e: &Expr, env: &[i64]) -> Option<Steps>
-    ensures { MatchOption result (IsErr (number e.now env.now)) (λ s. (number e.now env.now ≡ Ok s.lo) × (s.hi ≡ s.lo) × (s.step ≡ pos 1)) }
+    ensures { MatchOption result (IsErr (number e.now env.now)) (λ s.
+        (number e.now env.now ≡ Ok s.lo) × (s.hi ≡ s.lo) × (s.step ≡ pos 1)) }
 {
     match eval(e, env) {
         Ok(z) => Some(Steps {
@@ -29,7 +30,8 @@ fn single_steps(e: &Expr, env: &[i64]) -> Option<Steps>
 
 /// The progression of the values of an argument under these locals, or None where it has a fault.
 pub fn arg_steps(arg: &Arg, env: &[i64]) -> Option<Steps>
-    ensures { MatchOption result (is_ok (arguments.arg_values arg.now env.now) ≡ false) (λ s. arguments.arg_values arg.now env.now ≡ Ok (values s.lo s.hi s.step)) }
+    ensures { MatchOption result (is_ok (arguments.arg_values arg.now env.now) ≡ false) (λ s.
+        arguments.arg_values arg.now env.now ≡ Ok (values s.lo s.hi s.step)) }
 {
     match arg {
         Arg::One(e) => single_steps(e, env),
@@ -42,7 +44,8 @@ pub fn arg_steps(arg: &Arg, env: &[i64]) -> Option<Steps>
 
 // The progression of an argument, or None where it has no value.
 pub(crate) fn nonempty(arg: &Arg, env: &[i64]) -> Option<Progression>
-    ensures { MatchOption result (or_empty (arguments.arg_values arg.now env.now) ≡ []) (λ s. (or_empty (arguments.arg_values arg.now env.now) ≡ steps_values s) × HasFirst s) }
+    ensures { MatchOption result (or_empty (arguments.arg_values arg.now env.now) ≡ []) (λ s.
+        (or_empty (arguments.arg_values arg.now env.now) ≡ steps_values s) × HasFirst s) }
 {
     let steps = arg_steps(arg, env)?;
     if !within(steps.hi, steps.step, steps.lo) {

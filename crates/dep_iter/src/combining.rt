@@ -17,7 +17,8 @@ use plan_core::Arg;
 use range_space::Numbers;
 use std::marker::Model;
 
-/// The combinations of values of arguments that are not yet given, the first argument outermost. It takes no memory, and goes on in place.
+/// The combinations of values of arguments that are not yet given, the first argument outermost. It takes no memory,
+/// and goes on in place.
 #[derive(Drop)]
 pub struct Combinations {
     spans: ArrayVec<Progression, 8>,
@@ -33,7 +34,8 @@ impl Model for Combinations {
 
     ghost view = { λ c. combinations_left c.live c.spans.items c.at };
 
-    ghost invariant = { λ c. c.live ≡ true → (length c.at ≤ 8) × HasOneEach c.spans.items c.at × HaveFirst c.spans.items };
+    ghost invariant = { λ c.
+        c.live ≡ true → (length c.at ≤ 8) × HasOneEach c.spans.items c.at × HaveFirst c.spans.items };
 }
 
 // Adds the first value of each progression.
@@ -57,7 +59,8 @@ fn clear(values: &mut Numbers<8>)
     }
 }
 
-// Goes on to the combination after this one: the last value that can goes on, and those after it begin anew. Where there is none all begin anew.
+// Goes on to the combination after this one: the last value that can goes on, and those after it begin anew. Where
+// there is none all begin anew.
 fn advance(spans: &[Progression], at: &mut Numbers<8>) -> bool
     requires at_most { length at.old ≤ 8 }
     requires each { HasOneEach spans.now at.old }
@@ -82,7 +85,8 @@ fn advance(spans: &[Progression], at: &mut Numbers<8>) -> bool
 // Adds the progression of each argument, unless one has no values.
 fn push_spans(args: &[Arg], env: &[i64], spans: &mut ArrayVec<Progression, 8>) -> bool
     requires { length spans.old.items + length args.now ≤ 8 }
-    ensures found { OnTrue result (AddsSteps (map (λ a. or_empty (arg_values a env.now)) args.now) spans.old.items spans.new.items) }
+    ensures found { OnTrue result
+        (AddsSteps (map (λ a. or_empty (arg_values a env.now)) args.now) spans.old.items spans.new.items) }
     ensures none { OnFalse result (combinations args.now env.now ≡ []) }
 {
     let Some((arg, others)) = args.split_first() else {
@@ -109,7 +113,8 @@ impl Combinations {
         }
     }
 
-    /// The combinations of the values of these arguments under these locals. There are none where an argument has a fault.
+    /// The combinations of the values of these arguments under these locals. There are none where an argument has a
+    /// fault.
     pub fn new(args: &[Arg], env: &[i64]) -> Combinations
         requires { length args.now ≤ 8 }
         ensures { result ≡ combinations args.now env.now }

@@ -31,7 +31,8 @@ impl<'a> Model for InEdges<'a> {
     ghost view = { λ e. map (edge_in e.task) e.links };
 }
 
-/// The edges into a task, by flow in the text's order; of a gather, the first argument outermost. They are evaluated as they are asked for.
+/// The edges into a task, by flow in the text's order; of a gather, the first argument outermost. They are evaluated as
+/// they are asked for.
 pub fn in_edges<'a>(plan: &'a Plan, t: &TaskId) -> InEdges<'a>
     requires { IsTask plan.now t.now }
     ensures { result ≡ edges.in_edges plan.now t.now }
@@ -89,7 +90,8 @@ impl<'a> Model for OutEdges<'a> {
     ghost view = { λ e. map (edge_out e.task) e.links };
 }
 
-/// The edges out of a task, by flow and dependence in the text's order; of a broadcast, the first argument outermost. They are evaluated as they are asked for.
+/// The edges out of a task, by flow and dependence in the text's order; of a broadcast, the first argument outermost.
+/// They are evaluated as they are asked for.
 pub fn out_edges<'a>(plan: &'a Plan, t: &TaskId) -> OutEdges<'a>
     requires { IsTask plan.now t.now }
     ensures { result ≡ items.out_edges plan.now t.now }

@@ -33,5 +33,6 @@ pub fn edges_are_links()
 /// A law: within one dependence no edge occurs twice, inward and outward.
 pub fn edges_of_a_dependence_differ()
     ensures ins { (t : Task) (env : List ℤ) (n : ℕ) (x : Target) → HasNoRepeats (edges.edges_into t env n x) }
-    ensures outs { (t : Task) (env : List ℤ) (n : ℕ) (x : Target) → HasNoRepeats (filter_map items.edge_of (items.items_to t env n x)) }
+    ensures outs { (t : Task) (env : List ℤ) (n : ℕ) (x : Target)
+        → HasNoRepeats (filter_map items.edge_of (items.items_to t env n x)) }
 {}

@@ -108,7 +108,9 @@ fn next_link<'a>(
 ) -> Option<Link>
     requires room { p.old.next_flow + length p.old.flows.now ≤ 8 }
     requires fit { IsTrue (position_fits plan.now p.old) }
-    ensures found { YieldsFirst (λ (left : List LinkValue). left) (at_hand.old ++ all_links env.now (targets_left inward env.now p.old)) result (at_hand.new ++ all_links env.now (targets_left inward env.now p.new)) }
+    ensures found { YieldsFirst (λ (left : List LinkValue). left)
+        (at_hand.old ++ all_links env.now (targets_left inward env.now p.old)) result
+        (at_hand.new ++ all_links env.now (targets_left inward env.now p.new)) }
     ensures room { p.new.next_flow + length p.new.flows.now ≤ 8 }
     ensures fit { IsTrue (position_fits plan.now p.new) }
 {
@@ -140,9 +142,11 @@ impl<'a> Model for Links<'a> {
 
     ghost Value = { List Link };
 
-    ghost view = { λ l. l.at_hand ++ all_links (given_locals l.env) (targets_left l.inward (given_locals l.env) l.position) };
+    ghost view = { λ l.
+        l.at_hand ++ all_links (given_locals l.env) (targets_left l.inward (given_locals l.env) l.position) };
 
-    ghost invariant = { λ l. (l.position.next_flow + length l.position.flows.now ≤ 8) × IsTrue (position_fits l.plan.now l.position) };
+    ghost invariant = { λ l.
+        (l.position.next_flow + length l.position.flows.now ≤ 8) × IsTrue (position_fits l.plan.now l.position) };
 }
 
 impl<'a> Links<'a> {

@@ -58,7 +58,8 @@ impl Matched {
         self.counts.tasks
     }
 
-    /// How many of its tasks have no edge into them. A run begins with these, so whoever looks for them may stop after so many.
+    /// How many of its tasks have no edge into them. A run begins with these, so whoever looks for them may stop after
+    /// so many.
     pub fn roots(&self) -> u64
         ensures { result ≡ length (consistent.roots self.now) }
     {

@@ -23,7 +23,8 @@ fn first_or_zero(es: &[Expr], env: &[i64]) -> i64
     }
 }
 
-/// The place in a collection that indices name under these locals. An index with a fault counts as 0; a well task has none.
+/// The place in a collection that indices name under these locals. An index with a fault counts as 0; a well task has
+/// none.
 pub fn place_of(coll: u32, indices: &[Expr], env: &[i64]) -> Place
     ensures { result ≡ arguments.place_of coll indices.now env.now }
 {

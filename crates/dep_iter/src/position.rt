@@ -29,7 +29,8 @@ pub struct Position<'a> {
 // The start of a walk over these flows.
 pub(crate) fn start<'a>(flows: &'a [FlowPlan]) -> Position<'a>
     requires { length flows.now ≤ 8 }
-    ensures targets { (inward : Bool) (env : List ℤ) → targets_left inward env result ≡ by_flow (flow_targets inward env) 0 flows.now }
+    ensures targets { (inward : Bool) (env : List ℤ)
+        → targets_left inward env result ≡ by_flow (flow_targets inward env) 0 flows.now }
     ensures room { result.next_flow + length result.flows.now ≤ 8 }
     ensures fits { (P : Plan) → IsTrue (flows_fit P flows.now) → IsTrue (position_fits P result) }
 {
@@ -60,8 +61,10 @@ pub(crate) fn next_held<'a>(
     deps: &'a [DepPlan],
     env: &[i64],
 ) -> Option<(&'a Target, &'a [DepPlan])>
-    ensures found { MatchOption result (held_targets first_only deps.now env.now ≡ []) (λ r. held_targets first_only deps.now env.now ≡ r.0.now ∷ held_targets first_only r.1.now env.now) }
-    ensures fits { (P : Plan) → IsTrue (dependences_fit P deps.now) → IfSome result (λ r. IsTrue (fits P r.0.now) × IsTrue (dependences_fit P r.1.now)) }
+    ensures found { MatchOption result (held_targets first_only deps.now env.now ≡ []) (λ r.
+        held_targets first_only deps.now env.now ≡ r.0.now ∷ held_targets first_only r.1.now env.now) }
+    ensures fits { (P : Plan) → IsTrue (dependences_fit P deps.now)
+        → IfSome result (λ r. IsTrue (fits P r.0.now) × IsTrue (dependences_fit P r.1.now)) }
 {
     let (d, later) = deps.split_first()?;
     match held_target(d, env) {
@@ -76,8 +79,10 @@ fn enter<'a>(inward: bool, flow: &'a FlowPlan, number: u8, others: &'a [FlowPlan
     ensures flow { result.flow ≡ number }
     ensures next { result.next_flow ≡ number + 1 }
     ensures flows { result.flows.now ≡ others.now }
-    ensures targets { (env : List ℤ) → held_targets result.first_only result.deps.now env ≡ flow_targets inward env flow.now }
-    ensures fits { (P : Plan) → IsTrue (dependences_fit P flow.now.ins && dependences_fit P flow.now.outs) → IsTrue (dependences_fit P result.deps.now) }
+    ensures targets { (env : List ℤ)
+        → held_targets result.first_only result.deps.now env ≡ flow_targets inward env flow.now }
+    ensures fits { (P : Plan) → IsTrue (dependences_fit P flow.now.ins && dependences_fit P flow.now.outs)
+        → IsTrue (dependences_fit P result.deps.now) }
 {
     let deps = if inward {
         flow.ins.as_slice()
@@ -100,9 +105,11 @@ pub(crate) fn next_target<'a>(
     p: Position<'a>,
 ) -> Option<(&'a Target, Position<'a>)>
     requires { p.next_flow + length p.flows.now ≤ 8 }
-    ensures found { MatchOption result (targets_left inward env.now p.entry ≡ []) (λ r. targets_left inward env.now p.entry ≡ (r.1.flow, r.0.now) ∷ targets_left inward env.now r.1) }
+    ensures found { MatchOption result (targets_left inward env.now p.entry ≡ []) (λ r.
+        targets_left inward env.now p.entry ≡ (r.1.flow, r.0.now) ∷ targets_left inward env.now r.1) }
     ensures room { IfSome result (λ r. r.1.next_flow + length r.1.flows.now ≤ 8) }
-    ensures fits { (P : Plan) → IsTrue (position_fits P p.entry) → IfSome result (λ r. IsTrue (fits P r.0.now) × IsTrue (position_fits P r.1)) }
+    ensures fits { (P : Plan) → IsTrue (position_fits P p.entry)
+        → IfSome result (λ r. IsTrue (fits P r.0.now) × IsTrue (position_fits P r.1)) }
 {
     if let Some((target, later)) = next_held(p.first_only, p.deps, env) {
         return Some((target, Position { deps: later, ..p }));

@@ -24,7 +24,8 @@ pub(crate) fn within(hi: i64, step: i64, v: i64) -> bool
 
 // The value after this one, if it is still within `hi`.
 pub(crate) fn next_value(hi: i64, step: i64, v: i64) -> Option<i64>
-    ensures { MatchOption result (is_within hi step (v +ℤ step) ≡ false) (λ w. (w ≡ v +ℤ step) × (is_within hi step w ≡ true)) }
+    ensures { MatchOption result (is_within hi step (v +ℤ step) ≡ false) (λ w.
+        (w ≡ v +ℤ step) × (is_within hi step w ≡ true)) }
 {
     match v.checked_add(step) {
         Some(w) => { if within(hi, step, w) { Some(w) } else { None } }

@@ -31,7 +31,11 @@ fn names(target: &Target, env: &[i64], far: &TaskId) -> bool
 
 // Whether a target of these dependences that counts stands for a link with this task.
 fn any_names(first_only: bool, deps: &[DepPlan], env: &[i64], far: &TaskId) -> bool
-    ensures { (n : ℕ) → IsTrue result ↔ IsIn far.now (map (λ (l : LinkValue). l.far) (flat_map (links_to env.now n) (held_targets first_only deps.now env.now))) }
+    ensures { (n : ℕ)
+        → IsTrue result
+        ↔ IsIn far.now
+        (map (λ (l : LinkValue). l.far)
+        (flat_map (links_to env.now n) (held_targets first_only deps.now env.now))) }
 {
     let Some((d, later)) = deps.split_first() else {
         return false;
@@ -50,7 +54,10 @@ fn any_names(first_only: bool, deps: &[DepPlan], env: &[i64], far: &TaskId) -> b
 
 // Whether a target of the active in dependences of these flows stands for a link with this task.
 fn any_flow_names(flows: &[FlowPlan], env: &[i64], far: &TaskId) -> bool
-    ensures { (n : ℕ) → IsTrue result ↔ IsIn far.now (map (λ (l : LinkValue). l.far) (all_links env.now (by_flow (flow_targets true env.now) n flows.now))) }
+    ensures { (n : ℕ)
+        → IsTrue result
+        ↔ IsIn far.now
+        (map (λ (l : LinkValue). l.far) (all_links env.now (by_flow (flow_targets true env.now) n flows.now))) }
 {
     let Some((flow, others)) = flows.split_first() else {
         return false;
@@ -61,7 +68,8 @@ fn any_flow_names(flows: &[FlowPlan], env: &[i64], far: &TaskId) -> bool
     any_flow_names(others, env, far)
 }
 
-/// Whether an edge into a task with these locals comes from another task. Takes time according to the in dependences of the task, however many edges they give.
+/// Whether an edge into a task with these locals comes from another task. Takes time according to the in dependences of
+/// the task, however many edges they give.
 pub fn has_source_under(plan: &Plan, t: &TaskId, env: &[i64], source: &TaskId) -> bool
     requires task { IsTask plan.now t.now }
     requires locals { env.now ≡ tasks.locals_of plan.now t.now }

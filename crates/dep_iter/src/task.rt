@@ -74,8 +74,10 @@ pub fn task_locals(plan: &Plan, t: &TaskId) -> Option<Numbers<16>>
 /// The task of a class that has these locals.
 pub fn task_with(plan: &Plan, class: u32, locals: &[i64]) -> TaskId
     requires class { class < length plan.now.classes }
-    requires locals { (s : ClassSpaceValue) → slice_get plan.now.spaces class ≡ Some s → IsIn locals.now (all_locals s) }
-    ensures task { (s : ClassSpaceValue) → slice_get plan.now.spaces class ≡ Some s → result ≡ task class (params_of s.params locals.now) }
+    requires locals { (s : ClassSpaceValue) → slice_get plan.now.spaces class ≡ Some s
+        → IsIn locals.now (all_locals s) }
+    ensures task { (s : ClassSpaceValue) → slice_get plan.now.spaces class ≡ Some s
+        → result ≡ task class (params_of s.params locals.now) }
     ensures of_job { IsTask plan.now result }
     ensures locals { locals.now ≡ tasks.locals_of plan.now result }
 {

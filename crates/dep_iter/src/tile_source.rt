@@ -96,7 +96,8 @@ fn flow_source(plan: &Plan, t: &TaskId, env: &[i64], number: u8, flow: &FlowPlan
     }
 }
 
-/// Where the tile of a data flow of a task comes from, by the first in dependence that holds: `Source::Nothing` exactly where none holds.
+/// Where the tile of a data flow of a task comes from, by the first in dependence that holds: `Source::Nothing` exactly
+/// where none holds.
 pub fn data_source(plan: &Plan, t: &TaskId, flow: u8) -> Source
     requires { IsTask plan.now t.now }
     ensures { result ≡ edges.data_source plan.now t.now flow }

@@ -110,7 +110,8 @@ fn has_hints(env: &[i64], class: &ClassPlan) -> bool
     have_values(env, class.affinity.1.as_slice()) && has_priority(env, &class.priority)
 }
 
-/// Whether each expression that a task needs has a value and no range that it needs has step 0: those of its affinity, its priority and its active dependences.
+/// Whether each expression that a task needs has a value and no range that it needs has step 0: those of its affinity,
+/// its priority and its active dependences.
 /// An `Err` names what is ill first: the affinity or the priority, or a flow.
 pub fn well_task(plan: &Plan, t: &TaskId) -> Result<(), IllTask>
     requires { IsTask plan.now t.now }

@@ -32,7 +32,8 @@ impl<'a> Model for WriteBacks<'a> {
 
     ghost Value = { List WriteBack };
 
-    ghost view = { λ w. all_writes_to w.task (given_locals w.env) (targets_left false (given_locals w.env) w.position) };
+    ghost view = { λ w.
+        all_writes_to w.task (given_locals w.env) (targets_left false (given_locals w.env) w.position) };
 
     ghost invariant = { λ w. w.position.next_flow + length w.position.flows.now ≤ 8 };
 }
@@ -40,7 +41,9 @@ impl<'a> Model for WriteBacks<'a> {
 // The next write-back of a walk over the active out targets of a task, under its locals.
 fn next_write<'a>(t: &TaskId, env: &[i64], p: &mut Position<'a>) -> Option<WriteBack>
     requires { p.old.next_flow + length p.old.flows.now ≤ 8 }
-    ensures found { YieldsFirst (λ (left : List WriteBackValue). left) (all_writes_to t.now env.now (targets_left false env.now p.old)) result (all_writes_to t.now env.now (targets_left false env.now p.new)) }
+    ensures found { YieldsFirst (λ (left : List WriteBackValue). left)
+        (all_writes_to t.now env.now (targets_left false env.now p.old)) result
+        (all_writes_to t.now env.now (targets_left false env.now p.new)) }
     ensures room { p.new.next_flow + length p.new.flows.now ≤ 8 }
 {
     let (target, later) = next_target(false, env, *p)?;

@@ -1,34 +1,22 @@
 -- The tiles of an array with a place for each flow.
-use Rattle.std.specs.Prelude.{◌≡◌, ℕ, ◌+◌, ◌<◌, ◌≤◌, ℤ, true, false, not, nat_eq, nat_lt, cond, if◌then◌else◌, List, [], ◌∷◌, length, slice_set, slice_index_or, Option, Some, None}
+use Rattle.std.specs.Prelude.{◌≡◌, ℕ, ◌+◌, ◌<◌, ◌≤◌, ℤ, not, nat_eq, cond, if◌then◌else◌, List, [], ◌∷◌, length, slice_set, slice_index_or, Option, Some, None}
 use Rattle.std.proofs.Common.{zero, suc, refl, sym, ap, ◌∙◌, arith}
-use Rattle.std.proofs.lemmas.Bool.Decides.{nat_tests}
 use Rattle.dep_shard.specs.Arrivals.{FlowTile, with_tile, without_tile, tile_of, RiseFrom, IsInFlowOrder, tiles_by_flow}
-
-less : (m n : ℕ) → m < n → nat_lt m n ≡ true
-less m n h = grind (arith, nat_tests)
-
-not_less : (m n : ℕ) → n ≤ m → nat_lt m n ≡ false
-not_less m n h = grind (arith, nat_tests)
-
-same : (m n : ℕ) → m ≡ n → nat_eq m n ≡ true
-same m n h = grind (arith, nat_tests)
-
-differ : (m n : ℕ) → (m ≡ n → ⊥) → nat_eq m n ≡ false
-differ m n h = grind (arith, nat_tests)
+use Rattle.std.proofs.lemmas.Bool.{lt-ltb, le-ltb, eq-eqb, ne_eqb}
 
 -- a tile of a flow comes before those of greater flows
 before : (m : ℕ) (x : List ℤ) (t : FlowTile) (ts : List FlowTile) → m < t.0 → with_tile m x (t ∷ ts) ≡ (m, x) ∷ t ∷ ts
-before m x t ts h = ap (λ b. if b then (m, x) ∷ t ∷ ts else (if nat_eq m t.0 then (m, x) ∷ ts else (t ∷ with_tile m x ts))) (less m t.0 h)
+before m x t ts h = ap (λ b. if b then (m, x) ∷ t ∷ ts else (if nat_eq m t.0 then (m, x) ∷ ts else (t ∷ with_tile m x ts))) (lt-ltb m t.0 h)
 
 replaces : (m : ℕ) (x : List ℤ) (t : FlowTile) (ts : List FlowTile) → m ≡ t.0 → with_tile m x (t ∷ ts) ≡ (m, x) ∷ ts
 replaces m x t ts h =
-    ap (λ b. if b then (m, x) ∷ t ∷ ts else (if nat_eq m t.0 then (m, x) ∷ ts else (t ∷ with_tile m x ts))) (not_less m t.0 (omega arith))
-    ∙ ap (λ b. if b then (m, x) ∷ ts else (t ∷ with_tile m x ts)) (same m t.0 h)
+    ap (λ b. if b then (m, x) ∷ t ∷ ts else (if nat_eq m t.0 then (m, x) ∷ ts else (t ∷ with_tile m x ts))) (le-ltb m t.0 (omega arith))
+    ∙ ap (λ b. if b then (m, x) ∷ ts else (t ∷ with_tile m x ts)) (eq-eqb m t.0 h)
 
 after : (m : ℕ) (x : List ℤ) (t : FlowTile) (ts : List FlowTile) → t.0 < m → with_tile m x (t ∷ ts) ≡ t ∷ with_tile m x ts
 after m x t ts h =
-    ap (λ b. if b then (m, x) ∷ t ∷ ts else (if nat_eq m t.0 then (m, x) ∷ ts else (t ∷ with_tile m x ts))) (not_less m t.0 (omega arith))
-    ∙ ap (λ b. if b then (m, x) ∷ ts else (t ∷ with_tile m x ts)) (differ m t.0 (λ e. omega arith))
+    ap (λ b. if b then (m, x) ∷ t ∷ ts else (if nat_eq m t.0 then (m, x) ∷ ts else (t ∷ with_tile m x ts))) (le-ltb m t.0 (omega arith))
+    ∙ ap (λ b. if b then (m, x) ∷ ts else (t ∷ with_tile m x ts)) (ne_eqb m t.0 (λ e. omega arith))
 
 -- before all tiles of an array that begins at a greater flow
 comes_first : (m : ℕ) (x : List ℤ) (n : ℕ) (slots : List (Option (List ℤ))) → m < n → with_tile m x (tiles_by_flow n slots) ≡ (m, x) ∷ tiles_by_flow n slots
@@ -55,17 +43,17 @@ no_tile : (m n : ℕ) (slots : List (Option (List ℤ))) → m < n → tile_of (
 no_tile m n [] h = refl
 no_tile m n (None ∷ slots) h = no_tile m (n + 1) slots (omega arith)
 no_tile m n (Some t ∷ slots) h =
-    ap (λ b. cond b (Some t) (tile_of (tiles_by_flow (n + 1) slots) m)) (differ m n (λ e. omega (arith, e, h))) ∙ no_tile m (n + 1) slots (omega arith)
+    ap (λ b. cond b (Some t) (tile_of (tiles_by_flow (n + 1) slots) m)) (ne_eqb m n (λ e. omega (arith, e, h))) ∙ no_tile m (n + 1) slots (omega arith)
 
 -- the tile of a flow is the one at its place
 pub tile_of-tiles_by_flow : (n : ℕ) (slots : List (Option (List ℤ))) (f : ℕ) (d : Option (List ℤ)) (m : ℕ) → m ≡ n + f → f < length slots → tile_of (tiles_by_flow n slots) m ≡ slice_index_or slots f d
 tile_of-tiles_by_flow n [] f d m e h = absurd (omega (arith, h))
 tile_of-tiles_by_flow n (None ∷ slots) zero d m e h = no_tile m (n + 1) slots (omega (arith, e))
 tile_of-tiles_by_flow n (Some t ∷ slots) zero d m e h =
-    ap (λ b. cond b (Some t) (tile_of (tiles_by_flow (n + 1) slots) m)) (same m n (omega (arith, e)))
+    ap (λ b. cond b (Some t) (tile_of (tiles_by_flow (n + 1) slots) m)) (eq-eqb m n (omega (arith, e)))
 tile_of-tiles_by_flow n (None ∷ slots) (suc f) d m e h = tile_of-tiles_by_flow (n + 1) slots f d m (omega (arith, e)) (omega (arith, h))
 tile_of-tiles_by_flow n (Some t ∷ slots) (suc f) d m e h =
-    ap (λ b. cond b (Some t) (tile_of (tiles_by_flow (n + 1) slots) m)) (differ m n (λ is. omega (arith, e, is)))
+    ap (λ b. cond b (Some t) (tile_of (tiles_by_flow (n + 1) slots) m)) (ne_eqb m n (λ is. omega (arith, e, is)))
     ∙ tile_of-tiles_by_flow (n + 1) slots f d m (omega (arith, e)) (omega (arith, h))
 
 -- there is no pair with a flow before the array
@@ -73,7 +61,7 @@ none_goes : (m n : ℕ) (slots : List (Option (List ℤ))) → m < n → without
 none_goes m n [] h = refl
 none_goes m n (None ∷ slots) h = none_goes m (n + 1) slots (omega arith)
 none_goes m n (Some t ∷ slots) h =
-    ap (λ b. if not b then (n, t) ∷ without_tile m (tiles_by_flow (n + 1) slots) else without_tile m (tiles_by_flow (n + 1) slots)) (differ m n (λ e. omega (arith, e, h)))
+    ap (λ b. if not b then (n, t) ∷ without_tile m (tiles_by_flow (n + 1) slots) else without_tile m (tiles_by_flow (n + 1) slots)) (ne_eqb m n (λ e. omega (arith, e, h)))
     ∙ ap (λ ts. (n, t) ∷ ts) (none_goes m (n + 1) slots (omega arith))
 
 -- a tile that is taken out of the array
@@ -83,12 +71,12 @@ tiles_by_flow-clear n (None ∷ slots) zero w m none e h =
     ap (λ v. tiles_by_flow n (v ∷ slots)) none ∙ sym (none_goes m (n + 1) slots (omega (arith, e)))
 tiles_by_flow-clear n (Some t ∷ slots) zero w m none e h =
     ap (λ v. tiles_by_flow n (v ∷ slots)) none
-    ∙ sym (ap (λ b. if not b then (n, t) ∷ without_tile m (tiles_by_flow (n + 1) slots) else without_tile m (tiles_by_flow (n + 1) slots)) (same m n (omega (arith, e)))
+    ∙ sym (ap (λ b. if not b then (n, t) ∷ without_tile m (tiles_by_flow (n + 1) slots) else without_tile m (tiles_by_flow (n + 1) slots)) (eq-eqb m n (omega (arith, e)))
     ∙ none_goes m (n + 1) slots (omega (arith, e)))
 tiles_by_flow-clear n (None ∷ slots) (suc f) w m none e h = tiles_by_flow-clear (n + 1) slots f w m none (omega (arith, e)) (omega (arith, h))
 tiles_by_flow-clear n (Some t ∷ slots) (suc f) w m none e h =
     ap (λ ts. (n, t) ∷ ts) (tiles_by_flow-clear (n + 1) slots f w m none (omega (arith, e)) (omega (arith, h)))
-    ∙ sym (ap (λ b. if not b then (n, t) ∷ without_tile m (tiles_by_flow (n + 1) slots) else without_tile m (tiles_by_flow (n + 1) slots)) (differ m n (λ is. omega (arith, e, is))))
+    ∙ sym (ap (λ b. if not b then (n, t) ∷ without_tile m (tiles_by_flow (n + 1) slots) else without_tile m (tiles_by_flow (n + 1) slots)) (ne_eqb m n (λ is. omega (arith, e, is))))
 
 -- an array of eight places has its tiles in flow order
 rises : (least n : ℕ) (slots : List (Option (List ℤ))) → least ≤ n → n + length slots ≤ 8 → RiseFrom least (tiles_by_flow n slots)

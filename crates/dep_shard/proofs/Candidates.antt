@@ -15,6 +15,7 @@ use Rattle.ptg_base.specs.TaskComparing.{same_task}
 use Rattle.ptg_base.specs.TaskLaws.{same_task-decides}
 use Rattle.dep_shard.specs.Content.{Entry, Entries, entry_in, IsReady, HasNoReady, IsBest, rank_cmp}
 use Rattle.dep_shard.specs.Queue.{Candidate, order, is_candidate, is_live, HasEveryReady, HasLiveFront}
+use Rattle.std.proofs.lemmas.Bool.{false_from_ne_true}
 
 -- the test of sameness holds of one task alone
 pub same_means : (a b : Task) → IsTrue (same_task a b) → a ≡ b
@@ -60,16 +61,9 @@ lives es p t h = by (entry_in es t) refl h
       priority = (signed_Decides f.priority p).0 (second_so (nat_eq f.arrived f.goal) (int_eq f.priority p) h);
     }
 
-not_true : (b : Bool) → (b ≡ true → ⊥) → b ≡ false
-not_true b never = at b refl
-  where
-    at : (r : Bool) → b ≡ r → b ≡ false
-    at true e = absurd (never e)
-    at false e = e
-
 -- a stale candidate is not the candidate of a live task
 stale : (es : Entries) (x : Candidate) (p : ℤ) (t : Task) → is_live es x.0 x.1.0 ≡ false → is_live es p t ≡ true → is_candidate p t x ≡ false
-stale es x p t dead lives = not_true (is_candidate p t x) (λ h.
+stale es x p t dead lives = false_from_ne_true (is_candidate p t x) (λ h.
     let m = candidate_means p t x h in
     let same : is_live es p t ≡ is_live es x.0 x.1.0 = λ i. is_live es (m.0 i) (m.1 i) in
     true≢false (sym lives ∙ same ∙ dead))

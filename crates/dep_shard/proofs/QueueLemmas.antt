@@ -1,5 +1,5 @@
 -- The queue and its room, as entries come and go.
-use Rattle.std.specs.Prelude.{Result, Ok, OnOk, ◌≡◌, ◌↔◌, ℕ, ◌+◌, ◌<◌, ◌≤◌, ℤ, Bool, true, false, ◌||◌, cond, nat_eq, List, [], ◌∷◌, ◌++◌, length, slice_get, swap_remove, Option, Some, None, IfNone, IfSome, position}
+use Rattle.std.specs.Prelude.{◌≡◌, ◌↔◌, ℕ, ◌+◌, ◌<◌, ◌≤◌, ℤ, Bool, true, false, ◌||◌, cond, nat_eq, List, [], ◌∷◌, ◌++◌, length, slice_get, swap_remove, Option, Some, None, IfNone, IfSome, position}
 use Rattle.std.proofs.Common.{zero, suc, refl, sym, ap, ◌∙◌, true≢false, arith, subst}
 use Rattle.std.specs.List.{list_any}
 use Rattle.std.specs.List.Sorted.{IsPermutation}
@@ -143,10 +143,6 @@ fires es fs i t e f x rs ss len capacity waiting len' capacity' waiting' k is se
 -- If an entry waits, at least one is counted.
 pub some_wait : (es : Entries) (i : ℕ) (t : Task) (e : Entry) (rs : List Candidate) (len capacity waiting : ℕ) → IsQueueOf es rs len capacity waiting → slice_get es i ≡ Some (t, e) → IsWaiting e → 0 < waiting
 some_wait es i t e rs len capacity waiting k is waits_e = omega (arith, k.counted, count_waiting-swap_remove_at es i t e is, one_waits e waits_e)
-
--- what an `OnOk` says of an `Ok`
-pub on_success : {T E P : Type 0} (r : Result T E) (x : T) → r ≡ Ok x → OnOk r P → P
-on_success {T} {E} {P} r x e h = subst (λ (s : Result T E). OnOk s P) e h
 
 pub updates_twice : (es fs gs : Entries) (t : Task) (v w : Option Entry) → Updates es fs t v → Updates fs gs t w → Updates es gs t w
 updates_twice es fs gs t v w one two u = by (same_task t u) refl

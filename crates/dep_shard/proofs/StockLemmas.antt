@@ -1,5 +1,5 @@
 -- The tiles of all types, where those of one type change.
-use Rattle.std.specs.Prelude.{◌≡◌, ℕ, ◌+◌, ◌<◌, ◌≤◌, List, [], ◌∷◌, length, map, slice_index, slice_index_or, slice_set, Some, None, Result, Ok, Err, OnErr, OnOk}
+use Rattle.std.specs.Prelude.{◌≡◌, ℕ, ◌+◌, ◌<◌, ◌≤◌, List, [], ◌∷◌, length, map, slice_index, slice_index_or, slice_set, Some, None}
 use Rattle.std.proofs.Common.{zero, suc, refl, ap, subst, ◌∙◌, arith}
 use Rattle.std.proofs.lemmas.Bool.Decides.{nat_tests}
 use Rattle.std.proofs.Math.Seq.{map-set_same}
@@ -53,13 +53,3 @@ one_each (x ∷ xs) = ap (λ n. suc n) (one_each xs)
 -- the spare tiles of the type that changes
 pub spare_there : (types : List TypeTiles) (elems : List ℕ) (k : ℕ) (v : TypeTiles) → map (λ (t : TypeTiles). t.elems) types ≡ elems → k < length elems → slice_index (map (λ (t : TypeTiles). t.spare) (slice_set types k v)) k ≡ v.spare
 spare_there types elems k v was within = there types k v (omega (arith, within, one_each types, ap (λ (ns : List ℕ). length ns) was))
-
--- what an `Err` gives, where one thing gives the other
-pub at_err : {A E : Type 0} {P Q : Type 0} (result : Result A E) → (P → Q) → OnErr result P → OnErr result Q
-at_err (Ok x) f h = h
-at_err (Err e) f h = f h
-
--- what an `Ok` gives, where one thing gives the other
-pub at_ok : {A E : Type 0} {P Q : Type 0} (result : Result A E) → (P → Q) → OnOk result P → OnOk result Q
-at_ok (Ok x) f h = f h
-at_ok (Err e) f h = h

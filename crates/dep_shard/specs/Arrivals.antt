@@ -1,4 +1,5 @@
--- The tiles that came to a task, by the numbers of its flows. Source: DAGuE 2012, where a task keeps the data of its dependences until it runs; one tile a flow, in flow order, is this project's own choice.
+-- The tiles that came to a task, by the numbers of its flows. Source: DAGuE 2012, where a task keeps the data of its
+-- dependences until it runs; one tile a flow, in flow order, is this project's own choice.
 use Rattle.std.specs.Prelude.{ℕ, ◌+◌, ◌<◌, ◌≤◌, ℤ, not, nat_eq, nat_lt, if◌then◌else◌, List, [], ◌∷◌, filter, Option, Some, None}
 use Rattle.std.specs.Map.{lookup}
 
@@ -9,7 +10,10 @@ FlowTile = ℕ × List ℤ
 -- The list with this tile at this flow: it comes before the tiles of greater flows, and replaces one of the same flow.
 abbrev pub with_tile : ℕ → List ℤ → List FlowTile → List FlowTile
 with_tile flow tile [] = (flow, tile) ∷ []
-with_tile flow tile (t ∷ ts) = if nat_lt flow t.0 then (flow, tile) ∷ t ∷ ts else if nat_eq flow t.0 then (flow, tile) ∷ ts else t ∷ with_tile flow tile ts
+with_tile flow tile (t ∷ ts) =
+    if nat_lt flow t.0
+    then (flow, tile) ∷ t ∷ ts
+    else if nat_eq flow t.0 then (flow, tile) ∷ ts else t ∷ with_tile flow tile ts
 
 -- Tiles that are listed from the last that came to the first, in order of flow number. Of one flow the last stays.
 abbrev pub in_flow_order : List FlowTile → List FlowTile

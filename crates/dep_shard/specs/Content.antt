@@ -1,4 +1,6 @@
--- What contracts see of a shard: its entries by task, what was written, what trapped, two numbers, and its spares. Source: DAGuE 2012, where an entry counts the dependences that have come; the form of the table is this project's own choice.
+-- What contracts see of a shard: its entries by task, what was written, what trapped, two numbers, and its spares.
+-- Source: DAGuE 2012, where an entry counts the dependences that have come; the form of the table is this project's own
+-- choice.
 use Rattle.std.specs.Prelude.{◌≡◌, ℕ, ◌+◌, ◌<◌, ◌≤◌, ℤ, false, cond, List, [], length, slice_get, slice_index, Option, Some, None}
 use Rattle.std.specs.Map.{lookup}
 use Rattle.std.specs.Option.{unwrap_or}
@@ -98,7 +100,8 @@ tiles_after tiles flow (Some tile) = with_tile flow tile tiles
 
 -- the entry after one more edge has come, into this flow and with this tile
 abbrev pub with_arrival : Entry → ℕ → Option (List ℤ) → Entry
-with_arrival e flow tile = record { goal = e.goal; arrived = e.arrived + 1; priority = e.priority; tiles = tiles_after e.tiles flow tile }
+with_arrival e flow tile =
+    record { goal = e.goal; arrived = e.arrived + 1; priority = e.priority; tiles = tiles_after e.tiles flow tile }
 
 -- what an edge finds: the entry of its target, or a fresh one
 abbrev pub entry_before : Content → Task → ℕ → ℤ → Entry
@@ -136,7 +139,8 @@ pub record HasReadyAt (y : Content) (index : ℕ) : Type 0 where
 
 -- one more edge has come to the entry at this index of old, into this flow and with this tile
 abbrev pub ArrivesAt : Entries → Entries → ℕ → ℕ → Option (List ℤ) → Type 0
-ArrivesAt old new index flow tile = (t : Task) (e : Entry) → slice_get old index ≡ Some (t, e) → Updates old new t (Some (with_arrival e flow tile))
+ArrivesAt old new index flow tile =
+    (t : Task) (e : Entry) → slice_get old index ≡ Some (t, e) → Updates old new t (Some (with_arrival e flow tile))
 
 -- Old has a ready entry of t with these tiles, and new has none: the task runs.
 pub record Takes (old new : Content) (t : Task) (tiles : List FlowTile) : Type 0 where
@@ -200,4 +204,5 @@ pub record IsBest (entries : Entries) (t : Task) : Type 0 where
   pub entry : Entry
   pub is : entry_in entries t ≡ Some entry
   pub ready : IsReady entry
-  pub best : (u : Task) (f : Entry) → entry_in entries u ≡ Some f → IsReady f → is_lt (rank_cmp (entry.priority, t) (f.priority, u)) ≡ false
+  pub best : (u : Task) (f : Entry) → entry_in entries u ≡ Some f → IsReady f
+      → is_lt (rank_cmp (entry.priority, t) (f.priority, u)) ≡ false

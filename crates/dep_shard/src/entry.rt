@@ -25,7 +25,8 @@ impl Model for Entry {
 
     ghost Value = { EntryContent };
 
-    ghost view = { λ e. record { goal = e.goal; arrived = e.arrived; priority = e.priority; tiles = in_flow_order e.tiles } };
+    ghost view = { λ e.
+        record { goal = e.goal; arrived = e.arrived; priority = e.priority; tiles = in_flow_order e.tiles } };
 
     ghost invariant = { λ e. e.goal < 2 ^ 32 };
 }

@@ -37,8 +37,8 @@ pub enum Arrived {
 
 /// One shard of the dependency table: the entries of its unclaimed tasks, what its tasks wrote back, and which trapped.
 ///
-/// An addition within the spares cannot be refused. Without spares an addition takes memory as it needs it; one that is refused lowers
-/// no spares.
+/// An addition within the spares cannot be refused. Without spares an addition takes memory as it needs it; one that is
+/// refused lowers no spares.
 #[derive(Drop)]
 pub struct Shard {
     table: Table,
@@ -61,9 +61,24 @@ impl Model for Shard {
 
     ghost Value = { Content };
 
-    ghost view = { λ s. record { entries = s.table.entries; written = s.written.items; trapped = s.trapped.items; running = s.running; ended = s.ended; elems = s.stock.elems; spare = record { entries = min (spare s.table) (heap_capacity s.queue - heap_len s.queue - s.waiting); tiles = s.stock.spare; writes = vec_capacity s.written - vec_len s.written; traps = vec_capacity s.trapped - vec_len s.trapped } } };
+    ghost view = { λ s.
+        record {
+          entries = s.table.entries;
+          written = s.written.items;
+          trapped = s.trapped.items;
+          running = s.running;
+          ended = s.ended;
+          elems = s.stock.elems;
+          spare = record {
+            entries = min (spare s.table) (heap_capacity s.queue - heap_len s.queue - s.waiting);
+            tiles = s.stock.spare;
+            writes = vec_capacity s.written - vec_len s.written;
+            traps = vec_capacity s.trapped - vec_len s.trapped;
+          };
+        } };
 
-    ghost invariant = { λ s. IsQueueOf s.table.entries (heap_items s.queue) (heap_len s.queue) (heap_capacity s.queue) s.waiting };
+    ghost invariant = { λ s.
+        IsQueueOf s.table.entries (heap_items s.queue) (heap_len s.queue) (heap_capacity s.queue) s.waiting };
 }
 
 impl Shard {
@@ -206,13 +221,23 @@ impl Shard {
         requires goal { 0 < goal }
         requires waits { IsWaiting (entry_before self.old edge.now.to goal priority) }
         requires tile { IfSome (option_copied tile) (λ t. IsTileOf self.old.elems datatype t) }
-        ensures ok { OnOk result (Updates self.old.entries self.new.entries edge.now.to (Some (with_arrival (entry_before self.old edge.now.to goal priority) edge.now.in_flow (option_copied tile.entry)))) }
-        ensures fired { IfOk result (λ a. (a ≡ Fired) ↔ IsReady (with_arrival (entry_before self.old edge.now.to goal priority) edge.now.in_flow (option_copied tile.entry))) }
+        ensures ok { OnOk result
+            (Updates self.old.entries self.new.entries edge.now.to
+            (Some
+            (with_arrival (entry_before self.old edge.now.to goal priority) edge.now.in_flow
+            (option_copied tile.entry)))) }
+        ensures fired { IfOk result (λ a.
+            (a ≡ Fired)
+            ↔ IsReady
+            (with_arrival (entry_before self.old edge.now.to goal priority) edge.now.in_flow
+            (option_copied tile.entry))) }
         ensures err { OnErr result (self.new.entries ≡ self.old.entries) }
         ensures rest { KeepsAllButEntries self.old self.new }
-        ensures spare { Uses self.old.spare self.new.spare (if is_some (entry_of self.old edge.now.to) then 0 else 1) (if is_some tile.entry then Some datatype else None) 0 0 }
+        ensures spare { Uses self.old.spare self.new.spare (if is_some (entry_of self.old edge.now.to) then 0 else 1)
+            (if is_some tile.entry then Some datatype else None) 0 0 }
         ensures kept { OnErr result (Uses self.old.spare self.new.spare 0 None 0 0) }
-        ensures succeeds { (entry_of self.old edge.now.to ≡ None → 0 < self.old.spare.entries) → (IsSome tile.entry → 0 < slice_index self.old.spare.tiles datatype) → IsOk result }
+        ensures succeeds { (entry_of self.old edge.now.to ≡ None → 0 < self.old.spare.entries)
+            → (IsSome tile.entry → 0 < slice_index self.old.spare.tiles datatype) → IsOk result }
     {
         match self.index_of(&edge.to) {
             Some(index) => self.arrive_at(index, edge.in_flow, datatype, tile),
@@ -233,7 +258,9 @@ impl Shard {
         requires waits { HasWaitingAt self.old index }
         requires tile { IfSome (option_copied tile) (λ t. IsTileOf self.old.elems datatype t) }
         ensures ok { OnOk result (ArrivesAt self.old.entries self.new.entries index flow (option_copied tile.entry)) }
-        ensures fired { IfOk result (λ a. (t : Task) (e : EntryContent) → slice_get self.old.entries index ≡ Some (t, e) → (a ≡ Fired) ↔ IsReady (with_arrival e flow (option_copied tile.entry))) }
+        ensures fired { IfOk result (λ a.
+            (t : Task) (e : EntryContent) → slice_get self.old.entries index ≡ Some (t, e)
+            → (a ≡ Fired) ↔ IsReady (with_arrival e flow (option_copied tile.entry))) }
         ensures err { OnErr result (self.new.entries ≡ self.old.entries) }
         ensures rest { KeepsAllButEntries self.old self.new }
         ensures spare { Uses self.old.spare self.new.spare 0 (if is_some tile.entry then Some datatype else None) 0 0 }
@@ -258,13 +285,17 @@ impl Shard {
         requires goal { 0 < goal }
         requires new { entry_of self.old edge.now.to ≡ None }
         requires tile { IfSome (option_copied tile) (λ t. IsTileOf self.old.elems datatype t) }
-        ensures ok { OnOk result (Updates self.old.entries self.new.entries edge.now.to (Some (with_arrival (fresh goal priority) edge.now.in_flow (option_copied tile.entry)))) }
-        ensures fired { IfOk result (λ a. (a ≡ Fired) ↔ IsReady (with_arrival (fresh goal priority) edge.now.in_flow (option_copied tile.entry))) }
+        ensures ok { OnOk result
+            (Updates self.old.entries self.new.entries edge.now.to
+            (Some (with_arrival (fresh goal priority) edge.now.in_flow (option_copied tile.entry)))) }
+        ensures fired { IfOk result (λ a.
+            (a ≡ Fired) ↔ IsReady (with_arrival (fresh goal priority) edge.now.in_flow (option_copied tile.entry))) }
         ensures err { OnErr result (self.new.entries ≡ self.old.entries) }
         ensures rest { KeepsAllButEntries self.old self.new }
         ensures spare { Uses self.old.spare self.new.spare 1 (if is_some tile.entry then Some datatype else None) 0 0 }
         ensures kept { OnErr result (Uses self.old.spare self.new.spare 0 None 0 0) }
-        ensures succeeds { 0 < self.old.spare.entries → (IsSome tile.entry → 0 < slice_index self.old.spare.tiles datatype) → IsOk result }
+        ensures succeeds { 0 < self.old.spare.entries
+            → (IsSome tile.entry → 0 < slice_index self.old.spare.tiles datatype) → IsOk result }
     {
         self.reserve_entries(1)?;
         let copied = self.copy_in(datatype, tile)?;
@@ -293,7 +324,8 @@ impl Shard {
         requires flow { flow < 8 }
         requires waits { HasWaitingAt self.old index }
         ensures entries { ArrivesAt self.old.entries self.new.entries index flow (option_map (λ m. m.0) tile) }
-        ensures fired { (t : Task) (e : EntryContent) → slice_get self.old.entries index ≡ Some (t, e) → (result ≡ Fired) ↔ IsReady (with_arrival e flow (option_map (λ m. m.0) tile)) }
+        ensures fired { (t : Task) (e : EntryContent) → slice_get self.old.entries index ≡ Some (t, e)
+            → (result ≡ Fired) ↔ IsReady (with_arrival e flow (option_map (λ m. m.0) tile)) }
         ensures rest { KeepsAllButEntries self.old self.new }
         ensures spare { Uses self.old.spare self.new.spare 0 None 0 0 }
     {
@@ -328,7 +360,8 @@ impl Shard {
 
     // Whether the entry at this index is ready.
     fn is_ready_at(&self, index: usize) -> bool
-        ensures { (t : Task) (e : EntryContent) → slice_get self.now.entries index ≡ Some (t, e) → IsTrue result ↔ IsReady e }
+        ensures { (t : Task) (e : EntryContent) → slice_get self.now.entries index ≡ Some (t, e)
+            → IsTrue result ↔ IsReady e }
     {
         match self.table.get_index(index) {
             Some((_task, entry)) => entry.arrived() == entry.goal(),
@@ -341,7 +374,8 @@ impl Shard {
         requires running { self.old.running < 1000000 }
         requires ready { HasReadyAt self.old index }
         ensures there { IsSome result }
-        ensures some { IfSome result (λ tiles. (t : Task) → IsEntryAt self.old t index → Takes self.old self.new t tiles) }
+        ensures some { IfSome result (λ tiles.
+            (t : Task) → IsEntryAt self.old t index → Takes self.old self.new t tiles) }
         ensures spare { Uses self.old.spare self.new.spare 0 None 0 0 }
     {
         let (_task, entry) = self.table.swap_remove_index(index)?;
@@ -394,8 +428,8 @@ impl Shard {
         self.ended += 1;
     }
 
-    /// Keeps the tiles of a task that has ended for later edges and write-backs, as far as there is room among the spare
-    /// tiles that were used. What contracts see stays, but for spares that grow.
+    /// Keeps the tiles of a task that has ended for later edges and write-backs, as far as there is room among the
+    /// spare tiles that were used. What contracts see stays, but for spares that grow.
     pub fn reuse(&mut self, spent: &mut Arrivals)
         ensures same { IsUnchanged self.old self.new }
         ensures spare { Uses self.old.spare self.new.spare 0 None 0 0 }

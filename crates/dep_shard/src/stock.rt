@@ -134,7 +134,11 @@ impl Model for Stock {
 
     ghost Value = { AllTiles };
 
-    ghost view = { λ s. record { elems = map (λ (t : TypeTiles). t.elems) s.types.items; spare = map (λ (t : TypeTiles). t.spare) s.types.items } };
+    ghost view = { λ s.
+        record {
+          elems = map (λ (t : TypeTiles). t.elems) s.types.items;
+          spare = map (λ (t : TypeTiles). t.spare) s.types.items;
+        } };
 }
 
 impl Stock {

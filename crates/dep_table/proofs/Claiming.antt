@@ -1,11 +1,11 @@
 -- A claim on a turn: what allows it, and the pass after it.
 use Rattle.std.proofs.Common.{◌≡◌, ℕ, ◌<◌, List, [], ◌∷◌, ◌++◌, length, sym, ap, ◌∙◌, subst, refl, arith, inl, inr, Some}
-use Rattle.range_space.proofs.MemberLists.{IsIn-append_left, IsIn-append_right, from_append}
+use Rattle.list_lemmas.proofs.Members.{IsIn-append_left, IsIn-append_right, from_append}
 use Rattle.ptg_base.specs.Task.{Task}
 use Rattle.ptg_base.specs.TaskComparing.{same_task}
 use Rattle.dep_shard.specs.Arrivals.{FlowTile}
 use Rattle.dep_shard.specs.Content.{Content, Entry, Takes, entry_in, entry_of}
-use Rattle.flow_meaning.specs.Counting.{as_number}
+use Rattle.list_lemmas.specs.Counting.{as_number}
 use Rattle.shard_meaning.proofs.Holding.{numbers_with_entry, ready_may}
 use Rattle.work_board.specs.Claims.{FoundGone, HasClaimed, HasNoReadyOf, MayStart}
 use Rattle.work_board.specs.Records.{IsClean}

@@ -1,6 +1,6 @@
 -- How passes are joined, and the shards of a table that was closed.
-use Rattle.std.proofs.Common.{◌≡◌, ℕ, zero, suc, ◌+◌, ◌<◌, List, [], ◌∷◌, ◌++◌, length, map, take, sym, refl, ap, ◌∙◌, subst, arith, Some, slice_get, ◌⊎◌, inl, inr, Bool, true, false, ◌||◌}
-use Rattle.std.proofs.lemmas.List.{append-nil}
+use Rattle.std.proofs.Common.{◌≡◌, ℕ, zero, suc, ◌+◌, ◌<◌, List, [], ◌∷◌, ◌++◌, length, map, take, sym, refl, ap, ◌∙◌, subst, arith, Some, slice_get, ◌⊎◌, inl, inr, true, ◌||◌}
+use Rattle.std.proofs.lemmas.List.{append-nil, map-append}
 use Rattle.std.specs.List.{flat_map}
 use mathlib.Core.Option.{some, some-injective, some-ne-none}
 use lib.ListN.{get_elem?}
@@ -8,11 +8,12 @@ use Rattle.atomic_table.specs.Seated.{TableId}
 use Rattle.atomic_table.specs.Table.{Final, Seen}
 use Rattle.ptg_base.specs.Lists.{IsIn}
 use Rattle.ptg_base.specs.Task.{Task}
-use Rattle.range_space.proofs.MemberLists.{IsIn-append_left, IsIn-append_right, from_append}
-use Rattle.dep_iter.proofs.Joining.{map-append}
+use Rattle.list_lemmas.proofs.Members.{IsIn-append_left, IsIn-append_right, from_append}
+use Rattle.list_lemmas.proofs.Counts.{weigh-append}
+use Rattle.std.proofs.lemmas.Bool.{or_right}
+use Rattle.std.proofs.lemmas.Option.{slice_get_within}
 use Rattle.dep_shard.specs.Content.{Content}
-use Rattle.flow_meaning.specs.Counting.{HasSameMembers, weigh}
-use Rattle.flow_meaning.proofs.Counting.{weigh-append}
+use Rattle.list_lemmas.specs.Counting.{HasSameMembers, weigh}
 use Rattle.work_board.specs.declared.record.PassRecord.{PassRecord}
 use Rattle.table_rule.specs.declared.job.Job.{Job}
 use Rattle.table_rule.specs.Changes.{both}
@@ -96,10 +97,6 @@ joined_first table ps left p is a =
       quiet = λ q i k. left_or_last q left p k (subst (IsIn q) is i);
     }
 
-either : (a b : Bool) → b ≡ true → (a || b) ≡ true
-either true b e = refl
-either false b e = e
-
 -- one pass more
 pub joined_next : (table : TableId) (ps before left : List PassView) (p last new : PassView) → before ≡ left ++ p ∷ [] → new.table ≡ p.table → new.me ≡ (both (shown p) (shown last), p.me.1) → IsJoinedSoFar table ps before last → IsJoinedSoFar table ps left new
 joined_next table ps before left p last new is of me a =
@@ -124,7 +121,7 @@ joined_next table ps before left p last new is of me a =
           | inl still ↦ inl still
           | inr one ↦ inr (ap (λ (v : PassRecord). v.quiet) now ∙ ap (λ b. b || (shown last).quiet) one)
         ]
-        | inr other ↦ inr (ap (λ (v : PassRecord). v.quiet) now ∙ either (shown p).quiet (shown last).quiet other)
+        | inr other ↦ inr (ap (λ (v : PassRecord). v.quiet) now ∙ or_right (shown p).quiet (shown last).quiet other)
       ];
     }
 
@@ -133,11 +130,6 @@ same_get : {A : Type 0} (xs : List A) (k : ℕ) (y z : A) → slice_get xs k ≡
 same_get [] k y z e h = absurd (some-ne-none z (sym h))
 same_get (x ∷ xs) zero y z e h = let q : x ≡ y = cc in sym (some-injective x z h) ∙ q
 same_get (x ∷ xs) (suc k) y z e h = same_get xs k y z e h
-
-get_below : {A : Type 0} (xs : List A) (k : ℕ) (y : A) → slice_get xs k ≡ Some y → k < length xs
-get_below [] k y e = absurd cc
-get_below (x ∷ xs) zero y e = omega arith
-get_below (x ∷ xs) (suc k) y e = omega (arith, get_below xs k y e)
 
 next_taken : {A : Type 0} (xs : List A) (k : ℕ) (y : A) → get_elem? xs k ≡ some y → take (suc k) xs ≡ take k xs ++ y ∷ []
 next_taken [] k y e = absurd (some-ne-none y (sym e))
@@ -164,7 +156,7 @@ closes j id v ws xs ys all none f same =
       finished = p.finished;
       shares = λ k y e.
           let e' : slice_get xs k ≡ Some y = subst (λ l. slice_get l k ≡ Some y) same e in
-          let near : k < length xs = get_below xs k y e' in
+          let near : k < length xs = slice_get_within xs k y e' in
           let home = p.at_rest k (omega (arith, f.3)) (alone_free j f.0 id v f.1.0 f.1.1 all none k (omega (arith, f.3, p.slots))) in
           subst (Share j (moment_of v) k) (same_get xs k y home.0 e' (f.4 k home.0 home.1)) home.2;
     }

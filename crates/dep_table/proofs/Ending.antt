@@ -6,8 +6,8 @@ use Rattle.ptg_base.specs.TaskComparing.{same_task}
 use Rattle.ptg_base.specs.TaskLaws.{same_task-decides}
 use Rattle.dep_shard.specs.Content.{Content, Ends, KeepsEntriesAndWritten, Uses}
 use Rattle.term_core.specs.declared.trap.Trap.{Trap}
-use Rattle.flow_meaning.specs.Counting.{as_number, weigh}
-use Rattle.flow_meaning.proofs.Counting.{weigh-push}
+use Rattle.list_lemmas.specs.Counting.{as_number, weigh}
+use Rattle.list_lemmas.proofs.Counts.{weigh-push}
 use Rattle.shard_meaning.proofs.Holding.{numbers_at_most, some_runs}
 use Rattle.work_board.specs.Records.{IsClean}
 use Rattle.work_board.specs.Sends.{HasEnded, MayEnd, MayTrap}

@@ -11,7 +11,6 @@ pub mod StampOrders
 pub mod Closings
 pub mod Clean
 pub mod StepsAt
-pub mod Sums
 pub mod Turns
 pub mod Claiming
 pub mod Ending

@@ -9,8 +9,10 @@ use Rattle.ptg_base.specs.declared.edge.Edge.{Edge}
 use Rattle.ptg_base.specs.declared.edge.WriteBack.{WriteBack}
 use Rattle.ptg_base.specs.declared.edge.Item.{Item}
 use Rattle.ptg_base.specs.declared.edge.Item.TheVariants as item
-use Rattle.range_space.proofs.MemberLists.{IsIn-flat_map, IsIn-map, from_flat_map, from_map}
-use Rattle.range_space.proofs.Stepping.{by_test}
+use Rattle.list_lemmas.proofs.Members.{IsIn-flat_map, IsIn-map, from_flat_map, from_map}
+use Rattle.list_lemmas.proofs.Truth.{by_test}
+use Rattle.list_lemmas.proofs.Counts.{count-le, count-some, one_le, some_passes, weigh-append, same_counts}
+use Rattle.list_lemmas.proofs.Distinct.{HasNoRepeats-from_map}
 use Rattle.plan_core.specs.declared.plan.Plan.{Plan}
 use Rattle.coll_data.specs.Data.{Data}
 use Rattle.dep_shard.specs.Content.{Content}
@@ -20,20 +22,17 @@ use Rattle.dep_iter.specs.Tasks.{IsTask, all_tasks}
 use Rattle.dep_iter.proofs.Listing.{listed}
 use Rattle.flow_meaning.specs.Backward.{ended}
 use Rattle.flow_meaning.specs.Comparing.{same_edge, same_item}
-use Rattle.flow_meaning.specs.Counting.{as_number, count}
+use Rattle.list_lemmas.specs.Counting.{as_number, count}
 use Rattle.flow_meaning.specs.Ending.{has_outputs}
 use Rattle.flow_meaning.specs.Machine.{IsQuiescent, MachineState, Sent, same_sent, same_tile, sender}
 use Rattle.flow_meaning.specs.Sound.{IsSoundState}
 use Rattle.flow_meaning.proofs.Comparing.{same_edge-decides, same_item-decides}
-use Rattle.flow_meaning.proofs.Counting.{count-le, count-some, one_le, some_passes, weigh-append}
-use Rattle.flow_meaning.proofs.Counts.{same_counts}
 use Rattle.flow_meaning.proofs.Events.{has_inputs, send_member}
 use Rattle.flow_meaning.proofs.Once.{claims_members}
 use Rattle.flow_meaning.proofs.Quiet.{sent_are_items}
 use Rattle.flow_meaning.proofs.Reordering.{same_sent-decides}
 use Rattle.flow_meaning.proofs.Rest.{item_sender}
 use Rattle.shard_meaning.specs.Moment.{Moment}
-use Rattle.shard_meaning.proofs.Listing.{distinct-from_map}
 use Rattle.table_rule.specs.declared.job.Job.{Job}
 use Rattle.dep_table.specs.ClosedMeaning.{HasTheMeaning, all_sent, sent_by, with_its_tile}
 use Rattle.dep_table.specs.Closing.{HaveNoWork, IsClosedAt}
@@ -98,7 +97,7 @@ module _ (P : Plan) where
   items_once : IsConsistent P → (i : Item) → count (same_item i) (all_items P) ≤ 1
   items_once con (item.Edge e) = omega (arith, edges_of e (all_tasks P), once same_edge (λ a b k. (same_edge-decides a b).0 k) (all_out P) con.no_out_edge_twice e)
   items_once con (item.Write w) =
-      omega (arith, writes_of w (all_tasks P), once same_write one_write (all_writes P) (distinct-from_map (λ (v : WriteBack). v.place) (all_writes P) con.written_once) w)
+      omega (arith, writes_of w (all_tasks P), once same_write one_write (all_writes P) (HasNoRepeats-from_map (λ (v : WriteBack). v.place) (all_writes P) con.written_once) w)
 
   module _ (G : Data) where
     -- what is sent is at most the items

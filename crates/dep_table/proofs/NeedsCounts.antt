@@ -1,6 +1,5 @@
 -- What shards need, counted task by task.
-use Rattle.std.proofs.Common.{◌≡◌, ◌≢◌, ℕ, ◌+◌, ◌&&◌, Bool, true, false, cond, List, [], ◌∷◌, ◌++◌, length, refl, ap, sym, ◌∙◌, inl, inr, arith, eq-eqb, ne_eqb, append_assoc}
-use Rattle.std.proofs.lemmas.List.{append-nil}
+use Rattle.std.proofs.Common.{◌≡◌, ◌≢◌, ℕ, ◌+◌, ◌&&◌, Bool, true, false, cond, List, [], ◌∷◌, ◌++◌, length, refl, ap, sym, ◌∙◌, inl, inr, arith, eq-eqb, ne_eqb}
 use Rattle.std.specs.List.{filter, flat_map, filter_map}
 use Rattle.ptg_base.specs.Lists.{IsIn}
 use Rattle.ptg_base.specs.Task.{Task}
@@ -12,21 +11,17 @@ use Rattle.plan_core.specs.declared.plan.Plan.{Plan}
 use Rattle.dep_iter.specs.Consistent.{is_data_edge}
 use Rattle.dep_iter.specs.Edges.{in_edges}
 use Rattle.dep_iter.specs.Items.{items, write_backs, write_of}
-use Rattle.flow_meaning.specs.Counting.{as_number, count, weigh}
-use Rattle.flow_meaning.proofs.Counting.{count-all, weigh-append, weigh-push}
+use Rattle.list_lemmas.specs.Counting.{as_number, count, weigh}
+use Rattle.list_lemmas.proofs.Counts.{count-all, weigh-append, weigh-push, count-same, weigh-zero}
+use Rattle.list_lemmas.proofs.Members.{IsIn-filter}
+use Rattle.list_lemmas.proofs.Joins.{flat_map_push}
 use Rattle.flow_meaning.proofs.Members.{in_edge_to}
-use Rattle.flow_meaning.proofs.Quiet.{filtered}
 use Rattle.flow_meaning.proofs.Rest.{item_sender}
 use Rattle.shard_meaning.specs.Opening.{is_edge_to, is_to_enter, is_write_from}
 use Rattle.shard_meaning.specs.Reserve.{is_edge_of_type, is_write_of_type}
 use Rattle.shard_meaning.specs.Share.{Placement, is_of}
-use Rattle.shard_meaning.proofs.Listing.{count-same, weigh-zero}
 use Rattle.dep_table.specs.declared.needs.Needs.{Needs}
 use Rattle.dep_table.specs.Needs.{AddsTask, IsNeedOf, data_into, edge_tiles, has_edges, write_tiles, writes_of}
-
-flat_push : {A B : Type 0} (f : A → List B) (xs : List A) (x : A) → flat_map f (xs ++ x ∷ []) ≡ flat_map f xs ++ f x
-flat_push f [] x = append-nil (f x)
-flat_push f (y ∷ ys) x = ap (λ l. f y ++ l) (flat_push f ys x) ∙ sym (append_assoc (f y) (flat_map f ys) (f x))
 
 -- a count over what a filter leaves
 pub count-filter : {A : Type 0} (test keep : A → Bool) (xs ys : List A) → count test (filter keep (xs ++ ys)) ≡ count test (filter keep xs) + count test (filter keep ys)
@@ -50,14 +45,14 @@ write_from P t w i = item_sender P t (item.Write w) (write_item (items P t) w i)
 module _ (P : Plan) (of : Placement) (k : ℕ) (t : Task) where
   edges_more : (done : List Task) (d : ℕ) → count (is_edge_to P of k d) (data_into P (done ++ t ∷ [])) ≡ count (is_edge_to P of k d) (data_into P done) + count (is_edge_to P of k d) (filter (is_data_edge P) (in_edges P t))
   edges_more done d =
-      ap (λ l. count (is_edge_to P of k d) (filter (is_data_edge P) l)) (flat_push (in_edges P) done t)
+      ap (λ l. count (is_edge_to P of k d) (filter (is_data_edge P) l)) (flat_map_push (in_edges P) done t)
       ∙ count-filter (is_edge_to P of k d) (is_data_edge P) (flat_map (in_edges P) done) (in_edges P t)
 
   writes_more : (f : WriteBack → ℕ) (done : List Task) → weigh f (writes_of P (done ++ t ∷ [])) ≡ weigh f (writes_of P done) + weigh f (write_backs P t)
-  writes_more f done = ap (weigh f) (flat_push (write_backs P) done t) ∙ weigh-append f (flat_map (write_backs P) done) (write_backs P t)
+  writes_more f done = ap (weigh f) (flat_map_push (write_backs P) done t) ∙ weigh-append f (flat_map (write_backs P) done) (write_backs P t)
 
   to : (e : Edge) → IsIn e (filter (is_data_edge P) (in_edges P t)) → e.to ≡ t
-  to e i = in_edge_to P t e ((filtered (is_data_edge P) (in_edges P t) e).0 i).0
+  to e i = in_edge_to P t e ((IsIn-filter (is_data_edge P) (in_edges P t) e).0 i).0
 
   -- the shard of the task needs this for it
   module _ (own : of t ≡ k) where

@@ -1,11 +1,13 @@
 -- The tiles that come to a task by edges, counted flow by flow.
-use Rattle.std.proofs.Common.{◌≡◌, ◌≢◌, ℕ, suc, ◌+◌, ◌-◌, ◌<◌, ◌≤◌, ◌==◌, nat_lt, ℤ, Bool, true, false, cond, ◌&&◌, ◌⊎◌, List, [], ◌∷◌, ◌++◌, length, refl, ap, sym, ◌∙◌, subst, add-zero, Option, Some, None, slice_get, inl, inr, arith, eqb-true, eq-eqb, ltb-true, ltb-false, ne_eqb, lt-ltb, le-ltb}
-use Rattle.std.proofs.lemmas.Bool.{cases_eq}
-use Rattle.std.specs.List.{filter, flat_map}
+use Rattle.std.proofs.Common.{◌≡◌, ◌≢◌, ℕ, suc, ◌+◌, ◌-◌, ◌<◌, ◌==◌, nat_lt, ℤ, Bool, true, false, cond, ◌&&◌, List, [], ◌∷◌, length, refl, ap, sym, ◌∙◌, subst, add-zero, Option, Some, None, slice_get, inl, inr, arith, eqb-true, eq-eqb, ne_eqb, lt-ltb, le-ltb}
+use Rattle.std.proofs.lemmas.Bool.{cases_eq, cases_lt}
+use Rattle.std.specs.List.{filter}
 use Rattle.ptg_base.specs.Lists.{HasNoRepeats, IsIn}
 use Rattle.ptg_base.specs.Task.{Task}
 use Rattle.ptg_base.specs.declared.edge.Edge.{Edge}
-use Rattle.range_space.proofs.MemberLists.{IsIn-append_left}
+use Rattle.list_lemmas.proofs.Counts.{weigh-same, weigh-zero}
+use Rattle.list_lemmas.proofs.Places.{place_of_member}
+use Rattle.list_lemmas.proofs.Distinct.{HasNoRepeats-part}
 use Rattle.plan_core.specs.declared.flow.FlowPlan.{FlowPlan}
 use Rattle.plan_core.specs.declared.plan.Plan.{Plan}
 use Rattle.plan_core.specs.declared.target.Target.{Target}
@@ -18,12 +20,11 @@ use Rattle.dep_iter.specs.Consistent.{IsConsistent, is_data_edge}
 use Rattle.dep_iter.specs.Edges.{data_source, in_edges, source_among}
 use Rattle.dep_iter.specs.Tasks.{IsTask, all_tasks, flows_of, locals_of}
 use Rattle.dep_iter.proofs.Listing.{listed}
-use Rattle.flow_meaning.specs.Counting.{as_number, count, weigh}
+use Rattle.list_lemmas.specs.Counting.{as_number, count, weigh}
 use Rattle.flow_meaning.proofs.Members.{in_edge_to}
 use Rattle.flow_meaning.proofs.SourceEdges.{only_source, source_at_flow, source_in}
 use Rattle.shard_meaning.specs.Reserve.{is_edge_of_type}
 use Rattle.shard_meaning.proofs.Destinations.{flow_is}
-use Rattle.shard_meaning.proofs.Listing.{weigh-same, weigh-zero}
 use Rattle.dep_table.specs.Needs.{begins_with_edge, edge_tiles, flow_tiles, flows_tiles}
 use Rattle.dep_table.proofs.NeedsOne.{carried, known}
 
@@ -43,33 +44,9 @@ count-once test (y ∷ ys) x once i passes only = elim i [
       omega (arith, first, count-once test ys x once.1 j passes (λ z k t. only z (inr k) t))
 ]
 
-once_left : {A : Type 0} (xs ys : List A) → HasNoRepeats (xs ++ ys) → HasNoRepeats xs
-once_left [] ys h = tt
-once_left (x ∷ xs) ys h = ((λ i. h.0 (IsIn-append_left x xs ys i)), once_left xs ys h.1)
-
-once_right : {A : Type 0} (xs ys : List A) → HasNoRepeats (xs ++ ys) → HasNoRepeats ys
-once_right [] ys h = h
-once_right (x ∷ xs) ys h = once_right xs ys h.1
-
--- of lists that are joined without repeats none has any
-once_part : {A B : Type 0} (f : A → List B) (xs : List A) → HasNoRepeats (flat_map f xs) → (x : A) → IsIn x xs → HasNoRepeats (f x)
-once_part f [] h x i = absurd i
-once_part f (y ∷ ys) h x i = elim i [
-  | inl e ↦ subst (λ z. HasNoRepeats (f z)) (sym e) (once_left (f y) (flat_map f ys) h)
-  | inr t ↦ once_part f ys (once_right (f y) (flat_map f ys) h) x t
-]
-
--- where a member is
-place_in : {A : Type 0} (xs : List A) (x : A) → IsIn x xs → (n : ℕ) × (slice_get xs n ≡ Some x)
-place_in [] x i = absurd i
-place_in (y ∷ ys) x i = elim i [
-  | inl e ↦ (0, ap (λ z. Some z) (sym e))
-  | inr j ↦ let p = place_in ys x j in (suc p.0, p.1)
-]
-
 -- the types of the flows of a task are types of the plan
 pub known_types : (P : Plan) (t : Task) → IsTask P t → (f : FlowPlan) → IsIn f (flows_of P t) → f.datatype < length P.elems
-known_types P t job f i = let p = place_in (flows_of P t) f i in known P t p.0 f job p.1
+known_types P t job f i = let p = place_of_member (flows_of P t) f i in known P t p.0 f job p.1
 
 -- of edges, those into flow n weigh so much, and those into flow n and later ones as much as their flows
 abbrev into : ℕ → Edge → Bool
@@ -81,15 +58,8 @@ at_flow c n e = cond (e.in_flow == n) (c n) 0
 abbrev from_flow : (ℕ → ℕ) → ℕ → Edge → ℕ
 from_flow c n e = cond (nat_lt e.in_flow n) 0 (c e.in_flow)
 
-lt_or : (a b : ℕ) → (a < b) ⊎ (b ≤ a)
-lt_or a b = by (nat_lt a b) refl
-  where
-    by : (t : Bool) → nat_lt a b ≡ t → (a < b) ⊎ (b ≤ a)
-    by true e = inl (ltb-true a b e)
-    by false e = inr (ltb-false a b e)
-
 not_later : (n m : ℕ) → m ≢ n → nat_lt m (suc n) ≡ nat_lt m n
-not_later n m other = elim (lt_or m n) [
+not_later n m other = elim (cases_lt m n) [
   | inl lt ↦ lt-ltb m (suc n) (omega (arith, lt)) ∙ sym (lt-ltb m n lt)
   | inr ge ↦ le-ltb m (suc n) (omega (arith, ge, other)) ∙ sym (le-ltb m n ge)
 ]
@@ -154,7 +124,7 @@ module _ (P : Plan) (con : IsConsistent P) (t : Task) (job : IsTask P t) where
     one_comes : (d : Edge) → data_source P t n ≡ source.Task d → count (into n) (in_edges P t) ≡ 1
     one_comes d is =
         let well = (con.connected t job).well in
-        let distinct = once_part (in_edges P) (all_tasks P) con.no_in_edge_twice t ((listed P t).0 job) in
+        let distinct = HasNoRepeats-part (in_edges P) (all_tasks P) con.no_in_edge_twice t ((listed P t).0 job) in
         count-once (into n) (in_edges P t) d distinct (source_in P t job well n f here carries d is) (eq-eqb d.in_flow n (source_at_flow P t job well n f here carries d is))
         (λ e i at. same_edge e d (sym (comes_from e i at) ∙ is))
 
@@ -182,7 +152,7 @@ module _ (P : Plan) (con : IsConsistent P) (t : Task) (job : IsTask P t) where
 
     -- those of flows from the nth on
     from_on : (n : ℕ) (fs : List FlowPlan) → ((i : ℕ) → slice_get (flows_of P t) (n + i) ≡ slice_get fs i) → weigh (from_flow tiles_at n) (in_edges P t) ≡ flows_tiles (locals_of P t) fs d
-    from_on n [] at = weigh-zero (from_flow tiles_at n) (in_edges P t) (λ e i. elim (lt_or e.in_flow n) [
+    from_on n [] at = weigh-zero (from_flow tiles_at n) (in_edges P t) (λ e i. elim (cases_lt e.in_flow n) [
       | inl lt ↦ ap (λ b. cond b 0 (tiles_at e.in_flow)) (lt-ltb e.in_flow n lt)
       | inr ge ↦
           let split : n + (e.in_flow - n) ≡ e.in_flow = omega (arith, ge) in

@@ -1,5 +1,5 @@
 -- That the counts of what shards need stay small: the needs of all tasks of a job are at most some millions.
-use Rattle.std.proofs.Common.{◌≡◌, ℕ, suc, ◌+◌, ◌<◌, ◌≤◌, Bool, true, false, cond, List, [], ◌∷◌, ◌++◌, length, refl, ap, sym, ◌∙◌, slice_get, inl, inr, arith, append_assoc, length-append}
+use Rattle.std.proofs.Common.{◌≡◌, ℕ, ◌+◌, ◌<◌, ◌≤◌, Bool, true, false, cond, List, [], ◌∷◌, ◌++◌, length, ap, sym, ◌∙◌, slice_get, inl, inr, arith, length-append}
 use Rattle.std.proofs.lemmas.Bool.{cases_eq}
 use Rattle.std.specs.List.{filter, filter_map, flat_map}
 use Rattle.ptg_base.specs.Task.{Task}
@@ -11,30 +11,20 @@ use Rattle.dep_iter.specs.Consistent.{IsConsistent, all_in, all_writes, is_data_
 use Rattle.dep_iter.specs.Edges.{in_edges}
 use Rattle.dep_iter.specs.Items.{items, write_backs, write_of}
 use Rattle.dep_iter.specs.Tasks.{all_tasks}
-use Rattle.flow_meaning.specs.Counting.{as_number}
-use Rattle.flow_meaning.proofs.Counting.{count-at_most, weigh-append}
+use Rattle.list_lemmas.specs.Counting.{as_number}
+use Rattle.list_lemmas.proofs.Counts.{count-at_most, weigh-append}
+use Rattle.list_lemmas.proofs.Places.{slice_get_there}
+use Rattle.list_lemmas.proofs.Joins.{length-filter_le}
+use Rattle.std.proofs.lemmas.List.Concat.{flat_map-append}
 use Rattle.shard_meaning.specs.Reserve.{is_edge_of_type, is_write_of_type}
 use Rattle.dep_table.specs.declared.needs.Needs.{Needs}
 use Rattle.dep_table.specs.Needs.{AddsTask, AddsTaskAt, AreNoNeeds, HasRoomFor, HaveRoomFor, IsNoNeed, edge_tiles, has_edges, write_tiles, writes_of}
 use Rattle.dep_table.proofs.NeedsCounts.{count-filter}
-use Rattle.dep_table.proofs.TaskWalks.{there_is}
-
-filter-fewer : {A : Type 0} (test : A → Bool) (xs : List A) → length (filter test xs) ≤ length xs
-filter-fewer test [] = omega arith
-filter-fewer {A} test (x ∷ xs) = by (test x) (filter-fewer test xs)
-  where
-    by : (b : Bool) → length (filter test xs) ≤ length xs → length (cond b (x ∷ filter test xs) (filter test xs)) ≤ suc (length xs)
-    by true fewer = omega (arith, fewer)
-    by false fewer = omega (arith, fewer)
 
 writes-fewer : (is : List Item) → length (filter_map write_of is) ≤ length is
 writes-fewer [] = omega arith
 writes-fewer (item.Edge e ∷ is) = omega (arith, writes-fewer is)
 writes-fewer (item.Write w ∷ is) = omega (arith, writes-fewer is)
-
-flat-append : {A B : Type 0} (f : A → List B) (xs ys : List A) → flat_map f (xs ++ ys) ≡ flat_map f xs ++ flat_map f ys
-flat-append f [] ys = refl
-flat-append f (x ∷ xs) ys = ap (λ l. f x ++ l) (flat-append f xs ys) ∙ sym (append_assoc (f x) (flat_map f xs) (flat_map f ys))
 
 module _ (P : Plan) where
   writes_at_most : (ts : List Task) → length (writes_of P ts) ≤ length (flat_map (items P) ts)
@@ -45,13 +35,13 @@ module _ (P : Plan) where
   -- the tiles of edges into two lists of tasks, and of their write-backs
   edges_both : (ts us : List Task) (d : ℕ) → edge_tiles P (flat_map (in_edges P) (ts ++ us)) d ≡ edge_tiles P (flat_map (in_edges P) ts) d + edge_tiles P (flat_map (in_edges P) us) d
   edges_both ts us d =
-      ap (λ l. edge_tiles P l d) (flat-append (in_edges P) ts us) ∙ count-filter (is_edge_of_type P d) (is_data_edge P) (flat_map (in_edges P) ts) (flat_map (in_edges P) us)
+      ap (λ l. edge_tiles P l d) (flat_map-append (in_edges P) ts us) ∙ count-filter (is_edge_of_type P d) (is_data_edge P) (flat_map (in_edges P) ts) (flat_map (in_edges P) us)
 
   writes_both : (ts us : List Task) (d : ℕ) → write_tiles P (writes_of P (ts ++ us)) d ≡ write_tiles P (writes_of P ts) d + write_tiles P (writes_of P us) d
-  writes_both ts us d = ap (λ l. write_tiles P l d) (flat-append (write_backs P) ts us) ∙ weigh-append _ (writes_of P ts) (writes_of P us)
+  writes_both ts us d = ap (λ l. write_tiles P l d) (flat_map-append (write_backs P) ts us) ∙ weigh-append _ (writes_of P ts) (writes_of P us)
 
   places_both : (ts us : List Task) → length (writes_of P (ts ++ us)) ≡ length (writes_of P ts) + length (writes_of P us)
-  places_both ts us = ap length (flat-append (write_backs P) ts us) ∙ length-append (writes_of P ts) (writes_of P us)
+  places_both ts us = ap length (flat_map-append (write_backs P) ts us) ∙ length-append (writes_of P ts) (writes_of P us)
 
   -- the first of some tasks have room, and the later ones
   pub room_first : (ts us : List Task) (n : Needs) → HasRoomFor P (ts ++ us) n → HasRoomFor P ts n
@@ -91,7 +81,7 @@ module _ (P : Plan) where
 
   pub room_task : (t : Task) (k : ℕ) (old new : List Needs) (rest : List Task) → k < length old → AddsTaskAt P t k old new → HaveRoomFor P (t ∷ rest) old → HaveRoomFor P rest new
   room_task t k old new rest near a r i n at =
-      let m = there_is old k near in
+      let m = slice_get_there old k near in
       elim (cases_eq i k) [
         | inl here ↦ room_then t rest m.0 n (r k m.0 m.1) (a.here m.0 n m.1 (ap (slice_get new) (sym here) ∙ at))
         | inr other ↦ room_later (t ∷ []) rest n (r i n (sym (a.others i other) ∙ at))
@@ -106,7 +96,7 @@ module _ (P : Plan) where
           arith,
           z.tiles d,
           count-at_most (is_edge_of_type P d) (filter (is_data_edge P) (all_in P)),
-          filter-fewer (is_data_edge P) (all_in P),
+          length-filter_le (is_data_edge P) (all_in P),
           con.in_edges_at_most,
           count-at_most (is_write_of_type P d) (all_writes P),
           writes_at_most (all_tasks P),

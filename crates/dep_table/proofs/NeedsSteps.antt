@@ -15,8 +15,9 @@ use Rattle.dep_table.specs.Needs.{AddsNeeds, AddsTaskAt, AddsTiles, AreNeedsOf, 
 use Rattle.dep_table.specs.Opened.{AreOpeningShards, HaveOpeningReserve}
 use Rattle.dep_table.proofs.NeedsCounts.{need_other, need_own}
 use Rattle.dep_table.proofs.NeedsRoom.{room_task}
-use Rattle.dep_table.proofs.Opened.{snoc_at}
-use Rattle.dep_table.proofs.TaskWalks.{IsStepwise, below, there_is}
+use Rattle.list_lemmas.proofs.Places.{slice_get_push, slice_get_there}
+use Rattle.std.proofs.lemmas.Option.{slice_get_within}
+use Rattle.dep_table.proofs.TaskWalks.{IsStepwise}
 
 module _ (P : Plan) (of : Placement) where
   needs_none : (a : List Needs) → AddsNeeds P of [] a a
@@ -36,7 +37,7 @@ module _ (P : Plan) (of : Placement) where
   -- what one task needs goes to its shard alone
   pub task_needs : (t : Task) (old new : List Needs) → of t < length old → AddsTaskAt P t (of t) old new → AddsNeeds P of (t ∷ []) old new
   task_needs t old new near a =
-      let m = there_is old (of t) near in record {
+      let m = slice_get_there old (of t) near in record {
         count = a.count;
         types = λ h k n at. elim (cases_eq k (of t)) [
           | inl here ↦ (a.here m.0 n m.1 (ap (slice_get new) (sym here) ∙ at)).types ∙ h (of t) m.0 m.1
@@ -84,7 +85,7 @@ module _ (P : Plan) (of : Placement) where
 pub none_more : (shards types : ℕ) (ns : List Needs) (n : Needs) (new : List Needs) → AreNoNeeds shards types ns → IsNoNeed types n → new ≡ ns ++ n ∷ [] → AreNoNeeds (shards + 1) types new
 none_more shards types ns n new w none is = subst (AreNoNeeds (shards + 1) types) (sym is) (record {
   count = omega (arith, w.count, length-append ns (n ∷ []));
-  each = λ k m at. elim (snoc_at ns n k m at) [ inl before ↦ w.each k m before | inr same ↦ subst (IsNoNeed types) same none ];
+  each = λ k m at. elim (slice_get_push ns n k m at) [ inl before ↦ w.each k m before | inr same ↦ subst (IsNoNeed types) same none ];
 })
 
 -- the shards before this one have the spares that they need
@@ -110,7 +111,7 @@ reserved_more counter ns n old mid new w at r = record {
     some_is a b e = cc
 
 pub all_reserved : (counter : ℕ) (ns : List Needs) (old new : List Content) → length ns ≤ counter → AreReservedBefore counter ns old new → AreReserved ns old new
-all_reserved counter ns old new past w = record { count = w.count; each = λ k n y z is from to. w.before k n y z (omega (arith, past, below ns k n is)) is from to }
+all_reserved counter ns old new past w = record { count = w.count; each = λ k n y z is from to. w.before k n y z (omega (arith, past, slice_get_within ns k n is)) is from to }
 
 module _ (P : Plan) (n : ℕ) where
   -- what the shards need once all tasks were counted
@@ -121,9 +122,9 @@ module _ (P : Plan) (n : ℕ) where
     -- what was a shard before it took its spares, and what it needed
     before : (k : ℕ) (z : Content) → slice_get zs k ≡ Some z → (y : Content) × (m : Needs) × (slice_get ys k ≡ Some y) × (slice_get ns k ≡ Some m)
     before k z at =
-        let lt = below zs k z at in
-        let y = there_is ys k (omega (arith, lt, reserved.count)) in
-        let m = there_is ns k (omega (arith, lt, reserved.count, shards.count, count)) in
+        let lt = slice_get_within zs k z at in
+        let y = slice_get_there ys k (omega (arith, lt, reserved.count)) in
+        let m = slice_get_there ns k (omega (arith, lt, reserved.count, shards.count, count)) in
         (y.0, m.0, y.1, m.1)
 
     pub kept_shards : AreOpeningShards P n zs

@@ -1,5 +1,5 @@
 -- A table that was opened.
-use Rattle.std.proofs.Common.{◌≡◌, ℕ, zero, suc, ◌+◌, ◌<◌, ◌≤◌, ◌==◌, true, List, [], ◌∷◌, ◌++◌, length, refl, ap, sym, ◌∙◌, subst, Some, None, slice_get, ◌⊎◌, inl, inr, arith, length-append, eq-eqb, ne_eqb}
+use Rattle.std.proofs.Common.{◌≡◌, ℕ, zero, suc, ◌+◌, ◌<◌, ◌≤◌, ◌==◌, true, List, [], ◌∷◌, ◌++◌, length, refl, ap, sym, ◌∙◌, subst, Some, None, slice_get, inl, inr, arith, length-append, eq-eqb, ne_eqb}
 use Rattle.std.proofs.lemmas.List.{append-nil}
 use Rattle.std.specs.List.{filter}
 use mathlib.Core.Logic.{dite}
@@ -17,24 +17,19 @@ use Rattle.flow_meaning.specs.Machine.{arrived, opening_state}
 use Rattle.flow_meaning.specs.Table.{is_ready, ready_tasks}
 use Rattle.shard_meaning.specs.Opening.{IsOpeningShard}
 use Rattle.shard_meaning.specs.Share.{Placement}
-use Rattle.shard_meaning.proofs.Listing.{weigh-zero}
+use Rattle.list_lemmas.proofs.Counts.{weigh-zero}
+use Rattle.list_lemmas.proofs.Places.{slice_get_push}
 use Rattle.table_rule.specs.declared.job.Job.{Job}
 use Rattle.table_rule.specs.Opening.{IsOpening}
 use Rattle.table_rule.specs.Placing.{shard_of}
 use Rattle.dep_table.specs.declared.opening.Opening.{Opening}
 use Rattle.dep_table.specs.Opened.{AreNew, AreOpened, AreOpeningShards, AreOpeningWords, HaveOpeningReserve, IsOpenedFor, Opens}
 
-pub snoc_at : {A : Type 0} (xs : List A) (x : A) (k : ℕ) (y : A) → slice_get (xs ++ x ∷ []) k ≡ Some y → (slice_get xs k ≡ Some y) ⊎ (x ≡ y)
-snoc_at [] x zero y e = inr cc
-snoc_at [] x (suc k) y e = absurd cc
-snoc_at (z ∷ xs) x zero y e = inl e
-snoc_at (z ∷ xs) x (suc k) y e = snoc_at xs x k y e
-
 -- one new shard more
 pub new_more : (n : ℕ) (lengths : List ℕ) (ys : List Content) (y : Content) (zs : List Content) → AreNew n lengths ys → IsNew y lengths → zs ≡ ys ++ y ∷ [] → AreNew (n + 1) lengths zs
 new_more n lengths ys y zs w new is = subst (AreNew (n + 1) lengths) (sym is) (record {
   count = omega (arith, w.count, length-append ys (y ∷ []));
-  each = λ k z at. elim (snoc_at ys y k z at) [ inl before ↦ w.each k z before | inr same ↦ subst (λ x. IsNew x lengths) same new ];
+  each = λ k z at. elim (slice_get_push ys y k z at) [ inl before ↦ w.each k z before | inr same ↦ subst (λ x. IsNew x lengths) same new ];
 })
 
 -- a look-up that finds something, in both forms

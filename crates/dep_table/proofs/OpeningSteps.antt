@@ -1,13 +1,14 @@
 -- The opening of a table, task by task.
-use Rattle.std.proofs.Common.{◌≡◌, ◌≢◌, ℕ, zero, suc, ◌+◌, ◌<◌, ◌==◌, Bool, true, false, cond, List, [], ◌∷◌, ◌++◌, length, refl, ap, sym, ◌∙◌, subst, Option, Some, None, slice_get, inl, inr, arith, append_assoc, if◌then◌else◌, ne_eqb, Result, Ok, Err, OnOk}
+use Rattle.std.proofs.Common.{◌≡◌, ◌≢◌, ℕ, ◌+◌, ◌<◌, ◌==◌, true, false, cond, List, [], ◌∷◌, ◌++◌, length, refl, ap, sym, ◌∙◌, subst, Option, Some, None, slice_get, inl, inr, arith, append_assoc, if◌then◌else◌, ne_eqb}
 use Rattle.std.proofs.lemmas.Bool.{false≢true, cases_eq}
 use Rattle.std.proofs.lemmas.List.{append-nil}
-use Rattle.std.specs.List.{filter}
 use Rattle.ptg_base.specs.Task.{Task}
 use Rattle.ptg_base.specs.TaskComparing.{same_task}
 use Rattle.ptg_base.specs.TaskLaws.{same_task-decides}
-use Rattle.range_space.proofs.MemberLists.{IsIn-append_left, IsIn-append_right, from_append}
-use Rattle.range_space.proofs.Stepping.{by_test}
+use Rattle.list_lemmas.proofs.Members.{IsIn-append_left, IsIn-append_right, from_append}
+use Rattle.list_lemmas.proofs.Truth.{by_test}
+use Rattle.list_lemmas.proofs.Places.{slice_get_there}
+use Rattle.list_lemmas.proofs.Joins.{length-filter_append}
 use Rattle.plan_core.specs.declared.plan.Plan.{Plan}
 use Rattle.dep_iter.specs.Edges.{goal}
 use Rattle.dep_iter.specs.Hints.{priority}
@@ -16,7 +17,7 @@ use Rattle.dep_shard.specs.Content.{Content, Entry, entry_of, fresh}
 use Rattle.shard_meaning.specs.Opening.{opening_entry}
 use Rattle.shard_meaning.specs.Share.{Placement}
 use Rattle.dep_table.specs.declared.opening.Opening.{Opening}
-use Rattle.dep_table.proofs.TaskWalks.{IsStepwise, there_is}
+use Rattle.dep_table.proofs.TaskWalks.{IsStepwise}
 use Rattle.dep_table.specs.Opened.{AreOpened, Enters, EntersIn, IsOpenedFor, Opens, roots_among}
 
 -- nothing is opened
@@ -35,25 +36,6 @@ opens_then P of ts us a b c d e = record {
 
 pub opening_steps : (P : Plan) (of : Placement) → IsStepwise (Opens P of)
 opening_steps P of = record { none = opens_none P of; then = opens_then P of }
-
-filter_length : {A : Type 0} (q : A → Bool) (xs ys : List A) → length (filter q (xs ++ ys)) ≡ length (filter q xs) + length (filter q ys)
-filter_length q [] ys = omega arith
-filter_length q (x ∷ xs) ys =
-    let more = filter_length q xs ys in
-    by_test (q x)
-    (λ k.
-    let a = ap (λ b. length (cond b (x ∷ filter q (xs ++ ys)) (filter q (xs ++ ys)))) k in
-    let b = ap (λ b. length (cond b (x ∷ filter q xs) (filter q xs))) k in
-    omega (arith, a, b, more))
-    (λ k.
-    let a = ap (λ b. length (cond b (x ∷ filter q (xs ++ ys)) (filter q (xs ++ ys)))) k in
-    let b = ap (λ b. length (cond b (x ∷ filter q xs) (filter q xs))) k in
-    omega (arith, a, b, more))
-
-below : {A : Type 0} (xs : List A) (n : ℕ) (x : A) → slice_get xs n ≡ Some x → n < length xs
-below [] n x e = absurd cc
-below (y ∷ ys) zero x e = omega arith
-below (y ∷ ys) (suc n) x e = omega (arith, below ys n x e)
 
 module _ (P : Plan) (of : Placement) (t : Task) where
   -- how many of one task no edge goes into
@@ -138,7 +120,7 @@ module _ (P : Plan) (of : Placement) (t : Task) where
         count = refl;
         opened = λ done rest all h. record {
           each = λ k y at. one_more_kept k done y (h.each k y at) (λ own. entry_now k done y (h.each k y at) own not (entry_of y t) refl);
-          left = omega (arith, h.left, root_none not, filter_length (λ u. goal P u == 0) done (t ∷ []));
+          left = omega (arith, h.left, root_none not, length-filter_append (λ u. goal P u == 0) done (t ∷ []));
         };
       }
 
@@ -146,8 +128,8 @@ module _ (P : Plan) (of : Placement) (t : Task) where
   none_to_come : (o : Opening) → o.left ≡ 0 → (done rest : List Task) → all_tasks P ≡ (done ++ t ∷ []) ++ rest → AreOpened P of done o → goal P t ≢ 0
   none_to_come o zero_left done rest all h root =
       let sum = ap (λ l. length (roots_among P l)) all in
-      let a = filter_length (λ u. goal P u == 0) (done ++ t ∷ []) rest in
-      let b = filter_length (λ u. goal P u == 0) done (t ∷ []) in
+      let a = length-filter_append (λ u. goal P u == 0) (done ++ t ∷ []) rest in
+      let b = length-filter_append (λ u. goal P u == 0) done (t ∷ []) in
       omega (arith, h.left, zero_left, root_one root, sum, a, b)
 
   pub opens_late : (o : Opening) → o.left ≡ 0 → Opens P of (t ∷ []) o o
@@ -161,16 +143,12 @@ module _ (P : Plan) (of : Placement) (t : Task) where
       each = λ k z at. elim (cases_eq k (of t)) [
         | inl here ↦
             let own : of t ≡ k = sym here in
-            let y = there_is o.shards.items (of t) near in
+            let y = slice_get_there o.shards.items (of t) near in
             let z_at : slice_get new.shards.items (of t) ≡ Some z = ap (λ n. slice_get new.shards.items n) own ∙ at in
             entered k done y.0 (h.each k y.0 (ap (λ n. slice_get o.shards.items n) here ∙ y.1)) own root z (e.here y.0 z y.1 z_at) (entry_of y.0 t) refl
         | inr other ↦
             one_more_kept k done z (h.each k z (sym (e.others k other) ∙ at)) (λ own. absurd (other (sym own)))
       ];
-      left = omega (arith, h.left, left, root_one root, filter_length (λ u. goal P u == 0) done (t ∷ []));
+      left = omega (arith, h.left, left, root_one root, length-filter_append (λ u. goal P u == 0) done (t ∷ []));
     };
   }
-
-pub on_ok_then : {X E : Type 0} {Q R : Type 0} (r : Result X E) → (Q → R) → OnOk r Q → OnOk r R
-on_ok_then (Ok x) f h = f h
-on_ok_then (Err e) f h = h

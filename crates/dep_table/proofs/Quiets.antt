@@ -1,5 +1,5 @@
 -- Whether the shards of a closed table have work.
-use Rattle.std.proofs.Common.{◌≡◌, ℕ, zero, suc, ◌<◌, List, [], ◌∷◌, length, refl, arith, Some, slice_get, get_or}
+use Rattle.std.proofs.Common.{List, [], arith, get_or}
 use Rattle.dep_shard.specs.Content.{Content}
 use Rattle.flow_meaning.specs.Machine.{IsQuiescent}
 use Rattle.shard_meaning.specs.Calm.{IsCalm}
@@ -10,12 +10,7 @@ use Rattle.table_rule.specs.declared.job.Job.{Job}
 use Rattle.table_rule.specs.Placing.{shard_of}
 use Rattle.table_rule.proofs.Placing.{shard_below}
 use Rattle.dep_table.specs.Closing.{HaveNoWork, IsClosed, IsClosedAt}
-
--- the element at an index below the length, at whatever default
-there_at : {A : Type 0} (xs : List A) (k : ℕ) (d : A) → k < length xs → slice_get xs k ≡ Some (get_or xs k d)
-there_at [] k d l = absurd (omega arith)
-there_at (x ∷ xs) zero d l = refl
-there_at (x ∷ xs) (suc k) d l = there_at xs k d (omega arith)
+use Rattle.std.proofs.lemmas.Option.{slice_get-get_or}
 
 no_shard : Content
 no_shard = record { entries = []; written = []; trapped = []; running = 0; ended = 0; elems = []; spare = record { entries = 0; tiles = []; writes = 0; traps = 0 } }
@@ -23,7 +18,7 @@ no_shard = record { entries = []; written = []; trapped = []; running = 0; ended
 pub closed_calm : (j : Job) (R : Moment) (ys : List Content) → IsClosedAt j R ys → HaveNoWork ys → IsCalm j.matched R
 closed_calm j R ys c none =
     calm_by_shards j.matched j.given (shard_of j.matched j.shards) R j.shards (λ t. shard_below j.matched j.shards t c.some_shards) (λ k. get_or ys k no_shard)
-    (λ k l. c.shares k (get_or ys k no_shard) (there_at ys k no_shard (omega (arith, c.count)))) (λ k l. none k (get_or ys k no_shard) (there_at ys k no_shard (omega (arith, c.count))))
+    (λ k l. c.shares k (get_or ys k no_shard) (slice_get-get_or ys k no_shard (omega (arith, c.count)))) (λ k l. none k (get_or ys k no_shard) (slice_get-get_or ys k no_shard (omega (arith, c.count))))
 
 pub calm_closed : (j : Job) (R : Moment) (ys : List Content) → IsClosedAt j R ys → IsCalm j.matched R → HaveNoWork ys
 calm_closed j R ys c calm = λ k y e. calm_shard j.matched j.given (shard_of j.matched j.shards) k R y (c.shares k y e) calm

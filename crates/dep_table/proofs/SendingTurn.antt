@@ -7,16 +7,16 @@ use Rattle.ptg_base.specs.TaskLaws.{same_task-decides}
 use Rattle.ptg_base.specs.declared.edge.Edge.{Edge}
 use Rattle.ptg_base.specs.declared.edge.Item.{Item}
 use Rattle.ptg_base.specs.declared.edge.Item.TheVariants as item
-use Rattle.range_space.proofs.Stepping.{by_test}
+use Rattle.list_lemmas.proofs.Truth.{by_test}
+use Rattle.list_lemmas.proofs.Counts.{weigh-push}
 use Rattle.plan_core.specs.declared.plan.Plan.{Plan}
 use Rattle.plan_core.specs.Kinds.{is_data}
 use Rattle.coll_data.specs.Data.{Data}
 use Rattle.dep_iter.specs.Edges.{goal}
 use Rattle.dep_iter.specs.Hints.{priority}
 use Rattle.dep_shard.specs.Content.{Content, Entries, Entry, IsTileOf, IsUnchanged, IsWaiting, Updates, Uses, entry_before, entry_in, entry_of, fresh, with_arrival}
-use Rattle.flow_meaning.specs.Counting.{as_number, weigh}
+use Rattle.list_lemmas.specs.Counting.{as_number, weigh}
 use Rattle.flow_meaning.specs.Machine.{MaySend, sender}
-use Rattle.flow_meaning.proofs.Counting.{weigh-push}
 use Rattle.shard_meaning.specs.Moment.{Moment}
 use Rattle.shard_meaning.specs.Share.{Placement}
 use Rattle.shard_meaning.proofs.SendReserving.{spare-edge_tile, spare-entry, spare-write, spare-write_tile}

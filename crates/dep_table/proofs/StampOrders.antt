@@ -10,22 +10,19 @@ use Rattle.ptg_base.specs.TaskComparing.{same_task}
 use Rattle.ptg_base.specs.TaskLaws.{same_task-decides}
 use Rattle.ptg_base.specs.declared.edge.Edge.{Edge}
 use Rattle.ptg_base.specs.declared.edge.Item.TheVariants as item
-use Rattle.range_space.proofs.MemberLists.{IsIn-append_right, IsIn-map}
+use Rattle.list_lemmas.proofs.Members.{IsIn-append_right, IsIn-map}
+use Rattle.std.proofs.lemmas.List.{map-append}
+use Rattle.list_lemmas.proofs.Counts.{count-some, weigh-append, same_counts, same_in, HasSameMembers-sym, count-map}
 use Rattle.plan_core.specs.declared.plan.Plan.{Plan}
 use Rattle.coll_data.specs.Data.{Data}
 use Rattle.dep_iter.specs.Edges.{in_edges}
-use Rattle.dep_iter.proofs.Joining.{map-append}
-use Rattle.flow_meaning.specs.Counting.{HasSameMembers, as_number, count}
+use Rattle.list_lemmas.specs.Counting.{HasSameMembers, as_number, count}
 use Rattle.flow_meaning.specs.Machine.{claim_count, sender}
 use Rattle.flow_meaning.specs.Order.{IsLegalAfter, MayFollow}
 use Rattle.flow_meaning.specs.Sound.{IsSoundState}
-use Rattle.flow_meaning.proofs.Counting.{count-some, weigh-append}
-use Rattle.flow_meaning.proofs.Counts.{same_counts}
 use Rattle.flow_meaning.proofs.Events.{claim_member, each_arrived, send_member}
 use Rattle.flow_meaning.proofs.Members.{in_edge_to}
-use Rattle.flow_meaning.proofs.Reordering.{same_in, turned}
 use Rattle.shard_meaning.specs.Moment.{Moment}
-use Rattle.shard_answer.proofs.Traps.{count-map}
 use Rattle.table_rule.specs.Live.{AreStamps, Stamp}
 use Rattle.table_rule.proofs.Living.{same_stamp, same_stamp-decides}
 use Rattle.dep_table.specs.StampOrders.{AreInStampOrder, IsClaimOrder, number_of, task_of}
@@ -72,7 +69,7 @@ module _ (P : Plan) (G : Data) (R : Moment) (stamps : List Stamp) (word : ℕ) (
 
   module _ (ordered : List Stamp) (same : HasSameMembers ordered stamps) (rise : IsNonDecreasingBy number_of ordered) where
     into : (x : Stamp) → IsIn x stamps → IsIn x ordered
-    into x i = same_in same_stamp same_stamp-decides stamps ordered (turned ordered stamps same) x i
+    into x i = same_in same_stamp same_stamp-decides stamps ordered (HasSameMembers-sym ordered stamps same) x i
 
     back : (x : Stamp) → IsIn x ordered → IsIn x stamps
     back x i = same_in same_stamp same_stamp-decides ordered stamps same x i

@@ -10,7 +10,7 @@ use Rattle.dep_iter.specs.Consistent.{IsConsistent}
 use Rattle.dep_iter.specs.Items.{edge_of, items}
 use Rattle.dep_iter.specs.Tasks.{IsTask}
 use Rattle.flow_meaning.specs.Machine.{sender}
-use Rattle.shard_meaning.proofs.Listing.{IsIn-filter_map}
+use Rattle.list_lemmas.proofs.Members.{IsIn-filter_map}
 use Rattle.dep_table.specs.declared.table.DepTable.{DepTable}
 use Rattle.dep_table.specs.Boards.{IsWorkerPass}
 use Rattle.dep_table.specs.Passes.{IsPassOf}

@@ -1,4 +1,5 @@
--- What the passes of a table have done together once a run has ended. Source: DAGuE (Parallel Computing, 2012): a task runs on what its sources gave, and then satisfies its successors.
+-- What the passes of a table have done together once a run has ended. Source: DAGuE (Parallel Computing, 2012): a task
+-- runs on what its sources gave, and then satisfies its successors.
 use Rattle.std.specs.Prelude.{◌≡◌, List, [], map, flat_map, if◌then◌else◌}
 use Rattle.ptg_base.specs.Lists.{IsIn}
 use Rattle.ptg_base.specs.Task.{Task}
@@ -9,7 +10,7 @@ use Rattle.dep_iter.specs.Items.{item_flow, items}
 use Rattle.dep_iter.specs.Tasks.{all_tasks}
 use Rattle.flow_meaning.specs.Answer.{ran}
 use Rattle.flow_meaning.specs.Backward.{ended, inputs}
-use Rattle.flow_meaning.specs.Counting.{HasSameMembers}
+use Rattle.list_lemmas.specs.Counting.{HasSameMembers}
 use Rattle.flow_meaning.specs.Ending.{has_outputs, output_tile}
 use Rattle.flow_meaning.specs.Machine.{MachineState, Sent, sender, sent_tile}
 use Rattle.flow_meaning.specs.Starting.{delivered_tiles}
@@ -26,7 +27,8 @@ sent_by P G t = if has_outputs (ended P G t) then map (with_its_tile P G) (items
 abbrev pub all_sent : Plan → Data → List Sent
 all_sent P G = flat_map (sent_by P G) (all_tasks P)
 
--- The tasks that run were claimed, and what all tasks send was sent, each once. The tiles that were sent to a claimed task are its inputs.
+-- The tasks that run were claimed, and what all tasks send was sent, each once. The tiles that were sent to a claimed
+-- task are its inputs.
 pub record HasTheMeaning (P : Plan) (G : Data) (S : MachineState) : Type 0 where
   pub claims : HasSameMembers S.claims (ran P G)
   pub sends : HasSameMembers S.sends (all_sent P G)

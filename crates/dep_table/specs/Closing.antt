@@ -19,20 +19,23 @@ use Rattle.table_rule.specs.Records.{moment_of}
 use Rattle.dep_table.specs.Passes.{IsPassOf}
 use Rattle.dep_table.specs.Views.{PassView, shown}
 
--- The shards hold their parts of this moment. It is sound, and each of its claimed tasks still runs, has trapped, or has sent all its items.
+-- The shards hold their parts of this moment. It is sound, and each of its claimed tasks still runs, has trapped, or
+-- has sent all its items.
 pub record IsClosedAt (j : Job) (R : Moment) (ys : List Content) : Type 0 where
   pub consistent : IsConsistent j.matched
   pub some_shards : 0 < j.shards
   pub count : length ys ≡ j.shards
   pub sound : IsSoundState j.matched j.given R.state
   pub finished : AreFinished j.matched j.given R
-  pub shares : (k : ℕ) (y : Content) → slice_get ys k ≡ Some y → IsShardOf j.matched j.given (shard_of j.matched j.shards) k R y
+  pub shares : (k : ℕ) (y : Content) → slice_get ys k ≡ Some y
+      → IsShardOf j.matched j.given (shard_of j.matched j.shards) k R y
 
 -- there is such a moment
 abbrev pub IsClosed : Job → List Content → Type 0
 IsClosed j ys = (R : Moment) × IsClosedAt j R ys
 
--- A closed table: its shards hold their parts of such a moment, its data are those of the plan and, where all memory was taken before, it has room for a row of each task.
+-- A closed table: its shards hold their parts of such a moment, its data are those of the plan and, where all memory
+-- was taken before, it has room for a row of each task.
 pub record IsClosedTable (j : Job) (ys : List Content) (rows : ℕ) : Type 0 where
   pub ends : IsClosed j ys
   pub fit : DataFit j.matched.colls j.matched.elems j.given
@@ -43,7 +46,8 @@ pub record AreAllPasses (table : TableId) (ps : List PassView) : Type 0 where
   pub each : (p : PassView) → IsIn p ps → IsPassOf table p
   pub all : AreAll (map shown ps)
 
--- A pass to which all others were joined: it holds no turn, what it did is this, and it has these stamps, among them one for each of its claims.
+-- A pass to which all others were joined: it holds no turn, what it did is this, and it has these stamps, among them
+-- one for each of its claims.
 pub record IsLastPass (table : TableId) (p : PassView) (R : Moment) (stamps : List Stamp) : Type 0 where
   pub of : p.table ≡ table
   pub no_shard : p.me.1 ≡ []

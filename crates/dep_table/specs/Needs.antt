@@ -1,4 +1,5 @@
--- What the shards of a preloaded table need for all that will come to them, counted task by task. Source: this project's own choice.
+-- What the shards of a preloaded table need for all that will come to them, counted task by task. Source: this
+-- project's own choice.
 use Rattle.std.specs.Prelude.{◌≡◌, ◌≢◌, ◌<◌, ℕ, ◌+◌, ◌^◌, ℤ, Bool, true, false, ◌==◌, ◌&&◌, List, [], ◌∷◌, ◌++◌, length, filter, flat_map, slice_get, slice_index, Some, if◌then◌else◌}
 use Rattle.ptg_base.specs.Task.{Task}
 use Rattle.ptg_base.specs.declared.edge.Edge.{Edge}
@@ -13,24 +14,29 @@ use Rattle.dep_iter.specs.Consistent.{is_data_edge}
 use Rattle.dep_iter.specs.Edges.{goal, in_edges}
 use Rattle.dep_iter.specs.Items.{write_backs}
 use Rattle.dep_shard.specs.Content.{Content, HasSpares, IsUnchanged}
-use Rattle.flow_meaning.specs.Counting.{as_number, count, weigh}
+use Rattle.list_lemmas.specs.Counting.{as_number, count, weigh}
 use Rattle.shard_meaning.specs.Opening.{is_edge_to, is_to_enter, is_write_from}
 use Rattle.shard_meaning.specs.Reserve.{is_edge_of_type, is_write_of_type}
 use Rattle.shard_meaning.specs.Share.{Placement, is_of}
 use Rattle.dep_table.specs.declared.needs.Needs.{Needs}
 
--- the edges into these tasks that carry a tile, and the write-backs of these tasks; of all tasks they are those of the job
+-- the edges into these tasks that carry a tile, and the write-backs of these tasks; of all tasks they are those of the
+-- job
 abbrev pub data_into : Plan → List Task → List Edge
 data_into P ts = filter (is_data_edge P) (flat_map (in_edges P) ts)
 
 abbrev pub writes_of : Plan → List Task → List WriteBack
 writes_of P ts = flat_map (write_backs P) ts
 
--- What the shard k needs for these tasks: an entry for each of its own that edges go into, a tile of its type for each data edge to one of its own and each write-back of one, a place for each such write-back, and a row for each of its own
+-- What the shard k needs for these tasks: an entry for each of its own that edges go into, a tile of its type for each
+-- data edge to one of its own and each write-back of one, a place for each such write-back, and a row for each of its
+-- own
 pub record IsNeedOf (P : Plan) (of : Placement) (k : ℕ) (ts : List Task) (n : Needs) : Type 0 where
   pub entries : n.entries ≡ count (is_to_enter P of k) ts
   pub types : length n.tiles.items ≡ length P.elems
-  pub tiles : (datatype : ℕ) → slice_index n.tiles.items datatype ≡ count (is_edge_to P of k datatype) (data_into P ts) + count (is_write_from P of k datatype) (writes_of P ts)
+  pub tiles : (datatype : ℕ)
+      → slice_index n.tiles.items datatype
+      ≡ count (is_edge_to P of k datatype) (data_into P ts) + count (is_write_from P of k datatype) (writes_of P ts)
   pub writes : n.writes ≡ count (λ (w : WriteBack). is_of of k w.from) (writes_of P ts)
   pub traps : n.traps ≡ count (is_of of k) ts
 
@@ -49,17 +55,22 @@ edge_tiles P es datatype = count (is_edge_of_type P datatype) (filter (is_data_e
 abbrev pub write_tiles : Plan → List WriteBack → ℕ → ℕ
 write_tiles P ws datatype = count (is_write_of_type P datatype) ws
 
--- the counts of a shard, and of all shards, stay below 2 ^ 64 while what these tasks need is added, whatever shards they are of
+-- the counts of a shard, and of all shards, stay below 2 ^ 64 while what these tasks need is added, whatever shards
+-- they are of
 pub record HasRoomFor (P : Plan) (ts : List Task) (n : Needs) : Type 0 where
   pub entries : n.entries + length ts < 2 ^ 64
-  pub tiles : (datatype : ℕ) → slice_index n.tiles.items datatype + (edge_tiles P (flat_map (in_edges P) ts) datatype + write_tiles P (writes_of P ts) datatype) < 2 ^ 64
+  pub tiles : (datatype : ℕ)
+      → slice_index n.tiles.items datatype
+      + (edge_tiles P (flat_map (in_edges P) ts) datatype + write_tiles P (writes_of P ts) datatype)
+      < 2 ^ 64
   pub writes : n.writes + length (writes_of P ts) < 2 ^ 64
   pub traps : n.traps + length ts < 2 ^ 64
 
 abbrev pub HaveRoomFor : Plan → List Task → List Needs → Type 0
 HaveRoomFor P ts ns = (k : ℕ) (n : Needs) → slice_get ns k ≡ Some n → HasRoomFor P ts n
 
--- Where old is what the shards need for some tasks, new is what they need for those and for these. Where there was room for these tasks and others, there is room for the others.
+-- Where old is what the shards need for some tasks, new is what they need for those and for these. Where there was room
+-- for these tasks and others, there is room for the others.
 pub record AddsNeeds (P : Plan) (of : Placement) (ts : List Task) (old new : List Needs) : Type 0 where
   pub count : length new ≡ length old
   pub types : HaveTypes (length P.elems) old → HaveTypes (length P.elems) new
@@ -70,7 +81,8 @@ pub record AddsNeeds (P : Plan) (of : Placement) (ts : List Task) (old new : Lis
 pub record AddsTiles (of_type : ℕ → ℕ) (places : ℕ) (old new : Needs) : Type 0 where
   pub entries : new.entries ≡ old.entries
   pub types : length new.tiles.items ≡ length old.tiles.items
-  pub tiles : (datatype : ℕ) → slice_index new.tiles.items datatype ≡ slice_index old.tiles.items datatype + of_type datatype
+  pub tiles : (datatype : ℕ)
+      → slice_index new.tiles.items datatype ≡ slice_index old.tiles.items datatype + of_type datatype
   pub writes : new.writes ≡ old.writes + places
   pub traps : new.traps ≡ old.traps
 
@@ -82,9 +94,11 @@ begins_with_edge (target.Element coll indices ∷ xs) = false
 begins_with_edge (target.New ∷ xs) = false
 begins_with_edge (target.Null ∷ xs) = false
 
--- how many tiles of a type come by edges into a flow of a task with these locals: one where it carries tiles and its source is an edge; and into these flows
+-- how many tiles of a type come by edges into a flow of a task with these locals: one where it carries tiles and its
+-- source is an edge; and into these flows
 abbrev pub flow_tiles : List ℤ → FlowPlan → ℕ → ℕ
-flow_tiles env f datatype = as_number ((is_data (Some f.kind) && begins_with_edge (flow_ins env f)) && (f.datatype == datatype))
+flow_tiles env f datatype =
+    as_number ((is_data (Some f.kind) && begins_with_edge (flow_ins env f)) && (f.datatype == datatype))
 
 abbrev pub flows_tiles : List ℤ → List FlowPlan → ℕ → ℕ
 flows_tiles env fs datatype = weigh (λ f. flow_tiles env f datatype) fs
@@ -97,7 +111,10 @@ has_edges P t = if goal P t == 0 then false else true
 pub record AddsTask (P : Plan) (t : Task) (old new : Needs) : Type 0 where
   pub entries : new.entries ≡ old.entries + as_number (has_edges P t)
   pub types : length new.tiles.items ≡ length old.tiles.items
-  pub tiles : (datatype : ℕ) → slice_index new.tiles.items datatype ≡ slice_index old.tiles.items datatype + (edge_tiles P (in_edges P t) datatype + write_tiles P (write_backs P t) datatype)
+  pub tiles : (datatype : ℕ)
+      → slice_index new.tiles.items datatype
+      ≡ slice_index old.tiles.items datatype
+      + (edge_tiles P (in_edges P t) datatype + write_tiles P (write_backs P t) datatype)
   pub writes : new.writes ≡ old.writes + length (write_backs P t)
   pub traps : new.traps ≡ old.traps + 1
 
@@ -134,8 +151,11 @@ pub record ReservesAt (k : ℕ) (n : Needs) (old new : List Content) : Type 0 wh
 -- the same for each shard
 pub record AreReserved (ns : List Needs) (old new : List Content) : Type 0 where
   pub count : length new ≡ length old
-  pub each : (k : ℕ) (n : Needs) (y z : Content) → slice_get ns k ≡ Some n → slice_get old k ≡ Some y → slice_get new k ≡ Some z → IsReservedFor n y z
+  pub each : (k : ℕ) (n : Needs) (y z : Content) → slice_get ns k ≡ Some n → slice_get old k ≡ Some y
+      → slice_get new k ≡ Some z → IsReservedFor n y z
 
 -- the needs and the shards are of as many types
 abbrev pub FitShards : List Needs → List Content → Type 0
-FitShards ns ys = (k : ℕ) (n : Needs) (y : Content) → slice_get ns k ≡ Some n → slice_get ys k ≡ Some y → length n.tiles.items ≡ length y.elems
+FitShards ns ys =
+    (k : ℕ) (n : Needs) (y : Content) → slice_get ns k ≡ Some n → slice_get ys k ≡ Some y
+    → length n.tiles.items ≡ length y.elems

@@ -1,4 +1,5 @@
--- How a table is opened: its shards get a ready entry of each task that no edge goes into. Source: DAGuE (Parallel Computing, 2012): a task without dependences may run at once.
+-- How a table is opened: its shards get a ready entry of each task that no edge goes into. Source: DAGuE (Parallel
+-- Computing, 2012): a task without dependences may run at once.
 use Rattle.std.specs.Prelude.{◌≡◌, ◌≢◌, ℕ, ◌+◌, ◌==◌, ℤ, List, [], ◌++◌, length, filter, slice_get, slice_index, Some, None}
 use Rattle.ptg_base.specs.Lists.{IsIn}
 use Rattle.ptg_base.specs.Task.{Task}
@@ -35,7 +36,8 @@ pub record AreOpened (P : Plan) (of : Placement) (ts : List Task) (o : Opening) 
 -- From old to new the shards got the entries of these tasks, where they had those of the tasks before them.
 pub record Opens (P : Plan) (of : Placement) (ts : List Task) (old new : Opening) : Type 0 where
   pub count : length new.shards.items ≡ length old.shards.items
-  pub opened : (done rest : List Task) → all_tasks P ≡ (done ++ ts) ++ rest → AreOpened P of done old → AreOpened P of (done ++ ts) new
+  pub opened : (done rest : List Task) → all_tasks P ≡ (done ++ ts) ++ rest → AreOpened P of done old
+      → AreOpened P of (done ++ ts) new
 
 -- A ready entry of the task is entered. If the task has an entry, that one stays.
 pub record EntersIn (t : Task) (priority : ℤ) (old new : Content) : Type 0 where

@@ -1,4 +1,6 @@
--- A send on a turn: what the item needs of its shard, and what it changes there. Source: DAGuE (Parallel Computing, 2012), where a task that ends satisfies the dependences of its successors; that a write-back is kept in the shard of its task is this project's own choice.
+-- A send on a turn: what the item needs of its shard, and what it changes there. Source: DAGuE (Parallel Computing,
+-- 2012), where a task that ends satisfies the dependences of its successors; that a write-back is kept in the shard of
+-- its task is this project's own choice.
 use Rattle.std.specs.Prelude.{◌++◌, ◌≡◌, ℕ, ◌+◌, ◌<◌, ℤ, List, [], ◌∷◌, Option, Some, None, IsSome, IsTrue, IfSome, is_some, if◌then◌else◌, slice_index}
 use Rattle.ptg_base.specs.declared.edge.Edge.{Edge}
 use Rattle.ptg_base.specs.declared.edge.Item.{Item}
@@ -13,7 +15,7 @@ use Rattle.dep_iter.specs.Tasks.{IsTask}
 use Rattle.dep_shard.specs.Content.{Content, IsTileOf, IsWaiting, KeepsAllButEntries, KeepsAllButWritten, Updates, Uses, entry_before, entry_of, with_arrival}
 use Rattle.dep_shard.specs.declared.shard.Arrived.{Arrived}
 use Rattle.dep_shard.specs.declared.shard.Arrived.TheVariants as arrived
-use Rattle.flow_meaning.specs.Counting.{as_number}
+use Rattle.list_lemmas.specs.Counting.{as_number}
 use Rattle.flow_meaning.specs.Machine.{sender}
 use Rattle.shard_meaning.specs.Reserve.{has_type}
 use Rattle.work_board.specs.Sends.{IsNext, shard_of_item}
@@ -25,7 +27,8 @@ use Rattle.table_rule.specs.Live.{own_stamps}
 use Rattle.table_rule.specs.Placing.{shard_of}
 use Rattle.table_rule.specs.Plays.{HasTurn, Seated, fires}
 
--- the edge goes to a flow of a task that waits for it, by the entry that the shard has of the task, and its tile is of the flow's type
+-- the edge goes to a flow of a task that waits for it, by the entry that the shard has of the task, and its tile is of
+-- the flow's type
 pub record MayTakeEdge (P : Plan) (e : Edge) (tile : Option (List ℤ)) (y : Content) : Type 0 where
   pub task : IsTask P e.to
   pub flow : FlowPlan
@@ -52,25 +55,30 @@ MayTakeItem P (item.Write w) tile y = MayTakeWrite P w tile y
 -- the shard has spares for the edge: an entry if its target has none, and a tile of the flow's type if it carries one
 pub record HasSpareForEdge (P : Plan) (e : Edge) (tile : Option (List ℤ)) (y : Content) : Type 0 where
   pub entry : entry_of y e.to ≡ None → 0 < y.spare.entries
-  pub tiles : (datatype : ℕ) → IsTrue (has_type datatype (flow_of P.classes e.to.class e.in_flow)) → IsSome tile → 0 < slice_index y.spare.tiles datatype
+  pub tiles : (datatype : ℕ) → IsTrue (has_type datatype (flow_of P.classes e.to.class e.in_flow)) → IsSome tile
+      → 0 < slice_index y.spare.tiles datatype
 
 -- the shard has spares for the write-back: a place, and a tile of the flow's type
 pub record HasSpareForWrite (P : Plan) (w : WriteBack) (y : Content) : Type 0 where
   pub place : 0 < y.spare.writes
-  pub tiles : (datatype : ℕ) → IsTrue (has_type datatype (flow_of P.classes w.from.class w.flow)) → 0 < slice_index y.spare.tiles datatype
+  pub tiles : (datatype : ℕ) → IsTrue (has_type datatype (flow_of P.classes w.from.class w.flow))
+      → 0 < slice_index y.spare.tiles datatype
 
 -- the spares for an item
 abbrev pub HasSpareForItem : Plan → Item → Option (List ℤ) → Content → Type 0
 HasSpareForItem P (item.Edge e) tile y = HasSpareForEdge P e tile y
 HasSpareForItem P (item.Write w) tile y = HasSpareForWrite P w y
 
--- the edge has come to its target's entry, with its tile. It used at most a spare entry if the target had none, and a spare tile of the flow's type if it carries one
+-- the edge has come to its target's entry, with its tile. It used at most a spare entry if the target had none, and a
+-- spare tile of the flow's type if it carries one
 pub record TakesEdge (P : Plan) (e : Edge) (tile : Option (List ℤ)) (old new : Content) : Type 0 where
   pub datatype : ℕ
   pub typed : IsTrue (has_type datatype (flow_of P.classes e.to.class e.in_flow))
-  pub entries : Updates old.entries new.entries e.to (Some (with_arrival (entry_before old e.to (goal P e.to) (priority P e.to)) e.in_flow tile))
+  pub entries : Updates old.entries new.entries e.to
+      (Some (with_arrival (entry_before old e.to (goal P e.to) (priority P e.to)) e.in_flow tile))
   pub rest : KeepsAllButEntries old new
-  pub uses : Uses old.spare new.spare (if is_some (entry_of old e.to) then 0 else 1) (if is_some tile then Some datatype else None) 0 0
+  pub uses : Uses old.spare new.spare (if is_some (entry_of old e.to) then 0 else 1)
+      (if is_some tile then Some datatype else None) 0 0
 
 -- the tile of the write-back was written. It used at most a spare place and a spare tile of the flow's type
 pub record TakesWrite (P : Plan) (w : WriteBack) (tile : Option (List ℤ)) (old new : Content) : Type 0 where
@@ -107,7 +115,8 @@ abbrev pub spends : Plan → Content → Item → ℕ
 spends P y (item.Edge e) = as_number (fires P y e)
 spends P y (item.Write w) = 0
 
--- what a pass may give a turn back with: the shard took the pass's next item, whose sender has its stamp, and the pass has the credit that the send spends
+-- what a pass may give a turn back with: the shard took the pass's next item, whose sender has its stamp, and the pass
+-- has the credit that the send spends
 pub record SendsItem (j : Job) (k : ℕ) (i : Item) (tile : Option (List ℤ)) (m : Seated) : Type 0 where
   pub before : Content
   pub after : Content

@@ -1,4 +1,5 @@
--- The claims of the passes of a table, put in the order of their stamps. Source: the usual topological order; the stamps are this project's own choice.
+-- The claims of the passes of a table, put in the order of their stamps. Source: the usual topological order; the
+-- stamps are this project's own choice.
 use Rattle.std.specs.Prelude.{◌≡◌, ℕ, List, map}
 use Rattle.std.specs.List.{flat_map}
 use Rattle.std.specs.List.Sorted.{IsNonDecreasingBy}
@@ -6,7 +7,7 @@ use Rattle.ptg_base.specs.Task.{Task}
 use Rattle.plan_core.specs.declared.plan.Plan.{Plan}
 use Rattle.coll_data.specs.Data.{Data}
 use Rattle.flow_meaning.specs.Answer.{ran}
-use Rattle.flow_meaning.specs.Counting.{HasSameMembers}
+use Rattle.list_lemmas.specs.Counting.{HasSameMembers}
 use Rattle.flow_meaning.specs.Machine.{MachineState}
 use Rattle.flow_meaning.specs.Order.{IsLegalOrder}
 use Rattle.work_board.specs.declared.record.PassRecord.{PassRecord}

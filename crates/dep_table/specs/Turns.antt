@@ -16,7 +16,8 @@ use Rattle.table_rule.specs.Plays.{HasTurn, Seated, WasSeen}
 use Rattle.dep_table.specs.declared.turn.Turn.{Turn}
 use Rattle.dep_table.specs.Tables.{id_of, job_of}
 
--- the turn of a pass that was clean, with the record v, when it was taken: a table that meets the rule has that record and y₀ in this shard, and by now at most spares have grown and it has y
+-- the turn of a pass that was clean, with the record v, when it was taken: a table that meets the rule has that record
+-- and y₀ in this shard, and by now at most spares have grown and it has y
 pub record IsTurnOf (t : Turn) (v : PassRecord) (y₀ y : Content) : Type 0 where
   pub of : t.pass.now.table ≡ id_of t.table.now
   pub within : t.shard < (job_of t.table.now).shards

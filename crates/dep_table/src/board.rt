@@ -97,5 +97,6 @@ impl Board for DepTable {
 
 /// A law: a clean pass of a table that runs nothing is a worker's pass of it.
 pub fn an_idle_pass_is_a_workers_pass()
-    ensures { (table : TableValue) (p : PassView) → IsPassOf (id_of table) p → (views.shown p).running ≡ [] → IsWorkerPass table p }
+    ensures { (table : TableValue) (p : PassView) → IsPassOf (id_of table) p → (views.shown p).running ≡ []
+        → IsWorkerPass table p }
 {}

@@ -67,7 +67,8 @@ impl DepTable {
         requires { IsPassOf (id_of self.now) pass.old }
         ensures pass { IsPassOf (id_of self.now) pass.new }
         ensures new { IsPassOf (id_of self.now) result }
-        ensures records { (shown pass.new ≡ after_split (shown pass.old)) × (shown result ≡ split_off (shown pass.old)) }
+        ensures records { (shown pass.new ≡ after_split (shown pass.old))
+            × (shown result ≡ split_off (shown pass.old)) }
     {
         let seat = self.table.shared.split_seat::<SplitOff>(&mut pass.seat);
         Pass { seat, stamp: 0 }

@@ -23,8 +23,8 @@ use table_rule::law::JoinTo;
 use table_rule::rules::{a_pass_with_all_names_is_alone, all_passes_stay_all};
 use table_rule::steps::two_passes_are_joined;
 
-/// A table that no pass shares any more: its shards hold their parts of a sound moment. Contracts see its job, its shards, and how
-/// many passes were closed with it. `DepTable::close` alone makes one.
+/// A table that no pass shares any more: its shards hold their parts of a sound moment. Contracts see its job, its
+/// shards, and how many passes were closed with it. `DepTable::close` alone makes one.
 #[derive(Drop)]
 pub struct Closed {
     pub(crate) shards: Vec<Shard>,
@@ -71,7 +71,8 @@ impl DepTable {
     // All passes as one, which has seen quiet where one of them has.
     fn join_all(&self, mut passes: Vec<Pass>) -> Pass
         requires { AreAllPasses (id_of self.now) passes.items }
-        ensures last { IsLastPass (id_of self.now) result (joined (map shown passes.items)) (joined_stamps (map shown passes.items)) }
+        ensures last { IsLastPass (id_of self.now) result (joined (map shown passes.items))
+            (joined_stamps (map shown passes.items)) }
         ensures quiet { (p : PassView) → IsIn p passes.items → (shown p).quiet ≡ true → (shown result).quiet ≡ true }
     {
         all_passes_stay_all();
@@ -88,7 +89,8 @@ impl DepTable {
         ensures job { result.job ≡ job_of self }
         ensures passes { result.passes ≡ passes }
         ensures at { IsClosedAt (job_of self) (moment_of (shown pass)) (shards_of result) }
-        ensures order { (ts : List Task) → AreInStampOrder (shown pass).stamps ts → IsClaimOrder (job_of self).matched (moment_of (shown pass)).state ts }
+        ensures order { (ts : List Task) → AreInStampOrder (shown pass).stamps ts
+            → IsClaimOrder (job_of self).matched (moment_of (shown pass)).state ts }
         ensures quiet { (shown pass).quiet ≡ true → HaveNoWork (shards_of result) }
     {
         a_pass_with_all_names_is_alone();
@@ -118,15 +120,16 @@ impl DepTable {
         }
     }
 
-    /// Closes the table, where these are all its passes. It takes no memory. What the shards then hold is what the passes did
-    /// together. All their claims, in the order of their stamps, are a legal order of the plan. Where one of the passes has seen
-    /// quiet, no shard has work.
+    /// Closes the table, where these are all its passes. It takes no memory. What the shards then hold is what the
+    /// passes did together. All their claims, in the order of their stamps, are a legal order of the plan. Where one of
+    /// the passes has seen quiet, no shard has work.
     pub fn close(self, passes: Vec<Pass>) -> Closed
         requires { AreAllPasses (id_of self) passes.items }
         ensures job { result.job ≡ job_of self }
         ensures passes { result.passes ≡ length passes.items }
         ensures at { IsClosedAt (job_of self) (joined (map shown passes.items)) (shards_of result) }
-        ensures order { (ts : List Task) → AreInStampOrder (joined_stamps (map shown passes.items)) ts → IsClaimOrder (job_of self).matched (joined (map shown passes.items)).state ts }
+        ensures order { (ts : List Task) → AreInStampOrder (joined_stamps (map shown passes.items)) ts
+            → IsClaimOrder (job_of self).matched (joined (map shown passes.items)).state ts }
         ensures quiet { (p : PassView) → IsIn p passes.items → (shown p).quiet ≡ true → HaveNoWork (shards_of result) }
     {
         let count = passes.len();

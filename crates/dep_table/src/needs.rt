@@ -9,7 +9,7 @@ ghost use Rattle.dep_iter.specs.Edges as edges;
 ghost use Rattle.dep_iter.specs.Items as items;
 ghost use Rattle.dep_iter.specs.Tasks as tasks;
 ghost use Rattle.dep_iter.specs.Tasks.{IsTask};
-ghost use Rattle.flow_meaning.specs.Counting.{as_number};
+ghost use Rattle.list_lemmas.specs.Counting.{as_number};
 ghost use Rattle.dep_table.specs.Needs as needs;
 ghost use Rattle.dep_table.specs.Needs.{AddsTask, AddsTiles, HasRoomFor, IsNoNeed, edge_tiles, flow_tiles, flows_tiles, write_tiles};
 
@@ -125,7 +125,8 @@ impl Needs {
         requires task { IsTask m.now t.now }
         requires locals { env.now ≡ tasks.locals_of m.now t.now }
         requires types { length self.old.tiles.items ≡ length m.now.elems }
-        requires room { (d : ℕ) → slice_index self.old.tiles.items d + edge_tiles m.now (edges.in_edges m.now t.now) d < 2 ^ 64 }
+        requires room { (d : ℕ)
+            → slice_index self.old.tiles.items d + edge_tiles m.now (edges.in_edges m.now t.now) d < 2 ^ 64 }
         ensures { AddsTiles (edge_tiles m.now (edges.in_edges m.now t.now)) 0 self.old self.new }
     {
         self.add_flows(flows_of(m.plan(), t), env);
@@ -136,7 +137,8 @@ impl Needs {
         requires task { IsTask plan.now t.now }
         requires from { write.now.from ≡ t.now }
         requires types { length self.old.tiles.items ≡ length plan.now.elems }
-        requires tiles { (d : ℕ) → slice_index self.old.tiles.items d + write_tiles plan.now (write.now ∷ []) d < 2 ^ 64 }
+        requires tiles { (d : ℕ)
+            → slice_index self.old.tiles.items d + write_tiles plan.now (write.now ∷ []) d < 2 ^ 64 }
         requires places { self.old.writes + 1 < 2 ^ 64 }
         ensures { AddsTiles (write_tiles plan.now (write.now ∷ [])) 1 self.old self.new }
     {
@@ -151,9 +153,11 @@ impl Needs {
         requires task { IsTask plan.now t.now }
         requires locals { env.now ≡ tasks.locals_of plan.now t.now }
         requires types { length self.old.tiles.items ≡ length plan.now.elems }
-        requires tiles { (d : ℕ) → slice_index self.old.tiles.items d + write_tiles plan.now (items.write_backs plan.now t.now) d < 2 ^ 64 }
+        requires tiles { (d : ℕ)
+            → slice_index self.old.tiles.items d + write_tiles plan.now (items.write_backs plan.now t.now) d < 2 ^ 64 }
         requires places { self.old.writes + length (items.write_backs plan.now t.now) < 2 ^ 64 }
-        ensures { AddsTiles (write_tiles plan.now (items.write_backs plan.now t.now)) (length (items.write_backs plan.now t.now)) self.old self.new }
+        ensures { AddsTiles (write_tiles plan.now (items.write_backs plan.now t.now))
+            (length (items.write_backs plan.now t.now)) self.old self.new }
     {
         for write in write_backs_under(plan, t, env) {
             self.add_write(plan, t, &write);

@@ -78,7 +78,8 @@ pub(crate) fn shard_under(m: &Matched, shards: usize, t: &TaskId, env: &[i64]) -
 fn open_task(opening: &mut Opening, m: &Matched, t: &TaskId) -> Result<(), OutOfMemory>
     requires task { IsTask m.now t.now }
     requires shards { (0 < length opening.old.shards.items) × (length opening.old.shards.items ≤ 256) }
-    ensures { OnOk result (Opens m.now (placing.shard_of m.now (length opening.old.shards.items)) (t.now ∷ []) opening.old opening.new) }
+    ensures { OnOk result
+        (Opens m.now (placing.shard_of m.now (length opening.old.shards.items)) (t.now ∷ []) opening.old opening.new) }
 {
     if opening.left == 0 {
         return Ok(());
@@ -109,7 +110,10 @@ pub(crate) fn space_of(m: &Matched, class: u32) -> &ClassSpace
 fn open_class(opening: &mut Opening, m: &Matched, class: u32) -> Result<(), OutOfMemory>
     requires class { class < length m.now.classes }
     requires shards { (0 < length opening.old.shards.items) × (length opening.old.shards.items ≤ 256) }
-    ensures { OnOk result ((s : ClassSpaceValue) → slice_get m.now.spaces class ≡ Some s → Opens m.now (placing.shard_of m.now (length opening.old.shards.items)) (map (task class) (range.tasks s)) opening.old opening.new) }
+    ensures { OnOk result
+        ((s : ClassSpaceValue) → slice_get m.now.spaces class ≡ Some s
+        → Opens m.now (placing.shard_of m.now (length opening.old.shards.items)) (map (task class) (range.tasks s))
+        opening.old opening.new) }
 {
     let space = space_of(m, class);
     for params in Space::new(space) {
@@ -122,7 +126,10 @@ fn open_class(opening: &mut Opening, m: &Matched, class: u32) -> Result<(), OutO
 // Enters the tasks of the classes from this number on that no edge goes into.
 fn open_classes(opening: &mut Opening, m: &Matched, class: u32) -> Result<(), OutOfMemory>
     requires shards { (0 < length opening.old.shards.items) × (length opening.old.shards.items ≤ 256) }
-    ensures { OnOk result ((ss : List ClassSpaceValue) → drop class m.now.spaces ≡ ss → Opens m.now (placing.shard_of m.now (length opening.old.shards.items)) (tasks_from class ss) opening.old opening.new) }
+    ensures { OnOk result
+        ((ss : List ClassSpaceValue) → drop class m.now.spaces ≡ ss
+        → Opens m.now (placing.shard_of m.now (length opening.old.shards.items)) (tasks_from class ss) opening.old
+        opening.new) }
 {
     if class as usize >= m.plan().classes.len() {
         return Ok(());
@@ -247,7 +254,8 @@ impl DepTable {
         requires some_shards { 0 < shards }
         requires few_shards { shards ≤ 256 }
         ensures pass { IfOk result (λ r. IsPassOf (id_of r.0) r.1 × (r.1.me.0 ≡ first_pass)) }
-        ensures job { IfOk result (λ r. job_of r.0 ≡ record { matched = matched; given = given; shards = shards; preloaded = false }) }
+        ensures job { IfOk result (λ r.
+            job_of r.0 ≡ record { matched = matched; given = given; shards = shards; preloaded = false }) }
     {
         let opened = opened_shards(alloc, &matched, shards)?;
         let job = Job {

@@ -14,8 +14,8 @@ use shard_answer::outcome_of;
 use table_rule::job::Job;
 
 impl Closed {
-    /// The answer of the job, where the table was closed after the run had ended, and the receipt. No tile is copied. A preloaded
-    /// table has the memory.
+    /// The answer of the job, where the table was closed after the run had ended, and the receipt. No tile is copied. A
+    /// preloaded table has the memory.
     pub fn outcome(self) -> Result<(Outcome, Receipt), OutOfMemory>
         requires { HaveNoWork (shards_of self) }
         ensures answer { IfOk result (λ r. r.0 ≡ answer self.job.matched self.job.given) }

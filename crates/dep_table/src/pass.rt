@@ -6,8 +6,8 @@ use work_board::PassRecord;
 
 pub(crate) type Seat = atomic_table::Seat<Shard, PassRecord>;
 
-/// A worker's part in a table. Contracts see which table it belongs to, its record, the shards that it holds, and the stamp that it
-/// drew last.
+/// A worker's part in a table. Contracts see which table it belongs to, its record, the shards that it holds, and the
+/// stamp that it drew last.
 #[derive(Drop)]
 pub struct Pass {
     pub(crate) seat: Seat,

@@ -56,7 +56,8 @@ fn need_task(needs: &mut Vec<Needs>, m: &Matched, t: &TaskId)
     requires shards { (0 < length needs.old.items) × (length needs.old.items ≤ 256) }
     requires types { HaveTypes (length m.now.elems) needs.old.items }
     requires room { HaveRoomFor m.now (t.now ∷ []) needs.old.items }
-    ensures { AddsNeeds m.now (placing.shard_of m.now (length needs.old.items)) (t.now ∷ []) needs.old.items needs.new.items }
+    ensures { AddsNeeds m.now (placing.shard_of m.now (length needs.old.items)) (t.now ∷ []) needs.old.items
+        needs.new.items }
 {
     let env = locals_of(m.plan(), t);
     let k = shard_under(m, needs.len(), t, env.as_slice());
@@ -68,8 +69,11 @@ fn need_class(needs: &mut Vec<Needs>, m: &Matched, class: u32)
     requires class { class < length m.now.classes }
     requires shards { (0 < length needs.old.items) × (length needs.old.items ≤ 256) }
     requires types { HaveTypes (length m.now.elems) needs.old.items }
-    requires room { (s : ClassSpaceValue) → slice_get m.now.spaces class ≡ Some s → HaveRoomFor m.now (map (task class) (range.tasks s)) needs.old.items }
-    ensures { (s : ClassSpaceValue) → slice_get m.now.spaces class ≡ Some s → AddsNeeds m.now (placing.shard_of m.now (length needs.old.items)) (map (task class) (range.tasks s)) needs.old.items needs.new.items }
+    requires room { (s : ClassSpaceValue) → slice_get m.now.spaces class ≡ Some s
+        → HaveRoomFor m.now (map (task class) (range.tasks s)) needs.old.items }
+    ensures { (s : ClassSpaceValue) → slice_get m.now.spaces class ≡ Some s
+        → AddsNeeds m.now (placing.shard_of m.now (length needs.old.items)) (map (task class) (range.tasks s))
+        needs.old.items needs.new.items }
 {
     let space = space_of(m, class);
     for params in Space::new(space) {
@@ -83,7 +87,9 @@ fn need_classes(needs: &mut Vec<Needs>, m: &Matched, class: u32)
     requires shards { (0 < length needs.old.items) × (length needs.old.items ≤ 256) }
     requires types { HaveTypes (length m.now.elems) needs.old.items }
     requires room { HaveRoomFor m.now (tasks_from class (drop class m.now.spaces)) needs.old.items }
-    ensures { (ss : List ClassSpaceValue) → drop class m.now.spaces ≡ ss → AddsNeeds m.now (placing.shard_of m.now (length needs.old.items)) (tasks_from class ss) needs.old.items needs.new.items }
+    ensures { (ss : List ClassSpaceValue) → drop class m.now.spaces ≡ ss
+        → AddsNeeds m.now (placing.shard_of m.now (length needs.old.items)) (tasks_from class ss) needs.old.items
+        needs.new.items }
 {
     if class as usize >= m.plan().classes.len() {
         return;
@@ -120,7 +126,8 @@ fn reserve_for(shard: &mut Shard, needs: &Needs) -> Result<(), OutOfMemory>
 // Takes the spares that the shard k needs.
 fn reserve_at(shards: &mut Vec<Shard>, k: usize, needs: &Needs) -> Result<(), OutOfMemory>
     requires within { k < length shards.old.items }
-    requires types { (y : Content) → slice_get shards.old.items k ≡ Some y → length needs.now.tiles.items ≡ length y.elems }
+    requires types { (y : Content) → slice_get shards.old.items k ≡ Some y
+        → length needs.now.tiles.items ≡ length y.elems }
     ensures { OnOk result (ReservesAt k needs.now shards.old.items shards.new.items) }
 {
     reserve_for(&mut shards[k], needs)
@@ -151,8 +158,8 @@ fn preloaded_shards(alloc: Global, m: &Matched, shards: u32) -> Result<Vec<Shard
 }
 
 impl DepTable {
-    /// A table for a job, with from 1 to 256 shards, and its first pass. Each shard has spares for all that will come to it, and the
-    /// table has room for its close, so none of its calls wants memory.
+    /// A table for a job, with from 1 to 256 shards, and its first pass. Each shard has spares for all that will come
+    /// to it, and the table has room for its close, so none of its calls wants memory.
     pub fn new_preloaded(
         alloc: Global,
         matched: Matched,
@@ -163,7 +170,8 @@ impl DepTable {
         requires some_shards { 0 < shards }
         requires few_shards { shards ≤ 256 }
         ensures pass { IfOk result (λ r. IsPassOf (id_of r.0) r.1 × (r.1.me.0 ≡ first_pass)) }
-        ensures job { IfOk result (λ r. job_of r.0 ≡ record { matched = matched; given = given; shards = shards; preloaded = true }) }
+        ensures job { IfOk result (λ r.
+            job_of r.0 ≡ record { matched = matched; given = given; shards = shards; preloaded = true }) }
     {
         let opened = preloaded_shards(alloc, &matched, shards)?;
         let job = Job {

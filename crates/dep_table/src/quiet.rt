@@ -36,20 +36,25 @@ fn have_no_work(shards: &[Shard]) -> bool
     true
 }
 
-/// A law: where no shard of a closed table has work, what its passes did together is calm, and no event is possible; and then only.
+/// A law: where no shard of a closed table has work, what its passes did together is calm, and no event is possible;
+/// and then only.
 pub fn a_closed_table_without_work_is_quiescent()
-    ensures calm { (j : Job) (R : Moment) (ys : List Content) → IsClosedAt j R ys → HaveNoWork ys → IsCalm j.matched R × IsQuiescent j.matched j.given R.state }
+    ensures calm { (j : Job) (R : Moment) (ys : List Content) → IsClosedAt j R ys → HaveNoWork ys
+        → IsCalm j.matched R × IsQuiescent j.matched j.given R.state }
     ensures work { (j : Job) (R : Moment) (ys : List Content) → IsClosedAt j R ys → IsCalm j.matched R → HaveNoWork ys }
 {}
 
-/// A law: where no shard of a closed table has work, its passes have done what the job means. They have claimed the tasks that run,
-/// each once, and sent the items of the tasks that have outputs, each once and with the tile that its task leaves; and each claimed
-/// task was sent its inputs.
+/// A law: where no shard of a closed table has work, its passes have done what the job means. They have claimed the
+/// tasks that run, each once, and sent the items of the tasks that have outputs, each once and with the tile that its
+/// task leaves; and each claimed task was sent its inputs.
 pub fn a_quiet_close_has_the_meaning()
-    ensures { (j : Job) (R : Moment) (ys : List Content) → IsClosedAt j R ys → HaveNoWork ys → HasTheMeaning j.matched j.given R.state }
+    ensures { (j : Job) (R : Moment) (ys : List Content) → IsClosedAt j R ys → HaveNoWork ys
+        → HasTheMeaning j.matched j.given R.state }
 {}
 
-/// A law: where no shard of a closed table has work, a legal order of the claims of its passes is one of the tasks that run.
+/// A law: where no shard of a closed table has work, a legal order of the claims of its passes is one of the tasks that
+/// run.
 pub fn a_quiet_close_has_an_order_of_what_ran()
-    ensures { (j : Job) (R : Moment) (ys : List Content) (ts : List Task) → IsClosedAt j R ys → HaveNoWork ys → IsClaimOrder j.matched R.state ts → IsRanOrder j.matched j.given ts }
+    ensures { (j : Job) (R : Moment) (ys : List Content) (ts : List Task) → IsClosedAt j R ys → HaveNoWork ys
+        → IsClaimOrder j.matched R.state ts → IsRanOrder j.matched j.given ts }
 {}

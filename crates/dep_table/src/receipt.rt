@@ -5,8 +5,9 @@ ghost use Rattle.std.specs.Prelude.{◌≡◌};
 use dep_iter::Matched;
 use std::marker::Model;
 
-/// Shows that a table of a job was closed when it was quiet. Contracts see the plan, the numbers of shards and of passes, and whether
-/// all memory was taken before the first step. `Closed::outcome` alone makes one, and it can't be copied.
+/// Shows that a table of a job was closed when it was quiet. Contracts see the plan, the numbers of shards and of
+/// passes, and whether all memory was taken before the first step. `Closed::outcome` alone makes one, and it can't be
+/// copied.
 #[derive(Drop)]
 pub struct Receipt {
     pub(crate) matched: Matched,

@@ -36,9 +36,12 @@ impl<'a> Turn<'a> {
         requires turn { IsTurn self.old }
         ensures same_reference { self.new.pass.ghost_name ≡ self.old.pass.ghost_name }
         ensures same { (self.new.table.now ≡ self.old.table.now) × (self.new.shard ≡ self.old.shard) }
-        ensures turn { (v : PassRecord) (y z : Content) → IsTurnOf self.old v y z → (w : Content) × IsTurnOf self.new v y w }
-        ensures none { IfNone result ((v : PassRecord) (y z : Content) → IsTurnOf self.old v y z → HasNoReady y.entries) }
-        ensures some { IfSome result (λ t. (v : PassRecord) (y z : Content) → IsTurnOf self.old v y z → IsBest y.entries t) }
+        ensures turn { (v : PassRecord) (y z : Content) → IsTurnOf self.old v y z
+            → (w : Content) × IsTurnOf self.new v y w }
+        ensures none { IfNone result
+            ((v : PassRecord) (y z : Content) → IsTurnOf self.old v y z → HasNoReady y.entries) }
+        ensures some { IfSome result (λ t.
+            (v : PassRecord) (y z : Content) → IsTurnOf self.old v y z → IsBest y.entries t) }
     {
         self.table.best_of(self.pass, self.shard)
     }
@@ -48,9 +51,12 @@ impl<'a> Turn<'a> {
     // Claims the best ready task of the shard and gives the turn back. The claim has its stamp.
     pub(crate) fn claim_best(self, t: &TaskId) -> Arrivals
         requires idle { (shown self.pass.now).running ≡ [] }
-        requires best { (v : PassRecord) × (y : Content) × (z : Content) × IsTurnOf self v y z × IsBest y.entries t.now }
+        requires best { (v : PassRecord) × (y : Content) × (z : Content) × IsTurnOf self v y z
+            × IsBest y.entries t.now }
         ensures pass { IsPassOf (id_of self.entry.table.now) self.exit.1.0.now }
-        ensures claimed { (v : PassRecord) (y z : Content) → IsTurnOf self.entry v y z → HasClaimedBest (job_of self.entry.table.now).matched (job_of self.entry.table.now).given self.entry.shard t.now result v (shown self.exit.1.0.now) }
+        ensures claimed { (v : PassRecord) (y z : Content) → IsTurnOf self.entry v y z
+            → HasClaimedBest (job_of self.entry.table.now).matched (job_of self.entry.table.now).given self.entry.shard
+            t.now result v (shown self.exit.1.0.now) }
     {
         match self.claim(t) {
             Some(arrivals) => arrivals,

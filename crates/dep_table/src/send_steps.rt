@@ -48,7 +48,12 @@ impl DepTable {
         requires within { shard < self.now.job.shards }
         requires sends { SendsItem self.now.job shard item.now (option_copied tile) seat.old.me }
         ensures of { seat.new.table_id ≡ seat.old.table_id }
-        ensures me { seat.new.me ≡ (turn_left (with_own_send seat.old.me.0 record { item = item.now; tile = option_copied tile.entry }), rest seat.old.me.1) }
+        ensures me { seat.new.me
+            ≡ (
+              turn_left (with_own_send seat.old.me.0 record { item = item.now; tile = option_copied tile.entry }),
+              rest
+                  seat.old.me.1,
+            ) }
     {
         let _item = item;
         let _tile = tile;
@@ -62,7 +67,12 @@ impl DepTable {
         requires within { shard < self.now.job.shards }
         requires sends { SendsItem self.now.job shard item.now (option_copied tile) seat.old.me }
         ensures of { seat.new.table_id ≡ seat.old.table_id }
-        ensures me { seat.new.me ≡ (turn_left (with_own_send seat.old.me.0 record { item = item.now; tile = option_copied tile.entry }), rest seat.old.me.1) }
+        ensures me { seat.new.me
+            ≡ (
+              turn_left (with_own_send seat.old.me.0 record { item = item.now; tile = option_copied tile.entry }),
+              rest
+                  seat.old.me.1,
+            ) }
     {
         self.give_send_of::<Brand>(seat, shard, item, tile);
     }

@@ -18,17 +18,26 @@ use ptg_base::{Item, OutOfMemory, Tile};
 use work_board::Sent;
 
 impl<'a> Turn<'a> {
-    /// Sends an item of the task that the pass runs, with its tile, and gives the turn back: Fired exactly where the edge was the
-    /// last that its target waits for, Waits where not, Kept for a write-back. All memory is taken first. Without it the turn is
-    /// given back, and nothing else happens; a preloaded table has the memory.
+    /// Sends an item of the task that the pass runs, with its tile, and gives the turn back: Fired exactly where the
+    /// edge was the last that its target waits for, Waits where not, Kept for a write-back. All memory is taken first.
+    /// Without it the turn is given back, and nothing else happens; a preloaded table has the memory.
     pub fn send(self, item: &Item, tile: Option<&Tile>) -> Result<Sent, OutOfMemory>
         requires turn { IsTurn self }
-        requires item { IsNext (job_of self.table.now).matched (job_of self.table.now).given item.now (option_copied tile) (shown self.pass.now) }
-        requires shard { shard_of_item (placing.shard_of (job_of self.table.now).matched (job_of self.table.now).shards) item.now ≡ self.shard }
+        requires item { IsNext (job_of self.table.now).matched (job_of self.table.now).given item.now
+            (option_copied tile) (shown self.pass.now) }
+        requires shard { shard_of_item (placing.shard_of (job_of self.table.now).matched (job_of self.table.now).shards)
+            item.now
+            ≡ self.shard }
         ensures pass { IsPassOf (id_of self.entry.table.now) self.exit.1.0.now }
-        ensures sent { IfOk result (λ a. (v : PassRecord) (y z : Content) → IsTurnOf self.entry v y z → HasSent (job_of self.entry.table.now).matched self.entry.shard item.now (option_copied tile.entry) a v (shown self.exit.1.0.now)) }
-        ensures left { OnErr result ((v : PassRecord) (y z : Content) → IsTurnOf self.entry v y z → OnlyTook self.entry.shard v (shown self.exit.1.0.now)) }
-        ensures last { (v : PassRecord) (y z : Content) → IsTurnOf self.entry v y z → (shown self.exit.1.0.now).last ≡ (self.entry.shard, y) ∷ [] }
+        ensures sent { IfOk result (λ a.
+            (v : PassRecord) (y z : Content) → IsTurnOf self.entry v y z
+            → HasSent (job_of self.entry.table.now).matched self.entry.shard item.now (option_copied tile.entry) a v
+            (shown self.exit.1.0.now)) }
+        ensures left { OnErr result
+            ((v : PassRecord) (y z : Content) → IsTurnOf self.entry v y z
+            → OnlyTook self.entry.shard v (shown self.exit.1.0.now)) }
+        ensures last { (v : PassRecord) (y z : Content) → IsTurnOf self.entry v y z
+            → (shown self.exit.1.0.now).last ≡ (self.entry.shard, y) ∷ [] }
         ensures preloaded { (job_of self.entry.table.now).preloaded ≡ true → IsOk result }
     {
         let Turn { table, pass, shard } = self;

@@ -48,7 +48,9 @@ impl DepTable {
         requires event { E.job ≡ Some self.now.job }
         requires of { seat.old.table_id ≡ self.now.table.shared.table_id }
         ensures of { seat.new.table_id ≡ seat.old.table_id }
-        ensures quiet { result ≡ 0 → (seat.new.me ≡ (with_quiet (with_look seat.old.me.0 Live result), seat.old.me.1)) × WasPass self.now.job (with_quiet (with_look seat.old.me.0 Live result)) }
+        ensures quiet { result ≡ 0
+            → (seat.new.me ≡ (with_quiet (with_look seat.old.me.0 Live result), seat.old.me.1))
+            × WasPass self.now.job (with_quiet (with_look seat.old.me.0 Live result)) }
         ensures busy { result ≢ 0 → seat.new.me ≡ (with_look seat.old.me.0 Live result, seat.old.me.1) }
     {
         let word = live_index(self.job.shards);
@@ -59,7 +61,9 @@ impl DepTable {
     pub(crate) fn read_live(&self, seat: &mut Seat) -> u64
         requires of { seat.old.table_id ≡ self.now.table.shared.table_id }
         ensures of { seat.new.table_id ≡ seat.old.table_id }
-        ensures quiet { result ≡ 0 → (seat.new.me ≡ (with_quiet (with_look seat.old.me.0 Live result), seat.old.me.1)) × WasPass self.now.job (with_quiet (with_look seat.old.me.0 Live result)) }
+        ensures quiet { result ≡ 0
+            → (seat.new.me ≡ (with_quiet (with_look seat.old.me.0 Live result), seat.old.me.1))
+            × WasPass self.now.job (with_quiet (with_look seat.old.me.0 Live result)) }
         ensures busy { result ≢ 0 → seat.new.me ≡ (with_look seat.old.me.0 Live result, seat.old.me.1) }
     {
         self.read_live_of::<Brand>(seat)

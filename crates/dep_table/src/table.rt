@@ -22,7 +22,8 @@ pub struct DepTable {
     pub(crate) job: Job,
     pub(crate) closing: ClosingRoom,
     ghost of_job: { job ≡ table.shared.key },
-    ghost sized: { (table.shared.table_id.words ≡ word_count job.shards) × (table.shared.table_id.slots ≡ job.shards) × (0 < job.shards) × (job.shards ≤ 256) },
+    ghost sized: { (table.shared.table_id.words ≡ word_count job.shards) × (table.shared.table_id.slots ≡ job.shards)
+        × (0 < job.shards) × (job.shards ≤ 256) },
     ghost fit: { DataFit job.matched.colls job.matched.elems job.given },
     ghost well_made: { IsWellMade job.given } by { Prim.hlevel props },
     ghost room: { IsRoomFor job closing },

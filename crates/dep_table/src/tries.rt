@@ -29,7 +29,9 @@ impl DepTable {
         requires task { IsTask (job_of self.now).matched t.now }
         requires idle { (shown pass.old).running ≡ [] }
         ensures pass { IsPassOf (id_of self.now) pass.new }
-        ensures claim { Claimed (job_of self.now).matched (job_of self.now).given (placing.shard_of (job_of self.now).matched (job_of self.now).shards t.now) t.now result (shown pass.old) (shown pass.new) }
+        ensures claim { Claimed (job_of self.now).matched (job_of self.now).given
+            (placing.shard_of (job_of self.now).matched (job_of self.now).shards t.now) t.now result (shown pass.old)
+            (shown pass.new) }
     {
         let shard = self.shard_of(t);
         match self.try_turn(pass, shard) {
@@ -47,7 +49,9 @@ impl DepTable {
         requires shard { shard < (job_of self.now).shards }
         requires idle { (shown pass.old).running ≡ [] }
         ensures pass { IsPassOf (id_of self.now) pass.new }
-        ensures scan { Scanned (job_of self.now).matched (job_of self.now).given (placing.shard_of (job_of self.now).matched (job_of self.now).shards) shard result (shown pass.old) (shown pass.new) }
+        ensures scan { Scanned (job_of self.now).matched (job_of self.now).given
+            (placing.shard_of (job_of self.now).matched (job_of self.now).shards) shard result (shown pass.old)
+            (shown pass.new) }
     {
         match self.try_turn(pass, shard) {
             Ok(mut turn) => match turn.best_ready() {
@@ -68,7 +72,8 @@ impl DepTable {
     fn shard_for(&self, item: &Item) -> u32
         requires task { IsTask (job_of self.now).matched (sender item.now) }
         requires item { IsIn item.now (items (job_of self.now).matched (sender item.now)) }
-        ensures number { result ≡ shard_of_item (placing.shard_of (job_of self.now).matched (job_of self.now).shards) item.now }
+        ensures number { result
+            ≡ shard_of_item (placing.shard_of (job_of self.now).matched (job_of self.now).shards) item.now }
         ensures within { result < (job_of self.now).shards }
     {
         let _plan = self.job.matched.plan();
@@ -87,10 +92,16 @@ impl DepTable {
     ) -> Result<Sent, OutOfMemory>
         requires pass { IsPassOf (id_of self.now) pass.old }
         requires task { IsTask (job_of self.now).matched (sender item.now) }
-        requires item { IsNext (job_of self.now).matched (job_of self.now).given item.now (option_copied tile) (shown pass.old) }
+        requires item { IsNext (job_of self.now).matched (job_of self.now).given item.now (option_copied tile)
+            (shown pass.old) }
         ensures pass { IsPassOf (id_of self.now) pass.new }
-        ensures sent { IfOk result (λ a. SentAs (job_of self.now).matched (shard_of_item (placing.shard_of (job_of self.now).matched (job_of self.now).shards) item.now) item.now (option_copied tile.entry) a (shown pass.old) (shown pass.new)) }
-        ensures err { OnErr result (OnlyTook (shard_of_item (placing.shard_of (job_of self.now).matched (job_of self.now).shards) item.now) (shown pass.old) (shown pass.new)) }
+        ensures sent { IfOk result (λ a.
+            SentAs (job_of self.now).matched
+            (shard_of_item (placing.shard_of (job_of self.now).matched (job_of self.now).shards) item.now) item.now
+            (option_copied tile.entry) a (shown pass.old) (shown pass.new)) }
+        ensures err { OnErr result
+            (OnlyTook (shard_of_item (placing.shard_of (job_of self.now).matched (job_of self.now).shards) item.now)
+            (shown pass.old) (shown pass.new)) }
         ensures preloaded { (job_of self.now).preloaded ≡ true → IsOk result }
     {
         let shard = self.shard_for(item);
@@ -100,14 +111,15 @@ impl DepTable {
         }
     }
 
-    // Ends the task that the pass runs, whose items were all sent, and keeps the tiles that came with it. False only where the turn was
-    // taken.
+    // Ends the task that the pass runs, whose items were all sent, and keeps the tiles that came with it. False only
+    // where the turn was taken.
     pub(crate) fn end_once(&self, pass: &mut Pass, t: &TaskId, spent: &mut Arrivals) -> bool
         requires pass { IsPassOf (id_of self.now) pass.old }
         requires is_task { IsTask (job_of self.now).matched t.now }
         requires task { MayEnd (job_of self.now).matched (job_of self.now).given t.now (shown pass.old) }
         ensures pass { IsPassOf (id_of self.now) pass.new }
-        ensures ended { EndedIf result (placing.shard_of (job_of self.now).matched (job_of self.now).shards t.now) (shown pass.old) (shown pass.new) }
+        ensures ended { EndedIf result (placing.shard_of (job_of self.now).matched (job_of self.now).shards t.now)
+            (shown pass.old) (shown pass.new) }
     {
         let shard = self.shard_of(t);
         match self.try_turn(pass, shard) {
@@ -130,8 +142,12 @@ impl DepTable {
         requires is_task { IsTask (job_of self.now).matched t.now }
         requires task { MayTrap (job_of self.now).matched (job_of self.now).given t.now cause (shown pass.old) }
         ensures pass { IsPassOf (id_of self.now) pass.new }
-        ensures ended { IfOk result (λ a. EndedIf a (placing.shard_of (job_of self.now).matched (job_of self.now).shards t.now) (shown pass.old) (shown pass.new)) }
-        ensures err { OnErr result (OnlyTook (placing.shard_of (job_of self.now).matched (job_of self.now).shards t.now) (shown pass.old) (shown pass.new)) }
+        ensures ended { IfOk result (λ a.
+            EndedIf a (placing.shard_of (job_of self.now).matched (job_of self.now).shards t.now) (shown pass.old)
+            (shown pass.new)) }
+        ensures err { OnErr result
+            (OnlyTook (placing.shard_of (job_of self.now).matched (job_of self.now).shards t.now) (shown pass.old)
+            (shown pass.new)) }
         ensures preloaded { (job_of self.now).preloaded ≡ true → IsOk result }
     {
         let shard = self.shard_of(t);

@@ -20,7 +20,8 @@ use dep_shard::Arrivals;
 use ptg_base::{OutOfMemory, TaskId};
 use term_core::Trap;
 
-/// The turn of a shard, with the pass that took it. It has no `Drop`: one of the calls that take it gives the turn back.
+/// The turn of a shard, with the pass that took it. It has no `Drop`: one of the calls that take it gives the turn
+/// back.
 pub struct Turn<'a> {
     pub(crate) table: &'a DepTable,
     pub(crate) pass: &'a mut Pass,
@@ -37,10 +38,12 @@ impl DepTable {
     pub fn try_turn<'a>(&'a self, pass: &'a mut Pass, shard: u32) -> Result<Turn<'a>, Busy<'a>>
         requires pass { IsPassOf (id_of self.now) pass.old }
         requires shard { shard < (job_of self.now).shards }
-        ensures same { IfOk result (λ t. (t.pass.ghost_name ≡ pass.entry.ghost_name) × (t.table.now ≡ self.now) × (t.shard ≡ shard)) }
+        ensures same { IfOk result (λ t.
+            (t.pass.ghost_name ≡ pass.entry.ghost_name) × (t.table.now ≡ self.now) × (t.shard ≡ shard)) }
         ensures turn { IfOk result (λ t. (y : Content) × IsTurnOf t (shown pass.old) y y) }
         ensures name { IfErr result (λ b. b.pass.ghost_name ≡ pass.entry.ghost_name) }
-        ensures busy { IfErr result (λ b. IsPassOf (id_of self.now) b.pass.now × FoundBusy (word.Turn shard) (shown pass.old) (shown b.pass.now)) }
+        ensures busy { IfErr result (λ b.
+            IsPassOf (id_of self.now) b.pass.now × FoundBusy (word.Turn shard) (shown pass.old) (shown b.pass.now)) }
     {
         let found = self.take(&mut pass.seat, shard);
         if found != 0 {
@@ -59,8 +62,10 @@ impl<'a> Turn<'a> {
     pub fn leave(self)
         requires turn { IsTurn self }
         ensures pass { IsPassOf (id_of self.entry.table.now) self.exit.1.0.now }
-        ensures left { (v : PassRecord) (y z : Content) → IsTurnOf self.entry v y z → OnlyTook self.entry.shard v (shown self.exit.1.0.now) }
-        ensures last { (v : PassRecord) (y z : Content) → IsTurnOf self.entry v y z → (shown self.exit.1.0.now).last ≡ (self.entry.shard, y) ∷ [] }
+        ensures left { (v : PassRecord) (y z : Content) → IsTurnOf self.entry v y z
+            → OnlyTook self.entry.shard v (shown self.exit.1.0.now) }
+        ensures last { (v : PassRecord) (y z : Content) → IsTurnOf self.entry v y z
+            → (shown self.exit.1.0.now).last ≡ (self.entry.shard, y) ∷ [] }
     {
         let Turn { table, pass, shard } = self;
         table.give(&mut pass.seat, shard);
@@ -68,14 +73,21 @@ impl<'a> Turn<'a> {
 }
 
 impl<'a> Turn<'a> {
-    /// Claims a task and gives the turn back: None exactly where the shard has no ready entry of the task. The claim has its stamp.
+    /// Claims a task and gives the turn back: None exactly where the shard has no ready entry of the task. The claim
+    /// has its stamp.
     pub fn claim(self, t: &TaskId) -> Option<Arrivals>
         requires turn { IsTurn self }
         requires idle { (shown self.pass.now).running ≡ [] }
         ensures pass { IsPassOf (id_of self.entry.table.now) self.exit.1.0.now }
-        ensures some { IfSome result (λ tiles. (v : PassRecord) (y z : Content) → IsTurnOf self.entry v y z → HasClaimed (job_of self.entry.table.now).matched (job_of self.entry.table.now).given self.entry.shard t.now tiles v (shown self.exit.1.0.now)) }
-        ensures none { IfNone result ((v : PassRecord) (y z : Content) → IsTurnOf self.entry v y z → FoundGone self.entry.shard t.now v (shown self.exit.1.0.now)) }
-        ensures last { (v : PassRecord) (y z : Content) → IsTurnOf self.entry v y z → (shown self.exit.1.0.now).last ≡ (self.entry.shard, y) ∷ [] }
+        ensures some { IfSome result (λ tiles.
+            (v : PassRecord) (y z : Content) → IsTurnOf self.entry v y z
+            → HasClaimed (job_of self.entry.table.now).matched (job_of self.entry.table.now).given self.entry.shard
+            t.now tiles v (shown self.exit.1.0.now)) }
+        ensures none { IfNone result
+            ((v : PassRecord) (y z : Content) → IsTurnOf self.entry v y z
+            → FoundGone self.entry.shard t.now v (shown self.exit.1.0.now)) }
+        ensures last { (v : PassRecord) (y z : Content) → IsTurnOf self.entry v y z
+            → (shown self.exit.1.0.now).last ≡ (self.entry.shard, y) ∷ [] }
     {
         let Turn { table, pass, shard } = self;
         let desk = pass.seat.slot_mut(&table.table.shared, shard as usize);
@@ -94,15 +106,19 @@ impl<'a> Turn<'a> {
 }
 
 impl<'a> Turn<'a> {
-    /// Ends the running task, all of whose items the pass has sent, and gives the turn back. The shard may keep the tiles that came with
-    /// the task, for what is sent later.
+    /// Ends the running task, all of whose items the pass has sent, and gives the turn back. The shard may keep the
+    /// tiles that came with the task, for what is sent later.
     pub fn end(self, t: &TaskId, spent: &mut Arrivals)
         requires turn { IsTurn self }
-        requires task { MayEnd (job_of self.table.now).matched (job_of self.table.now).given t.now (shown self.pass.now) }
-        requires shard { placing.shard_of (job_of self.table.now).matched (job_of self.table.now).shards t.now ≡ self.shard }
+        requires task { MayEnd (job_of self.table.now).matched (job_of self.table.now).given t.now
+            (shown self.pass.now) }
+        requires shard { placing.shard_of (job_of self.table.now).matched (job_of self.table.now).shards t.now
+            ≡ self.shard }
         ensures pass { IsPassOf (id_of self.entry.table.now) self.exit.1.0.now }
-        ensures ended { (v : PassRecord) (y z : Content) → IsTurnOf self.entry v y z → HasEnded self.entry.shard v (shown self.exit.1.0.now) }
-        ensures last { (v : PassRecord) (y z : Content) → IsTurnOf self.entry v y z → (shown self.exit.1.0.now).last ≡ (self.entry.shard, y) ∷ [] }
+        ensures ended { (v : PassRecord) (y z : Content) → IsTurnOf self.entry v y z
+            → HasEnded self.entry.shard v (shown self.exit.1.0.now) }
+        ensures last { (v : PassRecord) (y z : Content) → IsTurnOf self.entry v y z
+            → (shown self.exit.1.0.now).last ≡ (self.entry.shard, y) ∷ [] }
     {
         let _task = t;
         let Turn { table, pass, shard } = self;
@@ -114,16 +130,23 @@ impl<'a> Turn<'a> {
 }
 
 impl<'a> Turn<'a> {
-    /// Notes that the running task trapped with this cause, which ends it, and gives the turn back. Without memory it gives the turn
-    /// back, and nothing else; a preloaded table has the memory.
+    /// Notes that the running task trapped with this cause, which ends it, and gives the turn back. Without memory it
+    /// gives the turn back, and nothing else; a preloaded table has the memory.
     pub fn trap(self, t: &TaskId, cause: Trap) -> Result<(), OutOfMemory>
         requires turn { IsTurn self }
-        requires task { MayTrap (job_of self.table.now).matched (job_of self.table.now).given t.now cause (shown self.pass.now) }
-        requires shard { placing.shard_of (job_of self.table.now).matched (job_of self.table.now).shards t.now ≡ self.shard }
+        requires task { MayTrap (job_of self.table.now).matched (job_of self.table.now).given t.now cause
+            (shown self.pass.now) }
+        requires shard { placing.shard_of (job_of self.table.now).matched (job_of self.table.now).shards t.now
+            ≡ self.shard }
         ensures pass { IsPassOf (id_of self.entry.table.now) self.exit.1.0.now }
-        ensures ended { OnOk result ((v : PassRecord) (y z : Content) → IsTurnOf self.entry v y z → HasEnded self.entry.shard v (shown self.exit.1.0.now)) }
-        ensures left { OnErr result ((v : PassRecord) (y z : Content) → IsTurnOf self.entry v y z → OnlyTook self.entry.shard v (shown self.exit.1.0.now)) }
-        ensures last { (v : PassRecord) (y z : Content) → IsTurnOf self.entry v y z → (shown self.exit.1.0.now).last ≡ (self.entry.shard, y) ∷ [] }
+        ensures ended { OnOk result
+            ((v : PassRecord) (y z : Content) → IsTurnOf self.entry v y z
+            → HasEnded self.entry.shard v (shown self.exit.1.0.now)) }
+        ensures left { OnErr result
+            ((v : PassRecord) (y z : Content) → IsTurnOf self.entry v y z
+            → OnlyTook self.entry.shard v (shown self.exit.1.0.now)) }
+        ensures last { (v : PassRecord) (y z : Content) → IsTurnOf self.entry v y z
+            → (shown self.exit.1.0.now).last ≡ (self.entry.shard, y) ∷ [] }
         ensures preloaded { (job_of self.entry.table.now).preloaded ≡ true → IsOk result }
     {
         let Turn { table, pass, shard } = self;

@@ -25,7 +25,9 @@ impl DepTable {
         requires within { shard < self.now.job.shards }
         requires named { HasName seat.old.me.0 }
         ensures of { seat.new.table_id ≡ seat.old.table_id }
-        ensures free { result ≡ 0 → (y : Content) × (seat.new.me ≡ (with_turn seat.old.me.0 shard y, (shard, y) ∷ seat.old.me.1)) × WasSeen self.now.job shard seat.old.me.0 y }
+        ensures free { result ≡ 0
+            → (y : Content) × (seat.new.me ≡ (with_turn seat.old.me.0 shard y, (shard, y) ∷ seat.old.me.1))
+            × WasSeen self.now.job shard seat.old.me.0 y }
         ensures taken { result ≢ 0 → seat.new.me ≡ (with_look seat.old.me.0 (word.Turn shard) result, seat.old.me.1) }
     {
         let word = turn_index(shard);
@@ -38,7 +40,9 @@ impl DepTable {
         requires within { shard < self.now.job.shards }
         requires named { HasName seat.old.me.0 }
         ensures of { seat.new.table_id ≡ seat.old.table_id }
-        ensures free { result ≡ 0 → (y : Content) × (seat.new.me ≡ (with_turn seat.old.me.0 shard y, (shard, y) ∷ seat.old.me.1)) × WasSeen self.now.job shard seat.old.me.0 y }
+        ensures free { result ≡ 0
+            → (y : Content) × (seat.new.me ≡ (with_turn seat.old.me.0 shard y, (shard, y) ∷ seat.old.me.1))
+            × WasSeen self.now.job shard seat.old.me.0 y }
         ensures taken { result ≢ 0 → seat.new.me ≡ (with_look seat.old.me.0 (word.Turn shard) result, seat.old.me.1) }
     {
         self.take_of::<Brand>(seat, shard)

@@ -6,7 +6,10 @@ use Rattle.ptg_base.specs.Task.{Task}
 use Rattle.ptg_base.specs.declared.edge.Edge.{Edge}
 use Rattle.plan_core.specs.declared.plan.Plan.{Plan}
 use Rattle.range_space.specs.Sound.{IsSound, prefix_total}
-use Rattle.range_space.proofs.MemberLists.{IsIn-flat_map, from_flat_map}
+use Rattle.list_lemmas.proofs.Members.{IsIn-flat_map, from_flat_map}
+use Rattle.list_lemmas.proofs.Joins.{filter_map-flat_map}
+use Rattle.list_lemmas.proofs.Distinct.{HasNoRepeats-flat_map}
+use Rattle.list_lemmas.proofs.Pigeonhole.{pigeonhole}
 use Rattle.plan_core.specs.declared.flow.FlowPlan.{FlowPlan}
 use Rattle.dep_iter.specs.declared.source.Source.{Source}
 use Rattle.dep_iter.specs.declared.source.Source.TheVariants as source
@@ -15,21 +18,18 @@ use Rattle.dep_iter.specs.Consistent.{IsConsistent, IsWellConnected, all_in, all
 use Rattle.dep_iter.specs.Edges.{data_source, in_edges}
 use Rattle.dep_iter.specs.Items.{edge_of, item_flow, items, out_edges, write_backs, write_of}
 use Rattle.dep_iter.proofs.Belonging.{in_edge_is}
-use Rattle.dep_iter.proofs.Joining.{filter_map-flat_map}
 use Rattle.dep_iter.proofs.Listing.{listed}
 use Rattle.edge_accept.specs.declared.tally.Tally.{Tally}
 use Rattle.place_set.specs.Sets.{IsSetOf}
 use Rattle.edge_accept.specs.Flows.{IsSoundSource, items_of_flow}
 use Rattle.edge_accept.specs.Tallies.{WentOver}
-use Rattle.edge_accept.proofs.Lists.{once-flat_map}
-use Rattle.edge_accept.proofs.Pigeonhole.{pigeonhole}
 use Rattle.edge_accept.proofs.TaskFlows.{item_flow-sends, length-items, source_flow}
 use Rattle.edge_accept.proofs.TaskLists.{once-all_tasks}
 
 module _ (P : Plan) (s c : Tally) (w : WentOver P s c (all_tasks P)) (edges : s.ins.edges ≡ 0) (outs : s.outs ≡ 0)
     (writes : s.writes ≡ 0) (balanced : c.ins.edges ≡ c.outs) where
   ins_once : HasNoRepeats (all_in P)
-  ins_once = once-flat_map (in_edges P) (all_tasks P) (once-all_tasks P) (λ t h. (w.sound t h).ins_once)
+  ins_once = HasNoRepeats-flat_map (in_edges P) (all_tasks P) (once-all_tasks P) (λ t h. (w.sound t h).ins_once)
       (λ t u e h k. sym ((in_edge_is P t e).0 h).0 ∙ ((in_edge_is P u e).0 k).0)
 
   among_outs : (e : Edge) → IsIn e (all_in P) → IsIn e (all_out P)

@@ -8,7 +8,7 @@ use Rattle.ptg_base.specs.declared.edge.Edge.{Edge}
 use Rattle.ptg_base.specs.declared.edge.Item.{Item}
 use Rattle.ptg_base.specs.declared.edge.Item.TheVariants as item
 use Rattle.dep_iter.specs.Items.{edge_of, write_of}
-use Rattle.dep_iter.proofs.Joining.{filter_map-append}
+use Rattle.std.proofs.lemmas.List.Elements.{filter_map-append}
 use Rattle.edge_accept.specs.declared.tally.Sent.{Sent}
 use Rattle.edge_accept.specs.Tallies.{AreSent, IsCount}
 use Rattle.edge_accept.proofs.TaskFlows.{length-items}

@@ -1,6 +1,4 @@
 pub mod Counting
-pub mod Lists
-pub mod Pigeonhole
 pub mod TaskLists
 pub mod TaskFlows
 pub mod Taking

@@ -16,7 +16,10 @@ use Rattle.plan_core.specs.declared.flow.FlowPlan.{FlowPlan}
 use Rattle.plan_core.specs.declared.plan.Plan.{Plan}
 use Rattle.plan_core.specs.declared.target.Target.{Target}
 use Rattle.plan_core.specs.Kinds.{kind_of}
-use Rattle.range_space.proofs.MemberLists.{IsIn-append_left, IsIn-append_right, from_append}
+use Rattle.list_lemmas.proofs.Members.{IsIn-append_left, IsIn-append_right, from_append}
+use Rattle.list_lemmas.proofs.Places.{drop_from}
+use Rattle.std.proofs.lemmas.List.Concat.{flat_map-append}
+use Rattle.list_lemmas.proofs.Distinct.{HasNoRepeats-append}
 use Rattle.dep_iter.specs.Tasks.{flows_of, locals_of}
 use Rattle.dep_iter.specs.Active.{held_target, held_targets, held_then, takes_first}
 use Rattle.dep_iter.specs.Consistent.{is_data_edge}
@@ -24,7 +27,6 @@ use Rattle.dep_iter.specs.Edges.{edges_into, in_edges_before}
 use Rattle.dep_iter.proofs.Belonging.{held-more, held-none}
 use Rattle.edge_accept.specs.declared.ins.Ins.{Ins}
 use Rattle.edge_accept.specs.Flows.{AreTaken, AreTakenOnce, IsSent}
-use Rattle.edge_accept.proofs.Lists.{drop_at, flat_map-append, once-append}
 
 -- whether an edge carries a tile is said by the kind of the flow that it goes into
 kind_here : (o : Option ClassPlan) (n : ℕ) (f : FlowPlan) → slice_get (option_map_or (λ (c : ClassPlan). c.flows) o []) n ≡ Some f → option_map (λ (f : FlowPlan). f.kind) (option_and_then (λ (c : ClassPlan). slice_get c.flows n) o) ≡ Some f.kind
@@ -72,7 +74,7 @@ module _ (P : Plan) (earlier : List Edge) where
 
   -- edges, and others
   pub once_both : (s u v : Ins) (xs ys : List Edge) → AreTakenOnce P earlier s u xs → AreTakenOnce P earlier u v ys → ((e : Edge) → IsIn e xs → IsIn e ys → ⊥) → AreTakenOnce P earlier s v (xs ++ ys)
-  once_both s u v xs ys a b apart = record { taken = taken_append s u v xs ys a.taken b.taken; once = once-append xs ys a.once b.once apart }
+  once_both s u v xs ys a b apart = record { taken = taken_append s u v xs ys a.taken b.taken; once = HasNoRepeats-append xs ys a.once b.once apart }
 
   -- edges, and those after them, which are looked up among them too
   pub once_after : (s u v : Ins) (xs ys : List Edge) → AreTakenOnce P earlier s u xs → AreTakenOnce P (earlier ++ xs) u v ys → AreTakenOnce P earlier s v (xs ++ ys)
@@ -132,7 +134,7 @@ module _ (P : Plan) (t : Task) (env : List ℤ) (n : ℕ) (f : FlowPlan) (locals
   rest_none s u none rest =
       let before = in_edges_before P t n k in
       let same : in_edges_before P t n (suc k) ≡ before = before-next ∙ rw none (append-nil before) in
-      rw (drop_at f.ins k d this, held-none false d (drop (suc k) f.ins) env none, sym same) rest
+      rw (drop_from f.ins k d this, held-none false d (drop (suc k) f.ins) env none, sym same) rest
 
   pub rest_some : (s u v : Ins) (x : Target) → held_target d env ≡ Some x
       → AreTakenOnce P (in_edges_before P t n k) s u (edges_into t env n x) → Rest (suc k) u v → Rest k s v
@@ -141,5 +143,5 @@ module _ (P : Plan) (t : Task) (env : List ℤ) (n : ℕ) (f : FlowPlan) (locals
       let later = flat_map E (held_targets false (drop (suc k) f.ins) env) in
       let before = in_edges_before P t n k in
       let same : in_edges_before P t n (suc k) ≡ before ++ E x = before-next ∙ rw (holds, append-nil (E x)) refl in
-      rw (drop_at f.ins k d this, held-more d (drop (suc k) f.ins) env x holds)
+      rw (drop_from f.ins k d this, held-more d (drop (suc k) f.ins) env x holds)
       (once_after P before s u v (E x) later first (subst (λ l. AreTakenOnce P l u v later) same rest))

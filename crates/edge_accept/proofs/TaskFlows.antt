@@ -1,9 +1,9 @@
 -- The edges into a task and what it sends, flow by flow.
-use Rattle.std.proofs.Common.{◌≡◌, ◌≢◌, ◌≤◌, ℕ, zero, suc, ◌+◌, ℤ, List, [], ◌∷◌, ◌++◌, length, map, refl, ap, sym, ◌∙◌}
-use Rattle.std.proofs.Common.{subst, append_assoc, add-zero, Option, Some, None, IsTrue, Bool, slice_get, inl, inr}
+use Rattle.std.proofs.Common.{◌≡◌, ◌≢◌, ◌≤◌, ℕ, suc, ◌+◌, ℤ, List, [], ◌∷◌, ◌++◌, length, map, refl, ap, sym, ◌∙◌}
+use Rattle.std.proofs.Common.{subst, append_assoc, add-zero, Option, Some, None, Bool, slice_get, inl, inr}
 use Rattle.std.proofs.Common.{arith}
 use Rattle.std.proofs.lemmas.Bool.{cases_lt}
-use Rattle.std.specs.List.{filter_map, flat_map, list_all}
+use Rattle.std.specs.List.{filter_map, flat_map}
 use Rattle.std.specs.Option.{option_map_or}
 use Rattle.ptg_base.specs.Lists.{IsIn}
 use Rattle.ptg_base.specs.Task.{Task}
@@ -14,7 +14,7 @@ use Rattle.plan_core.specs.declared.flow.FlowPlan.{FlowPlan}
 use Rattle.plan_core.specs.declared.plan.Plan.{Plan}
 use Rattle.plan_core.specs.declared.target.Target.{Target}
 use Rattle.plan_core.specs.declared.target.Target.TheVariants as target
-use Rattle.range_space.proofs.MemberLists.{and_left, and_right, from_append, from_flat_map, from_map}
+use Rattle.list_lemmas.proofs.Members.{from_append, from_flat_map, from_map}
 use Rattle.dep_iter.specs.declared.source.Source.{Source}
 use Rattle.dep_iter.specs.declared.source.Source.TheVariants as source
 use Rattle.dep_iter.specs.Tasks.{flows_of, locals_of, task}
@@ -120,12 +120,6 @@ from_this Q fs k g this here later i f least at = elim (cases_lt k i) [
   | inl l ↦ later i f (omega arith) at
   | inr l ↦ let e : i ≡ k = omega arith in let same : f ≡ g = let a = rw e at at in cc in rw (e, same) here
 ]
-
-pub all_at : {A : Type 0} (p : A → Bool) (xs : List A) (k : ℕ) (x : A) → IsTrue (list_all p xs)
-    → slice_get xs k ≡ Some x → IsTrue (p x)
-all_at p [] k x h e = absurd cc
-all_at p (y ∷ xs) zero x h e = let same : x ≡ y = cc in rw same (and_left (p y) (list_all p xs) h)
-all_at p (y ∷ xs) (suc k) x h e = all_at p xs k x (and_right (p y) (list_all p xs) h) e
 
 -- the source of a flow, by its in dependences
 pub source-is : (P : Plan) (t : Task) (n : ℕ) (f : FlowPlan) (env : List ℤ) (first : Bool) → env ≡ locals_of P t → slice_get (flows_of P t) n ≡ Some f → takes_first f.kind ≡ first → data_source P t n ≡ source_among t env n (held_targets first f.ins env)

@@ -2,7 +2,7 @@
 use Rattle.std.proofs.Common.{◌≡◌, ◌+◌, List, [], ◌∷◌, ◌++◌, length, length-append, map, refl, ap, sym, ◌∙◌, subst}
 use Rattle.std.proofs.Common.{append_assoc, ◌==◌, inl, inr, arith}
 use Rattle.std.proofs.lemmas.Bool.{eq-eqb, ne_eqb}
-use Rattle.std.proofs.lemmas.List.{append-nil}
+use Rattle.std.proofs.lemmas.List.{append-nil, map-append}
 use Rattle.std.proofs.lemmas.List.Elements.{filter-append}
 use Rattle.std.specs.List.{filter, flat_map}
 use Rattle.ptg_base.specs.Task.{Task}
@@ -10,17 +10,16 @@ use Rattle.ptg_base.specs.declared.edge.WriteBack.{WriteBack}
 use Rattle.plan_core.specs.declared.plan.Plan.{Plan}
 use Rattle.plan_core.specs.declared.shape.Shape.{Shape}
 use Rattle.plan_core.specs.Place.{HasPlace}
-use Rattle.range_space.proofs.MemberLists.{from_append}
+use Rattle.list_lemmas.proofs.Members.{from_append}
+use Rattle.std.proofs.lemmas.List.Concat.{flat_map-append}
 use Rattle.dep_iter.specs.Edges.{goal, in_edges}
 use Rattle.dep_iter.specs.Hints.{affinity}
 use Rattle.dep_iter.specs.Items.{out_edges, write_backs}
 use Rattle.dep_iter.specs.Well.{IsWellTask}
-use Rattle.dep_iter.proofs.Joining.{map-append}
 use Rattle.place_set.specs.declared.PlaceSet.{PlaceSet}
 use Rattle.edge_accept.specs.declared.tally.Tally.{Tally}
 use Rattle.edge_accept.specs.Flows.{IsSoundTask}
 use Rattle.edge_accept.specs.Tallies.{AreWritten, IsOnceIn, Sends, TakesIns, WentOver, place_of}
-use Rattle.edge_accept.proofs.Lists.{flat_map-append}
 use Rattle.edge_accept.proofs.Taking.{taken_append, taken_nil}
 
 module _ (colls : List Shape) where

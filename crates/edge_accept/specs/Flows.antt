@@ -52,8 +52,8 @@ pub record AreTakenOnce (P : Plan) (earlier : List Edge) (old new : Ins) (es : L
   pub taken : AreTaken P earlier old new es
   pub once : HasNoRepeats es
 
--- where the tile of a flow may come from, if the flow sends these items: from a place that exists; from `NULL` only where
--- nothing is sent; and from nowhere only where the flow takes no tile
+-- where the tile of a flow may come from, if the flow sends these items: from a place that exists; from `NULL` only
+-- where nothing is sent; and from nowhere only where the flow takes no tile
 abbrev pub IsSoundSource : Plan → FlowPlan → List Item → Source → Type 0
 IsSoundSource P f sent (source.Task e) = Unit {0}
 IsSoundSource P f sent (source.Place p) = HasPlace P.colls p

@@ -15,10 +15,12 @@ use plan_core::Plan;
 use ptg_base::OutOfMemory;
 use std::alloc::Global;
 
-/// The counts of a plan whose spaces are sound and have so many tasks, if one walk over its tasks shows that it is consistent. None says nothing.
+/// The counts of a plan whose spaces are sound and have so many tasks, if one walk over its tasks shows that it is
+/// consistent. None says nothing.
 ///
-/// Each edge into a task is looked up among those out of its sender, and none occurs twice; the edges out of tasks are only counted. Where both are as many,
-/// each edge out of a task is one into a task, and none of them occurs twice either.
+/// Each edge into a task is looked up among those out of its sender, and none occurs twice; the edges out of tasks are
+/// only counted. Where both are as many, each edge out of a task is one into a task, and none of them occurs twice
+/// either.
 pub fn accepts(alloc: Global, plan: &Plan, tasks: u64) -> Result<Option<Counts>, OutOfMemory>
     requires sound { AllByRecursion IsSound plan.now.spaces }
     requires tasks { tasks ≡ length (all_tasks plan.now) }

@@ -18,12 +18,15 @@ use dep_iter::{
 use plan_core::{Target, is_data};
 use ptg_base::TaskId;
 
-// Counts an edge into the flow, which dependence `k` gives, if it is one out of the task that it comes from and no earlier dependence gives it.
+// Counts an edge into the flow, which dependence `k` gives, if it is one out of the task that it comes from and no
+// earlier dependence gives it.
 fn take_edge(at: &FlowAt, k: usize, edge: &LentEdge, ins: &mut Ins) -> bool
     requires of_job { IsTask at.now.plan.now at.now.task.now }
     requires task { edge.now.to ≡ at.now.task.now }
     requires flow { edge.now.in_flow ≡ at.now.number }
-    ensures { OnTrue result (AreTaken at.now.plan.now (in_edges_before at.now.plan.now at.now.task.now at.now.number k) ins.old ins.new (edge.now ∷ [])) }
+    ensures { OnTrue result
+        (AreTaken at.now.plan.now (in_edges_before at.now.plan.now at.now.task.now at.now.number k) ins.old ins.new
+        (edge.now ∷ [])) }
 {
     let Some(_) = far_locals(at.plan, Direction::In, edge) else {
         return false;
@@ -37,7 +40,9 @@ fn take_edge(at: &FlowAt, k: usize, edge: &LentEdge, ins: &mut Ins) -> bool
 // Counts the edges into the flow from the tasks with these parameters, which a dependence names.
 fn take_edges(at: &FlowAt, named: Named, mut params: Combinations, ins: &mut Ins) -> bool
     requires of_job { IsTask at.now.plan.now at.now.task.now }
-    ensures { OnTrue result (AreTaken at.now.plan.now (in_edges_before at.now.plan.now at.now.task.now at.now.number named.dependence) ins.old ins.new (map (λ ps. edge (task named.class ps) named.flow at.now.task.now at.now.number) params)) }
+    ensures { OnTrue result
+        (AreTaken at.now.plan.now (in_edges_before at.now.plan.now at.now.task.now at.now.number named.dependence)
+        ins.old ins.new (map (λ ps. edge (task named.class ps) named.flow at.now.task.now at.now.number) params)) }
 {
     while let Some(values) = params.next() {
         let from = TaskId::new(named.class, values.as_slice());
@@ -53,8 +58,12 @@ fn take_edges(at: &FlowAt, named: Named, mut params: Combinations, ins: &mut Ins
 pub(crate) fn take_target(at: &FlowAt, k: usize, target: &Target, ins: &mut Ins) -> bool
     requires of_job { IsTask at.now.plan.now at.now.task.now }
     requires fit { IsTrue (fits at.now.plan.now target.now) }
-    ensures taken { OnTrue result (AreTakenOnce at.now.plan.now (in_edges_before at.now.plan.now at.now.task.now at.now.number k) ins.old ins.new (edges_into at.now.task.now at.now.env.now at.now.number target.now)) }
-    ensures source { OnTrue result ((e : EdgeValue) × (source_at at.now.task.now at.now.env.now at.now.number target.now ≡ source_variant.Task e)) }
+    ensures taken { OnTrue result
+        (AreTakenOnce at.now.plan.now (in_edges_before at.now.plan.now at.now.task.now at.now.number k) ins.old ins.new
+        (edges_into at.now.task.now at.now.env.now at.now.number target.now)) }
+    ensures source { OnTrue result
+        ((e : EdgeValue)
+        × (source_at at.now.task.now at.now.env.now at.now.number target.now ≡ source_variant.Task e)) }
 {
     let Target::Task(class, flow, args) = target else {
         return false;

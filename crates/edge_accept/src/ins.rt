@@ -19,7 +19,8 @@ impl Ins {
     // Counts an edge, which carries a tile or not, if it is not one too many.
     pub(crate) fn add(&mut self, carries_tile: bool) -> bool
         ensures edges { OnTrue result (self.new.edges ≡ self.old.edges + 1) }
-        ensures data_edges { OnTrue result (self.new.data_edges ≡ (if carries_tile then self.old.data_edges + 1 else self.old.data_edges)) }
+        ensures data_edges { OnTrue result
+            (self.new.data_edges ≡ (if carries_tile then self.old.data_edges + 1 else self.old.data_edges)) }
     {
         if self.edges >= MOST_EDGES {
             return false;

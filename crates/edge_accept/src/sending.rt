@@ -97,7 +97,8 @@ fn target_sent(target: &Target, env: &[i64]) -> Sent
 // What these out dependences send.
 fn held_sent(deps: &[DepPlan], env: &[i64]) -> Sent
     requires { IsTrue (are_well false env.now deps.now) }
-    ensures { (t : Task) (n : ℕ) → AreSent result (flat_map (items_to t env.now n) (held_targets false deps.now env.now)) }
+    ensures { (t : Task) (n : ℕ)
+        → AreSent result (flat_map (items_to t env.now n) (held_targets false deps.now env.now)) }
 {
     let Some((d, later)) = deps.split_first() else {
         return Sent {

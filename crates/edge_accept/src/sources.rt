@@ -29,13 +29,18 @@ fn has_place(at: &FlowAt) -> bool
     }
 }
 
-// Whether the flow may start from the target of its first in dependence that holds; the edges that the target stands for are counted.
+// Whether the flow may start from the target of its first in dependence that holds; the edges that the target stands
+// for are counted.
 fn take_source(at: &FlowAt, target: &Target, ins: &mut Ins) -> bool
     requires of_job { IsTask at.now.plan.now at.now.task.now }
     requires fit { IsTrue (fits at.now.plan.now target.now) }
-    requires first { data_source_of at.now.plan.now at.now.task.now at.now.number ≡ source_at at.now.task.now at.now.env.now at.now.number target.now }
-    ensures source { OnTrue result (HasSoundSource at.now.plan.now at.now.task.now at.now.env.now at.now.number at.now.flow.now) }
-    ensures taken { OnTrue result (AreTakenOnce at.now.plan.now [] ins.old ins.new (edges_into at.now.task.now at.now.env.now at.now.number target.now)) }
+    requires first { data_source_of at.now.plan.now at.now.task.now at.now.number
+        ≡ source_at at.now.task.now at.now.env.now at.now.number target.now }
+    ensures source { OnTrue result
+        (HasSoundSource at.now.plan.now at.now.task.now at.now.env.now at.now.number at.now.flow.now) }
+    ensures taken { OnTrue result
+        (AreTakenOnce at.now.plan.now [] ins.old ins.new
+        (edges_into at.now.task.now at.now.env.now at.now.number target.now)) }
 {
     match target {
         Target::Task(_, _, _) => take_target(at, 0, target, ins),
@@ -45,13 +50,19 @@ fn take_source(at: &FlowAt, target: &Target, ins: &mut Ins) -> bool
     }
 }
 
-// Whether a flow of which the first in dependence that holds counts alone may start from it, if it is one of these; the edges that it gives are counted.
+// Whether a flow of which the first in dependence that holds counts alone may start from it, if it is one of these; the
+// edges that it gives are counted.
 fn take_first(at: &FlowAt, deps: &[DepPlan], ins: &mut Ins) -> bool
     requires of_job { IsTask at.now.plan.now at.now.task.now }
     requires fit { IsTrue (dependences_fit at.now.plan.now deps.now) }
-    requires first { data_source_of at.now.plan.now at.now.task.now at.now.number ≡ source_among at.now.task.now at.now.env.now at.now.number (held_targets true deps.now at.now.env.now) }
-    ensures source { OnTrue result (HasSoundSource at.now.plan.now at.now.task.now at.now.env.now at.now.number at.now.flow.now) }
-    ensures taken { OnTrue result (AreTakenOnce at.now.plan.now [] ins.old ins.new (flat_map (edges_into at.now.task.now at.now.env.now at.now.number) (held_targets true deps.now at.now.env.now))) }
+    requires first { data_source_of at.now.plan.now at.now.task.now at.now.number
+        ≡ source_among at.now.task.now at.now.env.now at.now.number (held_targets true deps.now at.now.env.now) }
+    ensures source { OnTrue result
+        (HasSoundSource at.now.plan.now at.now.task.now at.now.env.now at.now.number at.now.flow.now) }
+    ensures taken { OnTrue result
+        (AreTakenOnce at.now.plan.now [] ins.old ins.new
+        (flat_map (edges_into at.now.task.now at.now.env.now at.now.number)
+        (held_targets true deps.now at.now.env.now))) }
 {
     let Some((d, later)) = deps.split_first() else {
         return !takes_tile(at.flow.kind);
@@ -90,8 +101,11 @@ fn take_all(at: &FlowAt, k: usize, ins: &mut Ins) -> bool
 // Whether the flow may start from its source; the edges into it are counted.
 pub(crate) fn take_flow(at: &FlowAt, ins: &mut Ins) -> bool
     requires of_job { IsTask at.now.plan.now at.now.task.now }
-    ensures source { OnTrue result (HasSoundSource at.now.plan.now at.now.task.now at.now.env.now at.now.number at.now.flow.now) }
-    ensures taken { OnTrue result (AreTakenOnce at.now.plan.now [] ins.old ins.new (edges_into_flow at.now.task.now at.now.env.now at.now.number at.now.flow.now)) }
+    ensures source { OnTrue result
+        (HasSoundSource at.now.plan.now at.now.task.now at.now.env.now at.now.number at.now.flow.now) }
+    ensures taken { OnTrue result
+        (AreTakenOnce at.now.plan.now [] ins.old ins.new
+        (edges_into_flow at.now.task.now at.now.env.now at.now.number at.now.flow.now)) }
 {
     if takes_first(at.flow.kind) {
         take_first(at, at.flow.ins.as_slice(), ins)

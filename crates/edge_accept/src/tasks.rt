@@ -127,7 +127,9 @@ fn space_of(plan: &Plan, class: u32) -> &ClassSpace
 // Goes over the tasks of a class, in walk order.
 fn accept_class(plan: &Plan, class: u32, tally: &mut Tally) -> bool
     requires { class < length plan.now.classes }
-    ensures { OnTrue result ((s : ClassSpaceValue) → slice_get plan.now.spaces class ≡ Some s → WentOver plan.now tally.old tally.new (map (task class) (range.tasks s))) }
+    ensures { OnTrue result
+        ((s : ClassSpaceValue) → slice_get plan.now.spaces class ≡ Some s
+        → WentOver plan.now tally.old tally.new (map (task class) (range.tasks s))) }
 {
     let space = space_of(plan, class);
     for locals in AllLocals::new(space) {

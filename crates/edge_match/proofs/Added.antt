@@ -1,7 +1,7 @@
 -- What the marks of the first phase count: all edges into tasks, all items and all places that are written.
 use Rattle.std.proofs.Common.{◌≡◌, ℕ, ◌+◌, List, [], ◌∷◌, ◌++◌, length, length-append, map, refl, ap, sym, ◌∙◌, subst}
 use Rattle.std.proofs.Common.{append_assoc, Ok, arith}
-use Rattle.std.proofs.lemmas.List.{append-nil}
+use Rattle.std.proofs.lemmas.List.{append-nil, map-append}
 use Rattle.std.specs.List.{filter_map, flat_map}
 use Rattle.ptg_base.specs.Task.{Task}
 use Rattle.ptg_base.specs.declared.place.Place.{Place}
@@ -17,7 +17,8 @@ use Rattle.dep_iter.specs.Tasks.{all_tasks}
 use Rattle.dep_iter.specs.Consistent.{all_in, all_items, all_writes}
 use Rattle.dep_iter.specs.Edges.{data_source, goal, in_edges}
 use Rattle.dep_iter.specs.Items.{items, write_of}
-use Rattle.dep_iter.proofs.Joining.{filter_map-append, filter_map-flat_map, map-append}
+use Rattle.std.proofs.lemmas.List.Elements.{filter_map-append}
+use Rattle.list_lemmas.proofs.Joins.{filter_map-flat_map}
 use Rattle.edge_match.specs.declared.phase.Phase.TheVariants.{Connecting}
 use Rattle.edge_match.specs.Marks.{Before, Mark, add_all, flow_items, flow_marks, flow_start, item_marks, nothing, phase_marks}
 use Rattle.edge_match.specs.Marks.{task_marks, task_start}

@@ -9,7 +9,8 @@ use Rattle.ptg_base.specs.declared.edge.Item.TheVariants as item
 use Rattle.plan_core.specs.declared.flow.FlowPlan.{FlowPlan}
 use Rattle.plan_core.specs.declared.plan.Plan.{Plan}
 use Rattle.range_space.specs.Sound.{IsSound, prefix_total}
-use Rattle.range_space.proofs.MemberLists.{IsIn-flat_map, from_flat_map, from_map}
+use Rattle.list_lemmas.proofs.Members.{IsIn-flat_map, from_flat_map, from_map}
+use Rattle.list_lemmas.proofs.Distinct.{HasNoRepeats-flat_map, HasNoRepeats-part}
 use Rattle.dep_iter.specs.declared.direction.Direction.{Direction}
 use Rattle.dep_iter.specs.declared.direction.Direction.TheVariants.{In, Out}
 use Rattle.dep_iter.specs.declared.source.Source.{Source}
@@ -21,7 +22,6 @@ use Rattle.dep_iter.specs.Items.{item_flow, items}
 use Rattle.dep_iter.specs.Tasks.{IsTask, all_tasks, flows_of, locals_of}
 use Rattle.dep_iter.proofs.Belonging.{in_edge_is, out_edge_is}
 use Rattle.dep_iter.proofs.Listing.{listed}
-use Rattle.edge_accept.proofs.Lists.{once-flat_map}
 use Rattle.edge_accept.proofs.TaskFlows.{item_flow-sends, sent_flow_is, source_flow}
 use Rattle.edge_accept.proofs.TaskLists.{once-all_tasks}
 use Rattle.edge_match.specs.declared.phase.Phase.{Phase}
@@ -31,7 +31,7 @@ use Rattle.edge_match.proofs.Added.{phase-adds}
 use Rattle.edge_match.proofs.Directed.{at_flow, edge_among, edges-numbered, flow_at_number, flow_edges, flows_at, in_flow_items}
 use Rattle.edge_match.proofs.Directed.{items-numbered, near_is, once_numbered, pair_is, write_among}
 use Rattle.edge_match.proofs.Holding.{AllHold, AtTask, HoldsAt, IsConnected, IsQuiet, IsWithinLimits, all_pass_and, all_quiet}
-use Rattle.edge_match.proofs.Holding.{connected, matched, matching, of_phase, once-each, once-part, quiet_items}
+use Rattle.edge_match.proofs.Holding.{connected, matched, matching, of_phase, once-each, quiet_items}
 use Rattle.edge_match.proofs.Parts.{AllPass-append, AllPass-parts}
 
 same_flow : (fs : List FlowPlan) (a b : ℕ × FlowPlan) → slice_get fs a.0 ≡ Some a.1 → slice_get fs b.0 ≡ Some b.1 → a.0 ≡ b.0 → a ≡ b
@@ -39,7 +39,8 @@ same_flow fs a b h k e =
     let q : slice_get fs b.0 ≡ Some a.1 = subst (λ m. slice_get fs m ≡ Some a.1) e h in
     pair_is a.0 b.0 a.1 b.1 e cc
 
--- the edges of a task in one direction and those of its flows: the same ones, and none twice where none of a flow is twice
+-- the edges of a task in one direction and those of its flows: the same ones, and none twice where none of a flow is
+-- twice
 module _ (P : Plan) (t : Task) (d : Direction) where
   abbrev edges_at : ℕ × FlowPlan → List Edge
   edges_at a = flow_edges d P t a.0 a.1
@@ -53,7 +54,7 @@ module _ (P : Plan) (t : Task) (d : Direction) where
       (p.0, (flow_at_number P t p.0 p.1, p.2))
 
   pub flow_once : HasNoRepeats (edges_of d P t) → (n : ℕ) (f : FlowPlan) → slice_get (flows_of P t) n ≡ Some f → HasNoRepeats (flow_edges d P t n f)
-  flow_once h n f here = once-part edges_at (flows_at P t) (n, f) (rw (edges-numbered P t d) at h) (at_flow P t n f here)
+  flow_once h n f here = HasNoRepeats-part edges_at (flows_at P t) (rw (edges-numbered P t d) at h) (n, f) (at_flow P t n f here)
 
   pub task_once : ((n : ℕ) (f : FlowPlan) → slice_get (flows_of P t) n ≡ Some f → HasNoRepeats (flow_edges d P t n f)) → HasNoRepeats (edges_of d P t)
   task_once h =
@@ -71,9 +72,10 @@ all_edges d P = flat_map (edges_of d P) (all_tasks P)
 
 all_once : (d : Direction) (P : Plan) → ((t : Task) → IsTask P t → HasNoRepeats (edges_of d P t)) → HasNoRepeats (all_edges d P)
 all_once d P h =
-    once-flat_map (edges_of d P) (all_tasks P) (once-all_tasks P) (λ t k. h t ((listed P t).1 k)) (λ t u e k l. sym (near d P t e k) ∙ near d P u e l)
+    HasNoRepeats-flat_map (edges_of d P) (all_tasks P) (once-all_tasks P) (λ t k. h t ((listed P t).1 k)) (λ t u e k l. sym (near d P t e k) ∙ near d P u e l)
 
--- the facts of the first phase hold where all tasks are well connected, and those of the second where edges match and none is twice
+-- the facts of the first phase hold where all tasks are well connected, and those of the second where edges match and
+-- none is twice
 module _ (P : Plan) where
   abbrev AllHoldIn : Phase → Type 0
   AllHoldIn phase = AllHold P (phase_marks phase P)
@@ -192,7 +194,7 @@ module _ (P : Plan) where
     λ e h. let p = from_flat_map (edges_of (opposite d) P) (all_tasks P) e (same e (IsIn-flat_map (edges_of d P) (all_tasks P) t e ((listed P t).0 of_job) h)) in
         let far : far_task d e ≡ p.0 = far_is d e ∙ near (opposite d) P p.0 e p.2 in
         (subst (IsTask P) (sym far) ((listed P p.0).1 p.1), subst (λ u. IsIn e (edges_of (opposite d) P u)) (sym far) p.2),
-    once-part (edges_of d P) (all_tasks P) t once ((listed P t).0 of_job),
+    HasNoRepeats-part (edges_of d P) (all_tasks P) once t ((listed P t).0 of_job),
   )
     where
       far_is : (d : Direction) (e : Edge) → far_task d e ≡ near_task (opposite d) e

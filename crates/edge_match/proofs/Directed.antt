@@ -17,7 +17,9 @@ use Rattle.plan_core.specs.declared.plan.Plan.{Plan}
 use Rattle.plan_core.specs.declared.target.Arg.{Arg}
 use Rattle.plan_core.specs.declared.target.Target.{Target}
 use Rattle.plan_core.specs.declared.target.Target.TheVariants as target
-use Rattle.range_space.proofs.MemberLists.{IsIn-append_left, from_append}
+use Rattle.list_lemmas.proofs.Members.{IsIn-append_left, from_append}
+use Rattle.std.proofs.lemmas.List.Elements.{filter_map-append}
+use Rattle.list_lemmas.proofs.Joins.{filter_map-flat_map, map-flat_map, map-map, flat_map_push}
 use Rattle.dep_iter.specs.declared.direction.Direction.{Direction}
 use Rattle.dep_iter.specs.declared.direction.Direction.TheVariants.{In, Out}
 use Rattle.dep_iter.specs.declared.source.Source.{Source}
@@ -29,9 +31,7 @@ use Rattle.dep_iter.specs.Items.{edge_of, out_edges_before, write_of, items}
 use Rattle.dep_iter.specs.Arguments.{combinations}
 use Rattle.dep_iter.proofs.Belonging.{held-none}
 use Rattle.dep_iter.proofs.Distinctness.{distinct_in, distinct_out}
-use Rattle.dep_iter.proofs.Joining.{filter_map-append, filter_map-flat_map, map-flat_map, map-map}
 use Rattle.edge_accept.specs.Flows.{edges_into_flow, ins_of_flows, items_of_flows}
-use Rattle.edge_accept.proofs.Lists.{flat_map-end}
 use Rattle.edge_accept.proofs.TaskFlows.{in_edges-flows, into_flow_is, items-by_flow, sent_flow_is}
 use Rattle.edge_match.specs.declared.counted.Counted.{Counted}
 use Rattle.edge_match.specs.declared.dependences.Named.{Named}
@@ -239,7 +239,7 @@ module _ (at : FlowAt) (d : Direction) where
           let all_first = held_targets alone first at.env.now in
           let same : before_at d at (k + 1) ≡ before_at d at k ++ filter_map edge_of here =
           one_longer ∙ ap (λ xs. filter_map edge_of (given xs)) ends
-          ∙ ap (filter_map edge_of) (flat_map-end (items_at d at.task.now at.env.now at.number) all_first x)
+          ∙ ap (filter_map edge_of) (flat_map_push (items_at d at.task.now at.env.now at.number) all_first x)
           ∙ filter_map-append edge_of (given all_first) here ∙ ap (λ l. l ++ filter_map edge_of here) (sym (before-is k)) in
           let rest_is : others alone ≡ all (from (k + 1) later) =
           ap others any ∙ ap (λ es. all (item_marks d es (held_at d at later))) (sym same) in

@@ -1,4 +1,5 @@
--- What holds of all marks, by tasks, flows and directions; and that all pass where each fact holds and the limits are kept.
+-- What holds of all marks, by tasks, flows and directions; and that all pass where each fact holds and the limits are
+-- kept.
 use Rattle.std.proofs.Common.{◌≡◌, ◌↔◌, ◌≢◌, ℕ, ◌≤◌, List, [], ◌∷◌, ◌++◌, length, length-append, refl, ap, sym, ◌∙◌, subst}
 use Rattle.std.proofs.Common.{append_assoc, Some, slice_get, inl, inr, arith}
 use Rattle.std.proofs.lemmas.List.{append-nil}
@@ -11,7 +12,8 @@ use Rattle.ptg_base.specs.declared.edge.Item.TheVariants as item
 use Rattle.plan_core.specs.Place.{HasPlace}
 use Rattle.plan_core.specs.declared.flow.FlowPlan.{FlowPlan}
 use Rattle.plan_core.specs.declared.plan.Plan.{Plan}
-use Rattle.range_space.proofs.MemberLists.{IsIn-append_left, IsIn-append_right, from_flat_map}
+use Rattle.list_lemmas.proofs.Members.{IsIn-append_right, from_flat_map}
+use Rattle.list_lemmas.proofs.Distinct.{HasNoRepeats-append, HasNoRepeats-push, HasNoRepeats-parts}
 use Rattle.dep_iter.specs.declared.direction.Direction.{Direction}
 use Rattle.dep_iter.specs.declared.direction.Direction.TheVariants.{In, Out}
 use Rattle.dep_iter.specs.declared.source.Source.{Source}
@@ -20,7 +22,6 @@ use Rattle.dep_iter.specs.Directions.{HasOtherEnd, far_task}
 use Rattle.dep_iter.specs.Items.{edge_of}
 use Rattle.dep_iter.specs.Tasks.{IsTask, all_tasks, flows_of}
 use Rattle.dep_iter.proofs.Listing.{listed}
-use Rattle.edge_accept.proofs.Lists.{once-append, once-end}
 use Rattle.edge_match.specs.declared.phase.Phase.{Phase}
 use Rattle.edge_match.specs.declared.phase.Phase.TheVariants.{Connecting, Matching}
 use Rattle.edge_match.specs.Marks.{AllPass, Before, Check, CountsIn, CountsItem, Holds, Is, IsNewPlace, Mark, Passes, add, add_all}
@@ -38,24 +39,12 @@ not_before (y ∷ done) x rest w h = elim h [
   | inr k ↦ not_before done x rest w.1 k
 ]
 
-once-parts : {A : Type 0} (xs ys : List A) → HasNoRepeats (xs ++ ys) → HasNoRepeats xs × HasNoRepeats ys
-once-parts [] ys h = (tt, h)
-once-parts (x ∷ xs) ys h =
-    let p = once-parts xs ys h.1 in
-    ((λ k. h.0 (IsIn-append_left x xs ys k), p.0), p.1)
-
-pub once-part : {A B : Type 0} (f : A → List B) (xs : List A) (x : A) → HasNoRepeats (flat_map f xs) → IsIn x xs → HasNoRepeats (f x)
-once-part f [] x h k = absurd k
-once-part f (y ∷ xs) x h k =
-    let p = once-parts (f y) (flat_map f xs) h in
-    elim k [ inl e ↦ subst (λ z. HasNoRepeats (f z)) (sym e) p.0 | inr t ↦ once-part f xs x p.1 t ]
-
 pub once-each : {A B : Type 0} (f : A → List B) (vs : List A) → HasNoRepeats vs → ((v : A) → IsIn v vs → HasNoRepeats (f v))
     → ((v w : A) (x : B) → IsIn v vs → IsIn w vs → IsIn x (f v) → IsIn x (f w) → v ≡ w) → HasNoRepeats (flat_map f vs)
 once-each f [] w each apart = tt
 once-each f (v ∷ vs) w each apart =
     let later = once-each f vs w.1 (λ z h. each z (inr h)) (λ a b x h k. apart a b x (inr h) (inr k)) in
-    once-append (f v) (flat_map f vs) (each v (inl refl)) later (λ x h k.
+    HasNoRepeats-append (f v) (flat_map f vs) (each v (inl refl)) later (λ x h k.
     let p = from_flat_map f vs x k in
     w.0 (subst (λ z. IsIn z vs) (sym (apart v p.0 x (inl refl) (inr p.1) h p.2)) p.1))
 
@@ -153,9 +142,9 @@ passes_and P b (CountsItem i) =
           (record { ins_at_most = h.0.ins_at_most; items_at_most = omega arith; written_once = h.0.written_once }, omega arith),
     )
 passes_and P b (IsNewPlace p) = (
-  λ h. (record { ins_at_most = h.0.ins_at_most; items_at_most = h.0.items_at_most; written_once = once-end b.places p h.0.written_once h.1 }, tt),
+  λ h. (record { ins_at_most = h.0.ins_at_most; items_at_most = h.0.items_at_most; written_once = HasNoRepeats-push b.places p h.0.written_once h.1 }, tt),
   λ h. let once = h.0.written_once in (
-    record { ins_at_most = h.0.ins_at_most; items_at_most = h.0.items_at_most; written_once = (once-parts b.places (p ∷ []) once).0 },
+    record { ins_at_most = h.0.ins_at_most; items_at_most = h.0.items_at_most; written_once = (HasNoRepeats-parts b.places (p ∷ []) once).0 },
     not_before b.places p [] once,
   ),
 )
@@ -199,7 +188,7 @@ module _ (P : Plan) (d : Direction) (s : Source) (t : Task) (n : ℕ) where
       → ((e : Edge) → IsIn e (filter_map edge_of is) → HasOtherEnd d P e) × HasNoRepeats (earlier ++ filter_map edge_of is)
   matching earlier [] h once = (λ e k. absurd k, rw (append-nil earlier) once)
   matching earlier (item.Edge e ∷ is) h once =
-      let rest = matching (earlier ++ e ∷ []) is h.1.1 (once-end earlier e once h.1.0) in (
+      let rest = matching (earlier ++ e ∷ []) is h.1.1 (HasNoRepeats-push earlier e once h.1.0) in (
         λ z k. elim k [ inl same ↦ subst (HasOtherEnd d P) (sym same) h.0 | inr m ↦ rest.0 z m ],
         subst HasNoRepeats (append_assoc earlier (e ∷ []) (filter_map edge_of is)) rest.1,
       )

@@ -1,4 +1,5 @@
--- What the pass has counted, against what came before a mark, and what a part of the pass shows. Source: this project's own choice.
+-- What the pass has counted, against what came before a mark, and what a part of the pass shows. Source: this project's
+-- own choice.
 use Rattle.std.specs.Prelude.{◌≡◌, ◌==◌, ◌+◌, ◌≤◌, ℕ, ◌↔◌, List, length, filter, flat_map, Bool, IsTrue, Result, MatchResult, OnOk}
 use Rattle.ptg_base.specs.Task.{Task}
 use Rattle.plan_core.specs.declared.plan.Plan.{Plan}
@@ -29,9 +30,11 @@ pub record Decides (P : Plan) (old new : Counted) (holds : Bool) (c : Check) : T
   pub passes : (b : Before) → IsCounted P old b → IsTrue holds ↔ Passes P b c
   pub counted : IsTrue holds → (b : Before) → IsCounted P old b → IsCounted P new (add b c)
 
--- a part of the pass that went from these counts to those: either all of these marks pass and are counted, or the answer is the fault of the first that does not
+-- a part of the pass that went from these counts to those: either all of these marks pass and are counted, or the
+-- answer is the fault of the first that does not
 pub record Checked (P : Plan) (old new : Counted) (r : Result (Unit {0}) MatchFault) (ms : List Mark) : Type 0 where
-  pub after : (b : Before) → IsCounted P old b → MatchResult r (λ _. AllPass P b ms × IsCounted P new (add_all b ms)) (λ f. IsFirstFailure P b ms f)
+  pub after : (b : Before) → IsCounted P old b
+      → MatchResult r (λ _. AllPass P b ms × IsCounted P new (add_all b ms)) (λ f. IsFirstFailure P b ms f)
 
 -- how many of these tasks have no edge into them
 abbrev pub root_count : Plan → List Task → ℕ
@@ -49,7 +52,9 @@ pub record WentOver (P : Plan) (phase : Phase) (old new : Counted) (roots sum : 
 
 -- counts are those of a plan with so many tasks
 abbrev pub AreCounts : Plan → ℕ → Counts → Type 0
-AreCounts P tasks c = (c.tasks ≡ tasks) × (c.roots ≡ root_count P (all_tasks P)) × (c.edges ≡ length (all_in P)) × (c.data_edges ≡ length (all_data P)) × (c.writes ≡ length (all_writes P))
+AreCounts P tasks c =
+    (c.tasks ≡ tasks) × (c.roots ≡ root_count P (all_tasks P)) × (c.edges ≡ length (all_in P))
+    × (c.data_edges ≡ length (all_data P)) × (c.writes ≡ length (all_writes P))
 
 -- a refusal says the first fault of a plan, or want of memory
 abbrev pub IsRefusalOf : Plan → MatchRefusal → Type 0

@@ -1,4 +1,5 @@
--- How a fault is named: by its code, and by the class, the numbers and the flow at which it is found. Source: this project's own choice.
+-- How a fault is named: by its code, and by the class, the numbers and the flow at which it is found. Source: this
+-- project's own choice.
 use Rattle.std.specs.Prelude.{ℕ, [], Option, None}
 use Rattle.ptg_base.specs.Task.{Task}
 use Rattle.range_space.specs.declared.fault.SpaceFault.{SpaceFault}

@@ -1,5 +1,5 @@
--- The first fault of a plan that is not consistent. Source: this project's own choice; three phases, each in walk order: the
--- spaces, then all tasks and what they name, then that the edges match.
+-- The first fault of a plan that is not consistent. Source: this project's own choice; three phases, each in walk
+-- order: the spaces, then all tasks and what they name, then that the edges match.
 use Rattle.std.specs.Prelude.{◌≡◌, List, ◌∷◌, ◌++◌, ◌⊎◌}
 use Rattle.range_space.specs.declared.fault.SpaceFault.{SpaceFault}
 use Rattle.range_space.specs.Walk as walk
@@ -51,4 +51,6 @@ pub record IsTaskFault (P : Plan) (fault : MatchFault) : Type 0 where
 
 -- the first fault of a plan: that of its spaces, else that of its tasks and edges
 abbrev pub IsFirstFault : Plan → MatchFault → Type 0
-IsFirstFault P fault = ((s : SpaceFault) × walk.IsFirstFault 0 0 (walk.walk_all 0 P.spaces) s × (fault ≡ space_fault s)) ⊎ IsTaskFault P fault
+IsFirstFault P fault =
+    ((s : SpaceFault) × walk.IsFirstFault 0 0 (walk.walk_all 0 P.spaces) s × (fault ≡ space_fault s))
+    ⊎ IsTaskFault P fault

@@ -21,8 +21,8 @@ use Rattle.edge_match.specs.Marks.{Mark, held_items}
 abbrev pub FlowMarks : Type 0
 FlowMarks = Phase → Source → Task → ℕ → List Mark
 
--- a part of the pass at this flow that went from these counts to those: all of these marks pass and are counted, or it gives
--- the fault of the first that does not
+-- a part of the pass at this flow that went from these counts to those: all of these marks pass and are counted, or it
+-- gives the fault of the first that does not
 abbrev pub CheckedAt : Phase → FlowAt → Counted → Counted → Result (Unit {0}) MatchFault → FlowMarks → Type 0
 CheckedAt phase at old new r ms =
     Checked at.plan.now old new r (ms phase (data_source at.plan.now at.task.now at.number) at.task.now at.number)

@@ -81,8 +81,8 @@ abbrev pub flow_items : Direction → Plan → Task → ℕ → FlowPlan → Lis
 flow_items d P t n f = held_items d t (locals_of P t) n f.kind (dependences d f)
 
 -- what is checked in each phase at an edge or a write-back of flow n of the task t, whose source is this, after these
--- earlier edges of the flow: that what sends has a tile, that what is named exists, and that it is not one too many; then
--- that the edge is one at its other end, and is new
+-- earlier edges of the flow: that what sends has a tile, that what is named exists, and that it is not one too many;
+-- then that the edge is one at its other end, and is new
 abbrev pub tile_marks : Direction → Source → Task → ℕ → List Mark
 tile_marks In s t n = []
 tile_marks Out s t n = mark t (Some n) (Is (HasTile s)) ∷ []

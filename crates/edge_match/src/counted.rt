@@ -4,7 +4,8 @@ ghost use Rattle.std.specs.Prelude.{◌≤◌};
 
 use place_set::PlaceSet;
 
-/// How many edges into tasks and items were counted, how many of those edges carry a tile, and which places are written.
+/// How many edges into tasks and items were counted, how many of those edges carry a tile, and which places are
+/// written.
 #[derive(Drop)]
 pub(crate) struct Counted {
     pub(crate) ins: u64,

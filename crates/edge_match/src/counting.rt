@@ -18,7 +18,8 @@ const MOST_EDGES: u64 = 4_000_000;
 impl Counted {
     // Counts an edge into a task, which carries a tile or not, if it is not one too many.
     pub(crate) fn add_in(&mut self, carries_tile: bool) -> bool
-        ensures { (P : PlanValue) (e : EdgeValue) → is_data_edge P e ≡ carries_tile → Decides P self.old self.new result (CountsIn e) }
+        ensures { (P : PlanValue) (e : EdgeValue) → is_data_edge P e ≡ carries_tile
+            → Decides P self.old self.new result (CountsIn e) }
     {
         if self.ins >= MOST_EDGES {
             return false;

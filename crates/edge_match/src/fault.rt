@@ -35,7 +35,8 @@ pub struct MatchFault {
     pub code: MatchCode,
     /// The number of the class.
     pub class: u32,
-    /// The parameters of the task; of a definition without a value, the values of the definitions before it; none where tasks are too many.
+    /// The parameters of the task; of a definition without a value, the values of the definitions before it; none where
+    /// tasks are too many.
     pub numbers: Numbers<16>,
     /// The number of the flow, if it is one's fault.
     pub flow: Option<u8>,

@@ -106,7 +106,8 @@ fn check_flow_of(
 ) -> Result<(), MatchFault>
     requires of_job { IsTask task.now.plan.now task.now.task.now }
     requires here { slice_get (tasks.flows_of task.now.plan.now task.now.task.now) number ≡ Some flow.now }
-    requires fit { IsTrue (dependences_fit task.now.plan.now flow.now.ins && dependences_fit task.now.plan.now flow.now.outs) }
+    requires fit { IsTrue
+        (dependences_fit task.now.plan.now flow.now.ins && dependences_fit task.now.plan.now flow.now.outs) }
     ensures { Checked task.now.plan.now counted.old counted.new result
         (flow_marks task.now.phase task.now.plan.now task.now.task.now (number, flow.now)) }
 {

@@ -14,13 +14,16 @@ ghost use Rattle.edge_match.specs.declared.phase.Phase.TheVariants.{Connecting};
 
 /// A law: the first phase counts all edges into tasks, all items and all places that are written.
 pub fn all_edges_and_items_are_counted()
-    ensures { (P : Plan) → add_all nothing (phase_marks Connecting P) ≡ record { ins = all_in P; items = all_items P; places = map (λ (w : WriteBack). w.place) (all_writes P) } }
+    ensures { (P : Plan)
+        → add_all nothing (phase_marks Connecting P)
+        ≡ record { ins = all_in P; items = all_items P; places = map (λ (w : WriteBack). w.place) (all_writes P) } }
 {}
 
 /// A law: a plan is consistent where its spaces are sound and within their limits and all its marks pass.
 #[tactic(auto, using(crate::proofs::Consistency::passes_consistent))]
 pub fn a_plan_that_passes_is_consistent()
-    ensures { (P : Plan) → AllByRecursion IsSound P.spaces → length (all_tasks P) ≤ 1000000 → prefix_total P.spaces ≤ 16000000 → AllPass P nothing (marks P) → IsConsistent P }
+    ensures { (P : Plan) → AllByRecursion IsSound P.spaces → length (all_tasks P) ≤ 1000000
+        → prefix_total P.spaces ≤ 16000000 → AllPass P nothing (marks P) → IsConsistent P }
 {}
 
 /// A law: a plan has one first fault at most.

@@ -1,4 +1,5 @@
-//! Whether a job is consistent: each edge out of a task is one into its target and the other way round, and all that tasks need exists.
+//! Whether a job is consistent: each edge out of a task is one into its target and the other way round, and all that
+//! tasks need exists.
 #![tactic(auto)]
 
 mod counted;

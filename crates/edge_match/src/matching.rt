@@ -77,7 +77,8 @@ fn nothing_counted(written: PlaceSet) -> Counted
 fn check_tasks(plan: &Plan, tasks: u64, mut counted: Counted) -> Result<Counts, MatchFault>
     requires tasks { tasks ≡ length (all_tasks plan.now) }
     requires nothing { IsCounted plan.now counted nothing }
-    ensures { MatchResult result (λ c. AllPass plan.now nothing (marks plan.now) × AreCounts plan.now tasks c) (IsFirstFailure plan.now nothing (marks plan.now)) }
+    ensures { MatchResult result (λ c. AllPass plan.now nothing (marks plan.now) × AreCounts plan.now tasks c)
+        (IsFirstFailure plan.now nothing (marks plan.now)) }
 {
     all_edges_and_items_are_counted();
     let mut roots = 0;
@@ -94,7 +95,8 @@ fn check_tasks(plan: &Plan, tasks: u64, mut counted: Counted) -> Result<Counts, 
     Ok(counts)
 }
 
-// Checks a plan and gives its counts. Most consistent plans are accepted in one walk; of any other plan the phases find the first fault.
+// Checks a plan and gives its counts. Most consistent plans are accepted in one walk; of any other plan the phases find
+// the first fault.
 fn check_plan(alloc: Global, plan: &Plan) -> Result<Counts, MatchRefusal>
     ensures consistent { IfOk result (λ counts. IsConsistent plan.now × HasCounts plan.now counts) }
     ensures refused { IfErr result (IsRefusalOf plan.now) }
@@ -119,15 +121,17 @@ fn check_plan(alloc: Global, plan: &Plan) -> Result<Counts, MatchRefusal>
     }
 }
 
-/// The plan, as one that is consistent, with its counts; or its first fault, and the plan back. Takes time according to the numbers of tasks and edges,
-/// and a byte of memory for each place of a collection.
+/// The plan, as one that is consistent, with its counts; or its first fault, and the plan back. Takes time according to
+/// the numbers of tasks and edges, and a byte of memory for each place of a collection.
 pub fn match_edges(alloc: Global, plan: Plan) -> Result<Matched, (MatchRefusal, Plan)>
     ensures found { IfOk result (λ m. (m ≡ plan) × IsConsistent plan) }
     ensures back { IfErr result (λ e. e.1 ≡ plan) }
     ensures fault { (f : MatchFaultValue) (p : PlanValue) → result ≡ Err (refusal.Fault f, p) → IsFirstFault plan f }
-    ensures only_inconsistent { IsConsistent plan → (f : MatchFaultValue) (p : PlanValue) → result ≡ Err (refusal.Fault f, p) → ⊥ }
+    ensures only_inconsistent { IsConsistent plan → (f : MatchFaultValue) (p : PlanValue)
+        → result ≡ Err (refusal.Fault f, p) → ⊥ }
     // A plan with a first fault is refused with it, unless memory runs out.
-    ensures refused { (f : MatchFaultValue) → IsFirstFault plan f → (result ≡ Err (refusal.Fault f, plan)) ⊎ (result ≡ Err (refusal.OutOfMemory, plan)) }
+    ensures refused { (f : MatchFaultValue) → IsFirstFault plan f
+        → (result ≡ Err (refusal.Fault f, plan)) ⊎ (result ≡ Err (refusal.OutOfMemory, plan)) }
 {
     a_consistent_plan_has_no_fault();
     match check_plan(alloc, &plan) {

@@ -33,8 +33,8 @@ fn check_values(task: &TaskAt) -> Result<(), MatchFault>
     }
 }
 
-// Whether each expression that the task needs has a value, and the place of its affinity exists. It is checked in the first
-// phase.
+// Whether each expression that the task needs has a value, and the place of its affinity exists. It is checked in the
+// first phase.
 fn start_task(task: &TaskAt) -> Result<(), MatchFault>
     requires of_job { IsTask task.now.plan.now task.now.task.now }
     ensures { (s : CountedValue) → Checked task.now.plan.now s s result
@@ -111,8 +111,11 @@ fn check_class(
     roots: &mut u64,
 ) -> Result<(), MatchFault>
     requires class { class < length plan.now.classes }
-    requires room { (s : ClassSpaceValue) → slice_get plan.now.spaces class ≡ Some s → roots.old + length (range.tasks s) < 2 ^ 64 }
-    ensures { (s : ClassSpaceValue) → slice_get plan.now.spaces class ≡ Some s → WentOver plan.now phase counted.old counted.new roots.old roots.new result (map (task class) (range.tasks s)) }
+    requires room { (s : ClassSpaceValue) → slice_get plan.now.spaces class ≡ Some s
+        → roots.old + length (range.tasks s) < 2 ^ 64 }
+    ensures { (s : ClassSpaceValue) → slice_get plan.now.spaces class ≡ Some s
+        → WentOver plan.now phase counted.old counted.new roots.old roots.new result
+        (map (task class) (range.tasks s)) }
 {
     let space = space_of(plan, class);
     for params in Space::new(space) {
@@ -131,7 +134,8 @@ pub(crate) fn check_classes(
     roots: &mut u64,
 ) -> Result<(), MatchFault>
     requires { roots.old + length (tasks_from class (drop class plan.now.spaces)) < 2 ^ 64 }
-    ensures { WentOver plan.now phase counted.old counted.new roots.old roots.new result (tasks_from class (drop class plan.now.spaces)) }
+    ensures { WentOver plan.now phase counted.old counted.new roots.old roots.new result
+        (tasks_from class (drop class plan.now.spaces)) }
 {
     if class as usize >= plan.classes.len() {
         return Ok(());

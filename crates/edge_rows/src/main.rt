@@ -1,5 +1,5 @@
-//! Rows of edges: each is a job with what its tasks start from, wait for and send, or with whether one walk over its tasks
-//! accepts it, written down in a file. The words name the files. Prints the rows that came out otherwise.
+//! Rows of edges: each is a job with what its tasks start from, wait for and send, or with whether one walk over its
+//! tasks accepts it, written down in a file. The words name the files. Prints the rows that came out otherwise.
 #![tactic(auto)]
 
 mod accepted;

@@ -14,8 +14,9 @@ use row_files::{Printed, Why};
 use std::alloc::Global;
 use term_core::FlowKind;
 
-/// The tasks of a job in walk order, each with its goal, its priority and the place of its affinity, and below it a line for each source of
-/// a data flow that is no task, for each edge into it, for each edge out of it, and for each write-back.
+/// The tasks of a job in walk order, each with its goal, its priority and the place of its affinity, and below it a
+/// line for each source of a data flow that is no task, for each edge into it, for each edge out of it, and for each
+/// write-back.
 pub fn shown(alloc: Global, matched: &Matched) -> Result<Printed, Why> {
     let mut text = String::new(alloc);
     let count = matched.plan().classes.len();

@@ -14,23 +14,13 @@ use Rattle.dep_iter.specs.Edges.{edge, edges_into, in_edges}
 use Rattle.dep_iter.specs.Items.{items, items_to}
 use Rattle.dep_iter.specs.Links.{flow_targets}
 use Rattle.dep_iter.specs.Tasks.{flows_of, locals_of, task}
-use Rattle.dep_iter.proofs.Joining.{filter_map-append}
+use Rattle.std.proofs.lemmas.List.Elements.{filter_map-append}
+use Rattle.std.proofs.lemmas.List.Concat.{flat_map-append}
+use Rattle.std.proofs.lemmas.List.Folds.{flat_map-map}
 use Rattle.edge_walk.specs.declared.tie.Tie.{Tie}
 use Rattle.edge_walk.specs.Ties.{Numbered, active_from, all_ties, edge_by_in, item_by_out, numbered, numbered_flow, numbered_targets, numbered_then, task_tie, ties, ties_to}
 
 -- ---- lists
-
-append-assoc : {A : Type 0} (xs ys zs : List A) → (xs ++ ys) ++ zs ≡ xs ++ (ys ++ zs)
-append-assoc [] ys zs = refl
-append-assoc (x ∷ xs) ys zs = ap (λ l. x ∷ l) (append-assoc xs ys zs)
-
-flat_map-append : {A B : Type 0} (f : A → List B) (xs ys : List A) → flat_map f (xs ++ ys) ≡ flat_map f xs ++ flat_map f ys
-flat_map-append f [] ys = refl
-flat_map-append f (x ∷ xs) ys = ap (λ l. f x ++ l) (flat_map-append f xs ys) ∙ sym (append-assoc (f x) (flat_map f xs) (flat_map f ys))
-
-flat_map-map : {A B C : Type 0} (g : B → List C) (f : A → B) (xs : List A) → flat_map g (map f xs) ≡ flat_map (λ x. g (f x)) xs
-flat_map-map g f [] = refl
-flat_map-map g f (x ∷ xs) = ap (λ l. g (f x) ++ l) (flat_map-map g f xs)
 
 -- ---- one target
 

@@ -1,4 +1,5 @@
--- The longest expression at the start of some tokens, and its first fault: for a reader who does not know where it ends. Source: this project's own choice.
+-- The longest expression at the start of some tokens, and its first fault: for a reader who does not know where it
+-- ends. Source: this project's own choice.
 use Rattle.std.specs.Prelude.{ℕ, ◌+◌, ◌<◌, ◌≤◌, List, length, take, Bool, true, false, Option, Some, None, slice_get}
 use Rattle.grammar_core.specs.declared.token.Spot.{Spot}
 use Rattle.grammar_core.specs.declared.token.Token.{Token}
@@ -18,7 +19,8 @@ abbrev pub part_of : Bool → Part
 part_of true = Body
 part_of false = Class
 
--- The end of the expression: the index of the first token such that no expression begins with the tokens up to and with it, or the number of tokens if there is no such token.
+-- The end of the expression: the index of the first token such that no expression begins with the tokens up to and with
+-- it, or the number of tokens if there is no such token.
 pub record IsEnd (part : Part) (s : List Token) (p : ℕ) : Type 0 where
   pub within : p ≤ length s
   pub before : (o : Fault) × Begins productions (outer part) (take p s) o
@@ -30,7 +32,8 @@ pub record IsExpression (part : Part) (s : List Token) (e : Expression) (p : ℕ
   pub spot : Spot
   pub text : IsText productions (outer part) (take p s) (with_spot spot e) None
 
--- The first fault of the tokens up to their end. Syntax is at the end itself, if the tokens before it are no expression.
+-- The first fault of the tokens up to their end. Syntax is at the end itself, if the tokens before it are no
+-- expression.
 abbrev pub IsFirstFaultOf : Part → List Token → ℕ → Code → Type 0
 IsFirstFaultOf part s p Syntax = IsEnd part s p × IsSyntaxFault productions (outer part) (take p s) p
 IsFirstFaultOf part s p c = IsLimitFault productions (outer part) s p c

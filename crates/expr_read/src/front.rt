@@ -33,7 +33,8 @@ pub fn fault_at(tokens: &[Token], finish: Spot, token_index: usize, code: Code) 
     }
 }
 
-/// Reads the longest expression that begins at the token of index `from`: its tree, and the index of the token after it.
+/// Reads the longest expression that begins at the token of index `from`: its tree, and the index of the token after
+/// it.
 /// Where `elements` holds, it is an expression of a body. A fault after all tokens has the spot `finish`.
 pub fn read_expr(
     alloc: Global,
@@ -43,10 +44,15 @@ pub fn read_expr(
     finish: Spot,
 ) -> Result<(ExprTree, usize), JdfRefusal>
     requires { from ≤ length tokens.now }
-    ensures found { IfOk result (λ x. (from ≤ x.1) × IsExpression (part_of elements) (drop from tokens.now) x.0 (x.1 - from)) }
-    ensures only { (e : Expression) → (p : ℕ) → IsExpression (part_of elements) (drop from tokens.now) e p → (result ≡ Ok (e, from + p)) ⊎ (result ≡ Err OutOfMemory) }
-    ensures fault { (f : JdfFault) → result ≡ Err (Fault f) → (p : ℕ) × (c : Code) × IsFirstFaultOf (part_of elements) (drop from tokens.now) p c × (f ≡ fault_at tokens.now finish (from + p) c) }
-    ensures refused { (p : ℕ) → (c : Code) → IsFirstFaultOf (part_of elements) (drop from tokens.now) p c → (result ≡ Err (Fault (fault_at tokens.now finish (from + p) c))) ⊎ (result ≡ Err OutOfMemory) }
+    ensures found { IfOk result (λ x.
+        (from ≤ x.1) × IsExpression (part_of elements) (drop from tokens.now) x.0 (x.1 - from)) }
+    ensures only { (e : Expression) → (p : ℕ) → IsExpression (part_of elements) (drop from tokens.now) e p
+        → (result ≡ Ok (e, from + p)) ⊎ (result ≡ Err OutOfMemory) }
+    ensures fault { (f : JdfFault) → result ≡ Err (Fault f)
+        → (p : ℕ) × (c : Code) × IsFirstFaultOf (part_of elements) (drop from tokens.now) p c
+        × (f ≡ fault_at tokens.now finish (from + p) c) }
+    ensures refused { (p : ℕ) → (c : Code) → IsFirstFaultOf (part_of elements) (drop from tokens.now) p c
+        → (result ≡ Err (Fault (fault_at tokens.now finish (from + p) c))) ⊎ (result ≡ Err OutOfMemory) }
 {
     match outer(alloc, part_of(elements), &tokens[from..]) {
         Ok((expression, rest)) => Ok((expression.tree, tokens.len() - rest.len())),

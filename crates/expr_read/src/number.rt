@@ -26,7 +26,8 @@ fn has_leading_zero(text: &[u8]) -> bool
 // The number with this spelling; None if numbers are not written so, or it is larger than `LARGEST`.
 #[tactic(auto, unfolding(jdf_tree::specs::Numbers::is_number))]
 fn value(text: &[u8]) -> Option<i64>
-    ensures { MatchOption result (is_number text.now ≡ false) (λ z. (is_number text.now ≡ true) × (z ≡ pos (decimal text.now))) }
+    ensures { MatchOption result (is_number text.now ≡ false) (λ z.
+        (is_number text.now ≡ true) × (z ≡ pos (decimal text.now))) }
 {
     if has_leading_zero(text) {
         return None;

@@ -162,7 +162,8 @@ fn unary(
 
 // The infix operator of this rank with this mark, if there is one.
 fn operator(rank: Rank, terminal: Terminal) -> Option<BinOp>
-    ensures { MatchOption result (operators_of rank terminal ≡ false) (λ o. (operators_of rank terminal ≡ true) × (o ≡ operator_by terminal)) }
+    ensures { MatchOption result (operators_of rank terminal ≡ false) (λ o.
+        (operators_of rank terminal ≡ true) × (o ≡ operator_by terminal)) }
 {
     match (rank, terminal) {
         (Rank::Product, Terminal::Star) => Some(BinOp::Mul),

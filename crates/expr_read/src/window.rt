@@ -32,7 +32,8 @@ fn form(
     }
 }
 
-// An expression that ends within the first `WITHIN` tokens, so that the limit need not be looked for; None if it does not.
+// An expression that ends within the first `WITHIN` tokens, so that the limit need not be looked for; None if it does
+// not.
 #[tactic(auto, using(crate::proofs::Brief::brief_reads, crate::proofs::Loops::reading_shrinks))]
 fn brief(alloc: Global, outermost: Outermost, tokens: &[Token]) -> Option<(ExprWithSpot, &[Token])>
     ensures { IfSome result (λ x. reading productions (limited_form outermost) tokens.now ≡ Ok (x.0, x.1.now)) }

@@ -1,5 +1,5 @@
 -- What the first fault of a plan names.
-use Rattle.std.proofs.Common.{◌≡◌, ℕ, suc, ◌+◌, ◌<◌, ℤ, List, [], ◌∷◌, ◌++◌, length, length-append, refl, ap, sym, ◌∙◌, subst, Option, Some, None, IsSomeAnd, slice_get, inl, inr, Result, Ok, Err, arith}
+use Rattle.std.proofs.Common.{◌≡◌, ℕ, suc, ◌+◌, ◌<◌, ℤ, List, [], ◌∷◌, ◌++◌, length, length-append, refl, ap, sym, ◌∙◌, subst, Option, Some, slice_get, inl, inr, Result, Ok, Err, arith}
 use Rattle.std.proofs.lemmas.Option.{slice_get_within}
 use Rattle.std.specs.Option.{option_map_or}
 use Rattle.ptg_base.specs.Lists.{IsIn}
@@ -11,7 +11,8 @@ use Rattle.range_space.specs.declared.fault.SpaceFault.TheVariants.{BadExpr, Too
 use Rattle.range_space.specs.Tasks.{def_values}
 use Rattle.range_space.specs.Walk as walk
 use Rattle.range_space.specs.Walk.{Visit, Prefix, NoValue, StopsAt, visits, walk_all}
-use Rattle.range_space.proofs.MemberLists.{from_append, from_flat_map, IsIn-append_right}
+use Rattle.list_lemmas.proofs.Members.{from_append, from_flat_map, IsIn-append_right}
+use Rattle.list_lemmas.proofs.Options.{from_is_some_and}
 use Rattle.plan_core.specs.declared.class.ClassPlan.{ClassPlan}
 use Rattle.plan_core.specs.declared.plan.Plan.{Plan}
 use Rattle.dep_iter.specs.Tasks.{IsTask, task}
@@ -78,10 +79,6 @@ outer_fewer ss k vs s w h =
     let same : p.space ≡ s = let a = p.here in let b = subst (λ m. slice_get ss m ≡ Some s) e h in cc in
     subst (λ (z : ClassSpace). length vs < length z.defs) same (stopped_values (0 + p.number) (length p.space.defs) _ _ w.visit k vs p.fact w.stops)
 
-some_of : {A : Type 0} (o : Option A) (Q : A → Type 0) → IsSomeAnd o Q → (x : A) × (o ≡ Some x) × Q x
-some_of None Q h = absurd h
-some_of (Some x) Q h = (x, refl, h)
-
 pub class_exists : (P : Plan) (f : MatchFault) → IsFirstFault P f → f.class < length P.classes
 class_exists P f (inl a) =
     let p = visit_at P.spaces a.0 a.1 in
@@ -91,7 +88,7 @@ class_exists P f (inl a) =
     let n = P.well_made.one_space_each in
     omega arith
 class_exists P f (inr w) =
-    let s = some_of (slice_get P.spaces f.class) _ (names_task P f w).0 in
+    let s = from_is_some_and (slice_get P.spaces f.class) _ (names_task P f w).0 in
     let b = slice_get_within P.spaces f.class s.0 s.1 in
     let n = P.well_made.one_space_each in
     omega arith

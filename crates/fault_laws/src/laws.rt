@@ -21,7 +21,10 @@ pub fn a_plan_is_consistent_or_has_a_first_fault()
 /// numbers name a task of the job; where a definition has no value they are fewer than the definitions of the class.
 pub fn a_first_fault_names_what_exists()
     ensures class { (P : Plan) (f : MatchFault) → IsFirstFault P f → f.class < length P.classes }
-    ensures flow { (P : Plan) (f : MatchFault) (c : ClassPlan) (n : ℕ) → IsFirstFault P f → slice_get P.classes f.class ≡ Some c → f.flow ≡ Some n → n < length c.flows }
+    ensures flow { (P : Plan) (f : MatchFault) (c : ClassPlan) (n : ℕ) → IsFirstFault P f
+        → slice_get P.classes f.class ≡ Some c → f.flow ≡ Some n → n < length c.flows }
     ensures task { (P : Plan) (f : MatchFault) → IsTaskFault P f → IsTask P (task f.class f.numbers) }
-    ensures outer { (P : Plan) (class : ℕ) (values : List ℤ) (s : ClassSpace) → walk.IsFirstFault 0 0 (walk.walk_all 0 P.spaces) (BadExpr class values) → slice_get P.spaces class ≡ Some s → length values < length s.defs }
+    ensures outer { (P : Plan) (class : ℕ) (values : List ℤ) (s : ClassSpace)
+        → walk.IsFirstFault 0 0 (walk.walk_all 0 P.spaces) (BadExpr class values) → slice_get P.spaces class ≡ Some s
+        → length values < length s.defs }
 {}

@@ -22,7 +22,7 @@ use Rattle.body_names.specs.Meanings.{meaning_of, flow_named}
 use Rattle.body_names.specs.Expressions.{Resolved, value_of, slot_of, readable, writable, if_flow, flow_by, read_flow, written_flow, term_of}
 use Rattle.body_names.specs.Bindings.{Bindings, block_opened, with_variable, require_room, require_fresh}
 use Rattle.body_names.specs.Statements.{Resolver, declare, set, put, in_block, if_else, for_loop, trap, follow, resolved}
-use Rattle.body_names.proofs.Well.{both}
+use Rattle.std.proofs.lemmas.Bool.{and_from}
 use Rattle.flow_check.proofs.BodyParts.{Good, after_good, past, good_then}
 
 -- the kinds of the flows
@@ -82,16 +82,16 @@ module _ (scope : Environment) where
   reads seen (Name w) = value_good w (meaning_of scope seen w.text)
   reads seen (Elem w at) =
       after_good IsRead Reads (read_flow scope w) _ (flow_good is_data readable readable_use w (flow_named scope w.text))
-      (λ flow h. after_good Reads Reads (term_of scope seen at) _ (reads seen at) (λ i k. both (is_data (slice_get (kinds_of scope) flow)) (reads_data (kinds_of scope) i) h k))
+      (λ flow h. after_good Reads Reads (term_of scope seen at) _ (reads seen at) (λ i k. and_from (is_data (slice_get (kinds_of scope) flow)) (reads_data (kinds_of scope) i) h k))
   reads seen (Unary o a spot) = after_good Reads Reads (term_of scope seen a) _ (reads seen a) (λ x h. h)
   reads seen (Binary o a b) =
       after_good Reads Reads (term_of scope seen a) _ (reads seen a)
-      (λ x h. after_good Reads Reads (term_of scope seen b) _ (reads seen b) (λ y k. both (reads_data (kinds_of scope) x) (reads_data (kinds_of scope) y) h k))
+      (λ x h. after_good Reads Reads (term_of scope seen b) _ (reads seen b) (λ y k. and_from (reads_data (kinds_of scope) x) (reads_data (kinds_of scope) y) h k))
   reads seen (Choose c a b) =
       after_good Reads Reads (term_of scope seen c) _ (reads seen c)
       (λ x h. after_good Reads Reads (term_of scope seen a) _ (reads seen a)
       (λ y k. after_good Reads Reads (term_of scope seen b) _ (reads seen b)
-      (λ z l. both (reads_data (kinds_of scope) x && reads_data (kinds_of scope) y) (reads_data (kinds_of scope) z) (both (reads_data (kinds_of scope) x) (reads_data (kinds_of scope) y) h k) l)))
+      (λ z l. and_from (reads_data (kinds_of scope) x && reads_data (kinds_of scope) y) (reads_data (kinds_of scope) z) (and_from (reads_data (kinds_of scope) x) (reads_data (kinds_of scope) y) h k) l)))
 
   -- ---- statements
 
@@ -103,10 +103,10 @@ module _ (scope : Environment) where
   respects (stmt.Trap w) = true
 
   then_respects : (s : Stmt) (rest : StatementList) → respects s ≡ true → respects_kinds (kinds_of scope) rest ≡ true → respects_kinds (kinds_of scope) (then s rest) ≡ true
-  then_respects (stmt.Set n e) rest h k = both (respects (stmt.Set n e)) (respects_kinds (kinds_of scope) rest) h k
-  then_respects (stmt.Put flow at e) rest h k = both (respects (stmt.Put flow at e)) (respects_kinds (kinds_of scope) rest) h k
-  then_respects (stmt.If c first second) rest h k = both (respects (stmt.If c first second)) (respects_kinds (kinds_of scope) rest) h k
-  then_respects (stmt.For n lo hi turn) rest h k = both (respects (stmt.For n lo hi turn)) (respects_kinds (kinds_of scope) rest) h k
+  then_respects (stmt.Set n e) rest h k = and_from (respects (stmt.Set n e)) (respects_kinds (kinds_of scope) rest) h k
+  then_respects (stmt.Put flow at e) rest h k = and_from (respects (stmt.Put flow at e)) (respects_kinds (kinds_of scope) rest) h k
+  then_respects (stmt.If c first second) rest h k = and_from (respects (stmt.If c first second)) (respects_kinds (kinds_of scope) rest) h k
+  then_respects (stmt.For n lo hi turn) rest h k = and_from (respects (stmt.For n lo hi turn)) (respects_kinds (kinds_of scope) rest) h k
   then_respects (stmt.Trap w) rest h k = k
 
   abbrev IsOne : Stmt × Bindings → Type 0
@@ -129,7 +129,7 @@ module _ (scope : Environment) where
       after_good IsWritten IsOne (written_flow scope w) _ (flow_good is_writable writable writable_use w (flow_named scope w.text))
       (λ flow h. after_good Reads IsOne (term_of scope k.seen at) _ (reads k.seen at)
       (λ i l. after_good Reads IsOne (term_of scope k.seen e) _ (reads k.seen e)
-      (λ x m. both (is_writable (slice_get (kinds_of scope) flow) && reads_data (kinds_of scope) i) (reads_data (kinds_of scope) x) (both (is_writable (slice_get (kinds_of scope) flow)) (reads_data (kinds_of scope) i) h l) m)))
+      (λ x m. and_from (is_writable (slice_get (kinds_of scope) flow) && reads_data (kinds_of scope) i) (reads_data (kinds_of scope) x) (and_from (is_writable (slice_get (kinds_of scope) flow)) (reads_data (kinds_of scope) i) h l) m)))
 
   inside_good : (opening : Bindings → Bindings) (block : Resolver) → IsBlock block → (k : Bindings) → Good AreAll (in_block opening block k)
   inside_good opening block h k = after_good AreAll AreAll (block (opening k)) _ (h (opening k)) (λ x g. g)
@@ -139,7 +139,7 @@ module _ (scope : Environment) where
       after_good Reads IsOne (term_of scope k.seen c) _ (reads k.seen c)
       (λ x h. after_good AreAll IsOne (in_block block_opened first k) _ (inside_good block_opened first one k)
       (λ a l. after_good AreAll IsOne (in_block block_opened second a.1) _ (inside_good block_opened second two a.1)
-      (λ b m. both (reads_data (kinds_of scope) x && respects_kinds (kinds_of scope) a.0) (respects_kinds (kinds_of scope) b.0) (both (reads_data (kinds_of scope) x) (respects_kinds (kinds_of scope) a.0) h l) m)))
+      (λ b m. and_from (reads_data (kinds_of scope) x && respects_kinds (kinds_of scope) a.0) (respects_kinds (kinds_of scope) b.0) (and_from (reads_data (kinds_of scope) x) (respects_kinds (kinds_of scope) a.0) h l) m)))
 
   counted_good : (w : Word) (lo hi : Expression) (turn : Resolver) → IsBlock turn → (k : Bindings) → Good IsOne (for_loop scope w lo hi turn k)
   counted_good w lo hi turn good k =
@@ -147,7 +147,7 @@ module _ (scope : Environment) where
       (λ _. after_good Reads IsOne (term_of scope k.seen lo) _ (reads k.seen lo)
       (λ x h. after_good Reads IsOne (term_of scope k.seen hi) _ (reads k.seen hi)
       (λ y l. after_good AreAll IsOne (in_block (λ m. with_variable scope w.text true (block_opened m)) turn k) _ (inside_good (λ m. with_variable scope w.text true (block_opened m)) turn good k)
-      (λ t m. both (reads_data (kinds_of scope) x && reads_data (kinds_of scope) y) (respects_kinds (kinds_of scope) t.0) (both (reads_data (kinds_of scope) x) (reads_data (kinds_of scope) y) h l) m))))
+      (λ t m. and_from (reads_data (kinds_of scope) x && reads_data (kinds_of scope) y) (respects_kinds (kinds_of scope) t.0) (and_from (reads_data (kinds_of scope) x) (reads_data (kinds_of scope) y) h l) m))))
 
   follow_good : (first : Resolved (Stmt × Bindings)) (rest : Resolver) → Good IsOne first → IsBlock rest → Good AreAll (follow first rest)
   follow_good first rest one more = after_good IsOne AreAll first _ one (λ x h. after_good AreAll AreAll (rest x.1) _ (more x.1) (λ y k. then_respects x.0 y.0 h k))

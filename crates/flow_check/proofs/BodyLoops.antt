@@ -2,7 +2,7 @@
 use Rattle.std.proofs.Common.{◌≡◌, ◌≢◌, ℕ, ℤ, ◌+◌, ◌<◌, Bool, true, false, not, ◌&&◌, ◌==◌, cond, List, [], ◌∷◌, length, Option, Some, None, refl, sym, ap, arith}
 use Rattle.std.specs.List.{AllByRecursion}
 use Rattle.std.specs.Str.{bytes_eq}
-use Rattle.std.proofs.lemmas.Bool.{false≢true, ne_eqb}
+use Rattle.std.proofs.lemmas.Bool.{false≢true, ne_eqb, and_from}
 use Rattle.term_core.specs.declared.body.Stmt.{Stmt}
 use Rattle.term_core.specs.declared.body.Stmt.TheVariants as stmt
 use Rattle.term_core.specs.BlockStatementList.{then}
@@ -19,8 +19,8 @@ use Rattle.body_names.specs.Meanings.{last_named, variable_or, local_named, loca
 use Rattle.body_names.specs.Expressions.{Resolved, slot_of, written_flow, term_of}
 use Rattle.body_names.specs.Bindings.{Bindings, block_opened, next_slot, with_variable, require_room, require_fresh, numbered}
 use Rattle.body_names.specs.Statements.{Resolver, declare, set, put, in_block, if_else, for_loop, trap, follow, resolved}
-use Rattle.body_names.proofs.Well.{both}
-use Rattle.flow_check.proofs.BodyParts.{Good, after_good, past, good_both, all_append, all_take, all_map, all_last}
+use Rattle.list_lemmas.proofs.Places.{each_weaker}
+use Rattle.flow_check.proofs.BodyParts.{Good, after_good, past, good_both, all_append, all_take, all_last}
 
 module _ (scope : Environment) where
   -- ---- a variable that is not set
@@ -68,10 +68,10 @@ module _ (scope : Environment) where
     never (stmt.Trap w) = true
 
     then_never : (s : Stmt) (rest : StatementList) → never s ≡ true → never_sets v rest ≡ true → never_sets v (then s rest) ≡ true
-    then_never (stmt.Set n e) rest h k = both (never (stmt.Set n e)) (never_sets v rest) h k
+    then_never (stmt.Set n e) rest h k = and_from (never (stmt.Set n e)) (never_sets v rest) h k
     then_never (stmt.Put flow at e) rest h k = k
-    then_never (stmt.If c first second) rest h k = both (never (stmt.If c first second)) (never_sets v rest) h k
-    then_never (stmt.For n lo hi turn) rest h k = both (never (stmt.For n lo hi turn)) (never_sets v rest) h k
+    then_never (stmt.If c first second) rest h k = and_from (never (stmt.If c first second)) (never_sets v rest) h k
+    then_never (stmt.For n lo hi turn) rest h k = and_from (never (stmt.For n lo hi turn)) (never_sets v rest) h k
     then_never (stmt.Trap w) rest h k = k
 
     abbrev NeverOne : Stmt × Bindings → Type 0
@@ -113,7 +113,7 @@ module _ (scope : Environment) where
         past NeverOne (term_of scope k.seen c) _
         (λ x. after_good NeverAll NeverOne (in_block block_opened first k) _ (inside_never block_opened first one k free)
         (λ a h. after_good NeverAll NeverOne (in_block block_opened second a.1) _ (inside_never block_opened second two a.1 h.1)
-        (λ b l. (both (never_sets v a.0) (never_sets v b.0) h.0 l.0, l.1))))
+        (λ b l. (and_from (never_sets v a.0) (never_sets v b.0) h.0 l.0, l.1))))
 
     counted_never : (w : Word) (lo hi : Expression) (turn : Resolver) → NeverBlock turn → (k : Bindings) → IsFree k → Good NeverOne (for_loop scope w lo hi turn k)
     counted_never w lo hi turn good k free =
@@ -122,7 +122,7 @@ module _ (scope : Environment) where
         (λ x. past NeverOne (term_of scope k.seen hi) _
         (λ y. after_good NeverAll NeverOne (in_block (λ m. with_variable scope w.text true (block_opened m)) turn k) _
         (inside_never (λ m. with_variable scope w.text true (block_opened m)) turn good k (declared_free (block_opened k) w.text true free))
-        (λ t h. (both (not (next_slot scope k == v)) (never_sets v t.0) (other_slot (next_slot scope k) (next_other k free.0)) h.0, h.1)))))
+        (λ t h. (and_from (not (next_slot scope k == v)) (never_sets v t.0) (other_slot (next_slot scope k) (next_other k free.0)) h.0, h.1)))))
 
     trap_never : (w : Word) (k : Bindings) → IsFree k → Good NeverOne (trap w k)
     trap_never w k free = (refl, go _)
@@ -156,14 +156,14 @@ module _ (scope : Environment) where
   declared_below : (k : Bindings) (name : List ℕ) (loop : Bool) → AreBelow k → AreBelow (with_variable scope name loop k)
   declared_below k name loop h =
       let end = length scope.locals + (k.declared + 1) in
-      all_append (IsBelow end) k.seen (record { name = name; slot = next_slot scope k; is_loop_variable = loop } ∷ []) (all_map (IsBelow (next_slot scope k)) (IsBelow end) (λ u b. let c : u.slot < length scope.locals + k.declared = b in omega (arith, c)) k.seen h) (omega arith, tt)
+      all_append (IsBelow end) k.seen (record { name = name; slot = next_slot scope k; is_loop_variable = loop } ∷ []) (each_weaker (IsBelow (next_slot scope k)) (IsBelow end) k.seen (λ u b. let c : u.slot < length scope.locals + k.declared = b in omega (arith, c)) h) (omega arith, tt)
 
   -- in the block of a loop its variable is free
   loop_free : (k : Bindings) (name : List ℕ) → AreBelow k → IsFree (next_slot scope k) (with_variable scope name true (block_opened k))
   loop_free k name h = (
     omega arith,
     all_append (IsOther (next_slot scope k)) k.seen (record { name = name; slot = next_slot scope k; is_loop_variable = true } ∷ [])
-        (all_map (IsBelow (next_slot scope k)) (IsOther (next_slot scope k)) (λ u b e s. let c : u.slot < length scope.locals + k.declared = b in let t : u.slot ≡ length scope.locals + k.declared = s in absurd (omega (arith, c, t))) k.seen h) ((λ e. absurd (false≢true (sym e))), tt),
+        (each_weaker (IsBelow (next_slot scope k)) (IsOther (next_slot scope k)) k.seen (λ u b e s. let c : u.slot < length scope.locals + k.declared = b in let t : u.slot ≡ length scope.locals + k.declared = s in absurd (omega (arith, c, t))) h) ((λ e. absurd (false≢true (sym e))), tt),
   )
 
   abbrev keeps : Stmt → Bool
@@ -176,8 +176,8 @@ module _ (scope : Environment) where
   then_keeps : (s : Stmt) (rest : StatementList) → keeps s ≡ true → keeps_loop_variables rest ≡ true → keeps_loop_variables (then s rest) ≡ true
   then_keeps (stmt.Set n e) rest h k = k
   then_keeps (stmt.Put flow at e) rest h k = k
-  then_keeps (stmt.If c first second) rest h k = both (keeps (stmt.If c first second)) (keeps_loop_variables rest) h k
-  then_keeps (stmt.For n lo hi turn) rest h k = both (keeps (stmt.For n lo hi turn)) (keeps_loop_variables rest) h k
+  then_keeps (stmt.If c first second) rest h k = and_from (keeps (stmt.If c first second)) (keeps_loop_variables rest) h k
+  then_keeps (stmt.For n lo hi turn) rest h k = and_from (keeps (stmt.For n lo hi turn)) (keeps_loop_variables rest) h k
   then_keeps (stmt.Trap w) rest h k = k
 
   abbrev KeepsOne : Stmt × Bindings → Type 0
@@ -206,7 +206,7 @@ module _ (scope : Environment) where
       past KeepsOne (term_of scope k.seen c) _
       (λ x. after_good KeepsAll KeepsOne (in_block block_opened first k) _ (inside_keeps first one k h)
       (λ a l. after_good KeepsAll KeepsOne (in_block block_opened second a.1) _ (inside_keeps second two a.1 l.1)
-      (λ b m. (both (keeps_loop_variables a.0) (keeps_loop_variables b.0) l.0 m.0, m.1))))
+      (λ b m. (and_from (keeps_loop_variables a.0) (keeps_loop_variables b.0) l.0 m.0, m.1))))
 
   abbrev LoopAll : ℕ → StatementList × Bindings → Type 0
   LoopAll v x = (never_sets v x.0 ≡ true) × (keeps_loop_variables x.0 ≡ true) × AreBelow x.1
@@ -225,7 +225,7 @@ module _ (scope : Environment) where
       (λ _. past KeepsOne (term_of scope k.seen lo) _
       (λ x. past KeepsOne (term_of scope k.seen hi) _
       (λ y. after_good (LoopAll (next_slot scope k)) KeepsOne (in_block (λ m. with_variable scope w.text true (block_opened m)) turn k) _ (turn_keeps w turn free good k h)
-      (λ t l. (both (never_sets (next_slot scope k) t.0) (keeps_loop_variables t.0) l.0 l.1, l.2)))))
+      (λ t l. (and_from (never_sets (next_slot scope k) t.0) (keeps_loop_variables t.0) l.0 l.1, l.2)))))
 
   trap_keeps : (w : Word) (k : Bindings) → AreBelow k → Good KeepsOne (trap w k)
   trap_keeps w k h = (refl, go _)

@@ -1,18 +1,12 @@
 -- The word of each trap of a body that is read is one of the body's words.
-use Rattle.std.proofs.Common.{◌≡◌, ℕ, zero, suc, ◌<◌, Bool, ◌&&◌, List, [], ◌∷◌, ◌++◌, length, map, nat_lt, Some, slice_get, IsTrue, refl, arith}
+use Rattle.std.proofs.Common.{◌≡◌, ℕ, Bool, ◌&&◌, List, [], ◌∷◌, ◌++◌, length, map, nat_lt, Some, slice_get, IsTrue, refl}
 use Rattle.std.specs.List.{list_all}
-use Rattle.std.proofs.lemmas.Bool.{lt-ltb}
+use Rattle.std.proofs.lemmas.Bool.{lt-ltb, and_from}
 use Rattle.term_core.specs.StatementList.{StatementList, Done, SetThen, PutThen, IfThen, ForThen, TrapThen}
 use Rattle.plan_core.specs.Bodies.{has_words}
-use Rattle.plan_core.proofs.Lists.{and_left, and_right}
+use Rattle.std.specs.Cmp.{first_so, second_so}
+use Rattle.std.proofs.lemmas.Option.{slice_get_within}
 use Rattle.body_lang.specs.TrapWords.{numbers_of}
-use Rattle.check_names.proofs.Closed.{both_true}
-
--- an index with an element is below the length
-pub get_below : {A : Type 0} (xs : List A) (n : ℕ) (x : A) → slice_get xs n ≡ Some x → n < length xs
-get_below [] n x e = absurd cc
-get_below (y ∷ xs) zero x e = omega arith
-get_below (y ∷ xs) (suc n) x e = let h = get_below xs n x e in omega (arith, h)
 
 -- numbers that all have a word
 numbers_below : (words : List (List ℕ)) (ns : List ℕ) (ws : List (List ℕ)) → map (λ (n : ℕ). slice_get words n) ns ≡ map (λ (w : List ℕ). Some w) ws → IsTrue (list_all (λ n. nat_lt n (length words)) ns)
@@ -21,15 +15,15 @@ numbers_below words (n ∷ ns) [] e = absurd cc
 numbers_below words (n ∷ ns) (w ∷ ws) e =
     let first : slice_get words n ≡ Some w = cc in
     let rest : map (λ (n : ℕ). slice_get words n) ns ≡ map (λ (w : List ℕ). Some w) ws = cc in
-    both_true (nat_lt n (length words)) (list_all (λ n. nat_lt n (length words)) ns) (lt-ltb n (length words) (get_below words n w first)) (numbers_below words ns ws rest)
+    and_from (nat_lt n (length words)) (list_all (λ n. nat_lt n (length words)) ns) (lt-ltb n (length words) (slice_get_within words n w first)) (numbers_below words ns ws rest)
 
 all_first : {A : Type 0} (p : A → Bool) (xs ys : List A) → IsTrue (list_all p (xs ++ ys)) → IsTrue (list_all p xs)
 all_first p [] ys h = refl
-all_first p (x ∷ xs) ys h = both_true (p x) (list_all p xs) (and_left (p x) (list_all p (xs ++ ys)) h) (all_first p xs ys (and_right (p x) (list_all p (xs ++ ys)) h))
+all_first p (x ∷ xs) ys h = and_from (p x) (list_all p xs) (first_so (p x) (list_all p (xs ++ ys)) h) (all_first p xs ys (second_so (p x) (list_all p (xs ++ ys)) h))
 
 all_rest : {A : Type 0} (p : A → Bool) (xs ys : List A) → IsTrue (list_all p (xs ++ ys)) → IsTrue (list_all p ys)
 all_rest p [] ys h = h
-all_rest p (x ∷ xs) ys h = all_rest p xs ys (and_right (p x) (list_all p (xs ++ ys)) h)
+all_rest p (x ∷ xs) ys h = all_rest p xs ys (second_so (p x) (list_all p (xs ++ ys)) h)
 
 words_of_numbers : (count : ℕ) (s : StatementList) → IsTrue (list_all (λ n. nat_lt n count) (numbers_of s)) → IsTrue (has_words count s)
 words_of_numbers count Done h = refl
@@ -38,15 +32,15 @@ words_of_numbers count (PutThen flow at e rest) h = words_of_numbers count rest 
 words_of_numbers count (IfThen c first second rest) h =
     let p : ℕ → Bool = λ n. nat_lt n count in
     let two = all_first p (numbers_of first ++ numbers_of second) (numbers_of rest) h in
-    both_true (has_words count first && has_words count second) (has_words count rest)
-    (both_true (has_words count first) (has_words count second) (words_of_numbers count first (all_first p (numbers_of first) (numbers_of second) two)) (words_of_numbers count second (all_rest p (numbers_of first) (numbers_of second) two)))
+    and_from (has_words count first && has_words count second) (has_words count rest)
+    (and_from (has_words count first) (has_words count second) (words_of_numbers count first (all_first p (numbers_of first) (numbers_of second) two)) (words_of_numbers count second (all_rest p (numbers_of first) (numbers_of second) two)))
     (words_of_numbers count rest (all_rest p (numbers_of first ++ numbers_of second) (numbers_of rest) h))
 words_of_numbers count (ForThen n lo hi turn rest) h =
     let p : ℕ → Bool = λ n. nat_lt n count in
-    both_true (has_words count turn) (has_words count rest) (words_of_numbers count turn (all_first p (numbers_of turn) (numbers_of rest) h)) (words_of_numbers count rest (all_rest p (numbers_of turn) (numbers_of rest) h))
+    and_from (has_words count turn) (has_words count rest) (words_of_numbers count turn (all_first p (numbers_of turn) (numbers_of rest) h)) (words_of_numbers count rest (all_rest p (numbers_of turn) (numbers_of rest) h))
 words_of_numbers count (TrapThen n rest) h =
-    both_true (nat_lt n count) (has_words count rest) (and_left (nat_lt n count) (list_all (λ m. nat_lt m count) (numbers_of rest)) h)
-    (words_of_numbers count rest (and_right (nat_lt n count) (list_all (λ m. nat_lt m count) (numbers_of rest)) h))
+    and_from (nat_lt n count) (has_words count rest) (first_so (nat_lt n count) (list_all (λ m. nat_lt m count) (numbers_of rest)) h)
+    (words_of_numbers count rest (second_so (nat_lt n count) (list_all (λ m. nat_lt m count) (numbers_of rest)) h))
 
 pub words_there : (words : List (List ℕ)) (s : StatementList) (ws : List (List ℕ)) → map (λ (n : ℕ). slice_get words n) (numbers_of s) ≡ map (λ (w : List ℕ). Some w) ws → IsTrue (has_words (length words) s)
 words_there words s ws e = words_of_numbers (length words) s (numbers_below words (numbers_of s) ws e)

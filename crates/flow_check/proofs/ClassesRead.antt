@@ -1,6 +1,6 @@
 -- Classes that were read, in lists that grow by one.
 use Rattle.std.proofs.Common.{◌≡◌, ℕ, ◌+◌, ◌<◌, List, [], ◌∷◌, ◌++◌, take, length, get_or, Option, Some, None, Result, Ok, Err, refl, sym, ◌∙◌, ap, subst}
-use Rattle.std.proofs.lemmas.List.{take_more, append-nil}
+use Rattle.std.proofs.lemmas.List.{take_more, append-nil, append_assoc}
 use Rattle.ptg_base.specs.declared.refusal.Refusal.{Refusal}
 use Rattle.ptg_base.specs.declared.refusal.Refusal.TheVariants.{Fault, OutOfMemory}
 use Rattle.term_core.specs.declared.space.ClassSpace.{ClassSpace}
@@ -8,7 +8,6 @@ use Rattle.plan_core.specs.declared.class.ClassPlan.{ClassPlan}
 use Rattle.check_names.specs.Alphabet.{JdfFault, ClassTree}
 use Rattle.check_names.specs.Names.{Job}
 use Rattle.check_names.specs.Returns.{ReturnsChecked, both}
-use Rattle.check_names.proofs.Parts.{append_assoc}
 use Rattle.flow_check.specs.Bodies.{BodyResult, ReadsBody}
 use Rattle.flow_check.specs.Classes.{class_plan, class_faults}
 use Rattle.flow_check.specs.Check.{ReadBodies, classes_faults, classes_plan, names_faults, faults_of, IsClassRead, AreRead, ReturnsResolved}

@@ -1,28 +1,20 @@
 -- How many collections data have at most: each has an element, and all together have at most 2 ^ 24.
-use Rattle.std.proofs.Common.{ℕ, zero, suc, ◌+◌, ◌*◌, ◌<◌, ◌≤◌, ◌^◌, ◌&&◌, nat_le, Bool, true, false, List, [], ◌∷◌, length, IsTrue, slice_index, arith, refl}
-use Rattle.std.proofs.lemmas.Bool.{false≢true}
+use Rattle.std.proofs.Common.{ℕ, zero, suc, ◌+◌, ◌*◌, ◌<◌, ◌≤◌, ◌^◌, nat_le, List, [], ◌∷◌, length, IsTrue, slice_index, arith}
 use Rattle.std.specs.List.{AllByRecursion, list_all, fold}
 use Rattle.coll_data.specs.declared.coll.Coll.{Coll}
 use Rattle.coll_data.specs.Data.{Data}
 use Rattle.coll_data.specs.WellMade.{is_element_count, elements_by_type, IsWellColl, element_total, IsWellMade}
+use Rattle.std.specs.Cmp.{first_so, second_so}
 
 one_each : (m n : ℕ) → 1 ≤ m → 1 ≤ n → 1 ≤ m * n
 one_each zero n h k = omega (arith, h)
 one_each (suc m) zero h k = omega (arith, k)
 one_each (suc m) (suc n) h k = grind arith
 
-and_left : (a b : Bool) → IsTrue (a && b) → IsTrue a
-and_left true b h = refl
-and_left false b h = h
-
-and_right : (a b : Bool) → IsTrue (a && b) → IsTrue b
-and_right true b h = h
-and_right false b h = absurd (false≢true h)
-
 counted : (elements : List ℕ) (n : ℕ) → IsTrue (list_all is_element_count elements) → n < length elements → 1 ≤ slice_index elements n
 counted [] n h lt = omega (arith, lt)
-counted (e ∷ elements) zero h lt = let k : IsTrue (nat_le 1 e) = and_left (nat_le 1 e) (nat_le e 4096) (and_left (is_element_count e) (list_all is_element_count elements) h) in grind (arith, k)
-counted (e ∷ elements) (suc n) h lt = counted elements n (and_right (is_element_count e) (list_all is_element_count elements) h) (omega (arith, lt))
+counted (e ∷ elements) zero h lt = let k : IsTrue (nat_le 1 e) = first_so (nat_le 1 e) (nat_le e 4096) (first_so (is_element_count e) (list_all is_element_count elements) h) in grind (arith, k)
+counted (e ∷ elements) (suc n) h lt = counted elements n (second_so (is_element_count e) (list_all is_element_count elements) h) (omega (arith, lt))
 
 -- the elements of some tiles, added to a number
 abbrev added : List ℕ → ℕ → List Coll → ℕ

@@ -7,7 +7,8 @@ use Rattle.check_names.specs.declared.context.Globals.{Globals}
 use Rattle.check_names.specs.Alphabet.{Word, Jdf}
 use Rattle.check_names.specs.Contexts.{AreGlobals}
 use Rattle.check_names.specs.Names.{word_is, coll_is}
-use Rattle.check_names.proofs.NoFaults.{true_or, or_true, itself}
+use Rattle.std.proofs.lemmas.Bool.{or_left, or_right}
+use Rattle.list_lemmas.proofs.Texts.{bytes_eq-self}
 use Rattle.flow_check.specs.Globals.{lacks}
 use Rattle.flow_check.specs.Given.{is_given, is_missing}
 
@@ -16,8 +17,8 @@ any_declared : (p q : Word → Bool) (globals words : List Word) → ((name : Li
     → ((w : Word) → list_any (word_is w.text) globals ≡ true → p w ≡ q w) → list_any p words ≡ list_any q words
 any_declared p q globals [] among same = refl
 any_declared p q globals (w ∷ words) among same =
-    let first = same w (among w.text (true_or (word_is w.text w) (list_any (word_is w.text) words) (itself w.text))) in
-    let rest = any_declared p q globals words (λ name h. among name (or_true (word_is name w) (list_any (word_is name) words) h)) same in
+    let first = same w (among w.text (or_left (word_is w.text w) (list_any (word_is w.text) words) (bytes_eq-self w.text))) in
+    let rest = any_declared p q globals words (λ name h. among name (or_right (word_is name w) (list_any (word_is name) words) h)) same in
     λ i. first i || rest i
 
 lacks_declared : (jdf : Jdf) (given : Data) (globals : Globals) → AreGlobals (record { jdf = jdf; given = given }) globals → (w : Word) → list_any (word_is w.text) jdf.globals ≡ true

@@ -6,7 +6,8 @@ use Rattle.name_table.specs.Names.{has_name, value_named}
 use Rattle.coll_data.specs.declared.coll.Coll.{Coll}
 use Rattle.check_names.specs.Names.{coll_is}
 use Rattle.flow_check.specs.Globals.{with_value}
-use Rattle.flow_check.proofs.Tables.{if_named, bytes_sym, table_step, table_skip, value_more, position_more}
+use Rattle.flow_check.proofs.Tables.{if_named, table_step, table_skip, value_more, position_more}
+use Rattle.list_lemmas.proofs.Texts.{bytes_eq-sym}
 
 -- a choice by a test, the other way round
 pub by_not : {A : Type 0} (b : Bool) (x y : A) → (if b then x else y) ≡ (if not b then y else x)
@@ -52,7 +53,7 @@ numbers_more : (xs : List Coll) (i : ℕ) (d : Coll) → i < length xs → d ≡
 numbers_more xs i d lt at n =
     position_more (coll_is n) xs i d lt
     ∙ (ap (λ (y : Coll). option_or (position (coll_is n) (take i xs)) (cond (bytes_eq y.name n) (Some i) None)) (sym at)
-    ∙ ap (λ b. option_or (position (coll_is n) (take i xs)) (cond b (Some i) None)) (bytes_sym d.name n))
+    ∙ ap (λ b. option_or (position (coll_is n) (take i xs)) (cond b (Some i) None)) (bytes_eq-sym d.name n))
 
 pub numbers_step : (declared : List ℕ → Bool) (xs : List Coll) (i : ℕ) (d : Coll) (table after : List (List ℕ × ℕ)) → i < length xs → d ≡ get_or xs i d → declared d.name ≡ true
     → ((n : List ℕ) → value_named table n ≡ cond (declared n) (position (coll_is n) (take i xs)) None)

@@ -1,3 +1,5 @@
+pub mod Parts
+pub mod FlowParts
 pub mod Tables
 pub mod GlobalTables
 pub mod DeclaredGlobals

@@ -9,8 +9,9 @@ use Rattle.check_names.specs.Names.{Job}
 use Rattle.check_names.specs.Expressions.{option_faults, option_term}
 use Rattle.check_names.specs.Definitions.{space_of, space_faults}
 use Rattle.check_names.proofs.First.{first_none}
-use Rattle.check_names.proofs.NoFaults.{first_nil}
-use Rattle.check_names.proofs.AllThere.{some_value, both_there, each_there}
+use Rattle.list_lemmas.proofs.Joins.{first_nil}
+use Rattle.list_lemmas.proofs.Options.{some_value}
+use Rattle.check_names.proofs.AllThere.{both_there, each_there}
 use Rattle.check_names.proofs.Resolved.{option_there, space_there}
 use Rattle.check_flows.specs.Places.{element_faults, element_of}
 use Rattle.check_flows.specs.Dependences.{flow_faults, flow_plan}

@@ -15,15 +15,6 @@ or_none : {V : Type 0} (o : Option V) → option_or o None ≡ o
 or_none None = refl
 or_none (Some x) = refl
 
-pub bytes_sym : (x n : List ℕ) → bytes_eq x n ≡ bytes_eq n x
-bytes_sym x n = go (bytes_eq x n) (bytes_eq n x) refl refl
-  where
-    go : (a b : Bool) → bytes_eq x n ≡ a → bytes_eq n x ≡ b → a ≡ b
-    go true true e f = refl
-    go false false e f = refl
-    go true false e f = let s : bytes_eq n x ≡ true = (bytes_decides n x).1 (sym ((bytes_decides x n).0 e)) in absurd cc
-    go false true e f = let s : bytes_eq x n ≡ true = (bytes_decides x n).1 (sym ((bytes_decides n x).0 f)) in absurd cc
-
 -- a pair at the end of a list of pairs
 pub value_pushed : {V : Type 0} (table : List (List ℕ × V)) (x : List ℕ) (v : V) (n : List ℕ) → value_named (table ++ (x, v) ∷ []) n ≡ option_or (value_named table n) (if_named x v n)
 value_pushed [] x v n = refl

@@ -1,5 +1,5 @@
 -- A JDF and its data have their classes in one way at most, or one first fault at most, and not both.
-use Rattle.std.proofs.Common.{◌≡◌, ◌≤◌, ℕ, ℤ, Bool, length, List, [], ◌∷◌, Option, Some, None, Ok, Err, refl, sym, ◌∙◌, ap, subst}
+use Rattle.std.proofs.Common.{◌≡◌, ◌≤◌, ℕ, ℤ, Bool, length, List, [], ◌∷◌, Option, Ok, Err, refl, sym, ◌∙◌, ap, subst}
 use Rattle.term_core.specs.declared.space.ClassSpace.{ClassSpace}
 use Rattle.plan_core.specs.declared.class.ClassPlan.{ClassPlan}
 use native.Mathlib.Bridge.{le_prop}
@@ -12,6 +12,7 @@ use Rattle.check_names.specs.Faults.{first_fault}
 use Rattle.flow_check.specs.Bodies.{BodyResult, ReadsAs, ReadsBody}
 use Rattle.flow_check.specs.Check.{ReadBodies, classes_plan, faults_of, AreResolved, IsFirstFault}
 use Rattle.flow_check.specs.Laws.{OneFirstFault}
+use Rattle.std.proofs.lemmas.Option.{same_Some, none-some}
 
 abbrev from : (locals : List (List ℕ)) (integer : List ℕ → Option ℤ) (is_collection : List ℕ → Bool) (flows : List FlowName) → length locals ≤ 16 → length flows ≤ 8 → Environment
 from locals integer is_collection flows h k = record { locals = locals; integer = integer; is_collection = is_collection; flows = flows; locals_at_most = h; flows_at_most = k }
@@ -51,20 +52,14 @@ one_list job (x ∷ classes) (b ∷ bs) (c ∷ cs) h k =
     let rest = one_list job classes bs cs h.1 k.1 in
     λ i. first i ∷ rest i
 
-some_once : {A : Type 0} (x y : A) → Some x ≡ Some y → x ≡ y
-some_once x y e = cc
-
-none_some : {A : Type 0} (x : A) → None ≡ Some x → ⊥
-none_some x e = absurd cc
-
 -- the classes are resolved in one way
 pub same_classes : (job : Job) (x y : List ClassPlan × List ClassSpace) → AreResolved job x.0 x.1 → AreResolved job y.0 y.1 → x ≡ y
-same_classes job x y h k = some_once x y (sym h.plans ∙ (ap (classes_plan job job.jdf.classes) (one_list job job.jdf.classes h.bodies k.bodies h.read k.read) ∙ k.plans))
+same_classes job x y h k = same_Some x y (sym h.plans ∙ (ap (classes_plan job job.jdf.classes) (one_list job job.jdf.classes h.bodies k.bodies h.read k.read) ∙ k.plans))
 
 pub one_first_fault : OneFirstFault
-one_first_fault job f g h k = some_once f g (sym h.first ∙ (ap (λ bs. first_fault (faults_of job bs)) (one_list job job.jdf.classes h.bodies k.bodies h.read k.read) ∙ k.first))
+one_first_fault job f g h k = same_Some f g (sym h.first ∙ (ap (λ bs. first_fault (faults_of job bs)) (one_list job job.jdf.classes h.bodies k.bodies h.read k.read) ∙ k.first))
 
 -- classes that are resolved have no fault
 pub resolved_has_no_fault : (job : Job) (classes : List ClassPlan) (spaces : List ClassSpace) (f : JdfFault) → AreResolved job classes spaces → IsFirstFault job f → ⊥
 resolved_has_no_fault job classes spaces f h k =
-    none_some f (ap first_fault (sym h.no_fault) ∙ (ap (λ bs. first_fault (faults_of job bs)) (one_list job job.jdf.classes h.bodies k.bodies h.read k.read) ∙ k.first))
+    none-some f (ap first_fault (sym h.no_fault) ∙ (ap (λ bs. first_fault (faults_of job bs)) (one_list job job.jdf.classes h.bodies k.bodies h.read k.read) ∙ k.first))

@@ -23,21 +23,26 @@ use Rattle.check_names.specs.Repeats.{repeats}
 use Rattle.check_names.specs.Returns.{both, each}
 use Rattle.check_names.specs.Expressions.{option_faults, option_term}
 use Rattle.check_names.specs.Definitions.{definitions_of, parameter_of, space_of, space_faults}
-use Rattle.check_names.proofs.Closed.{both_true, some_once, pair_parts}
+use Rattle.check_names.proofs.Closed.{pair_parts}
 use Rattle.check_names.proofs.ClosedArguments.{closed_option}
 use Rattle.check_names.proofs.Distinct.{distinct_names}
-use Rattle.check_names.proofs.NoFaults.{first_nil, rest_nil, parts_of, parts_map}
+use Rattle.check_names.proofs.NoFaults.{parts_of}
+use Rattle.flow_check.proofs.Parts.{parts_map}
 use Rattle.check_names.proofs.Parts.{each_length}
 use Rattle.check_names.proofs.WellSpaces.{definitions_length, pair_of, well_space}
 use Rattle.check_flows.specs.Places.{element_faults, element_of}
 use Rattle.check_flows.specs.Dependences.{flow_faults, flow_plan}
 use Rattle.check_flows.specs.PartsOfJob.{HaveParts}
 use Rattle.check_flows.proofs.Elements.{element_exists}
-use Rattle.check_flows.proofs.WellFlows.{flow_is, flow_name, well_flow}
+use Rattle.check_flows.proofs.WellFlows.{well_flow}
+use Rattle.flow_check.proofs.FlowParts.{flow_is, flow_name}
 use Rattle.flow_check.specs.Bodies.{BodyResult, ReadsAs, ReadsBody, body_faults, body_of}
 use Rattle.flow_check.specs.Classes.{flows_of, head_from, head_of, head_faults, class_from, class_plan, class_faults}
 use Rattle.flow_check.proofs.BodyKinds.{kinds_of}
 use Rattle.flow_check.proofs.WellBodies.{fit_body, fit_words}
+use Rattle.std.proofs.lemmas.Bool.{and_from}
+use Rattle.std.proofs.lemmas.Option.{same_Some}
+use Rattle.list_lemmas.proofs.Joins.{first_nil, rest_nil}
 
 -- ---- the parts of a class
 
@@ -76,16 +81,16 @@ params_count job class s e =
 -- what holds of each element without a fault
 parts_sound : {A B : Type 0} (f : A → Option B) (g : A → List JdfFault) (p : B → Bool) (P : A → Type 0) → ((a : A) (b : B) → P a → g a ≡ [] → f a ≡ Some b → IsTrue (p b))
     → (xs : List A) (ys : List B) → AllByRecursion P xs → flat_map g xs ≡ [] → each f xs ≡ Some ys → IsTrue (list_all p ys)
-parts_sound f g p P h [] ys all none e = subst (λ l. IsTrue (list_all p l)) (some_once [] ys e) refl
+parts_sound f g p P h [] ys all none e = subst (λ l. IsTrue (list_all p l)) (same_Some [] ys e) refl
 parts_sound f g p P h (x ∷ xs) ys all none e =
     let q = parts_of (λ y ys. y ∷ ys) (f x) (each f xs) ys e in
     subst (λ l. IsTrue (list_all p l)) q.4
-    (both_true (p q.0) (list_all p q.1) (h x q.0 all.0 (first_nil (g x) (flat_map g xs) none) q.2) (parts_sound f g p P h xs q.1 all.1 (rest_nil (g x) (flat_map g xs) none) q.3))
+    (and_from (p q.0) (list_all p q.1) (h x q.0 all.0 (first_nil (g x) (flat_map g xs) none) q.2) (parts_sound f g p P h xs q.1 all.1 (rest_nil (g x) (flat_map g xs) none) q.3))
 
 -- ---- the body
 
 body_read : (b : BodyResult) (y : Body × List (List ℕ)) → body_of b ≡ Some y → b ≡ Ok y
-body_read (Ok x) y e = ap (λ z. Ok z) (some_once x y e)
+body_read (Ok x) y e = ap (λ z. Ok z) (same_Some x y e)
 body_read (Err f) y e = absurd cc
 
 -- ---- the class

@@ -2,9 +2,9 @@
 use Rattle.std.proofs.Common.{◌≡◌, ℕ, zero, suc, ◌≤◌, false, ◌&&◌, ◌==◌, List, [], ◌∷◌, length, map, Option, Some, None, option_map, option_and_then, slice_get, IsTrue, nat_le, nat_lt, refl, sym, ◌∙◌, ap, subst, arith}
 use Rattle.std.specs.List.{list_all, AllByRecursion}
 use Rattle.std.specs.Option.{option_map_or}
-use Rattle.std.proofs.lemmas.Bool.{lt-ltb, le-leb, eq-eqb}
+use Rattle.std.proofs.lemmas.Bool.{lt-ltb, le-leb, eq-eqb, and_from}
 use Rattle.std.proofs.lemmas.List.{length-map}
-use Rattle.std.proofs.lemmas.Option.{slice_get-map}
+use Rattle.std.proofs.lemmas.Option.{slice_get-map, same_Some, slice_get_within}
 use Rattle.term_core.specs.declared.space.ClassSpace.{ClassSpace}
 use Rattle.jdf_tree.specs.TreeLimits.{IsClassWithinLimits, IsWithinLimits}
 use Rattle.coll_data.specs.declared.coll.Coll.{Coll}
@@ -18,18 +18,18 @@ use Rattle.plan_data.specs.Fit.{shape_of}
 use Rattle.check_names.specs.Alphabet.{ClassTree, Word, NameTwice}
 use Rattle.check_names.specs.Names.{Job}
 use Rattle.check_names.specs.Repeats.{repeats}
-use Rattle.check_names.proofs.Closed.{both_true, some_once}
+use Rattle.list_lemmas.proofs.Joins.{first_nil, rest_nil}
+use Rattle.list_lemmas.proofs.Places.{slice_get_there, each_at}
 use Rattle.check_names.proofs.Distinct.{distinct_names}
-use Rattle.check_names.proofs.NoFaults.{first_nil, rest_nil, parts_of, part_at}
+use Rattle.check_names.proofs.NoFaults.{parts_of}
+use Rattle.flow_check.proofs.Parts.{part_at}
 use Rattle.check_flows.specs.Dependences.{flow_plan}
 use Rattle.check_flows.specs.PartsOfJob.{HaveParts}
-use Rattle.check_flows.proofs.Elements.{at_index}
-use Rattle.check_flows.proofs.WellFlows.{flow_is}
+use Rattle.flow_check.proofs.FlowParts.{flow_is}
 use Rattle.flow_check.specs.Laws.{ResolvedIsWellMade}
 use Rattle.flow_check.specs.Bodies.{BodyResult, ReadsBody}
 use Rattle.flow_check.specs.Classes.{class_plan, class_faults}
 use Rattle.flow_check.specs.Check.{ReadBodies, classes_faults, classes_plan, names_faults, AreResolved}
-use Rattle.flow_check.proofs.BodyWords.{get_below}
 use Rattle.flow_check.proofs.ClassesRead.{Plans, plan_first}
 use Rattle.flow_check.proofs.WellClasses.{IsClassOf, class_of, params_count, well_class}
 
@@ -57,7 +57,7 @@ class_at job (c ∷ cs) (b ∷ bs) ps zero class r h e at =
     let q = parts_of plan_first (class_plan job c b) (classes_plan job cs bs) ps e in
     let one : IsClassAt job c (plan_first q.0 q.1) zero =
     record { body = b; plan = q.0.0; space = q.0.1; plan_at = refl; space_at = refl; read = r.0; none = first_nil (class_faults job c b) (classes_faults job cs bs) h; is = class_of job c b q.0 q.2 } in
-    subst (λ d. IsClassAt job d ps zero) (some_once c class at) (subst (λ z. IsClassAt job c z zero) q.4 one)
+    subst (λ d. IsClassAt job d ps zero) (same_Some c class at) (subst (λ z. IsClassAt job c z zero) q.4 one)
 class_at job (c ∷ cs) (b ∷ bs) ps (suc n) class r h e at =
     let q = parts_of plan_first (class_plan job c b) (classes_plan job cs bs) ps e in
     subst (λ z. IsClassAt job class z (suc n)) q.4 (one_later job class q.0 q.1 n (class_at job cs bs q.1 n class r.1 (rest_nil (class_faults job c b) (classes_faults job cs bs) h) q.3 at))
@@ -65,7 +65,7 @@ class_at job (c ∷ cs) (b ∷ bs) ps (suc n) class r h e at =
 -- ---- all of them
 
 plans_length : (job : Job) (cs : List ClassTree) (bs : List BodyResult) (ps : Plans) → ReadBodies job cs bs → classes_plan job cs bs ≡ Some ps → (length ps.0 ≡ length cs) × (length ps.1 ≡ length cs)
-plans_length job [] bs ps r e = let same : ([], []) ≡ ps = some_once ([], []) ps e in (ap (λ (z : Plans). length z.0) (sym same), ap (λ (z : Plans). length z.1) (sym same))
+plans_length job [] bs ps r e = let same : ([], []) ≡ ps = same_Some ([], []) ps e in (ap (λ (z : Plans). length z.0) (sym same), ap (λ (z : Plans). length z.1) (sym same))
 plans_length job (c ∷ cs) [] ps r e = absurd r
 plans_length job (c ∷ cs) (b ∷ bs) ps r e =
     let q = parts_of plan_first (class_plan job c b) (classes_plan job cs bs) ps e in
@@ -73,19 +73,13 @@ plans_length job (c ∷ cs) (b ∷ bs) ps r e =
     (ap (λ (z : Plans). length z.0) (sym q.4) ∙ ap (λ n. suc n) more.0, ap (λ (z : Plans). length z.1) (sym q.4) ∙ ap (λ n. suc n) more.1)
 
 plans_names : (job : Job) (cs : List ClassTree) (bs : List BodyResult) (ps : Plans) → ReadBodies job cs bs → classes_plan job cs bs ≡ Some ps → map (λ (c : ClassPlan). c.name) ps.0 ≡ map (λ (c : ClassTree). c.name.text) cs
-plans_names job [] bs ps r e = ap (λ (z : Plans). map (λ (c : ClassPlan). c.name) z.0) (sym (some_once ([], []) ps e))
+plans_names job [] bs ps r e = ap (λ (z : Plans). map (λ (c : ClassPlan). c.name) z.0) (sym (same_Some ([], []) ps e))
 plans_names job (c ∷ cs) [] ps r e = absurd r
 plans_names job (c ∷ cs) (b ∷ bs) ps r e =
     let q = parts_of plan_first (class_plan job c b) (classes_plan job cs bs) ps e in
     let first = (class_of job c b q.0 q.2).name in
     let rest = plans_names job cs bs q.1 r.1 q.3 in
     ap (λ (z : Plans). map (λ (c : ClassPlan). c.name) z.0) (sym q.4) ∙ (λ i. first i ∷ rest i)
-
--- what holds of each holds of one
-all_at : {A : Type 0} (P : A → Type 0) (xs : List A) (n : ℕ) (x : A) → AllByRecursion P xs → slice_get xs n ≡ Some x → P x
-all_at P [] n x h at = absurd cc
-all_at P (y ∷ xs) zero x h at = subst P (some_once y x at) h.0
-all_at P (y ∷ xs) (suc n) x h at = all_at P xs n x h.1 at
 
 -- ---- the data
 
@@ -100,8 +94,8 @@ shapes_well elements (c ∷ cs) h =
     let same = count_is c.shape.0 c.shape.1 in
     let low : 1 ≤ count = subst (λ n. 1 ≤ n) same h.0.has_tiles in
     let high : count ≤ 65536 = subst (λ n. n ≤ 65536) same h.0.tiles_at_most in
-    both_true (is_shape (length elements) (shape_of c)) (list_all (is_shape (length elements)) (map shape_of cs))
-    (both_true (nat_le 1 count && nat_le count 65536) (nat_lt c.datatype (length elements)) (both_true (nat_le 1 count) (nat_le count 65536) (le-leb 1 count low) (le-leb count 65536 high)) (lt-ltb c.datatype (length elements) h.0.datatype))
+    and_from (is_shape (length elements) (shape_of c)) (list_all (is_shape (length elements)) (map shape_of cs))
+    (and_from (nat_le 1 count && nat_le count 65536) (nat_lt c.datatype (length elements)) (and_from (nat_le 1 count) (nat_le count 65536) (le-leb 1 count low) (le-leb count 65536 high)) (lt-ltb c.datatype (length elements) h.0.datatype))
     (shapes_well elements cs h.1)
 
 -- ---- the parts of a job
@@ -132,13 +126,13 @@ module _ (job : Job) (classes : List ClassPlan) (spaces : List ClassSpace) (reso
   fits : AllByRecursion IsClassWithinLimits job.jdf.classes → (n : ℕ) (c : ClassPlan) (s : ClassSpace) → slice_get classes n ≡ Some c → slice_get spaces n ≡ Some s
       → IsWellClass classes spaces (map shape_of job.given.colls) (suc (length job.given.types)) s c
   fits within n c s e f =
-      let below = get_below classes n c e in
+      let below = slice_get_within classes n c e in
       let same = counts.0 in
-      let tree = at_index job.jdf.classes n (omega (arith, below, same)) in
+      let tree = slice_get_there job.jdf.classes n (omega (arith, below, same)) in
       let a = at n tree.0 tree.1 in
-      let well = well_class job classes spaces (map shape_of job.given.colls) have_parts tree.0 a.body a.plan a.space a.is (all_at IsClassWithinLimits job.jdf.classes n tree.0 within tree.1) a.read a.none in
-      let plan : a.plan ≡ c = some_once a.plan c (sym a.plan_at ∙ e) in
-      let space : a.space ≡ s = some_once a.space s (sym a.space_at ∙ f) in
+      let well = well_class job classes spaces (map shape_of job.given.colls) have_parts tree.0 a.body a.plan a.space a.is (each_at IsClassWithinLimits job.jdf.classes n tree.0 within tree.1) a.read a.none in
+      let plan : a.plan ≡ c = same_Some a.plan c (sym a.plan_at ∙ e) in
+      let space : a.space ≡ s = same_Some a.space s (sym a.space_at ∙ f) in
       subst (λ t. IsWellClass classes spaces (map shape_of job.given.colls) (suc (length job.given.types)) t c) space
       (subst (λ d. IsWellClass classes spaces (map shape_of job.given.colls) (suc (length job.given.types)) a.space d) plan well)
 

@@ -1,4 +1,5 @@
--- The body of a class: what its names may mean, and what reading it gives. Source: the JDF documentation for what a class has; the language of bodies is this project's own choice.
+-- The body of a class: what its names may mean, and what reading it gives. Source: the JDF documentation for what a
+-- class has; the language of bodies is this project's own choice.
 use Rattle.std.specs.Prelude.{◌≡◌, ℕ, List, [], ◌∷◌, map, Option, Some, None, is_some, Result, Ok, Err}
 use Rattle.term_core.specs.declared.body.Body.{Body}
 use Rattle.body_names.specs.Environment.{Environment}
@@ -26,7 +27,8 @@ pub record IsEnvironment (job : Job) (class : ClassTree) (scope : Environment) :
 abbrev pub BodyResult : Type 0
 BodyResult = Result (Body × List (List ℕ)) JdfFault
 
--- The tokens of a body are a body, or have a first fault. In a text that is broken the names after that place do not count.
+-- The tokens of a body are a body, or have a first fault. In a text that is broken the names after that place do not
+-- count.
 abbrev pub ReadsAs : Environment → ClassTree → BodyResult → Type 0
 ReadsAs scope class (Ok x) = IsBody scope class.body x
 ReadsAs scope class (Err f) = IsBodyFault scope class.body class.finish f

@@ -1,4 +1,5 @@
--- The classes of a JDF with its data, and the first fault. Source: PaRSEC 2013 and the JDF documentation; that the first fault of the whole text is named is this project's own choice.
+-- The classes of a JDF with its data, and the first fault. Source: PaRSEC 2013 and the JDF documentation; that the
+-- first fault of the whole text is named is this project's own choice.
 use Rattle.std.specs.Prelude.{◌≡◌, List, [], ◌∷◌, ◌++◌, Option, Some, None, Result, Ok, Err}
 use Rattle.term_core.specs.declared.space.ClassSpace.{ClassSpace}
 use Rattle.plan_core.specs.declared.class.ClassPlan.{ClassPlan}
@@ -29,7 +30,8 @@ classes_faults job (c ∷ classes) (b ∷ bodies) = class_faults job c b ++ clas
 abbrev pub classes_plan : Job → List ClassTree → List BodyResult → Option (List ClassPlan × List ClassSpace)
 classes_plan job [] bodies = Some ([], [])
 classes_plan job (c ∷ classes) [] = None
-classes_plan job (c ∷ classes) (b ∷ bodies) = both (λ x xs. (x.0 ∷ xs.0, x.1 ∷ xs.1)) (class_plan job c b) (classes_plan job classes bodies)
+classes_plan job (c ∷ classes) (b ∷ bodies) =
+    both (λ x xs. (x.0 ∷ xs.0, x.1 ∷ xs.1)) (class_plan job c b) (classes_plan job classes bodies)
 
 -- The result of resolving a class: its body was read, and it is what the class means, or the first of its faults.
 pub record IsClassRead (job : Job) (class : ClassTree) (r : Result (ClassPlan × ClassSpace) (Refusal JdfFault)) : Type 0 where
@@ -45,7 +47,8 @@ pub record AreRead (job : Job) (classes : List ClassTree) (r : Result (List Clas
 
 -- the faults of the names of globals and classes
 abbrev pub names_faults : Job → List JdfFault
-names_faults job = repeats (λ (w : Word). w) NameTwice job.jdf.globals ++ repeats (λ (c : ClassTree). c.name) NameTwice job.jdf.classes
+names_faults job =
+    repeats (λ (w : Word). w) NameTwice job.jdf.globals ++ repeats (λ (c : ClassTree). c.name) NameTwice job.jdf.classes
 
 -- all faults of a text
 abbrev pub faults_of : Job → List BodyResult → List JdfFault

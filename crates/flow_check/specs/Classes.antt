@@ -21,7 +21,8 @@ abbrev pub flows_of : Job → List DefTree → List FlowTree → Option (List Fl
 flows_of job seen flows = each (flow_plan job seen) flows
 
 abbrev pub flows_faults : Job → List DefTree → List FlowTree → List JdfFault
-flows_faults job seen flows = flat_map (flow_faults job seen) flows ++ repeats (λ (f : FlowTree). f.name) NameTwice flows
+flows_faults job seen flows =
+    flat_map (flow_faults job seen) flows ++ repeats (λ (f : FlowTree). f.name) NameTwice flows
 
 -- the parts of a class outside of its body, from its space and its affinity, and from its flows and its priority
 abbrev pub head_from : ClassSpace × (ℕ × List Term) → List FlowPlan × Option Term → ClassHead

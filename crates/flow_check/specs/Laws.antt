@@ -20,14 +20,19 @@ use Rattle.flow_check.specs.Plans.{IsPlan}
 abbrev pub OneFirstFault : Type 0
 OneFirstFault = (job : Job) (f g : JdfFault) → IsFirstFault job f → IsFirstFault job g → f ≡ g
 
--- The classes that a JDF within the limits resolves to with data that are well made, with what the data are, fit one another.
+-- The classes that a JDF within the limits resolves to with data that are well made, with what the data are, fit one
+-- another.
 abbrev pub ResolvedIsWellMade : Type 0
-ResolvedIsWellMade = (job : Job) (classes : List ClassPlan) (spaces : List ClassSpace) → IsWithinLimits job.jdf → well_data.IsWellMade job.given → AreResolved job classes spaces
+ResolvedIsWellMade =
+    (job : Job) (classes : List ClassPlan) (spaces : List ClassSpace) → IsWithinLimits job.jdf
+    → well_data.IsWellMade job.given → AreResolved job classes spaces
     → IsWellMade classes spaces (map shape_of job.given.colls) (elements_by_type job.given)
 
 -- So a JDF and its data whose classes are resolved have a plan.
 abbrev pub ResolvedIsAPlan : Type 0
-ResolvedIsAPlan = (job : Job) (classes : List ClassPlan) (spaces : List ClassSpace) → IsWithinLimits job.jdf → well_data.IsWellMade job.given → AreResolved job classes spaces → (p : Plan) × IsPlan job p
+ResolvedIsAPlan =
+    (job : Job) (classes : List ClassPlan) (spaces : List ClassSpace) → IsWithinLimits job.jdf
+    → well_data.IsWellMade job.given → AreResolved job classes spaces → (p : Plan) × IsPlan job p
 
 -- A JDF and its data have one plan at most.
 abbrev pub OnePlan : Type 0
@@ -43,7 +48,8 @@ EachBodyIsRead = (job : Job) (class : ClassTree) → IsClassWithinLimits class �
 
 -- A class that breaks no rule is resolved.
 abbrev pub ClassIsResolved : Type 0
-ClassIsResolved = (job : Job) (class : ClassTree) (b : BodyResult) → class_faults job class b ≡ [] → IsSome (class_plan job class b)
+ClassIsResolved =
+    (job : Job) (class : ClassTree) (b : BodyResult) → class_faults job class b ≡ [] → IsSome (class_plan job class b)
 
 -- A JDF and its data have a plan or a first fault.
 abbrev pub HasPlanOrFault : Job → Type 0

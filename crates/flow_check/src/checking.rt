@@ -45,13 +45,14 @@ fn answer(alloc: Global, jdf: &Jdf, given: &Given, globals: &Globals) -> Result<
     }
 }
 
-/// The type check: the plan of a JDF with its data, whose globals are given by name; or the first fault of the whole text, by place
-/// and then by code.
+/// The type check: the plan of a JDF with its data, whose globals are given by name; or the first fault of the whole
+/// text, by place and then by code.
 pub fn check(alloc: Global, jdf: &Jdf, given: &Given, globals: &Globals) -> Result<Plan, JdfRefusal>
     requires limits { IsWithinLimits jdf.now }
     requires globals { AreGlobals (record { jdf = jdf.now; given = given.now }) globals.now }
     // What is found breaks no rule, and each name has its meaning; the fault is the first one.
-    ensures exact { FindsOrRefuses (IsPlan (record { jdf = jdf.now; given = given.now })) (IsFirstFault (record { jdf = jdf.now; given = given.now })) result }
+    ensures exact { FindsOrRefuses (IsPlan (record { jdf = jdf.now; given = given.now }))
+        (IsFirstFault (record { jdf = jdf.now; given = given.now })) result }
     // The data fit the plan.
     ensures fit { IfOk result (λ plan. DataFit plan.colls plan.elems given.now) }
 {

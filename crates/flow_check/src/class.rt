@@ -69,7 +69,8 @@ fn class(
     requires context { IsContext context.now }
     requires seen { context.now.seen.now ≡ class.now.defs }
     requires bounded { IsBoundedClass class.now }
-    ensures { ReturnsChecked {A = ClassPlan × ClassSpace} result (class_plan (job_of context.now) class.now body) (class_faults (job_of context.now) class.now body) }
+    ensures { ReturnsChecked {A = ClassPlan × ClassSpace} result (class_plan (job_of context.now) class.now body)
+        (class_faults (job_of context.now) class.now body) }
 {
     let head = head(context, class);
     match body {

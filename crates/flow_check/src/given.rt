@@ -29,7 +29,8 @@ fn lacks_any(globals: &Globals, words: &[Word]) -> bool
 
 /// Whether some global of a JDF is neither an integer nor a collection of the data, by the tables of its globals.
 pub fn missing(jdf: &Jdf, globals: &Globals) -> bool
-    ensures { (given : Data) → AreGlobals (record { jdf = jdf.now; given = given }) globals.now → result ≡ is_missing jdf.now given }
+    ensures { (given : Data) → AreGlobals (record { jdf = jdf.now; given = given }) globals.now
+        → result ≡ is_missing jdf.now given }
 {
     lacks_any(globals, jdf.globals.as_slice())
 }

@@ -37,7 +37,8 @@ fn declared_names(alloc: Global, globals: &[Word]) -> Result<NameSet, OutOfMemor
 // Adds a name, unless the set has it.
 #[tactic(auto, using(crate::proofs::GlobalTables::added_name))]
 fn add_name(alloc: Global, names: &mut NameSet, name: &Text) -> Result<(), OutOfMemory>
-    ensures { OnOk result (names.new ≡ (if has_name names.old name.now then names.old else names.old ++ name.now ∷ [])) }
+    ensures { OnOk result
+        (names.new ≡ (if has_name names.old name.now then names.old else names.old ++ name.now ∷ [])) }
 {
     names.add(Text::of(alloc, name.bytes())?)?;
     Ok(())
@@ -56,7 +57,9 @@ fn add_int(alloc: Global, table: &mut NameTable<i64>, int: &(Text, i64)) -> Resu
 // Those of some integers of the data that are declared as globals, by name.
 fn ints_among(declared: &Declared, ints: &[(Text, i64)]) -> Result<NameTable<i64>, OutOfMemory>
     requires { AreDeclared (job_with declared.now) declared.now.names.now }
-    ensures { IfOk result (λ table. (n : List ℕ) → value_named table n ≡ (if is_declared (job_with declared.now) n then value_named ints.now n else None)) }
+    ensures { IfOk result (λ table.
+        (n : List ℕ)
+        → value_named table n ≡ (if is_declared (job_with declared.now) n then value_named ints.now n else None)) }
 {
     let mut table = NameTable::new(declared.alloc);
     for int in ints {
@@ -85,7 +88,10 @@ fn add_number(
 fn numbers_among(declared: &Declared, colls: &[Coll]) -> Result<NameTable<u32>, OutOfMemory>
     requires declared { AreDeclared (job_with declared.now) declared.now.names.now }
     requires at_most { length colls.now ≤ 2 ^ 24 }
-    ensures { IfOk result (λ table. (n : List ℕ) → value_named table n ≡ (if is_declared (job_with declared.now) n then position (coll_is n) colls.now else None)) }
+    ensures { IfOk result (λ table.
+        (n : List ℕ)
+        → value_named table n
+        ≡ (if is_declared (job_with declared.now) n then position (coll_is n) colls.now else None)) }
 {
     let mut table = NameTable::new(declared.alloc);
     for i in 0..colls.len() {
@@ -115,7 +121,8 @@ fn globals_among(
     })
 }
 
-/// The globals of a JDF by name: the value of each that is an integer of the data, and the number of each that is a collection.
+/// The globals of a JDF by name: the value of each that is an integer of the data, and the number of each that is a
+/// collection.
 pub fn globals_of(alloc: Global, jdf: &Jdf, given: &Given) -> Result<Globals, OutOfMemory>
     ensures { IfOk result (λ globals. AreGlobals (record { jdf = jdf.now; given = given.now }) globals) }
 {

@@ -43,7 +43,8 @@ fn head_from(
 // The flows of a class, one by one.
 fn each_flow(context: &Context, flows: &[FlowTree]) -> Result<Seq<FlowPlan>, JdfRefusal>
     requires { IsContext context.now }
-    ensures { ReturnsChecked result (flows_of (job_of context.now) context.now.seen.now flows.now) (flat_map (flow_faults (job_of context.now) context.now.seen.now) flows.now) }
+    ensures { ReturnsChecked result (flows_of (job_of context.now) context.now.seen.now flows.now)
+        (flat_map (flow_faults (job_of context.now) context.now.seen.now) flows.now) }
 {
     let mut parts = Ok(Seq::new(context.alloc));
     for each in flows {
@@ -55,7 +56,8 @@ fn each_flow(context: &Context, flows: &[FlowTree]) -> Result<Seq<FlowPlan>, Jdf
 // The flows of a class, of which no two have one name.
 fn flows(context: &Context, flows: &[FlowTree]) -> Result<Seq<FlowPlan>, JdfRefusal>
     requires { IsContext context.now }
-    ensures { ReturnsChecked result (flows_of (job_of context.now) context.now.seen.now flows.now) (flows_faults (job_of context.now) context.now.seen.now flows.now) }
+    ensures { ReturnsChecked result (flows_of (job_of context.now) context.now.seen.now flows.now)
+        (flows_faults (job_of context.now) context.now.seen.now flows.now) }
 {
     and_rules(
         each_flow(context, flows),
@@ -68,7 +70,8 @@ pub(crate) fn head(context: &Context, class: &ClassTree) -> Result<ClassHead, Jd
     requires context { IsContext context.now }
     requires seen { context.now.seen.now ≡ class.now.defs }
     requires bounded { IsBoundedClass class.now }
-    ensures { ReturnsChecked {A = ClassHead} result (head_of (job_of context.now) class.now) (head_faults (job_of context.now) class.now) }
+    ensures { ReturnsChecked {A = ClassHead} result (head_of (job_of context.now) class.now)
+        (head_faults (job_of context.now) class.now) }
 {
     let place = join(
         space(context, class),

@@ -2,8 +2,8 @@
 
 ghost use Rattle.flow_check.specs.Laws.{OneFirstFault, ResolvedIsWellMade, ResolvedIsAPlan, OnePlan, PlanHasNoFault, EachBodyIsRead, ClassIsResolved, EachHasPlanOrFault};
 
-/// A law: what a JDF within the limits of its text resolves to with its data is a plan. Names are distinct, targets exist with their
-/// arguments and datatypes, and flows, bodies and collections fit one another.
+/// A law: what a JDF within the limits of its text resolves to with its data is a plan. Names are distinct, targets
+/// exist with their arguments and datatypes, and flows, bodies and collections fit one another.
 pub fn what_is_resolved_is_a_plan()
     ensures well_made { ResolvedIsWellMade }
     ensures plan { ResolvedIsAPlan }
@@ -16,7 +16,8 @@ pub fn one_answer()
     ensures either { PlanHasNoFault }
 {}
 
-/// A law: the body of each class within the limits of its text is read, whatever its tokens are: it is a body, or has a first fault.
+/// A law: the body of each class within the limits of its text is read, whatever its tokens are: it is a body, or has a
+/// first fault.
 pub fn each_body_is_read()
     ensures { EachBodyIsRead }
 {}

@@ -1,4 +1,5 @@
-//! The type check of a JDF: its globals by name, whether data lack one, and the plan of a text with all names resolved, or the first fault of the whole text.
+//! The type check of a JDF: its globals by name, whether data lack one, and the plan of a text with all names resolved,
+//! or the first fault of the whole text.
 #![tactic(auto)]
 
 mod checking;

@@ -45,7 +45,16 @@ fn with_class(
     classes: Result<Classes, JdfRefusal>,
     class: ClassResult,
 ) -> Result<Classes, JdfRefusal>
-    ensures { (p : Option (List ClassPlan × List ClassSpace)) (q : Option (ClassPlan × ClassSpace)) (fs gs : List JdfFault) → ReturnsChecked {A = List ClassPlan × List ClassSpace} classes p fs → ReturnsChecked {A = ClassPlan × ClassSpace} class q gs → ReturnsChecked {A = List ClassPlan × List ClassSpace} result (both (λ (xs : List ClassPlan × List ClassSpace) (x : ClassPlan × ClassSpace). (xs.0 ++ x.0 ∷ [], xs.1 ++ x.1 ∷ [])) p q) (fs ++ gs) }
+    ensures { (p : Option (List ClassPlan × List ClassSpace)) (q : Option (ClassPlan × ClassSpace))
+        (fs gs : List JdfFault)
+        → ReturnsChecked {A = List ClassPlan × List ClassSpace} classes p fs
+        → ReturnsChecked {A = ClassPlan × ClassSpace} class q gs
+        → ReturnsChecked {A = List ClassPlan × List ClassSpace} result
+        (both
+        (λ (xs : List ClassPlan × List ClassSpace) (x : ClassPlan × ClassSpace).
+        (xs.0 ++ x.0 ∷ [], xs.1 ++ x.1 ∷ []))
+        p q)
+        (fs ++ gs) }
 {
     match join(classes, class) {
         Err(refusal) => Err(refusal),
@@ -61,7 +70,9 @@ fn and_class(
 ) -> Result<ClassesResult, OutOfMemory>
     requires context { IsContext context.now }
     requires bounded { IsBoundedClass one.now }
-    ensures { IfOk result (λ r. (classes : List ClassTree) → AreRead (job_of context.now) classes results → AreRead (job_of context.now) (classes ++ one.now ∷ []) r) }
+    ensures { IfOk result (λ r.
+        (classes : List ClassTree) → AreRead (job_of context.now) classes results
+        → AreRead (job_of context.now) (classes ++ one.now ∷ []) r) }
 {
     let read = class_read(context, one)?;
     Ok(with_class(results, read))
@@ -82,7 +93,8 @@ fn read_classes(context: &Context, classes: &[ClassTree]) -> Result<ClassesResul
 
 // No two globals have one name, and no two classes.
 fn names(alloc: Global, globals: &[Word], classes: &[ClassTree]) -> Result<(), JdfRefusal>
-    ensures { ReturnsChecked result (Some tt) (repeats (λ (w : Word). w) NameTwice globals.now ++ repeats (λ (c : ClassTree). c.name) NameTwice classes.now) }
+    ensures { ReturnsChecked result (Some tt)
+        (repeats (λ (w : Word). w) NameTwice globals.now ++ repeats (λ (c : ClassTree). c.name) NameTwice classes.now) }
 {
     and_rules(
         repeats(alloc, JdfCode::NameTwice, globals),

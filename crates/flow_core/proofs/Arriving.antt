@@ -1,7 +1,6 @@
 -- In a sound state, the edges into a task that were sent are as many as the sent items that are edges into the task.
-use Rattle.std.proofs.Common.{◌≡◌, ℕ, ◌+◌, ◌≤◌, zero, suc, false, List, [], ◌∷◌, ◌++◌, refl, ap, sym, ◌∙◌, subst, nat_lt, inl, inr, arith}
+use Rattle.std.proofs.Common.{◌≡◌, ℕ, ◌+◌, ◌≤◌, zero, suc, false, List, [], ◌∷◌, refl, ap, sym, ◌∙◌, subst, nat_lt, inl, inr, arith}
 use Rattle.std.proofs.lemmas.Bool.{false≢true, false_from_ne_true}
-use Rattle.std.specs.List.{flat_map}
 use Rattle.ptg_base.specs.Lists.{HasNoRepeats, IsIn}
 use Rattle.ptg_base.specs.Task.{Task}
 use Rattle.ptg_base.specs.TaskComparing.{same_task}
@@ -11,19 +10,19 @@ use Rattle.ptg_base.specs.declared.edge.Item.{Item}
 use Rattle.ptg_base.specs.declared.edge.Item.TheVariants as item
 use Rattle.plan_core.specs.declared.plan.Plan.{Plan}
 use Rattle.coll_data.specs.Data.{Data}
-use Rattle.range_space.proofs.MemberLists.{IsIn-append_left}
-use Rattle.range_space.proofs.Stepping.{by_test}
+use Rattle.list_lemmas.proofs.Truth.{by_test}
+use Rattle.list_lemmas.proofs.Counts.{count-some, weigh-plus, weigh-same}
+use Rattle.list_lemmas.proofs.Distinct.{HasNoRepeats-part}
 use Rattle.dep_iter.specs.Tasks.{IsTask, all_tasks}
 use Rattle.dep_iter.specs.Edges.{in_edges}
 use Rattle.dep_iter.specs.Items.{items}
 use Rattle.dep_iter.specs.Consistent.{IsConsistent}
 use Rattle.dep_iter.proofs.Listing.{listed}
-use Rattle.flow_meaning.specs.Counting.{as_number, count, weigh}
+use Rattle.list_lemmas.specs.Counting.{as_number, count, weigh}
 use Rattle.flow_meaning.specs.Comparing.{same_item}
 use Rattle.flow_meaning.specs.Machine.{MachineState, Sent, arrived, is_sent, send_count, sender}
 use Rattle.flow_meaning.specs.Sound.{IsSoundState}
 use Rattle.flow_meaning.proofs.Comparing.{same_item-decides}
-use Rattle.flow_meaning.proofs.Counting.{count-some}
 use Rattle.flow_meaning.proofs.Members.{in_edge_to}
 use Rattle.flow_meaning.proofs.Arriving.{sent_edge_in}
 use Rattle.flow_core.specs.Arrivals.{edges_to, is_edge_to}
@@ -32,18 +31,10 @@ weigh-none : {A : Type 0} (xs : List A) → weigh (λ _. 0) xs ≡ 0
 weigh-none [] = refl
 weigh-none (x ∷ xs) = omega (arith, weigh-none xs)
 
-weigh-add : {A : Type 0} (f g : A → ℕ) (xs : List A) → weigh (λ x. f x + g x) xs ≡ weigh f xs + weigh g xs
-weigh-add f g [] = refl
-weigh-add f g (x ∷ xs) = omega (arith, weigh-add f g xs)
-
-pub weigh-same : {A : Type 0} (f g : A → ℕ) (xs : List A) → ((x : A) → IsIn x xs → f x ≡ g x) → weigh f xs ≡ weigh g xs
-weigh-same f g [] h = refl
-weigh-same f g (x ∷ xs) h = omega (arith, h x (inl refl), weigh-same f g xs (λ y i. h y (inr i)))
-
 -- a table of numbers has one sum, by rows and by columns
 weigh-swap : {A B : Type 0} (f : A → B → ℕ) (xs : List A) (ys : List B) → weigh (λ x. weigh (f x) ys) xs ≡ weigh (λ y. weigh (λ x. f x y) xs) ys
 weigh-swap f [] ys = sym (weigh-none ys)
-weigh-swap f (x ∷ xs) ys = ap (λ n. weigh (f x) ys + n) (weigh-swap f xs ys) ∙ sym (weigh-add (f x) (λ y. weigh (λ z. f z y) xs) ys)
+weigh-swap f (x ∷ xs) ys = ap (λ n. weigh (f x) ys + n) (weigh-swap f xs ys) ∙ sym (weigh-plus (f x) (λ y. weigh (λ z. f z y) xs) ys)
 
 abbrev edge_in : Edge → Item → Edge
 edge_in d (item.Edge e) = e
@@ -51,17 +42,6 @@ edge_in d (item.Write w) = d
 
 one_edge : (d e : Edge) → item.Edge d ≡ item.Edge e → d ≡ e
 one_edge d e q = ap (edge_in d) q
-
--- a part of a list that is joined without repeats has none
-part_distinct : {A : Type 0} (xs ys : List A) → HasNoRepeats (xs ++ ys) → HasNoRepeats xs × HasNoRepeats ys
-part_distinct [] ys h = (tt, h)
-part_distinct (x ∷ xs) ys h = let p = part_distinct xs ys h.1 in ((λ i. h.0 (IsIn-append_left x xs ys i), p.0), p.1)
-
-joined_distinct : {A B : Type 0} (f : A → List B) (xs : List A) → HasNoRepeats (flat_map f xs) → (x : A) → IsIn x xs → HasNoRepeats (f x)
-joined_distinct f [] h x i = absurd i
-joined_distinct f (y ∷ ys) h x i =
-    let p = part_distinct (f y) (flat_map f ys) h in
-    elim i [ inl e ↦ subst (λ z. HasNoRepeats (f z)) (sym e) p.0 | inr t ↦ joined_distinct f ys p.1 x t ]
 
 no_edge : (es : List Edge) (e : Edge) → (IsIn e es → ⊥) → count (λ d. same_item (item.Edge d) (item.Edge e)) es ≡ 0
 no_edge [] e h = refl
@@ -88,7 +68,7 @@ test_of (suc (suc n)) h = absurd (omega arith)
 
 module _ (P : Plan) (G : Data) (con : IsConsistent P) (S : MachineState) (sound : IsSoundState P G S) (t : Task) (job : IsTask P t) where
   distinct : HasNoRepeats (in_edges P t)
-  distinct = joined_distinct (in_edges P) (all_tasks P) con.no_in_edge_twice t ((listed P t).0 job)
+  distinct = HasNoRepeats-part (in_edges P) (all_tasks P) con.no_in_edge_twice t ((listed P t).0 job)
 
   -- how often the item that was sent is an edge into the task
   here : (i : Item) → ((e : Edge) → i ≡ item.Edge e → IsIn e (in_edges P e.to)) → count (λ e. same_item (item.Edge e) i) (in_edges P t) ≡ as_number (is_edge_to t i)
@@ -112,6 +92,6 @@ module _ (P : Plan) (G : Data) (con : IsConsistent P) (S : MachineState) (sound 
 
   pub arrived_are : arrived P S t ≡ edges_to t S.sends
   arrived_are =
-      weigh-same (λ e. as_number (is_sent S (item.Edge e))) (λ e. send_count S (item.Edge e)) (in_edges P t) (λ e _. test_of (send_count S (item.Edge e)) (sound.sent_once (item.Edge e)))
+      weigh-same (λ e. send_count S (item.Edge e)) (λ e. as_number (is_sent S (item.Edge e))) (in_edges P t) (λ e _. test_of (send_count S (item.Edge e)) (sound.sent_once (item.Edge e)))
       ∙ weigh-swap (λ (e : Edge) (x : Sent). as_number (same_item (item.Edge e) x.item)) (in_edges P t) S.sends
-      ∙ weigh-same (λ (x : Sent). count (λ e. same_item (item.Edge e) x.item) (in_edges P t)) (λ (x : Sent). as_number (is_edge_to t x.item)) S.sends (λ x i. here x.item (into_target x i))
+      ∙ weigh-same (λ (x : Sent). as_number (is_edge_to t x.item)) (λ (x : Sent). count (λ e. same_item (item.Edge e) x.item) (in_edges P t)) S.sends (λ x i. here x.item (into_target x i))

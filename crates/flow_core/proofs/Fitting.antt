@@ -16,20 +16,21 @@ use Rattle.ptg_base.specs.declared.edge.Item.{Item}
 use Rattle.ptg_base.specs.declared.edge.Item.TheVariants as item
 use Rattle.plan_core.specs.declared.plan.Plan.{Plan}
 use Rattle.coll_data.specs.Data.{Data}
-use Rattle.range_space.proofs.Stepping.{by_test}
+use Rattle.list_lemmas.proofs.Truth.{by_test}
+use Rattle.std.proofs.lemmas.List.{map-append}
+use Rattle.list_lemmas.proofs.Members.{length-part}
+use Rattle.list_lemmas.proofs.Counts.{count-at_most, weigh-push}
 use Rattle.dep_iter.specs.Tasks.{IsTask, all_tasks}
 use Rattle.dep_iter.specs.Edges.{goal, in_edges}
 use Rattle.dep_iter.specs.Items.{edge_of, item_flow, items, out_edges, write_of, write_backs}
 use Rattle.dep_iter.specs.Consistent.{IsConsistent}
-use Rattle.dep_iter.proofs.Joining.{map-append}
-use Rattle.dep_iter.proofs.Listing.{length-part, listed}
-use Rattle.flow_meaning.specs.Counting.{as_number, count}
+use Rattle.dep_iter.proofs.Listing.{listed}
+use Rattle.list_lemmas.specs.Counting.{as_number, count}
 use Rattle.flow_meaning.specs.Ending.{Ended, has_outputs, output_tile}
 use Rattle.flow_meaning.specs.Backward.{ended}
 use Rattle.flow_meaning.specs.Comparing.{same_item}
 use Rattle.flow_meaning.specs.Machine.{Claim, MachineState, MayClaim, Send, Sent, arrived, end_in, is_sent, send_count, sender, state_after}
 use Rattle.flow_meaning.specs.Sound.{IsSoundState}
-use Rattle.flow_meaning.proofs.Counting.{count-at_most, weigh-push}
 use Rattle.flow_meaning.proofs.Events.{ends_so, event_sound}
 use Rattle.flow_meaning.proofs.Arriving.{arrives}
 use Rattle.flow_core.specs.RunState.{HasLetGo, IsRunning, KeepsTiles, RunState, Tiles, end_of, machine, mark_of, send_of, with_claim, with_end, with_send, with_tiles}

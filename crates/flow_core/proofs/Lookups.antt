@@ -1,5 +1,5 @@
 -- What look-ups by key find in the lists of a run.
-use Rattle.std.proofs.Common.{◌≡◌, ℕ, ◌+◌, ℤ, Bool, true, false, cond, is_some, List, [], ◌∷◌, ◌++◌, refl, ap, sym, ◌∙◌, subst, Option, Some, None, IsTrue, ◌↔◌, Result, Ok, Err, OnOk, inl, inr, arith}
+use Rattle.std.proofs.Common.{◌≡◌, ℕ, ◌+◌, ℤ, Bool, true, false, cond, is_some, List, [], ◌∷◌, ◌++◌, refl, ap, sym, ◌∙◌, subst, Option, Some, None, IsTrue, ◌↔◌, inl, inr, arith}
 use Rattle.std.proofs.lemmas.Bool.{false≢true, false_from_ne_true}
 use Rattle.std.specs.Prelude.{unwrap_or}
 use Rattle.std.specs.Map.{keys_of, lookup, set_value}
@@ -10,23 +10,14 @@ use Rattle.ptg_base.specs.Task.{Task}
 use Rattle.ptg_base.specs.TaskComparing.{same_task}
 use Rattle.ptg_base.specs.TaskLaws.{same_task-decides}
 use Rattle.ptg_base.specs.declared.edge.Item.{Item}
-use Rattle.range_space.proofs.Stepping.{by_test}
-use Rattle.dep_iter.proofs.Joining.{map-append}
-use Rattle.flow_meaning.specs.Counting.{as_number, count}
+use Rattle.list_lemmas.proofs.Truth.{by_test}
+use Rattle.std.proofs.lemmas.List.{map-append}
+use Rattle.list_lemmas.specs.Counting.{as_number, count}
 use Rattle.flow_meaning.specs.Comparing.{same_item}
 use Rattle.flow_meaning.specs.Ending.{Ended}
 use Rattle.flow_meaning.proofs.Comparing.{same_item-decides}
 use Rattle.flow_core.specs.SentItems.{all_sent}
 use Rattle.flow_core.specs.Arrivals.{number_at}
-
--- what an `OnOk` says of an `Ok`
-pub on_success : {T E P : Type 0} (r : Result T E) (x : T) → r ≡ Ok x → OnOk r P → P
-on_success {T} {E} {P} r x e h = subst (λ (s : Result T E). OnOk s P) e h
-
--- what follows where an `OnOk` holds
-pub on_ok_map : {T E A B : Type 0} (r : Result T E) → (A → B) → OnOk r A → OnOk r B
-on_ok_map (Ok x) f h = f h
-on_ok_map (Err e) f h = h
 
 pub none_of : {A : Type 0} (o : Option A) → is_some o ≡ false → o ≡ None
 none_of None h = refl

@@ -1,7 +1,7 @@
 -- What a thread does between two tasks, and where it ends.
-use Rattle.std.proofs.Common.{◌≡◌, ℕ, zero, suc, drop, slice_get, ◌+◌, ◌<◌, ◌≤◌, ℤ, Bool, true, false, cond, is_some, List, [], ◌∷◌, ◌++◌, length, map, refl, ap, sym, ◌∙◌, subst, ◌⊎◌, Option, Some, None, Result, Ok, Err, OnOk, IsSomeAnd, IsTrue, ◌↔◌, ◌≢◌, inl, inr, arith, append_assoc, length-append, lt-ltb}
+use Rattle.std.proofs.Common.{◌≡◌, ℕ, suc, drop, slice_get, ◌+◌, ◌<◌, ◌≤◌, ℤ, Bool, true, false, cond, is_some, List, [], ◌∷◌, ◌++◌, length, map, refl, ap, sym, ◌∙◌, subst, ◌⊎◌, Option, Some, None, Ok, Err, IsSomeAnd, IsTrue, ◌↔◌, ◌≢◌, inl, inr, arith, append_assoc, length-append, lt-ltb}
 use Rattle.std.proofs.lemmas.Bool.{false≢true}
-use Rattle.std.proofs.lemmas.List.{append-nil, drop_all}
+use Rattle.std.proofs.lemmas.List.{append-nil, drop_all, map-append}
 use Rattle.std.specs.Prelude.{unwrap_or}
 use Rattle.std.specs.Map.{keys_of, lookup}
 use Rattle.ptg_base.specs.Lists.{IsIn}
@@ -15,20 +15,20 @@ use Rattle.ptg_base.specs.declared.edge.Item.TheVariants as item
 use Rattle.term_core.specs.declared.trap.Trap.{Trap}
 use Rattle.plan_core.specs.declared.plan.Plan.{Plan}
 use Rattle.coll_data.specs.Data.{Data}
-use Rattle.range_space.proofs.MemberLists.{IsIn-append_left, IsIn-append_right, IsIn-map, from_append, from_map}
-use Rattle.range_space.proofs.Stepping.{by_test}
+use Rattle.list_lemmas.proofs.Members.{IsIn-append_left, IsIn-append_right, IsIn-map, from_append, from_map}
+use Rattle.list_lemmas.proofs.Truth.{by_test}
+use Rattle.list_lemmas.proofs.Counts.{weigh-push}
+use Rattle.list_lemmas.proofs.Places.{slice_get_there, drop_from}
 use Rattle.term_core.specs.declared.space.ClassSpace.{ClassSpace}
 use Rattle.range_space.specs.Tasks.{tasks}
 use Rattle.dep_iter.specs.Tasks.{IsTask, all_tasks, task, tasks_from}
 use Rattle.dep_iter.specs.Items.{items, out_edges, write_backs}
 use Rattle.dep_iter.specs.Consistent.{IsConsistent}
-use Rattle.dep_iter.proofs.Joining.{map-append}
 use Rattle.dep_iter.proofs.Listing.{listed}
-use Rattle.flow_meaning.specs.Counting.{as_number}
+use Rattle.list_lemmas.specs.Counting.{as_number}
 use Rattle.flow_meaning.specs.Ending.{Ended, has_outputs}
 use Rattle.flow_meaning.specs.Machine.{IsQuiescent, MayClaim, MachineState, claim_count, is_sent, send_count, sender, state_after, Send}
 use Rattle.flow_meaning.specs.Sound.{IsFinished}
-use Rattle.flow_meaning.proofs.Counting.{weigh-push}
 use Rattle.flow_meaning.proofs.Comparing.{same_item-decides}
 use Rattle.flow_meaning.proofs.Arriving.{arrives_not, writes_not}
 use Rattle.flow_meaning.proofs.Events.{unsent}
@@ -300,24 +300,13 @@ rest_done P ts left a b w d =
     let none : w.sent ≡ [] = sym (append-nil w.sent) ∙ sym w.split_items in
     subst (λ l. HasDone P l [] a b) (sym w.split) (subst (λ l. HasDone P (w.tasks ++ left) (l ++ []) a b) none (done_then P w.tasks left w.sent [] a b b w.done d))
 
--- a list has an element at each index below its length, and it comes first where the list is dropped up to there
-pub at_least_one : {A : Type 0} (xs : List A) (k : ℕ) → k < length xs → (x : A) × (slice_get xs k ≡ Some x)
-at_least_one [] k h = absurd (omega arith)
-at_least_one (x ∷ xs) zero h = (x, refl)
-at_least_one (x ∷ xs) (suc k) h = at_least_one xs k (omega arith)
-
-pub drop_at : {A : Type 0} (xs : List A) (k : ℕ) (x : A) → slice_get xs k ≡ Some x → drop k xs ≡ x ∷ drop (suc k) xs
-drop_at [] k x h = cc
-drop_at (y ∷ xs) zero x h = let e : y ≡ x = cc in ap (λ z. z ∷ xs) e
-drop_at (y ∷ xs) (suc k) x h = drop_at xs k x h
-
 -- the tasks of a class, and those of the classes after it
 pub class_then : (P : Plan) (class : ℕ) (ss : List ClassSpace) (a b c : RunState) → class < length P.spaces → drop class P.spaces ≡ ss
     → ((s : ClassSpace) → slice_get P.spaces class ≡ Some s → HasDone P (map (task class) (tasks s)) [] a b)
     → ((rest : List ClassSpace) → drop (suc class) P.spaces ≡ rest → HasDone P (tasks_from (suc class) rest) [] b c) → HasDone P (tasks_from class ss) [] a c
 class_then P class ss a b c lt e first later =
-    let found = at_least_one P.spaces class lt in
-    let split : found.0 ∷ drop (suc class) P.spaces ≡ ss = sym (drop_at P.spaces class found.0 found.1) ∙ e in
+    let found = slice_get_there P.spaces class lt in
+    let split : found.0 ∷ drop (suc class) P.spaces ≡ ss = sym (drop_from P.spaces class found.0 found.1) ∙ e in
     let rest = drop (suc class) P.spaces in
     subst (λ l. HasDone P (tasks_from class l) [] a c) split
     (done_then P (map (task class) (tasks found.0)) (tasks_from (suc class) rest) [] [] a b c (first found.0 found.1) (later rest refl))
@@ -325,11 +314,6 @@ class_then P class ss a b c lt e first later =
 -- no class is left
 pub no_class : (P : Plan) (class : ℕ) (ss : List ClassSpace) (r : RunState) → length P.spaces ≤ class → drop class P.spaces ≡ ss → HasDone P (tasks_from class ss) [] r r
 no_class P class ss r ge e = subst (λ l. HasDone P (tasks_from class l) [] r r) (sym (drop_all class P.spaces ge) ∙ e) (nothing_done P r)
-
--- what follows where a call succeeds
-pub on_ok_then : {T E P Q : Type 0} (r : Result T E) → (P → Q) → OnOk r P → OnOk r Q
-on_ok_then (Ok x) f h = f h
-on_ok_then (Err e) f h = h
 
 -- the task that was claimed last is one of the job
 pub last_task : (P : Plan) (G : Data) (r : RunState) (fits : Fits P G r) (t : Task) (running : List Task) → running ++ t ∷ [] ≡ running_tasks r → IsTask P t

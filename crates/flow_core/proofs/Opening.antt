@@ -9,14 +9,14 @@ use Rattle.ptg_base.specs.declared.edge.Edge.{Edge}
 use Rattle.ptg_base.specs.declared.edge.Item.TheVariants as item
 use Rattle.plan_core.specs.declared.plan.Plan.{Plan}
 use Rattle.coll_data.specs.Data.{Data}
-use Rattle.range_space.proofs.Stepping.{by_test}
+use Rattle.list_lemmas.proofs.Truth.{by_test}
+use Rattle.list_lemmas.proofs.Members.{IsIn-filter}
 use Rattle.dep_iter.specs.Tasks.{IsTask, all_tasks}
 use Rattle.dep_iter.specs.Edges.{goal, in_edges}
 use Rattle.dep_iter.specs.Consistent.{roots}
 use Rattle.dep_iter.proofs.Listing.{listed}
-use Rattle.flow_meaning.specs.Counting.{as_number, count}
+use Rattle.list_lemmas.specs.Counting.{as_number, count}
 use Rattle.flow_meaning.specs.Machine.{Sent, arrived, is_sent}
-use Rattle.flow_meaning.proofs.Quiet.{filtered}
 use Rattle.flow_core.specs.RunState.{RunState, machine, opening_run}
 use Rattle.flow_core.specs.Fits.{Fits}
 use Rattle.flow_core.specs.OneThread.{HasDone, IsOpening, MayClaimOnly, running_tasks}
@@ -35,7 +35,7 @@ module _ (P : Plan) (r : RunState) (o : IsOpening r) where
   none_come t = ap (λ (s : List Sent). arrived P (record { claims = keys_of r.claims; sends = s }) t) o.sends ∙ count-none (λ (e : Edge). is_sent (record { claims = keys_of r.claims; sends = [] }) (item.Edge e)) (in_edges P t) (λ e. refl)
 
   root : (t : Task) → IsTask P t → arrived P (machine r) t ≡ goal P t → IsIn t (roots P)
-  root t job all = (filtered (λ (u : Task). goal P u == 0) (all_tasks P) t).1 ((listed P t).0 job, eq-eqb (goal P t) 0 (sym all ∙ none_come t))
+  root t job all = (IsIn-filter (λ (u : Task). goal P u == 0) (all_tasks P) t).1 ((listed P t).0 job, eq-eqb (goal P t) 0 (sym all ∙ none_come t))
 
   -- where as many tasks were claimed as no edge goes into, no other task may be claimed
   pub opened_all : (G : Data) → Fits P G r → (running : List Task) → running ≡ running_tasks r → length running ≡ length (roots P) → MayClaimOnly P [] r

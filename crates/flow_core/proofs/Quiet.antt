@@ -16,17 +16,18 @@ use Rattle.term_core.specs.declared.space.ClassSpace.{ClassSpace}
 use Rattle.plan_core.specs.declared.plan.Plan.{Plan}
 use Rattle.coll_data.specs.Data.{Data}
 use Rattle.range_space.specs.Tasks.{tasks}
-use Rattle.range_space.proofs.MemberLists.{IsIn-append_left, IsIn-append_right, IsIn-map, from_append, from_map}
-use Rattle.range_space.proofs.Stepping.{by_test}
+use Rattle.list_lemmas.proofs.Members.{IsIn-append_left, IsIn-append_right, IsIn-map, from_append, from_map}
+use Rattle.list_lemmas.proofs.Truth.{by_test}
+use Rattle.list_lemmas.proofs.Counts.{count-some}
+use Rattle.list_lemmas.proofs.Places.{slice_get_there, drop_from}
 use Rattle.dep_iter.specs.Tasks.{IsTask, all_tasks, task, tasks_from}
 use Rattle.dep_iter.specs.Items.{items, out_edges, write_backs}
 use Rattle.dep_iter.specs.Consistent.{IsConsistent}
 use Rattle.dep_iter.proofs.Listing.{listed}
-use Rattle.flow_meaning.specs.Counting.{as_number, count}
+use Rattle.list_lemmas.specs.Counting.{as_number, count}
 use Rattle.flow_meaning.specs.Ending.{Ended, has_outputs}
 use Rattle.flow_meaning.specs.Machine.{Claim, IsQuiescent, MayClaim, Send, Sent, is_sent, sender}
 use Rattle.flow_meaning.specs.Sound.{IsFinished}
-use Rattle.flow_meaning.proofs.Counting.{count-some}
 use Rattle.flow_meaning.proofs.Events.{unsent}
 use Rattle.flow_meaning.proofs.Rest.{item_sender, rests}
 use Rattle.flow_core.specs.RunState.{IsRunning, RunState, end_of, machine}
@@ -35,7 +36,6 @@ use Rattle.flow_core.specs.SentItems.{IsUnsent}
 use Rattle.flow_core.specs.Quiet.{HasOne, Owes}
 use Rattle.flow_core.proofs.Lookups.{key_found}
 use Rattle.flow_core.proofs.Fitting.{edge_among, sendable, write_among}
-use Rattle.flow_core.proofs.OneThread.{at_least_one, drop_at}
 
 -- how far a search has come: what is left is part of all, and if one of all is so, one of what is left is
 pub record IsSearched {A : Type 0} (Q : A → Type 0) (all left : List A) : Type 0 where
@@ -78,16 +78,16 @@ mapped Q f xs = (
 module _ (P : Plan) (Q : Task → Type 0) (class : ℕ) (ss : List ClassSpace) (e : drop class P.spaces ≡ ss) where
   pub class_found : class < length P.spaces → ((s : ClassSpace) → slice_get P.spaces class ≡ Some s → IsTrue true ↔ HasOne (λ params. Q (task class params)) (tasks s)) → IsTrue true ↔ HasOne Q (tasks_from class ss)
   class_found lt here =
-      let found = at_least_one P.spaces class lt in
-      let split : found.0 ∷ drop (suc class) P.spaces ≡ ss = sym (drop_at P.spaces class found.0 found.1) ∙ e in
+      let found = slice_get_there P.spaces class lt in
+      let split : found.0 ∷ drop (suc class) P.spaces ≡ ss = sym (drop_from P.spaces class found.0 found.1) ∙ e in
       let one = (mapped Q (task class) (tasks found.0)).0 ((here found.0 found.1).0 refl) in
       subst (λ l. IsTrue true ↔ HasOne Q (tasks_from class l)) split (one_left Q (map (task class) (tasks found.0)) (tasks_from (suc class) (drop (suc class) P.spaces)) one)
 
   pub class_passed : class < length P.spaces → ((s : ClassSpace) → slice_get P.spaces class ≡ Some s → IsTrue false ↔ HasOne (λ params. Q (task class params)) (tasks s)) →
       (b : Bool) → ((rest : List ClassSpace) → drop (suc class) P.spaces ≡ rest → IsTrue b ↔ HasOne Q (tasks_from (suc class) rest)) → IsTrue b ↔ HasOne Q (tasks_from class ss)
   class_passed lt here b later =
-      let found = at_least_one P.spaces class lt in
-      let split : found.0 ∷ drop (suc class) P.spaces ≡ ss = sym (drop_at P.spaces class found.0 found.1) ∙ e in
+      let found = slice_get_there P.spaces class lt in
+      let split : found.0 ∷ drop (suc class) P.spaces ≡ ss = sym (drop_from P.spaces class found.0 found.1) ∙ e in
       let not : HasOne Q (map (task class) (tasks found.0)) → ⊥ = λ h. false≢true ((here found.0 found.1).1 ((mapped Q (task class) (tasks found.0)).1 h)) in
       subst (λ l. IsTrue b ↔ HasOne Q (tasks_from class l)) split
       (one_right Q (map (task class) (tasks found.0)) (tasks_from (suc class) (drop (suc class) P.spaces)) b not (later (drop (suc class) P.spaces) refl))

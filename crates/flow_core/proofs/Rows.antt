@@ -1,5 +1,5 @@
 -- The rows of a run: its trapped tasks and its waiting tasks are those of the event machine.
-use Rattle.std.proofs.Common.{◌≡◌, ℕ, zero, suc, ◌<◌, ◌≤◌, Bool, true, false, ◌&&◌, ◌==◌, nat_lt, cond, is_some, List, [], ◌∷◌, ◌++◌, length, map, drop, refl, ap, sym, ◌∙◌, append_assoc, Option, Some, None, Ok, Err, slice_get, eq-eqb, ◌⊎◌, inl, inr, arith}
+use Rattle.std.proofs.Common.{◌≡◌, ℕ, suc, ◌<◌, ◌≤◌, true, false, ◌&&◌, ◌==◌, nat_lt, cond, is_some, List, [], ◌∷◌, ◌++◌, map, refl, ap, sym, ◌∙◌, append_assoc, Option, Some, None, Ok, Err, eq-eqb, ◌⊎◌, inl, inr, arith}
 use Rattle.std.proofs.lemmas.Bool.{eqb-true, false≢true, le-ltb, lt-ltb}
 use Rattle.std.proofs.lemmas.List.{append-nil}
 use Rattle.std.specs.Prelude.{unwrap_or}
@@ -12,7 +12,8 @@ use Rattle.ptg_base.specs.TaskLaws.{same_task-decides}
 use Rattle.ptg_base.specs.TaskOrder.{in_task_order}
 use Rattle.term_core.specs.declared.space.ClassSpace.{ClassSpace}
 use Rattle.range_space.specs.Tasks.{tasks}
-use Rattle.range_space.proofs.Stepping.{by_test}
+use Rattle.list_lemmas.proofs.Truth.{by_test, and-false}
+use Rattle.list_lemmas.proofs.Counts.{count-some, weigh-append, count-filter}
 use Rattle.plan_core.specs.declared.plan.Plan.{Plan}
 use Rattle.coll_data.specs.Data.{Data}
 use Rattle.dep_iter.specs.Tasks.{IsTask, all_tasks, task, tasks_from}
@@ -22,12 +23,11 @@ use Rattle.flow_meaning.specs.declared.outcome.TrapRow.{TrapRow}
 use Rattle.flow_meaning.specs.declared.outcome.WaitRow.{WaitRow}
 use Rattle.flow_meaning.specs.declared.outcome.Outcome.TheVariants.{Trapped}
 use Rattle.flow_meaning.specs.Answer.{trap_rows}
-use Rattle.flow_meaning.specs.Counting.{as_number, count}
+use Rattle.list_lemmas.specs.Counting.{as_number, count}
 use Rattle.flow_meaning.specs.Ending.{Ended}
 use Rattle.flow_meaning.specs.Machine.{MachineState, arrived, claim_count, end_in}
 use Rattle.flow_meaning.specs.StateAnswer.{state_answer, state_answer_by, state_traps}
 use Rattle.flow_meaning.specs.Table.{is_waiting, waiting_rows, waiting_tasks}
-use Rattle.flow_meaning.proofs.Counting.{count-some, weigh-append}
 use Rattle.flow_meaning.proofs.Once.{tasks_once}
 use Rattle.run_answer.specs.Rows.{AreOfDifferentTasks}
 use Rattle.flow_core.specs.RunState.{IsRunning, RunState, end_of, machine, mark_of}
@@ -63,21 +63,6 @@ pub waits_all : (P : Plan) (S : MachineState) (rows : List WaitRow) → rows ≡
 unfolding waiting_tasks waiting_rows
 waits_all P S rows e = ap (in_task_order (λ (r : WaitRow). r.task)) e
 
-pub drop_at : {A : Type 0} (xs : List A) (k : ℕ) (x : A) → slice_get xs k ≡ Some x → drop k xs ≡ x ∷ drop (suc k) xs
-drop_at [] k x h = cc
-drop_at (y ∷ xs) zero x h = let e : y ≡ x = cc in ap (λ z. z ∷ xs) e
-drop_at (y ∷ xs) (suc k) x h = drop_at xs k x h
-
-pub drop_all : {A : Type 0} (xs : List A) (k : ℕ) → length xs ≤ k → drop k xs ≡ []
-drop_all [] zero h = refl
-drop_all [] (suc k) h = refl
-drop_all (x ∷ xs) zero h = absurd (omega arith)
-drop_all (x ∷ xs) (suc k) h = drop_all xs k (omega arith)
-
-and_false : (b : Bool) → (b && false) ≡ false
-and_false true = refl
-and_false false = refl
-
 -- what one task adds to the rows
 pub no_wait : (P : Plan) (S : MachineState) (t : Task) (rows : List WaitRow) → is_waiting P S t ≡ false → rows ≡ rows ++ waits_among P S (t ∷ [])
 no_wait P S t rows k = sym (append-nil rows) ∙ ap (λ l. rows ++ l) (sym (ap (λ b. map (wait_row P S) (cond b (t ∷ []) [])) k))
@@ -105,7 +90,7 @@ module _ (P : Plan) (G : Data) (con : IsConsistent P) (r : RunState) (fits : Fit
 
     pub waits_not : (sent ≤ 0) ⊎ (all ≤ sent) → is_waiting P (machine r) t ≡ false
     waits_not (inl h) = waits_by ∙ ap (λ b. b && nat_lt sent all) (le-ltb 0 sent h)
-    waits_not (inr h) = waits_by ∙ ap (λ b. nat_lt 0 sent && b) (le-ltb sent all h) ∙ and_false (nat_lt 0 sent)
+    waits_not (inr h) = waits_by ∙ ap (λ b. nat_lt 0 sent && b) (le-ltb sent all h) ∙ and-false (nat_lt 0 sent)
 
     pub waits_so : 0 < sent → sent < all → is_waiting P (machine r) t ≡ true
     waits_so h k = waits_by ∙ (λ i. lt-ltb 0 sent h i && lt-ltb sent all k i)
@@ -177,13 +162,6 @@ traps_differ rows rest claims e once t =
     let test = λ (r : TrapRow). same_task t r.task in
     omega (arith, once t, count-traps t claims, weigh-append (λ (r : TrapRow). as_number (test r)) rows rest, ap (λ (l : List TrapRow). count test l) e)
 
-count-kept : (p q : Task → Bool) (ts : List Task) → count p (filter q ts) ≤ count p ts
-count-kept p q [] = omega arith
-count-kept p q (t ∷ ts) =
-    by_test (q t)
-    (λ k. omega (arith, count-kept p q ts, ap (λ b. count p (cond b (t ∷ filter q ts) (filter q ts))) k))
-    (λ k. omega (arith, count-kept p q ts, ap (λ b. count p (cond b (t ∷ filter q ts) (filter q ts))) k))
-
 count-rows : (P : Plan) (S : MachineState) (t : Task) (ts : List Task) → count (λ (r : WaitRow). same_task t r.task) (map (wait_row P S) ts) ≡ count (same_task t) ts
 count-rows P S t [] = refl
 count-rows P S t (u ∷ ts) = omega (arith, count-rows P S t ts)
@@ -193,7 +171,7 @@ waits_differ P S rows e t =
     omega (
       arith,
       tasks_once P t,
-      count-kept (same_task t) (is_waiting P S) (all_tasks P),
+      count-filter (same_task t) (is_waiting P S) (all_tasks P),
       count-rows P S t (filter (is_waiting P S) (all_tasks P)),
       ap (λ (l : List WaitRow). count (λ (r : WaitRow). same_task t r.task) l) e,
     )

@@ -9,14 +9,14 @@ use Rattle.ptg_base.specs.TaskComparing.{same_task}
 use Rattle.ptg_base.specs.TaskLaws.{same_task-decides}
 use Rattle.plan_core.specs.declared.plan.Plan.{Plan}
 use Rattle.coll_data.specs.Data.{Data}
-use Rattle.range_space.proofs.Stepping.{by_test}
+use Rattle.list_lemmas.proofs.Truth.{by_test}
+use Rattle.list_lemmas.proofs.Counts.{count-some, without, without-length, still}
 use Rattle.dep_iter.specs.Tasks.{all_tasks}
 use Rattle.dep_iter.proofs.Listing.{listed}
-use Rattle.flow_meaning.specs.Counting.{as_number, count}
+use Rattle.list_lemmas.specs.Counting.{as_number, count}
 use Rattle.flow_meaning.specs.Ending.{Ended}
 use Rattle.flow_meaning.specs.Machine.{MachineState}
 use Rattle.flow_meaning.specs.Sound.{IsSoundState}
-use Rattle.flow_meaning.proofs.Counting.{count-some, without, without-length}
 use Rattle.flow_core.specs.OneThread.{ended_among, running_among}
 
 abbrev Claims : Type 0
@@ -128,15 +128,6 @@ ended_set ((s, Some old) ∷ cs) t end h =
     (λ k.
     let rest = ended_set cs t end (sym (ap (λ b. cond b (Some (Some old)) (lookup (same_task t) cs)) k) ∙ h) in
     ap (λ b. ended_among (cond b ((s, Some end) ∷ cs) ((s, Some old) ∷ set_value (same_task t) cs (Some end)))) k ∙ omega (arith, rest))
-
--- what is in a list is in it without another of its members
-still : (x t : Task) (zs : List Task) (i : IsIn x zs) → IsIn t zs → (t ≡ x → ⊥) → IsIn t (without x zs i)
-unfolding without
-still x t [] i j other = absurd i
-still x t (z ∷ zs) (inl e) (inl q) other = absurd (other (q ∙ sym e))
-still x t (z ∷ zs) (inl e) (inr j) other = j
-still x t (z ∷ zs) (inr i) (inl q) other = inl q
-still x t (z ∷ zs) (inr i) (inr j) other = inr (still x t zs i j other)
 
 -- a list without repeats whose members are all in another is no longer than it
 pub at_most : (xs ys : List Task) → Once xs → ((t : Task) → IsIn t xs → IsIn t ys) → length xs ≤ length ys

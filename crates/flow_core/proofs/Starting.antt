@@ -13,14 +13,14 @@ use Rattle.body_eval.specs.Meaning.{body_meaning}
 use Rattle.range_space.specs.Locals.{IsLocalsOf}
 use Rattle.range_space.specs.Tasks.{all_locals, params_of, tasks}
 use Rattle.range_space.proofs.Distinct.{one_locals}
-use Rattle.range_space.proofs.MemberLists.{from_map, length-locals, locals_from_full}
+use Rattle.range_space.proofs.MemberLists.{length-locals, locals_from_full}
 use Rattle.plan_core.specs.declared.class.ClassPlan.{ClassPlan}
 use Rattle.plan_core.specs.declared.flow.FlowPlan.{FlowPlan}
 use Rattle.plan_core.specs.declared.plan.Plan.{Plan}
 use Rattle.plan_core.specs.Flows.{is_datatype, is_flow}
 use Rattle.coll_data.specs.Data.{Data}
 use Rattle.dep_iter.specs.Tasks.{IsTask, flows_of, locals_of, locals_with}
-use Rattle.dep_iter.proofs.Fitting.{list_all-weaker, locals_with-only}
+use Rattle.dep_iter.proofs.Fitting.{locals_with-only}
 use Rattle.flow_meaning.specs.Starting.{Delivery, starting_tiles, tiles_from}
 use Rattle.flow_meaning.proofs.SourceEdges.{class_of}
 use Rattle.flow_meaning.specs.Ending.{Ended, ended_on}
@@ -28,6 +28,8 @@ use Rattle.flow_meaning.specs.Machine.{end_in, sent_tile}
 use Rattle.flow_core.specs.RunState.{RunState, machine}
 use Rattle.flow_core.specs.Inputs.{has_datatype, have_datatypes}
 use Rattle.flow_core.proofs.Taking.{tiles_same}
+use Rattle.list_lemmas.proofs.Members.{from_map}
+use Rattle.list_lemmas.proofs.Joins.{list_all-weaker}
 
 -- there is a tile, or none, for each flow
 tiles_each : (P : Plan) (G : Data) (d : Delivery) (t : Task) (n : ℕ) (fs : List FlowPlan) → length (tiles_from P G d t n fs) ≡ length fs

@@ -14,8 +14,9 @@ use Rattle.ptg_base.specs.declared.edge.Item.TheVariants as item
 use Rattle.term_core.specs.declared.trap.Trap.{Trap}
 use Rattle.plan_core.specs.declared.plan.Plan.{Plan}
 use Rattle.coll_data.specs.Data.{Data}
-use Rattle.range_space.proofs.MemberLists.{IsIn-append_left, IsIn-append_right, from_append}
-use Rattle.range_space.proofs.Stepping.{by_test}
+use Rattle.list_lemmas.proofs.Members.{IsIn-append_left, IsIn-append_right, from_append}
+use Rattle.list_lemmas.proofs.Truth.{by_test}
+use Rattle.list_lemmas.proofs.Counts.{count-all}
 use Rattle.dep_iter.specs.Tasks.{IsTask}
 use Rattle.dep_iter.specs.Edges.{in_edges}
 use Rattle.dep_iter.specs.Items.{items}
@@ -24,7 +25,6 @@ use Rattle.flow_meaning.specs.Ending.{Ended, has_outputs}
 use Rattle.flow_meaning.specs.Backward.{ended}
 use Rattle.flow_meaning.specs.Machine.{Claim, Event, Happen, MachineState, MayClaim, Send, claim_count, is_sent, state_after}
 use Rattle.flow_meaning.specs.Sound.{IsFinished, IsSoundState}
-use Rattle.flow_meaning.proofs.Counting.{count-all}
 use Rattle.flow_meaning.proofs.Events.{claim_member, delivers, each_arrived, member_claim}
 use Rattle.flow_meaning.proofs.Members.{in_edge_item}
 use Rattle.flow_core.specs.RunState.{HasLetGo, IsRunning, RunState, Tiles, end_of, machine, mark_of, with_claim, with_end, with_send}

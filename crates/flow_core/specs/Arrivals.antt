@@ -1,11 +1,12 @@
--- How many edges have come to each task, as a table that a run keeps. Source: DAGuE (Parallel Computing, 2012), where an entry counts the dependences that have come.
+-- How many edges have come to each task, as a table that a run keeps. Source: DAGuE (Parallel Computing, 2012), where
+-- an entry counts the dependences that have come.
 use Rattle.std.specs.Prelude.{◌≡◌, ℕ, List, Bool, false, Option, None, unwrap_or}
 use Rattle.std.specs.Map.{lookup}
 use Rattle.ptg_base.specs.Task.{Task}
 use Rattle.ptg_base.specs.TaskComparing.{same_task}
 use Rattle.ptg_base.specs.declared.edge.Item.{Item}
 use Rattle.ptg_base.specs.declared.edge.Item.TheVariants as item
-use Rattle.flow_meaning.specs.Counting.{count}
+use Rattle.list_lemmas.specs.Counting.{count}
 use Rattle.flow_meaning.specs.Ending.{Ended}
 use Rattle.flow_meaning.specs.Machine.{Sent}
 
@@ -24,4 +25,5 @@ number_at table t = unwrap_or (lookup (same_task t) table) 0
 
 -- the table has the number of edges that were sent to each task that is not claimed
 abbrev pub CountsArrivals : List (Task × ℕ) → List (Task × Option Ended) → List Sent → Type 0
-CountsArrivals table claims sends = (t : Task) → lookup (same_task t) claims ≡ None → number_at table t ≡ edges_to t sends
+CountsArrivals table claims sends =
+    (t : Task) → lookup (same_task t) claims ≡ None → number_at table t ≡ edges_to t sends

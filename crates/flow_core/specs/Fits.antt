@@ -17,7 +17,8 @@ use Rattle.flow_core.specs.RunState.{RunState, IsRunning, KeepsTiles, Tiles, end
 abbrev pub HasSentAll : Plan → RunState → Task → Type 0
 HasSentAll P r t = (i : Item) → IsIn i (items P t) → IsTrue (is_sent (machine r) i)
 
--- the run fits the job and its data: its state is sound; each task that has ended has ended as the backward meaning says; and one that has ended without a trap keeps its tiles, or all its items were sent
+-- the run fits the job and its data: its state is sound; each task that has ended has ended as the backward meaning
+-- says; and one that has ended without a trap keeps its tiles, or all its items were sent
 pub record Fits (P : Plan) (G : Data) (r : RunState) : Type 0 where
   pub sound : IsSoundState P G (machine r)
   pub ends : (t : Task) (end : Ended) → end_of r t ≡ Some end → ended P G t ≡ Some end

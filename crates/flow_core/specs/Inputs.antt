@@ -1,4 +1,5 @@
--- What a task starts on, where these items were sent. Source: DAGuE (Parallel Computing, 2012): a task runs on what its sources gave.
+-- What a task starts on, where these items were sent. Source: DAGuE (Parallel Computing, 2012): a task runs on what its
+-- sources gave.
 use Rattle.std.specs.Prelude.{ℕ, suc, List, [], ◌∷◌, Bool, length, option_map, nat_lt, Option, Some, None, if◌then◌else◌}
 use Rattle.std.specs.List.{list_all}
 use Rattle.ptg_base.specs.Task.{Task}

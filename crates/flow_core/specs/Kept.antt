@@ -1,4 +1,5 @@
--- Which tiles a run still keeps of those that were sent: that of an edge goes once its task has read it. Source: this project's own choice.
+-- Which tiles a run still keeps of those that were sent: that of an edge goes once its task has read it. Source: this
+-- project's own choice.
 use Rattle.std.specs.Prelude.{◌≡◌, ℤ, Bool, true, false, List, [], ◌∷◌, ◌++◌, filter, Option, Some, None, is_some, unwrap_or, if◌then◌else◌}
 use Rattle.std.specs.Map.{lookup}
 use Rattle.ptg_base.specs.Task.{Task}
@@ -10,7 +11,8 @@ use Rattle.flow_meaning.specs.Comparing.{same_item}
 use Rattle.flow_meaning.specs.Ending.{Ended}
 use Rattle.flow_meaning.specs.Machine.{Sent}
 
--- the items that were sent, each with its tile; the edges among them that are kept, in any order; and the write-backs, in the order of the sends
+-- the items that were sent, each with its tile; the edges among them that are kept, in any order; and the write-backs,
+-- in the order of the sends
 pub record SentAndKept : Type 0 where
   pub sends : List Sent
   pub edges : List Sent
@@ -48,7 +50,8 @@ is_read claims (item.Write w) = false
 
 -- each edge that was not read is kept as it was sent, and each write-back
 pub record AreKept (claims : List (Task × Option Ended)) (s : SentAndKept) : Type 0 where
-  pub edges : (e : Edge) → is_read claims (item.Edge e) ≡ false → sent_as (item.Edge e) s.edges ≡ sent_as (item.Edge e) s.sends
+  pub edges : (e : Edge) → is_read claims (item.Edge e) ≡ false
+      → sent_as (item.Edge e) s.edges ≡ sent_as (item.Edge e) s.sends
   pub writes : s.writes ≡ written s.sends
 
 -- the same edges are kept, but for edges to the task

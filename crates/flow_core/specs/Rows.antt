@@ -1,4 +1,5 @@
--- The parts of the answer as a run has them: its trapped tasks, its waiting tasks, and what was written back. Source: this project's own choice.
+-- The parts of the answer as a run has them: its trapped tasks, its waiting tasks, and what was written back. Source:
+-- this project's own choice.
 use Rattle.std.specs.Prelude.{ℤ, List, map, filter, flat_map, filter_map, Option, Some, None}
 use Rattle.ptg_base.specs.Task.{Task}
 use Rattle.ptg_base.specs.declared.edge.WriteBack.{WriteBack}

@@ -1,4 +1,6 @@
--- A run on one thread as contracts see it: the claimed tasks, each with how it ended once it has; the items that were sent, each with its tile; and the tiles of ended tasks that are kept for sends. Source: DAGuE (Parallel Computing, 2012): a task runs once all its dependences have come, and then satisfies those of its successors.
+-- A run on one thread as contracts see it: the claimed tasks, each with how it ended once it has; the items that were
+-- sent, each with its tile; and the tiles of ended tasks that are kept for sends. Source: DAGuE (Parallel Computing,
+-- 2012): a task runs once all its dependences have come, and then satisfies those of its successors.
 use Rattle.std.specs.Prelude.{◌≡◌, ℤ, false, List, [], ◌∷◌, ◌++◌, Option, Some, None, Ok, Err, unwrap_or}
 use Rattle.std.specs.Map.{keys_of, lookup, set_value}
 use Rattle.indexmap.specs.IndexMap.{insert_entry}
@@ -52,7 +54,12 @@ with_tiles t (Err cause) outputs = outputs
 
 -- the run after a task has ended so
 abbrev pub with_end : Task → Ended → RunState → RunState
-with_end t end r = record { claims = set_value (same_task t) r.claims (Some end); sends = r.sends; outputs = with_tiles t end r.outputs }
+with_end t end r =
+    record {
+      claims = set_value (same_task t) r.claims (Some end);
+      sends = r.sends;
+      outputs = with_tiles t end r.outputs;
+    }
 
 -- what is sent with an item: the tile that its task left in the flow of the item
 abbrev pub send_of : RunState → Item → Sent

@@ -1,7 +1,7 @@
 -- The items that were sent, as a run keeps them: by item, each with its tile. Source: this project's own choice.
 use Rattle.std.specs.Prelude.{◌≡◌, ℤ, List, Option, map}
 use Rattle.ptg_base.specs.declared.edge.Item.{Item}
-use Rattle.flow_meaning.specs.Counting.{count}
+use Rattle.list_lemmas.specs.Counting.{count}
 use Rattle.flow_meaning.specs.Comparing.{same_item}
 use Rattle.flow_meaning.specs.Machine.{Sent}
 

@@ -1,4 +1,5 @@
--- Turns of a run: a task is claimed, runs to its end, and all its items are sent, before the next task is claimed. Source: this project's own choice.
+-- Turns of a run: a task is claimed, runs to its end, and all its items are sent, before the next task is claimed.
+-- Source: this project's own choice.
 use Rattle.std.specs.Prelude.{◌≡◌, List, [], ◌++◌, map}
 use Rattle.std.specs.Map.{keys_of}
 use Rattle.ptg_base.specs.Task.{Task}

@@ -4,7 +4,7 @@ ghost use Rattle.std.specs.Prelude.{◌≡◌, ◌+◌, ◌<◌, ◌≤◌, IsTr
 ghost use Rattle.indexmap.specs.IndexMap.{spare};
 ghost use Rattle.ptg_base.specs.Task.{Task};
 ghost use Rattle.ptg_base.specs.TaskComparing.{same_task};
-ghost use Rattle.flow_meaning.specs.Counting.{as_number};
+ghost use Rattle.list_lemmas.specs.Counting.{as_number};
 ghost use Rattle.flow_core.specs.Arrivals as arrivals;
 ghost use Rattle.flow_core.specs.Arrivals.{is_edge_to};
 
@@ -25,7 +25,9 @@ pub(crate) fn number_at(table: &IndexMap<TaskId, u32>, t: &TaskId) -> u32
 fn add_one(table: &mut IndexMap<TaskId, u32>, t: &TaskId)
     requires room { 0 < spare table.old }
     requires at_most { arrivals.number_at table.old.entries t.now ≤ 4000000 }
-    ensures { (u : Task) → arrivals.number_at table.new.entries u ≡ arrivals.number_at table.old.entries u + as_number (same_task u t.now) }
+    ensures { (u : Task)
+        → arrivals.number_at table.new.entries u
+        ≡ arrivals.number_at table.old.entries u + as_number (same_task u t.now) }
 {
     let n = number_at(table, t);
     let _old = table.insert(t.copy(), n + 1).unwrap();
@@ -35,7 +37,9 @@ fn add_one(table: &mut IndexMap<TaskId, u32>, t: &TaskId)
 pub(crate) fn count_item(table: &mut IndexMap<TaskId, u32>, item: &Item)
     requires room { 0 < spare table.old }
     requires at_most { (u : Task) → IsTrue (is_edge_to u item.now) → arrivals.number_at table.old.entries u ≤ 4000000 }
-    ensures { (u : Task) → arrivals.number_at table.new.entries u ≡ arrivals.number_at table.old.entries u + as_number (is_edge_to u item.now) }
+    ensures { (u : Task)
+        → arrivals.number_at table.new.entries u
+        ≡ arrivals.number_at table.old.entries u + as_number (is_edge_to u item.now) }
 {
     if let Item::Edge(e) = item {
         add_one(table, &e.to);

@@ -22,7 +22,9 @@ pub(crate) fn run_task(plan: &Plan, t: &TaskId, env: &[i64], tiles: Vec<Option<T
     requires locals { env.now ≡ tasks.locals_of plan.now t.now }
     requires task { IsTask plan.now t.now }
     requires flows { length tiles.items ≡ length (tasks.flows_of plan.now t.now) }
-    ensures { option_map (λ (c : ClassPlan). body_meaning c.body (tasks.locals_of plan.now t.now) tiles.items) (slice_get plan.now.classes t.now.class) ≡ Some result.end }
+    ensures { option_map (λ (c : ClassPlan). body_meaning c.body (tasks.locals_of plan.now t.now) tiles.items)
+        (slice_get plan.now.classes t.now.class)
+        ≡ Some result.end }
 {
     let mut tiles = tiles;
     let mut scratch = Scratch::new();

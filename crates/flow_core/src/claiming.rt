@@ -74,7 +74,9 @@ fn claim_class(runner: &mut Runner, m: &Matched, class: u32) -> Result<(), OutOf
     requires fits { (G : Data) × Fits m.now G runner.old.run }
     requires running { runner.old.running.items ≡ running_tasks runner.old.run }
     requires opening { IsOpening runner.old.run }
-    ensures done { OnOk result ((s : ClassSpaceValue) → slice_get m.now.spaces class ≡ Some s → HasDone m.now (map (task class) (range.tasks s)) [] runner.old.run runner.new.run) }
+    ensures done { OnOk result
+        ((s : ClassSpaceValue) → slice_get m.now.spaces class ≡ Some s
+        → HasDone m.now (map (task class) (range.tasks s)) [] runner.old.run runner.new.run) }
     ensures running { OnOk result (runner.new.running.items ≡ running_tasks runner.new.run) }
     ensures opening { OnOk result (IsOpening runner.new.run) }
     ensures goals { runner.new.goals ≡ runner.old.goals }
@@ -95,7 +97,9 @@ pub(crate) fn claim_classes(runner: &mut Runner, m: &Matched, class: u32) -> Res
     requires fits { (G : Data) × Fits m.now G runner.old.run }
     requires running { runner.old.running.items ≡ running_tasks runner.old.run }
     requires opening { IsOpening runner.old.run }
-    ensures done { OnOk result ((ss : List ClassSpaceValue) → drop class m.now.spaces ≡ ss → HasDone m.now (tasks_from class ss) [] runner.old.run runner.new.run) }
+    ensures done { OnOk result
+        ((ss : List ClassSpaceValue) → drop class m.now.spaces ≡ ss
+        → HasDone m.now (tasks_from class ss) [] runner.old.run runner.new.run) }
     ensures running { OnOk result (runner.new.running.items ≡ running_tasks runner.new.run) }
     ensures goals { runner.new.goals ≡ runner.old.goals }
 {

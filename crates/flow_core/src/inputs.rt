@@ -72,7 +72,8 @@ fn tile_from(
     source: &Source,
 ) -> Result<Option<Tile>, OutOfMemory>
     requires { IsTrue (has_datatype start.now.plan.now flow.now) }
-    ensures { IfOk result (λ tile. tile ≡ starting.tile_from start.now.plan.now start.now.given.now nothing_delivered flow.now source.now) }
+    ensures { IfOk result (λ tile.
+        tile ≡ starting.tile_from start.now.plan.now start.now.given.now nothing_delivered flow.now source.now) }
 {
     match source {
         Source::Task(_) => Ok(None),
@@ -107,7 +108,8 @@ fn edge_of(source: Source) -> Option<Item>
     }
 }
 
-// What a task starts on, one place for each of its flows: the tiles that come by no edge, and the edges that bring the others.
+// What a task starts on, one place for each of its flows: the tiles that come by no edge, and the edges that bring the
+// others.
 #[derive(Drop)]
 pub(crate) struct Inputs {
     pub(crate) tiles: Vec<Option<Tile>>,
@@ -125,8 +127,14 @@ fn push_inputs(
     requires task { IsTask start.now.plan.now start.now.task.now }
     requires at_most { number + length flows.now ≤ 8 }
     requires datatypes { IsTrue (have_datatypes start.now.plan.now flows.now) }
-    ensures tiles { OnOk result (inputs.new.tiles.items ≡ inputs.old.tiles.items ++ starting.tiles_from start.now.plan.now start.now.given.now nothing_delivered start.now.task.now number flows.now) }
-    ensures edges { OnOk result (inputs.new.edges.items ≡ inputs.old.edges.items ++ edges_from start.now.plan.now start.now.task.now number flows.now) }
+    ensures tiles { OnOk result
+        (inputs.new.tiles.items
+        ≡ inputs.old.tiles.items
+        ++ starting.tiles_from start.now.plan.now start.now.given.now nothing_delivered start.now.task.now
+        number flows.now) }
+    ensures edges { OnOk result
+        (inputs.new.edges.items
+        ≡ inputs.old.edges.items ++ edges_from start.now.plan.now start.now.task.now number flows.now) }
 {
     let Some((flow, others)) = flows.split_first() else {
         return Ok(());
@@ -141,8 +149,12 @@ fn push_inputs(
 // What a task starts on. Where each of its flows comes from is asked once.
 pub(crate) fn inputs_of(alloc: Global, start: &Start) -> Result<Inputs, OutOfMemory>
     requires { IsTask start.now.plan.now start.now.task.now }
-    ensures tiles { IfOk result (λ found. found.tiles.items ≡ starting.starting_tiles start.now.plan.now start.now.given.now nothing_delivered start.now.task.now) }
-    ensures edges { IfOk result (λ found. found.edges.items ≡ edges_from start.now.plan.now start.now.task.now 0 (tasks.flows_of start.now.plan.now start.now.task.now)) }
+    ensures tiles { IfOk result (λ found.
+        found.tiles.items
+        ≡ starting.starting_tiles start.now.plan.now start.now.given.now nothing_delivered start.now.task.now) }
+    ensures edges { IfOk result (λ found.
+        found.edges.items
+        ≡ edges_from start.now.plan.now start.now.task.now 0 (tasks.flows_of start.now.plan.now start.now.task.now)) }
     ensures at_most { IfOk result (λ found. length found.edges.items ≤ 8) }
 {
     let mut found = Inputs {
@@ -165,9 +177,19 @@ fn set_tile(tiles: &mut Vec<Option<Tile>>, at: usize, tile: Option<Tile>)
 // Takes the tile of a flow, if it comes by an edge.
 fn take_tile(edge: &Option<Item>, number: u8, sent: &mut SentItems, tiles: &mut Vec<Option<Tile>>)
     requires places { number < length tiles.old.items }
-    ensures tiles { (P : PlanValue) (G : Data) (t : Task) (before : List (Option (List ℤ))) (f : FlowValue) (rest : List FlowValue) → edge.now ≡ option_map (λ e. item.Edge e) (edge_into P t number f) → length before ≡ number → tiles.old.items ≡ before ++ starting.tiles_from P G nothing_delivered t number (f ∷ rest) → tiles.new.items ≡ (before ++ starting.starting_tile P G (delivered_by sent.old.edges) t number f ∷ []) ++ starting.tiles_from P G nothing_delivered t (number + 1) rest }
-    ensures others { (P : PlanValue) (t : Task) (f : FlowValue) → edge.now ≡ option_map (λ e. item.Edge e) (edge_into P t number f) → (e : EdgeValue) → e.in_flow ≢ number → delivered_by sent.new.edges e ≡ delivered_by sent.old.edges e }
-    ensures kept { (P : PlanValue) (t : Task) (f : FlowValue) → edge.now ≡ option_map (λ e. item.Edge e) (edge_into P t number f) → TakesOnlyTo t sent.old.edges sent.new.edges }
+    ensures tiles { (P : PlanValue) (G : Data) (t : Task) (before : List (Option (List ℤ))) (f : FlowValue)
+        (rest : List FlowValue)
+        → edge.now ≡ option_map (λ e. item.Edge e) (edge_into P t number f) → length before ≡ number
+        → tiles.old.items ≡ before ++ starting.tiles_from P G nothing_delivered t number (f ∷ rest)
+        → tiles.new.items
+        ≡ (before ++ starting.starting_tile P G (delivered_by sent.old.edges) t number f ∷ [])
+        ++ starting.tiles_from P G nothing_delivered t (number + 1) rest }
+    ensures others { (P : PlanValue) (t : Task) (f : FlowValue)
+        → edge.now ≡ option_map (λ e. item.Edge e) (edge_into P t number f) → (e : EdgeValue) → e.in_flow ≢ number
+        → delivered_by sent.new.edges e ≡ delivered_by sent.old.edges e }
+    ensures kept { (P : PlanValue) (t : Task) (f : FlowValue)
+        → edge.now ≡ option_map (λ e. item.Edge e) (edge_into P t number f)
+        → TakesOnlyTo t sent.old.edges sent.new.edges }
     ensures sends { sent.new.sends ≡ sent.old.sends }
     ensures writes { sent.new.writes ≡ sent.old.writes }
     ensures places { length tiles.new.items ≡ length tiles.old.items }
@@ -188,8 +210,12 @@ pub(crate) fn take_tiles(
 )
     requires at_most { number + length edges.now ≤ 8 }
     requires places { number + length edges.now ≤ length tiles.old.items }
-    ensures tiles { (P : PlanValue) (G : Data) (t : Task) (before : List (Option (List ℤ))) (fs : List FlowValue) → edges.now ≡ edges_from P t number fs → length before ≡ number → tiles.old.items ≡ before ++ starting.tiles_from P G nothing_delivered t number fs → tiles.new.items ≡ before ++ starting.tiles_from P G (delivered_by sent.old.edges) t number fs }
-    ensures kept { (P : PlanValue) (t : Task) (fs : List FlowValue) → edges.now ≡ edges_from P t number fs → TakesOnlyTo t sent.old.edges sent.new.edges }
+    ensures tiles { (P : PlanValue) (G : Data) (t : Task) (before : List (Option (List ℤ))) (fs : List FlowValue)
+        → edges.now ≡ edges_from P t number fs → length before ≡ number
+        → tiles.old.items ≡ before ++ starting.tiles_from P G nothing_delivered t number fs
+        → tiles.new.items ≡ before ++ starting.tiles_from P G (delivered_by sent.old.edges) t number fs }
+    ensures kept { (P : PlanValue) (t : Task) (fs : List FlowValue) → edges.now ≡ edges_from P t number fs
+        → TakesOnlyTo t sent.old.edges sent.new.edges }
     ensures sends { sent.new.sends ≡ sent.old.sends }
     ensures writes { sent.new.writes ≡ sent.old.writes }
     ensures places { length tiles.new.items ≡ length tiles.old.items }

@@ -1,4 +1,5 @@
-//! Laws of runs: each call is an event of the machine, or none; an edge of a CTL flow carries no tile; which task may follow finished ones.
+//! Laws of runs: each call is an event of the machine, or none; an edge of a CTL flow carries no tile; which task may
+//! follow finished ones.
 
 ghost use Rattle.std.specs.Prelude.{◌≡◌, ◌↔◌, IsFalse, IsTrue, None, Some, slice_get};
 ghost use Rattle.std.specs.Map.{keys_of};
@@ -26,23 +27,34 @@ ghost use Rattle.flow_core.specs.Fits.{Fits, HasFinished, MaySendNow};
 
 /// A law: a claim and a send are the events of the machine; the end of a task is none.
 pub fn calls_are_events()
-    ensures claim { (P : Plan) (G : Data) (r : RunState) (t : Task) → machine (with_claim t r) ≡ state_after P G (machine r) (Claim t) }
+    ensures claim { (P : Plan) (G : Data) (r : RunState) (t : Task)
+        → machine (with_claim t r) ≡ state_after P G (machine r) (Claim t) }
     ensures end { (r : RunState) (t : Task) (end : Ended) → machine (with_end t end r) ≡ machine r }
-    ensures send { (P : Plan) (G : Data) (r : RunState) (i : Item) → IsConsistent P → Fits P G r → MaySendNow P G r i → machine (with_send i r) ≡ state_after P G (machine r) (Send i) }
+    ensures send { (P : Plan) (G : Data) (r : RunState) (i : Item) → IsConsistent P → Fits P G r → MaySendNow P G r i
+        → machine (with_send i r) ≡ state_after P G (machine r) (Send i) }
 {}
 
 /// A law: an item of a CTL flow is sent without a tile.
 pub fn items_of_ctl_flows_carry_no_tile()
-    ensures { (P : Plan) (G : Data) (r : RunState) (x : Sent) (f : FlowPlan) → IsConsistent P → DataFit P.colls P.elems G → IsWellMade G → Fits P G r → IsIn x r.sends → slice_get (flows_of P (sender x.item)) (item_flow x.item) ≡ Some f → IsFalse (is_data (Some f.kind)) → x.tile ≡ None }
+    ensures { (P : Plan) (G : Data) (r : RunState) (x : Sent) (f : FlowPlan) → IsConsistent P
+        → DataFit P.colls P.elems G → IsWellMade G → Fits P G r → IsIn x r.sends
+        → slice_get (flows_of P (sender x.item)) (item_flow x.item) ≡ Some f → IsFalse (is_data (Some f.kind))
+        → x.tile ≡ None }
 {}
 
-/// A law: where each claimed task does no more, a task may be claimed exactly if it is new, and the source of each edge into it
-/// is claimed and has outputs.
+/// A law: where each claimed task does no more, a task may be claimed exactly if it is new, and the source of each edge
+/// into it is claimed and has outputs.
 pub fn a_task_may_follow_finished_ones()
-    ensures { (P : Plan) (G : Data) (S : MachineState) (t : Task) → IsConsistent P → IsSoundState P G S → ((u : Task) → IsIn u S.claims → IsFinished P G S u) → IsTask P t → MayClaim P S t ↔ ((IsIn t S.claims → ⊥) × ((e : Edge) → IsIn e (in_edges P t) → IsIn e.from S.claims × IsTrue (has_outputs (ended P G e.from)))) }
+    ensures { (P : Plan) (G : Data) (S : MachineState) (t : Task) → IsConsistent P → IsSoundState P G S
+        → ((u : Task) → IsIn u S.claims → IsFinished P G S u) → IsTask P t
+        → MayClaim P S t
+        ↔ ((IsIn t S.claims → ⊥)
+        × ((e : Edge) → IsIn e (in_edges P t)
+        → IsIn e.from S.claims × IsTrue (has_outputs (ended P G e.from)))) }
 {}
 
 /// A law: between two turns each claimed task does no more.
 pub fn turns_leave_tasks_finished()
-    ensures { (P : Plan) (G : Data) (r : RunState) (t : Task) → IsBetweenTurns P G r → IsIn t (keys_of r.claims) → IsFinished P G (machine r) t }
+    ensures { (P : Plan) (G : Data) (r : RunState) (t : Task) → IsBetweenTurns P G r → IsIn t (keys_of r.claims)
+        → IsFinished P G (machine r) t }
 {}

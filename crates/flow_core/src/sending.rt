@@ -44,7 +44,9 @@ fn send_edges(runner: &mut Runner, m: &Matched, t: &TaskId, env: &[i64]) -> Resu
     requires fits { (G : Data) × Fits m.now G runner.old.run }
     requires running { runner.old.running.items ≡ running_tasks runner.old.run }
     requires goals { AreGoals m.now runner.old.goals.entries }
-    ensures done { OnOk result (HasDone m.now [] (map (λ (e : EdgeValue). item.Edge e) (items.out_edges m.now t.now)) runner.old.run runner.new.run) }
+    ensures done { OnOk result
+        (HasDone m.now [] (map (λ (e : EdgeValue). item.Edge e) (items.out_edges m.now t.now)) runner.old.run
+        runner.new.run) }
     ensures running { OnOk result (runner.new.running.items ≡ running_tasks runner.new.run) }
     ensures goals { OnOk result (AreGoals m.now runner.new.goals.entries) }
 {
@@ -77,7 +79,9 @@ fn send_writes(runner: &mut Runner, m: &Matched, t: &TaskId, env: &[i64]) -> Res
     requires fits { (G : Data) × Fits m.now G runner.old.run }
     requires running { runner.old.running.items ≡ running_tasks runner.old.run }
     requires goals { AreGoals m.now runner.old.goals.entries }
-    ensures done { OnOk result (HasDone m.now [] (map (λ (w : WriteBackValue). item.Write w) (items.write_backs m.now t.now)) runner.old.run runner.new.run) }
+    ensures done { OnOk result
+        (HasDone m.now [] (map (λ (w : WriteBackValue). item.Write w) (items.write_backs m.now t.now)) runner.old.run
+        runner.new.run) }
     ensures running { OnOk result (runner.new.running.items ≡ running_tasks runner.new.run) }
     ensures goals { OnOk result (AreGoals m.now runner.new.goals.entries) }
 {

@@ -15,8 +15,8 @@ use ptg_base::{Item, OutOfMemory, Tile, WriteBack, items_compare_field_by_field}
 use std::alloc::Global;
 use std::marker::Model;
 
-// The items that were sent. An edge is kept with its tile until it is taken, and a write-back to the end. Contracts see what was sent, and
-// what is kept of it.
+// The items that were sent. An edge is kept with its tile until it is taken, and a write-back to the end. Contracts see
+// what was sent, and what is kept of it.
 #[derive(Drop)]
 pub struct SentItems {
     edges: IndexMap<Item, Option<Tile>>,
@@ -32,7 +32,8 @@ impl Model for SentItems {
 
     ghost use Rattle.flow_core.specs.SentItems.{all_sent};
 
-    ghost view = { λ s. record { sends = s.history.sends; edges = all_sent s.edges.entries; writes = all_sent s.writes.entries } };
+    ghost view = { λ s.
+        record { sends = s.history.sends; edges = all_sent s.edges.entries; writes = all_sent s.writes.entries } };
 }
 
 // Adds a write-back with its tile, if it has one.
@@ -95,7 +96,8 @@ fn enter(
     tile: Option<Tile>,
 ) -> Result<(), OutOfMemory>
     requires { sent_as item (all_sent table.old.entries) ≡ None }
-    ensures ok { OnOk result (all_sent table.new.entries ≡ all_sent table.old.entries ++ record { item = item; tile = tile } ∷ []) }
+    ensures ok { OnOk result
+        (all_sent table.new.entries ≡ all_sent table.old.entries ++ record { item = item; tile = tile } ∷ []) }
     ensures err { OnErr result (table.new.entries ≡ table.old.entries) }
 {
     items_compare_field_by_field();
@@ -129,7 +131,8 @@ impl SentItems {
     // Takes an edge with its tile out of those that are kept.
     pub(crate) fn take(&mut self, item: &Item) -> Option<Tile>
         ensures tile { result ≡ first_tile item.now self.old.edges }
-        ensures others { (other : ItemValue) → (item.now ≡ other → ⊥) → sent_as other self.new.edges ≡ sent_as other self.old.edges }
+        ensures others { (other : ItemValue) → (item.now ≡ other → ⊥)
+            → sent_as other self.new.edges ≡ sent_as other self.old.edges }
         ensures sends { self.new.sends ≡ self.old.sends }
         ensures writes { self.new.writes ≡ self.old.writes }
     {

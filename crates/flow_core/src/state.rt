@@ -38,8 +38,8 @@ use std::alloc::Global;
 use std::marker::Model;
 use term_core::Trap;
 
-/// A run on one thread. Contracts see the claimed tasks, each with how it ended once it has; the items that were sent, each with its
-/// tile; and which tiles of ended tasks are kept.
+/// A run on one thread. Contracts see the claimed tasks, each with how it ended once it has; the items that were sent,
+/// each with its tile; and which tiles of ended tasks are kept.
 #[derive(Drop)]
 pub struct State {
     alloc: Global,
@@ -88,10 +88,11 @@ impl State {
         }
     }
 
-    /// Claims a task, which runs from then on: true exactly if it is a task of the job, is not claimed, and all edges into it
-    /// were sent. Else nothing changes, nor does it without memory.
+    /// Claims a task, which runs from then on: true exactly if it is a task of the job, is not claimed, and all edges
+    /// into it were sent. Else nothing changes, nor does it without memory.
     pub fn claim(&mut self, m: &Matched, t: &TaskId) -> Result<bool, OutOfMemory>
-        ensures exact { IfOk result (λ claimed. (G : Data) → Fits m.now G self.old → IsTrue claimed ↔ MayClaim m.now (machine self.old) t.now) }
+        ensures exact { IfOk result (λ claimed.
+            (G : Data) → Fits m.now G self.old → IsTrue claimed ↔ MayClaim m.now (machine self.old) t.now) }
         ensures state { IfOk result (λ claimed. self.new ≡ (if claimed then with_claim t.now self.old else self.old)) }
         ensures err { OnErr result (self.new ≡ self.old) }
         ensures fits { (G : Data) → Fits m.now G self.old → Fits m.now G self.new }
@@ -105,7 +106,8 @@ impl State {
     // Claims a task of the job if it may be claimed.
     pub(crate) fn claim_task(&mut self, m: &Matched, t: &TaskId) -> Result<bool, OutOfMemory>
         requires task { IsTask m.now t.now }
-        ensures exact { IfOk result (λ claimed. (G : Data) → Fits m.now G self.old → IsTrue claimed ↔ MayClaim m.now (machine self.old) t.now) }
+        ensures exact { IfOk result (λ claimed.
+            (G : Data) → Fits m.now G self.old → IsTrue claimed ↔ MayClaim m.now (machine self.old) t.now) }
         ensures state { IfOk result (λ claimed. self.new ≡ (if claimed then with_claim t.now self.old else self.old)) }
         ensures err { OnErr result (self.new ≡ self.old) }
         ensures fits { (G : Data) → Fits m.now G self.old → Fits m.now G self.new }
@@ -126,7 +128,8 @@ impl State {
     ) -> Result<bool, OutOfMemory>
         requires task { IsTask m.now t.now }
         requires goal { goal ≡ edges.goal m.now t.now }
-        ensures exact { IfOk result (λ claimed. (G : Data) → Fits m.now G self.old → IsTrue claimed ↔ MayClaim m.now (machine self.old) t.now) }
+        ensures exact { IfOk result (λ claimed.
+            (G : Data) → Fits m.now G self.old → IsTrue claimed ↔ MayClaim m.now (machine self.old) t.now) }
         ensures state { IfOk result (λ claimed. self.new ≡ (if claimed then with_claim t.now self.old else self.old)) }
         ensures fits { (G : Data) → Fits m.now G self.old → Fits m.now G self.new }
     {
@@ -198,8 +201,8 @@ impl State {
         }
     }
 
-    /// Runs the body of a running task on the tiles that were sent to it, and notes how it ended: with a trap exactly if the
-    /// call gives its cause. Nothing else changes, and nothing at all without memory.
+    /// Runs the body of a running task on the tiles that were sent to it, and notes how it ended: with a trap exactly
+    /// if the call gives its cause. Nothing else changes, and nothing at all without memory.
     pub fn finish(
         &mut self,
         m: &Matched,
@@ -233,11 +236,12 @@ impl State {
         Ok(trap)
     }
 
-    /// Sends an item with the tile that its task left: true exactly if it was not sent, and is an item of a task that has ended
-    /// without a trap. Else nothing changes, nor does it without memory.
+    /// Sends an item with the tile that its task left: true exactly if it was not sent, and is an item of a task that
+    /// has ended without a trap. Else nothing changes, nor does it without memory.
     pub fn send(&mut self, m: &Matched, item: &Item) -> Result<bool, OutOfMemory>
         requires fits { (G : Data) × Fits m.now G self.old }
-        ensures exact { IfOk result (λ sent. (G : Data) → Fits m.now G self.old → IsTrue sent ↔ MaySendNow m.now G self.old item.now) }
+        ensures exact { IfOk result (λ sent.
+            (G : Data) → Fits m.now G self.old → IsTrue sent ↔ MaySendNow m.now G self.old item.now) }
         ensures state { IfOk result (λ sent. self.new ≡ (if sent then with_send item.now self.old else self.old)) }
         ensures err { OnErr result (self.new ≡ self.old) }
         ensures fits { (G : Data) → Fits m.now G self.old → Fits m.now G self.new }
@@ -265,7 +269,8 @@ impl State {
     pub(crate) fn send_due(&mut self, m: &Matched, item: &Item) -> Result<bool, OutOfMemory>
         requires fits { (G : Data) × Fits m.now G self.old }
         requires due { IsDue m.now self.old item.now }
-        ensures exact { IfOk result (λ sent. (G : Data) → Fits m.now G self.old → IsTrue sent ↔ MaySendNow m.now G self.old item.now) }
+        ensures exact { IfOk result (λ sent.
+            (G : Data) → Fits m.now G self.old → IsTrue sent ↔ MaySendNow m.now G self.old item.now) }
         ensures state { IfOk result (λ sent. self.new ≡ (if sent then with_send item.now self.old else self.old)) }
         ensures err { OnErr result (self.new ≡ self.old) }
         ensures fits { (G : Data) → Fits m.now G self.old → Fits m.now G self.new }
@@ -314,7 +319,8 @@ impl State {
     // A copy of the tile that the task of an item left in the flow of the item.
     fn output_copy(&self, item: &Item) -> Result<Option<Tile>, OutOfMemory>
         requires { KeepsTilesFor self.now item.now }
-        ensures { IfOk result (λ tile. tile ≡ output_tile (end_of self.now (events.sender item.now)) (items.item_flow item.now)) }
+        ensures { IfOk result (λ tile.
+            tile ≡ output_tile (end_of self.now (events.sender item.now)) (items.item_flow item.now)) }
     {
         match self.outputs.get(sender(item)) {
             Some(tiles) => copy_if_any(self.alloc, tile_at(tiles, item_flow(item))),

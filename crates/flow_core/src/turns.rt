@@ -39,7 +39,8 @@ fn send_its_edges(run: &mut State, m: &Matched, t: &TaskId, env: &[i64]) -> Resu
     requires locals { env.now ≡ tasks.locals_of m.now t.now }
     requires outputs { IsTrue (has_outputs (end_of run.old t.now)) }
     requires fits { (G : Data) × Fits m.now G run.old }
-    ensures { OnOk result (HasSent m.now (map (λ (e : EdgeValue). item.Edge e) (items.out_edges m.now t.now)) run.old run.new) }
+    ensures { OnOk result
+        (HasSent m.now (map (λ (e : EdgeValue). item.Edge e) (items.out_edges m.now t.now)) run.old run.new) }
 {
     for edge in out_edges_under(m.plan(), t, env) {
         send_item(run, m, &Item::Edge(edge))?;
@@ -53,7 +54,8 @@ fn send_its_writes(run: &mut State, m: &Matched, t: &TaskId, env: &[i64]) -> Res
     requires locals { env.now ≡ tasks.locals_of m.now t.now }
     requires outputs { IsTrue (has_outputs (end_of run.old t.now)) }
     requires fits { (G : Data) × Fits m.now G run.old }
-    ensures { OnOk result (HasSent m.now (map (λ (w : WriteBackValue). item.Write w) (items.write_backs m.now t.now)) run.old run.new) }
+    ensures { OnOk result
+        (HasSent m.now (map (λ (w : WriteBackValue). item.Write w) (items.write_backs m.now t.now)) run.old run.new) }
 {
     for write in write_backs_under(m.plan(), t, env) {
         send_item(run, m, &Item::Write(write))?;
@@ -90,9 +92,11 @@ fn run_to_end(run: &mut State, m: &Matched, given: &Given, t: &TaskId) -> Result
 }
 
 impl State {
-    /// Gives a task its turn: claims it, runs its body, and sends all its items. True exactly if it could be claimed; else nothing has changed.
+    /// Gives a task its turn: claims it, runs its body, and sends all its items. True exactly if it could be claimed;
+    /// else nothing has changed.
     ///
-    /// The state is taken and handed back, since a turn that lacks memory in its midst leaves nothing that could be used.
+    /// The state is taken and handed back, since a turn that lacks memory in its midst leaves nothing that could be
+    /// used.
     pub fn take_turn(
         self,
         m: &Matched,
@@ -101,8 +105,12 @@ impl State {
     ) -> Result<(State, bool), OutOfMemory>
         requires { IsBetweenTurns m.now given.now self }
         ensures exact { IfOk result (λ r. IsTrue r.1 ↔ MayClaim m.now (machine self) t.now) }
-        ensures events { IfOk result (λ r. IsTrue r.1 → (sent : List ItemValue) × Happen m.now given.now (Claim t.now ∷ map Send sent) (machine self) (machine r.0)) }
-        ensures claims { IfOk result (λ r. keys_of r.0.claims ≡ (if r.1 then keys_of self.claims ++ t.now ∷ [] else keys_of self.claims)) }
+        ensures events { IfOk result (λ r.
+            IsTrue r.1
+            → (sent : List ItemValue)
+            × Happen m.now given.now (Claim t.now ∷ map Send sent) (machine self) (machine r.0)) }
+        ensures claims { IfOk result (λ r.
+            keys_of r.0.claims ≡ (if r.1 then keys_of self.claims ++ t.now ∷ [] else keys_of self.claims)) }
         ensures unchanged { IfOk result (λ r. IsFalse r.1 → r.0 ≡ self) }
         ensures between { IfOk result (λ r. IsBetweenTurns m.now given.now r.0) }
     {

@@ -23,7 +23,7 @@ use Rattle.check_names.specs.Faults.{fault_if}
 use Rattle.check_names.specs.Names.{Job}
 use Rattle.check_names.specs.Returns.{both, each, each_option}
 use Rattle.check_names.proofs.Closed.{pair_parts}
-use Rattle.check_names.proofs.NoFaults.{first_nil, holds_not, option_there, parts_of, rest_nil}
+use Rattle.check_names.proofs.NoFaults.{holds_not, option_there, parts_of}
 use Rattle.check_flows.specs.Kinds.{is_control}
 use Rattle.check_flows.specs.Datatypes.{allowed_type, default_name, first_written, flow_type, type_of_flow, type_of_written, written_faults}
 use Rattle.check_flows.specs.Targets.{target_of}
@@ -33,8 +33,11 @@ use Rattle.check_flows.proofs.Ways.{dep_from}
 use Rattle.check_flows.proofs.WellTargets.{IsWellTarget, allowed}
 use Rattle.flow_laws.specs.Datatypes.{HasOneDatatype}
 use Rattle.flow_laws.proofs.Resolved.{none_joined, option_no_fault}
-use Rattle.flow_laws.proofs.Targets.{and_never, first_true, second_true, target_fits}
+use Rattle.flow_laws.proofs.Targets.{target_fits}
 use Rattle.flow_laws.proofs.Types.{control_name}
+use Rattle.list_lemmas.proofs.Joins.{first_nil, rest_nil}
+use Rattle.list_lemmas.proofs.Truth.{and-false}
+use Rattle.std.specs.Cmp.{first_so, second_so}
 
 -- ---- lists
 
@@ -49,7 +52,7 @@ none_kept {A} {B} f g keep p P h (x ∷ xs) ys all e passes = go (keep x) refl (
     go true k more s =
         let q = parts_of (λ y ys. y ∷ ys) (f x) (each f (filter keep xs)) ys s in
         let two : (p q.0 && list_all p q.1) ≡ true = ap (list_all p) q.4 ∙ passes in
-        none_joined (g x) (flat_map g (filter keep xs)) (h x q.0 k (all x (inl refl)) q.2 (first_true (p q.0) (list_all p q.1) two)) (more q.1 q.3 (second_true (p q.0) (list_all p q.1) two))
+        none_joined (g x) (flat_map g (filter keep xs)) (h x q.0 k (all x (inl refl)) q.2 (first_so (p q.0) (list_all p q.1) two)) (more q.1 q.3 (second_so (p q.0) (list_all p q.1) two))
     go false k more s = more ys s passes
 
 -- an element that is kept is one of those without a fault
@@ -93,7 +96,7 @@ type_none d flow n dep typed same =
     (fault_if (not (is_control flow.kind) && not (bytes_eq (type_of_written dep.datatype) (type_of_flow flow))) (type_spot dep.yes dep.datatype) MixedTypes)
     (written_none d flow n dep.datatype typed same)
     (ap (λ b. fault_if (not (is_control flow.kind) && not b) (type_spot dep.yes dep.datatype) MixedTypes) ((bytes_decides (type_of_written dep.datatype) (type_of_flow flow)).1 same)
-    ∙ ap (λ b. fault_if b (type_spot dep.yes dep.datatype) MixedTypes) (and_never (not (is_control flow.kind))))
+    ∙ ap (λ b. fault_if b (type_spot dep.yes dep.datatype) MixedTypes) (and-false (not (is_control flow.kind))))
 
 first_same : (deps : List DepTree) → ((dep : DepTree) → IsIn dep deps → type_of_written dep.datatype ≡ type_of_written (first_written deps)) → (P : Option Word → Type 0) → P None → ((dep : DepTree) → IsIn dep deps → P dep.datatype) → P (first_written deps)
 first_same [] one P none each = none
@@ -110,18 +113,18 @@ module _ (job : Job) (classes : List ClassPlan) (spaces : List ClassSpace) (coll
 
   well_of : (inward : Bool) (q : Target) → IsTrue (passes inward q) → IsWellTarget classes spaces colls (length seen) n flow.kind inward q
   well_of true q h =
-      let two = first_true (exists_target classes spaces colls (length seen) q && has_datatype classes colls n q) (allowed classes flow.kind true q) h in
+      let two = first_so (exists_target classes spaces colls (length seen) q && has_datatype classes colls n q) (allowed classes flow.kind true q) h in
       record {
-        exists = first_true (exists_target classes spaces colls (length seen) q) (has_datatype classes colls n q) two;
-        typed = second_true (exists_target classes spaces colls (length seen) q) (has_datatype classes colls n q) two;
-        kind = second_true (exists_target classes spaces colls (length seen) q && has_datatype classes colls n q) (allowed classes flow.kind true q) h;
+        exists = first_so (exists_target classes spaces colls (length seen) q) (has_datatype classes colls n q) two;
+        typed = second_so (exists_target classes spaces colls (length seen) q) (has_datatype classes colls n q) two;
+        kind = second_so (exists_target classes spaces colls (length seen) q && has_datatype classes colls n q) (allowed classes flow.kind true q) h;
       }
   well_of false q h =
-      let two = first_true (exists_target classes spaces colls (length seen) q && has_datatype classes colls n q) (allowed classes flow.kind false q) h in
+      let two = first_so (exists_target classes spaces colls (length seen) q && has_datatype classes colls n q) (allowed classes flow.kind false q) h in
       record {
-        exists = first_true (exists_target classes spaces colls (length seen) q) (has_datatype classes colls n q) two;
-        typed = second_true (exists_target classes spaces colls (length seen) q) (has_datatype classes colls n q) two;
-        kind = second_true (exists_target classes spaces colls (length seen) q && has_datatype classes colls n q) (allowed classes flow.kind false q) h;
+        exists = first_so (exists_target classes spaces colls (length seen) q) (has_datatype classes colls n q) two;
+        typed = second_so (exists_target classes spaces colls (length seen) q) (has_datatype classes colls n q) two;
+        kind = second_so (exists_target classes spaces colls (length seen) q && has_datatype classes colls n q) (allowed classes flow.kind false q) h;
       }
 
   target_none : (inward : Bool) (t : TargetTree) (q : Target) → target_of job seen t ≡ Some q → IsTrue (passes inward q) → target_faults job seen flow inward t ≡ []
@@ -132,7 +135,7 @@ module _ (job : Job) (classes : List ClassPlan) (spaces : List ClassSpace) (coll
   second_none inward g (Some t) o e h =
       let q = option_there (target_of job seen) t o e in
       let both_pass : (is_some g && passes inward q.0) ≡ true = ap (is_second (passes inward) g) q.2 ∙ h in
-      target_none inward t q.0 q.1 (second_true (is_some g) (passes inward q.0) both_pass)
+      target_none inward t q.0 q.1 (second_so (is_some g) (passes inward q.0) both_pass)
 
   dependence_none : (inward : Bool) (dep : DepTree) (d : DepPlan) → is_of_way inward dep ≡ true → type_of_written dep.datatype ≡ type_of_flow flow → dependence_of job seen dep ≡ Some d
       → IsTrue (is_dependence (length seen) (passes inward) d) → dependence_faults job seen flow dep ≡ []
@@ -140,9 +143,9 @@ module _ (job : Job) (classes : List ClassPlan) (spaces : List ClassSpace) (coll
       let q = parts_of dep_from (option_term job seen dep.guard) (both (λ x y. (x, y)) (target_of job seen dep.yes) (each_option (target_of job seen) dep.no)) d e in
       let two = pair_parts (target_of job seen dep.yes) (each_option (target_of job seen) dep.no) q.1 q.3 in
       let all : ((is_closed_option (length seen) q.0 && passes inward q.1.0) && is_second (passes inward) q.0 q.1.1) ≡ true = ap (is_dependence (length seen) (passes inward)) q.4 ∙ h in
-      let first = first_true (is_closed_option (length seen) q.0 && passes inward q.1.0) (is_second (passes inward) q.0 q.1.1) all in
-      let yes : target_faults job seen flow inward dep.yes ≡ [] = target_none inward dep.yes q.1.0 two.0 (second_true (is_closed_option (length seen) q.0) (passes inward q.1.0) first) in
-      let no : second_faults (target_faults job seen flow inward) dep.no ≡ [] = second_none inward q.0 dep.no q.1.1 two.1 (second_true (is_closed_option (length seen) q.0 && passes inward q.1.0) (is_second (passes inward) q.0 q.1.1) all) in
+      let first = first_so (is_closed_option (length seen) q.0 && passes inward q.1.0) (is_second (passes inward) q.0 q.1.1) all in
+      let yes : target_faults job seen flow inward dep.yes ≡ [] = target_none inward dep.yes q.1.0 two.0 (second_so (is_closed_option (length seen) q.0) (passes inward q.1.0) first) in
+      let no : second_faults (target_faults job seen flow inward) dep.no ≡ [] = second_none inward q.0 dep.no q.1.1 two.1 (second_so (is_closed_option (length seen) q.0 && passes inward q.1.0) (is_second (passes inward) q.0 q.1.1) all) in
       let turned = of_way inward dep way in
       none_joined (option_faults job seen dep.guard ++ (target_faults job seen flow dep.inward dep.yes ++ second_faults (target_faults job seen flow dep.inward) dep.no)) (type_faults job.given flow dep)
       (none_joined (option_faults job seen dep.guard) (target_faults job seen flow dep.inward dep.yes ++ second_faults (target_faults job seen flow dep.inward) dep.no)
@@ -169,8 +172,8 @@ flow_fits job classes spaces colls parts seen flow p one e h =
     let all_in = list_all (is_dependence locals (is_source classes spaces colls locals made)) q.1.0 in
     let all_out = list_all (is_dependence locals (is_destination classes spaces colls locals made)) q.1.1 in
     let all : (((typed && few) && all_in) && all_out) ≡ true = ap (is_flow classes spaces colls types locals) q.4 ∙ h in
-    let ins = second_true (typed && few) all_in (first_true ((typed && few) && all_in) all_out all) in
-    let outs = second_true ((typed && few) && all_in) all_out all in
+    let ins = second_so (typed && few) all_in (first_so ((typed && few) && all_in) all_out all) in
+    let outs = second_so ((typed && few) && all_in) all_out all in
     none_joined (written_faults job.given flow.kind (first_written flow.deps)) (ways_faults job seen flow flow.deps)
     (first_same flow.deps one (λ w. written_faults job.given flow.kind w ≡ []) refl (λ dep i. written_none job.given flow q.0 dep.datatype q.2 (one dep i)))
     (none_joined (dependences_faults job seen flow true flow.deps) (dependences_faults job seen flow false flow.deps)

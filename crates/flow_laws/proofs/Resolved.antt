@@ -16,7 +16,9 @@ use Rattle.check_names.specs.Faults.{fault_if}
 use Rattle.check_names.specs.Names.{Job}
 use Rattle.check_names.specs.Returns.{both, each}
 use Rattle.check_names.proofs.Closed.{pair_parts}
-use Rattle.check_names.proofs.NoFaults.{mapped_there, neither, option_there, parts_of}
+use Rattle.check_names.proofs.NoFaults.{option_there, parts_of}
+use Rattle.list_lemmas.proofs.Options.{from_option_map}
+use Rattle.std.proofs.lemmas.Bool.{or_parts}
 
 pub none_joined : {A : Type 0} (xs ys : List A) → xs ≡ [] → ys ≡ [] → xs ++ ys ≡ []
 none_joined xs ys e f = λ i. e i ++ f i
@@ -25,7 +27,7 @@ pub term_no_fault : (job : Job) (seen : List DefTree) (e : Expression) (t : Term
 term_no_fault job seen (Num z spot) t h = refl
 term_no_fault job seen (Name w) t h = ap (λ o. fault_if (is_none o) w.spot (name_code job w.text)) h
 term_no_fault job seen (Elem w at) t h = absurd cc
-term_no_fault job seen (Unary o a spot) t h = let p = mapped_there (term.Unary o) (term_of job seen a) t h in term_no_fault job seen a p.0 p.1
+term_no_fault job seen (Unary o a spot) t h = let p = from_option_map (term.Unary o) (term_of job seen a) t h in term_no_fault job seen a p.0 p.1
 term_no_fault job seen (Binary o a b) t h =
     let p = parts_of (term.Binary o) (term_of job seen a) (term_of job seen b) t h in
     none_joined (expression_faults job seen a) (expression_faults job seen b) (term_no_fault job seen a p.0 p.2) (term_no_fault job seen b p.1 p.3)
@@ -50,8 +52,8 @@ range_no_fault job seen lo hi step r h =
     (none_joined (expression_faults job seen hi) (option_faults job seen step) (term_no_fault job seen hi p.1.0 q.0) (option_no_fault job seen step p.1.1 q.1))
 
 argument_no_fault : (job : Job) (seen : List DefTree) (a : ArgTree) (x : Arg) → argument_of job seen a ≡ Some x → argument_faults job seen a ≡ []
-argument_no_fault job seen (tree.One e) x h = let p = mapped_there plan.One (term_of job seen e) x h in term_no_fault job seen e p.0 p.1
-argument_no_fault job seen (tree.Span spot lo hi step) x h = let p = mapped_there plan.Span (range_of job seen lo hi step) x h in range_no_fault job seen lo hi step p.0 p.1
+argument_no_fault job seen (tree.One e) x h = let p = from_option_map plan.One (term_of job seen e) x h in term_no_fault job seen e p.0 p.1
+argument_no_fault job seen (tree.Span spot lo hi step) x h = let p = from_option_map plan.Span (range_of job seen lo hi step) x h in range_no_fault job seen lo hi step p.0 p.1
 
 index_no_fault : (job : Job) (seen : List DefTree) (a : ArgTree) (t : Term) → index_of job seen a ≡ Some t → index_faults job seen a ≡ []
 index_no_fault job seen (tree.One e) t h = none_joined (expression_faults job seen e) [] (term_no_fault job seen e t h) refl
@@ -74,7 +76,7 @@ indices_no_fault job seen args ts e = none_each (index_of job seen) (index_fault
 no_range : (job : Job) (seen : List DefTree) (code : JdfCode) (a : ArgTree) (x : Arg) → argument_of job seen a ≡ Some x → is_span x ≡ false → range_faults code a ≡ []
 no_range job seen code (tree.One e) x h s = refl
 no_range job seen code (tree.Span spot lo hi step) x h s =
-    let p = mapped_there plan.Span (range_of job seen lo hi step) x h in
+    let p = from_option_map plan.Span (range_of job seen lo hi step) x h in
     let span : is_span x ≡ true = ap is_span (sym p.2) in
     absurd cc
 
@@ -83,5 +85,5 @@ no_ranges job seen code [] xs e h = refl
 no_ranges job seen code (a ∷ args) xs e h =
     let q = parts_of (λ y ys. y ∷ ys) (argument_of job seen a) (each (argument_of job seen) args) xs e in
     let none : (is_span q.0 || list_any is_span q.1) ≡ false = ap (list_any is_span) q.4 ∙ h in
-    let two = neither (is_span q.0) (list_any is_span q.1) none in
+    let two = or_parts (is_span q.0) (list_any is_span q.1) none in
     none_joined (range_faults code a) (ranges_faults code args) (no_range job seen code a q.0 q.2 two.0) (no_ranges job seen code args q.1 q.3 two.1)

@@ -1,6 +1,6 @@
 -- A target that is resolved to one which the flow may have breaks no rule.
 use Rattle.std.proofs.Common.{◌≡◌, ℕ, Bool, true, false, not, ◌&&◌, ◌==◌, cond, List, [], ◌++◌, length, Option, Some, None, option_map, option_and_then, is_none, is_some, slice_get, IsTrue, refl, sym, ◌∙◌, ap, subst, eq-eqb}
-use Rattle.std.proofs.lemmas.Bool.{eqb-true, false≢true}
+use Rattle.std.proofs.lemmas.Bool.{eqb-true, false≢true, not-true}
 use Rattle.std.specs.List.{list_all, list_any}
 use Rattle.std.specs.Option.{option_map_or}
 use Rattle.std.specs.Str.{bytes_eq}
@@ -27,8 +27,8 @@ use Rattle.check_names.specs.Alphabet.{ArgTree, Arity, ClassTree, CtlMixed, DefT
 use Rattle.check_names.specs.Faults.{fault_if}
 use Rattle.check_names.specs.Names.{Job, class_named, coll_named, flow_named}
 use Rattle.check_names.specs.Arguments.{argument_of, arguments_faults, arguments_of, index_of, indices_faults, indices_of, ranges_faults}
-use Rattle.check_names.proofs.Closed.{pair_parts, some_once}
-use Rattle.check_names.proofs.NoFaults.{mapped_there, parts_of}
+use Rattle.check_names.proofs.Closed.{pair_parts}
+use Rattle.check_names.proofs.NoFaults.{parts_of}
 use Rattle.check_names.proofs.Parts.{each_length}
 use Rattle.check_flows.specs.Kinds.{are_mixed, is_control}
 use Rattle.check_flows.specs.Datatypes.{flow_type, type_number, type_of_flow}
@@ -42,22 +42,10 @@ use Rattle.check_flows.proofs.TaskTargets.{TaskThere, task_there}
 use Rattle.check_flows.proofs.WellTargets.{IsWellTarget, allowed}
 use Rattle.flow_laws.proofs.Resolved.{arguments_no_fault, indices_no_fault, no_ranges, none_joined}
 use Rattle.flow_laws.proofs.Types.{data_type, one_name}
-
-pub first_true : (a b : Bool) → (a && b) ≡ true → a ≡ true
-first_true true b e = refl
-first_true false b e = e
-
-pub second_true : (a b : Bool) → (a && b) ≡ true → b ≡ true
-second_true true b e = e
-second_true false b e = absurd (false≢true e)
-
-not_true : (b : Bool) → not b ≡ true → b ≡ false
-not_true true e = absurd (false≢true e)
-not_true false e = refl
-
-pub and_never : (b : Bool) → (b && false) ≡ false
-and_never true = refl
-and_never false = refl
+use Rattle.std.proofs.lemmas.Option.{same_Some}
+use Rattle.list_lemmas.proofs.Options.{from_option_map}
+use Rattle.list_lemmas.proofs.Truth.{and-false}
+use Rattle.std.specs.Cmp.{first_so, second_so}
 
 -- no rule about a target is broken
 rules_kept : (job : Job) (flow : FlowTree) (inward : Bool) (t : TargetTree) → is_mixed job flow.kind t ≡ false → (not (is_control flow.kind) && type_differs job (type_of_flow flow) t) ≡ false
@@ -80,9 +68,9 @@ control_kind Ctl e = refl
 
 -- a flow of a task that may be a target is of the same sort
 in_sort : (classes : List ClassPlan) (k j : FlowKind) (n m : ℕ) (args : List Arg) → kinds.kind_of classes n m ≡ Some j → IsTrue (is_in_target classes k (plan.Task n m args)) → are_mixed k j ≡ false
-in_sort classes Read j n m args at h = control_not_data j (sym (ap kinds.is_data at) ∙ first_true (kinds.is_data (kinds.kind_of classes n m)) (not (list_any is_span args)) h)
+in_sort classes Read j n m args at h = control_not_data j (sym (ap kinds.is_data at) ∙ first_so (kinds.is_data (kinds.kind_of classes n m)) (not (list_any is_span args)) h)
 in_sort classes Write j n m args at h = absurd (false≢true h)
-in_sort classes Rw j n m args at h = control_not_data j (sym (ap kinds.is_data at) ∙ first_true (kinds.is_data (kinds.kind_of classes n m)) (not (list_any is_span args)) h)
+in_sort classes Rw j n m args at h = control_not_data j (sym (ap kinds.is_data at) ∙ first_so (kinds.is_data (kinds.kind_of classes n m)) (not (list_any is_span args)) h)
 in_sort classes Ctl j n m args at h = ap not (control_kind j (sym (ap kinds.is_control at) ∙ h))
 
 out_sort : (classes : List ClassPlan) (k j : FlowKind) (n m : ℕ) (args : List Arg) → kinds.kind_of classes n m ≡ Some j → IsTrue (is_out_target classes k (plan.Task n m args)) → are_mixed k j ≡ false
@@ -98,9 +86,9 @@ task_sort classes k j false n m args at h = out_sort classes k j n m args at h
 -- an in dependence of a tile that is only written names no task, and that of another tile no range of tasks
 task_way : (classes : List ClassPlan) (k : FlowKind) (name class : Word) (args : List ArgTree) (n m : ℕ) (ys : List Arg) → (list_any is_span ys ≡ false → ranges_faults RangeInDataInput args ≡ [])
     → IsTrue (is_in_target classes k (plan.Task n m ys)) → in_faults k (tree.Task name class args) ≡ []
-task_way classes Read name class args n m ys ranges h = ranges (not_true (list_any is_span ys) (second_true (kinds.is_data (kinds.kind_of classes n m)) (not (list_any is_span ys)) h))
+task_way classes Read name class args n m ys ranges h = ranges (not-true (list_any is_span ys) (second_so (kinds.is_data (kinds.kind_of classes n m)) (not (list_any is_span ys)) h))
 task_way classes Write name class args n m ys ranges h = absurd (false≢true h)
-task_way classes Rw name class args n m ys ranges h = ranges (not_true (list_any is_span ys) (second_true (kinds.is_data (kinds.kind_of classes n m)) (not (list_any is_span ys)) h))
+task_way classes Rw name class args n m ys ranges h = ranges (not-true (list_any is_span ys) (second_so (kinds.is_data (kinds.kind_of classes n m)) (not (list_any is_span ys)) h))
 task_way classes Ctl name class args n m ys ranges h = refl
 
 -- an element that may be a target
@@ -181,7 +169,7 @@ module _ (job : Job) (classes : List ClassPlan) (spaces : List ClassSpace) (coll
   as_many exists =
       let c = coll_there job name.text x.0 number in
       let s = parts.coll x.0 c.0 c.1 in
-      let given : has_dimensions colls x.0 (length x.1) ≡ true = first_true (has_dimensions colls x.0 (length x.1)) (list_all (is_closed (length seen)) x.1) exists in
+      let given : has_dimensions colls x.0 (length x.1) ≡ true = first_so (has_dimensions colls x.0 (length x.1)) (list_all (is_closed (length seen)) x.1) exists in
       let shaped : dimensions s.0.cols ≡ length x.1 = eqb-true (dimensions s.0.cols) (length x.1) (at_some (λ (z : Shape). dimensions z.cols == length x.1) (slice_get colls x.0) s.0 s.1 given) in
       ap (λ o. option_map_or (λ (z : Coll). dimensions z.shape.1) o 0) c.1 ∙ (sym (ap dimensions s.2.cols) ∙ (shaped ∙ each_length (index_of job seen) args x.1 indices))
 
@@ -202,7 +190,7 @@ module _ (job : Job) (classes : List ClassPlan) (spaces : List ClassSpace) (coll
     count =
         let named = is_some (kinds.flow_of classes x.0 x.1) in
         let params = has_params spaces x.0 (length ys) in
-        let given : params ≡ true = second_true named params (first_true (named && params) (list_all (is_closed_arg (length seen)) ys) well.exists) in
+        let given : params ≡ true = second_so named params (first_so (named && params) (list_all (is_closed_arg (length seen)) ys) well.exists) in
         same_params (slice_get spaces x.0) (length there.class_tree.params) (length ys) (parts.params x.0 there.class_tree there.class_is) given
         ∙ each_length (argument_of job seen) args ys closed
 
@@ -269,12 +257,12 @@ module _ (job : Job) (classes : List ClassPlan) (spaces : List ClassSpace) (coll
     element_rules =
         let sort = element_sort classes flow.kind inward x.0 x.1 well.kind in
         rules_kept job flow inward (tree.Element name args) sort
-        (ap (λ b. not (is_control flow.kind) && b) (element_type sort) ∙ and_never (not (is_control flow.kind)))
+        (ap (λ b. not (is_control flow.kind) && b) (element_type sort) ∙ and-false (not (is_control flow.kind)))
         (element_way flow.kind inward name args)
 
   element_target_fits : (inward : Bool) (name : Word) (args : List ArgTree) (t : Target) → target_of job seen (tree.Element name args) ≡ Some t → IsWell inward t → target_faults job seen flow inward (tree.Element name args) ≡ []
   element_target_fits inward name args t e well =
-      let q = mapped_there (λ (x : ℕ × List Term). plan.Element x.0 x.1) (element_of job seen name args) t e in
+      let q = from_option_map (λ (x : ℕ × List Term). plan.Element x.0 x.1) (element_of job seen name args) t e in
       let fits = subst (IsWell inward) (sym q.2) well in
       none_joined (named_faults job seen (tree.Element name args)) (rule_faults job flow inward (tree.Element name args))
       (element_fits job classes spaces colls parts seen name args q.0 q.1 fits.exists) (element_rules name args q.0 q.1 inward fits)
@@ -283,9 +271,9 @@ module _ (job : Job) (classes : List ClassPlan) (spaces : List ClassSpace) (coll
   target_fits inward (tree.Task name class args) q e well = task_fits inward name class args q e well
   target_fits inward (tree.Element name args) q e well = element_target_fits inward name args q e well
   target_fits inward (tree.New spot) q e well =
-      let fits = subst (IsWell inward) (sym (some_once plan.New q e)) well in
+      let fits = subst (IsWell inward) (sym (same_Some plan.New q e)) well in
       let sort = new_sort classes flow.kind inward fits.kind in
-      rules_kept job flow inward (tree.New spot) sort.0 (and_never (not (is_control flow.kind))) (new_way flow.kind inward spot sort.1)
+      rules_kept job flow inward (tree.New spot) sort.0 (and-false (not (is_control flow.kind))) (new_way flow.kind inward spot sort.1)
   target_fits inward (tree.Null spot) q e well =
-      let fits = subst (IsWell inward) (sym (some_once plan.Null q e)) well in
-      rules_kept job flow inward (tree.Null spot) (null_sort classes flow.kind inward fits.kind) (and_never (not (is_control flow.kind))) (null_way classes flow.kind inward spot fits.kind)
+      let fits = subst (IsWell inward) (sym (same_Some plan.Null q e)) well in
+      rules_kept job flow inward (tree.Null spot) (null_sort classes flow.kind inward fits.kind) (and-false (not (is_control flow.kind))) (null_way classes flow.kind inward spot fits.kind)

@@ -6,8 +6,8 @@ use Rattle.std.specs.Cmp.Lexicographic.{bytes_decides}
 use Rattle.std.proofs.lemmas.Iterator.Adapters.{position_from-zero}
 use Rattle.term_core.specs.declared.flow.FlowKind.{FlowKind}
 use Rattle.coll_data.specs.Data.{Data}
-use Rattle.check_names.proofs.Closed.{some_once}
-use Rattle.check_names.proofs.NoFaults.{mapped_there}
+use Rattle.std.proofs.lemmas.Option.{same_Some}
+use Rattle.list_lemmas.proofs.Options.{from_option_map}
 use Rattle.check_flows.specs.Kinds.{is_control}
 use Rattle.check_flows.specs.Datatypes.{allowed_type, default_name, type_is, type_number}
 
@@ -16,7 +16,7 @@ found_from : {A : Type 0} (p : A → Bool) (i : ℕ) (xs : List A) (n : ℕ) →
 found_from p i [] n e = absurd cc
 found_from {A} p i (x ∷ xs) n e = by (p x) refl e (found_from p (i + 1) xs n) where
   by : (b : Bool) → p x ≡ b → cond b (Some i) (position_from p (i + 1) xs) ≡ Some n → (position_from p (i + 1) xs ≡ Some n → (k : ℕ) × (y : A) × (n ≡ (i + 1) + k) × (slice_get xs k ≡ Some y) × (p y ≡ true)) → (k : ℕ) × (y : A) × (n ≡ i + k) × (slice_get (x ∷ xs) k ≡ Some y) × (p y ≡ true)
-  by true at f later = let same : i ≡ n = some_once i n f in (zero, x, omega (arith, same), refl, at)
+  by true at f later = let same : i ≡ n = same_Some i n f in (zero, x, omega (arith, same), refl, at)
   by false at f later = let q = later f in let sum = q.2 in (suc q.0, q.1, omega (arith, sum), q.3, q.4)
 
 found : {A : Type 0} (p : A → Bool) (xs : List A) (n : ℕ) → position p xs ≡ Some n → (x : A) × (slice_get xs n ≡ Some x) × (p x ≡ true)
@@ -29,7 +29,7 @@ found p xs n e =
 -- a type of the data by its number
 numbered : (d : Data) (name : List ℕ) (n : ℕ) → option_map suc (position (type_is name) d.types) ≡ Some n → (k : ℕ) × (t : List ℕ × ℕ) × (suc k ≡ n) × (slice_get d.types k ≡ Some t) × (t.0 ≡ name)
 numbered d name n e =
-    let p = mapped_there suc (position (type_is name) d.types) n e in
+    let p = from_option_map suc (position (type_is name) d.types) n e in
     let q = found (type_is name) d.types p.0 p.1 in
     (p.0, q.0, p.2, q.1, (bytes_decides q.0.0 name).0 q.2)
 
@@ -39,12 +39,12 @@ one_name d a b n e f = by (bytes_eq a default_name) (bytes_eq b default_name) re
       → cond x (Some 0) (option_map suc (position (type_is a) d.types)) ≡ Some n → cond y (Some 0) (option_map suc (position (type_is b) d.types)) ≡ Some n → a ≡ b
   by true true p q g h = (bytes_decides a default_name).0 p ∙ sym ((bytes_decides b default_name).0 q)
   by true false p q g h =
-      let first : 0 ≡ n = some_once 0 n g in
+      let first : 0 ≡ n = same_Some 0 n g in
       let s = numbered d b n h in
       let second = s.2 in
       absurd (omega (arith, first, second))
   by false true p q g h =
-      let first : 0 ≡ n = some_once 0 n h in
+      let first : 0 ≡ n = same_Some 0 n h in
       let s = numbered d a n g in
       let second = s.2 in
       absurd (omega (arith, first, second))
@@ -54,7 +54,7 @@ one_name d a b n e f = by (bytes_eq a default_name) (bytes_eq b default_name) re
       let left = s.2 in
       let right = t.2 in
       let same : s.0 ≡ t.0 = omega (arith, left, right) in
-      let one : s.1 ≡ t.1 = some_once s.1 t.1 (sym s.3 ∙ (ap (slice_get d.types) same ∙ t.3)) in
+      let one : s.1 ≡ t.1 = same_Some s.1 t.1 (sym s.3 ∙ (ap (slice_get d.types) same ∙ t.3)) in
       sym s.4 ∙ (ap (λ (z : List ℕ × ℕ). z.0) one ∙ t.4)
 
 -- the type that a flow may have, by its kind

@@ -23,9 +23,12 @@ ghost use Rattle.flow_laws.specs.Datatypes.{HasOneDatatype};
 
 /// A law: arguments, indices and expressions that are resolved have no fault.
 pub fn what_is_resolved_has_no_fault()
-    ensures arguments { (job : Job) (seen : List DefTree) (args : List ArgTree) (xs : List Arg) → arguments_of job seen args ≡ Some xs → arguments_faults job seen args ≡ [] }
-    ensures indices { (job : Job) (seen : List DefTree) (args : List ArgTree) (ts : List Term) → indices_of job seen args ≡ Some ts → indices_faults job seen args ≡ [] }
-    ensures option { (job : Job) (seen : List DefTree) (e : Option Expression) (o : Option Term) → option_term job seen e ≡ Some o → option_faults job seen e ≡ [] }
+    ensures arguments { (job : Job) (seen : List DefTree) (args : List ArgTree) (xs : List Arg)
+        → arguments_of job seen args ≡ Some xs → arguments_faults job seen args ≡ [] }
+    ensures indices { (job : Job) (seen : List DefTree) (args : List ArgTree) (ts : List Term)
+        → indices_of job seen args ≡ Some ts → indices_faults job seen args ≡ [] }
+    ensures option { (job : Job) (seen : List DefTree) (e : Option Expression) (o : Option Term)
+        → option_term job seen e ≡ Some o → option_faults job seen e ≡ [] }
 {}
 
 /// A law: types of the data with one number have one name; so those of different names have different numbers.
@@ -33,11 +36,20 @@ pub fn types_of_one_number_have_one_name()
     ensures { (d : Data) (a b : List ℕ) (n : ℕ) → type_number d a ≡ Some n → type_number d b ≡ Some n → a ≡ b }
 {}
 
-/// A law: where a plan has the parts of a job, an element that is resolved to one of the plan's has no fault. Neither has a flow
-/// that is resolved to one which the plan may have, if its dependences have one datatype; and those of a flow without a fault have
-/// one.
+/// A law: where a plan has the parts of a job, an element that is resolved to one of the plan's has no fault. Neither
+/// has a flow that is resolved to one which the plan may have, if its dependences have one datatype; and those of a
+/// flow without a fault have one.
 pub fn a_flow_that_fits_has_no_fault()
-    ensures element { (job : Job) (classes : List ClassPlan) (spaces : List ClassSpace) (colls : List Shape) → HaveParts job classes spaces colls → (seen : List DefTree) (w : Word) (args : List ArgTree) (x : ℕ × List Term) → element_of job seen w args ≡ Some x → IsTrue (is_element colls (length seen) x.0 x.1) → element_faults job seen w args ≡ [] }
-    ensures flow { (job : Job) (classes : List ClassPlan) (spaces : List ClassSpace) (colls : List Shape) → HaveParts job classes spaces colls → (seen : List DefTree) (flow : FlowTree) (p : FlowPlan) → HasOneDatatype flow → flow_plan job seen flow ≡ Some p → IsTrue (is_flow classes spaces colls (suc (length job.given.types)) (length seen) p) → flow_faults job seen flow ≡ [] }
-    ensures one_datatype { (job : Job) (seen : List DefTree) (flow : FlowTree) → flow_faults job seen flow ≡ [] → HasOneDatatype flow }
+    ensures element { (job : Job) (classes : List ClassPlan) (spaces : List ClassSpace) (colls : List Shape)
+        → HaveParts job classes spaces colls
+        → (seen : List DefTree) (w : Word) (args : List ArgTree) (x : ℕ × List Term)
+        → element_of job seen w args ≡ Some x → IsTrue (is_element colls (length seen) x.0 x.1)
+        → element_faults job seen w args ≡ [] }
+    ensures flow { (job : Job) (classes : List ClassPlan) (spaces : List ClassSpace) (colls : List Shape)
+        → HaveParts job classes spaces colls → (seen : List DefTree) (flow : FlowTree) (p : FlowPlan)
+        → HasOneDatatype flow → flow_plan job seen flow ≡ Some p
+        → IsTrue (is_flow classes spaces colls (suc (length job.given.types)) (length seen) p)
+        → flow_faults job seen flow ≡ [] }
+    ensures one_datatype { (job : Job) (seen : List DefTree) (flow : FlowTree) → flow_faults job seen flow ≡ []
+        → HasOneDatatype flow }
 {}

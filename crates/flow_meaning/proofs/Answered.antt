@@ -1,9 +1,9 @@
 -- The answer that a quiescent sound state has is that of the meaning.
-use Rattle.std.proofs.Common.{◌≡◌, ℕ, suc, ℤ, Bool, true, false, cond, eqb, List, [], ◌∷◌, ◌++◌, length, map, refl, ap, sym, ◌∙◌, subst, Option, Some, None, is_some, ◌⊎◌, inl, inr, Ok, Err, arith}
+use Rattle.std.proofs.Common.{◌≡◌, ℕ, suc, ℤ, Bool, true, false, cond, eqb, List, [], ◌∷◌, ◌++◌, length, refl, ap, sym, ◌∙◌, subst, Option, Some, None, is_some, ◌⊎◌, inl, inr, Ok, Err, arith}
 use Rattle.std.specs.Prelude.{unwrap_or}
 use Rattle.std.proofs.lemmas.Bool.{false≢true, eqb-true}
-use Rattle.std.specs.List.{filter, filter_map, cons_option, flat_map}
-use Rattle.ptg_base.specs.Lists.{HasNoRepeats, IsIn}
+use Rattle.std.specs.List.{filter_map, cons_option, flat_map}
+use Rattle.ptg_base.specs.Lists.{IsIn}
 use Rattle.ptg_base.specs.Task.{Task}
 use Rattle.ptg_base.specs.TaskOrder.{in_task_order, insert_by, task_before}
 use Rattle.ptg_base.specs.declared.place.Place.{Place}
@@ -13,15 +13,16 @@ use Rattle.ptg_base.specs.declared.edge.Item.TheVariants as item
 use Rattle.plan_core.specs.declared.plan.Plan.{Plan}
 use Rattle.coll_data.specs.declared.coll.Coll.{Coll}
 use Rattle.coll_data.specs.Data.{Data}
-use Rattle.range_space.proofs.MemberLists.{IsIn-flat_map, IsIn-map, from_flat_map}
-use Rattle.range_space.proofs.Stepping.{by_test}
+use Rattle.list_lemmas.proofs.Members.{IsIn-flat_map, from_flat_map}
+use Rattle.list_lemmas.proofs.Truth.{by_test}
+use Rattle.list_lemmas.proofs.Counts.{all_pass, weigh-one, length-filter}
+use Rattle.list_lemmas.proofs.Distinct.{one_from_map}
 use Rattle.dep_iter.specs.Tasks.{IsTask, all_tasks}
 use Rattle.dep_iter.specs.Items.{item_flow, items, write_backs, write_of}
 use Rattle.dep_iter.specs.Consistent.{IsConsistent, all_writes}
 use Rattle.dep_iter.proofs.Listing.{listed}
 use Rattle.flow_meaning.specs.declared.outcome.TrapRow.{TrapRow}
 use Rattle.flow_meaning.specs.declared.outcome.Outcome.TheVariants.{Complete, Stalled}
-use Rattle.flow_meaning.specs.Counting.{as_number, count}
 use Rattle.flow_meaning.specs.Ending.{Ended, has_outputs, output_tile}
 use Rattle.flow_meaning.specs.Backward.{ended}
 use Rattle.flow_meaning.specs.Answer.{answer, answer_by, ran, trap_rows, trapped, waiting}
@@ -30,7 +31,6 @@ use Rattle.flow_meaning.specs.Machine.{IsQuiescent, MachineState, Sent, sender}
 use Rattle.flow_meaning.specs.Sound.{IsSoundState}
 use Rattle.flow_meaning.specs.StateAnswer.{first_written, state_answer, state_answer_by, state_data}
 use Rattle.flow_meaning.specs.Table.{waiting_rows, written, written_by}
-use Rattle.flow_meaning.proofs.Counting.{all_pass, weigh-one}
 use Rattle.flow_meaning.proofs.Events.{send_member}
 use Rattle.flow_meaning.proofs.Once.{claims_members, traps_same}
 use Rattle.flow_meaning.proofs.PlaceIndex.{one_place}
@@ -139,20 +139,6 @@ module _ (P : Plan) (G : Data) (here : Place → Bool) where
     ]
   ]
 
--- of a list without repeats under f, f tells members apart
-told_apart : {A B : Type 0} (f : A → B) (xs : List A) → HasNoRepeats (map f xs) → (x y : A) → IsIn x xs → IsIn y xs → f x ≡ f y → x ≡ y
-told_apart f [] h x y i j e = absurd i
-told_apart f (z ∷ zs) h x y i j e = elim i [
-  | inl a ↦ elim j [
-    | inl b ↦ a ∙ sym b
-    | inr t ↦ absurd (h.0 (subst (λ u. IsIn u (map f zs)) (sym e ∙ ap f a) (IsIn-map f zs y t)))
-  ]
-  | inr s ↦ elim j [
-    | inl b ↦ absurd (h.0 (subst (λ u. IsIn u (map f zs)) (e ∙ ap f b) (IsIn-map f zs x s)))
-    | inr t ↦ told_apart f zs h.1 x y s t e
-  ]
-]
-
 -- data replaced by the same tiles are the same
 module _ (at bt : (Place → Bool) → Option (List ℤ)) (same : (c : ℕ) (x : Coll) (k : ℕ) → at (is_place_of c x k) ≡ bt (is_place_of c x k)) where
   tiles_same : (c : ℕ) (x : Coll) (k : ℕ) (tiles : List (List ℤ)) → replaced_tiles at c x k tiles ≡ replaced_tiles bt c x k tiles
@@ -196,13 +182,6 @@ untrapped t None e h = absurd (false≢true h)
 untrapped t (Some (Ok tiles)) e h = refl
 untrapped t (Some (Err cause)) e h = absurd cc
 
-length-filter : {A : Type 0} (test : A → Bool) (xs : List A) → length (filter test xs) ≡ count test xs
-length-filter test [] = refl
-length-filter test (x ∷ xs) =
-    by_test (test x)
-    (λ k. let e = ap (λ b. length (cond b (x ∷ filter test xs) (filter test xs))) k in omega (arith, e, ap as_number k, length-filter test xs))
-    (λ k. let e = ap (λ b. length (cond b (x ∷ filter test xs) (filter test xs))) k in omega (arith, e, ap as_number k, length-filter test xs))
-
 module _ (P : Plan) (G : Data) (con : IsConsistent P) (S : MachineState) (sound : IsSoundState P G S) (quiet : IsQuiescent P G S) where
   -- where no task traps and all run, each has outputs
   all_outputs : trapped P G ≡ [] → length (ran P G) ≡ length (all_tasks P) → (t : Task) → IsTask P t → has_outputs (ended P G t) ≡ true
@@ -238,7 +217,7 @@ module _ (P : Plan) (G : Data) (con : IsConsistent P) (S : MachineState) (sound 
         (IsIn-flat_map (write_backs P) (all_tasks P) r.0.from r.0 ((listed P r.0.from).0 job) (item_write (items P r.0.from) r.0 o.is_item), o.tile)
 
     one_write : (c : ℕ) (x : Coll) (k : ℕ) (w v : WriteBack) → IsIn w (all_writes P) → IsIn v (all_writes P) → is_place_of c x k w.place ≡ true → is_place_of c x k v.place ≡ true → w ≡ v
-    one_write c x k w v i j h g = told_apart (λ (u : WriteBack). u.place) (all_writes P) con.written_once w v i j (one_place c x k w.place v.place h g)
+    one_write c x k w v i j h g = one_from_map (λ (u : WriteBack). u.place) (all_writes P) con.written_once w v i j (one_place c x k w.place v.place h g)
 
     -- the data that was written are those of the meaning
     final_same : final_data P G ≡ state_data G S

@@ -1,7 +1,7 @@
 -- What a send changes: one more edge has come to its target, and nothing elsewhere.
 use Rattle.std.proofs.Common.{◌≡◌, ◌≢◌, ◌+◌, ◌≤◌, true, false, List, [], ◌∷◌, ◌++◌, refl, ap, sym, ◌∙◌, subst, inl, inr, nat_lt, arith, cond, None}
 use Rattle.std.proofs.lemmas.Bool.{false_from_ne_true, le-ltb, lt-ltb}
-use Rattle.std.specs.List.{filter_map, flat_map}
+use Rattle.std.specs.List.{filter_map}
 use Rattle.ptg_base.specs.Lists.{HasNoRepeats, IsIn}
 use Rattle.ptg_base.specs.Task.{Task}
 use Rattle.ptg_base.specs.declared.edge.Edge.{Edge}
@@ -10,20 +10,21 @@ use Rattle.ptg_base.specs.declared.edge.Item.{Item}
 use Rattle.ptg_base.specs.declared.edge.Item.TheVariants as item
 use Rattle.plan_core.specs.declared.plan.Plan.{Plan}
 use Rattle.coll_data.specs.Data.{Data}
-use Rattle.range_space.proofs.MemberLists.{IsIn-append_left, IsIn-flat_map, from_flat_map}
-use Rattle.range_space.proofs.Stepping.{by_test}
+use Rattle.list_lemmas.proofs.Members.{IsIn-flat_map, from_flat_map}
+use Rattle.list_lemmas.proofs.Truth.{by_test}
+use Rattle.list_lemmas.proofs.Counts.{count-some, weigh-push}
+use Rattle.list_lemmas.proofs.Distinct.{HasNoRepeats-part}
 use Rattle.dep_iter.specs.Tasks.{IsTask, all_tasks}
 use Rattle.dep_iter.specs.Edges.{in_edges}
 use Rattle.dep_iter.specs.Items.{edge_of, items, out_edges}
 use Rattle.dep_iter.specs.Consistent.{IsConsistent}
 use Rattle.dep_iter.proofs.Listing.{listed}
-use Rattle.flow_meaning.specs.Counting.{as_number, count}
+use Rattle.list_lemmas.specs.Counting.{as_number, count}
 use Rattle.flow_meaning.specs.Comparing.{same_item}
 use Rattle.flow_meaning.specs.Machine.{MachineState, MaySend, Send, Sent, arrived, is_sent, send_count, sent_with, state_after, first_tile, sent_tile, end_in}
 use Rattle.flow_meaning.specs.Ending.{output_tile}
 use Rattle.flow_meaning.specs.Sound.{IsSoundState}
 use Rattle.flow_meaning.proofs.Comparing.{same_item-decides}
-use Rattle.flow_meaning.proofs.Counting.{count-some, weigh-push}
 use Rattle.flow_meaning.proofs.Members.{in_edge_to}
 
 abbrev edge_in : Edge → Item → Edge
@@ -39,17 +40,6 @@ item_edge [] e h = absurd h
 item_edge (item.Edge d ∷ is) e h = elim h [ inl q ↦ inl (one_edge e d q) | inr t ↦ inr (item_edge is e t) ]
 item_edge (item.Write w ∷ is) e h = elim h [ inl q ↦ absurd cc | inr t ↦ item_edge is e t ]
 
--- a part of a list that is joined without repeats has none
-part_distinct : {A : Type 0} (xs ys : List A) → HasNoRepeats (xs ++ ys) → HasNoRepeats xs × HasNoRepeats ys
-part_distinct [] ys h = (tt, h)
-part_distinct (x ∷ xs) ys h = let p = part_distinct xs ys h.1 in ((λ i. h.0 (IsIn-append_left x xs ys i), p.0), p.1)
-
-joined_distinct : {A B : Type 0} (f : A → List B) (xs : List A) → HasNoRepeats (flat_map f xs) → (x : A) → IsIn x xs → HasNoRepeats (f x)
-joined_distinct f [] h x i = absurd i
-joined_distinct f (y ∷ ys) h x i =
-    let p = part_distinct (f y) (flat_map f ys) h in
-    elim i [ inl e ↦ subst (λ z. HasNoRepeats (f z)) (sym e) p.0 | inr t ↦ joined_distinct f ys p.1 x t ]
-
 -- in a consistent job an edge that is sent goes into its target
 pub sent_edge_in : (P : Plan) → IsConsistent P → (e : Edge) → IsTask P e.from → IsIn (item.Edge e) (items P e.from) → IsIn e (in_edges P e.to)
 sent_edge_in P con e job h =
@@ -58,7 +48,7 @@ sent_edge_in P con e job h =
     subst (λ t. IsIn e (in_edges P t)) (sym (in_edge_to P p.0 e p.2)) p.2
 
 edges_distinct : (P : Plan) → IsConsistent P → (t : Task) → IsTask P t → HasNoRepeats (in_edges P t)
-edges_distinct P con t job = joined_distinct (in_edges P) (all_tasks P) con.no_in_edge_twice t ((listed P t).0 job)
+edges_distinct P con t job = HasNoRepeats-part (in_edges P) (all_tasks P) con.no_in_edge_twice t ((listed P t).0 job)
 
 no_edge : (es : List Edge) (e : Edge) → (IsIn e es → ⊥) → count (λ d. same_item (item.Edge d) (item.Edge e)) es ≡ 0
 no_edge [] e h = refl

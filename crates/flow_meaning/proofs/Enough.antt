@@ -10,20 +10,18 @@ use Rattle.dep_iter.specs.Tasks.{IsTask, all_tasks}
 use Rattle.dep_iter.specs.Edges.{in_edges}
 use Rattle.dep_iter.specs.Consistent.{IsConsistent}
 use Rattle.dep_iter.proofs.Listing.{listed}
-use Rattle.flow_meaning.specs.Counting.{count, as_number}
+use Rattle.list_lemmas.specs.Counting.{count, as_number}
 use Rattle.flow_meaning.specs.Ending.{Ended, has_outputs}
 use Rattle.flow_meaning.specs.Backward.{ended, ended_after, ended_within}
-use Rattle.flow_meaning.proofs.Counting.{all_pass, count-le, one_back, one_le, weigh-tight}
-use Rattle.flow_meaning.proofs.Members.{all_at, source_is_task}
+use Rattle.list_lemmas.proofs.Counts.{all_pass, count-le, one_back, one_le, weigh-tight}
+use Rattle.list_lemmas.proofs.Members.{member_passes}
+use Rattle.list_lemmas.proofs.Options.{some_value}
+use Rattle.flow_meaning.proofs.Members.{source_is_task}
 use Rattle.flow_meaning.proofs.Rounds.{ended_after-same, has_sources}
 
 pub with_outputs : (o : Option Ended) → has_outputs o ≡ true → (v : Ended) × (o ≡ Some v)
 with_outputs None h = absurd (false≢true h)
 with_outputs (Some v) h = (v, refl)
-
-pub with_some : {A : Type 0} (o : Option A) → is_some o ≡ true → (v : A) × (o ≡ Some v)
-with_some None h = absurd (false≢true h)
-with_some (Some v) h = (v, refl)
 
 -- two answers are the same where the second has what the first has, and is there only where the first is
 same_answer : {A : Type 0} (a b : Option A) → ((v : A) → a ≡ Some v → b ≡ Some v) → (is_some b ≡ true → is_some a ≡ true) → b ≡ a
@@ -39,7 +37,7 @@ module _ (P : Plan) (G : Data) (con : IsConsistent P) where
   grows (suc n) t task v e =
       let all = has_sources P G con t task (ended_within P G n) v e in
       sym (ended_after-same P G con t task (ended_within P G n) (ended_within P G (suc n)) (λ d i.
-      let o = with_outputs (ended_within P G n d.from) (all_at (λ (d : Edge). has_outputs (ended_within P G n d.from)) (in_edges P t) all d i) in
+      let o = with_outputs (ended_within P G n d.from) (member_passes (λ (d : Edge). has_outputs (ended_within P G n d.from)) (in_edges P t) all d i) in
       o.1 ∙ sym (grows n d.from (source_is_task P con t task d i) o.0 o.1))) ∙ e
 
   pub stays : (n more : ℕ) (t : Task) → IsTask P t → (v : Ended) → ended_within P G n t ≡ Some v → ended_within P G (n + more) t ≡ Some v
@@ -63,7 +61,7 @@ module _ (P : Plan) (G : Data) (con : IsConsistent P) where
   ended_count n = count (has_ended n) (all_tasks P)
 
   ends_too : (n : ℕ) (t : Task) → IsTask P t → has_ended n t ≡ true → has_ended (suc n) t ≡ true
-  ends_too n t task e = let o = with_some (ended_within P G n t) e in ap is_some (grows n t task o.0 o.1)
+  ends_too n t task e = let o = some_value (ended_within P G n t) e in ap is_some (grows n t task o.0 o.1)
 
   no_fewer : (n : ℕ) → ended_count n ≤ ended_count (suc n)
   no_fewer n = count-le (has_ended n) (has_ended (suc n)) (all_tasks P) (λ t i. ends_too n t ((listed P t).1 i))
@@ -87,7 +85,7 @@ module _ (P : Plan) (G : Data) (con : IsConsistent P) where
 
   all_ended : (n : ℕ) → length (all_tasks P) ≤ ended_count n → IsStable n
   all_ended n m t task =
-      let o = with_some (ended_within P G n t) (all_pass (has_ended n) (all_tasks P) m t ((listed P t).0 task)) in
+      let o = some_value (ended_within P G n t) (all_pass (has_ended n) (all_tasks P) m t ((listed P t).0 task)) in
       grows n t task o.0 o.1 ∙ sym o.1
 
   stable : IsStable (length (all_tasks P))

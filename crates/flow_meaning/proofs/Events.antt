@@ -13,13 +13,14 @@ use Rattle.body_eval.specs.Meaning.{body_meaning}
 use Rattle.plan_core.specs.declared.class.ClassPlan.{ClassPlan}
 use Rattle.plan_core.specs.declared.plan.Plan.{Plan}
 use Rattle.coll_data.specs.Data.{Data}
-use Rattle.range_space.proofs.MemberLists.{IsIn-append_left, from_append}
-use Rattle.range_space.proofs.Stepping.{by_test}
+use Rattle.list_lemmas.proofs.Members.{IsIn-append_left, from_append, list_all-from_members}
+use Rattle.list_lemmas.proofs.Truth.{by_test}
+use Rattle.list_lemmas.proofs.Counts.{all_pass, count-at_most, count-le, count-some, some_passes, weigh-push}
 use Rattle.dep_iter.specs.Tasks.{IsTask, locals_of}
 use Rattle.dep_iter.specs.Edges.{goal, in_edges}
 use Rattle.dep_iter.specs.Items.{item_flow}
 use Rattle.dep_iter.specs.Consistent.{IsConsistent}
-use Rattle.flow_meaning.specs.Counting.{count, as_number}
+use Rattle.list_lemmas.specs.Counting.{count, as_number}
 use Rattle.flow_meaning.specs.Comparing.{same_item}
 use Rattle.flow_meaning.specs.Starting.{delivered_tiles, starting_tiles}
 use Rattle.flow_meaning.specs.Ending.{ended_on, has_outputs, output_tile}
@@ -27,9 +28,7 @@ use Rattle.flow_meaning.specs.Backward.{ended, has_all_sources, inputs, source_t
 use Rattle.flow_meaning.specs.Machine.{Event, Claim, Send, Happen, IsPossible, MachineState, MayClaim, MaySend, Sent, state_after, arrived, claim_count, end_in, first_tile, is_sent, opening_state, send_count, sender, sent_tile, sent_with}
 use Rattle.flow_meaning.specs.Sound.{HasAllArrived, IsOutput, IsSoundState}
 use Rattle.flow_meaning.proofs.Comparing.{same_item-decides}
-use Rattle.flow_meaning.proofs.Counting.{all_pass, count-at_most, count-le, count-some, some_passes, weigh-push}
 use Rattle.flow_meaning.proofs.Enough.{fixed}
-use Rattle.flow_meaning.proofs.Members.{all_from}
 use Rattle.flow_meaning.proofs.Rounds.{delivered_tiles-same, ended_on-same}
 use Rattle.flow_meaning.proofs.SourceEdges.{class_of}
 
@@ -95,7 +94,7 @@ module _ (P : Plan) (G : Data) (con : IsConsistent P) (S : MachineState) (sound 
     -- a task all of whose in edges were sent ends as the backward meaning says
     pub ends_so : ended P G t ≡ end_in P G S t
     ends_so =
-        let all : has_all_sources P (ended P G) t ≡ true = all_from (λ (e : Edge). has_outputs (ended P G e.from)) (in_edges P t) (λ e i. (delivers e (each_arrived P S t fed.all_arrived e i)).outputs) in
+        let all : has_all_sources P (ended P G) t ≡ true = list_all-from_members (λ (e : Edge). has_outputs (ended P G e.from)) (in_edges P t) (λ e i. (delivers e (each_arrived P S t fed.all_arrived e i)).outputs) in
         fixed P G con t fed.task
         ∙ ap (λ b. cond b (ended_on P G (source_tile (ended P G)) t) None) all
         ∙ sym (ended_on-same P G con t fed.task (sent_tile S) (source_tile (ended P G)) same_delivery)

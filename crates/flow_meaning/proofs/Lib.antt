@@ -1,4 +1,3 @@
-pub mod Counting
 pub mod Comparing
 pub mod Members
 pub mod SourceEdges
@@ -11,7 +10,6 @@ pub mod Reordering
 pub mod Reached
 pub mod Rest
 pub mod Shapes
-pub mod Counts
 pub mod Sizes
 pub mod TaskRows
 pub mod Once

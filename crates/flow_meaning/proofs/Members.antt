@@ -1,7 +1,6 @@
 -- Members of lists of items, edges and tests.
-use Rattle.std.proofs.Common.{◌≡◌, Bool, true, List, [], ◌∷◌, refl, ap, sym, ◌∙◌, subst, inl, inr}
-use Rattle.std.proofs.lemmas.Bool.{and_parts, and_from}
-use Rattle.std.specs.List.{filter_map, list_all}
+use Rattle.std.proofs.Common.{◌≡◌, List, [], ◌∷◌, ap, sym, subst, inl, inr}
+use Rattle.std.specs.List.{filter_map}
 use Rattle.ptg_base.specs.Lists.{IsIn}
 use Rattle.ptg_base.specs.Task.{Task}
 use Rattle.ptg_base.specs.declared.edge.Edge.{Edge}
@@ -12,19 +11,9 @@ use Rattle.dep_iter.specs.Tasks.{IsTask, all_tasks}
 use Rattle.dep_iter.specs.Edges.{in_edges}
 use Rattle.dep_iter.specs.Items.{edge_of, items, out_edges}
 use Rattle.dep_iter.specs.Consistent.{IsConsistent}
-use Rattle.range_space.proofs.MemberLists.{IsIn-flat_map, from_flat_map}
+use Rattle.list_lemmas.proofs.Members.{IsIn-flat_map, from_flat_map}
 use Rattle.dep_iter.proofs.Listing.{listed}
 use Rattle.dep_iter.proofs.Belonging.{in_edge_is, out_edge_is}
-
-pub all_at : {A : Type 0} (test : A → Bool) (xs : List A) → list_all test xs ≡ true → (x : A) → IsIn x xs → test x ≡ true
-all_at test [] h x i = absurd i
-all_at test (y ∷ ys) h x i =
-    let p = and_parts (test y) (list_all test ys) h in
-    elim i [ inl e ↦ ap test e ∙ p.0 | inr t ↦ all_at test ys p.1 x t ]
-
-pub all_from : {A : Type 0} (test : A → Bool) (xs : List A) → ((x : A) → IsIn x xs → test x ≡ true) → list_all test xs ≡ true
-all_from test [] h = refl
-all_from test (y ∷ ys) h = and_from (test y) (list_all test ys) (h y (inl refl)) (all_from test ys (λ x i. h x (inr i)))
 
 -- an edge out of a task is one of its items
 edge_item : (is : List Item) (e : Edge) → IsIn e (filter_map edge_of is) → IsIn (item.Edge e) is

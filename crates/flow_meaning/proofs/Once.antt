@@ -1,5 +1,5 @@
 -- No task is listed twice, and a quiescent state has claimed each task that runs once.
-use Rattle.std.proofs.Common.{◌≡◌, ℕ, zero, suc, ◌<◌, ◌≤◌, ℤ, Bool, false, cond, List, [], ◌∷◌, ◌++◌, length, map, refl, ap, sym, ◌∙◌, subst, Option, Some, None, slice_get, is_some, ◌⊎◌, inl, inr, Ok, Err, arith}
+use Rattle.std.proofs.Common.{◌≡◌, ℕ, suc, ◌≤◌, ℤ, Bool, false, cond, List, [], ◌∷◌, ◌++◌, map, refl, ap, sym, ◌∙◌, subst, Option, Some, None, slice_get, is_some, ◌⊎◌, inl, inr, Ok, Err, arith}
 use Rattle.std.proofs.lemmas.Bool.{false≢true, cases_eq}
 use Rattle.std.specs.List.{filter, flat_map}
 use Rattle.ptg_base.specs.Lists.{HasNoRepeats, IsIn}
@@ -11,44 +11,27 @@ use Rattle.term_core.specs.WellSpace.{IsWellSpace}
 use Rattle.term_core.specs.declared.space.ClassSpace.{ClassSpace}
 use Rattle.range_space.specs.Tasks.{tasks}
 use Rattle.range_space.proofs.Distinct.{distinct_tasks}
-use Rattle.range_space.proofs.MemberLists.{from_append, from_map}
-use Rattle.range_space.proofs.Stepping.{by_test}
+use Rattle.list_lemmas.proofs.Members.{from_append, from_map}
+use Rattle.list_lemmas.proofs.Truth.{by_test}
+use Rattle.list_lemmas.proofs.Counts.{count-some, weigh-append, same_counts, HasSameMembers-sym, count-filter}
+use Rattle.list_lemmas.proofs.Places.{slice_get_there}
+use Rattle.list_lemmas.proofs.Tasks.{uncounted, once_each, counted_member}
+use Rattle.std.proofs.lemmas.Option.{slice_get_within}
 use Rattle.plan_core.specs.declared.plan.Plan.{Plan}
 use Rattle.coll_data.specs.Data.{Data}
 use Rattle.dep_iter.specs.Tasks.{all_tasks, task, tasks_from}
 use Rattle.dep_iter.specs.Consistent.{IsConsistent}
 use Rattle.flow_meaning.specs.declared.outcome.TrapRow.{TrapRow}
-use Rattle.flow_meaning.specs.Counting.{HasSameMembers, as_number, count}
+use Rattle.list_lemmas.specs.Counting.{HasSameMembers, as_number, count}
 use Rattle.flow_meaning.specs.Ending.{Ended}
 use Rattle.flow_meaning.specs.Backward.{ended}
 use Rattle.flow_meaning.specs.Answer.{ran, trap_rows, trapped}
 use Rattle.flow_meaning.specs.Machine.{IsQuiescent, MachineState, claim_count, end_in}
 use Rattle.flow_meaning.specs.Sound.{IsSoundState}
 use Rattle.flow_meaning.specs.StateAnswer.{state_traps}
-use Rattle.flow_meaning.proofs.Counting.{count-some, some_passes, weigh-append}
-use Rattle.flow_meaning.proofs.Counts.{same_counts}
 use Rattle.flow_meaning.proofs.Events.{claim_member, ends_so, member_claim}
 use Rattle.flow_meaning.proofs.Quiet.{claims_are_ran}
-use Rattle.flow_meaning.proofs.Reordering.{turned}
-use Rattle.flow_meaning.proofs.SourceEdges.{at_index}
 use Rattle.flow_meaning.proofs.TaskRows.{same_rows}
-
--- a task that is counted is a member
-counted : (t : Task) (ts : List Task) → 0 < count (same_task t) ts → IsIn t ts
-counted t ts h = let p = some_passes (same_task t) ts h in subst (λ u. IsIn u ts) (sym ((same_task-decides t p.0).0 p.2)) p.1
-
-uncounted : (t : Task) (ts : List Task) → (IsIn t ts → ⊥) → count (same_task t) ts ≡ 0
-uncounted t ts h = elim (cases_eq (count (same_task t) ts) 0) [ inl z ↦ z | inr more ↦ absurd (h (counted t ts (omega (arith, more)))) ]
-
-once_each : (ts : List Task) → HasNoRepeats ts → (t : Task) → count (same_task t) ts ≤ 1
-once_each [] h t = omega arith
-once_each (s ∷ ss) h t =
-    by_test (same_task t s)
-    (λ k.
-    let same : t ≡ s = (same_task-decides t s).0 k in
-    let rest = uncounted t ss (λ i. h.0 (subst (λ u. IsIn u ss) same i)) in
-    omega (arith, ap as_number k, rest))
-    (λ k. omega (arith, ap as_number k, once_each ss h.1 t))
 
 distinct-map : (n : ℕ) (ps : List (List ℤ)) → HasNoRepeats ps → HasNoRepeats (map (task n) ps)
 distinct-map n [] h = tt
@@ -74,28 +57,16 @@ listed_once n (s ∷ ss) well t =
     elim (cases_eq (count (same_task t) (tasks_from (suc n) ss)) 0) [
       | inl none ↦ omega (arith, none)
       | inr some ↦
-          let class = later_class (suc n) ss t (counted t (tasks_from (suc n) ss) (omega (arith, some))) in
+          let class = later_class (suc n) ss t (counted_member t (tasks_from (suc n) ss) (omega (arith, some))) in
           let none = uncounted t (map (task n) (tasks s)) (λ i. let p = from_map (task n) (tasks s) t i in let e = ap (λ (u : Task). u.class) p.2 in absurd (omega arith)) in
           omega (arith, none)
     ]
-
-below_of : {A : Type 0} (xs : List A) (n : ℕ) (x : A) → slice_get xs n ≡ Some x → n < length xs
-below_of [] n x e = absurd cc
-below_of (y ∷ ys) zero x e = omega arith
-below_of (y ∷ ys) (suc n) x e = omega (arith, below_of ys n x e)
 
 -- no task of a job is listed twice
 pub tasks_once : (P : Plan) (t : Task) → count (same_task t) (all_tasks P) ≤ 1
 tasks_once P t =
     listed_once 0 P.spaces
-    (λ k s e. let c = at_index P.classes k (omega (arith, below_of P.spaces k s e, P.well_made.one_space_each)) in (P.well_made.fit k c.0 s c.1 e).space) t
-
-count-filter : {A : Type 0} (p q : A → Bool) (xs : List A) → count p (filter q xs) ≤ count p xs
-count-filter p q [] = omega arith
-count-filter p q (x ∷ xs) =
-    by_test (q x)
-    (λ k. let e = ap (λ b. count p (cond b (x ∷ filter q xs) (filter q xs))) k in omega (arith, e, count-filter p q xs))
-    (λ k. let e = ap (λ b. count p (cond b (x ∷ filter q xs) (filter q xs))) k in omega (arith, e, count-filter p q xs))
+    (λ k s e. let c = slice_get_there P.classes k (omega (arith, slice_get_within P.spaces k s e, P.well_made.one_space_each)) in (P.well_made.fit k c.0 s c.1 e).space) t
 
 flat_map-filter : {A B : Type 0} (g : A → List B) (test : A → Bool) → ((x : A) → test x ≡ false → g x ≡ []) → (xs : List A) → flat_map g xs ≡ flat_map g (filter test xs)
 flat_map-filter g test none [] = refl
@@ -143,5 +114,5 @@ module _ (P : Plan) (G : Data) (con : IsConsistent P) (S : MachineState) (sound 
       let key = λ (r : TrapRow). r.task in
       let rows : Task → List TrapRow = λ t. trap_rows t (ended P G t) in
       ap (in_task_order key) (flat_map-filter rows (λ t. is_some (ended P G t)) (λ t h. no_trap t (ended P G t) h) (all_tasks P))
-      ∙ same_rows key rows (λ t. one_trap t (ended P G t)) (ran P G) S.claims (turned S.claims (ran P G) claims_members) sound.claimed_once
+      ∙ same_rows key rows (λ t. one_trap t (ended P G t)) (ran P G) S.claims (HasSameMembers-sym S.claims (ran P G) claims_members) sound.claimed_once
       ∙ ap (in_task_order key) (flat_map-members rows (λ t. trap_rows t (end_in P G S t)) S.claims (λ t i. ap (trap_rows t) (ends_so P G con S sound t (sound.claimed_have_all t i))))

@@ -1,12 +1,13 @@
 -- An index of a tile is that of one place.
 use Rattle.std.proofs.Common.{◌≡◌, ℕ, ◌+◌, ◌*◌, ◌<◌, ℤ, pos, negsuc, Bool, true, false, cond, nat_lt, refl, ap, sym, ◌∙◌, subst, Option, Some, None, eqb, arith}
-use Rattle.std.specs.Prelude.{option_and_then, option_map}
+use Rattle.std.specs.Prelude.{option_map}
 use Rattle.std.proofs.lemmas.Bool.{false≢true, and_parts, eqb-true, ltb-true}
 use Rattle.std.proofs.lemmas.Nat.{same_from_place}
 use Rattle.ptg_base.specs.declared.place.Place.{Place}
 use Rattle.coll_data.specs.declared.coll.Coll.{Coll}
 use Rattle.coll_data.specs.Tiles.{below, tile_index}
 use Rattle.flow_meaning.specs.Final.{is_index, is_place_of}
+use Rattle.list_lemmas.proofs.Options.{from_option_and_then, from_option_map}
 
 -- what an index comes from
 pub record IsBelow (limit n : ℕ) (z : ℤ) : Type 0 where
@@ -21,31 +22,23 @@ below_is limit (pos m) n e = by (nat_lt m limit) refl e
     by false h e = absurd cc
 below_is limit (negsuc m) n e = absurd cc
 
-then_of : {A B : Type 0} (f : A → Option B) (o : Option A) (y : B) → option_and_then f o ≡ Some y → (x : A) × (o ≡ Some x) × (f x ≡ Some y)
-then_of f None y e = absurd cc
-then_of f (Some x) y e = (x, refl, e)
-
-map_of : {A B : Type 0} (f : A → B) (o : Option A) (y : B) → option_map f o ≡ Some y → (x : A) × (o ≡ Some x) × (f x ≡ y)
-map_of f None y e = absurd cc
-map_of f (Some x) y e = (x, refl, cc)
-
 index_is : (o : Option ℕ) (k : ℕ) → is_index o k ≡ true → o ≡ Some k
 index_is None k h = absurd (false≢true h)
 index_is (Some i) k h = ap (λ n. Some n) (eqb-true i k h)
 
 one_index : (rows : ℕ) (cols : Option ℕ) (i j u v : ℤ) (k : ℕ) → tile_index rows cols i j ≡ Some k → tile_index rows cols u v ≡ Some k → (i ≡ u) × (j ≡ v)
 one_index rows None i j u v k e f =
-    let p = then_of (λ (column : ℕ). below rows i) (below 1 j) k e in
-    let q = then_of (λ (column : ℕ). below rows u) (below 1 v) k f in
+    let p = from_option_and_then (λ (column : ℕ). below rows i) (below 1 j) k e in
+    let q = from_option_and_then (λ (column : ℕ). below rows u) (below 1 v) k f in
     let a = below_is 1 j p.0 p.1 in
     let b = below_is 1 v q.0 q.1 in
     let same : p.0 ≡ q.0 = omega (arith, a.within, b.within) in
     ((below_is rows i k p.2).is ∙ sym (below_is rows u k q.2).is, a.is ∙ ap pos same ∙ sym b.is)
 one_index rows (Some cols) i j u v k e f =
-    let p = then_of (λ column. option_map (λ row. row * cols + column) (below rows i)) (below cols j) k e in
-    let q = then_of (λ column. option_map (λ row. row * cols + column) (below rows u)) (below cols v) k f in
-    let r = map_of (λ row. row * cols + p.0) (below rows i) k p.2 in
-    let s = map_of (λ row. row * cols + q.0) (below rows u) k q.2 in
+    let p = from_option_and_then (λ column. option_map (λ row. row * cols + column) (below rows i)) (below cols j) k e in
+    let q = from_option_and_then (λ column. option_map (λ row. row * cols + column) (below rows u)) (below cols v) k f in
+    let r = from_option_map (λ row. row * cols + p.0) (below rows i) k p.2 in
+    let s = from_option_map (λ row. row * cols + q.0) (below rows u) k q.2 in
     let a = below_is cols j p.0 p.1 in
     let b = below_is cols v q.0 q.1 in
     let same = same_from_place r.0 p.0 s.0 q.0 cols a.within b.within (r.2 ∙ sym s.2) in

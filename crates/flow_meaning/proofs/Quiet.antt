@@ -10,39 +10,27 @@ use Rattle.ptg_base.specs.declared.edge.Item.{Item}
 use Rattle.ptg_base.specs.declared.edge.Item.TheVariants as item
 use Rattle.plan_core.specs.declared.plan.Plan.{Plan}
 use Rattle.coll_data.specs.Data.{Data}
-use Rattle.range_space.proofs.Stepping.{by_test}
+use Rattle.list_lemmas.proofs.Truth.{by_test}
+use Rattle.list_lemmas.proofs.Counts.{count-all, count-at_most}
+use Rattle.list_lemmas.proofs.Options.{some_value}
+use Rattle.list_lemmas.proofs.Members.{member_passes, IsIn-filter}
 use Rattle.dep_iter.specs.Tasks.{IsTask, all_tasks}
 use Rattle.dep_iter.specs.Edges.{goal, in_edges}
 use Rattle.dep_iter.specs.Items.{items}
 use Rattle.dep_iter.specs.Consistent.{IsConsistent}
 use Rattle.dep_iter.proofs.Listing.{listed}
 use Rattle.flow_meaning.specs.declared.outcome.WaitRow.{WaitRow}
-use Rattle.flow_meaning.specs.Counting.{count, as_number}
+use Rattle.list_lemmas.specs.Counting.{count, as_number}
 use Rattle.flow_meaning.specs.Ending.{Ended, has_outputs}
 use Rattle.flow_meaning.specs.Backward.{ended, ended_within}
 use Rattle.flow_meaning.specs.Answer.{satisfied, ran, wait_rows, waiting}
 use Rattle.flow_meaning.specs.Machine.{Claim, Send, IsQuiescent, MachineState, MayClaim, MaySend, arrived, claim_count, is_sent, sender}
 use Rattle.flow_meaning.specs.Sound.{IsSoundState}
 use Rattle.flow_meaning.specs.Table.{is_unclaimed, is_waiting, waiting_rows, waiting_tasks}
-use Rattle.flow_meaning.proofs.Counting.{count-all, count-at_most}
-use Rattle.flow_meaning.proofs.Enough.{found, with_outputs, with_some}
+use Rattle.flow_meaning.proofs.Enough.{found, with_outputs}
 use Rattle.flow_meaning.proofs.Events.{claim_member, ends_so, it_ends, member_claim, send_member, unsent}
-use Rattle.flow_meaning.proofs.Members.{all_at, in_edge_item, source_is_task}
+use Rattle.flow_meaning.proofs.Members.{in_edge_item, source_is_task}
 use Rattle.flow_meaning.proofs.Rounds.{has_sources}
-
--- members of a list that pass a test
-pub filtered : {A : Type 0} (test : A → Bool) (xs : List A) (x : A) → IsIn x (filter test xs) ↔ (IsIn x xs × (test x ≡ true))
-filtered test [] x = (λ i. absurd i, λ p. absurd p.0)
-filtered test (y ∷ ys) x =
-    by_test (test y)
-    (λ k. rw k (
-      λ i. elim i [ inl e ↦ (inl e, ap test e ∙ k) | inr t ↦ let p = (filtered test ys x).0 t in (inr p.0, p.1) ],
-      λ p. elim p.0 [ inl e ↦ inl e | inr t ↦ inr ((filtered test ys x).1 (t, p.1)) ],
-    ))
-    (λ k. rw k (
-      λ i. let p = (filtered test ys x).0 i in (inr p.0, p.1),
-      λ p. elim p.0 [ inl e ↦ absurd (false≢true (sym k ∙ ap test (sym e) ∙ p.1)) | inr t ↦ (filtered test ys x).1 (t, p.1) ],
-    ))
 
 module _ (P : Plan) (G : Data) (con : IsConsistent P) (S : MachineState) (sound : IsSoundState P G S) where
   -- a claimed task ends
@@ -76,7 +64,7 @@ module _ (P : Plan) (G : Data) (con : IsConsistent P) (S : MachineState) (sound 
         let all = has_sources P G con t task (ended_within P G n) v e in
         all_claimed t task (λ d i.
         let source = source_is_task P con t task d i in
-        let outs = all_at (λ (d : Edge). has_outputs (ended_within P G n d.from)) (in_edges P t) all d i in
+        let outs = member_passes (λ (d : Edge). has_outputs (ended_within P G n d.from)) (in_edges P t) all d i in
         let o = with_outputs (ended_within P G n d.from) outs in
         let c = ended_claimed n d.from source o.0 o.1 in
         let w = found P G con n d.from source o.0 o.1 in
@@ -84,14 +72,14 @@ module _ (P : Plan) (G : Data) (con : IsConsistent P) (S : MachineState) (sound 
 
     pub ends_claimed : (t : Task) → IsTask P t → is_some (ended P G t) ≡ true → IsIn t S.claims
     unfolding ended
-    ends_claimed t task h = let o = with_some (ended P G t) h in ended_claimed (length (all_tasks P)) t task o.0 o.1
+    ends_claimed t task h = let o = some_value (ended P G t) h in ended_claimed (length (all_tasks P)) t task o.0 o.1
 
     -- the tasks that were claimed are those that run
     pub claims_are_ran : (t : Task) → IsIn t S.claims ↔ IsIn t (ran P G)
     unfolding ran
     claims_are_ran t = (
-      λ i. (filtered (λ t. is_some (ended P G t)) (all_tasks P) t).1 ((listed P t).0 (sound.claimed_have_all t i).task, claimed_ends t i),
-      λ i. let p = (filtered (λ t. is_some (ended P G t)) (all_tasks P) t).0 i in ends_claimed t ((listed P t).1 p.0) p.1,
+      λ i. (IsIn-filter (λ t. is_some (ended P G t)) (all_tasks P) t).1 ((listed P t).0 (sound.claimed_have_all t i).task, claimed_ends t i),
+      λ i. let p = (IsIn-filter (λ t. is_some (ended P G t)) (all_tasks P) t).0 i in ends_claimed t ((listed P t).1 p.0) p.1,
     )
 
     some_outputs : (o : Option Ended) → has_outputs o ≡ true → is_some o ≡ true
@@ -157,7 +145,7 @@ module _ (P : Plan) (G : Data) (con : IsConsistent P) (S : MachineState) (sound 
     rows_at t task =
         by_test (is_some (ended P G t))
         (λ h.
-        let o = with_some (ended P G t) h in
+        let o = some_value (ended P G t) h in
         let some = member_claim S t (ends_claimed t task h) in
         let claimed : is_unclaimed S t ≡ false = ne_eqb (claim_count S t) 0 (λ z. absurd (omega (arith, z))) in
         ap (wait_rows P G t) o.1 ∙ sym (ap (λ b. cond (b && (nat_lt 0 (arrived P S t) && nat_lt (arrived P S t) (goal P t))) (row t ∷ []) []) claimed))

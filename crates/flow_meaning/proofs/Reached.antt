@@ -10,25 +10,25 @@ use Rattle.ptg_base.specs.declared.edge.Edge.{Edge}
 use Rattle.ptg_base.specs.declared.edge.Item.TheVariants as item
 use Rattle.plan_core.specs.declared.plan.Plan.{Plan}
 use Rattle.coll_data.specs.Data.{Data}
-use Rattle.range_space.proofs.MemberLists.{IsIn-append_right, from_append}
-use Rattle.range_space.proofs.Stepping.{by_test}
+use Rattle.list_lemmas.proofs.Members.{IsIn-append_right, from_append, member_passes}
+use Rattle.list_lemmas.proofs.Truth.{by_test}
+use Rattle.list_lemmas.proofs.Counts.{count-all, count-some, weigh-append, without, without-length, without-weigh, same_in}
+use Rattle.list_lemmas.proofs.Options.{some_value}
 use Rattle.dep_iter.specs.Tasks.{all_tasks}
 use Rattle.dep_iter.specs.Edges.{in_edges}
 use Rattle.dep_iter.specs.Items.{item_flow}
 use Rattle.dep_iter.specs.Consistent.{IsConsistent}
-use Rattle.flow_meaning.specs.Counting.{HasSameMembers, as_number}
+use Rattle.list_lemmas.specs.Counting.{HasSameMembers, as_number}
 use Rattle.flow_meaning.specs.Comparing.{same_item}
 use Rattle.flow_meaning.specs.Ending.{Ended, has_outputs, output_tile}
 use Rattle.flow_meaning.specs.Backward.{ended, ended_within}
 use Rattle.flow_meaning.specs.Machine.{Claim, Event, Happen, IsPossible, MachineState, MayClaim, MaySend, Send, Sent, state_after, claim_count, end_in, is_sent, opening_state, send_count, sender, sent_with, same_sent}
 use Rattle.flow_meaning.specs.Sound.{IsReached, IsSoundState}
 use Rattle.flow_meaning.proofs.Comparing.{same_item-decides}
-use Rattle.flow_meaning.proofs.Counting.{count-all, count-some, weigh-append, without, without-length, without-weigh}
-use Rattle.flow_meaning.proofs.Enough.{with_outputs, with_some}
+use Rattle.flow_meaning.proofs.Enough.{with_outputs}
 use Rattle.flow_meaning.proofs.Events.{each_arrived, ends_so, happen_sound, member_send, opening_sound, send_member, unsent}
-use Rattle.flow_meaning.proofs.Members.{all_at}
 use Rattle.flow_meaning.proofs.Quiet.{claimed_ends}
-use Rattle.flow_meaning.proofs.Reordering.{same_in, same_sent-decides}
+use Rattle.flow_meaning.proofs.Reordering.{same_sent-decides}
 use Rattle.flow_meaning.proofs.Rounds.{has_sources}
 
 -- one member fewer is left, where one more is done
@@ -109,7 +109,7 @@ module _ (P : Plan) (G : Data) (con : IsConsistent P) (S : MachineState) (sound 
               let x = send_member S (item.Edge p.0) (each_arrived P S t fed.all_arrived p.0 p.1) in
               let from : sender x.0.item ≡ p.0.from = ap sender x.2 in
               let was : IsIn p.0.from S.claims = subst (λ u. IsIn u S.claims) from (sound.sent_are_outputs x.0 x.1).claimed in
-              let o = with_outputs (ended_within P G n p.0.from) (all_at (λ (d : Edge). has_outputs (ended_within P G n d.from)) (in_edges P t) all p.0 p.1) in
+              let o = with_outputs (ended_within P G n p.0.from) (member_passes (λ (d : Edge). has_outputs (ended_within P G n d.from)) (in_edges P t) all p.0 p.1) in
               elim (claimed_or_left p.0.from was) [
                 | inl there ↦ send_next x.0 x.1 (subst (λ u. IsIn u T.claims) (sym from) there) (ap (is_sent T) x.2 ∙ p.2)
                 | inr left ↦ next_for n p.0.from left o.0 o.1
@@ -129,7 +129,7 @@ module _ (P : Plan) (G : Data) (con : IsConsistent P) (S : MachineState) (sound 
     next_claim : (t : Task) → IsIn t tasks → IsNext
     unfolding ended
     next_claim t i =
-        let o = with_some (ended P G t) (claimed_ends P G con S sound t (left_was_claimed t i)) in
+        let o = some_value (ended P G t) (claimed_ends P G con S sound t (left_was_claimed t i)) in
         next_for (length (all_tasks P)) t i o.0 o.1
 
     next_sent : tasks ≡ [] → (x : Sent) → IsIn x sends → IsNext

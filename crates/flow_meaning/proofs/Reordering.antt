@@ -1,5 +1,5 @@
 -- In whatever order tasks were claimed and items sent, the state is as sound.
-use Rattle.std.proofs.Common.{ℕ, ◌≡◌, ◌↔◌, ◌<◌, ◌≤◌, ℤ, Bool, ◌&&◌, List, refl, ap, sym, ◌∙◌, subst, Option, Some, None, IsTrue, nat_lt, arith, cond, ◌==◌, ◌||◌, [], ◌∷◌}
+use Rattle.std.proofs.Common.{ℕ, ◌≡◌, ◌↔◌, ◌≤◌, ℤ, ◌&&◌, List, refl, ap, sym, ◌∙◌, subst, Option, Some, None, IsTrue, nat_lt, arith, cond, ◌==◌, ◌||◌, [], ◌∷◌}
 use Rattle.std.proofs.lemmas.Bool.{false≢true}
 use Rattle.std.specs.Cmp.{first_so, second_so}
 use Rattle.std.specs.Cmp.Rules.{signed_items}
@@ -8,14 +8,15 @@ use Rattle.ptg_base.specs.Task.{Task}
 use Rattle.ptg_base.specs.TaskComparing.{same_task}
 use Rattle.ptg_base.specs.declared.edge.Edge.{Edge}
 use Rattle.ptg_base.specs.declared.edge.Item.{Item}
-use Rattle.range_space.proofs.Stepping.{by_test}
+use Rattle.list_lemmas.proofs.Truth.{by_test}
+use Rattle.list_lemmas.proofs.Counts.{same_in, HasSameMembers-sym}
 use Rattle.dep_iter.specs.Hints.{priority}
 use Rattle.ptg_base.specs.declared.edge.Item.TheVariants as item
 use Rattle.plan_core.specs.declared.plan.Plan.{Plan}
 use Rattle.coll_data.specs.Data.{Data}
 use Rattle.dep_iter.specs.Edges.{goal, in_edges}
 use Rattle.dep_iter.specs.Consistent.{IsConsistent}
-use Rattle.flow_meaning.specs.Counting.{HasSameMembers, count, as_number}
+use Rattle.list_lemmas.specs.Counting.{count, as_number}
 use Rattle.flow_meaning.specs.Comparing.{same_item}
 use Rattle.flow_meaning.specs.Ending.{has_outputs}
 use Rattle.flow_meaning.specs.Machine.{Claim, Event, IsPossible, IsQuiescent, MachineState, Send, Sent, arrived, claim_count, is_sent, send_count, sender, first_tile, same_sent, same_tile, sent_tile}
@@ -23,17 +24,7 @@ use Rattle.flow_meaning.specs.Starting.{Delivery, delivered_tiles}
 use Rattle.flow_meaning.specs.Table.{TableEntry, table_entry}
 use Rattle.flow_meaning.specs.Sound.{HasAllArrived, IsReordered, IsSoundState}
 use Rattle.flow_meaning.proofs.Comparing.{same_item-decides}
-use Rattle.flow_meaning.proofs.Counting.{count-some, some_passes}
 use Rattle.flow_meaning.proofs.Events.{unsent, claim_member, ends_so, member_claim, delivers}
-
--- a member of a list is one of every list with the same members
-pub same_in : {A : Type 0} (test : A → A → Bool) → ((a b : A) → IsTrue (test a b) ↔ (a ≡ b)) → (xs ys : List A) → HasSameMembers xs ys → (x : A) → IsIn x xs → IsIn x ys
-same_in test decides xs ys same x i =
-    let p = some_passes (test x) ys (subst (λ n. 0 < n) (same (λ y. as_number (test x y))) (count-some (test x) xs x i ((decides x x).1 refl))) in
-    subst (λ y. IsIn y ys) (sym ((decides x p.0).0 p.2)) p.1
-
-pub turned : {A : Type 0} (xs ys : List A) → HasSameMembers xs ys → HasSameMembers ys xs
-turned xs ys same f = sym (same f)
 
 same_tile-decides : (a b : Option (List ℤ)) → IsTrue (same_tile a b) ↔ (a ≡ b)
 same_tile-decides None None = (λ h. refl, λ e. refl)
@@ -75,7 +66,7 @@ module _ (S T : MachineState) (r : IsReordered S T) where
   claim_back t i = claim_member S t (omega (arith, member_claim T t i, claims_same t))
 
   send_back : (x : Sent) → IsIn x T.sends → IsIn x S.sends
-  send_back x i = same_in same_sent same_sent-decides T.sends S.sends (turned S.sends T.sends r.sends) x i
+  send_back x i = same_in same_sent same_sent-decides T.sends S.sends (HasSameMembers-sym S.sends T.sends r.sends) x i
 
   fed_in : (P : Plan) (t : Task) → HasAllArrived P S t → HasAllArrived P T t
   fed_in P t fed = record { task = fed.task; all_arrived = sym (arrived_same P t) ∙ fed.all_arrived }
@@ -104,7 +95,7 @@ module _ (S T : MachineState) (r : IsReordered S T) where
   reordered_quiescent P G con sound quiet e may = quiet e (possible_back P G con sound e may)
 
   pub back : IsReordered T S
-  back = record { claims = turned S.claims T.claims r.claims; sends = turned S.sends T.sends r.sends }
+  back = record { claims = HasSameMembers-sym S.claims T.claims r.claims; sends = HasSameMembers-sym S.sends T.sends r.sends }
 
 -- a tile was sent with an item alone that was sent
 first_none : (i : Item) (xs : List Sent) → count (λ (x : Sent). same_item i x.item) xs ≡ 0 → first_tile i xs ≡ None

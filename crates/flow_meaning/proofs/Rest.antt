@@ -9,8 +9,8 @@ use Rattle.plan_core.specs.declared.plan.Plan.{Plan}
 use Rattle.plan_core.specs.declared.target.Target.{Target}
 use Rattle.plan_core.specs.declared.target.Target.TheVariants as target
 use Rattle.coll_data.specs.Data.{Data}
-use Rattle.range_space.proofs.MemberLists.{from_flat_map, from_map}
-use Rattle.range_space.proofs.Stepping.{by_test}
+use Rattle.list_lemmas.proofs.Members.{from_flat_map, from_map}
+use Rattle.list_lemmas.proofs.Truth.{by_test}
 use Rattle.dep_iter.specs.Tasks.{locals_of, task}
 use Rattle.dep_iter.specs.Active.{active_outs}
 use Rattle.dep_iter.specs.Arguments.{combinations}

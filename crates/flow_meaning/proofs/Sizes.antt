@@ -1,6 +1,6 @@
 -- The tiles that tasks leave have the sizes that the types of their flows say.
-use Rattle.std.proofs.Common.{◌≡◌, ◌≢◌, ℕ, zero, suc, ◌+◌, ℤ, pos, Bool, true, false, cond, eqb, List, [], ◌∷◌, length, get_or, replicate, refl, ap, sym, ◌∙◌, subst, add-zero, Option, Some, None, slice_get, slice_index, IsSomeAnd, Ok, Err, inl, inr, arith}
-use Rattle.std.specs.Prelude.{option_map, option_and_then, map, IsSome}
+use Rattle.std.proofs.Common.{◌≡◌, ◌≢◌, ℕ, zero, suc, ◌+◌, ℤ, Bool, true, false, cond, eqb, List, [], ◌∷◌, length, get_or, refl, ap, sym, ◌∙◌, subst, add-zero, Option, Some, None, slice_get, slice_index, Ok, Err, inl, inr, arith}
+use Rattle.std.specs.Prelude.{option_map, option_and_then, map}
 use Rattle.std.specs.Option.{option_map_or}
 use Rattle.std.proofs.lemmas.Option.{slice_get-map}
 use Rattle.std.proofs.lemmas.Bool.{false≢true, and_parts, eqb-true}
@@ -30,7 +30,9 @@ use Rattle.coll_data.specs.declared.coll.Coll.{Coll}
 use Rattle.coll_data.specs.Data.{Data}
 use Rattle.coll_data.specs.Tiles.{tile_at, tile_index}
 use Rattle.coll_data.specs.WellMade.{IsWellColl, IsWellMade, elements_by_type}
-use Rattle.coll_data.proofs.Lists.{each_at}
+use Rattle.list_lemmas.proofs.Places.{each_at, length-zeros}
+use Rattle.list_lemmas.proofs.Members.{member_passes}
+use Rattle.list_lemmas.proofs.Options.{from_is_some_and, some_value}
 use Rattle.coll_data.proofs.TileIndex.{tile_exists}
 use Rattle.plan_data.specs.Fit.{DataFit, shape_of}
 use Rattle.plan_data.proofs.Places.{same_places}
@@ -45,7 +47,7 @@ use Rattle.flow_meaning.specs.Starting.{Delivery, new_tile, starting_tile, start
 use Rattle.flow_meaning.specs.Ending.{Ended, ended_on, flow_size, has_outputs, output_tile, size_from}
 use Rattle.flow_meaning.specs.Backward.{ended, ended_within, source_tile}
 use Rattle.flow_meaning.proofs.Enough.{fixed}
-use Rattle.flow_meaning.proofs.Members.{all_at, in_edge_item, source_is_task}
+use Rattle.flow_meaning.proofs.Members.{in_edge_item, source_is_task}
 use Rattle.flow_meaning.proofs.Rounds.{has_sources}
 use Rattle.flow_meaning.proofs.Shapes.{HasShape, body_shape}
 use Rattle.flow_meaning.proofs.SourceEdges.{IsHeld, class_of, passes_source, source_in, source_target}
@@ -101,10 +103,6 @@ with_tiles None h = absurd (false≢true h)
 with_tiles (Some (Err cause)) h = absurd (false≢true h)
 with_tiles (Some (Ok tiles)) h = (tiles, refl)
 
-length_zeros : (n : ℕ) → length (replicate n (pos 0)) ≡ n
-length_zeros zero = refl
-length_zeros (suc n) = ap suc (length_zeros n)
-
 coll_at : (coll : ℕ) (zs : List ℤ) → (place_at coll zs).coll ≡ coll
 coll_at coll [] = refl
 coll_at coll (z ∷ zs) = refl
@@ -151,14 +149,6 @@ module _ (P : Plan) (con : IsConsistent P) (t : Task) (job : IsTask P t) (n : �
     | inr q ↦ coll_of_place p q.0 q.1 q.2
   ]
 
-some_and : {A : Type 0} (o : Option A) (Q : A → Type 0) → IsSomeAnd o Q → (x : A) × (o ≡ Some x) × Q x
-some_and None Q h = absurd h
-some_and (Some x) Q h = (x, refl, h)
-
-is_there : {A : Type 0} (o : Option A) → IsSome o → (x : A) × (o ≡ Some x)
-is_there None h = absurd (false≢true h)
-is_there (Some x) h = (x, refl)
-
 tile_size : (elements : List ℕ) (c : Coll) → IsWellColl elements c → (index : Option ℕ) (tile : List ℤ) → option_and_then (slice_get c.tiles) index ≡ Some tile → length tile ≡ slice_index elements c.datatype
 tile_size elements c well None tile e = absurd cc
 tile_size elements c well (Some k) tile e = each_at (λ (tile : List ℤ). length tile ≡ slice_index elements c.datatype) c.tiles k tile well.tile_lengths e
@@ -167,13 +157,13 @@ tile_size elements c well (Some k) tile e = each_at (λ (tile : List ℤ). lengt
 place_size : (P : Plan) (G : Data) → DataFit P.colls P.elems G → IsWellMade G → (p : Place) (datatype : ℕ) → HasPlace P.colls p → option_map_or (λ (s : Shape). eqb s.datatype datatype) (slice_get P.colls p.coll) false ≡ true →
     option_map length (tile_at G.colls p) ≡ Some (slice_index P.elems datatype)
 place_size P G fit well p datatype exists type =
-    let c = some_and (slice_get G.colls p.coll) _ ((same_places P.colls P.elems G p fit).0 exists) in
+    let c = from_is_some_and (slice_get G.colls p.coll) _ ((same_places P.colls P.elems G p fit).0 exists) in
     let its_type : option_map_or (λ (s : Shape). eqb s.datatype datatype) (option_map shape_of (slice_get G.colls p.coll)) false ≡ true =
     subst (λ o. option_map_or (λ (s : Shape). eqb s.datatype datatype) o false ≡ true) (ap (λ cs. slice_get cs p.coll) (sym fit.collections) ∙ slice_get-map shape_of G.colls p.coll) type in
     let same : c.0.datatype ≡ datatype = eqb-true c.0.datatype datatype (subst (λ o. option_map_or (λ (s : Shape). eqb s.datatype datatype) (option_map shape_of o) false ≡ true) c.1 its_type) in
     let w : IsWellColl (elements_by_type G) c.0 = each_at (IsWellColl (elements_by_type G)) G.colls p.coll c.0 well.colls c.1 in
     let index = tile_index c.0.shape.0 c.0.shape.1 p.i p.j in
-    let tile = is_there (option_and_then (slice_get c.0.tiles) index) ((tile_exists c.0.shape.0 c.0.shape.1 p.i p.j c.0.tiles w.all_tiles).1 c.2) in
+    let tile = some_value (option_and_then (slice_get c.0.tiles) index) ((tile_exists c.0.shape.0 c.0.shape.1 p.i p.j c.0.tiles w.all_tiles).1 c.2) in
     let long : length tile.0 ≡ slice_index P.elems datatype =
     tile_size (elements_by_type G) c.0 w index tile.0 tile.1 ∙ ap (λ k. slice_index (elements_by_type G) k) same ∙ ap (λ es. slice_index es datatype) fit.elements in
     ap (λ o. option_map length (option_and_then (λ (b : Coll). option_and_then (slice_get b.tiles) (tile_index b.shape.0 b.shape.1 p.i p.j)) o)) c.1
@@ -201,14 +191,14 @@ module _ (P : Plan) (G : Data) (con : IsConsistent P) (fit : DataFit P.colls P.e
 
     unsourced_size : (kind : FlowKind) → is_data (Some kind) ≡ true → (kind ≢ Read) → (kind ≢ Rw) → option_map length (unsourced_tile kind (new_tile P f)) ≡ Some (slice_index P.elems f.datatype)
     unsourced_size Read d r w = absurd (r refl)
-    unsourced_size Write d r w = ap (λ m. Some m) (length_zeros (slice_index P.elems f.datatype))
+    unsourced_size Write d r w = ap (λ m. Some m) (length-zeros (slice_index P.elems f.datatype))
     unsourced_size Rw d r w = absurd (w refl)
     unsourced_size Ctl d r w = absurd (false≢true d)
 
     by_source : (s : Source) → data_source P t k ≡ s → ((e : Edge) → s ≡ source.Task e → has_outputs (before e.from) ≡ true) → option_map length (tile_from P G (source_tile before) f s) ≡ size_from P f s
     by_source (source.Task e) is outs = edge_size e is (outs e refl)
     by_source (source.Place p) is outs = place_size P G fit well p f.datatype ((con.connected t job).sources_exist k p is) (coll_type P con t job k f here carries p is)
-    by_source source.New is outs = ap (λ m. Some m) (length_zeros (slice_index P.elems f.datatype))
+    by_source source.New is outs = ap (λ m. Some m) (length-zeros (slice_index P.elems f.datatype))
     by_source source.Null is outs = refl
     by_source source.Nothing is outs =
         let never = (con.connected t job).inputs k f here in
@@ -244,7 +234,7 @@ module _ (P : Plan) (G : Data) (con : IsConsistent P) (fit : DataFit P.colls P.e
       let start : get_or (tiles_from P G (source_tile (ended_within P G n)) t 0 (flows_of P t)) k None ≡ starting_tile P G (source_tile (ended_within P G n)) t k f =
       start_at P G (source_tile (ended_within P G n)) t 0 (flows_of P t) k f here ∙ ap (λ m. starting_tile P G (source_tile (ended_within P G n)) t m f) (omega arith) in
       shape.sizes k ∙ ap (λ o. option_map length o) start
-      ∙ start_size (ended_within P G n) (round_sized n) t job (λ d i. all_at (λ (d : Edge). has_outputs (ended_within P G n d.from)) (in_edges P t) all d i) k f here
+      ∙ start_size (ended_within P G n) (round_sized n) t job (λ d i. member_passes (λ (d : Edge). has_outputs (ended_within P G n d.from)) (in_edges P t) all d i) k f here
 
   -- the tiles that a task leaves have the sizes of its flows
   pub ended_sized : AreSized (ended P G)

@@ -1,5 +1,5 @@
 -- Where the source of a data flow is an edge, that edge is one of those into the task.
-use Rattle.std.proofs.Common.{◌≡◌, ℕ, zero, suc, ◌+◌, ◌<◌, ℤ, pos, Bool, true, false, not, cond, is_some, ◌&&◌, ◌||◌, List, [], ◌∷◌, ◌++◌, length, map, refl, ap, sym, ◌∙◌, subst, add-zero, Option, Some, None, slice_get, IsSomeAnd, Result, Ok, Err, is_ok, ◌⊎◌, inl, inr, arith}
+use Rattle.std.proofs.Common.{◌≡◌, ℕ, zero, suc, ◌+◌, ℤ, pos, Bool, true, false, not, cond, is_some, ◌&&◌, ◌||◌, List, [], ◌∷◌, ◌++◌, length, map, refl, ap, sym, ◌∙◌, subst, add-zero, Option, Some, None, slice_get, IsSomeAnd, Result, Ok, Err, is_ok, ◌⊎◌, inl, inr, arith}
 use Rattle.std.proofs.lemmas.Bool.{false≢true, and_parts}
 use Rattle.std.specs.Prelude.{option_map}
 use Rattle.std.specs.Result.{result_unwrap_or}
@@ -16,7 +16,8 @@ use Rattle.term_core.specs.declared.space.ClassSpace.{ClassSpace}
 use Rattle.range_space.specs.declared.fault.SpanFault.{SpanFault}
 use Rattle.range_space.specs.declared.fault.SpanFault.TheVariants.{Expr}
 use Rattle.range_space.specs.Tasks.{or_empty}
-use Rattle.range_space.proofs.MemberLists.{IsIn-append_left, IsIn-append_right, IsIn-flat_map, IsIn-map, from_append}
+use Rattle.list_lemmas.proofs.Members.{IsIn-append_left, IsIn-append_right, IsIn-flat_map, IsIn-map, from_append, member_passes}
+use Rattle.list_lemmas.proofs.Places.{slice_get_there, slice_get_below, IsIn-slice_get}
 use Rattle.plan_core.specs.declared.class.ClassPlan.{ClassPlan}
 use Rattle.plan_core.specs.declared.flow.DepPlan.{DepPlan}
 use Rattle.plan_core.specs.declared.flow.FlowPlan.{FlowPlan}
@@ -37,7 +38,6 @@ use Rattle.dep_iter.specs.Edges.{data_source, edge, edges_into, in_edges, source
 use Rattle.dep_iter.specs.Well.{IsWellTask, are_well, first_ill_flow, has_arg, has_arguments, has_hints, ill_part, ill_part_of, is_well_flow, is_well_then}
 use Rattle.dep_iter.specs.Links.{flow_targets, link, links_to}
 use Rattle.dep_iter.proofs.Belonging.{in_edge_is, link_in}
-use Rattle.flow_meaning.proofs.Members.{all_at}
 
 -- an argument that is no range and has a value has that one
 abbrev listed_number : Result ℤ ExprFault → Result (List ℤ) SpanFault
@@ -161,30 +161,15 @@ pub record HasClass (P : Plan) (t : Task) : Type 0 where
   pub class_is : slice_get P.classes t.class ≡ Some class
   pub space_is : slice_get P.spaces t.class ≡ Some space
 
-below_length : {A : Type 0} (xs : List A) (n : ℕ) (Q : A → Type 0) → IsSomeAnd (slice_get xs n) Q → n < length xs
-below_length [] n Q h = absurd h
-below_length (x ∷ xs) zero Q h = omega arith
-below_length (x ∷ xs) (suc n) Q h = omega (arith, below_length xs n Q h)
-
-pub at_index : {A : Type 0} (xs : List A) (n : ℕ) → n < length xs → (x : A) × (slice_get xs n ≡ Some x)
-at_index [] n h = absurd (omega arith)
-at_index (x ∷ xs) zero h = (x, refl)
-at_index (x ∷ xs) (suc n) h = at_index xs n (omega arith)
-
 pub class_of : (P : Plan) (t : Task) → IsTask P t → HasClass P t
 class_of P t task =
-    let n = below_length P.spaces t.class _ task in
-    let s = at_index P.spaces t.class n in
-    let c = at_index P.classes t.class (omega (arith, n, P.well_made.one_space_each)) in
+    let n = slice_get_below P.spaces t.class _ task in
+    let s = slice_get_there P.spaces t.class n in
+    let c = slice_get_there P.classes t.class (omega (arith, n, P.well_made.one_space_each)) in
     record { class = c.0; space = s.0; class_is = c.1; space_is = s.1 }
 
 flows_are : (P : Plan) (t : Task) (c : ClassPlan) → slice_get P.classes t.class ≡ Some c → flows_of P t ≡ c.flows
 flows_are P t c e = ap (λ o. option_map_or (λ (c : ClassPlan). c.flows) o []) e
-
-is_in_at : {A : Type 0} (xs : List A) (n : ℕ) (x : A) → slice_get xs n ≡ Some x → IsIn x xs
-is_in_at [] n x e = absurd cc
-is_in_at (y ∷ ys) zero x e = inl cc
-is_in_at (y ∷ ys) (suc n) x e = inr (is_in_at ys n x e)
 
 -- what an active in dependence of a data flow stands for
 module _ (P : Plan) (t : Task) (task_of_job : IsTask P t) (well : IsWellTask P t) (n : ℕ) (f : FlowPlan) (here : slice_get (flows_of P t) n ≡ Some f) (carries : is_data (Some f.kind) ≡ true) where
@@ -201,10 +186,10 @@ module _ (P : Plan) (t : Task) (task_of_job : IsTask P t) (well : IsWellTask P t
       let h = class_of P t task_of_job in
       let w = P.well_made.fit t.class h.class h.space h.class_is h.space_is in
       let locals = length h.space.defs in
-      let flow = all_at (is_flow P.classes P.spaces P.colls (length P.elems) locals) h.class.flows w.flows f (is_in_at h.class.flows n f (rw (flows_are P t h.class h.class_is) at here)) in
+      let flow = member_passes (is_flow P.classes P.spaces P.colls (length P.elems) locals) h.class.flows w.flows f (IsIn-slice_get h.class.flows n f (rw (flows_are P t h.class h.class_is) at here)) in
       let ins = (and_parts _ _ (and_parts _ _ flow).0).1 in
       let source = is_source P.classes P.spaces P.colls locals f in
-      passing locals source held.dependence held.by x (all_at (is_dependence locals source) f.ins ins held.dependence held.among) held.target
+      passing locals source held.dependence held.by x (member_passes (is_dependence locals source) f.ins ins held.dependence held.among) held.target
 
   may_hold : (x : Target) → IsHeld (locals_of P t) f.ins x → is_in_target P.classes f.kind x ≡ true
   may_hold x held = (and_parts _ _ (passes_source x held)).1

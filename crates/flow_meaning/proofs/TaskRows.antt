@@ -8,18 +8,11 @@ use Rattle.ptg_base.specs.Lists.{IsIn}
 use Rattle.ptg_base.specs.Task.{Task}
 use Rattle.ptg_base.specs.TaskOrder.{in_task_order, insert_by, task_before}
 use Rattle.ptg_base.specs.TaskComparing.{ComparesInTaskOrder, same_task, task_cmp}
-use Rattle.ptg_base.specs.TaskLaws.{same_task-decides, task_cmp-compares, task_cmp-total}
-use Rattle.range_space.proofs.Stepping.{by_test}
-use Rattle.flow_meaning.specs.Counting.{HasSameMembers, as_number, count}
-use Rattle.flow_meaning.proofs.Counting.{count-some, without, without-weigh}
-use Rattle.flow_meaning.proofs.Reordering.{same_in}
-
--- what a comparison answers, and which task is before the other
-less_of : (a b : Task) → task_before a b ≡ true → task_cmp a b ≡ Less
-less_of a b h = (task_cmp-compares a b).before.1 h
-
-before_of : (a b : Task) → task_cmp a b ≡ Less → task_before a b ≡ true
-before_of a b h = (task_cmp-compares a b).before.0 h
+use Rattle.ptg_base.specs.TaskLaws.{same_task-decides, task_cmp-compares}
+use Rattle.list_lemmas.proofs.Truth.{by_test}
+use Rattle.list_lemmas.proofs.Counts.{count-some, without, without-weigh, same_in}
+use Rattle.list_lemmas.proofs.Tasks.{before_trans}
+use Rattle.list_lemmas.specs.Counting.{HasSameMembers, as_number, count}
 
 -- of two different tasks one is before the other, and not the other way round
 before_other : (a b : Task) → a ≢ b → task_before a b ≡ not (task_before b a)
@@ -29,9 +22,6 @@ before_other a b ne = by (task_cmp a b) (task_cmp-compares a b)
     by Less c = c.before.0 refl ∙ sym (ap not (false_from_ne_true (task_before b a) (λ h. let k = c.after.1 h in absurd cc)))
     by Equal c = absurd (ne (c.same.0 refl))
     by Greater c = false_from_ne_true (task_before a b) (λ h. let k = c.before.1 h in absurd cc) ∙ sym (ap not (c.after.0 refl))
-
-before_trans : (a b c : Task) → task_before a b ≡ true → task_before b c ≡ true → task_before a c ≡ true
-before_trans a b c h k = before_of a c (task_cmp-total.trans a b c (less_of a b h) (less_of b c k))
 
 module _ {A : Type 0} (key : A → Task) where
   insert_past : (x z : A) (zs : List A) → task_before (key z) (key x) ≡ true → insert_by key x (z ∷ zs) ≡ z ∷ insert_by key x zs

@@ -1,4 +1,5 @@
--- The answer of a job: all tasks that trap; else the final data, where all tasks run; else the stall, with the discovered tasks that wait. Source: this project's own choice.
+-- The answer of a job: all tasks that trap; else the final data, where all tasks run; else the stall, with the
+-- discovered tasks that wait. Source: this project's own choice.
 use Rattle.std.specs.Prelude.{ℕ, nat_lt, ◌==◌, List, [], ◌∷◌, length, filter, flat_map, Ok, Err, Option, Some, None, is_some, if◌then◌else◌}
 use Rattle.ptg_base.specs.Task.{Task}
 use Rattle.ptg_base.specs.TaskOrder.{in_task_order}
@@ -11,7 +12,7 @@ use Rattle.flow_meaning.specs.declared.outcome.TrapRow.{TrapRow}
 use Rattle.flow_meaning.specs.declared.outcome.WaitRow.{WaitRow}
 use Rattle.flow_meaning.specs.declared.outcome.Outcome.{Outcome}
 use Rattle.flow_meaning.specs.declared.outcome.Outcome.TheVariants.{Complete, Trapped, Stalled}
-use Rattle.flow_meaning.specs.Counting.{count}
+use Rattle.list_lemmas.specs.Counting.{count}
 use Rattle.flow_meaning.specs.Ending.{Ended, has_outputs}
 use Rattle.flow_meaning.specs.Backward.{ended}
 use Rattle.flow_meaning.specs.Final.{final_data}

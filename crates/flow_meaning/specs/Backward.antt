@@ -1,4 +1,5 @@
--- What a task computes, backward from the edges into it: no state, no order, no counter. Source: DAGuE (Parallel Computing, 2012): a task runs on what its sources gave.
+-- What a task computes, backward from the edges into it: no state, no order, no counter. Source: DAGuE (Parallel
+-- Computing, 2012): a task runs on what its sources gave.
 use Rattle.std.specs.Prelude.{ℕ, zero, suc, List, length, Bool, Option, None, if◌then◌else◌}
 use Rattle.std.specs.List.{list_all}
 use Rattle.ptg_base.specs.Task.{Task}

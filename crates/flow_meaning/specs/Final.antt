@@ -1,4 +1,6 @@
--- The data after a run of all tasks: each place that a task writes back to has the tile that the task leaves in the flow of the write-back, each other place its opening tile. Source: the JDF documentation; that a write-back changes nothing that a task reads is this project's own choice.
+-- The data after a run of all tasks: each place that a task writes back to has the tile that the task leaves in the
+-- flow of the write-back, each other place its opening tile. Source: the JDF documentation; that a write-back changes
+-- nothing that a task reads is this project's own choice.
 use Rattle.std.specs.Prelude.{ℕ, suc, ℤ, Bool, false, ◌==◌, ◌&&◌, List, [], ◌∷◌, Option, Some, None, unwrap_or, if◌then◌else◌}
 use Rattle.ptg_base.specs.declared.place.Place.{Place}
 use Rattle.ptg_base.specs.declared.edge.WriteBack.{WriteBack}
@@ -23,12 +25,14 @@ is_place_of c x k p = p.coll == c && is_index (tile_index x.shape.0 x.shape.1 p.
 abbrev pub written_tile : Plan → Data → WriteBack → Option (List ℤ)
 written_tile P G w = output_tile (ended P G w.from) w.flow
 
--- the tile that the first of these write-backs to a place brings; `here` says of a place whether it is the one at hand. In a consistent job there is at most one, and it brings a tile
+-- the tile that the first of these write-backs to a place brings; `here` says of a place whether it is the one at hand.
+-- In a consistent job there is at most one, and it brings a tile
 abbrev pub written_to : Plan → Data → (Place → Bool) → List WriteBack → Option (List ℤ)
 written_to P G here [] = None
 written_to P G here (w ∷ ws) = if here w.place then written_tile P G w else written_to P G here ws
 
--- the tiles of the collection x, whose number is c, from index k on, each replaced by what was written to its place, if something was
+-- the tiles of the collection x, whose number is c, from index k on, each replaced by what was written to its place, if
+-- something was
 abbrev pub replaced_tiles : ((Place → Bool) → Option (List ℤ)) → ℕ → Coll → ℕ → List (List ℤ) → List (List ℤ)
 replaced_tiles at c x k [] = []
 replaced_tiles at c x k (tile ∷ tiles) = unwrap_or (at (is_place_of c x k)) tile ∷ replaced_tiles at c x (suc k) tiles

@@ -1,4 +1,3 @@
-pub mod Counting
 pub mod Comparing
 pub mod Starting
 pub mod Ending

@@ -1,4 +1,6 @@
--- The event machine of a job: tasks are claimed and items are sent, in any order in which each event is possible. Source: DAGuE (Parallel Computing, 2012): a task may run once all its dependences have come, and then satisfies those of its successors.
+-- The event machine of a job: tasks are claimed and items are sent, in any order in which each event is possible.
+-- Source: DAGuE (Parallel Computing, 2012): a task may run once all its dependences have come, and then satisfies those
+-- of its successors.
 use Rattle.std.specs.Prelude.{◌≡◌, ℕ, ℤ, nat_lt, List, [], ◌∷◌, ◌++◌, Bool, IsTrue, Option, None, if◌then◌else◌, Some, true, false, ◌&&◌}
 use Rattle.std.specs.Ordering.{int_eq}
 use Rattle.std.specs.Cmp.Lexicographic.{pointwise}
@@ -12,7 +14,7 @@ use Rattle.coll_data.specs.Data.{Data}
 use Rattle.dep_iter.specs.Tasks.{IsTask}
 use Rattle.dep_iter.specs.Edges.{in_edges, goal}
 use Rattle.dep_iter.specs.Items.{items, item_flow}
-use Rattle.flow_meaning.specs.Counting.{count}
+use Rattle.list_lemmas.specs.Counting.{count}
 use Rattle.flow_meaning.specs.Comparing.{same_item}
 use Rattle.flow_meaning.specs.Starting.{Delivery}
 use Rattle.flow_meaning.specs.Ending.{Ended, has_outputs, output_tile, ended_on}
@@ -33,7 +35,8 @@ same_tile (Some x) (Some y) = pointwise int_eq x y
 abbrev pub same_sent : Sent → Sent → Bool
 same_sent a b = same_item a.item b.item && same_tile a.tile b.tile
 
--- what has happened: the tasks that were claimed, and the items that were sent. An event adds to a list at its end. No law reads the order of a list, but the one that claims are a legal order
+-- what has happened: the tasks that were claimed, and the items that were sent. An event adds to a list at its end. No
+-- law reads the order of a list, but the one that claims are a legal order
 pub record MachineState : Type 0 where
   pub claims : List Task
   pub sends : List Sent
@@ -86,7 +89,8 @@ pub record MayClaim (P : Plan) (S : MachineState) (t : Task) : Type 0 where
   pub unclaimed : claim_count S t ≡ 0
   pub all_arrived : arrived P S t ≡ goal P t
 
--- an item may be sent that was not, once its task was claimed, if the body of the task has outputs on the tiles that were sent to it
+-- an item may be sent that was not, once its task was claimed, if the body of the task has outputs on the tiles that
+-- were sent to it
 pub record MaySend (P : Plan) (G : Data) (S : MachineState) (i : Item) : Type 0 where
   pub unsent : send_count S i ≡ 0
   pub claimed : IsIn (sender i) S.claims

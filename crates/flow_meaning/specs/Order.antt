@@ -1,4 +1,5 @@
--- Legal orders of tasks: those in which each task comes after the sources of the edges into it. Source: the usual topological order, of a set of tasks that has all sources of its members.
+-- Legal orders of tasks: those in which each task comes after the sources of the edges into it. Source: the usual
+-- topological order, of a set of tasks that has all sources of its members.
 use Rattle.std.specs.Prelude.{List, [], ◌∷◌, ◌++◌}
 use Rattle.ptg_base.specs.Lists.{IsIn}
 use Rattle.ptg_base.specs.Task.{Task}

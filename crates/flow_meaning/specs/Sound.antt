@@ -1,4 +1,5 @@
--- Sound states of the event machine: what is claimed may run, and what is sent is what the backward meaning says. Source: this project's own choice.
+-- Sound states of the event machine: what is claimed may run, and what is sent is what the backward meaning says.
+-- Source: this project's own choice.
 use Rattle.std.specs.Prelude.{◌≡◌, ◌≤◌, ◌⊎◌, List, IsTrue, IsFalse}
 use Rattle.ptg_base.specs.Lists.{IsIn}
 use Rattle.ptg_base.specs.Task.{Task}
@@ -8,7 +9,7 @@ use Rattle.coll_data.specs.Data.{Data}
 use Rattle.dep_iter.specs.Tasks.{IsTask}
 use Rattle.dep_iter.specs.Edges.{goal}
 use Rattle.dep_iter.specs.Items.{items, item_flow}
-use Rattle.flow_meaning.specs.Counting.{HasSameMembers}
+use Rattle.list_lemmas.specs.Counting.{HasSameMembers}
 use Rattle.flow_meaning.specs.Ending.{has_outputs, output_tile}
 use Rattle.flow_meaning.specs.Backward.{ended}
 use Rattle.flow_meaning.specs.Machine.{Event, Happen, MachineState, MayClaim, Sent, arrived, claim_count, is_sent, opening_state, send_count, sender}
@@ -18,7 +19,8 @@ pub record HasAllArrived (P : Plan) (S : MachineState) (t : Task) : Type 0 where
   pub task : IsTask P t
   pub all_arrived : arrived P S t ≡ goal P t
 
--- an item of a claimed task that has outputs by the backward meaning, sent with the tile that the task leaves in the flow of the item
+-- an item of a claimed task that has outputs by the backward meaning, sent with the tile that the task leaves in the
+-- flow of the item
 pub record IsOutput (P : Plan) (G : Data) (S : MachineState) (x : Sent) : Type 0 where
   pub claimed : IsIn (sender x.item) S.claims
   pub is_item : IsIn x.item (items P (sender x.item))

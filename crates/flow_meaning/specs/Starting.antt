@@ -1,4 +1,6 @@
--- The tiles that a task starts on, by flow, where it is known what the edges into it deliver. Source: DAGuE (Parallel Computing, 2012): a task runs on what its sources gave; PaRSEC (2013) for `NEW`; that a new tile is zeros, and that a WRITE flow without a source starts as new, is this project's own choice.
+-- The tiles that a task starts on, by flow, where it is known what the edges into it deliver. Source: DAGuE (Parallel
+-- Computing, 2012): a task runs on what its sources gave; PaRSEC (2013) for `NEW`; that a new tile is zeros, and that a
+-- WRITE flow without a source starts as new, is this project's own choice.
 use Rattle.std.specs.Prelude.{ℕ, suc, ℤ, pos, List, [], ◌∷◌, ◌++◌, map, replicate, slice_index, Option, Some, None, option_to_list, if◌then◌else◌}
 use Rattle.ptg_base.specs.Task.{Task}
 use Rattle.ptg_base.specs.declared.edge.Edge.{Edge}
@@ -22,14 +24,16 @@ Delivery = Edge → Option (List ℤ)
 abbrev pub new_tile : Plan → FlowPlan → List ℤ
 new_tile P f = replicate (slice_index P.elems f.datatype) (pos 0)
 
--- the tile of a flow of this kind that has no source: a WRITE flow starts as new. In a consistent job every READ and RW flow has a source
+-- the tile of a flow of this kind that has no source: a WRITE flow starts as new. In a consistent job every READ and RW
+-- flow has a source
 abbrev pub unsourced_tile : FlowKind → List ℤ → Option (List ℤ)
 unsourced_tile Read new = None
 unsourced_tile Write new = Some new
 unsourced_tile Rw new = None
 unsourced_tile Ctl new = None
 
--- the tile that a source gives a flow: what the edge delivers, the element as the data give it, or a new tile; `NULL` gives none
+-- the tile that a source gives a flow: what the edge delivers, the element as the data give it, or a new tile; `NULL`
+-- gives none
 abbrev pub tile_from : Plan → Data → Delivery → FlowPlan → Source → Option (List ℤ)
 tile_from P G delivered f (source.Task e) = delivered e
 tile_from P G delivered f (source.Place p) = tile_at G.colls p
@@ -39,7 +43,8 @@ tile_from P G delivered f source.Nothing = unsourced_tile f.kind (new_tile P f)
 
 -- the tile that flow n of a task starts on; a CTL flow has none
 abbrev pub starting_tile : Plan → Data → Delivery → Task → ℕ → FlowPlan → Option (List ℤ)
-starting_tile P G delivered t n f = if is_data (Some f.kind) then tile_from P G delivered f (data_source P t n) else None
+starting_tile P G delivered t n f =
+    if is_data (Some f.kind) then tile_from P G delivered f (data_source P t n) else None
 
 -- the tiles that these flows of a task start on, which are numbered from n on
 abbrev pub tiles_from : Plan → Data → Delivery → Task → ℕ → List FlowPlan → List (Option (List ℤ))

@@ -1,4 +1,5 @@
--- The answer of a job as a quiescent state of the event machine has it: by how the claimed tasks end, what was written back and which tasks wait. Source: this project's own choice.
+-- The answer of a job as a quiescent state of the event machine has it: by how the claimed tasks end, what was written
+-- back and which tasks wait. Source: this project's own choice.
 use Rattle.std.specs.Prelude.{ℤ, ◌==◌, List, [], ◌∷◌, length, flat_map, Bool, Option, None, if◌then◌else◌}
 use Rattle.ptg_base.specs.TaskOrder.{in_task_order}
 use Rattle.ptg_base.specs.declared.place.Place.{Place}

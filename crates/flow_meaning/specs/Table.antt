@@ -1,4 +1,6 @@
--- What a table of dependences holds in a state of the event machine: the tasks that are ready, those that wait, and what was written back. Source: DAGuE (Parallel Computing, 2012), where an entry counts the dependences that have come.
+-- What a table of dependences holds in a state of the event machine: the tasks that are ready, those that wait, and
+-- what was written back. Source: DAGuE (Parallel Computing, 2012), where an entry counts the dependences that have
+-- come.
 use Rattle.std.specs.Prelude.{ℕ, ℤ, nat_lt, ◌==◌, List, map, filter, filter_map, Bool, ◌&&◌, ◌||◌, Option, Some, None, if◌then◌else◌}
 use Rattle.ptg_base.specs.Task.{Task}
 use Rattle.ptg_base.specs.TaskOrder.{in_task_order}
@@ -13,7 +15,8 @@ use Rattle.flow_meaning.specs.declared.outcome.WaitRow.{WaitRow}
 use Rattle.flow_meaning.specs.Starting.{FlowTile, delivered_tiles}
 use Rattle.flow_meaning.specs.Machine.{Sent, MachineState, claim_count, arrived, sent_tile}
 
--- what a table holds of a task that is not claimed: the number of edges into it, how many of them were sent, its priority, and the tiles that were sent to it, in order of flow number
+-- what a table holds of a task that is not claimed: the number of edges into it, how many of them were sent, its
+-- priority, and the tiles that were sent to it, in order of flow number
 pub record TableEntry : Type 0 where
   pub goal : ℕ
   pub arrived : ℕ
@@ -21,7 +24,13 @@ pub record TableEntry : Type 0 where
   pub tiles : List FlowTile
 
 abbrev pub entry_of : Plan → MachineState → Task → TableEntry
-entry_of P S t = record { goal = goal P t; arrived = arrived P S t; priority = priority P t; tiles = delivered_tiles P (sent_tile S) t }
+entry_of P S t =
+    record {
+      goal = goal P t;
+      arrived = arrived P S t;
+      priority = priority P t;
+      tiles = delivered_tiles P (sent_tile S) t;
+    }
 
 abbrev pub is_unclaimed : MachineState → Task → Bool
 is_unclaimed S t = claim_count S t == 0

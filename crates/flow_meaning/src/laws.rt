@@ -21,28 +21,42 @@ ghost use Rattle.dep_iter.specs.Consistent.{IsConsistent};
 ghost use Rattle.flow_meaning.specs.Ending.{Ended, flow_size, has_outputs, output_tile};
 ghost use Rattle.flow_meaning.specs.Backward.{ended, ended_after, ended_within};
 
-/// A law: in a well task, an edge that is the source of a data flow is one of those into the task, and it is the only one into
-/// its flow.
+/// A law: in a well task, an edge that is the source of a data flow is one of those into the task, and it is the only
+/// one into its flow.
 pub fn the_source_of_a_flow_is_the_edge_into_it()
-    ensures among { (P : Plan) (t : Task) (n : ℕ) (f : FlowPlan) (e : Edge) → IsTask P t → IsWellTask P t → slice_get (flows_of P t) n ≡ Some f → IsTrue (is_data (Some f.kind)) → data_source P t n ≡ source.Task e → IsIn e (in_edges P t) × (e.in_flow ≡ n) }
-    ensures only { (P : Plan) (t : Task) (n : ℕ) (f : FlowPlan) (e : Edge) → IsTask P t → IsWellTask P t → slice_get (flows_of P t) n ≡ Some f → IsTrue (is_data (Some f.kind)) → IsIn e (in_edges P t) → e.in_flow ≡ n → data_source P t n ≡ source.Task e }
+    ensures among { (P : Plan) (t : Task) (n : ℕ) (f : FlowPlan) (e : Edge) → IsTask P t → IsWellTask P t
+        → slice_get (flows_of P t) n ≡ Some f → IsTrue (is_data (Some f.kind)) → data_source P t n ≡ source.Task e
+        → IsIn e (in_edges P t) × (e.in_flow ≡ n) }
+    ensures only { (P : Plan) (t : Task) (n : ℕ) (f : FlowPlan) (e : Edge) → IsTask P t → IsWellTask P t
+        → slice_get (flows_of P t) n ≡ Some f → IsTrue (is_data (Some f.kind)) → IsIn e (in_edges P t) → e.in_flow ≡ n
+        → data_source P t n ≡ source.Task e }
 {}
 
 /// A law: what a round finds stays so in later rounds, so no task ends in two ways.
 pub fn what_a_round_finds_stays()
-    ensures stays { (P : Plan) (G : Data) (n more : ℕ) (t : Task) (end : Ended) → IsConsistent P → IsTask P t → ended_within P G n t ≡ Some end → ended_within P G (n + more) t ≡ Some end }
-    ensures found { (P : Plan) (G : Data) (n : ℕ) (t : Task) (end : Ended) → IsConsistent P → IsTask P t → ended_within P G n t ≡ Some end → ended P G t ≡ Some end }
+    ensures stays { (P : Plan) (G : Data) (n more : ℕ) (t : Task) (end : Ended) → IsConsistent P → IsTask P t
+        → ended_within P G n t ≡ Some end → ended_within P G (n + more) t ≡ Some end }
+    ensures found { (P : Plan) (G : Data) (n : ℕ) (t : Task) (end : Ended) → IsConsistent P → IsTask P t
+        → ended_within P G n t ≡ Some end → ended P G t ≡ Some end }
 {}
 
 /// A law: as many rounds as there are tasks are enough. How a task ends is determined by how its sources end.
 pub fn a_task_ends_by_its_sources()
-    ensures { (P : Plan) (G : Data) (t : Task) → IsConsistent P → IsTask P t → ended P G t ≡ ended_after P G (ended P G) t }
+    ensures { (P : Plan) (G : Data) (t : Task) → IsConsistent P → IsTask P t
+        → ended P G t ≡ ended_after P G (ended P G) t }
 {}
 
 /// A law: the tiles that a task leaves are as many as it has flows, and each has as many numbers as its flow's type has
 /// elements. A CTL flow has none, and neither has a flow whose source is `NULL`; each item of a data flow has one.
 pub fn tiles_have_the_sizes_of_their_flows()
-    ensures places { (P : Plan) (G : Data) (t : Task) (tiles : List (Option (List ℤ))) → IsConsistent P → DataFit P.colls P.elems G → IsWellMade G → IsTask P t → ended P G t ≡ Some (Ok tiles) → length tiles ≡ length (flows_of P t) }
-    ensures sizes { (P : Plan) (G : Data) (t : Task) (tiles : List (Option (List ℤ))) (n : ℕ) (f : FlowPlan) → IsConsistent P → DataFit P.colls P.elems G → IsWellMade G → IsTask P t → ended P G t ≡ Some (Ok tiles) → slice_get (flows_of P t) n ≡ Some f → size_of tiles n ≡ flow_size P t n f }
-    ensures sent { (P : Plan) (G : Data) (t : Task) (i : Item) (f : FlowPlan) → IsConsistent P → DataFit P.colls P.elems G → IsWellMade G → IsTask P t → IsTrue (has_outputs (ended P G t)) → IsIn i (items P t) → slice_get (flows_of P t) (item_flow i) ≡ Some f → IsTrue (is_data (Some f.kind)) → option_map length (output_tile (ended P G t) (item_flow i)) ≡ Some (slice_index P.elems f.datatype) }
+    ensures places { (P : Plan) (G : Data) (t : Task) (tiles : List (Option (List ℤ))) → IsConsistent P
+        → DataFit P.colls P.elems G → IsWellMade G → IsTask P t → ended P G t ≡ Some (Ok tiles)
+        → length tiles ≡ length (flows_of P t) }
+    ensures sizes { (P : Plan) (G : Data) (t : Task) (tiles : List (Option (List ℤ))) (n : ℕ) (f : FlowPlan)
+        → IsConsistent P → DataFit P.colls P.elems G → IsWellMade G → IsTask P t → ended P G t ≡ Some (Ok tiles)
+        → slice_get (flows_of P t) n ≡ Some f → size_of tiles n ≡ flow_size P t n f }
+    ensures sent { (P : Plan) (G : Data) (t : Task) (i : Item) (f : FlowPlan) → IsConsistent P
+        → DataFit P.colls P.elems G → IsWellMade G → IsTask P t → IsTrue (has_outputs (ended P G t))
+        → IsIn i (items P t) → slice_get (flows_of P t) (item_flow i) ≡ Some f → IsTrue (is_data (Some f.kind))
+        → option_map length (output_tile (ended P G t) (item_flow i)) ≡ Some (slice_index P.elems f.datatype) }
 {}

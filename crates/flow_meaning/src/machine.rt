@@ -13,7 +13,7 @@ ghost use Rattle.coll_data.specs.Data.{Data};
 ghost use Rattle.dep_iter.specs.Tasks.{IsTask};
 ghost use Rattle.dep_iter.specs.Items.{items};
 ghost use Rattle.dep_iter.specs.Consistent.{IsConsistent};
-ghost use Rattle.flow_meaning.specs.Counting.{HasSameMembers, HaveSameCounts};
+ghost use Rattle.list_lemmas.specs.Counting.{HasSameMembers, HaveSameCounts};
 ghost use Rattle.flow_meaning.specs.Starting.{delivered_tiles};
 ghost use Rattle.flow_meaning.specs.Ending.{has_outputs, output_tile};
 ghost use Rattle.flow_meaning.specs.Backward.{ended, inputs};
@@ -28,8 +28,10 @@ ghost use Rattle.flow_meaning.specs.Order.{IsLegalOrder};
 /// claimed twice, and no item is sent twice.
 pub fn events_keep_states_sound()
     ensures opening { (P : Plan) (G : Data) → IsSoundState P G opening_state }
-    ensures event { (P : Plan) (G : Data) (S : MachineState) (e : Event) → IsConsistent P → IsSoundState P G S → IsPossible P G S e → IsSoundState P G (state_after P G S e) }
-    ensures events { (P : Plan) (G : Data) (es : List Event) (S T : MachineState) → IsConsistent P → IsSoundState P G S → Happen P G es S T → IsSoundState P G T }
+    ensures event { (P : Plan) (G : Data) (S : MachineState) (e : Event) → IsConsistent P → IsSoundState P G S
+        → IsPossible P G S e → IsSoundState P G (state_after P G S e) }
+    ensures events { (P : Plan) (G : Data) (es : List Event) (S T : MachineState) → IsConsistent P → IsSoundState P G S
+        → Happen P G es S T → IsSoundState P G T }
 {}
 
 /// A law: every sound state is reached by some list of events, up to the order of its two lists.
@@ -42,56 +44,79 @@ pub fn nothing_is_undone()
     ensures { (P : Plan) (G : Data) (es : List Event) (S T : MachineState) → Happen P G es S T → IsLater S T }
 {}
 
-/// A law: in a sound state, the tiles that were sent to a task are its inputs once all edges into it were sent, and so for
-/// every claimed task. On these the task ends as the backward meaning says.
+/// A law: in a sound state, the tiles that were sent to a task are its inputs once all edges into it were sent, and so
+/// for every claimed task. On these the task ends as the backward meaning says.
 pub fn tasks_have_their_inputs()
-    ensures inputs { (P : Plan) (G : Data) (S : MachineState) (t : Task) → IsConsistent P → IsSoundState P G S → HasAllArrived P S t → delivered_tiles P (sent_tile S) t ≡ inputs P G t }
-    ensures end { (P : Plan) (G : Data) (S : MachineState) (t : Task) → IsConsistent P → IsSoundState P G S → HasAllArrived P S t → ended P G t ≡ end_in P G S t }
-    ensures runs { (P : Plan) (G : Data) (S : MachineState) (t : Task) → IsConsistent P → IsSoundState P G S → HasAllArrived P S t → IsSome (ended P G t) }
+    ensures inputs { (P : Plan) (G : Data) (S : MachineState) (t : Task) → IsConsistent P → IsSoundState P G S
+        → HasAllArrived P S t → delivered_tiles P (sent_tile S) t ≡ inputs P G t }
+    ensures end { (P : Plan) (G : Data) (S : MachineState) (t : Task) → IsConsistent P → IsSoundState P G S
+        → HasAllArrived P S t → ended P G t ≡ end_in P G S t }
+    ensures runs { (P : Plan) (G : Data) (S : MachineState) (t : Task) → IsConsistent P → IsSoundState P G S
+        → HasAllArrived P S t → IsSome (ended P G t) }
 {}
 
-/// A law: a send of an edge is one more arrival at the edge's target, and changes the arrivals of no other task; a send of a
-/// write-back changes none. The edge delivers what its task leaves in its flow, and other edges deliver what they did.
+/// A law: a send of an edge is one more arrival at the edge's target, and changes the arrivals of no other task; a send
+/// of a write-back changes none. The edge delivers what its task leaves in its flow, and other edges deliver what they
+/// did.
 pub fn an_edge_arrives_at_its_target()
-    ensures target { (P : Plan) (G : Data) (S : MachineState) (e : Edge) → IsConsistent P → IsSoundState P G S → MaySend P G S (item.Edge e) → arrived P (state_after P G S (Send (item.Edge e))) e.to ≡ arrived P S e.to + 1 }
-    ensures others { (P : Plan) (G : Data) (S : MachineState) (e : Edge) (t : Task) → IsConsistent P → IsSoundState P G S → MaySend P G S (item.Edge e) → t ≢ e.to → arrived P (state_after P G S (Send (item.Edge e))) t ≡ arrived P S t }
-    ensures writes { (P : Plan) (G : Data) (S : MachineState) (w : WriteBack) (t : Task) → IsConsistent P → IsSoundState P G S → MaySend P G S (item.Write w) → arrived P (state_after P G S (Send (item.Write w))) t ≡ arrived P S t }
-    ensures tile { (P : Plan) (G : Data) (S : MachineState) (e : Edge) → MaySend P G S (item.Edge e) → sent_tile (state_after P G S (Send (item.Edge e))) e ≡ output_tile (end_in P G S e.from) e.out_flow }
-    ensures tiles { (P : Plan) (G : Data) (S : MachineState) (i : Item) (d : Edge) → i ≢ item.Edge d → sent_tile (state_after P G S (Send i)) d ≡ sent_tile S d }
+    ensures target { (P : Plan) (G : Data) (S : MachineState) (e : Edge) → IsConsistent P → IsSoundState P G S
+        → MaySend P G S (item.Edge e) → arrived P (state_after P G S (Send (item.Edge e))) e.to ≡ arrived P S e.to + 1 }
+    ensures others { (P : Plan) (G : Data) (S : MachineState) (e : Edge) (t : Task) → IsConsistent P
+        → IsSoundState P G S → MaySend P G S (item.Edge e) → t ≢ e.to
+        → arrived P (state_after P G S (Send (item.Edge e))) t ≡ arrived P S t }
+    ensures writes { (P : Plan) (G : Data) (S : MachineState) (w : WriteBack) (t : Task) → IsConsistent P
+        → IsSoundState P G S → MaySend P G S (item.Write w)
+        → arrived P (state_after P G S (Send (item.Write w))) t ≡ arrived P S t }
+    ensures tile { (P : Plan) (G : Data) (S : MachineState) (e : Edge) → MaySend P G S (item.Edge e)
+        → sent_tile (state_after P G S (Send (item.Edge e))) e ≡ output_tile (end_in P G S e.from) e.out_flow }
+    ensures tiles { (P : Plan) (G : Data) (S : MachineState) (i : Item) (d : Edge) → i ≢ item.Edge d
+        → sent_tile (state_after P G S (Send i)) d ≡ sent_tile S d }
 {}
 
 /// A law: the tasks in the order in which they were claimed are a legal order.
 pub fn claims_are_a_legal_order()
-    ensures { (P : Plan) (G : Data) (es : List Event) (S : MachineState) → IsConsistent P → Happen P G es opening_state S → IsLegalOrder P S.claims }
+    ensures { (P : Plan) (G : Data) (es : List Event) (S : MachineState) → IsConsistent P
+        → Happen P G es opening_state S → IsLegalOrder P S.claims }
 {}
 
 /// A law: a sound state is quiescent exactly where no task may be claimed and each claimed task does no more.
 pub fn quiescent_states_are_at_rest()
-    ensures { (P : Plan) (G : Data) (S : MachineState) → IsConsistent P → IsSoundState P G S → IsQuiescent P G S ↔ IsAtRest P G S }
+    ensures { (P : Plan) (G : Data) (S : MachineState) → IsConsistent P → IsSoundState P G S
+        → IsQuiescent P G S ↔ IsAtRest P G S }
 {}
 
-/// A law: in a quiescent sound state, the tasks that were claimed are those that run, each once; the items that were sent are
-/// those of the tasks that have outputs; the tasks that wait and those that trap are those of the backward meaning, and so is
-/// the answer.
+/// A law: in a quiescent sound state, the tasks that were claimed are those that run, each once; the items that were
+/// sent are those of the tasks that have outputs; the tasks that wait and those that trap are those of the backward
+/// meaning, and so is the answer.
 pub fn a_quiescent_state_has_the_meaning()
-    ensures claims { (P : Plan) (G : Data) (S : MachineState) → IsConsistent P → IsSoundState P G S → IsQuiescent P G S → HasSameMembers S.claims (ran P G) }
-    ensures sends { (P : Plan) (G : Data) (S : MachineState) (i : Item) → IsConsistent P → IsSoundState P G S → IsQuiescent P G S → IsTask P (sender i) → IsTrue (is_sent S i) ↔ (IsIn i (items P (sender i)) × IsTrue (has_outputs (ended P G (sender i)))) }
-    ensures waits { (P : Plan) (G : Data) (S : MachineState) → IsConsistent P → IsSoundState P G S → IsQuiescent P G S → waiting P G ≡ waiting_rows P S }
-    ensures traps { (P : Plan) (G : Data) (S : MachineState) → IsConsistent P → IsSoundState P G S → IsQuiescent P G S → trapped P G ≡ state_traps P G S }
-    ensures answer { (P : Plan) (G : Data) (S : MachineState) → IsConsistent P → IsSoundState P G S → IsQuiescent P G S → answer P G ≡ state_answer P G S }
+    ensures claims { (P : Plan) (G : Data) (S : MachineState) → IsConsistent P → IsSoundState P G S → IsQuiescent P G S
+        → HasSameMembers S.claims (ran P G) }
+    ensures sends { (P : Plan) (G : Data) (S : MachineState) (i : Item) → IsConsistent P → IsSoundState P G S
+        → IsQuiescent P G S → IsTask P (sender i)
+        → IsTrue (is_sent S i) ↔ (IsIn i (items P (sender i)) × IsTrue (has_outputs (ended P G (sender i)))) }
+    ensures waits { (P : Plan) (G : Data) (S : MachineState) → IsConsistent P → IsSoundState P G S → IsQuiescent P G S
+        → waiting P G ≡ waiting_rows P S }
+    ensures traps { (P : Plan) (G : Data) (S : MachineState) → IsConsistent P → IsSoundState P G S → IsQuiescent P G S
+        → trapped P G ≡ state_traps P G S }
+    ensures answer { (P : Plan) (G : Data) (S : MachineState) → IsConsistent P → IsSoundState P G S → IsQuiescent P G S
+        → answer P G ≡ state_answer P G S }
 {}
 
-/// A law: in whatever order tasks were claimed and items sent, the state is as sound, the same events are possible, and a
-/// table holds the same.
+/// A law: in whatever order tasks were claimed and items sent, the state is as sound, the same events are possible, and
+/// a table holds the same.
 pub fn order_does_not_matter()
-    ensures sound { (P : Plan) (G : Data) (S T : MachineState) → IsSoundState P G S → IsReordered S T → IsSoundState P G T }
-    ensures possible { (P : Plan) (G : Data) (S T : MachineState) (e : Event) → IsConsistent P → IsSoundState P G S → IsReordered S T → IsPossible P G S e → IsPossible P G T e }
-    ensures quiescent { (P : Plan) (G : Data) (S T : MachineState) → IsConsistent P → IsSoundState P G S → IsReordered S T → IsQuiescent P G S → IsQuiescent P G T }
-    ensures table { (P : Plan) (G : Data) (S T : MachineState) (t : Task) → IsConsistent P → IsSoundState P G S → IsReordered S T → table_entry P S t ≡ table_entry P T t }
+    ensures sound { (P : Plan) (G : Data) (S T : MachineState) → IsSoundState P G S → IsReordered S T
+        → IsSoundState P G T }
+    ensures possible { (P : Plan) (G : Data) (S T : MachineState) (e : Event) → IsConsistent P → IsSoundState P G S
+        → IsReordered S T → IsPossible P G S e → IsPossible P G T e }
+    ensures quiescent { (P : Plan) (G : Data) (S T : MachineState) → IsConsistent P → IsSoundState P G S
+        → IsReordered S T → IsQuiescent P G S → IsQuiescent P G T }
+    ensures table { (P : Plan) (G : Data) (S T : MachineState) (t : Task) → IsConsistent P → IsSoundState P G S
+        → IsReordered S T → table_entry P S t ≡ table_entry P T t }
 {}
 
-/// A law: lists of tasks have the same members, each as often, exactly where each task occurs equally often in both; likewise
-/// lists of what was sent.
+/// A law: lists of tasks have the same members, each as often, exactly where each task occurs equally often in both;
+/// likewise lists of what was sent.
 pub fn the_same_members_are_the_same_counts()
     ensures claims { (xs ys : List Task) → HasSameMembers xs ys ↔ HaveSameCounts same_task xs ys }
     ensures sends { (xs ys : List Sent) → HasSameMembers xs ys ↔ HaveSameCounts same_sent xs ys }

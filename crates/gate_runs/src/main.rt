@@ -1,6 +1,6 @@
 //! Runs jobs through the program with gates that wait, count or note, and prints how each run ends. Two bodies at once
-//! show that there are two threads, a count of the bodies of each task that each is run once, and the notes of the tasks
-//! of one worker that `trace` prints them in their order.
+//! show that there are two threads, a count of the bodies of each task that each is run once, and the notes of the
+//! tasks of one worker that `trace` prints them in their order.
 #![tactic(auto)]
 
 mod counting;

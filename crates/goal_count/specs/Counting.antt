@@ -1,4 +1,5 @@
--- How many edges go into a task, by its dependences: the product of the counts of the arguments for each target of a task.
+-- How many edges go into a task, by its dependences: the product of the counts of the arguments for each target of a
+-- task.
 use Rattle.std.specs.Prelude.{ℕ, ℤ, List, Bool, length, sum_by}
 use Rattle.plan_core.specs.declared.flow.DepPlan.{DepPlan}
 use Rattle.plan_core.specs.declared.flow.FlowPlan.{FlowPlan}

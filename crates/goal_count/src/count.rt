@@ -41,7 +41,8 @@ fn arg_count(arg: &Arg, env: &[i64]) -> u128
     }
 }
 
-// How many combinations the values of these arguments have: their product, which is known to be small though its factors may be large.
+// How many combinations the values of these arguments have: their product, which is known to be small though its
+// factors may be large.
 fn combination_count(args: &[Arg], env: &[i64]) -> u128
     requires well { IsTrue (list_all (has_arg env.now) args.now) }
     requires at_most { length (combinations args.now env.now) ≤ 4000000 }

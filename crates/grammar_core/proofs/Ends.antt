@@ -1,4 +1,5 @@
--- Where all of the tokens were read as a text, a token after them is never a syntax fault: reading continues with it, or ends before it.
+-- Where all of the tokens were read as a text, a token after them is never a syntax fault: reading continues with it,
+-- or ends before it.
 use Rattle.std.proofs.Common.{◌≡◌, ℕ, zero, suc, ◌-◌, ◌<◌, ◌≤◌, Bool, true, false, cond, List, [], ◌∷◌, ◌++◌, length, Ok, Err, refl, ◌⊎◌, inl, inr, sym, ap, ◌∙◌, append_assoc, arith, subst}
 use Rattle.std.specs.Prelude.{Option, Some, None, not}
 use Rattle.std.proofs.lemmas.Bool.{and_parts, and_from, not-true, both_ways, cases_order}
@@ -12,13 +13,14 @@ use Rattle.grammar_core.specs.Production.{Production, one_of, checked, seq, map,
 use Rattle.grammar_core.specs.Reading.{◌>>=◌, Read, FaultFromEnd, refuse, check, may_be_empty, first, starts, picks, token_at, many_at, nonterminal_at, reading}
 use Rattle.grammar_core.specs.Predictive.{Claims, alone, both_first, is_limit, are_limits, is_fine, has_plain, are_names}
 use Rattle.grammar_core.proofs.Sets.{starts_into}
-use Rattle.grammar_core.proofs.ReadCases.{bind_ok, bind_err, chosen, ok_is, no_ok, token_ok, refuse_ok, refuse_err, check_err, judge_ok, judge_err}
+use Rattle.grammar_core.proofs.ReadCases.{bind_ok, bind_err, ok_is, no_ok, token_ok, refuse_ok, refuse_err, check_err, judge_ok, judge_err}
 use Rattle.grammar_core.proofs.Begins.{surely_begins, seconds}
 use Rattle.grammar_core.proofs.Fuel.{nonterminal_is, nonterminal_shrinks, run_shrinks, many_is}
 use Rattle.grammar_core.proofs.Passes.{FaultsWithin, Passes, passes, safe_true}
 use Rattle.grammar_core.proofs.Sound.{SameHead, Sound}
 use Rattle.grammar_core.proofs.SoundLimits.{front}
 use Rattle.grammar_core.proofs.Whole.{LimitsOnly, sound}
+use Rattle.list_lemmas.proofs.Truth.{chosen}
 
 abbrev failed : {A : Type 0} → FaultFromEnd → Read A
 failed n = Err n

@@ -8,7 +8,8 @@ use Rattle.grammar_core.specs.Terminals.{Terminal}
 use Rattle.grammar_core.specs.Terminals.{terminal_of}
 use Rattle.grammar_core.specs.Production.{Production, one_of, checked, seq, map, alt, opt, star, pick, after_token, limited}
 use Rattle.grammar_core.specs.Reading.{◌>>=◌, Read, FaultFromEnd, refuse, check, judge, may_be_empty, first, starts, picks, token_at, many_at, run, nonterminal_within, nonterminal_at}
-use Rattle.grammar_core.proofs.ReadCases.{bind_ok, chosen, ok_is, token_ok, refuse_ok, check_ok, judge_ok}
+use Rattle.grammar_core.proofs.ReadCases.{bind_ok, ok_is, token_ok, refuse_ok, check_ok, judge_ok}
+use Rattle.list_lemmas.proofs.Truth.{chosen}
 
 -- reading leaves no more tokens than there were
 abbrev pub Shrinks : {A : Type 0} → (List Token → Read A) → Type 0

@@ -10,10 +10,11 @@ use Rattle.grammar_core.specs.Terminals.{terminal_of, terminal_count, some_is, a
 use Rattle.grammar_core.specs.Production.{Production, one_of, checked, seq, map, alt, opt, star, pick, after_token, limited}
 use Rattle.grammar_core.specs.Reading.{◌>>=◌, Read, FaultFromEnd, refuse, check, may_be_empty, first, starts, picks, token_at, many_at, run}
 use Rattle.grammar_core.specs.Predictive.{Claims, continuing, is_fine, is_none, is_limit, are_limits, is_safe}
-use Rattle.grammar_core.proofs.ReadCases.{bind_ok, bind_err, chosen, ok_is, no_ok, token_ok, token_err, refuse_ok, refuse_err, check_err, judge_ok, judge_err}
+use Rattle.grammar_core.proofs.ReadCases.{bind_ok, bind_err, ok_is, no_ok, token_ok, token_err, refuse_ok, refuse_err, check_err, judge_ok, judge_err}
 use Rattle.grammar_core.proofs.Sets.{starts_disjoint}
 use Rattle.grammar_core.proofs.Begins.{stop_left, stop_right, and_if_stop, and_if_cases, start_cases}
 use Rattle.grammar_core.proofs.Fuel.{Shrinks, many_shrinks, run_shrinks, many_is}
+use Rattle.list_lemmas.proofs.Truth.{chosen}
 
 -- a fault is not before the tokens that are read
 abbrev pub FaultsWithin : {A : Type 0} → (List Token → Read A) → Type 0

@@ -7,6 +7,7 @@ use Rattle.std.specs.Prelude.{Option, Some, None, ◌-◌, nat_lt}
 use Rattle.grammar_core.specs.Terminals.{Terminal}
 use Rattle.grammar_core.specs.Terminals.{terminal_of}
 use Rattle.grammar_core.specs.Reading.{◌>>=◌, Read, FaultFromEnd, starts, token_at, refuse, check, judge}
+use Rattle.list_lemmas.proofs.Truth.{chosen}
 
 pub bind_ok : {A B : Type 0} (r : Result A FaultFromEnd) (f : A → Result B FaultFromEnd) (y : B) → (r >>= f) ≡ Ok y → (x : A) × (r ≡ Ok x) × (f x ≡ Ok y)
 bind_ok (Ok x) f y e = (x, refl, e)
@@ -15,10 +16,6 @@ bind_ok (Err d) f y e = absurd cc
 pub bind_err : {A B : Type 0} (r : Result A FaultFromEnd) (f : A → Result B FaultFromEnd) (n : FaultFromEnd) → (r >>= f) ≡ Err n → (r ≡ Err n) ⊎ ((x : A) × (r ≡ Ok x) × (f x ≡ Err n))
 bind_err (Ok x) f n e = inr (x, refl, e)
 bind_err (Err d) f n e = inl cc
-
-pub chosen : {A : Type 0} (b : Bool) (x y z : A) → cond b x y ≡ z → ((b ≡ true) × (x ≡ z)) ⊎ ((b ≡ false) × (y ≡ z))
-chosen true x y z e = inl (refl, e)
-chosen false x y z e = inr (refl, e)
 
 abbrev pub done : {A : Type 0} → A → Result A FaultFromEnd
 done x = Ok x

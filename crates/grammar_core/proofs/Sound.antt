@@ -1,4 +1,5 @@
--- What it is to read a language soundly: what is read is derived so, a fault has a completion up to it, and neither depends on more than the next token.
+-- What it is to read a language soundly: what is read is derived so, a fault has a completion up to it, and neither
+-- depends on more than the next token.
 use Rattle.std.proofs.Common.{◌≡◌, ◌≢◌, ℕ, ◌+◌, ◌≤◌, Bool, List, [], ◌∷◌, ◌++◌, length, Ok, Err, refl, ap, ◌∙◌, length-append, arith}
 use Rattle.std.specs.Prelude.{Some, None}
 use Rattle.grammar_core.specs.Terminals.{Terminal}
@@ -41,12 +42,14 @@ pub record Extends (rest more : List Token) : Type 0 where
   pub rest_is : rest ≡ head ∷ rest_tail
   pub more_is : more ≡ head ∷ more_tail
 
--- After w tokens reading met the code c: a fault of a limit is the first one of the text, and before Syntax there is no fault.
+-- After w tokens reading met the code c: a fault of a limit is the first one of the text, and before Syntax there is no
+-- fault.
 pub record Late (c : Code) (w : ℕ) (o : Fault) : Type 0 where
   pub from : IsFrom w o
   pub exact : c ≢ Syntax → o ≡ Some (w, c)
 
--- Reading met a fault after the tokens `word`: the tokens `more` complete these to a text, and reading depends on the next token alone.
+-- Reading met a fault after the tokens `word`: the tokens `more` complete these to a text, and reading depends on the
+-- next token alone.
 pub record Faulted {A : Type 0} (G : Language A) (p : List Token → Read A) (s : List Token) (n : FaultFromEnd) : Type 0 where
   pub word : List Token
   pub rest : List Token

@@ -7,9 +7,10 @@ use Rattle.grammar_core.specs.declared.token.Token.{Token}
 use Rattle.grammar_core.specs.Terminals.{terminal_of}
 use Rattle.grammar_core.specs.Production.{Language, Maybe}
 use Rattle.grammar_core.specs.Reading.{◌>>=◌, Read, FaultFromEnd, starts, picks}
-use Rattle.grammar_core.proofs.ReadCases.{bind_ok, bind_err, chosen, ok_is, no_ok}
+use Rattle.grammar_core.proofs.ReadCases.{bind_ok, bind_err, ok_is, no_ok}
 use Rattle.grammar_core.proofs.Passes.{Passes}
 use Rattle.grammar_core.proofs.Sound.{Accepted, Faulted, SameHead, Sound, same_head_after, starts_same}
+use Rattle.list_lemmas.proofs.Truth.{chosen}
 
 -- ---- a choice by the next token
 

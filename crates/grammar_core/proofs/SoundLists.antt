@@ -7,11 +7,12 @@ use Rattle.grammar_core.specs.declared.code.Code.{Code}
 use Rattle.grammar_core.specs.declared.code.Code.TheVariants.{Syntax}
 use Rattle.grammar_core.specs.Production.{Language, Fault, then_fault, or_fault, at_start, taken, Many}
 use Rattle.grammar_core.specs.Reading.{◌>>=◌, Read, FaultFromEnd, refuse, starts, many_at}
-use Rattle.grammar_core.proofs.ReadCases.{bind_ok, bind_err, chosen, ok_is, no_ok, refuse_ok, refuse_err}
+use Rattle.grammar_core.proofs.ReadCases.{bind_ok, bind_err, ok_is, no_ok, refuse_ok, refuse_err}
 use Rattle.grammar_core.proofs.Fuel.{Consumes, many_is}
 use Rattle.grammar_core.proofs.Passes.{Passes}
 use Rattle.grammar_core.proofs.Sound.{Accepted, Faulted, Late, SameHead, Sound, first_is, late_after, late_here, late_then, same_head_after, second_is, starts_same, taken_is}
 use Rattle.grammar_core.proofs.SoundChoices.{starts_along}
+use Rattle.list_lemmas.proofs.Truth.{chosen}
 
 -- some text that begins with this token
 record Led {A : Type 0} (G : Language A) (x : Token) : Type 0 where

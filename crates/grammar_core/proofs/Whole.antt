@@ -12,7 +12,7 @@ use Rattle.grammar_core.specs.Reading.{FaultFromEnd, may_be_empty, first, starts
 use Rattle.grammar_core.specs.Predictive.{Claims, continuing, is_limit, are_limits, is_fine, has_plain, are_names}
 pub use Rattle.grammar_core.specs.Predictive.{LimitsOnly}
 use Rattle.grammar_core.proofs.Sets.{starts_into, starts_within}
-use Rattle.grammar_core.proofs.ReadCases.{bind_ok, bind_err, chosen, ok_is, no_ok}
+use Rattle.grammar_core.proofs.ReadCases.{bind_ok, bind_err, ok_is, no_ok}
 use Rattle.grammar_core.proofs.Begins.{surely_begins}
 use Rattle.grammar_core.proofs.Fuel.{within_shrinks, within_is_stable, nonterminal_is, nonterminal_shrinks, run_shrinks}
 use Rattle.grammar_core.proofs.Passes.{FaultsWithin, run_faults}
@@ -20,6 +20,7 @@ use Rattle.grammar_core.proofs.Only.{only, outcome, Fits, fits}
 use Rattle.grammar_core.proofs.Sound.{SameHead, Faulted, Sound, Text}
 use Rattle.grammar_core.proofs.SoundLimits.{front}
 use Rattle.grammar_core.proofs.SoundProductions.{plain_text, run_sound}
+use Rattle.list_lemmas.proofs.Truth.{chosen}
 
 -- a list is split in one way into a word and a rest of given length
 same_cut : (w w' r r' : List Token) → w ++ r ≡ w' ++ r' → length r ≡ length r' → (w ≡ w') × (r ≡ r')

@@ -4,7 +4,8 @@ use Rattle.std.specs.Prelude.{if◌then◌else◌}
 use Rattle.grammar_core.specs.declared.token.Token.{Token}
 use Rattle.grammar_core.specs.Production.{Limit}
 
--- The index of the first token that is too many by the test p, or one after the last token. The list `front` has the tokens before them.
+-- The index of the first token that is too many by the test p, or one after the last token. The list `front` has the
+-- tokens before them.
 unfoldable pub index_by : (List Token → Token → Bool) → List Token → List Token → ℕ
 index_by p front [] = 1
 index_by p front (x ∷ s) = if p front x then 0 else suc (index_by p (front ++ x ∷ []) s)
@@ -19,16 +20,19 @@ step_stays true n y y' f h = absurd (omega arith)
 step_stays false n y y' f h = let k = f (omega arith) in omega (arith, k)
 
 module _ (p : List Token → Token → Bool) where
-  pub index_keeps : (w front r r' : List Token) → length w ≤ index_by p front (w ++ r) → length w ≤ index_by p front (w ++ r')
+  pub index_keeps : (w front r r' : List Token) → length w ≤ index_by p front (w ++ r)
+      → length w ≤ index_by p front (w ++ r')
   unfolding index_by
   index_keeps [] front r r' h = omega arith
   index_keeps (x ∷ w) front r r' h = step_keeps (p front x) (length w) _ _ (index_keeps w (front ++ x ∷ []) r r') h
 
-  pub index_stays : (w front : List Token) (x : Token) (r r' : List Token) → index_by p front (w ++ x ∷ r) ≡ length w → index_by p front (w ++ x ∷ r') ≡ length w
+  pub index_stays : (w front : List Token) (x : Token) (r r' : List Token) → index_by p front (w ++ x ∷ r) ≡ length w
+      → index_by p front (w ++ x ∷ r') ≡ length w
   unfolding index_by
   index_stays [] front x r r' h = go (p front x) h
     where
-      go : (b : Bool) → cond b 0 (suc (index_by p (front ++ x ∷ []) r)) ≡ 0 → cond b 0 (suc (index_by p (front ++ x ∷ []) r')) ≡ 0
+      go : (b : Bool) → cond b 0 (suc (index_by p (front ++ x ∷ []) r)) ≡ 0
+          → cond b 0 (suc (index_by p (front ++ x ∷ []) r')) ≡ 0
       go true h = refl
       go false h = absurd (omega arith)
   index_stays (y ∷ w) front x r r' h = step_stays (p front y) (length w) _ _ (index_stays w (front ++ y ∷ []) x r r') h

@@ -7,13 +7,15 @@ use Rattle.grammar_core.specs.Terminals.{terminal_count, some_is, are_disjoint, 
 use Rattle.grammar_core.specs.Production.{Production, one_of, checked, seq, map, alt, opt, star, pick, after_token, limited}
 use Rattle.grammar_core.specs.Reading.{may_be_empty, first}
 
--- Two sets of terminals that are claimed of each nonterminal: its first set, and the terminals with which reading would continue a text of it.
+-- Two sets of terminals that are claimed of each nonterminal: its first set, and the terminals with which reading would
+-- continue a text of it.
 pub record Claims (N : Type 0) : Type 0 where
   pub firsts : N → Terminal → Bool
   pub continues : N → Terminal → Bool
 
 -- The terminals with which reading would continue a text of this production, instead of ending it.
-abbrev pub continuing : {N : Type 0} {Tree : N → Type 0} → Claims N → {A : Type 0} → Production N Tree A → Terminal → Bool
+abbrev pub continuing : {N : Type 0} {Tree : N → Type 0} → Claims N → {A : Type 0} → Production N Tree A → Terminal
+    → Bool
 continuing c (one_of q) k = false
 continuing c (checked q good d) k = false
 continuing c (seq g h) k = continuing c h k || (may_be_empty h && continuing c g k)
@@ -39,7 +41,8 @@ alone a (after_token q n) = false
 alone a (limited l d g) = alone a g
 
 -- The terminals that may be second in a text whose first token is in this set.
-abbrev pub second : {N : Type 0} {Tree : N → Type 0} → Claims N → (Terminal → Bool) → {A : Type 0} → Production N Tree A → Terminal → Bool
+abbrev pub second : {N : Type 0} {Tree : N → Type 0} → Claims N → (Terminal → Bool) → {A : Type 0} → Production N Tree A
+    → Terminal → Bool
 second c a (one_of q) k = false
 second c a (checked q good d) k = false
 second c a (seq g h) k = second c a g k || ((alone a g && first h k) || (may_be_empty g && second c a h k))
@@ -52,7 +55,8 @@ second c a (after_token q n) k = some_is (λ x. a x && q x) terminal_count && c.
 second c a (limited l d g) k = second c a g k
 
 -- the terminals in both first sets
-abbrev pub both_first : {N : Type 0} {Tree : N → Type 0} {A : Type 0} → Production N Tree A → Production N Tree A → Terminal → Bool
+abbrev pub both_first : {N : Type 0} {Tree : N → Type 0} {A : Type 0} → Production N Tree A → Production N Tree A
+    → Terminal → Bool
 both_first g h k = first g k && first h k
 
 -- Is there no value?
@@ -71,7 +75,8 @@ are_limits None = true
 are_limits (Some d) = is_limit d
 
 -- No text of the production has a fault at a first token of the set a; where w holds, this is only asked of Syntax.
-abbrev pub is_safe : {N : Type 0} {Tree : N → Type 0} → Bool → (Terminal → Bool) → {A : Type 0} → Production N Tree A → Bool
+abbrev pub is_safe : {N : Type 0} {Tree : N → Type 0} → Bool → (Terminal → Bool) → {A : Type 0} → Production N Tree A
+    → Bool
 is_safe w a (one_of q) = true
 is_safe w a (checked q good d) = w || are_disjoint a q
 is_safe w a (seq g h) = is_safe w a g && is_safe w a h
@@ -96,7 +101,8 @@ is_fine c (pick q g h) =
     && (is_within (second c (both_first g h) g) q && (are_disjoint (second c (both_first g h) h) q
     && (is_safe false (both_first g h) g && is_safe false (both_first g h) h))))))))
 is_fine c (opt g) = is_fine c g && not (may_be_empty g)
-is_fine c (star full g) = is_fine c g && (not (may_be_empty g) && (are_disjoint (continuing c g) (first g) && are_limits (full 0)))
+is_fine c (star full g) =
+    is_fine c g && (not (may_be_empty g) && (are_disjoint (continuing c g) (first g) && are_limits (full 0)))
 is_fine c (after_token q n) = some_is q terminal_count
 is_fine c (limited l d g) = is_fine c g
 
@@ -113,7 +119,8 @@ has_plain (star full g) = true
 has_plain (after_token q n) = false
 has_plain (limited l d g) = has_plain g
 
--- The production of this nonterminal is fine and never empty, has a text without nonterminals, and its two sets are within the claimed ones.
+-- The production of this nonterminal is fine and never empty, has a text without nonterminals, and its two sets are
+-- within the claimed ones.
 abbrev pub are_names : {N : Type 0} {Tree : N → Type 0} → ((n : N) → Production N Tree (Tree n)) → Claims N → N → Bool
 are_names body c n =
     is_fine c (body n) && (has_plain (body n) && (not (may_be_empty (body n))

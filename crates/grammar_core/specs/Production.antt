@@ -1,5 +1,7 @@
--- Grammars as data: which texts a production derives, with which trees and first faults. Nothing here says how a text is read: no lookahead, no order of choice.
--- Source: the field's context-free grammars with synthesized attributes. That the first fault counts, and limits, are this project's own choice.
+-- Grammars as data: which texts a production derives, with which trees and first faults. Nothing here says how a text
+-- is read: no lookahead, no order of choice.
+-- Source: the field's context-free grammars with synthesized attributes. That the first fault counts, and limits, are
+-- this project's own choice.
 use Rattle.std.specs.Prelude.{◌≡◌, ℕ, zero, suc, Bool, true, false, List, [], ◌∷◌, Option, Some, None, ◌⊎◌, ◌++◌, ◌≤◌, ◌<◌, ◌+◌, ◌-◌, length, take, nat_lt, if◌then◌else◌}
 use Rattle.grammar_core.specs.declared.token.Token.{Token}
 use Rattle.grammar_core.specs.Terminals.{Terminal}
@@ -7,7 +9,8 @@ use Rattle.grammar_core.specs.Terminals.{terminal_of}
 use Rattle.grammar_core.specs.declared.code.Code.{Code}
 use Rattle.grammar_core.specs.declared.code.Code.TheVariants.{Syntax}
 
--- How many tokens a text may have: `at s` is the index in s of the first token that is too many. It depends on no token after that one.
+-- How many tokens a text may have: `at s` is the index in s of the first token that is too many. It depends on no token
+-- after that one.
 pub record Limit : Type 0 where
   pub at : List Token → ℕ
   -- at least one token fits
@@ -15,9 +18,11 @@ pub record Limit : Type 0 where
   -- whether a prefix fits depends on it alone
   pub keeps : (w r r' : List Token) → length w ≤ at (w ++ r) → length w ≤ at (w ++ r')
   -- where it ends depends on no later token
-  pub stays : (w : List Token) (x : Token) (r r' : List Token) → at (w ++ x ∷ r) ≡ length w → at (w ++ x ∷ r') ≡ length w
+  pub stays : (w : List Token) (x : Token) (r r' : List Token) → at (w ++ x ∷ r) ≡ length w
+      → at (w ++ x ∷ r') ≡ length w
 
--- A production whose trees have type A. N is the type of nonterminals, and Tree n the type of the trees of nonterminal n. Recursion goes through nonterminals alone.
+-- A production whose trees have type A. N is the type of nonterminals, and Tree n the type of the trees of nonterminal
+-- n. Recursion goes through nonterminals alone.
 pub data Production (N : Type 0) (Tree : N → Type 0) : Type 0 → Type 1 where
   -- a token whose terminal is in the set
   one_of : (Terminal → Bool) → Production N Tree Token
@@ -62,7 +67,8 @@ abbrev pub bad_unless : Bool → Code → Fault
 bad_unless true c = None
 bad_unless false c = Some (0, c)
 
--- The first fault of a text of n tokens with the limit l: c at l where the text is longer or has its own fault after l, and else its own fault.
+-- The first fault of a text of n tokens with the limit l: c at l where the text is longer or has its own fault after l,
+-- and else its own fault.
 abbrev pub cut_at : ℕ → Code → ℕ → Fault → Fault
 cut_at l c n None = if nat_lt l n then Some (l, c) else None
 cut_at l c n (Some f) = if nat_lt l f.0 then Some (l, c) else Some f
@@ -75,7 +81,8 @@ taken s r = length s - length r
 abbrev pub IsOne : (Terminal → Bool) → List Token → Token → List Token → Type 0
 IsOne q s x r = (s ≡ x ∷ r) × (q (terminal_of x) ≡ true)
 
--- A language relates tokens, a tree, a first fault and a rest: the tokens before the rest are a text of this tree with this first fault.
+-- A language relates tokens, a tree, a first fault and a rest: the tokens before the rest are a text of this tree with
+-- this first fault.
 abbrev pub Language : Type 0 → Type 1
 Language A = List Token → A → Fault → List Token → Type 0
 
@@ -87,23 +94,30 @@ Maybe G s (Some a) o r = G s a o r
 -- a list of texts; the first has index i
 abbrev pub Many : {A : Type 0} → (ℕ → Option Code) → Language A → ℕ → List Token → List A → Fault → List Token → Type 0
 Many full G i s [] o r = (s ≡ r) × (o ≡ None)
-Many full G i s (a ∷ more) o r = (m : List Token) × (x y : Fault) × G s a x m × Many full G (suc i) m more y r × (o ≡ then_fault (or_fault (at_start (full i)) x) (taken s m) y)
+Many full G i s (a ∷ more) o r =
+    (m : List Token) × (x y : Fault) × G s a x m × Many full G (suc i) m more y r
+    × (o ≡ then_fault (or_fault (at_start (full i)) x) (taken s m) y)
 
--- The production derives the tokens of s before the rest r, with the tree t and the first fault o, where R are the languages of the nonterminals.
-abbrev pub Derives : {N : Type 0} {Tree : N → Type 0} → ((n : N) → Language (Tree n)) → {A : Type 0} → Production N Tree A → Language A
+-- The production derives the tokens of s before the rest r, with the tree t and the first fault o, where R are the
+-- languages of the nonterminals.
+abbrev pub Derives : {N : Type 0} {Tree : N → Type 0} → ((n : N) → Language (Tree n)) → {A : Type 0}
+    → Production N Tree A → Language A
 Derives R (one_of q) s t o r = IsOne q s t r × (o ≡ None)
 Derives R (checked q is_valid c) s t o r = IsOne q s t r × (o ≡ bad_unless (is_valid t) c)
-Derives R (seq g h) s t o r = (m : List Token) × (x y : Fault) × Derives R g s t.0 x m × Derives R h m t.1 y r × (o ≡ then_fault x (taken s m) y)
+Derives R (seq g h) s t o r =
+    (m : List Token) × (x y : Fault) × Derives R g s t.0 x m × Derives R h m t.1 y r × (o ≡ then_fault x (taken s m) y)
 Derives R (map {A = A} f g) s t o r = (a : A) × Derives R g s a o r × (f a ≡ t)
 Derives R (alt g h) s t o r = Derives R g s t o r ⊎ Derives R h s t o r
 Derives R (pick q g h) s t o r = Derives R g s t o r ⊎ Derives R h s t o r
 Derives R (opt g) s t o r = Maybe (Derives R g) s t o r
 Derives R (star full g) s t o r = Many full (Derives R g) 0 s t o r
-Derives R (after_token q n) s t o r = (m : List Token) × (y : Fault) × IsOne q s t.0 m × R n m t.1 y r × (o ≡ then_fault None 1 y)
+Derives R (after_token q n) s t o r =
+    (m : List Token) × (y : Fault) × IsOne q s t.0 m × R n m t.1 y r × (o ≡ then_fault None 1 y)
 Derives R (limited l c g) s t o r = (x : Fault) × Derives R g s t x r × (o ≡ cut_at (l.at s) c (taken s r) x)
 
 -- what a nonterminal derives with at most k nonterminals inside one another
-abbrev pub DerivedWithin : {N : Type 0} {Tree : N → Type 0} → ((n : N) → Production N Tree (Tree n)) → ℕ → (n : N) → Language (Tree n)
+abbrev pub DerivedWithin : {N : Type 0} {Tree : N → Type 0} → ((n : N) → Production N Tree (Tree n)) → ℕ → (n : N)
+    → Language (Tree n)
 DerivedWithin body zero n s t o r = ⊥
 DerivedWithin body (suc k) n s t o r = Derives (DerivedWithin body k) (body n) s t o r
 
@@ -113,7 +127,8 @@ pub record Derived {N : Type 0} {Tree : N → Type 0} (body : (n : N) → Produc
   pub derives : DerivedWithin body depth n s t o r
 
 -- The whole list is a text of the production, with this tree and this first fault.
-abbrev pub IsText : {N : Type 0} {Tree : N → Type 0} → ((n : N) → Production N Tree (Tree n)) → {A : Type 0} → Production N Tree A → List Token → A → Fault → Type 0
+abbrev pub IsText : {N : Type 0} {Tree : N → Type 0} → ((n : N) → Production N Tree (Tree n)) → {A : Type 0}
+    → Production N Tree A → List Token → A → Fault → Type 0
 IsText body g s t o = Derives (Derived body) g s t o []
 
 -- Some text of the production begins with these tokens, and has this first fault.
@@ -127,7 +142,8 @@ abbrev pub IsFrom : ℕ → Fault → Type 0
 IsFrom n None = Unit {0}
 IsFrom n (Some f) = n ≤ f.0
 
--- A fault Syntax: the first token with which no text begins any more, or the end of tokens that begin a text and are none; and there is no other fault before.
+-- A fault Syntax: the first token with which no text begins any more, or the end of tokens that begin a text and are
+-- none; and there is no other fault before.
 pub record IsSyntaxFault {N : Type 0} {Tree : N → Type 0} (body : (n : N) → Production N Tree (Tree n)) {A : Type 0} (g : Production N Tree A) (s : List Token) (index : ℕ) : Type 0 where
   pub within : index ≤ length s
   pub before : (o : Fault) × Begins body g (take index s) o × IsFrom index o
@@ -140,6 +156,7 @@ pub record IsLimitFault {N : Type 0} {Tree : N → Type 0} (body : (n : N) → P
   pub there : Begins body g (take (index + 1) s) (Some (index, c))
 
 -- The tokens have their first fault at this index, with this code.
-abbrev pub IsFirstFault : {N : Type 0} {Tree : N → Type 0} → ((n : N) → Production N Tree (Tree n)) → {A : Type 0} → Production N Tree A → List Token → ℕ → Code → Type 0
+abbrev pub IsFirstFault : {N : Type 0} {Tree : N → Type 0} → ((n : N) → Production N Tree (Tree n)) → {A : Type 0}
+    → Production N Tree A → List Token → ℕ → Code → Type 0
 IsFirstFault body g s index Syntax = IsSyntaxFault body g s index
 IsFirstFault body g s index c = IsLimitFault body g s index c

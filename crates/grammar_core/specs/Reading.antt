@@ -60,7 +60,8 @@ abbrev pub starts : (Terminal → Bool) → List Token → Bool
 starts q [] = false
 starts q (x ∷ s) = q (terminal_of x)
 
--- Is the first of two productions next? a and b are their first sets. Where the next token is in both, the token after it decides: it is in q for the first production.
+-- Is the first of two productions next? a and b are their first sets. Where the next token is in both, the token after
+-- it decides: it is in q for the first production.
 abbrev pub picks : (Terminal → Bool) → (Terminal → Bool) → (Terminal → Bool) → List Token → Bool
 picks a b q [] = false
 picks a b q (x ∷ s) = if b (terminal_of x) then (a (terminal_of x) && starts q s) else a (terminal_of x)
@@ -75,22 +76,29 @@ abbrev pub refuse : {A : Type 0} → Option Code → List Token → Read A → R
 refuse None s r = r
 refuse (Some c) s r = Err (length s, c)
 
--- The elements of a list from index i on, as long as the next token is in q; p reads an element, and `full` says whether element i is too many. The number n bounds the recursion.
-unfoldable pub many_at : {A : Type 0} → (ℕ → Option Code) → (Terminal → Bool) → (List Token → Read A) → ℕ → ℕ → List Token → Read (List A)
+-- The elements of a list from index i on, as long as the next token is in q; p reads an element, and `full` says
+-- whether element i is too many. The number n bounds the recursion.
+unfoldable pub many_at : {A : Type 0} → (ℕ → Option Code) → (Terminal → Bool) → (List Token → Read A) → ℕ → ℕ
+    → List Token → Read (List A)
 many_at full q p i zero s = Ok ([], s)
-many_at full q p i (suc n) s = if starts q s then refuse (full i) s (p s >>= λ a. many_at full q p (suc i) n a.1 >>= λ more. Ok (a.0 ∷ more.0, more.1)) else Ok ([], s)
+many_at full q p i (suc n) s =
+    if starts q s
+    then refuse (full i) s (p s >>= λ a. many_at full q p (suc i) n a.1 >>= λ more. Ok (a.0 ∷ more.0, more.1))
+    else Ok ([], s)
 
 -- the token that was read first in s if the test holds of it, or else the code c at it
 abbrev pub check : (Token → Bool) → Code → List Token → Token × List Token → Read Token
 check good c s x = if good x.0 then Ok x else Err (length s, c)
 
--- The result of reading s where at most l tokens may be taken: more tokens, or a fault after the limit, is the code c at the limit.
+-- The result of reading s where at most l tokens may be taken: more tokens, or a fault after the limit, is the code c
+-- at the limit.
 abbrev pub judge : {A : Type 0} → ℕ → Code → List Token → Read A → Read A
 judge l c s (Ok x) = if nat_lt l (length s - length x.1) then Err (length s - l, c) else Ok x
 judge l c s (Err e) = if nat_lt l (length s - e.0) then Err (length s - l, c) else Err e
 
 -- Reading a production, where p reads the nonterminals.
-abbrev pub run : {N : Type 0} {Tree : N → Type 0} → ((n : N) → List Token → Read (Tree n)) → {A : Type 0} → Production N Tree A → List Token → Read A
+abbrev pub run : {N : Type 0} {Tree : N → Type 0} → ((n : N) → List Token → Read (Tree n)) → {A : Type 0}
+    → Production N Tree A → List Token → Read A
 run p (one_of q) s = token_at q s
 run p (checked q good c) s = token_at q s >>= check good c s
 run p (seq g h) s = run p g s >>= λ a. run p h a.1 >>= λ b. Ok ((a.0, b.0), b.1)
@@ -103,18 +111,23 @@ run p (after_token q n) s = token_at q s >>= λ x. p n x.1 >>= λ b. Ok ((x.0, b
 run p (limited l c g) s = judge (l.at s) c s (run p g s)
 
 -- Reading a nonterminal, where at most k nonterminals are inside one another.
-unfoldable pub nonterminal_within : {N : Type 0} {Tree : N → Type 0} → ((n : N) → Production N Tree (Tree n)) → ℕ → (n : N) → List Token → Read (Tree n)
+unfoldable pub nonterminal_within : {N : Type 0} {Tree : N → Type 0} → ((n : N) → Production N Tree (Tree n)) → ℕ
+    → (n : N) → List Token → Read (Tree n)
 nonterminal_within body zero n s = Err (length s, Syntax)
 nonterminal_within body (suc k) n s = run (nonterminal_within body k) (body n) s
 
--- Reading a nonterminal. Each nonterminal inside another one begins at least one token later, so the bound is never met.
-unfoldable pub nonterminal_at : {N : Type 0} {Tree : N → Type 0} → ((n : N) → Production N Tree (Tree n)) → (n : N) → List Token → Read (Tree n)
+-- Reading a nonterminal. Each nonterminal inside another one begins at least one token later, so the bound is never
+-- met.
+unfoldable pub nonterminal_at : {N : Type 0} {Tree : N → Type 0} → ((n : N) → Production N Tree (Tree n)) → (n : N)
+    → List Token → Read (Tree n)
 nonterminal_at body n s = nonterminal_within body (suc (length s)) n s
 
 -- Reading a production of a grammar, given by the productions of its nonterminals.
-abbrev pub reading : {N : Type 0} {Tree : N → Type 0} → ((n : N) → Production N Tree (Tree n)) → {A : Type 0} → Production N Tree A → List Token → Read A
+abbrev pub reading : {N : Type 0} {Tree : N → Type 0} → ((n : N) → Production N Tree (Tree n)) → {A : Type 0}
+    → Production N Tree A → List Token → Read A
 reading body g s = run (nonterminal_at body) g s
 
 -- Reading a production that is to take all of the tokens.
-abbrev pub whole : {N : Type 0} {Tree : N → Type 0} → ((n : N) → Production N Tree (Tree n)) → {A : Type 0} → Production N Tree A → List Token → Result A FaultFromEnd
+abbrev pub whole : {N : Type 0} {Tree : N → Type 0} → ((n : N) → Production N Tree (Tree n)) → {A : Type 0}
+    → Production N Tree A → List Token → Result A FaultFromEnd
 whole body g s = reading body g s >>= λ x. if length x.1 == 0 then Ok x.0 else Err (length x.1, Syntax)

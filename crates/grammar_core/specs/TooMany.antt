@@ -9,6 +9,7 @@ use Rattle.grammar_core.specs.Terminals.{terminal_of}
 unfoldable pub token_indices : (Terminal → Bool) → ℕ → List Token → List ℕ
 token_indices q i s = map (λ p. p.0) (filter (λ p. q (terminal_of p.1)) (enumerate_from i s))
 
--- The index of the first token that is too many: the one after cap tokens, or the token of this set after n others of it, whichever comes first.
+-- The index of the first token that is too many: the one after cap tokens, or the token of this set after n others of
+-- it, whichever comes first.
 unfoldable pub limit_at : (Terminal → Bool) → ℕ → ℕ → List Token → ℕ
 limit_at q cap n s = min cap (slice_index_or (token_indices q 0 s) n cap)

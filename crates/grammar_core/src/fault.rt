@@ -10,7 +10,8 @@ use ptg_base::Refusal;
 /// The first fault of a list of tokens, by its distance from the end of the list.
 #[derive(Clone, Copy, Debug, PartialEq, Eq)]
 pub struct ReadFault {
-    /// How many tokens are left at the fault: those from the token that is wrong on. Zero says that the tokens end too early.
+    /// How many tokens are left at the fault: those from the token that is wrong on. Zero says that the tokens end too
+    /// early.
     pub left: usize,
     /// What is wrong there.
     pub code: Code,

@@ -4,8 +4,9 @@ ghost use Rattle.grammar_core.specs.Production.{Production};
 ghost use Rattle.grammar_core.specs.Predictive.{Claims};
 ghost use Rattle.grammar_core.specs.ExactReading.{IsPredictive, ReadsExactly};
 
-/// A grammar that one token of lookahead reads: its nonterminals with their trees and productions, the production that it
-/// starts from, what is claimed of each nonterminal, and the proof that the test for predictive grammars accepts all this.
+/// A grammar that one token of lookahead reads: its nonterminals with their trees and productions, the production that
+/// it starts from, what is claimed of each nonterminal, and the proof that the test for predictive grammars accepts all
+/// this.
 pub trait PredictiveGrammar {
     ghost Nonterminal: { Type 0 };
 
@@ -22,8 +23,8 @@ pub trait PredictiveGrammar {
     ghost predictive: { IsPredictive productions claims start };
 }
 
-/// A law: a predictive grammar is read exactly with one token of lookahead. Whatever the tokens are, what is read is the
-/// one tree that the grammar derives for all of them, or else their one first fault, and one of both there is.
+/// A law: a predictive grammar is read exactly with one token of lookahead. Whatever the tokens are, what is read is
+/// the one tree that the grammar derives for all of them, or else their one first fault, and one of both there is.
 pub fn is_read_exactly<G: PredictiveGrammar>()
     ensures { ReadsExactly G.productions G.start }
 {}

@@ -9,8 +9,8 @@ pub struct Spot {
     pub column: u32,
 }
 
-/// A token: the number of its terminal in the alphabet of the text, its spot, and its bytes, which are those of the text
-/// from index `start` up to but not including `end`.
+/// A token: the number of its terminal in the alphabet of the text, its spot, and its bytes, which are those of the
+/// text from index `start` up to but not including `end`.
 #[derive(Drop)]
 pub struct Token {
     /// From 0 to 63; a larger number counts as its remainder by 64.

@@ -19,7 +19,9 @@ code_number grammar.TooManyVars = 8
 
 -- all codes, in the order of their numbers
 abbrev pub all_codes : List GrammarCode
-all_codes = grammar.BadNumber ∷ grammar.ExprTooLong ∷ grammar.TooManyClasses ∷ grammar.TooManyParams ∷ grammar.TooManyLocals ∷ grammar.TooManyFlows ∷ grammar.TooManyDeps ∷ grammar.TooDeep ∷ grammar.TooManyVars ∷ []
+all_codes =
+    grammar.BadNumber ∷ grammar.ExprTooLong ∷ grammar.TooManyClasses ∷ grammar.TooManyParams ∷ grammar.TooManyLocals
+    ∷ grammar.TooManyFlows ∷ grammar.TooManyDeps ∷ grammar.TooDeep ∷ grammar.TooManyVars ∷ []
 
 -- a code, or BadNumber where there is none (a grammar states no other number)
 abbrev pub or_bad_number : Option GrammarCode → GrammarCode

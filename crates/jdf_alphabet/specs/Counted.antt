@@ -1,4 +1,5 @@
--- The limit of an expression: 512 tokens, and 128 names, numbers and operators among them. Source: this project's own choice.
+-- The limit of an expression: 512 tokens, and 128 names, numbers and operators among them. Source: this project's own
+-- choice.
 use Rattle.std.specs.Prelude.{Bool, ◌||◌}
 use Rattle.jdf_alphabet.specs.declared.terminal.Terminal.{Terminal}
 use Rattle.jdf_alphabet.specs.declared.terminal.Terminal.TheVariants.{Name, TypeWord, Int, If, Else, For, Trap, Number, Question, Plus, Minus, Star, Slash, Percent, Equal, NotEqual, Less, AtMost, Greater, AtLeast, And, AndAnd, Or, OrOr, Not}

@@ -15,15 +15,18 @@ abbrev pub one_of : {N : Type 0} {Tree : N → Type 0} → (Terminal → Bool) �
 one_of q = production.one_of (set q)
 
 -- a token whose terminal is in the set; the code is its fault unless the test holds of it
-abbrev pub checked : {N : Type 0} {Tree : N → Type 0} → (Terminal → Bool) → (Token → Bool) → Code → Production N Tree Token
+abbrev pub checked : {N : Type 0} {Tree : N → Type 0} → (Terminal → Bool) → (Token → Bool) → Code
+    → Production N Tree Token
 checked q is_valid c = production.checked (set q) is_valid c
 
 -- either of two productions: the first one where the token after the next one is in the set
-abbrev pub pick : {N : Type 0} {Tree : N → Type 0} {A : Type 0} → (Terminal → Bool) → Production N Tree A → Production N Tree A → Production N Tree A
+abbrev pub pick : {N : Type 0} {Tree : N → Type 0} {A : Type 0} → (Terminal → Bool) → Production N Tree A
+    → Production N Tree A → Production N Tree A
 pick q g h = production.pick (set q) g h
 
 -- a token whose terminal is in the set, and a text of the nonterminal after it
-abbrev pub after_token : {N : Type 0} {Tree : N → Type 0} → (Terminal → Bool) → (n : N) → Production N Tree (Token × Tree n)
+abbrev pub after_token : {N : Type 0} {Tree : N → Type 0} → (Terminal → Bool) → (n : N)
+    → Production N Tree (Token × Tree n)
 after_token q n = production.after_token (set q) n
 
 -- Is the next token in this set?
@@ -38,6 +41,7 @@ token_at q s = reading.token_at (set q) s
 abbrev pub IsOne : (Terminal → Bool) → List Token → Token → List Token → Type 0
 IsOne q s x r = production.IsOne (set q) s x r
 
--- The index of the first token that is too many: the one after cap tokens, or the token of this set after n others of it.
+-- The index of the first token that is too many: the one after cap tokens, or the token of this set after n others of
+-- it.
 abbrev pub limit_at : (Terminal → Bool) → ℕ → ℕ → List Token → ℕ
 limit_at q cap n s = too_many.limit_at (set q) cap n s

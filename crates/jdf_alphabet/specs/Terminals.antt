@@ -1,4 +1,5 @@
--- The terminals of JDF: how they are spelled (source: the JDF documentation), and their numbers (this project's own choice).
+-- The terminals of JDF: how they are spelled (source: the JDF documentation), and their numbers (this project's own
+-- choice).
 use Rattle.std.specs.Prelude.{ℕ, Bool, List, [], ◌∷◌, ◌==◌, if◌then◌else◌, codes, slice_get, Option, Some, None}
 use Rattle.std.specs.Str.{bytes_eq}
 use Rattle.grammar_core.specs.declared.token.Token.{Token}
@@ -15,11 +16,21 @@ spelled (w ∷ ws) text other = if bytes_eq w.0 text then w.1 else spelled ws te
 
 -- the words that are terminals of their own
 unfoldable pub words : List (List ℕ × Terminal)
-words = (codes "type", TypeWord) ∷ (codes "int", Int) ∷ (codes "if", If) ∷ (codes "else", Else) ∷ (codes "for", For) ∷ (codes "trap", Trap) ∷ (codes "extern", Extern) ∷ (codes "BODY", Body) ∷ (codes "END", End) ∷ (codes "READ", Read) ∷ (codes "WRITE", Write) ∷ (codes "RW", Rw) ∷ (codes "CTL", Ctl) ∷ (codes "NEW", New) ∷ (codes "NULL", Null) ∷ []
+words =
+    (codes "type", TypeWord) ∷ (codes "int", Int) ∷ (codes "if", If) ∷ (codes "else", Else) ∷ (codes "for", For)
+    ∷ (codes "trap", Trap) ∷ (codes "extern", Extern) ∷ (codes "BODY", Body) ∷ (codes "END", End) ∷ (codes "READ", Read)
+    ∷ (codes "WRITE", Write) ∷ (codes "RW", Rw) ∷ (codes "CTL", Ctl) ∷ (codes "NEW", New) ∷ (codes "NULL", Null) ∷ []
 
 -- the marks
 unfoldable pub marks : List (List ℕ × Terminal)
-marks = (codes "(", LeftParen) ∷ (codes ")", RightParen) ∷ (codes "[", LeftBracket) ∷ (codes "]", RightBracket) ∷ (codes "{", LeftBrace) ∷ (codes "}", RightBrace) ∷ (codes ",", Comma) ∷ (codes ";", Semicolon) ∷ (codes ":", Colon) ∷ (codes "?", Question) ∷ (codes "=", Assign) ∷ (codes "..", Dots) ∷ (codes "<-", Inward) ∷ (codes "->", Outward) ∷ (codes "+", Plus) ∷ (codes "-", Minus) ∷ (codes "*", Star) ∷ (codes "/", Slash) ∷ (codes "%", Percent) ∷ (codes "==", Equal) ∷ (codes "!=", NotEqual) ∷ (codes "<", Less) ∷ (codes "<=", AtMost) ∷ (codes ">", Greater) ∷ (codes ">=", AtLeast) ∷ (codes "&", And) ∷ (codes "&&", AndAnd) ∷ (codes "|", Or) ∷ (codes "||", OrOr) ∷ (codes "!", Not) ∷ []
+marks =
+    (codes "(", LeftParen) ∷ (codes ")", RightParen) ∷ (codes "[", LeftBracket) ∷ (codes "]", RightBracket)
+    ∷ (codes "{", LeftBrace) ∷ (codes "}", RightBrace) ∷ (codes ",", Comma) ∷ (codes ";", Semicolon)
+    ∷ (codes ":", Colon) ∷ (codes "?", Question) ∷ (codes "=", Assign) ∷ (codes "..", Dots) ∷ (codes "<-", Inward)
+    ∷ (codes "->", Outward) ∷ (codes "+", Plus) ∷ (codes "-", Minus) ∷ (codes "*", Star) ∷ (codes "/", Slash)
+    ∷ (codes "%", Percent) ∷ (codes "==", Equal) ∷ (codes "!=", NotEqual) ∷ (codes "<", Less) ∷ (codes "<=", AtMost)
+    ∷ (codes ">", Greater) ∷ (codes ">=", AtLeast) ∷ (codes "&", And) ∷ (codes "&&", AndAnd) ∷ (codes "|", Or)
+    ∷ (codes "||", OrOr) ∷ (codes "!", Not) ∷ []
 
 -- the terminal of a token of this kind and spelling
 abbrev pub terminal_by : TokenKind → List ℕ → Terminal
@@ -87,7 +98,11 @@ number_of Not = 50
 
 -- all terminals, in the order of their numbers
 abbrev pub all_terminals : List Terminal
-all_terminals = Name ∷ TypeWord ∷ Int ∷ If ∷ Else ∷ For ∷ Trap ∷ Number ∷ Quoted ∷ Raw ∷ OptionLine ∷ Other ∷ Extern ∷ Body ∷ End ∷ Read ∷ Write ∷ Rw ∷ Ctl ∷ New ∷ Null ∷ LeftParen ∷ RightParen ∷ LeftBracket ∷ RightBracket ∷ LeftBrace ∷ RightBrace ∷ Comma ∷ Semicolon ∷ Colon ∷ Question ∷ Assign ∷ Dots ∷ Inward ∷ Outward ∷ Plus ∷ Minus ∷ Star ∷ Slash ∷ Percent ∷ Equal ∷ NotEqual ∷ Less ∷ AtMost ∷ Greater ∷ AtLeast ∷ And ∷ AndAnd ∷ Or ∷ OrOr ∷ Not ∷ []
+all_terminals =
+    Name ∷ TypeWord ∷ Int ∷ If ∷ Else ∷ For ∷ Trap ∷ Number ∷ Quoted ∷ Raw ∷ OptionLine ∷ Other ∷ Extern ∷ Body ∷ End
+    ∷ Read ∷ Write ∷ Rw ∷ Ctl ∷ New ∷ Null ∷ LeftParen ∷ RightParen ∷ LeftBracket ∷ RightBracket ∷ LeftBrace
+    ∷ RightBrace ∷ Comma ∷ Semicolon ∷ Colon ∷ Question ∷ Assign ∷ Dots ∷ Inward ∷ Outward ∷ Plus ∷ Minus ∷ Star ∷ Slash
+    ∷ Percent ∷ Equal ∷ NotEqual ∷ Less ∷ AtMost ∷ Greater ∷ AtLeast ∷ And ∷ AndAnd ∷ Or ∷ OrOr ∷ Not ∷ []
 
 -- the set of one terminal
 abbrev pub is : Terminal → Terminal → Bool

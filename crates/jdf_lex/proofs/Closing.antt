@@ -1,9 +1,10 @@
 -- A unit with a closing mark ends at the first byte that ends it.
-use Rattle.std.proofs.Common.{◌≡◌, ℕ, suc, ◌+◌, ◌<◌, ◌≤◌, Bool, true, false, cond, ◌⊎◌, List, [], ◌∷◌, ◌++◌, length, take, Option, Some, None, refl, sym, ◌∙◌, subst, inl, inr, arith}
+use Rattle.std.proofs.Common.{◌≡◌, ℕ, suc, ◌+◌, ◌<◌, ◌≤◌, Bool, true, List, [], ◌∷◌, ◌++◌, length, take, Option, Some, None, refl, sym, ◌∙◌, subst, inl, inr, arith}
 use Rattle.std.proofs.lemmas.Bool.{cases_Bool, false≢true, cond-true, cond-false}
 use Rattle.jdf_lex.specs.declared.lexical_unit.LexicalUnit.{LexicalUnit}
 use Rattle.jdf_lex.specs.Spelling.{ends_unit, affects_next, is_empty, is_closed}
 use Rattle.jdf_lex.specs.Reading.{closed_len, add_length}
+use Rattle.list_lemmas.proofs.Truth.{chosen}
 
 abbrev Length : Type 0
 Length = Option ℕ
@@ -13,10 +14,6 @@ some_length n = Some n
 
 abbrev no_length : Length
 no_length = None
-
-pub chosen : {X : Type 0} (b : Bool) (x y z : X) → cond b x y ≡ z → ((b ≡ true) × (x ≡ z)) ⊎ ((b ≡ false) × (y ≡ z))
-chosen true x y z e = inl (refl, e)
-chosen false x y z e = inr (refl, e)
 
 pub one_more : (n : ℕ) → suc n ≡ 1 + n
 one_more n = omega arith

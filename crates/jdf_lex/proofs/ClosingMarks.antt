@@ -1,5 +1,5 @@
--- The first byte that ends a comment or a raw block is the end of the first closing mark, and the byte that ends a quoted
--- text is the quote after its items.
+-- The first byte that ends a comment or a raw block is the end of the first closing mark, and the byte that ends a
+-- quoted text is the quote after its items.
 use Rattle.std.proofs.Common.{◌≡◌, ℕ, Bool, true, false, eqb, List, [], ◌∷◌, ◌++◌, refl, sym, ◌∙◌, ap, subst, inl, inr}
 use Rattle.std.specs.Prelude.{◌&&◌}
 use Rattle.std.proofs.lemmas.Bool.{cases_Bool, both_ways, false≢true, and_parts, and_from, eqb-true, eq-eqb, cond-true, cond-false}

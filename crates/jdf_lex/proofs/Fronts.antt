@@ -10,8 +10,9 @@ use Rattle.jdf_lex.specs.declared.lexical_unit.LexicalUnit.TheVariants.{Blank, L
 use Rattle.jdf_alphabet.specs.declared.kind.TokenKind.TheVariants.{Name, Number, Quoted, Raw, OptionLine, Mark, Other}
 use Rattle.jdf_lex.specs.Spelling.{is_blank, is_letter, is_digit, is_mark, begins_mark, begins_option, plain_unit, first_unit, unit_at, continues, is_closed, is_spelling}
 use Rattle.jdf_lex.specs.Reading.{mark_len, closed_len, unit_len, with_length, front_unit}
-use Rattle.jdf_lex.proofs.Closing.{chosen, one_more, add_length_found, add_length_none, closed_found, closed_once, closed_none}
+use Rattle.jdf_lex.proofs.Closing.{one_more, add_length_found, add_length_none, closed_found, closed_once, closed_none}
 use Rattle.jdf_lex.proofs.Runs.{prefix_passes, run_longest}
+use Rattle.list_lemmas.proofs.Truth.{chosen}
 
 -- The longest word of the unit at the front has this length.
 pub record IsFront (unit : LexicalUnit) (rest : List ℕ) (n : ℕ) : Type 0 where

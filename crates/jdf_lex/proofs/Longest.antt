@@ -2,7 +2,7 @@
 use Rattle.std.proofs.Common.{◌≡◌, ℕ, ◌≤◌, ◌⊎◌, Bool, true, false, cond, not, eqb, List, [], ◌∷◌, ◌++◌, length, drop, Option, Some, refl, sym, ◌∙◌, ap, subst, inl, inr, arith}
 use Rattle.std.specs.Prelude.{codes}
 use Rattle.std.specs.List.{starts_with}
-use Rattle.std.proofs.lemmas.Bool.{and_parts, and_from, cases_lt, cases_Bool, false≢true, eqb-true, not-true}
+use Rattle.std.proofs.lemmas.Bool.{and_parts, and_from, cases_lt, cases_Bool, false≢true, eqb-true, not-true, not_from_false}
 use Rattle.std.proofs.lemmas.List.{append-nil, drop-append-le}
 use Rattle.jdf_lex.specs.declared.lexical_unit.LexicalUnit.{LexicalUnit}
 use Rattle.jdf_lex.specs.declared.lexical_unit.LexicalUnit.TheVariants.{LineComment, BlockComment, TokenOf}
@@ -31,9 +31,6 @@ part_more : (xs after : List ℕ) → begins_part xs ≡ false → begins_part a
 part_more [] after e f = f
 part_more (x ∷ xs) after e f = e
 
-flip : (b : Bool) → b ≡ false → not b ≡ true
-flip b e = ap not e
-
 -- An option line that no letter follows is also one in the longer text.
 option_more : (xs after : List ℕ) → begins_option xs ≡ true → begins_part after ≡ false → begins_option (xs ++ after) ≡ true
 option_more xs after e f =
@@ -41,7 +38,7 @@ option_more xs after e f =
     let size : 7 ≤ length xs = starts_length xs option_word parts.0 in
     let split : drop 7 (xs ++ after) ≡ drop 7 xs ++ after = drop-append-le 7 xs after size in
     let none : begins_part (drop 7 (xs ++ after)) ≡ false = ap begins_part split ∙ part_more (drop 7 xs) after (not-true (begins_part (drop 7 xs)) parts.1) f in
-    and_from (starts_with eqb (xs ++ after) option_word) (not (begins_part (drop 7 (xs ++ after)))) (starts_more xs after option_word parts.0) (flip (begins_part (drop 7 (xs ++ after))) none)
+    and_from (starts_with eqb (xs ++ after) option_word) (not (begins_part (drop 7 (xs ++ after)))) (starts_more xs after option_word parts.0) (not_from_false (begins_part (drop 7 (xs ++ after))) none)
 
 option_bytes : (a b : ℕ) (x : List ℕ) → begins_option (a ∷ b ∷ x) ≡ true → (a ≡ 37) × (b ≡ 111)
 option_bytes a b x e =

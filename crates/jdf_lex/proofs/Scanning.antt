@@ -1,5 +1,5 @@
 -- Steps of the scanner from unit to unit, and its results.
-use Rattle.std.proofs.Common.{◌≡◌, ℕ, ◌+◌, ◌-◌, ◌<◌, ◌≤◌, Bool, true, false, List, [], ◌∷◌, ◌++◌, length, take, drop, get_or, refl, sym, ◌∙◌, ap, subst, inl, inr, arith, length-drop}
+use Rattle.std.proofs.Common.{◌≡◌, ℕ, ◌+◌, ◌-◌, ◌<◌, ◌≤◌, true, List, [], ◌∷◌, ◌++◌, length, take, drop, get_or, refl, sym, ◌∙◌, ap, subst, inl, inr, arith, length-drop}
 use Rattle.std.proofs.Math.Seq.{take-add}
 use Rattle.std.proofs.lemmas.List.{append-nil, take-append-drop, drop-drop, drop_more, drop_all, length-take-le, length_push, take_rest}
 use Rattle.jdf_lex.specs.declared.cursor.Cursor.{Cursor}
@@ -14,6 +14,7 @@ use Rattle.jdf_lex.specs.Tokens.IsLexedTo.{nothing_more, dropped_then, token_the
 use Rattle.jdf_alphabet.specs.Terminals.{number_of, terminal_by}
 use Rattle.jdf_lex.specs.Reading.{token_here, front_unit, IsCursorIn, IsScanned}
 use Rattle.jdf_lex.proofs.Fronts.{front_found, front_none, Found, found_unit, nothing}
+use Rattle.std.proofs.lemmas.Bool.{false_from_ne_true}
 
 -- Two scans, the second from the end of the first, are one scan.
 joined : (mid mid_left front left before rest : List ℕ) (ts us : List Token) → IsLexedTo mid mid_left before rest ts → IsLexedTo front left mid mid_left us → IsLexedTo front left before rest (ts ++ us)
@@ -142,16 +143,12 @@ lexed_at_end text tokens here state past =
     let all : take here.index text ≡ text = sym (append-nil (take here.index text)) ∙ ap (λ z. take here.index text ++ z) (sym none) ∙ take-append-drop here.index text in
     (subst (λ z. IsLexedTo z [] [] text tokens) all (subst (λ z. IsLexedTo (take here.index text) z [] text tokens) none state.lexed), state.cursor.spot ∙ ap spot_after all)
 
-is_false : (b : Bool) → (b ≡ true → ⊥) → b ≡ false
-is_false true never = absurd (never refl)
-is_false false never = refl
-
 pub unclosed_here : (rest : List ℕ) (b : ℕ) (bs : List ℕ) → rest ≡ b ∷ bs → front_unit rest ≡ nothing → IsUnclosed rest
 unclosed_here rest b bs is none =
     let here : IsUnclosed (b ∷ bs) = record {
       unit = first_unit b bs;
       begins = refl;
-      unended = λ word after e. is_false (is_spelling (first_unit b bs) word) (front_none b bs (ap front_unit (sym is) ∙ none) word after e);
+      unended = λ word after e. false_from_ne_true (is_spelling (first_unit b bs) word) (front_none b bs (ap front_unit (sym is) ∙ none) word after e);
     } in
     subst (λ z. IsUnclosed z) (sym is) here
 

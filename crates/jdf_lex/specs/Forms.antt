@@ -12,12 +12,13 @@ use Rattle.jdf_lex.specs.Tokens.{IsUnit}
 abbrev pub IsFreeOf : List ℕ → List ℕ → Type 0
 IsFreeOf mark word = (before after : List ℕ) → word ≡ before ++ (mark ++ after) → ⊥
 
--- Items of a quoted text, one after the other: each is a backslash with any byte, or a byte that is neither a quote nor a
--- backslash.
+-- Items of a quoted text, one after the other: each is a backslash with any byte, or a byte that is neither a quote nor
+-- a backslash.
 pub data IsQuotedItems : List ℕ → Type 0 where
   none : IsQuotedItems []
   escaped : (b : ℕ) (items : List ℕ) → IsQuotedItems items → IsQuotedItems (92 ∷ b ∷ items)
-  plain : (b : ℕ) (items : List ℕ) → IsFalse (b == 34) → IsFalse (b == 92) → IsQuotedItems items → IsQuotedItems (b ∷ items)
+  plain : (b : ℕ) (items : List ℕ) → IsFalse (b == 34) → IsFalse (b == 92) → IsQuotedItems items
+      → IsQuotedItems (b ∷ items)
 
 -- Whether the byte is a quote, a blank, a letter, a digit or a mark.
 abbrev pub begins_other_unit : ℕ → Bool
@@ -40,11 +41,13 @@ pub data HasForm : LexicalUnit → List ℕ → Type 0 where
   -- `%{`, then bytes without `%}`, then `%}`
   raw : (w : List ℕ) → IsFreeOf (codes "%}") w → HasForm (TokenOf Raw) (codes "%{" ++ (w ++ codes "%}"))
   -- `%option`, then bytes without LF; the first one is not a letter, a digit or `_`
-  option_line : (w : List ℕ) → IsFalse (begins_part w) → IsTrue (list_all is_not_lf w) → HasForm (TokenOf OptionLine) (codes "%option" ++ w)
+  option_line : (w : List ℕ) → IsFalse (begins_part w) → IsTrue (list_all is_not_lf w)
+      → HasForm (TokenOf OptionLine) (codes "%option" ++ w)
   -- one of the marks
   mark : (w : List ℕ) → IsTrue (is_mark w) → HasForm (TokenOf Mark) w
   -- any other byte, then the bytes that continue its UTF-8 character
-  other : (b : ℕ) (w : List ℕ) → IsFalse (begins_other_unit b) → IsTrue (list_all continues_character w) → HasForm (TokenOf Other) (b ∷ w)
+  other : (b : ℕ) (w : List ℕ) → IsFalse (begins_other_unit b) → IsTrue (list_all continues_character w)
+      → HasForm (TokenOf Other) (b ∷ w)
 
 -- The word, followed by `left`, is the longest word there with the form of the unit that begins there.
 pub record IsWrittenUnit (unit : LexicalUnit) (word left : List ℕ) : Type 0 where
@@ -54,4 +57,6 @@ pub record IsWrittenUnit (unit : LexicalUnit) (word left : List ℕ) : Type 0 wh
 
 -- The lexical units of a text are those of the written forms.
 abbrev pub UnitsAsWritten : Type 0
-UnitsAsWritten = (unit : LexicalUnit) (word left : List ℕ) → (IsUnit unit word left → IsWrittenUnit unit word left) × (IsWrittenUnit unit word left → IsUnit unit word left)
+UnitsAsWritten =
+    (unit : LexicalUnit) (word left : List ℕ)
+    → (IsUnit unit word left → IsWrittenUnit unit word left) × (IsWrittenUnit unit word left → IsUnit unit word left)

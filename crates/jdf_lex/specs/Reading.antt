@@ -26,7 +26,8 @@ add_length n (Some m) = Some (n + m)
 -- The number of bytes up to and including the first that ends the unit.
 abbrev pub closed_len : LexicalUnit → Bool → List ℕ → Option ℕ
 closed_len unit affected [] = None
-closed_len unit affected (b ∷ bs) = if ends_unit unit affected b then Some 1 else add_length 1 (closed_len unit (affects_next unit affected b) bs)
+closed_len unit affected (b ∷ bs) =
+    if ends_unit unit affected b then Some 1 else add_length 1 (closed_len unit (affects_next unit affected b) bs)
 
 -- The length of the unit at the front, if the text ends it.
 abbrev pub unit_len : LexicalUnit → List ℕ → Option ℕ

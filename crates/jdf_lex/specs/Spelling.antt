@@ -107,7 +107,8 @@ is_empty (b ∷ bs) = false
 -- Whether the bytes after the opening of a unit end with the first byte that ends the unit.
 abbrev pub is_closed : LexicalUnit → Bool → List ℕ → Bool
 is_closed unit affected [] = false
-is_closed unit affected (b ∷ bs) = if ends_unit unit affected b then is_empty bs else is_closed unit (affects_next unit affected b) bs
+is_closed unit affected (b ∷ bs) =
+    if ends_unit unit affected b then is_empty bs else is_closed unit (affects_next unit affected b) bs
 
 -- Whether a word is spelled as a unit, if the unit begins with it: a comment, a raw block and a quoted text end where
 -- their closing mark first does, a mark is one of the marks, and the other units are a byte and bytes that continue it.

@@ -15,10 +15,11 @@ use Rattle.jdf_alphabet.specs.Terminals.{number_of, terminal_by}
 use Rattle.jdf_lex.specs.Spelling.{begins_part, unit_at, is_spelling}
 pub use Rattle.jdf_lex.specs.Spelling.{is_letter, is_digit, is_part, is_blank}
 
--- The spot after the front of a text: its line is one more than the number of LF bytes in the front, its column one more
--- than the number of bytes after the last LF.
+-- The spot after the front of a text: its line is one more than the number of LF bytes in the front, its column one
+-- more than the number of bytes after the last LF.
 abbrev pub spot_after : List ℕ → Spot
-spot_after front = record { line = 1 + count_by (λ b. b == 10) front; column = 1 + suffix_len (λ b. not (b == 10)) front }
+spot_after front =
+    record { line = 1 + count_by (λ b. b == 10) front; column = 1 + suffix_len (λ b. not (b == 10)) front }
 
 -- The word, followed by `left`, is this unit: the unit begins there, the word is spelled as it, and no longer word at
 -- the same position is.
@@ -48,7 +49,8 @@ is_dropped (TokenOf kind) = false
 -- tokens, with blanks and comments between them.
 pub data IsLexedTo (front left : List ℕ) : List ℕ → List ℕ → List Token → Type 0 where
   nothing_more : IsLexedTo front left front left []
-  dropped_then : (before rest : List ℕ) (tokens : List Token) (unit : LexicalUnit) (word later : List ℕ) → IsTrue (is_dropped unit) → rest ≡ word ++ later
+  dropped_then : (before rest : List ℕ) (tokens : List Token) (unit : LexicalUnit) (word later : List ℕ)
+      → IsTrue (is_dropped unit) → rest ≡ word ++ later
       → IsUnit unit word later → IsLexedTo front left (before ++ word) later tokens → IsLexedTo front left before rest tokens
   token_then : (before rest : List ℕ) (tokens : List Token) (token : Token) (word later : List ℕ) → rest ≡ word ++ later
       → IsToken before word later token → IsLexedTo front left (before ++ word) later tokens → IsLexedTo front left before rest (token ∷ tokens)
@@ -119,4 +121,5 @@ NotBoth = (text : List ℕ) → HasTokens text → HasFault text → ⊥
 
 -- A text has at most one first token fault.
 abbrev pub OneTokenFault : Type 0
-OneTokenFault = (text : List ℕ) (fault other : JdfFault) → IsTokenFault text fault → IsTokenFault text other → fault ≡ other
+OneTokenFault =
+    (text : List ℕ) (fault other : JdfFault) → IsTokenFault text fault → IsTokenFault text other → fault ≡ other

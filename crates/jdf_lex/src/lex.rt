@@ -49,7 +49,8 @@ fn add_token(
     requires inside { here.index + front.len ≤ length text.now }
     ensures at_most { IfOk result (λ _. length tokens.old < 1000000) }
     ensures added { IfOk result (λ _. tokens.new ≡ tokens.old ++ token_here text.now here front.kind front.len ∷ []) }
-    ensures refused { (f : JdfFault) → result ≡ Err (Fault f) → (f ≡ record { spot = here.spot; code = TooManyTokens }) × (1000000 ≤ length tokens.old) }
+    ensures refused { (f : JdfFault) → result ≡ Err (Fault f)
+        → (f ≡ record { spot = here.spot; code = TooManyTokens }) × (1000000 ≤ length tokens.old) }
 {
     if tokens.len() >= MOST_TOKENS {
         return Err(fault(here.spot, JdfCode::TooManyTokens));
@@ -119,7 +120,8 @@ pub fn tokens(alloc: Global, text: &str) -> Result<Lexed, JdfRefusal>
     // The result is the list of the text's tokens.
     ensures found { IfOk result (λ lexed. IsLexed text.now lexed.tokens lexed.end × (length lexed.tokens ≤ 1000000)) }
     // If the text has tokens, they are the result, unless memory runs out.
-    ensures only { (tokens : List Token) (end : Spot) → IsLexed text.now tokens end → length tokens ≤ 1000000 → (result ≡ Ok (record { tokens = tokens; end = end })) ⊎ (result ≡ Err OutOfMemory) }
+    ensures only { (tokens : List Token) (end : Spot) → IsLexed text.now tokens end → length tokens ≤ 1000000
+        → (result ≡ Ok (record { tokens = tokens; end = end })) ⊎ (result ≡ Err OutOfMemory) }
     // A fault that is returned is the first fault of the text.
     ensures fault { (f : JdfFault) → result ≡ Err (Fault f) → IsTokenFault text.now f }
     // If the text has a first fault, it is the result, unless memory runs out.

@@ -1,5 +1,5 @@
--- The canonical spelling of a tree, which `show` prints. The form is this project's own choice: a line for each part, and
--- every operator in parentheses.
+-- The canonical spelling of a tree, which `show` prints. The form is this project's own choice: a line for each part,
+-- and every operator in parentheses.
 use Rattle.std.specs.Prelude.{ℕ, List, [], ◌∷◌, ◌++◌, map, flat_map, Option, Some, None, Bool, true, false, codes}
 use Rattle.std.specs.Fmt.{signed_decimal}
 use Rattle.grammar_core.specs.declared.token.Token.{Token}
@@ -54,7 +54,8 @@ expression (tree.Name w) = token w.text ∷ []
 expression (tree.Elem w a) = token w.text ∷ token (codes "[") ∷ (expression a ++ token (codes "]") ∷ [])
 expression (tree.Unary o a spot) = enclosed (token (sign o) ∷ expression a)
 expression (tree.Binary o a b) = enclosed (expression a ++ (between (operator o) ++ expression b))
-expression (tree.Choose c a b) = enclosed (expression c ++ (between (codes "?") ++ (expression a ++ (between (codes ":") ++ expression b))))
+expression (tree.Choose c a b) =
+    enclosed (expression c ++ (between (codes "?") ++ (expression a ++ (between (codes ":") ++ expression b))))
 
 -- The step of a range, if there is one.
 abbrev pub step : Option Expression → List Fragment
@@ -85,7 +86,8 @@ other (Some t) = between (codes ":") ++ target t
 
 abbrev pub datatype : Option Word → List Fragment
 datatype None = []
-datatype (Some w) = space ∷ token (codes "[") ∷ token (codes "type") ∷ (between (codes "=") ++ token w.text ∷ token (codes "]") ∷ [])
+datatype (Some w) =
+    space ∷ token (codes "[") ∷ token (codes "type") ∷ (between (codes "=") ++ token w.text ∷ token (codes "]") ∷ [])
 
 abbrev pub arrow : Bool → List ℕ
 arrow true = codes "<-"
@@ -93,7 +95,10 @@ arrow false = codes "->"
 
 -- A dependence, indented by two spaces.
 abbrev pub dependence : DepTree → List Fragment
-dependence d = line (blank (codes "  ") ∷ token (arrow d.inward) ∷ space ∷ (guard d.guard ++ (target d.yes ++ (other d.no ++ datatype d.datatype))))
+dependence d =
+    line
+    (blank (codes "  ") ∷ token (arrow d.inward) ∷ space
+    ∷ (guard d.guard ++ (target d.yes ++ (other d.no ++ datatype d.datatype))))
 
 abbrev pub kind_word : FlowKind → List ℕ
 kind_word kind.Read = codes "READ"

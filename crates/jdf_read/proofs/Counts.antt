@@ -6,7 +6,7 @@ use Rattle.grammar_core.proofs.Loops.{so_far}
 use Rattle.jdf_alphabet.specs.Codes.{TooManyClasses}
 use Rattle.jdf_tree.specs.declared.tree.ClassTree.{ClassTree}
 use Rattle.jdf_tree.specs.Grammar.{productions, class_and_skips, classes}
-use Rattle.jdf_tree.proofs.Lists.{counted}
+use Rattle.jdf_read.proofs.ListSteps.{counted}
 use Rattle.jdf_read.proofs.Listed.{classes_after_first}
 
 -- what holds of the first class alone

@@ -1,3 +1,4 @@
+pub mod ListSteps
 pub mod Begins
 pub mod Counts
 pub mod File

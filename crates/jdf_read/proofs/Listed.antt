@@ -14,7 +14,8 @@ use Rattle.jdf_tree.specs.declared.part.Part.TheVariants.{Class}
 use Rattle.jdf_tree.specs.ClassGrammar.{argument, arguments, arrow, is_arrow, dependence, dependences, kind_of_flow, is_kind, flow, flows, definition, definitions, head, class, full_at}
 use Rattle.jdf_tree.specs.Grammar.{productions, skip, class_and_skips, classes}
 use Rattle.jdf_read.specs.Next.{next_argument, next_parameter, is_skip}
-use Rattle.jdf_tree.proofs.Lists.{rest_of, some_begin, some_fail, counted, counted_begins, counted_after_first}
+use Rattle.jdf_tree.proofs.Lists.{rest_of}
+use Rattle.jdf_read.proofs.ListSteps.{some_begin, some_fail, counted, counted_begins, counted_after_first}
 use Rattle.jdf_tree.specs.GrammarParts.{any, name, names, listed}
 
 pub arguments_listed : IsListed productions next_argument (set (is terminal.Comma))

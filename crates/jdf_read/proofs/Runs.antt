@@ -1,6 +1,6 @@
 -- The longest run of tokens of a set.
 use Rattle.std.proofs.Common.{◌≡◌, ℕ, suc, ◌+◌, length, Bool, true, false, cond, List, [], ◌∷◌, Ok, Err, take, drop, refl, sym, ap, ◌∙◌, arith}
-use Rattle.std.specs.Prelude.{Some, None, not, ◌&&◌}
+use Rattle.std.specs.Prelude.{Some, None, not}
 use Rattle.std.specs.List.{prefix_len}
 use Rattle.jdf_alphabet.specs.declared.terminal.Terminal.TheVariants as terminal
 use Rattle.jdf_tree.specs.ClassGrammar.{is_in_body, begins_body, body_tokens}
@@ -15,6 +15,7 @@ use Rattle.grammar_core.proofs.Loops.{pair_with, applied, IsListed, many_from, m
 use Rattle.jdf_tree.specs.Nonterminal.{Grammar}
 use Rattle.jdf_tree.specs.GrammarParts.{any, maybe, or_none}
 use Rattle.jdf_tree.specs.Grammar.{productions}
+use Rattle.std.specs.Cmp.{first_so}
 
 -- a token of this set
 abbrev one : (Terminal → Bool) → Grammar Token
@@ -60,16 +61,12 @@ no_body s h = rw h refl
 abbrev first_and : Token × List Token → List Token
 first_and y = y.0 ∷ y.1
 
-in_body : (a b : Bool) → (a && b) ≡ true → a ≡ true
-in_body true b h = refl
-in_body false b h = h
-
 pub body_is : (s front back : List Token) → starts begins_body s ≡ true → front ≡ take (run_len is_in_body s) s → back ≡ drop (run_len is_in_body s) s → reading productions (maybe body_tokens) s ≡ Ok (front, back)
 unfolding body_tokens
 body_is [] front back h f b = absurd cc
 body_is (x ∷ s) front back h f b =
     let n = run_len is_in_body s in
-    let g : is_in_body (terminal_of x) ≡ true = in_body (is_in_body (terminal_of x)) (not (is terminal.LeftBracket (terminal_of x))) h in
+    let g : is_in_body (terminal_of x) ≡ true = first_so (is_in_body (terminal_of x)) (not (is terminal.LeftBracket (terminal_of x))) h in
     let up : run_len is_in_body (x ∷ s) ≡ suc n = ap (λ (c : Bool). cond c (1 + n) 0) g ∙ omega arith in
     let front_is : front ≡ x ∷ take n s = f ∙ ap (λ (m : ℕ). take m (x ∷ s)) up in
     let back_is : back ≡ drop n s = b ∙ ap (λ (m : ℕ). drop m (x ∷ s)) up in

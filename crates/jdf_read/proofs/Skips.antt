@@ -12,7 +12,8 @@ use Rattle.jdf_tree.specs.GrammarParts.{any}
 use Rattle.jdf_tree.specs.ClassGrammar.{class}
 use Rattle.jdf_tree.specs.Grammar.{productions, skip, class_and_skips}
 use Rattle.jdf_read.specs.Next.{past, is_skip}
-use Rattle.jdf_tree.proofs.Lists.{rest_of, rest_step}
+use Rattle.jdf_tree.proofs.Lists.{rest_of}
+use Rattle.jdf_read.proofs.ListSteps.{rest_step}
 use Rattle.jdf_read.proofs.Listed.{skips_listed}
 use Rattle.jdf_read.proofs.Parts.{with_rest}
 

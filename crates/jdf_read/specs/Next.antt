@@ -24,7 +24,9 @@ past g s = reading productions g s >>= λ x. Ok x.1
 -- Is a target next, and not a guard: `NEW`, `NULL`, or a name before a name or "("?
 abbrev pub is_target : List Token → Bool
 is_target [] = false
-is_target (x ∷ s) = is terminal.New (terminal_of x) || is terminal.Null (terminal_of x) || (is_name (terminal_of x) && (starts is_name s || starts (is terminal.LeftParen) s))
+is_target (x ∷ s) =
+    is terminal.New (terminal_of x) || is terminal.Null (terminal_of x)
+    || (is_name (terminal_of x) && (starts is_name s || starts (is terminal.LeftParen) s))
 
 -- Is a class next, and not a global or a skipped part: a name before "("?
 abbrev pub is_class : List Token → Bool

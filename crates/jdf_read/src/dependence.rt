@@ -66,7 +66,8 @@ fn is_target_next(tokens: &[Token]) -> bool
 // The targets after an arrow, with or without a guard: a name before a name or `(` begins a target.
 #[tactic(auto, using(crate::proofs::Begins::choice_reads))]
 fn choice(alloc: Global, tokens: &[Token]) -> Result<(Choice, &[Token]), ReadRefusal>
-    ensures { Returns (λ x. (x.0, x.1.now)) result (reading productions (pick may_follow_target_name unguarded guarded) tokens.now) }
+    ensures { Returns (λ x. (x.0, x.1.now)) result
+        (reading productions (pick may_follow_target_name unguarded guarded) tokens.now) }
 {
     if is_target_next(tokens) {
         unguarded(alloc, tokens)

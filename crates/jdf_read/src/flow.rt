@@ -18,7 +18,8 @@ use std::alloc::Global;
 use term_core::FlowKind;
 
 fn kind_by(terminal: Terminal) -> Option<FlowKind>
-    ensures { MatchOption result (is_kind terminal ≡ false) (λ kind. (is_kind terminal ≡ true) × (kind ≡ kind_by terminal)) }
+    ensures { MatchOption result (is_kind terminal ≡ false) (λ kind.
+        (is_kind terminal ≡ true) × (kind ≡ kind_by terminal)) }
 {
     match terminal {
         Terminal::Read => Some(FlowKind::Read),

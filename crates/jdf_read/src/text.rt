@@ -62,8 +62,10 @@ fn spot_after(front: &[u8]) -> Spot
 
 // The fault with this code where this many tokens are left: at the next token, or Truncated at the end.
 fn grammar_fault(lexed: &Lexed, left: usize, code: Code) -> JdfFault
-    ensures at_token { (token : Token) → slice_get lexed.now.tokens (length lexed.now.tokens - left) ≡ Some token → result ≡ record { spot = token.spot; code = code_at_token code } }
-    ensures at_end { slice_get lexed.now.tokens (length lexed.now.tokens - left) ≡ None → result ≡ record { spot = lexed.now.end; code = Truncated } }
+    ensures at_token { (token : Token) → slice_get lexed.now.tokens (length lexed.now.tokens - left) ≡ Some token
+        → result ≡ record { spot = token.spot; code = code_at_token code } }
+    ensures at_end { slice_get lexed.now.tokens (length lexed.now.tokens - left) ≡ None
+        → result ≡ record { spot = lexed.now.end; code = Truncated } }
 {
     let tokens = lexed.tokens.as_slice();
     match tokens.get(tokens.len().saturating_sub(left)) {

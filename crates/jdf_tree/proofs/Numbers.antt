@@ -1,11 +1,9 @@
 -- What the test of numbers consists of.
-use Rattle.std.proofs.Common.{◌≡◌, ℕ, ◌<◌, ◌≤◌, true, false, List, [], ◌∷◌, length, refl, arith}
-use Rattle.std.specs.Prelude.{nat_le, not}
+use Rattle.std.proofs.Common.{◌≡◌, ℕ, ◌≤◌, true, List, [], ◌∷◌}
+use Rattle.std.specs.Prelude.{nat_le}
 use Rattle.std.specs.List.{list_all}
-use Rattle.std.proofs.lemmas.Bool.{and_parts, not-true, leb-true}
-use Rattle.std.proofs.lemmas.Bool.Decides.{nat_tests}
+use Rattle.std.proofs.lemmas.Bool.{and_parts, leb-true}
 use Rattle.ptg_base.specs.Decimal.{is_digit, decimal, is_decimal}
-use Rattle.jdf_tree.specs.Numbers.{has_leading_zero, is_number}
 
 -- a decimal number has digits alone, and is at most the bound
 pub decimal_parts : (most : ℕ) (text : List ℕ) → is_decimal most text ≡ true → (list_all is_digit text ≡ true) × (decimal text ≤ most)
@@ -14,21 +12,3 @@ decimal_parts most [] e = absurd cc
 decimal_parts most (b ∷ bs) e =
     let parts = and_parts (list_all is_digit (b ∷ bs)) (nat_le (decimal (b ∷ bs)) most) e in
     (parts.0, leb-true (decimal (b ∷ bs)) most parts.1)
-
-decimal_from : (most : ℕ) (text : List ℕ) → 0 < length text → list_all is_digit text ≡ true → decimal text ≤ most → is_decimal most text ≡ true
-unfolding is_decimal
-decimal_from most [] some digits le = absurd (omega (arith, some))
-decimal_from most (b ∷ bs) some digits le = rw digits (grind (arith, nat_tests, le))
-
--- a number has no leading zero and digits alone, and is at most 2^63 - 1
-pub number_parts : (text : List ℕ) → is_number text ≡ true → (has_leading_zero text ≡ false) × (list_all is_digit text ≡ true) × (decimal text ≤ 9223372036854775807)
-unfolding is_number
-number_parts text e =
-    let parts = and_parts (not (has_leading_zero text)) (is_decimal 9223372036854775807 text) e in
-    let number = decimal_parts 9223372036854775807 text parts.1 in
-    (not-true (has_leading_zero text) parts.0, number.0, number.1)
-
--- and conversely
-pub number_from : (text : List ℕ) → 0 < length text → has_leading_zero text ≡ false → list_all is_digit text ≡ true → decimal text ≤ 9223372036854775807 → is_number text ≡ true
-unfolding is_number
-number_from text some zero digits le = rw (zero, decimal_from 9223372036854775807 text some digits le) refl

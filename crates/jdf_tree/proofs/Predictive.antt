@@ -1,19 +1,15 @@
 -- The grammar of a JDF text passes the test for predictive grammars.
-use Rattle.std.proofs.Common.{◌≡◌, Bool, true, false, refl}
-use Rattle.std.specs.Prelude.{◌&&◌}
+use Rattle.std.proofs.Common.{◌≡◌, true}
 use Rattle.grammar_core.specs.Predictive.{is_fine, are_names}
 use Rattle.grammar_core.specs.ExactReading.{IsPredictive}
 use Rattle.jdf_tree.specs.Nonterminal.{an_opening}
 use Rattle.jdf_tree.specs.Grammar.{productions, file, claims}
 use Rattle.jdf_tree.proofs.Fine.{productions_fine}
 use Rattle.jdf_tree.proofs.Limits.{productions_limits, opening_limits}
-
-first_of : (a b : Bool) → (a && b) ≡ true → a ≡ true
-first_of true b h = refl
-first_of false b h = h
+use Rattle.std.specs.Cmp.{first_so}
 
 opening_fine : are_names productions claims an_opening ≡ true → is_fine claims (productions an_opening) ≡ true
-opening_fine h = first_of (is_fine claims (productions an_opening)) _ h
+opening_fine h = first_so (is_fine claims (productions an_opening)) _ h
 
 pub file_fine : is_fine claims file ≡ true
 unfolding productions

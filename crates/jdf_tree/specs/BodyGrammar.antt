@@ -71,7 +71,11 @@ for_of x = For x.0 x.1.0.tree x.1.1.0.tree x.1.1.1
 
 -- for_loop = for name "=" expr ".." expr block
 unfoldable pub for_loop : Grammar StmtTree
-for_loop = map for_of (prefixed_by terminal.For (seq (name Body) (seq (prefixed_by terminal.Assign (outer Body)) (seq (prefixed_by terminal.Dots (outer Body)) block))))
+for_loop =
+    map for_of
+    (prefixed_by terminal.For
+    (seq (name Body)
+    (seq (prefixed_by terminal.Assign (outer Body)) (seq (prefixed_by terminal.Dots (outer Body)) block))))
 
 -- trap_statement = trap name ";"
 unfoldable pub trap_statement : Grammar StmtTree

@@ -16,7 +16,8 @@ how_many q s = count_by (λ x. q (terminal_of x)) s
 abbrev pub open_blocks : List Token → ℕ
 open_blocks s = how_many (is terminal.LeftBrace) s - how_many (is terminal.RightBrace) s
 
--- How many blocks may be open before a brace that opens another one: 32, and the braces around a whole body do not count.
+-- How many blocks may be open before a brace that opens another one: 32, and the braces around a whole body do not
+-- count.
 abbrev pub most_blocks : List Token → ℕ
 most_blocks s = if starts (is terminal.LeftBrace) s then 33 else 32
 

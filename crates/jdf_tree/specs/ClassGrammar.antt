@@ -1,4 +1,5 @@
--- The grammar of a class of tasks. Source: the JDF documentation; the limits, and `-> NULL`, are this project's own choice.
+-- The grammar of a class of tasks. Source: the JDF documentation; the limits, and `-> NULL`, are this project's own
+-- choice.
 use Rattle.std.proofs.Common.{arith}
 use Rattle.std.specs.Prelude.{ℕ, ◌≤◌, Bool, nat_le, not, List, ◌∷◌, Option, Some, None, option_map, ◌||◌, ◌&&◌, if◌then◌else◌}
 use Rattle.grammar_core.specs.declared.token.Spot.{Spot}
@@ -42,7 +43,10 @@ argument_of (a, Some x) = Span a.spot a.tree x.0.tree (option_map (λ s. s.tree)
 
 -- argument = expr (".." expr (".." expr)?)?
 unfoldable pub argument : Grammar ArgTree
-argument = map argument_of (seq (outer Class) (opt (seq (prefixed_by terminal.Dots (outer Class)) (opt (prefixed_by terminal.Dots (outer Class))))))
+argument =
+    map argument_of
+    (seq (outer Class)
+    (opt (seq (prefixed_by terminal.Dots (outer Class)) (opt (prefixed_by terminal.Dots (outer Class))))))
 
 -- arguments = argument ("," argument)*
 unfoldable pub arguments : Grammar (List ArgTree)
@@ -77,7 +81,9 @@ unguarded = map (λ x. (None, x, None)) target
 
 -- guarded = guard "?" target (":" target)?
 unfoldable pub guarded : Grammar Choice
-guarded = map (λ x. (Some x.0.tree, x.1.0, x.1.1)) (seq guard (prefixed_by terminal.Question (seq target (opt (prefixed_by terminal.Colon target)))))
+guarded =
+    map (λ x. (Some x.0.tree, x.1.0, x.1.1))
+    (seq guard (prefixed_by terminal.Question (seq target (opt (prefixed_by terminal.Colon target)))))
 
 -- the two arrows
 abbrev pub is_arrow : Terminal → Bool
@@ -93,7 +99,9 @@ may_follow_target_name k = is_name k || is terminal.LeftParen k
 
 -- datatype = "[" type "=" name "]"
 unfoldable pub datatype : Grammar Word
-datatype = prefixed_by terminal.LeftBracket (prefixed_by terminal.TypeWord (prefixed_by terminal.Assign (suffixed_by terminal.RightBracket (name Class))))
+datatype =
+    prefixed_by terminal.LeftBracket
+    (prefixed_by terminal.TypeWord (prefixed_by terminal.Assign (suffixed_by terminal.RightBracket (name Class))))
 
 -- the dependence of an arrow, its targets and its datatype
 abbrev pub dependence_of : Bool × (Choice × Option Word) → DepTree
@@ -176,11 +184,15 @@ is_no_right_bracket k = not (is terminal.RightBracket k)
 
 -- properties = "[", tokens other than "]", "]"
 unfoldable pub properties : Grammar (List Token)
-properties = prefixed_by terminal.LeftBracket (suffixed_by terminal.RightBracket (star any (one_of is_no_right_bracket)))
+properties =
+    prefixed_by terminal.LeftBracket (suffixed_by terminal.RightBracket (star any (one_of is_no_right_bracket)))
 
 -- the tokens of a body: names, numbers and marks, reserved words but END among them
 abbrev pub is_in_body : Terminal → Bool
-is_in_body k = not (is terminal.End k || is terminal.Quoted k || is terminal.Raw k || is terminal.OptionLine k || is terminal.Other k)
+is_in_body k =
+    not
+    (is terminal.End k || is terminal.Quoted k || is terminal.Raw k || is terminal.OptionLine k
+    || is terminal.Other k)
 
 -- the first token of a body, which is not "["
 abbrev pub begins_body : Terminal → Bool

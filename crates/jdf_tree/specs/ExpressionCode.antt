@@ -1,4 +1,5 @@
--- An injective code of expressions as trees of numbers, which the model of an expression needs. Its proof stands here since the model holds it.
+-- An injective code of expressions as trees of numbers, which the model of an expression needs. Its proof stands here
+-- since the model holds it.
 use Rattle.std.specs.Prelude.{◌≡◌, ℕ, List, [], ◌∷◌, refl}
 use Rattle.std.proofs.Common.{ap, sym, ◌∙◌, get_or}
 use Rattle.std.specs.Coded.{Coded, code_by, coded×, coded_list, coded_ℕ, coded_ℤ}
@@ -65,10 +66,14 @@ one_operator : (o p : BinOp) → number_of o ≡ number_of p → o ≡ p
 one_operator o p e = sym (back o) ∙ ap (λ (n : ℕ). get_or operators n Add) e ∙ back p
 
 spot_code : Coded Spot
-spot_code = code_by (ℕ × ℕ) (coded× coded_ℕ coded_ℕ) (λ s. (s.line, s.column)) (λ p. record { line = p.0; column = p.1 }) (λ _. refl)
+spot_code =
+    code_by (ℕ × ℕ) (coded× coded_ℕ coded_ℕ) (λ s. (s.line, s.column)) (λ p. record { line = p.0; column = p.1 }) (λ _.
+    refl)
 
 pub word_code : Coded Word
-word_code = code_by (List ℕ × Spot) (coded× (coded_list coded_ℕ) spot_code) (λ w. (w.text, w.spot)) (λ p. record { text = p.0; spot = p.1 }) (λ _. refl)
+word_code =
+    code_by (List ℕ × Spot) (coded× (coded_list coded_ℕ) spot_code) (λ w. (w.text, w.spot))
+    (λ p. record { text = p.0; spot = p.1 }) (λ _. refl)
 
 -- the code of an expression
 pub ghost_of : Expression → Gv

@@ -1,4 +1,5 @@
--- The grammar of expressions. Source: the JDF documentation; ranks and grouping are those of C. The single `&` and `|` are this project's own choice.
+-- The grammar of expressions. Source: the JDF documentation; ranks and grouping are those of C. The single `&` and `|`
+-- are this project's own choice.
 use Rattle.std.specs.Prelude.{pos, Bool, List, [], ◌∷◌, Option, Some, None, ◌||◌}
 use Rattle.grammar_core.specs.declared.token.Spot.{Spot}
 use Rattle.grammar_core.specs.declared.token.Token.{Token}
@@ -114,7 +115,9 @@ grouped a (x ∷ xs) = grouped (Binary x.0 a x.1.tree) xs
 
 -- operand (operator operand)*, where the operators are in this set
 abbrev pub ranked : (Terminal → Bool) → Grammar ExprWithSpot → Grammar ExprWithSpot
-ranked ops operand = map (λ x. with_spot x.0.spot (grouped x.0.tree x.1)) (seq operand (star any (seq (map operator_of (one_of ops)) operand)))
+ranked ops operand =
+    map (λ x. with_spot x.0.spot (grouped x.0.tree x.1))
+    (seq operand (star any (seq (map operator_of (one_of ops)) operand)))
 
 -- the marks of each precedence, the tightest first
 abbrev pub is_product : Terminal → Bool

@@ -81,4 +81,5 @@ pub record HasGrammarFault (bytes : List ℕ) (fault : JdfFault) : Type 0 where
 
 -- The first fault of the bytes: of their length, their encoding, their tokens or their grammar, in this order.
 abbrev pub IsJdfFault : List ℕ → JdfFault → Type 0
-IsJdfFault bytes fault = IsTooLong bytes fault ⊎ (IsNotUtf8 bytes fault ⊎ (HasTokenFault bytes fault ⊎ HasGrammarFault bytes fault))
+IsJdfFault bytes fault =
+    IsTooLong bytes fault ⊎ (IsNotUtf8 bytes fault ⊎ (HasTokenFault bytes fault ⊎ HasGrammarFault bytes fault))

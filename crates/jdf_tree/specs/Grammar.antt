@@ -22,7 +22,9 @@ use Rattle.jdf_tree.specs.BodyGrammar.{begins_statement, block_rest}
 
 -- skip = extern Quoted Raw | OptionLine
 unfoldable pub skip : Grammar Token
-skip = alt (map (λ x. x.0) (seq (word terminal.Extern) (seq (word terminal.Quoted) (word terminal.Raw)))) (word terminal.OptionLine)
+skip =
+    alt (map (λ x. x.0) (seq (word terminal.Extern) (seq (word terminal.Quoted) (word terminal.Raw))))
+    (word terminal.OptionLine)
 
 -- class skip*
 unfoldable pub class_and_skips : Grammar ClassTree
@@ -41,7 +43,9 @@ with_global name jdf = record { globals = name ∷ jdf.globals; classes = jdf.cl
 
 -- extern Quoted Raw opening
 unfoldable pub opening_after_extern : Grammar Jdf
-opening_after_extern = map (λ x. x.1.1.1) (seq (word terminal.Extern) (seq (word terminal.Quoted) (after_token (is terminal.Raw) an_opening)))
+opening_after_extern =
+    map (λ x. x.1.1.1)
+    (seq (word terminal.Extern) (seq (word terminal.Quoted) (after_token (is terminal.Raw) an_opening)))
 
 -- OptionLine opening
 unfoldable pub opening_after_option : Grammar Jdf
@@ -78,7 +82,8 @@ productions a_block = block_rest
 
 -- the first set of an operand
 abbrev pub begins_operand : Part → Terminal → Bool
-begins_operand part k = is terminal.Minus k || is terminal.Not k || is terminal.Number k || names part k || is terminal.LeftParen k
+begins_operand part k =
+    is terminal.Minus k || is terminal.Not k || is terminal.Number k || names part k || is terminal.LeftParen k
 
 -- the first set of the rest of a text, before its first class
 abbrev pub begins_opening : Terminal → Bool
@@ -86,7 +91,9 @@ begins_opening k = is terminal.Extern k || is terminal.OptionLine k || is_name k
 
 -- the marks of all infix operators, and "?"
 abbrev pub is_operator : Terminal → Bool
-is_operator k = is_product k || is_sum k || is_relation k || is_equality k || is_conjunction k || is_disjunction k || is terminal.Question k
+is_operator k =
+    is_product k || is_sum k || is_relation k || is_equality k || is_conjunction k || is_disjunction k
+    || is terminal.Question k
 
 -- what may continue a name: in a body, the index of an element
 abbrev pub continues_name : Part → Terminal → Bool

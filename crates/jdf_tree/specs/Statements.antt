@@ -26,6 +26,7 @@ count_of_statements Done = 0
 count_of_statements (DeclareThen w e rest) = count_of_statements rest + 1
 count_of_statements (SetThen w e rest) = count_of_statements rest + 1
 count_of_statements (PutThen w at e rest) = count_of_statements rest + 1
-count_of_statements (IfThen c first second rest) = count_of_statements first + count_of_statements second + count_of_statements rest + 1
+count_of_statements (IfThen c first second rest) =
+    count_of_statements first + count_of_statements second + count_of_statements rest + 1
 count_of_statements (ForThen w lo hi turn rest) = count_of_statements turn + count_of_statements rest + 1
 count_of_statements (TrapThen w rest) = count_of_statements rest + 1

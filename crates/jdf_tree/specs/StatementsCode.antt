@@ -1,4 +1,5 @@
--- An injective code of statements as trees of numbers, which the model of a block needs. Its proof stands here since the model holds it.
+-- An injective code of statements as trees of numbers, which the model of a block needs. Its proof stands here since
+-- the model holds it.
 use Rattle.std.specs.Prelude.{◌≡◌, refl}
 use Rattle.std.specs.Coded.{Coded}
 use base.Stored.{Gv, gnum, gcons}
@@ -8,11 +9,19 @@ use Rattle.jdf_tree.specs.Statements.{Statements, Done, DeclareThen, SetThen, Pu
 -- the code of statements
 pub ghost_of_statements : Statements → Gv
 ghost_of_statements Done = gnum 0
-ghost_of_statements (DeclareThen a b c) = gcons (gnum 1) (gcons (word_code.code a) (gcons (ghost_of b) (ghost_of_statements c)))
-ghost_of_statements (SetThen a b c) = gcons (gnum 2) (gcons (word_code.code a) (gcons (ghost_of b) (ghost_of_statements c)))
-ghost_of_statements (PutThen a b c d) = gcons (gnum 3) (gcons (word_code.code a) (gcons (ghost_of b) (gcons (ghost_of c) (ghost_of_statements d))))
-ghost_of_statements (IfThen a b c d) = gcons (gnum 4) (gcons (ghost_of a) (gcons (ghost_of_statements b) (gcons (ghost_of_statements c) (ghost_of_statements d))))
-ghost_of_statements (ForThen a b c d e) = gcons (gnum 5) (gcons (word_code.code a) (gcons (ghost_of b) (gcons (ghost_of c) (gcons (ghost_of_statements d) (ghost_of_statements e)))))
+ghost_of_statements (DeclareThen a b c) =
+    gcons (gnum 1) (gcons (word_code.code a) (gcons (ghost_of b) (ghost_of_statements c)))
+ghost_of_statements (SetThen a b c) =
+    gcons (gnum 2) (gcons (word_code.code a) (gcons (ghost_of b) (ghost_of_statements c)))
+ghost_of_statements (PutThen a b c d) =
+    gcons (gnum 3) (gcons (word_code.code a) (gcons (ghost_of b) (gcons (ghost_of c) (ghost_of_statements d))))
+ghost_of_statements (IfThen a b c d) =
+    gcons (gnum 4)
+    (gcons (ghost_of a) (gcons (ghost_of_statements b) (gcons (ghost_of_statements c) (ghost_of_statements d))))
+ghost_of_statements (ForThen a b c d e) =
+    gcons (gnum 5)
+    (gcons (word_code.code a)
+    (gcons (ghost_of b) (gcons (ghost_of c) (gcons (ghost_of_statements d) (ghost_of_statements e)))))
 ghost_of_statements (TrapThen a b) = gcons (gnum 6) (gcons (word_code.code a) (ghost_of_statements b))
 
 pub one_statements : (x y : Statements) → ghost_of_statements x ≡ ghost_of_statements y → x ≡ y

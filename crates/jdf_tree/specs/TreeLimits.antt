@@ -1,4 +1,5 @@
--- How much the tree of a text has at most, and what a second target stands with. A text with more is refused as it is read. The limits are this project's own choice.
+-- How much the tree of a text has at most, and what a second target stands with. A text with more is refused as it is
+-- read. The limits are this project's own choice.
 use Rattle.std.specs.Prelude.{ℕ, ◌≤◌, List, length, IsSome}
 use Rattle.std.specs.List.{AllByRecursion}
 use Rattle.jdf_tree.specs.declared.tree.DepTree.{DepTree}

@@ -104,7 +104,8 @@ impl Drop for ClassTree {
     }
 }
 
-/// A JDF text: its globals and its classes in the order of the text. Extern blocks, options and properties are not kept.
+/// A JDF text: its globals and its classes in the order of the text. Extern blocks, options and properties are not
+/// kept.
 pub struct Jdf {
     pub globals: Seq<Word>,
     pub classes: Seq<ClassTree>,

@@ -1,4 +1,5 @@
--- The made job: a graph of the shape of a tiled Cholesky factorization. Its tiles count the tasks that changed them in place of numbers of a matrix. Source: the tiled factorization of DAGuE 2012; the texts are this project's own choice.
+-- The made job: a graph of the shape of a tiled Cholesky factorization. Its tiles count the tasks that changed them in
+-- place of numbers of a matrix. Source: the tiled factorization of DAGuE 2012; the texts are this project's own choice.
 use Rattle.std.specs.Prelude.{ℕ, List, [], ◌∷◌, ◌++◌, flat_map, codes}
 use Rattle.std.specs.Fmt.{decimal}
 
@@ -91,4 +92,7 @@ jdf_text = text_of (globals ++ potrf ++ trsm ++ herk ++ gemm)
 
 -- The data of n rows of tiles: tiles of three elements, NT = n, and D of n by n tiles, all zero.
 abbrev pub data_text : ℕ → List ℕ
-data_text n = text_of (codes "elems,3" ∷ (codes "int,NT," ++ decimal n) ∷ (codes "coll,D," ++ decimal n ++ codes "," ++ decimal n) ∷ [])
+data_text n =
+    text_of
+    (codes "elems,3" ∷ (codes "int,NT," ++ decimal n) ∷ (codes "coll,D," ++ decimal n ++ codes "," ++ decimal n)
+    ∷ [])

@@ -7,7 +7,7 @@ use Rattle.data_read.specs.Draft.{Draft, begun, data_after}
 use Rattle.data_read.specs.Records.{first_record, later_record}
 use Rattle.data_read.specs.Reading.{all_records, as_data, data_of, later_records, records_of}
 use Rattle.data_read.specs.WholeRecords.{Row}
-use Rattle.data_read.proofs.Choices.{by_result}
+use Rattle.list_lemmas.proofs.Options.{by_result}
 use Rattle.data_read.proofs.Soundness.{IsSound, well_made}
 use Rattle.data_read.proofs.SoundRecords.{begun_sound}
 use Rattle.data_read.proofs.SoundTiles.{later_sound}

@@ -1,4 +1,5 @@
--- The text of a data file, of any length: the data that it spells, or its first fault. Source: this project's own choice.
+-- The text of a data file, of any length: the data that it spells, or its first fault. Source: this project's own
+-- choice.
 use Rattle.std.specs.Prelude.{◌≡◌, ◌⊎◌, ℕ, ◌<◌, ◌≤◌, List, length, Ok, Err}
 use Rattle.coll_data.specs.Data.{Data}
 use Rattle.coll_data.specs.declared.fault.DataCode.TheVariants.{TooLong}

@@ -16,11 +16,14 @@ OneVerdictOfJob = (job : Job) (v w : JobVerdict) → JobDenotes job v → JobDen
 
 -- Two texts denote one verdict at most.
 abbrev pub OneVerdict : Type 0
-OneVerdict = (jdf_text data_text : List ℕ) (v w : JobVerdict) → TextsDenote jdf_text data_text v → TextsDenote jdf_text data_text w → v ≡ w
+OneVerdict =
+    (jdf_text data_text : List ℕ) (v w : JobVerdict) → TextsDenote jdf_text data_text v
+    → TextsDenote jdf_text data_text w → v ≡ w
 
 -- A JDF within the limits of its text denotes a verdict with data that are well made.
 abbrev pub SomeVerdictOfJob : Type 0
-SomeVerdictOfJob = (job : Job) → IsWithinLimits job.jdf → well_data.IsWellMade job.given → (v : JobVerdict) × JobDenotes job v
+SomeVerdictOfJob =
+    (job : Job) → IsWithinLimits job.jdf → well_data.IsWellMade job.given → (v : JobVerdict) × JobDenotes job v
 
 -- Two texts denote a verdict.
 abbrev pub SomeVerdict : Type 0
@@ -28,8 +31,12 @@ SomeVerdict = (jdf_text data_text : List ℕ) → (v : JobVerdict) × TextsDenot
 
 -- A fault of the JDF's text is the verdict whatever the data's text is.
 abbrev pub JdfIsJudgedAlone : Type 0
-JdfIsJudgedAlone = (jdf_text data_text : List ℕ) (v w : JobVerdict) → JdfTextDenotes jdf_text v → TextsDenote jdf_text data_text w → w ≡ v
+JdfIsJudgedAlone =
+    (jdf_text data_text : List ℕ) (v w : JobVerdict) → JdfTextDenotes jdf_text v → TextsDenote jdf_text data_text w
+    → w ≡ v
 
 -- The data of a consistent plan are those that it was resolved with.
 abbrev pub DataFitPlan : Type 0
-DataFitPlan = (jdf_text data_text : List ℕ) (P : Plan) (given : Data) → TextsDenote jdf_text data_text (verdicts.Consistent P given) → DataFit P.colls P.elems given
+DataFitPlan =
+    (jdf_text data_text : List ℕ) (P : Plan) (given : Data)
+    → TextsDenote jdf_text data_text (verdicts.Consistent P given) → DataFit P.colls P.elems given

@@ -1,5 +1,5 @@
--- The stages that the text of a JDF and the text of its data reach: a job, the values of all its globals, a plan. Source: this
--- project's own choice, over the definitions of the stages.
+-- The stages that the text of a JDF and the text of its data reach: a job, the values of all its globals, a plan.
+-- Source: this project's own choice, over the definitions of the stages.
 use Rattle.std.specs.Prelude.{◌≡◌, ℕ, List, true, false}
 use Rattle.jdf_tree.specs.Jdf.{IsJdf}
 use Rattle.check_names.specs.Names.{Job}

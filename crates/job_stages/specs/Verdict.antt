@@ -1,5 +1,5 @@
--- What the text of a JDF and the text of its data denote. Source: this project's own choice of the order of refusals: the JDF's
--- text, the data's text, a global that the data lack, the names and kinds of the JDF, consistency.
+-- What the text of a JDF and the text of its data denote. Source: this project's own choice of the order of refusals:
+-- the JDF's text, the data's text, a global that the data lack, the names and kinds of the JDF, consistency.
 use Rattle.std.specs.Prelude.{◌≡◌, ◌⊎◌, ℕ, ◌+◌, List}
 use Rattle.jdf_lex.specs.declared.fault.JdfFault.{JdfFault}
 use Rattle.jdf_tree.specs.declared.tree.Jdf.{Jdf}
@@ -21,8 +21,9 @@ use Rattle.job_stages.specs.Stages.{HasJob, HasGlobals, HasPlan, IsLacking}
 abbrev pub missing_name : Data → DataFault
 missing_name given = record { row = given.rows_read + 1; code = MissingName }
 
--- A JDF with its data denotes this verdict: a global that the data lack; else the first fault of the JDF's names and kinds; else
--- the first fault of the plan, with the plan, whose names are printed; else the plan, which is consistent, with the data.
+-- A JDF with its data denotes this verdict: a global that the data lack; else the first fault of the JDF's names and
+-- kinds; else the first fault of the plan, with the plan, whose names are printed; else the plan, which is consistent,
+-- with the data.
 abbrev pub JobDenotes : Job → JobVerdict → Type 0
 JobDenotes job (verdicts.Data fault) = IsLacking job × (fault ≡ missing_name job.given)
 JobDenotes job (verdicts.Jdf fault) = HasGlobals job × types.IsFirstFault job fault
@@ -35,9 +36,12 @@ JdfTextDenotes jdf_text v = (fault : JdfFault) × IsJdfFault jdf_text fault × (
 
 -- the JDF's text is that of a tree, and the data's text has this first fault
 abbrev pub DataTextDenotes : List ℕ → List ℕ → JobVerdict → Type 0
-DataTextDenotes jdf_text data_text v = (J : Jdf) × (fault : DataFault) × IsJdf jdf_text J × IsDataFault data_text fault × (v ≡ verdicts.Data fault)
+DataTextDenotes jdf_text data_text v =
+    (J : Jdf) × (fault : DataFault) × IsJdf jdf_text J × IsDataFault data_text fault × (v ≡ verdicts.Data fault)
 
--- Two texts denote this verdict: the first fault of the JDF's text; else the first fault of the data's text; else what the job
--- of both denotes.
+-- Two texts denote this verdict: the first fault of the JDF's text; else the first fault of the data's text; else what
+-- the job of both denotes.
 abbrev pub TextsDenote : List ℕ → List ℕ → JobVerdict → Type 0
-TextsDenote jdf_text data_text v = JdfTextDenotes jdf_text v ⊎ (DataTextDenotes jdf_text data_text v ⊎ ((job : Job) × HasJob jdf_text data_text job × JobDenotes job v))
+TextsDenote jdf_text data_text v =
+    JdfTextDenotes jdf_text v
+    ⊎ (DataTextDenotes jdf_text data_text v ⊎ ((job : Job) × HasJob jdf_text data_text job × JobDenotes job v))

@@ -1,4 +1,5 @@
-//! What the text of a JDF and the text of its data come to: a refusal, a plan that is not consistent, or a consistent plan.
+//! What the text of a JDF and the text of its data come to: a refusal, a plan that is not consistent, or a consistent
+//! plan.
 #![tactic(auto)]
 
 mod data_text;

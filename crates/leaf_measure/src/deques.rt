@@ -37,7 +37,8 @@ pub fn deep_deque(alloc: Global, size: u32) -> Result<Vec<Count>, OutOfMemory> {
     Ok(vec![in alloc; Count::of("taken", taken)]?)
 }
 
-// Pushes the ids of numbers up to this one, in bursts that are popped until none is left. How many were popped, or came back.
+// Pushes the ids of numbers up to this one, in bursts that are popped until none is left. How many were popped, or came
+// back.
 fn push_and_pop(hands: &mut Hands, size: u32, burst: u32) -> u64 {
     let mut taken: u64 = 0;
     let mut pushed: u32 = 0;

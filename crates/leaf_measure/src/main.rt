@@ -1,4 +1,5 @@
-//! Measures the leaves of the runtime: the words name cases and their sizes, and what was counted is printed, a line each.
+//! Measures the leaves of the runtime: the words name cases and their sizes, and what was counted is printed, a line
+//! each.
 #![tactic(auto)]
 
 mod case;

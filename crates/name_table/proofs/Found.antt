@@ -7,12 +7,12 @@ use Rattle.std.specs.Map.{keys_of, lookup}
 use Rattle.std.specs.Option.{option_map}
 use Rattle.std.specs.Str.{bytes_eq}
 use Rattle.std.proofs.lemmas.Iterator.Adapters.{position_from-zero}
-use Rattle.std.proofs.lemmas.Option.{slice_get_within, slice_get_read}
+use Rattle.std.proofs.lemmas.Option.{slice_get_within, slice_get_read, same_Some}
 use Rattle.name_table.specs.declared.bucket.Slot.{Slot}
 use Rattle.name_table.specs.declared.index.Index.{Index}
 use Rattle.name_table.specs.Index.{has_number, in_bucket, has_room, bucket_at, mark_of, or_else, among_others, found, IsIndexOf}
 use Rattle.name_table.specs.Names.{index_named, value_named, IsEachOnce}
-use Rattle.name_table.proofs.Items.{some_same, same_bytes, bytes_same, number_has}
+use Rattle.name_table.proofs.Items.{same_bytes, bytes_same, number_has}
 
 -- a name found in a bucket has that number
 pub slot_sound : (names : List (List ℕ)) (name : List ℕ) (mark i : ℕ) (slots : List Slot) → in_bucket names name mark slots ≡ Some i → slice_get names i ≡ Some name
@@ -20,7 +20,7 @@ slot_sound names name mark i [] h = absurd cc
 slot_sound names name mark i (s ∷ slots) h = go (nat_eq s.mark mark && has_number names name s.number) refl h (λ e. slot_sound names name mark i slots e)
   where
     go : (b : Bool) → (nat_eq s.mark mark && has_number names name s.number) ≡ b → cond b (Some s.number) (in_bucket names name mark slots) ≡ Some i → (in_bucket names name mark slots ≡ Some i → slice_get names i ≡ Some name) → slice_get names i ≡ Some name
-    go true t e ih = subst (λ n. slice_get names n ≡ Some name) (some_same s.number i e) (number_has names name s.number (second_so (nat_eq s.mark mark) (has_number names name s.number) t))
+    go true t e ih = subst (λ n. slice_get names n ≡ Some name) (same_Some s.number i e) (number_has names name s.number (second_so (nat_eq s.mark mark) (has_number names name s.number) t))
     go false t e ih = ih e
 
 -- a name that is found has that number
@@ -38,7 +38,7 @@ found_sound names x name i is h =
 
 -- no name is there twice
 pub each_once : (names : List (List ℕ)) (x : Index) → IsIndexOf names x → IsEachOnce names
-each_once names x is i j name p q = some_same i j (sym (is.finds name i p) ∙ is.finds name j q)
+each_once names x is i j name p q = same_Some i j (sym (is.finds name i p) ∙ is.finds name j q)
 
 position_at : (names : List (List ℕ)) (name : List ℕ) (k i : ℕ) → position_from (λ (n : List ℕ). bytes_eq n name) k names ≡ Some i → (j : ℕ) × (i ≡ k + j) × (slice_get names j ≡ Some name)
 position_at [] name k i h = absurd cc
@@ -46,12 +46,12 @@ position_at (n ∷ names) name k i h = go (bytes_eq n name) refl h (λ e. positi
   where
     go : (b : Bool) → bytes_eq n name ≡ b → cond b (Some k) (position_from (λ (n : List ℕ). bytes_eq n name) (k + 1) names) ≡ Some i
         → (position_from (λ (n : List ℕ). bytes_eq n name) (k + 1) names ≡ Some i → (j : ℕ) × (i ≡ k + 1 + j) × (slice_get names j ≡ Some name)) → (j : ℕ) × (i ≡ k + j) × (slice_get (n ∷ names) j ≡ Some name)
-    go true t e ih = (0, omega (arith, some_same k i e), ap Some (same_bytes n name t))
+    go true t e ih = (0, omega (arith, same_Some k i e), ap Some (same_bytes n name t))
     go false t e ih = let r = ih e in (suc r.0, omega (arith, r.1), r.2)
 
 nowhere : (names : List (List ℕ)) (name : List ℕ) (k j : ℕ) → position_from (λ (n : List ℕ). bytes_eq n name) k names ≡ None → slice_get names j ≡ Some name → Some j ≡ None
 nowhere [] name k j h e = absurd cc
-nowhere (n ∷ names) name k zero h e = go (bytes_eq n name) (bytes_same n name (some_same n name e)) h
+nowhere (n ∷ names) name k zero h e = go (bytes_eq n name) (bytes_same n name (same_Some n name e)) h
   where
     go : (b : Bool) → b ≡ true → cond b (Some k) (position_from (λ (n : List ℕ). bytes_eq n name) (k + 1) names) ≡ None → Some zero ≡ None
     go true t f = absurd cc
@@ -81,7 +81,7 @@ module _ {V : Type 0} where
   value_first : (pairs : List (List ℕ × V)) (name : List ℕ) (i : ℕ) → ((j : ℕ) → slice_get (keys_of pairs) j ≡ Some name → j ≡ i) → slice_get (keys_of pairs) i ≡ Some name
       → lookup (bytes_eq name) pairs ≡ option_map (λ (p : List ℕ × V). p.1) (slice_get pairs i)
   value_first [] name i once h = absurd cc
-  value_first (p ∷ pairs) name zero once h = go (bytes_eq name p.0) (bytes_same name p.0 (sym (some_same p.0 name h)))
+  value_first (p ∷ pairs) name zero once h = go (bytes_eq name p.0) (bytes_same name p.0 (sym (same_Some p.0 name h)))
     where
       go : (b : Bool) → b ≡ true → cond b (Some p.1) (lookup (bytes_eq name) pairs) ≡ Some p.1
       go true t = refl
@@ -108,7 +108,7 @@ module _ {V : Type 0} where
       → Some p.1 ≡ value_named pairs name
   value_found pairs x name i p is f e =
       ap (option_map (λ (q : List ℕ × V). q.1)) (sym e)
-      ∙ sym (value_first pairs name i (λ j g. some_same j i (sym (is.finds name j g) ∙ f)) (found_sound (keys_of pairs) x name i is f))
+      ∙ sym (value_first pairs name i (λ j g. same_Some j i (sym (is.finds name j g) ∙ f)) (found_sound (keys_of pairs) x name i is f))
 
   pub value_missing : (pairs : List (List ℕ × V)) (x : Index) (name : List ℕ) → IsIndexOf (keys_of pairs) x → found (keys_of pairs) x name ≡ None → None ≡ value_named pairs name
   value_missing pairs x name is f = sym (value_none pairs name (λ j e. sym (is.finds name j e) ∙ f))

@@ -4,9 +4,7 @@ use Rattle.std.specs.Prelude.{slice_get}
 use Rattle.std.specs.Str.{bytes_eq}
 use Rattle.std.proofs.lemmas.Slice.Eq.{bytes_eq-Decides}
 use Rattle.name_table.specs.Index.{bytes_named, has_number}
-
-pub some_same : {X : Type 0} (x y : X) → Some x ≡ Some y → x ≡ y
-some_same x y e = cc
+use Rattle.std.proofs.lemmas.Option.{same_Some}
 
 pub same_bytes : (a b : List ℕ) → bytes_eq a b ≡ true → a ≡ b
 same_bytes a b e = (bytes_eq-Decides a b).0 e
@@ -37,7 +35,7 @@ module _ {X : Type 0} where
 
   -- what stands in a list with one more item stands in the list, or is that item at its end
   pub old_or_last : (P : Type 0) (xs : List X) (y x : X) (i : ℕ) → slice_get (xs ++ y ∷ []) i ≡ Some x → (slice_get xs i ≡ Some x → P) → (i ≡ length xs → y ≡ x → P) → P
-  old_or_last P [] y x zero h old last = last refl (some_same y x h)
+  old_or_last P [] y x zero h old last = last refl (same_Some y x h)
   old_or_last P [] y x (suc i) h old last = absurd cc
   old_or_last P (z ∷ xs) y x zero h old last = old h
   old_or_last P (z ∷ xs) y x (suc i) h old last = old_or_last P xs y x i h old (λ e s. last (ap suc e) s)

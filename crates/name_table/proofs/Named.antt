@@ -5,13 +5,9 @@ use Rattle.std.specs.List.{list_any, position_from}
 use Rattle.std.specs.Map.{keys_of}
 use Rattle.std.specs.Option.{option_copied}
 use Rattle.std.specs.Str.{bytes_eq}
-use Rattle.std.proofs.lemmas.Bool.Decides.{same_from_decides, Decides-like}
 use Rattle.std.proofs.lemmas.Iterator.Adapters.{position_from-zero}
-use Rattle.std.proofs.lemmas.Slice.Eq.{bytes_eq-Decides}
 use Rattle.name_table.specs.Names.{has_name, index_named, value_named}
-
-pub bytes_turned : (a b : List ℕ) → bytes_eq a b ≡ bytes_eq b a
-bytes_turned a b = same_from_decides (bytes_eq a b) (bytes_eq b a) (bytes_eq-Decides a b) (Decides-like (bytes_eq b a) (λ e. sym e) (λ e. sym e) (bytes_eq-Decides b a))
+use Rattle.list_lemmas.proofs.Texts.{bytes_eq-sym}
 
 pub is_some_copied : {X : Type 0} (r : Option (Bor X)) → is_some (option_copied r) ≡ is_some r
 is_some_copied (Some x) = refl
@@ -20,7 +16,7 @@ is_some_copied None = refl
 -- a table has a value of the name where the name is one of its names
 pub has_is : {V : Type 0} (name : List ℕ) (table : List (List ℕ × V)) → is_some (value_named table name) ≡ has_name (keys_of table) name
 has_is name [] = refl
-has_is name (p ∷ ps) = go (bytes_eq name p.0) (bytes_eq p.0 name) (bytes_turned name p.0) (has_is name ps)
+has_is name (p ∷ ps) = go (bytes_eq name p.0) (bytes_eq p.0 name) (bytes_eq-sym name p.0) (has_is name ps)
   where
     go : (b d : Bool) → b ≡ d → is_some (value_named ps name) ≡ has_name (keys_of ps) name → is_some (cond b (Some p.1) (value_named ps name)) ≡ (d || has_name (keys_of ps) name)
     go true true e ih = refl

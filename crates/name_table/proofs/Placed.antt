@@ -8,13 +8,13 @@ use Rattle.std.specs.Ordering.{nat_cmp}
 use Rattle.std.specs.Str.{bytes_eq}
 use Rattle.std.proofs.lemmas.Bool.{eqb-false}
 use Rattle.std.proofs.lemmas.Map.Text.{is_eq-slice_cmp}
-use Rattle.std.proofs.lemmas.Option.{get_or_from_slice_get, slice_get_read}
+use Rattle.std.proofs.lemmas.Option.{get_or_from_slice_get, slice_get_read, same_Some}
 use Rattle.std.proofs.lemmas.List.{get_or-set_same, get_or-set_other}
 use Rattle.std.proofs.Math.ListN.{length-set}
 use Rattle.name_table.specs.declared.bucket.Slot.{Slot}
 use Rattle.name_table.specs.declared.index.Index.{Index}
 use Rattle.name_table.specs.Index.{has_number, in_bucket, has_room, bucket_at, bucket_of, mark_of, mixed, or_else, among_others, found, IsIndexOf}
-use Rattle.name_table.proofs.Items.{some_same, same_bytes, bytes_same, number_has, has_number_of, kept_at, last_at, old_or_last, number_kept}
+use Rattle.name_table.proofs.Items.{same_bytes, bytes_same, number_has, has_number_of, kept_at, last_at, old_or_last, number_kept}
 use Rattle.name_table.proofs.Found.{slot_sound}
 
 -- names are found in a bucket as before, once another name is new
@@ -160,7 +160,7 @@ module _ (names : List (List ℕ)) (x : Index) (new : List ℕ) (is : IsIndexOf 
       other_sound name i e = go (bytes_eq new name) refl (sym (put name) ∙ e)
         where
           go : (b : Bool) → bytes_eq new name ≡ b → cond b (Some (length names)) (among_others x name) ≡ Some i → slice_get (names ++ new ∷ []) i ≡ Some name
-          go true t f = subst (λ k. slice_get (names ++ new ∷ []) k ≡ Some name) (some_same (length names) i f) (subst (λ n. slice_get (names ++ new ∷ []) (length names) ≡ Some n) (same_bytes new name t) (last_at names new))
+          go true t f = subst (λ k. slice_get (names ++ new ∷ []) k ≡ Some name) (same_Some (length names) i f) (subst (λ n. slice_get (names ++ new ∷ []) (length names) ≡ Some n) (same_bytes new name t) (last_at names new))
           go false t f = kept_at names new name i (is.others name i f)
 
       pub other_indexed : IsIndexOf (names ++ new ∷ []) y

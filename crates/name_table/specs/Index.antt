@@ -1,4 +1,5 @@
--- An index of names: which bucket has the number of a name, and which names are in a map of their own. Source: this project's own choice.
+-- An index of names: which bucket has the number of a name, and which names are in a map of their own. Source: this
+-- project's own choice.
 use Rattle.std.specs.Prelude.{◌≡◌, ℕ, ◌+◌, ◌*◌, ◌^◌, ◌%◌, Bool, false, ◌&&◌, cond, List, [], ◌∷◌, length, Option, Some, None, nat_eq, nat_lt, nat_le, ◌-◌, slice_get, slice_index_or}
 use Rattle.std.specs.BTreeMap.{get}
 use Rattle.std.specs.Cmp.Lexicographic.{slice_cmp}
@@ -9,7 +10,9 @@ use Rattle.name_table.specs.declared.bucket.Slot.{Slot}
 
 -- what one more byte makes of a number: digits count on, so that names that are counted get numbers one after another
 unfoldable pub with_byte : ℕ → ℕ → ℕ
-with_byte m b = cond (nat_le 48 b && nat_le b 57) (((m * 10) % 2 ^ 64 + (b - 48)) % 2 ^ 64) (((m + b) % 2 ^ 64 * 11400714819323198485) % 2 ^ 64)
+with_byte m b =
+    cond (nat_le 48 b && nat_le b 57) (((m * 10) % 2 ^ 64 + (b - 48)) % 2 ^ 64)
+    (((m + b) % 2 ^ 64 * 11400714819323198485) % 2 ^ 64)
 
 -- what further bytes make of it
 abbrev pub mixed_from : ℕ → List ℕ → ℕ
@@ -39,7 +42,8 @@ has_number names name number = bytes_named name (slice_get names number)
 -- the number of the name among the slots of a bucket
 abbrev pub in_bucket : List (List ℕ) → List ℕ → ℕ → List Slot → Option ℕ
 in_bucket names name mark [] = None
-in_bucket names name mark (s ∷ ss) = cond (nat_eq s.mark mark && has_number names name s.number) (Some s.number) (in_bucket names name mark ss)
+in_bucket names name mark (s ∷ ss) =
+    cond (nat_eq s.mark mark && has_number names name s.number) (Some s.number) (in_bucket names name mark ss)
 
 -- whether a bucket has room for one more slot
 abbrev pub has_room : List Slot → Bool
@@ -59,7 +63,9 @@ among_others index name = get (slice_cmp nat_cmp) index.others name
 
 -- what looking the name up gives
 abbrev pub found : List (List ℕ) → Index → List ℕ → Option ℕ
-found names index name = or_else (in_bucket names name (mark_of name) (bucket_at index.buckets.items name)) (cond (has_room (bucket_at index.buckets.items name)) None (among_others index name))
+found names index name =
+    or_else (in_bucket names name (mark_of name) (bucket_at index.buckets.items name))
+    (cond (has_room (bucket_at index.buckets.items name)) None (among_others index name))
 
 -- each name is found under its number
 pub record IsIndexOf (names : List (List ℕ)) (index : Index) : Type 0 where

@@ -11,7 +11,8 @@ use ptg_base::{OutOfMemory, Text};
 use std::alloc::Global;
 use std::collections::BTreeMap;
 
-/// The numbers of names. A bucket has at most seven; the names for which their bucket has no room are in a map by their order.
+/// The numbers of names. A bucket has at most seven; the names for which their bucket has no room are in a map by their
+/// order.
 /// So a look-up never takes more steps than a few and those of the map, however the names were chosen.
 #[derive(Drop)]
 pub struct Index {
@@ -86,7 +87,9 @@ impl Index {
     // Puts the number of a name into its bucket, or else among the others.
     fn put(&mut self, alloc: Global, name: &Text, number: u32) -> Result<(), OutOfMemory>
         requires { 0 < length self.old.buckets.items }
-        ensures put { OnOk result ((names : List (List ℕ)) → IsIndexOf names self.old → length names ≡ number → found names self.old name.now ≡ None → IsIndexOf (names ++ name.now ∷ []) self.new) }
+        ensures put { OnOk result
+            ((names : List (List ℕ)) → IsIndexOf names self.old → length names ≡ number
+            → found names self.old name.now ≡ None → IsIndexOf (names ++ name.now ∷ []) self.new) }
         ensures kept { OnErr result ((names : List (List ℕ)) → IsIndexOf names self.old → IsIndexOf names self.new) }
         ensures count { length self.new.buckets.items ≡ length self.old.buckets.items }
     {

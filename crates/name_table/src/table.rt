@@ -11,7 +11,8 @@ use ptg_base::{OutOfMemory, Text};
 use std::alloc::Global;
 use std::marker::Model;
 
-/// A table from names to values, seen as the list of its pairs in the order in which they were added. Each name has one value.
+/// A table from names to values, seen as the list of its pairs in the order in which they were added. Each name has one
+/// value.
 ///
 /// Names are looked up by an index that no choice of names makes slow.
 #[derive(Drop)]

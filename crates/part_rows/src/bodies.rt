@@ -30,8 +30,9 @@ pub fn read_names(alloc: Global, text: &[u8]) -> Result<Printed, Why> {
     }
 }
 
-/// Runs a body where `k` is 2 and `m` is 5, the tiles of `A`, `R` and `B` have so many zeros, and `C` has none: what the
-/// tile of `A` is in the end, or why the body traps. With 0 elements `A` has no tile, and the others have one element.
+/// Runs a body where `k` is 2 and `m` is 5, the tiles of `A`, `R` and `B` have so many zeros, and `C` has none: what
+/// the tile of `A` is in the end, or why the body traps. With 0 elements `A` has no tile, and the others have one
+/// element.
 pub fn run(alloc: Global, text: &[u8], elements: &[u8]) -> Result<Printed, Why> {
     let elements = elements_of(elements)?;
     let lexed = lexed(alloc, text)?;

@@ -9,7 +9,8 @@ use std::alloc::Global;
 // So long a file may be.
 const LONGEST: usize = 16777216;
 
-/// Reads a data file: the number of its records, and what they give in the order of the file's format; or its first fault.
+/// Reads a data file: the number of its records, and what they give in the order of the file's format; or its first
+/// fault.
 pub fn read(alloc: Global, bytes: &[u8]) -> Result<Printed, Why> {
     if bytes.len() > LONGEST {
         return Err(Why("a data file that is too long"));

@@ -23,8 +23,8 @@ pub fn globals(alloc: Global) -> Result<Tables, Why> {
     Ok(Tables { ints, colls })
 }
 
-/// Beside these globals the locals are `k` and `m`, and the flows are `A` of kind RW, `R` of kind READ, `B` of kind WRITE
-/// and `C` of kind CTL.
+/// Beside these globals the locals are `k` and `m`, and the flows are `A` of kind RW, `R` of kind READ, `B` of kind
+/// WRITE and `C` of kind CTL.
 pub fn scope<'a>(alloc: Global, globals: &'a Tables) -> Result<Scope<'a>, Why> {
     let locals = vec![in alloc; Text::of(alloc, b"k")?, Text::of(alloc, b"m")?]?;
     let flows = vec![in alloc;

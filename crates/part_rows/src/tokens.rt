@@ -8,8 +8,8 @@ use std::alloc::Global;
 // So long a text may be.
 const LONGEST: usize = 16777216;
 
-/// Reads the tokens of a text: each with its terminal, its line, its column and what it is, and the end of the text; or the
-/// text's first fault.
+/// Reads the tokens of a text: each with its terminal, its line, its column and what it is, and the end of the text; or
+/// the text's first fault.
 pub fn read(alloc: Global, text: &[u8]) -> Result<Printed, Why> {
     match lexed(alloc, text)? {
         Ok(lexed) => shown(alloc, &lexed),

@@ -2,7 +2,7 @@
 use Rattle.std.proofs.Common.{◌≡◌, ℕ, ℤ, zero, suc, ◌<◌, ◌↔◌, inl, inr, List, [], ◌∷◌, length, Option, Some, slice_get, sym, ap, ◌∙◌, subst, arith}
 use Rattle.std.specs.Prelude.{option_and_then}
 use Rattle.std.specs.List.{zip}
-use Rattle.std.proofs.lemmas.Option.{slice_get_within, slice_get-get_or, option_and_then_some}
+use Rattle.std.proofs.lemmas.Option.{slice_get_within, slice_get-get_or, option_and_then_some, same_Some}
 use Rattle.ptg_base.specs.Lists.{IsIn}
 use Rattle.coll_data.specs.declared.coll.Coll.{Coll}
 use Rattle.coll_data.specs.Tiles.{tile_count}
@@ -26,9 +26,6 @@ beside (a ∷ xs) [] n x y at_x at_y = absurd cc
 beside (a ∷ xs) (b ∷ ys) zero x y at_x at_y = inl cc
 beside (a ∷ xs) (b ∷ ys) (suc n) x y at_x at_y = inr (beside xs ys n x y at_x at_y)
 
-same_some : {A : Type 0} (x y : A) → Some x ≡ Some y → x ≡ y
-same_some x y e = cc
-
 -- the n-th place is the one with the index n
 pub nth_place : (rows : ℕ) (cols : Option ℕ) (n : ℕ) → n < tile_count rows cols → slice_get (places rows cols) n ≡ Some (place_after cols n)
 nth_place rows cols n within =
@@ -41,7 +38,7 @@ nth_index rows cols n place = (forward, backward) where
   forward e =
       let listed = slice_get_within (places rows cols) n place e in
       let within : n < tile_count rows cols = omega (arith, listed, length_places rows cols) in
-      let same : place_after cols n ≡ place = same_some (place_after cols n) place (sym (nth_place rows cols n within) ∙ e) in
+      let same : place_after cols n ≡ place = same_Some (place_after cols n) place (sym (nth_place rows cols n within) ∙ e) in
       subst (λ p. listed_index rows cols p ≡ Some n) same (index_after rows cols n within)
 
   backward : listed_index rows cols place ≡ Some n → slice_get (places rows cols) n ≡ Some place

@@ -1,4 +1,5 @@
--- What a body may read and change: tiles according to the kinds of their flows, its trap words, and the variables of its loops. Source: PaRSEC 2013 for the kinds; the language of bodies is this project's own choice.
+-- What a body may read and change: tiles according to the kinds of their flows, its trap words, and the variables of
+-- its loops. Source: PaRSEC 2013 for the kinds; the language of bodies is this project's own choice.
 use Rattle.std.specs.Prelude.{ℕ, List, Bool, true, not, ◌&&◌, ◌==◌, nat_lt, slice_get}
 use Rattle.term_core.specs.Term.{Term, Num, Local, Elem, Unary, Binary, Choose}
 use Rattle.term_core.specs.StatementList.{StatementList, Done, SetThen, PutThen, IfThen, ForThen, TrapThen}
@@ -49,6 +50,8 @@ abbrev pub keeps_loop_variables : StatementList → Bool
 keeps_loop_variables Done = true
 keeps_loop_variables (SetThen n e rest) = keeps_loop_variables rest
 keeps_loop_variables (PutThen flow at e rest) = keeps_loop_variables rest
-keeps_loop_variables (IfThen c first second rest) = keeps_loop_variables first && keeps_loop_variables second && keeps_loop_variables rest
-keeps_loop_variables (ForThen n lo hi turn rest) = never_sets n turn && keeps_loop_variables turn && keeps_loop_variables rest
+keeps_loop_variables (IfThen c first second rest) =
+    keeps_loop_variables first && keeps_loop_variables second && keeps_loop_variables rest
+keeps_loop_variables (ForThen n lo hi turn rest) =
+    never_sets n turn && keeps_loop_variables turn && keeps_loop_variables rest
 keeps_loop_variables (TrapThen w rest) = keeps_loop_variables rest

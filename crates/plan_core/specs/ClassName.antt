@@ -1,4 +1,5 @@
--- The names of classes by their numbers. Source: the JDF documentation (classes are numbered from 0 in the order of the file).
+-- The names of classes by their numbers. Source: the JDF documentation (classes are numbered from 0 in the order of the
+-- file).
 use Rattle.std.specs.Prelude.{ℕ, List, [], slice_get}
 use Rattle.std.specs.Option.{option_map_or}
 use Rattle.plan_core.specs.declared.class.ClassPlan.{ClassPlan}

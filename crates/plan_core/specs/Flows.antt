@@ -1,4 +1,5 @@
--- Which targets a flow may have, by its kind and its datatype. Source: PaRSEC 2013 and the JDF documentation; that `-> NULL` is allowed on a flow with a tile is this project's own choice, and so are the limits.
+-- Which targets a flow may have, by its kind and its datatype. Source: PaRSEC 2013 and the JDF documentation; that `->
+-- NULL` is allowed on a flow with a tile is this project's own choice, and so are the limits.
 use Rattle.std.specs.Prelude.{ℕ, List, Option, Some, None, Bool, true, false, not, ◌&&◌, ◌==◌, ◌+◌, nat_le, nat_lt, length, is_some}
 use Rattle.std.specs.List.{list_all, list_any}
 use Rattle.term_core.specs.Term.{Term}
@@ -22,7 +23,8 @@ may_order classes (Element coll indices) = false
 may_order classes New = false
 may_order classes Null = false
 
--- a tile comes from a flow with a tile, of one task and not of a range of tasks, or from an element, or is new, or there is none
+-- a tile comes from a flow with a tile, of one task and not of a range of tasks, or from an element, or is new, or
+-- there is none
 abbrev pub may_read : List ClassPlan → Target → Bool
 may_read classes (Task class flow args) = is_data (kind_of classes class flow) && not (list_any is_span args)
 may_read classes (Element coll indices) = true
@@ -82,7 +84,8 @@ abbrev pub is_destination : List ClassPlan → List ClassSpace → List Shape �
 is_destination classes spaces colls locals f t =
     exists_target classes spaces colls locals t && has_datatype classes colls f.datatype t && is_out_target classes f.kind t
 
--- whether a flow of a class with so many locals has one of so many datatypes, and at most 16 dependences, each with targets that it may have
+-- whether a flow of a class with so many locals has one of so many datatypes, and at most 16 dependences, each with
+-- targets that it may have
 abbrev pub is_flow : List ClassPlan → List ClassSpace → List Shape → ℕ → ℕ → FlowPlan → Bool
 is_flow classes spaces colls types locals f =
     is_datatype types f.kind f.datatype

@@ -1,4 +1,5 @@
--- The flows of a job by number, and their kinds: a CTL flow carries order alone, every other flow carries a tile. Source: PaRSEC 2013.
+-- The flows of a job by number, and their kinds: a CTL flow carries order alone, every other flow carries a tile.
+-- Source: PaRSEC 2013.
 use Rattle.std.specs.Prelude.{ℕ, List, Option, Some, None, Bool, true, false, slice_get, option_map, option_and_then}
 use Rattle.term_core.specs.declared.flow.FlowKind.{FlowKind}
 use Rattle.term_core.specs.declared.flow.FlowKind.TheVariants.{Read, Write, Rw, Ctl}

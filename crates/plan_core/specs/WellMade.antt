@@ -1,4 +1,5 @@
--- When the parts of a plan fit one another. Source: the JDF documentation and PaRSEC 2013; the limits are this project's own choice.
+-- When the parts of a plan fit one another. Source: the JDF documentation and PaRSEC 2013; the limits are this
+-- project's own choice.
 use Rattle.std.specs.Prelude.{◌≡◌, ℕ, List, Option, Some, None, Bool, ◌&&◌, ◌*◌, ◌≤◌, nat_le, nat_lt, length, map, IsTrue, slice_get}
 use Rattle.std.specs.List.{list_all}
 use Rattle.term_core.specs.WellSpace.{IsWellSpace}
@@ -13,7 +14,8 @@ use Rattle.plan_core.specs.Targets.{is_element}
 use Rattle.plan_core.specs.Flows.{is_flow}
 use Rattle.plan_core.specs.Bodies.{respects_kinds, has_words, keeps_loop_variables}
 
--- a class with this space, in a job with these classes, spaces, collections and so many datatypes; that its body is well made bounds its flows by 8
+-- a class with this space, in a job with these classes, spaces, collections and so many datatypes; that its body is
+-- well made bounds its flows by 8
 pub record IsWellClass (classes : List ClassPlan) (spaces : List ClassSpace) (colls : List Shape) (types : ℕ) (s : ClassSpace) (c : ClassPlan) : Type 0 where
   pub space : IsWellSpace s
   pub affinity : IsTrue (is_element colls (length s.defs) c.affinity.0 c.affinity.1)
@@ -32,18 +34,21 @@ tile_count rows (Some cols) = rows * cols
 
 -- whether a collection has 1 to 65,536 tiles, of one of so many datatypes
 abbrev pub is_shape : ℕ → Shape → Bool
-is_shape types s = nat_le 1 (tile_count s.rows s.cols) && nat_le (tile_count s.rows s.cols) 65536 && nat_lt s.datatype types
+is_shape types s =
+    nat_le 1 (tile_count s.rows s.cols) && nat_le (tile_count s.rows s.cols) 65536 && nat_lt s.datatype types
 
 -- whether a tile may have so many numbers
 abbrev pub is_tile_length : ℕ → Bool
 is_tile_length n = nat_le 1 n && nat_le n 4096
 
--- at most 64 classes of different names, each with its space; 1 to 16 datatypes, given by the length of their tiles; collections of these
+-- at most 64 classes of different names, each with its space; 1 to 16 datatypes, given by the length of their tiles;
+-- collections of these
 pub record IsWellMade (classes : List ClassPlan) (spaces : List ClassSpace) (colls : List Shape) (elems : List ℕ) : Type 0 where
   pub classes_at_most : length classes ≤ 64
   pub one_space_each : length spaces ≡ length classes
   pub class_names : IsTrue (are_distinct (map (λ (c : ClassPlan). c.name) classes))
-  pub fit : (n : ℕ) (c : ClassPlan) (s : ClassSpace) → slice_get classes n ≡ Some c → slice_get spaces n ≡ Some s → IsWellClass classes spaces colls (length elems) s c
+  pub fit : (n : ℕ) (c : ClassPlan) (s : ClassSpace) → slice_get classes n ≡ Some c → slice_get spaces n ≡ Some s
+      → IsWellClass classes spaces colls (length elems) s c
   pub shapes : IsTrue (list_all (is_shape (length elems)) colls)
   pub has_default : 1 ≤ length elems
   pub types_at_most : length elems ≤ 16

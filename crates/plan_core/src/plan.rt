@@ -20,7 +20,8 @@ pub struct Plan {
     pub colls: Seq<Shape>,
     /// How many numbers a tile has, by the number of its type; type 0 is DEFAULT.
     pub elems: Seq<u32>,
-    /// Every number names something that exists, each target has as many arguments as it needs, and flows, targets, datatypes and bodies fit one another.
+    /// Every number names something that exists, each target has as many arguments as it needs, and flows, targets,
+    /// datatypes and bodies fit one another.
     pub ghost well_made: { IsWellMade classes spaces colls elems },
 }
 
@@ -61,7 +62,8 @@ impl Plan {
     pub fn class(&self, n: u32) -> &ClassPlan
         requires { n < length self.now.classes }
         ensures class { slice_get self.now.classes n ≡ Some result.now }
-        ensures well_made { (s : ClassSpace) → slice_get self.now.spaces n ≡ Some s → IsWellClass self.now.classes self.now.spaces self.now.colls (length self.now.elems) s result.now }
+        ensures well_made { (s : ClassSpace) → slice_get self.now.spaces n ≡ Some s
+            → IsWellClass self.now.classes self.now.spaces self.now.colls (length self.now.elems) s result.now }
     {
         self.classes.get(n as usize)
     }

@@ -5,7 +5,8 @@ ghost use Rattle.plan_core.specs.Place.{IsRow, IsColumn};
 
 use ptg_base::Text;
 
-/// A collection of the data, without its tiles: how many rows of tiles it has, and how many columns where it has two dimensions.
+/// A collection of the data, without its tiles: how many rows of tiles it has, and how many columns where it has two
+/// dimensions.
 #[derive(Drop)]
 pub struct Shape {
     pub name: Text,

@@ -15,7 +15,8 @@ pub fn opening_tile<'a>(plan: &Plan, given: &'a Given, place: &Place) -> &'a Til
     requires fit { DataFit plan.now.colls plan.now.elems given.now }
     requires exists { HasPlace plan.now.colls place.now }
     ensures tile { tile_at given.now.colls place.now ≡ Some result.now }
-    ensures elements { IfSome (slice_get plan.now.colls place.now.coll) (λ (shape : Shape). length result.now ≡ slice_index plan.now.elems shape.datatype) }
+    ensures elements { IfSome (slice_get plan.now.colls place.now.coll) (λ (shape : Shape).
+        length result.now ≡ slice_index plan.now.elems shape.datatype) }
 {
     match given.tile(place) {
         Some(tile) => tile,

@@ -10,5 +10,6 @@ ghost use Rattle.plan_data.specs.Fit.{DataFit};
 
 /// A law: where the data fit a plan, the places of the plan are those of the data.
 pub fn places_of_the_plan_are_places_of_the_data()
-    ensures { (colls : List Shape) (elems : List ℕ) (d : Data) (p : Place) → DataFit colls elems d → plan.HasPlace colls p ↔ tiles.HasPlace d.colls p }
+    ensures { (colls : List Shape) (elems : List ℕ) (d : Data) (p : Place) → DataFit colls elems d
+        → plan.HasPlace colls p ↔ tiles.HasPlace d.colls p }
 {}

@@ -13,7 +13,7 @@ use Rattle.jdf_alphabet.specs.declared.terminal.Terminal.TheVariants as terminal
 use Rattle.jdf_alphabet.specs.Terminals.{is, terminal_by}
 use Rattle.print_laws.proofs.Readable.{kind_of, terminal_at}
 use Rattle.jdf_tree.specs.Numbers.{decimal, has_leading_zero, is_number}
-use Rattle.jdf_tree.proofs.Numbers.{number_from}
+use Rattle.print_laws.proofs.NumberTexts.{number_from}
 
 -- Whether the text is empty or begins with the digit 0.
 abbrev begins_zero : List ℕ → Bool

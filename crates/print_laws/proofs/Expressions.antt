@@ -39,7 +39,8 @@ DerivesTree g s t r = Derives (Derived productions) g s t None r
 abbrev pub IsName : List ℕ → Type 0
 IsName w = IsWritten w × (is_name (terminal_at w) ≡ true)
 
--- An expression that a class of a text can have: no element, its names are names, and its numbers are numbers of a text.
+-- An expression that a class of a text can have: no element, its names are names, and its numbers are numbers of a
+-- text.
 abbrev pub IsWellFormed : Expression → Type 0
 IsWellFormed (Num z spot) = IsNumber z
 IsWellFormed (Name w) = IsName w.text

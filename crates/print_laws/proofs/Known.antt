@@ -2,14 +2,14 @@
 use Rattle.std.proofs.Common.{◌≡◌, ℕ, Bool, true, false, cond, List, [], ◌∷◌, refl, sym, ap, ◌∙◌}
 use Rattle.std.specs.Prelude.{not, ◌&&◌}
 use Rattle.std.specs.Str.{bytes_eq}
-use Rattle.std.proofs.lemmas.Bool.{and_parts}
+use Rattle.std.proofs.lemmas.Bool.{and_parts, not-true}
 use Rattle.grammar_core.specs.declared.token.Token.{Token}
 use Rattle.jdf_alphabet.specs.declared.kind.TokenKind.{TokenKind}
 use Rattle.jdf_alphabet.specs.declared.kind.TokenKind.TheVariants as kinds
 use Rattle.jdf_alphabet.specs.declared.terminal.Terminal.{Terminal}
 use Rattle.jdf_alphabet.specs.declared.terminal.Terminal.TheVariants as terminal
 use Rattle.jdf_alphabet.specs.Terminals.{number_of, spelled, marks, terminal_by, terminal_of}
-use Rattle.jdf_alphabet.proofs.Numbers.{token_terminal}
+use Rattle.print_laws.proofs.TokenNumbers.{token_terminal}
 use Rattle.jdf_alphabet.specs.Counted.{is_name}
 use Rattle.jdf_tree.specs.ClassGrammar.{is_in_body}
 use Rattle.print_laws.proofs.Readable.{IsWritten, kind_of, like_terminal}
@@ -33,10 +33,6 @@ abbrev has_none : (Terminal → Bool) → List (List ℕ × Terminal) → Bool
 has_none q [] = true
 has_none q (w ∷ ws) = not (q w.1) && has_none q ws
 
-not_in : (b : Bool) → not b ≡ true → b ≡ false
-not_in true h = absurd (cc)
-not_in false h = refl
-
 choose : (q : Terminal → Bool) (b : Bool) (x y : Terminal) → q x ≡ false → q y ≡ false → q (cond b x y) ≡ false
 choose q true x y f g = f
 choose q false x y f g = g
@@ -45,7 +41,7 @@ spelled_out : (q : Terminal → Bool) (table : List (List ℕ × Terminal)) (tex
 spelled_out q [] text rest h k = k
 spelled_out q (w ∷ ws) text rest h k =
     let p = and_parts (not (q w.1)) (has_none q ws) h in
-    choose q (bytes_eq w.0 text) w.1 (spelled ws text rest) (not_in (q w.1) p.0) (spelled_out q ws text rest p.1 k)
+    choose q (bytes_eq w.0 text) w.1 (spelled ws text rest) (not-true (q w.1) p.0) (spelled_out q ws text rest p.1 k)
 
 apart : (b : Bool) → b ≡ true → b ≡ false → ⊥
 apart true h k = cc

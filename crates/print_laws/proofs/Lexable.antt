@@ -3,7 +3,7 @@ use Rattle.std.proofs.Common.{◌≡◌, ℕ, ℤ, Bool, true, false, cond, List
 use Rattle.std.specs.Prelude.{Option, Some, None, codes, nat_lt, ◌==◌, ◌||◌}
 use Rattle.std.specs.List.{flat_map, list_all}
 use Rattle.std.specs.Fmt.{signed_decimal}
-use Rattle.std.proofs.lemmas.Bool.{and_parts}
+use Rattle.std.proofs.lemmas.Bool.{and_parts, and_from, or_right, or_left}
 use Rattle.jdf_lex.specs.declared.lexical_unit.LexicalUnit.TheVariants as lex
 use Rattle.jdf_alphabet.specs.declared.kind.TokenKind.TheVariants as kinds
 use Rattle.grammar_core.specs.declared.token.Token.{Token}
@@ -28,7 +28,7 @@ use Rattle.jdf_tree.specs.declared.tree.FlowTree.{FlowTree}
 use Rattle.jdf_tree.specs.declared.tree.ClassTree.{ClassTree}
 use Rattle.jdf_tree.specs.declared.tree.Jdf.{Jdf}
 use Rattle.jdf_tree.specs.Expression.{Expression, Num, Name, Elem, Unary, Binary, Choose}
-use Rattle.jdf_tree.proofs.Numbers.{number_parts}
+use Rattle.print_laws.proofs.NumberTexts.{number_parts}
 use Rattle.jdf_tree.specs.ClassGrammar.{Choice}
 use Rattle.jdf_print.specs.Fragments.{Fragment, token, blank, text, space, newline, line, between, comma, separated, with_commas}
 use Rattle.jdf_print.specs.Spelling as print
@@ -40,7 +40,7 @@ use Rattle.print_laws.proofs.Targets.{IsArgument, IsTarget, IsChoice, IsDatatype
 use Rattle.print_laws.proofs.Classes.{IsFlow, IsDefinition, IsParameter, IsPriority, IsInBody, IsBody, IsClass, IsJob}
 use Rattle.print_laws.proofs.Known.{no_mark_is_name}
 use Rattle.print_laws.proofs.Marks.{IsGap, is_started, is_opener, among, among_pairs, written_before_gap, parts_unit, left_paren, right_paren, left_bracket, right_bracket, minus_unit, not_unit}
-use Rattle.print_laws.proofs.Lexing.{IsLexable, is_ascii, both_lex, both_true}
+use Rattle.print_laws.proofs.Lexing.{IsLexable, is_ascii, both_lex}
 
 -- ---- words
 
@@ -56,17 +56,17 @@ digit_ascii b h = grind arith
 
 parts_ascii : (bs : List ℕ) → list_all is_part bs ≡ true → is_ascii bs ≡ true
 parts_ascii [] h = refl
-parts_ascii (b ∷ bs) h = let p = and_parts (is_part b) (list_all is_part bs) h in both_true (nat_lt b 128) (is_ascii bs) (part_ascii b p.0) (parts_ascii bs p.1)
+parts_ascii (b ∷ bs) h = let p = and_parts (is_part b) (list_all is_part bs) h in and_from (nat_lt b 128) (is_ascii bs) (part_ascii b p.0) (parts_ascii bs p.1)
 
 mark_ascii : (w : List ℕ) → is_mark w ≡ true → is_ascii w ≡ true
 mark_ascii [] h = refl
-mark_ascii (a ∷ []) h = both_true (nat_lt a 128) true (among (λ c. nat_lt c 128) short_marks refl a h) refl
+mark_ascii (a ∷ []) h = and_from (nat_lt a 128) true (among (λ c. nat_lt c 128) short_marks refl a h) refl
 mark_ascii (a ∷ b ∷ []) h = among_pairs (λ c d. is_ascii (c ∷ d ∷ [])) long_marks refl a b h
 mark_ascii (a ∷ b ∷ d ∷ ds) h = absurd (cc)
 
 ascii_by : (b : ℕ) (bs : List ℕ) (l d : Bool) → is_letter b ≡ l → is_digit b ≡ d → cond (l || d) (list_all is_part bs) (is_mark (b ∷ bs)) ≡ true → is_ascii (b ∷ bs) ≡ true
-ascii_by b bs true d e f h = both_true (nat_lt b 128) (is_ascii bs) (letter_ascii b e) (parts_ascii bs h)
-ascii_by b bs false true e f h = both_true (nat_lt b 128) (is_ascii bs) (digit_ascii b f) (parts_ascii bs h)
+ascii_by b bs true d e f h = and_from (nat_lt b 128) (is_ascii bs) (letter_ascii b e) (parts_ascii bs h)
+ascii_by b bs false true e f h = and_from (nat_lt b 128) (is_ascii bs) (digit_ascii b f) (parts_ascii bs h)
 ascii_by b bs false false e f h = mark_ascii (b ∷ bs) h
 
 written_ascii : (w : List ℕ) → IsWritten w → is_ascii w ≡ true
@@ -86,13 +86,6 @@ name_word : (w : List ℕ) → IsName w → IsWord w
 name_word [] h = absurd (cc)
 name_word (b ∷ bs) h = (h.0, started_by b bs (is_letter b) (is_digit b) refl refl h.1)
 
-or_right : (x y : Bool) → y ≡ true → (x || y) ≡ true
-or_right true y h = refl
-or_right false y h = h
-
-or_left : (x y : Bool) → x ≡ true → (x || y) ≡ true
-or_left x y h = rw h refl
-
 some_same : {A : Type 0} {a b : A} → Some a ≡ Some b → a ≡ b
 some_same e = cc
 
@@ -100,7 +93,7 @@ digits_parts : (bs : List ℕ) → list_all is_digit bs ≡ true → list_all is
 digits_parts [] h = refl
 digits_parts (b ∷ bs) h =
     let p = and_parts (is_digit b) (list_all is_digit bs) h in
-    both_true (is_part b) (list_all is_part bs) (or_right (is_letter b) (is_digit b) p.0) (digits_parts bs p.1)
+    and_from (is_part b) (list_all is_part bs) (or_right (is_letter b) (is_digit b) p.0) (digits_parts bs p.1)
 
 digits_word : (w : List ℕ) → kind_of w ≡ kinds.Number → list_all is_digit w ≡ true → IsWord w
 digits_word [] k h = absurd (cc)

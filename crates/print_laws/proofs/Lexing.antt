@@ -1,6 +1,6 @@
 -- The tokens of the text of fragments are their words, if no word is continued by what follows it.
 use Rattle.std.proofs.Common.{◌≡◌, ℕ, ◌+◌, Bool, true, List, [], ◌∷◌, ◌++◌, length, refl, sym, ap, subst, ◌∙◌, inl, inr, arith, append_assoc}
-use Rattle.std.specs.Prelude.{nat_lt, ◌&&◌}
+use Rattle.std.specs.Prelude.{nat_lt}
 use Rattle.std.specs.List.{list_all}
 use Rattle.std.proofs.lemmas.List.{append-nil}
 use Rattle.std.proofs.lemmas.List.Folds.{list_all-append}
@@ -14,6 +14,7 @@ use Rattle.jdf_print.specs.Fragments.{Fragment, token, blank, bytes_of, text, to
 use Rattle.print_laws.proofs.Readable.{kind_of, terminal_at, Reads}
 use Rattle.print_laws.proofs.Forms.{Every}
 use Rattle.print_laws.proofs.Marks.{IsGap, gap_unit}
+use Rattle.std.proofs.lemmas.Bool.{and_from}
 
 -- The token of a word after these bytes.
 abbrev pub token_at : List ℕ → List ℕ → Token
@@ -80,19 +81,16 @@ lexed_from (blank bytes ∷ ps) before h =
 pub lexed : (ps : List Fragment) → IsLexable ps [] → IsLexed (text ps) (tokens_at [] ps) (spot_after (text ps))
 lexed ps h = (lexed_from ps [] h, refl)
 
-pub both_true : (a b : Bool) → a ≡ true → b ≡ true → (a && b) ≡ true
-both_true a b h k = rw (h, k) refl
-
 gap_ascii : (c : ℕ) → IsGap c → nat_lt c 128 ≡ true
 gap_ascii c (inl e) = ap (λ (b : ℕ). nat_lt b 128) e
 gap_ascii c (inr e) = ap (λ (b : ℕ). nat_lt b 128) e
 
 gaps_ascii : (bytes : List ℕ) → Every IsGap bytes → is_ascii bytes ≡ true
 gaps_ascii [] h = refl
-gaps_ascii (c ∷ bytes) h = both_true (nat_lt c 128) (is_ascii bytes) (gap_ascii c h.0) (gaps_ascii bytes h.1)
+gaps_ascii (c ∷ bytes) h = and_from (nat_lt c 128) (is_ascii bytes) (gap_ascii c h.0) (gaps_ascii bytes h.1)
 
 append_ascii : (a b : List ℕ) → is_ascii a ≡ true → is_ascii b ≡ true → is_ascii (a ++ b) ≡ true
-append_ascii a b h k = list_all-append (λ (c : ℕ). nat_lt c 128) a b ∙ both_true (is_ascii a) (is_ascii b) h k
+append_ascii a b h k = list_all-append (λ (c : ℕ). nat_lt c 128) a b ∙ and_from (is_ascii a) (is_ascii b) h k
 
 pub text_ascii : (ps : List Fragment) (after : List ℕ) → IsLexable ps after → is_ascii (text ps) ≡ true
 text_ascii [] after h = refl

@@ -1,3 +1,5 @@
+pub mod NumberTexts
+pub mod TokenNumbers
 pub mod Depth
 pub mod Readable
 pub mod Digits

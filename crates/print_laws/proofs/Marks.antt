@@ -2,7 +2,7 @@
 use Rattle.std.proofs.Common.{◌≡◌, ℕ, Bool, true, false, cond, List, [], ◌∷◌, ◌++◌, refl, sym, ap, subst, ◌∙◌, inl, inr, arith}
 use Rattle.std.specs.Prelude.{◌⊎◌, not, ◌&&◌, ◌||◌, ◌==◌, nat_eq, Some, if◌then◌else◌}
 use Rattle.std.specs.List.{list_any, list_all}
-use Rattle.std.proofs.lemmas.Bool.{and_parts, eqb-true}
+use Rattle.std.proofs.lemmas.Bool.{and_parts, eqb-true, not-true, or_right}
 use Rattle.std.proofs.lemmas.List.Folds.{list_all-append}
 use Rattle.jdf_lex.specs.declared.lexical_unit.LexicalUnit.TheVariants.{Blank, TokenOf}
 use Rattle.jdf_alphabet.specs.declared.kind.TokenKind.TheVariants.{Name, Number, Mark, Other}
@@ -25,20 +25,16 @@ digit_plain b h = grind arith
 digit_no_letter : (b : ℕ) → is_digit b ≡ true → is_letter b ≡ false
 digit_no_letter b h = grind arith
 
-negated : (b : Bool) → not b ≡ true → b ≡ false
-negated true h = absurd (cc)
-negated false h = refl
-
 -- Such a byte begins a name, a number, a mark or another token.
 plain_first : (b : ℕ) (rest : List ℕ) → starts_plainly b ≡ true → first_unit b rest ≡ (if is_letter b then TokenOf Name else (if is_digit b then TokenOf Number else (if begins_mark (b ∷ rest) then TokenOf Mark else TokenOf Other)))
 plain_first b rest h =
     let p = and_parts (not (nat_eq 47 b)) (not (nat_eq 37 b) && (not (b == 34) && not (is_blank b))) h in
     let q = and_parts (not (nat_eq 37 b)) (not (b == 34) && not (is_blank b)) p.1 in
     let r = and_parts (not (b == 34)) (not (is_blank b)) q.1 in
-    let slash = negated (nat_eq 47 b) p.0 in
-    let percent = negated (nat_eq 37 b) q.0 in
-    let quote = negated (b == 34) r.0 in
-    let blank = negated (is_blank b) r.1 in
+    let slash = not-true (nat_eq 47 b) p.0 in
+    let percent = not-true (nat_eq 37 b) q.0 in
+    let quote = not-true (b == 34) r.0 in
+    let blank = not-true (is_blank b) r.1 in
     rw (slash, percent, quote, blank) refl
 
 no_more : (bs left : List ℕ) → begins_part left ≡ false → (more after : List ℕ) → left ≡ more ++ after → list_all is_part (bs ++ more) ≡ true → more ≡ []
@@ -102,10 +98,6 @@ short_first a h = among no_other short_marks refl a h
 long_first : (a b : ℕ) → is_mark (a ∷ b ∷ []) ≡ true → (no_part a && starts_plainly a) ≡ true
 long_first a b h = among_pairs (λ x y. no_part x && starts_plainly x) long_marks refl a b h
 
-or_right : (x y : Bool) → y ≡ true → (x || y) ≡ true
-or_right true y h = refl
-or_right false y h = h
-
 begins_short : (a : ℕ) (left : List ℕ) → is_mark (a ∷ []) ≡ true → begins_mark (a ∷ left) ≡ true
 begins_short a [] h = h
 begins_short a (c ∷ left) h = or_right (is_mark (a ∷ c ∷ [])) (is_mark (a ∷ [])) h
@@ -126,7 +118,7 @@ short_unit a left mark first alone = record { begins = ap Some first; spelled = 
 first_mark : (a : ℕ) (left : List ℕ) → starts_plainly a ≡ true → no_part a ≡ true → begins_mark (a ∷ left) ≡ true → first_unit a left ≡ TokenOf Mark
 first_mark a left plain none begins =
     let p = and_parts (not (is_letter a)) (not (is_digit a)) none in
-    plain_first a left plain ∙ rw (negated (is_letter a) p.0, negated (is_digit a) p.1, begins) refl
+    plain_first a left plain ∙ rw (not-true (is_letter a) p.0, not-true (is_digit a) p.1, begins) refl
 
 three_bytes : (a b : ℕ) (more : List ℕ) → is_mark (a ∷ b ∷ more) ≡ true → more ≡ []
 three_bytes a b [] h = refl
@@ -149,7 +141,7 @@ IsGap c = (c ≡ 32) ⊎ (c ≡ 10)
 
 -- No mark of two bytes ends with a blank.
 alone_at : (a c : ℕ) → is_blank c ≡ true → (b : Bool) → is_mark (a ∷ c ∷ []) ≡ b → is_mark (a ∷ c ∷ []) ≡ false
-alone_at a c h true e = let k = negated (is_blank c) (among_pairs (λ x y. not (is_blank y)) long_marks refl a c e) in absurd (cc)
+alone_at a c h true e = let k = not-true (is_blank c) (among_pairs (λ x y. not (is_blank y)) long_marks refl a c e) in absurd (cc)
 alone_at a c h false e = e
 
 gap_blank : (c : ℕ) → IsGap c → is_blank c ≡ true

@@ -9,7 +9,7 @@ use Rattle.jdf_lex.specs.Spelling.{is_letter, is_digit, is_part, is_mark}
 use Rattle.jdf_alphabet.specs.declared.terminal.Terminal.{Terminal}
 use Rattle.jdf_alphabet.specs.Terminals.{number_of, terminal_by, terminal_of}
 use Rattle.jdf_alphabet.specs.Sets.{IsOne}
-use Rattle.jdf_alphabet.proofs.Numbers.{token_terminal}
+use Rattle.print_laws.proofs.TokenNumbers.{token_terminal}
 use Rattle.jdf_print.specs.Fragments.{Fragment, token, blank}
 
 -- The kind of a word of the spelling: a name, a number or a mark.

@@ -17,7 +17,7 @@ use Rattle.jdf_tree.specs.declared.expression.ExprWithSpot.{ExprWithSpot}
 use Rattle.jdf_tree.specs.declared.part.Part.TheVariants.{Class}
 use Rattle.jdf_tree.specs.Expression.{Expression, Binary}
 use Rattle.jdf_tree.specs.Numbers.{decimal, is_number}
-use Rattle.jdf_tree.proofs.Numbers.{number_parts}
+use Rattle.print_laws.proofs.NumberTexts.{number_parts}
 use Rattle.jdf_tree.specs.Nonterminal.{Nonterminal, an_expr, a_unary, TreeOf, Grammar}
 use Rattle.jdf_tree.specs.GrammarParts.{any}
 use Rattle.jdf_tree.specs.ExpressionGrammar.{name_alone, operator_of, grouped, ranked, is_sign, number, reference, signed, parens, unary, is_product, is_sum, is_relation, is_equality, is_conjunction, is_disjunction, product, sum, relation, equality, conjunction, disjunction, inside, branches, chosen, expr, outer, guard}

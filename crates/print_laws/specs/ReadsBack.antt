@@ -6,8 +6,8 @@ use Rattle.jdf_print.specs.Fragments.{token_count}
 use Rattle.jdf_print.specs.Spelling.{fragments, spelling}
 use Rattle.print_laws.specs.Same.{IsSame}
 
--- The canonical spelling of a tree that some text has, if the spelling has at most 16 MiB and 1,000,000 tokens, is itself
--- the text of a tree, the same but for spots and the indices of tokens.
+-- The canonical spelling of a tree that some text has, if the spelling has at most 16 MiB and 1,000,000 tokens, is
+-- itself the text of a tree, the same but for spots and the indices of tokens.
 abbrev pub ReadsBack : Type 0
 ReadsBack =
     (bytes : List ℕ) (jdf : Jdf) → IsJdf bytes jdf → length (spelling jdf) ≤ 16777216 → token_count (fragments jdf) ≤ 1000000

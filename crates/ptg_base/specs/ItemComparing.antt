@@ -21,7 +21,9 @@ place_cmp a b = first_difference (nat_cmp a.coll b.coll ∷ int_cmp a.i b.i ∷ 
 
 -- the source, its flow, the target and its flow decide, in this order
 abbrev pub edge_cmp : Edge → Edge → Ordering
-edge_cmp a b = first_difference (task_cmp a.from b.from ∷ nat_cmp a.out_flow b.out_flow ∷ task_cmp a.to b.to ∷ nat_cmp a.in_flow b.in_flow ∷ [])
+edge_cmp a b =
+    first_difference
+    (task_cmp a.from b.from ∷ nat_cmp a.out_flow b.out_flow ∷ task_cmp a.to b.to ∷ nat_cmp a.in_flow b.in_flow ∷ [])
 
 -- the source, its flow and the place decide, in this order
 abbrev pub write_back_cmp : WriteBack → WriteBack → Ordering

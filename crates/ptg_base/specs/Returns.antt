@@ -1,4 +1,5 @@
--- The result of a call for which a definition gives a value or a fault: that value, that fault, or that there was no memory.
+-- The result of a call for which a definition gives a value or a fault: that value, that fault, or that there was no
+-- memory.
 use Rattle.std.specs.Prelude.{◌≡◌, ◌⊎◌, Result, Ok, Err, IfOk}
 use Rattle.ptg_base.specs.declared.refusal.Refusal.{Refusal}
 use Rattle.ptg_base.specs.declared.refusal.Refusal.TheVariants.{Fault, OutOfMemory}

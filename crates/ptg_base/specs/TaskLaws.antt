@@ -13,7 +13,9 @@ use Rattle.ptg_base.specs.TaskComparing.{same_task, task_cmp, ComparesInTaskOrde
 
 -- the comparison is a total order
 pub task_cmp-total : IsTotalOrder task_cmp
-task_cmp-total = then_total (on_total (λ (t : Task). t.class) nat_cmp_total) (on_total (λ (t : Task). t.params) (lists_total int_cmp_total))
+task_cmp-total =
+    then_total (on_total (λ (t : Task). t.class) nat_cmp_total)
+    (on_total (λ (t : Task). t.params) (lists_total int_cmp_total))
 
 -- tasks are the same where the comparison answers Equal
 pub same_task-ties : (a b : Task) → same_task a b ≡ is_eq (task_cmp a b)
@@ -38,12 +40,15 @@ same_task-decides a b = (one, itself)
         λ i. class_is i && params_are i
 
 -- a first number decides, and else what follows it
-signed_then : (less more rest : Bool) (then : Ordering) → is_lt then ≡ rest → is_lt (ordering_then (cond less Less (cond more Greater Equal)) then) ≡ (less || (is_eq (cond less Less (cond more Greater Equal)) && rest))
+signed_then : (less more rest : Bool) (then : Ordering) → is_lt then ≡ rest
+    → is_lt (ordering_then (cond less Less (cond more Greater Equal)) then)
+    ≡ (less || (is_eq (cond less Less (cond more Greater Equal)) && rest))
 signed_then true more rest then e = refl
 signed_then false true rest then e = refl
 signed_then false false rest then e = e
 
-unsigned_then : (less same rest : Bool) (then : Ordering) → is_lt then ≡ rest → is_lt (ordering_then (cond less Less (cond same Equal Greater)) then) ≡ (less || (same && rest))
+unsigned_then : (less same rest : Bool) (then : Ordering) → is_lt then ≡ rest
+    → is_lt (ordering_then (cond less Less (cond same Equal Greater)) then) ≡ (less || (same && rest))
 unsigned_then true same rest then e = refl
 unsigned_then false true rest then e = e
 unsigned_then false false rest then e = refl
@@ -52,11 +57,14 @@ params_before-cmp : (xs ys : List ℤ) → is_lt (slice_cmp int_cmp xs ys) ≡ p
 params_before-cmp [] [] = refl
 params_before-cmp [] (y ∷ ys) = refl
 params_before-cmp (x ∷ xs) [] = refl
-params_before-cmp (x ∷ xs) (y ∷ ys) = signed_then (int_lt x y) (int_lt y x) (params_before xs ys) (slice_cmp int_cmp xs ys) (params_before-cmp xs ys)
+params_before-cmp (x ∷ xs) (y ∷ ys) =
+    signed_then (int_lt x y) (int_lt y x) (params_before xs ys) (slice_cmp int_cmp xs ys) (params_before-cmp xs ys)
 
 -- a task is before another in task order where the comparison answers Less
 pub task_before-cmp : (a b : Task) → is_lt (task_cmp a b) ≡ task_before a b
-task_before-cmp a b = unsigned_then (nat_lt a.class b.class) (a.class == b.class) (params_before a.params b.params) (slice_cmp int_cmp a.params b.params) (params_before-cmp a.params b.params)
+task_before-cmp a b =
+    unsigned_then (nat_lt a.class b.class) (a.class == b.class) (params_before a.params b.params)
+    (slice_cmp int_cmp a.params b.params) (params_before-cmp a.params b.params)
 
 less_is : (r : Ordering) (b : Bool) → is_lt r ≡ b → (r ≡ Less) ↔ IsTrue b
 less_is r b e = (λ h. sym e ∙ ap is_lt h, λ h. by r (e ∙ h))

@@ -1,4 +1,5 @@
--- Task order: by class, then by the parameters, compared as signed numbers from the first on. Source: this project's own choice.
+-- Task order: by class, then by the parameters, compared as signed numbers from the first on. Source: this project's
+-- own choice.
 use Rattle.std.specs.Prelude.{ℤ, Bool, true, false, ◌==◌, ◌&&◌, ◌||◌, nat_lt, List, [], ◌∷◌, if◌then◌else◌}
 use Rattle.std.specs.Prelude.{int_lt}
 use Rattle.std.specs.Ordering.{int_eq}

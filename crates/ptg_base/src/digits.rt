@@ -3,11 +3,13 @@
 ghost use Rattle.std.specs.Prelude.{◌≡◌, true, false, MatchOption};
 ghost use Rattle.ptg_base.specs.Decimal.{decimal, is_decimal};
 
-/// The number of these decimal digits, at most `most`. None where there is no byte, a byte is no digit, or the number is larger.
+/// The number of these decimal digits, at most `most`. None where there is no byte, a byte is no digit, or the number
+/// is larger.
 ///
 /// Leading zeros change nothing.
 pub fn decimal(text: &[u8], most: u64) -> Option<u64>
-    ensures { MatchOption result (is_decimal most text.now ≡ false) (λ n. (is_decimal most text.now ≡ true) × (n ≡ decimal text.now)) }
+    ensures { MatchOption result (is_decimal most text.now ≡ false) (λ n.
+        (is_decimal most text.now ≡ true) × (n ≡ decimal text.now)) }
 {
     if text.is_empty() {
         return None;

@@ -1,4 +1,5 @@
--- The bytes of a file by its name, and reads of them piece by piece. Source: this project's own choice; a read is POSIX's pread.
+-- The bytes of a file by its name, and reads of them piece by piece. Source: this project's own choice; a read is
+-- POSIX's pread.
 use Rattle.std.specs.Prelude.{◌≡◌, ℕ, ◌<◌, ◌≤◌, List, [], ◌∷◌, length, take, drop, Option, None, Some, if◌then◌else◌}
 use Rattle.std.specs.Str.{bytes_eq}
 

@@ -28,16 +28,25 @@ failed_reads files name = fault_count files.failed files.missing (index_of files
 -- What a failed read of a name does to the counts: the name's own count has one more, which is also that of every
 -- other missing name where the name is missing, and each other count stays.
 pub record CountsFault (old new : MemoryFiles) (name : List ℕ) : Type 0 where
-  pub own : (other : List ℕ) → index_of old.files other ≡ index_of old.files name → failed_reads new other ≡ one_more (failed_reads old other)
-  pub others : (other : List ℕ) → index_of old.files other ≢ index_of old.files name → failed_reads new other ≡ failed_reads old other
+  pub own : (other : List ℕ) → index_of old.files other ≡ index_of old.files name
+      → failed_reads new other ≡ one_more (failed_reads old other)
+  pub others : (other : List ℕ) → index_of old.files other ≢ index_of old.files name
+      → failed_reads new other ≡ failed_reads old other
 
 -- A read that gives bytes has the next number, which is none of those that fail, and changes nothing else.
 pub record CountsRead (old new : MemoryFiles) : Type 0 where
   pub allowed : ¬ Contains old.fails new.reads
-  pub next : new ≡ record { files = old.files; failed = old.failed; missing = old.missing; reads = one_more old.reads; fails = old.fails }
+  pub next : new
+      ≡ record {
+        files = old.files;
+        failed = old.failed;
+        missing = old.missing;
+        reads = one_more old.reads;
+        fails = old.fails;
+      }
 
--- A read of a name that fails has the next number, which is one of those that fail, or its name is missing. It changes the counts
--- of faults beside.
+-- A read of a name that fails has the next number, which is one of those that fail, or its name is missing. It changes
+-- the counts of faults beside.
 pub record CountsFailedRead (old new : MemoryFiles) (name : List ℕ) : Type 0 where
   pub cause : Contains old.fails new.reads ⊎ (index_of old.files name ≡ None)
   pub next : new.reads ≡ one_more old.reads

@@ -47,7 +47,8 @@ impl<T: Drop> From<AllocFailed<T>> for LoadFault {
     }
 }
 
-/// The bytes of a file, read in pieces up to its end. A file of more than 16 MiB is too long, and its reading stops there.
+/// The bytes of a file, read in pieces up to its end. A file of more than 16 MiB is too long, and its reading stops
+/// there.
 pub fn load<F: Files>(alloc: Global, files: &mut F, name: &str) -> Result<Seq<u8>, LoadFault>
     ensures stays { F.contents files.new ≡ F.contents files.old }
     ensures grows { (other : List ℕ) → F.faults files.old other ≤ F.faults files.new other }
@@ -137,7 +138,8 @@ fn read_piece<F: Files>(
     ensures too_long { IsErrOf result LoadFault.TooLong →
         (entries : List (List ℕ × List ℕ)) → F.contents files.old ≡ Some entries →
         IsLonger entries name.now 16777216 }
-    ensures read_fails { IsErrOf result LoadFault.Failed → F.read_fails files.old name.now (vec_len bytes.old) files.new }
+    ensures read_fails { IsErrOf result LoadFault.Failed
+        → F.read_fails files.old name.now (vec_len bytes.old) files.new }
     ensures no_fault { ¬ IsErrOf result LoadFault.Failed →
         (other : List ℕ) → F.faults files.new other ≡ F.faults files.old other }
     ensures past { IsErrOf result LoadFault.TooLong →

@@ -27,7 +27,8 @@ impl Model for MemFiles {
 
     ghost Value = { MemoryFiles };
 
-    ghost view = { λ m. record { files = m.all; failed = m.failed; missing = m.missing; reads = m.reads; fails = m.failing } };
+    ghost view = { λ m.
+        record { files = m.all; failed = m.failed; missing = m.missing; reads = m.reads; fails = m.failing } };
 
     ghost invariant = { λ m. length m.failed ≡ length m.all };
 }
@@ -107,7 +108,8 @@ fn index_of(files: &[File], name: &[u8]) -> Option<usize>
 fn count_fault(failed: &mut Seq<u64>, missing: &mut u64, index: Option<usize>)
     requires { IfSome index (λ at. at < length failed.old) }
     ensures length { length failed.new ≡ length failed.old }
-    ensures grows { (other : Option ℕ) → fault_count failed.old missing.old other ≤ fault_count failed.new missing.new other }
+    ensures grows { (other : Option ℕ)
+        → fault_count failed.old missing.old other ≤ fault_count failed.new missing.new other }
     ensures rose { Rose (fault_count failed.old missing.old index) (fault_count failed.new missing.new index) }
     ensures own { fault_count failed.new missing.new index ≡ one_more (fault_count failed.old missing.old index) }
     ensures others { (other : Option ℕ) → other ≢ index →

@@ -38,7 +38,8 @@ pub enum Case {
     Names,
     /// The plan of a job of the shape of a tiled Cholesky factorization, of so many rows of tiles, made from its texts.
     Job,
-    /// The edges of a job of the shape of a tiled Cholesky factorization, of so many rows of tiles, walked in both directions.
+    /// The edges of a job of the shape of a tiled Cholesky factorization, of so many rows of tiles, walked in both
+    /// directions.
     Edges,
     /// A broadcast to so many tasks and a gather from them, walked, and each edge asked for on its other side.
     Star,

@@ -59,8 +59,8 @@ impl Walked {
     }
 }
 
-/// The edges of a job of the shape of a tiled Cholesky factorization with so many rows of tiles: those into each task and those out
-/// of each.
+/// The edges of a job of the shape of a tiled Cholesky factorization with so many rows of tiles: those into each task
+/// and those out of each.
 pub fn edges(alloc: Global, size: u32) -> Result<Vec<Count>, Failure> {
     let plan = cholesky(alloc, size)?;
     let mut walked = Walked::none();

@@ -136,7 +136,8 @@ fn take_all<R: Wait>(rt: &R, table: &DepTable, pass: Pass, count: u32) -> u64
     taken
 }
 
-/// So many turns of the same shards by each of four passes, each in a thread of its own, however often they are found taken.
+/// So many turns of the same shards by each of four passes, each in a thread of its own, however often they are found
+/// taken.
 pub fn turns_in_threads<R: Threads + Wait + Sync>(
     rt: &R,
     alloc: Global,

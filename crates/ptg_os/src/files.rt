@@ -10,7 +10,8 @@ use std::{fs, rt};
 
 /// The files of the system. Their contents are not known to contracts.
 ///
-/// The file read last stays open with a copy of its name. Where there is no memory for that copy, the next read opens it anew.
+/// The file read last stays open with a copy of its name. Where there is no memory for that copy, the next read opens
+/// it anew.
 #[derive(Drop)]
 pub struct OsFiles<'a, R: rt::Files> {
     system: &'a R,

@@ -1,6 +1,6 @@
-//! Rows of the program: each is a call of `ptg_main` with what it must print, written down in a file. The words name the
-//! files. All rows are tried three times: with reads and writes as large as may be, with one byte a read and one a write,
-//! and with many workers and shards. Prints the rows that came out otherwise.
+//! Rows of the program: each is a call of `ptg_main` with what it must print, written down in a file. The words name
+//! the files. All rows are tried three times: with reads and writes as large as may be, with one byte a read and one a
+//! write, and with many workers and shards. Prints the rows that came out otherwise.
 #![tactic(auto)]
 
 mod bytewise;
@@ -72,7 +72,8 @@ impl<'a> Call for Program<'a> {
     }
 }
 
-// The same, byte by byte. A row in which a call fails is tried as before, since it numbers the calls of the program at large.
+// The same, byte by byte. A row in which a call fails is tried as before, since it numbers the calls of the program at
+// large.
 #[derive(Drop)]
 struct ProgramByBytes<'a> {
     settings: &'a [&'static str],

@@ -1,4 +1,5 @@
--- A verb that goes on from a consistent job: it has one verdict at most, and one, and what `check` says of unread files it says too.
+-- A verb that goes on from a consistent job: it has one verdict at most, and one, and what `check` says of unread files
+-- it says too.
 use Rattle.std.proofs.Common.{◌≡◌, ℕ, List, Result, Ok, Err, refl, sym, ◌∙◌, subst, inl, inr}
 use Rattle.std.specs.Prelude.{Option, IfOk, Bool, true, false, if◌then◌else◌}
 use Rattle.ptg_base.specs.declared.memory.OutOfMemory.{OutOfMemory}

@@ -1,12 +1,9 @@
 -- The verdict of `certify`: what a run and its certificate make, and that its tasks are the plan's.
-use Rattle.std.proofs.Common.{◌≡◌, ℕ, List, [], ◌∷◌, refl, sym, ◌∙◌, ap, subst, inl, inr}
-use Rattle.std.specs.Prelude.{All}
-use Rattle.std.proofs.lemmas.List.Elements.{All-nil, All-cons}
-use Rattle.ptg_base.specs.Lists.{IsIn}
+use Rattle.std.proofs.Common.{◌≡◌, ℕ, List, sym, ◌∙◌, ap, subst}
 use Rattle.ptg_base.specs.Task.{Task}
 use Rattle.coll_data.specs.Data.{Data}
 use Rattle.plan_core.specs.declared.plan.Plan.{Plan}
-use Rattle.range_space.proofs.MemberLists.{IsIn-map}
+use Rattle.list_lemmas.proofs.Members.{IsIn-map, All-from_members}
 use Rattle.flow_meaning.specs.Answer.{answer}
 use Rattle.flow_meaning.specs.declared.outcome.Outcome.{Outcome}
 use Rattle.flow_meaning.specs.declared.outcome.Outcome.TheVariants.{Complete, Stalled}
@@ -30,20 +27,15 @@ use Rattle.ptg_top.specs.Findings.{IsAnswered, IsFindingOf}
 use Rattle.ptg_top.specs.Tables.{IsRunOf}
 use Rattle.ptg_top.proofs.TableRuns.{found_of_run}
 
--- a property of all members holds of each element
-all_members : {A : Type 0} (Q : A → Type 0) (xs : List A) → ((x : A) → IsIn x xs → Q x) → All Q xs
-all_members Q [] h = All-nil Q
-all_members Q (x ∷ xs) h = All-cons Q x xs (h x (inl refl)) (all_members Q xs (λ y i. h y (inr i)))
-
 -- what is found is of the plan
 pub certified_is_finding : (ws : List ℕ) (P : Plan) (outcome : Outcome) (c : Certificate) → IsAccepted P ws c → IsAnswered P outcome → IsFindingOf P (certified ws outcome c)
 certified_is_finding ws P (Complete count final) (certificate.Chain chain levels) accepted answered = record {
-  links = all_members (HasClass P) chain (λ t i. has_class P t (chain_task P chain accepted.is_chain t i));
-  levels = all_members (λ (row : Task × ℕ). HasClass P row.0) levels
+  links = All-from_members (HasClass P) chain (λ t i. has_class P t (chain_task P chain accepted.is_chain t i));
+  levels = All-from_members (λ (row : Task × ℕ). HasClass P row.0) levels
       (λ row i. has_class P row.0 ((order_task P levels accepted.tasks row.0).0 (IsIn-map (λ (r : Task × ℕ). r.0) levels row i)));
 }
 certified_is_finding ws P (Stalled ran total rows) (certificate.Cycle cycle) accepted answered =
-    all_members (HasClass P) cycle (λ t i. has_class P t (chain_task P cycle accepted.chain t i))
+    All-from_members (HasClass P) cycle (λ t i. has_class P t (chain_task P cycle accepted.chain t i))
 certified_is_finding ws P outcome c accepted answered = answered
 
 module _ (s : Settings) (P : Plan) (G : Data) (by : RanBy) (outcome : Outcome) (h : IsRunOf s P G by outcome) where

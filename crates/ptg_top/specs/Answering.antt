@@ -10,7 +10,8 @@ use Rattle.ptg_top.specs.Preload.{is_too_large}
 use Rattle.ptg_top.specs.Denotation as verdicts
 use Rattle.ptg_top.specs.Denotation.{Denotation}
 
--- The verdict of a verb for that of `check`: what the verb makes of a consistent job with its data; every refusal stays as it is.
+-- The verdict of a verb for that of `check`: what the verb makes of a consistent job with its data; every refusal stays
+-- as it is.
 abbrev pub OnConsistent : (Plan → Data → Denotation → Type 0) → Denotation → Denotation → Type 0
 OnConsistent Verb (verdicts.Job (jobs.Consistent P given)) v = Verb P given v
 OnConsistent Verb checked v = v ≡ checked
@@ -24,4 +25,5 @@ IsRefusal v = ⊥
 
 -- the verdict of `run` on a consistent job: its preload is too large, or else its answer
 abbrev pub IsAnswer : Settings → Plan → Data → Denotation → Type 0
-IsAnswer settings P given v = v ≡ (if is_too_large settings P then verdicts.Preload else verdicts.Ran P (Answer (answer P given)))
+IsAnswer settings P given v =
+    v ≡ (if is_too_large settings P then verdicts.Preload else verdicts.Ran P (Answer (answer P given)))

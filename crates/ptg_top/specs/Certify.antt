@@ -14,12 +14,14 @@ use Rattle.ptg_top.specs.declared.verdict.Finding.TheVariants as findings
 use Rattle.ptg_top.specs.Denotation as verdicts
 use Rattle.ptg_top.specs.Denotation.{Denotation}
 
--- What is found of an answer and of the certificate of its job, with these weights of classes: of a complete job the chain with its
--- weight, and the level of each task; of one that stalled the cycle; and where a task trapped the answer itself.
+-- What is found of an answer and of the certificate of its job, with these weights of classes: of a complete job the
+-- chain with its weight, and the level of each task; of one that stalled the cycle; and where a task trapped the answer
+-- itself.
 abbrev pub certified : List ℕ → Outcome → Certificate → Finding
 certified ws (Complete count final) (certificate.Chain chain levels) =
     findings.Chain (record { tasks = count; weight = chain_weight ws chain; chain = chain; levels = levels })
-certified ws (Stalled ran total rows) (certificate.Cycle cycle) = findings.Cycle (record { ran = ran; tasks = total; cycle = cycle })
+certified ws (Stalled ran total rows) (certificate.Cycle cycle) =
+    findings.Cycle (record { ran = ran; tasks = total; cycle = cycle })
 certified ws outcome c = findings.Answer outcome
 
 -- the verdict of `certify` on a consistent job, by the weights that its data give

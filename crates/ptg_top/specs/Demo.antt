@@ -14,8 +14,8 @@ use Rattle.ptg_top.specs.Denotation as verdicts
 use Rattle.ptg_top.specs.Denotation.{Denotation}
 use Rattle.ptg_top.specs.JobFiles.{JobTextsDenote}
 
--- what is found of the answer of the made job of n rows of tiles: where it is complete, the number of its tasks and the sum of all
--- elements of all collections; else the answer itself
+-- what is found of the answer of the made job of n rows of tiles: where it is complete, the number of its tasks and the
+-- sum of all elements of all collections; else the answer itself
 abbrev pub summed : ℕ → Outcome → Finding
 summed n (Complete count final) = Summary (record { rows = n; tasks = count; sum = sum_of (all_elements final.colls) })
 summed n outcome = Answer outcome

@@ -9,8 +9,9 @@ use Rattle.ptg_top.specs.declared.verdict.RanBy.TheVariants.{Table, OneThread}
 use Rattle.ptg_top.specs.declared.verdict.Verdict.{Verdict}
 use Rattle.ptg_top.specs.declared.verdict.Verdict.TheVariants as verdicts
 
--- The arguments form no command; the file of this name could not be read; a refusal, or a job that was found consistent; what is
--- found of the answer of a job with this plan; the canonical spelling of a JDF; a preload that is too large; the first fault of a trace.
+-- The arguments form no command; the file of this name could not be read; a refusal, or a job that was found
+-- consistent; what is found of the answer of a job with this plan; the canonical spelling of a JDF; a preload that is
+-- too large; the first fault of a trace.
 pub data Denotation : Type 0 where
   Usage : Denotation
   Unread : List ℕ → Denotation

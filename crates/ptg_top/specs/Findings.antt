@@ -1,4 +1,5 @@
--- What a command finds of the answer of a job, what is printed of it, and the exit status. Source: this project's own choice.
+-- What a command finds of the answer of a job, what is printed of it, and the exit status. Source: this project's own
+-- choice.
 use Rattle.std.specs.Prelude.{◌≡◌, ℕ, List}
 use Rattle.coll_data.specs.Data.{Data}
 use Rattle.plan_core.specs.declared.plan.Plan.{Plan}
@@ -17,7 +18,8 @@ use Rattle.ptg_top.specs.declared.verdict.Finding.TheVariants.{Answer, Summary, 
 abbrev pub IsAnswered : Plan → Outcome → Type 0
 IsAnswered P outcome = (given : Data) × (outcome ≡ answer P given)
 
--- what is found of a job with this plan: its answer on some data, or what names no tasks but those of its classes, or a text
+-- what is found of a job with this plan: its answer on some data, or what names no tasks but those of its classes, or a
+-- text
 abbrev pub IsFindingOf : Plan → Finding → Type 0
 IsFindingOf P (Answer outcome) = IsAnswered P outcome
 IsFindingOf P (Summary found) = Unit {0}

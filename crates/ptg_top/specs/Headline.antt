@@ -1,4 +1,5 @@
--- What is printed for a verdict, and what a run of the program promises. Source: this project's own choice of lines and statuses.
+-- What is printed for a verdict, and what a run of the program promises. Source: this project's own choice of lines and
+-- statuses.
 use Rattle.std.specs.Prelude.{◌≡◌, ℕ, List, [], ◌∷◌, Option, codes}
 use Rattle.ptg_io.specs.Sink.{appended}
 use Rattle.report_text.specs.Field.{line}
@@ -62,8 +63,8 @@ IsExact OutOfMemory = ⊥
 IsExact PreloadTooLarge = Unit {0}
 IsExact TraceRefused = Unit {0}
 
--- the sink grew by exactly the text of a verdict that the arguments and the files denote (one at most, but for traces), and this is its
--- status
+-- the sink grew by exactly the text of a verdict that the arguments and the files denote (one at most, but for traces),
+-- and this is its status
 pub record Prints (words : List (List ℕ)) (files : Entries) (before after : Option (List ℕ)) (status : Status) : Type 0 where
   pub verdict : Denotation
   pub denoted : Denotes words files verdict
@@ -81,8 +82,8 @@ abbrev pub SomeOutput : Type 0
 SomeOutput =
     (words : List (List ℕ)) (files : Entries) (before : Option (List ℕ)) → (after : Option (List ℕ)) × (status : Status) × Prints words files before after status
 
--- a failed write cut the text of a verdict short: the one that the arguments and the files denote, or the name of a file that could
--- not be read
+-- a failed write cut the text of a verdict short: the one that the arguments and the files denote, or the name of a
+-- file that could not be read
 pub record IsCut (words : List (List ℕ)) (contents : Option Entries) (old new : List ℕ → ℕ) (before after : Option (List ℕ)) : Type 0 where
   pub verdict : Denotation
   pub due : IsVerdictOnWords words contents old new verdict

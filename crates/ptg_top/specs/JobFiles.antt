@@ -1,5 +1,5 @@
--- What the two files of a job denote, whatever the machine. Source: this project's own choice: the data file is read only once the
--- JDF's text was found to be that of a tree.
+-- What the two files of a job denote, whatever the machine. Source: this project's own choice: the data file is read
+-- only once the JDF's text was found to be that of a tree.
 use Rattle.std.specs.Prelude.{◌≡◌, ◌⊎◌, ℕ, List, Option, Some, None}
 use Rattle.ptg_io.specs.Files.{file_of}
 use Rattle.jdf_tree.specs.declared.tree.Jdf.{Jdf}
@@ -27,11 +27,13 @@ RefusesText text v = (job : JobVerdict) × JdfTextDenotes text job × (v ≡ ver
 abbrev pub JobTextsDenote : List ℕ → List ℕ → Denotation → Type 0
 JobTextsDenote text data_text v = (job : JobVerdict) × TextsDenote text data_text job × (v ≡ verdicts.Job job)
 
--- The contents of a JDF file and of a data file with these names denote this verdict: that the JDF file is not there; else, where the
--- data file is not there, the first fault of the JDF's text, or that the data file is not there; else what the two texts denote.
+-- The contents of a JDF file and of a data file with these names denote this verdict: that the JDF file is not there;
+-- else, where the data file is not there, the first fault of the JDF's text, or that the data file is not there; else
+-- what the two texts denote.
 abbrev pub ContentsDenote : List ℕ → List ℕ → Option (List ℕ) → Option (List ℕ) → Denotation → Type 0
 ContentsDenote jdf tiles None other v = v ≡ verdicts.Unread jdf
-ContentsDenote jdf tiles (Some text) None v = RefusesText text v ⊎ ((J : Jdf) × IsJdf text J × (v ≡ verdicts.Unread tiles))
+ContentsDenote jdf tiles (Some text) None v =
+    RefusesText text v ⊎ ((J : Jdf) × IsJdf text J × (v ≡ verdicts.Unread tiles))
 ContentsDenote jdf tiles (Some text) (Some data_text) v = JobTextsDenote text data_text v
 
 -- the files of these names denote this verdict
@@ -48,7 +50,8 @@ HasFittingJob (verdicts.Spelling text) = Unit {0}
 HasFittingJob verdicts.Preload = Unit {0}
 HasFittingJob (verdicts.Trace fault) = Unit {0}
 
--- a verdict of `check`: a file that could not be read, or what two texts come to, with data that fit a consistent job's plan
+-- a verdict of `check`: a file that could not be read, or what two texts come to, with data that fit a consistent job's
+-- plan
 abbrev pub IsChecked : Denotation → Type 0
 IsChecked (verdicts.Unread name) = Unit {0}
 IsChecked (verdicts.Job job) = HasFittingData job

@@ -1,4 +1,5 @@
--- What is printed for a job that is checked, and the exit status. Source: this project's own choice of lines and statuses.
+-- What is printed for a job that is checked, and the exit status. Source: this project's own choice of lines and
+-- statuses.
 use Rattle.std.specs.Prelude.{ℕ, List, [], length, Option, Some, None}
 use Rattle.std.specs.Option.{option_map_or}
 use Rattle.plan_core.specs.declared.flow.FlowPlan.{FlowPlan}
@@ -20,12 +21,13 @@ abbrev pub flow_name : Plan → ℕ → Option ℕ → List ℕ
 flow_name P class None = []
 flow_name P class (Some flow) = option_map_or (λ (f : FlowPlan). f.name) (flow_of P.classes class flow) []
 
--- what is printed of a job that is checked: its refusal, with the names of the class and the flow of an inconsistency; or its numbers
--- of tasks, of edges (those of CTL flows among them) and of write-backs
+-- what is printed of a job that is checked: its refusal, with the names of the class and the flow of an inconsistency;
+-- or its numbers of tasks, of edges (those of CTL flows among them) and of write-backs
 abbrev pub job_text : JobVerdict → List ℕ
 job_text (jobs.Jdf fault) = refusal_text (line_of.Jdf fault)
 job_text (jobs.Data fault) = refusal_text (line_of.Rows fault)
-job_text (jobs.Inconsistent P fault) = inconsistent_line fault (class_name P fault.class) (flow_name P fault.class fault.flow)
+job_text (jobs.Inconsistent P fault) =
+    inconsistent_line fault (class_name P fault.class) (flow_name P fault.class fault.flow)
 job_text (jobs.Consistent P given) = consistent_text (length (all_tasks P)) (length (all_in P)) (length (all_writes P))
 
 -- and its status

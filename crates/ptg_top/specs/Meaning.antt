@@ -1,5 +1,5 @@
--- The verdict that the arguments and the files denote, whatever the machine. Source: this project's own choice, over the definitions
--- of the stages.
+-- The verdict that the arguments and the files denote, whatever the machine. Source: this project's own choice, over
+-- the definitions of the stages.
 use Rattle.std.specs.Prelude.{◌≡◌, ◌⊎◌, ℕ, List, Option, Some, None}
 use Rattle.ptg_io.specs.Files.{file_of}
 use Rattle.coll_data.specs.Data.{Data}
@@ -34,24 +34,28 @@ abbrev pub ContentShows : List ℕ → Option (List ℕ) → Denotation → Type
 ContentShows name None v = v ≡ verdicts.Unread name
 ContentShows name (Some text) v = Shows text v
 
--- What the files denote for what is asked: `run` refuses what `check` refuses; of a job that `check` finds consistent it refuses a
--- preload that is too large, or answers the job. `trace`, `replay`, `certify` and `ranks` refuse what `check` refuses; of a consistent
--- job `trace` gives the text of some whole order, `replay` the verdict on the trace file, `certify` finds the certificate, and `ranks`
--- counts the messages and answers the job, whatever the seed. `demo` reads no file.
+-- What the files denote for what is asked: `run` refuses what `check` refuses; of a job that `check` finds consistent
+-- it refuses a preload that is too large, or answers the job. `trace`, `replay`, `certify` and `ranks` refuse what
+-- `check` refuses; of a consistent job `trace` gives the text of some whole order, `replay` the verdict on the trace
+-- file, `certify` finds the certificate, and `ranks` counts the messages and answers the job, whatever the seed. `demo`
+-- reads no file.
 abbrev pub RequestDenotes : Entries → Request → Denotation → Type 0
-RequestDenotes files (Run jdf tiles settings) v = (checked : Denotation) × FilesDenote files jdf tiles checked × OnConsistent (IsAnswer settings) checked v
+RequestDenotes files (Run jdf tiles settings) v =
+    (checked : Denotation) × FilesDenote files jdf tiles checked × OnConsistent (IsAnswer settings) checked v
 RequestDenotes files (Show jdf) v = ContentShows jdf (file_of files jdf) v
 RequestDenotes files (Check jdf tiles) v = FilesDenote files jdf tiles v
 RequestDenotes files (Demo rows) v = DemoDenotes rows v
-RequestDenotes files (Trace jdf tiles settings) v = (checked : Denotation) × FilesDenote files jdf tiles checked × OnConsistent IsTraced checked v
+RequestDenotes files (Trace jdf tiles settings) v =
+    (checked : Denotation) × FilesDenote files jdf tiles checked × OnConsistent IsTraced checked v
 RequestDenotes files (Replay jdf tiles trace) v =
     (checked : Denotation) × FilesDenote files jdf tiles checked × OnConsistent (IsReplayed trace (file_of files trace)) checked v
-RequestDenotes files (Certify jdf tiles) v = (checked : Denotation) × FilesDenote files jdf tiles checked × OnConsistent IsCertified checked v
+RequestDenotes files (Certify jdf tiles) v =
+    (checked : Denotation) × FilesDenote files jdf tiles checked × OnConsistent IsCertified checked v
 RequestDenotes files (Ranks jdf tiles settings) v =
     (checked : Denotation) × FilesDenote files jdf tiles checked × OnConsistent (IsRanked settings.ranks) checked v
 
--- The arguments and the files denote this verdict: usage, if the arguments form no command; else what the files denote for what
--- the arguments ask. Of a trace they may denote several.
+-- The arguments and the files denote this verdict: usage, if the arguments form no command; else what the files denote
+-- for what the arguments ask. Of a trace they may denote several.
 abbrev pub Denotes : List (List ℕ) → Entries → Denotation → Type 0
 Denotes words files v =
     (IsNoOrder words × (v ≡ verdicts.Usage)) ⊎ ((request : Request) × Requests words request × RequestDenotes files request v)
@@ -67,7 +71,9 @@ AskForNoTrace words = (request : Request) → Requests words request → IsNoTra
 
 -- arguments that ask for no trace and files denote one verdict at most
 abbrev pub OneMeaning : Type 0
-OneMeaning = (words : List (List ℕ)) (files : Entries) (v w : Denotation) → AskForNoTrace words → Denotes words files v → Denotes words files w → v ≡ w
+OneMeaning =
+    (words : List (List ℕ)) (files : Entries) (v w : Denotation) → AskForNoTrace words → Denotes words files v
+    → Denotes words files w → v ≡ w
 
 -- two verdicts are texts of whole orders of one consistent job, which two of the files denote
 abbrev pub AreTracesOfOneJob : Entries → Denotation → Denotation → Type 0
@@ -76,7 +82,9 @@ AreTracesOfOneJob files v w =
 
 -- two verdicts that any arguments and files denote are the same, or traces of one job
 abbrev pub OneJob : Type 0
-OneJob = (words : List (List ℕ)) (files : Entries) (v w : Denotation) → Denotes words files v → Denotes words files w → (v ≡ w) ⊎ AreTracesOfOneJob files v w
+OneJob =
+    (words : List (List ℕ)) (files : Entries) (v w : Denotation) → Denotes words files v → Denotes words files w
+    → (v ≡ w) ⊎ AreTracesOfOneJob files v w
 
 -- and they denote one, whatever they are
 abbrev pub SomeMeaning : Type 0
@@ -100,11 +108,12 @@ MayBeUnreadFor contents (Show jdf) name = name ≡ jdf
 MayBeUnreadFor contents (Check jdf tiles) name = IsUnreadOf contents jdf tiles name
 MayBeUnreadFor contents (Demo rows) name = ⊥
 MayBeUnreadFor contents (Trace jdf tiles settings) name = IsUnreadOf contents jdf tiles name
-MayBeUnreadFor contents (Replay jdf tiles trace) name = IsUnreadOf contents jdf tiles name ⊎ IsUnreadTrace contents jdf tiles trace name
+MayBeUnreadFor contents (Replay jdf tiles trace) name =
+    IsUnreadOf contents jdf tiles name ⊎ IsUnreadTrace contents jdf tiles trace name
 MayBeUnreadFor contents (Certify jdf tiles) name = IsUnreadOf contents jdf tiles name
 MayBeUnreadFor contents (Ranks jdf tiles settings) name = IsUnreadOf contents jdf tiles name
 
--- the names that `unread` may have: the JDF file's; the data file's if the JDF is the text of a tree, or the trace file's if the other
--- two are those of a consistent job, where the contents are known
+-- the names that `unread` may have: the JDF file's; the data file's if the JDF is the text of a tree, or the trace
+-- file's if the other two are those of a consistent job, where the contents are known
 abbrev pub MayBeUnread : List (List ℕ) → Option Entries → List ℕ → Type 0
 MayBeUnread words contents name = (request : Request) × Requests words request × MayBeUnreadFor contents request name

@@ -1,4 +1,5 @@
--- What `ranks` denotes: the answer of a job that is run by ranks, and how many messages they send one another, whatever the seed.
+-- What `ranks` denotes: the answer of a job that is run by ranks, and how many messages they send one another, whatever
+-- the seed.
 -- Source: this project's own choice.
 use Rattle.std.specs.Prelude.{◌≡◌, ℕ, ◌≤◌}
 use Rattle.coll_data.specs.Data.{Data}
@@ -13,7 +14,8 @@ use Rattle.ptg_top.specs.Denotation.{Denotation}
 abbrev pub AreRanks : ℕ → Type 0
 AreRanks r = (1 ≤ r) × (r ≤ 64)
 
--- the verdict of `ranks` on a consistent job: as many messages as there are edges between two ranks whose source has outputs, and the
--- answer of the job
+-- the verdict of `ranks` on a consistent job: as many messages as there are edges between two ranks whose source has
+-- outputs, and the answer of the job
 abbrev pub IsRanked : ℕ → Plan → Data → Denotation → Type 0
-IsRanked r P given v = v ≡ verdicts.Ran P (Ranked (record { ranks = r; messages = message_count P given r; outcome = answer P given }))
+IsRanked r P given v =
+    v ≡ verdicts.Ran P (Ranked (record { ranks = r; messages = message_count P given r; outcome = answer P given }))

@@ -1,4 +1,5 @@
--- When the program ends with a receipt of the table that ran its job, and what the receipt shows. Source: this project's own choice.
+-- When the program ends with a receipt of the table that ran its job, and what the receipt shows. Source: this
+-- project's own choice.
 use Rattle.std.specs.Prelude.{◌≡◌, ℕ, false, List, Option, Some, None}
 use Rattle.coll_data.specs.Data.{Data}
 use Rattle.plan_core.specs.declared.plan.Plan.{Plan}
@@ -31,11 +32,14 @@ IsRun (order.Trace jdf tiles workers shards) = Unit {0}
 IsRun (order.Certify jdf tiles) = Unit {0}
 IsRun o = ⊥
 
--- The receipt is of a table with the settings that the command says, or with the usual ones where it has no options for them.
+-- The receipt is of a table with the settings that the command says, or with the usual ones where it has no options for
+-- them.
 abbrev pub IsReceiptFor : Order → ReceiptView → Type 0
-IsReceiptFor (order.Run jdf tiles workers shards preload) r = ShowsSettings (record { workers = workers; shards = shards; preload = preload }) r
+IsReceiptFor (order.Run jdf tiles workers shards preload) r =
+    ShowsSettings (record { workers = workers; shards = shards; preload = preload }) r
 IsReceiptFor (order.Demo rows) r = ShowsSettings usual_settings r
-IsReceiptFor (order.Trace jdf tiles workers shards) r = ShowsSettings (record { workers = workers; shards = shards; preload = false }) r
+IsReceiptFor (order.Trace jdf tiles workers shards) r =
+    ShowsSettings (record { workers = workers; shards = shards; preload = false }) r
 IsReceiptFor (order.Certify jdf tiles) r = ShowsSettings usual_settings r
 IsReceiptFor o r = ⊥
 
@@ -48,12 +52,17 @@ IsAnswerStatus s = ⊥
 
 -- the files that the command names, or the texts that it makes, denote a consistent job with this plan
 abbrev pub FindsPlan : Entries → Order → Plan → Type 0
-FindsPlan files (order.Run jdf tiles workers shards preload) P = (given : Data) × FilesDenote files jdf tiles (verdicts.Job (jobs.Consistent P given))
+FindsPlan files (order.Run jdf tiles workers shards preload) P =
+    (given : Data) × FilesDenote files jdf tiles (verdicts.Job (jobs.Consistent P given))
 FindsPlan files (order.Demo rows) P = (given : Data) × MadeTextsDenote rows (verdicts.Job (jobs.Consistent P given))
-FindsPlan files (order.Trace jdf tiles workers shards) P = (given : Data) × FilesDenote files jdf tiles (verdicts.Job (jobs.Consistent P given))
-FindsPlan files (order.Replay jdf tiles trace) P = (given : Data) × FilesDenote files jdf tiles (verdicts.Job (jobs.Consistent P given))
-FindsPlan files (order.Certify jdf tiles) P = (given : Data) × FilesDenote files jdf tiles (verdicts.Job (jobs.Consistent P given))
-FindsPlan files (order.Ranks jdf tiles ranks seed) P = (given : Data) × FilesDenote files jdf tiles (verdicts.Job (jobs.Consistent P given))
+FindsPlan files (order.Trace jdf tiles workers shards) P =
+    (given : Data) × FilesDenote files jdf tiles (verdicts.Job (jobs.Consistent P given))
+FindsPlan files (order.Replay jdf tiles trace) P =
+    (given : Data) × FilesDenote files jdf tiles (verdicts.Job (jobs.Consistent P given))
+FindsPlan files (order.Certify jdf tiles) P =
+    (given : Data) × FilesDenote files jdf tiles (verdicts.Job (jobs.Consistent P given))
+FindsPlan files (order.Ranks jdf tiles ranks seed) P =
+    (given : Data) × FilesDenote files jdf tiles (verdicts.Job (jobs.Consistent P given))
 FindsPlan files o P = ⊥
 
 -- the arguments form a command, and its job is consistent and has this plan
@@ -67,8 +76,8 @@ abbrev pub receipt_of : Verdict → Option ReceiptView
 receipt_of (Ran (Table receipt) finding) = Some receipt
 receipt_of v = None
 
--- A verdict on a run with these settings: what is found of a job that a table with these settings ran, or one without the status of
--- an answer.
+-- A verdict on a run with these settings: what is found of a job that a table with these settings ran, or one without
+-- the status of an answer.
 abbrev pub IsOfRun : Settings → Verdict → Type 0
 IsOfRun settings (Ran by finding) = IsRunWith settings by
 IsOfRun settings v = IsAnswerStatus (status_of (denoted v)) → ⊥

@@ -1,4 +1,5 @@
--- The verdicts on a request, and on the arguments, where a read may fail; `old` and `new` count the failed reads of each name.
+-- The verdicts on a request, and on the arguments, where a read may fail; `old` and `new` count the failed reads of
+-- each name.
 -- Source: this project's own choice.
 use Rattle.std.specs.Prelude.{◌≡◌, ◌≤◌, ◌⊎◌, ℕ, false, List, Option, Some}
 use Rattle.std.specs.Str.{IsUtf8}
@@ -28,7 +29,8 @@ abbrev pub IsReadFault : Option Entries → (List ℕ → ℕ) → (List ℕ →
 IsReadFault contents old new request v =
     (name : List ℕ) × Rose (old name) (new name) × MayBeUnreadFor contents request name × (v ≡ verdicts.Unread name)
 
--- The verdict on a request: unread only where a read of that name failed; else what the files denote, where the contents are known.
+-- The verdict on a request: unread only where a read of that name failed; else what the files denote, where the
+-- contents are known.
 abbrev pub IsVerdictOnRequest : Option Entries → (List ℕ → ℕ) → (List ℕ → ℕ) → Request → Denotation → Type 0
 IsVerdictOnRequest contents old new request v =
     IsReadFault contents old new request v
@@ -46,7 +48,8 @@ IsProper (Run jdf tiles settings) = IsUtf8 jdf × IsUtf8 tiles × AreCounts sett
 IsProper (Show jdf) = IsUtf8 jdf
 IsProper (Check jdf tiles) = IsUtf8 jdf × IsUtf8 tiles
 IsProper (Demo rows) = (1 ≤ rows) × (rows ≤ 96)
-IsProper (Trace jdf tiles settings) = IsUtf8 jdf × IsUtf8 tiles × AreCounts settings.workers settings.shards × (settings.preload ≡ false)
+IsProper (Trace jdf tiles settings) =
+    IsUtf8 jdf × IsUtf8 tiles × AreCounts settings.workers settings.shards × (settings.preload ≡ false)
 IsProper (Replay jdf tiles trace) = IsUtf8 jdf × IsUtf8 tiles × IsUtf8 trace
 IsProper (Certify jdf tiles) = IsUtf8 jdf × IsUtf8 tiles
 IsProper (Ranks jdf tiles settings) = IsUtf8 jdf × IsUtf8 tiles × AreRanks settings.ranks

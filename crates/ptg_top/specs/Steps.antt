@@ -1,5 +1,5 @@
--- Why the steps of `check` and of `replay` end, where a read may fail; `old` and `new` count the failed reads of the file that a step
--- reads. Source: this project's own choice.
+-- Why the steps of `check` and of `replay` end, where a read may fail; `old` and `new` count the failed reads of the
+-- file that a step reads. Source: this project's own choice.
 use Rattle.std.specs.Prelude.{◌≡◌, ◌⊎◌, ℕ, List, Option, Some}
 use Rattle.ptg_io.specs.Faults.{Rose}
 use Rattle.ptg_io.specs.Files.{file_of}
@@ -15,22 +15,22 @@ use Rattle.ptg_top.specs.JobFiles.{Entries, RefusesText}
 use Rattle.ptg_top.specs.Replay.{IsReplayOf}
 use Rattle.ptg_top.specs.Reports.{IsOfTexts}
 
--- The check of a JDF, read from this text, with the data file of this name ends so: a read of that file failed, or the two texts
--- denote the verdict, where the contents are known.
+-- The check of a JDF, read from this text, with the data file of this name ends so: a read of that file failed, or the
+-- two texts denote the verdict, where the contents are known.
 abbrev pub CheckOfDataEndsWith : Option Entries → ℕ → ℕ → List ℕ → List ℕ → Denotation → Type 0
 CheckOfDataEndsWith contents old new text tiles v =
     ((v ≡ verdicts.Unread tiles) × Rose old new)
     ⊎ ((job : JobVerdict) × (v ≡ verdicts.Job job)
     × ((files : Entries) → contents ≡ Some files → (data_text : List ℕ) × (file_of files tiles ≡ Some data_text) × TextsDenote text data_text job))
 
--- The check of a JDF's text with the data file of this name ends so: the text has a fault; or it is that of a tree, and the check of
--- that ends so.
+-- The check of a JDF's text with the data file of this name ends so: the text has a fault; or it is that of a tree, and
+-- the check of that ends so.
 abbrev pub CheckOfTextEndsWith : Option Entries → ℕ → ℕ → List ℕ → List ℕ → Denotation → Type 0
 CheckOfTextEndsWith contents old new text tiles v =
     RefusesText text v ⊎ ((J : Jdf) × IsJdf text J × CheckOfDataEndsWith contents old new text tiles v)
 
--- The replay of a consistent job with the trace file of this name ends so: a read of that file failed, or the verdict is the one on its
--- text, where the contents are known.
+-- The replay of a consistent job with the trace file of this name ends so: a read of that file failed, or the verdict
+-- is the one on its text, where the contents are known.
 abbrev pub ReplayEndsWith : Option Entries → ℕ → ℕ → List ℕ → Plan → Data → Denotation → Type 0
 ReplayEndsWith contents old new trace P given v =
     ((v ≡ verdicts.Unread trace) × Rose old new)

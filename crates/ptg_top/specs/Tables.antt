@@ -14,7 +14,8 @@ use Rattle.ptg_top.specs.Denotation.{plan_of}
 abbrev pub usual_settings : Settings
 usual_settings = record { workers = 4; shards = 16; preload = false }
 
--- the receipt is of a table with these settings: with as many shards, a pass for each worker, and a preload if one is asked for
+-- the receipt is of a table with these settings: with as many shards, a pass for each worker, and a preload if one is
+-- asked for
 abbrev pub ShowsSettings : Settings → ReceiptView → Type 0
 ShowsSettings s r = (r.shards ≡ s.shards) × (r.passes ≡ s.workers) × (r.preloaded ≡ s.preload)
 

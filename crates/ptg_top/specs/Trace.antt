@@ -1,4 +1,5 @@
--- What `trace` denotes: the text of the tasks that run, in an order in which they may run. Source: this project's own choice.
+-- What `trace` denotes: the text of the tasks that run, in an order in which they may run. Source: this project's own
+-- choice.
 use Rattle.std.specs.Prelude.{◌≡◌, List}
 use Rattle.ptg_base.specs.Task.{Task}
 use Rattle.coll_data.specs.Data.{Data}
@@ -11,4 +12,5 @@ use Rattle.ptg_top.specs.Denotation.{Denotation}
 
 -- a verdict of `trace` on a consistent job: the text of a whole order, whichever it is
 abbrev pub IsTraced : Plan → Data → Denotation → Type 0
-IsTraced P given v = (tasks : List Task) × IsWholeOrder P given tasks × (v ≡ verdicts.Ran P (Order (trace_text P tasks)))
+IsTraced P given v =
+    (tasks : List Task) × IsWholeOrder P given tasks × (v ≡ verdicts.Ran P (Order (trace_text P tasks)))

@@ -37,8 +37,8 @@ use std::sync::Wait;
 use std::thread::Threads;
 use worker_core::Gate;
 
-/// The verdict of `certify` on a JDF file and a data file: of a job that `check` finds consistent, its certificate, or its answer
-/// where a task trapped; else the verdict of `check`.
+/// The verdict of `certify` on a JDF file and a data file: of a job that `check` finds consistent, its certificate, or
+/// its answer where a task trapped; else the verdict of `check`.
 pub fn certify<R: Threads + Wait + Sync, F: Files, G: Gate>(
     host: &Host<R, G>,
     jdf: &Text,
@@ -49,7 +49,9 @@ pub fn certify<R: Threads + Wait + Sync, F: Files, G: Gate>(
     requires tiles_text { IsUtf8 tiles.now }
     ensures stays { F.contents files.new ≡ F.contents files.old }
     ensures grows { (other : List ℕ) → F.faults files.old other ≤ F.faults files.new other }
-    ensures verdict { IfOk result (λ v. IsVerdictOnRequest (F.contents files.old) (F.faults files.old) (F.faults files.new) (asked.Certify jdf.now tiles.now) (denoted v)) }
+    ensures verdict { IfOk result (λ v.
+        IsVerdictOnRequest (F.contents files.old) (F.faults files.old) (F.faults files.new)
+        (asked.Certify jdf.now tiles.now) (denoted v)) }
     ensures fit { IfOk result (λ v. HasFittingJob (denoted v)) }
     ensures ran { IfOk result (λ v. IsOfRun usual_settings v) }
 {
@@ -85,7 +87,8 @@ fn certificate_by(
     weights: &[u64],
 ) -> Result<Certificate, OutOfMemory>
     requires { AreWeights weights.now }
-    ensures certificate { IfOk result (λ c. (G : Data) → outcome.now ≡ answer (plan_of by.now) G → IsCertificate (plan_of by.now) G weights.now c) }
+    ensures certificate { IfOk result (λ c.
+        (G : Data) → outcome.now ≡ answer (plan_of by.now) G → IsCertificate (plan_of by.now) G weights.now c) }
     ensures accepted { IfOk result (IsAccepted (plan_of by.now) weights.now) }
 {
     match by {
@@ -107,7 +110,8 @@ fn certified(outcome: Outcome, certificate: Certificate) -> Finding
 
 // What is found of an answer and a heaviest chain, which weighs the greatest level.
 fn with_chain(outcome: Outcome, chain: Seq<TaskId>, levels: Seq<(TaskId, u64)>) -> Finding
-    ensures { (P : Plan) (ws : List ℕ) → ShowsHeaviest P ws chain levels → result ≡ certified ws outcome (certificates.Chain chain levels) }
+    ensures { (P : Plan) (ws : List ℕ) → ShowsHeaviest P ws chain levels
+        → result ≡ certified ws outcome (certificates.Chain chain levels) }
 {
     match outcome {
         Outcome::Complete(tasks, _) => {

@@ -19,8 +19,8 @@ use ptg_base::{OutOfMemory, Text};
 use ptg_io::{Files, LoadFault, load};
 use std::alloc::Global;
 
-/// The verdict of `check` on a JDF file and a data file. The data file is read only once the JDF's text was found to be that of a
-/// tree.
+/// The verdict of `check` on a JDF file and a data file. The data file is read only once the JDF's text was found to be
+/// that of a tree.
 pub fn check<F: Files>(
     alloc: Global,
     jdf: &Text,
@@ -31,7 +31,9 @@ pub fn check<F: Files>(
     requires tiles_text { IsUtf8 tiles.now }
     ensures stays { F.contents files.new ≡ F.contents files.old }
     ensures grows { (other : List ℕ) → F.faults files.old other ≤ F.faults files.new other }
-    ensures verdict { IfOk result (λ v. IsVerdictOnRequest (F.contents files.old) (F.faults files.old) (F.faults files.new) (asked.Check jdf.now tiles.now) (denoted v)) }
+    ensures verdict { IfOk result (λ v.
+        IsVerdictOnRequest (F.contents files.old) (F.faults files.old) (F.faults files.new)
+        (asked.Check jdf.now tiles.now) (denoted v)) }
     ensures fit { IfOk result (λ v. IsChecked (denoted v)) }
 {
     match load(alloc, files, name_of(jdf)) {
@@ -52,7 +54,9 @@ fn check_text<F: Files>(
     requires { IsUtf8 tiles.now }
     ensures stays { F.contents files.new ≡ F.contents files.old }
     ensures grows { (other : List ℕ) → F.faults files.old other ≤ F.faults files.new other }
-    ensures verdict { IfOk result (λ v. CheckOfTextEndsWith (F.contents files.old) (F.faults files.old tiles.now) (F.faults files.new tiles.now) text.now tiles.now (denoted v)) }
+    ensures verdict { IfOk result (λ v.
+        CheckOfTextEndsWith (F.contents files.old) (F.faults files.old tiles.now) (F.faults files.new tiles.now)
+        text.now tiles.now (denoted v)) }
     ensures fit { IfOk result (λ v. IsChecked (denoted v)) }
 {
     match tree_of(alloc, text) {

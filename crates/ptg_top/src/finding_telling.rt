@@ -32,8 +32,10 @@ fn plan_of(by: &RanBy) -> &Plan
 /// Prints what is found of a job that was run. On `Err` a prefix of its text was written.
 pub fn tell_finding<O: Sink>(by: &RanBy, finding: &Finding, out: &mut O) -> Result<(), Failed>
     requires { IsFindingOf (plan_of by.now) finding.now }
-    ensures ok { OnOk result (O.bytes out.new ≡ appended (O.bytes out.old) (finding_text (plan_of by.now) finding.now)) }
-    ensures prefix { OnErr result (HasPrefix (O.bytes out.old) (O.bytes out.new) (finding_text (plan_of by.now) finding.now)) }
+    ensures ok { OnOk result
+        (O.bytes out.new ≡ appended (O.bytes out.old) (finding_text (plan_of by.now) finding.now)) }
+    ensures prefix { OnErr result
+        (HasPrefix (O.bytes out.old) (O.bytes out.new) (finding_text (plan_of by.now) finding.now)) }
     ensures grows { O.faults out.old ≤ O.faults out.new }
     ensures failed { OnErr result (Rose (O.faults out.old) (O.faults out.new)) }
 {

@@ -32,7 +32,8 @@ pub fn judge<R: Threads + Wait + Sync, F: Files, G: Gate>(
 ) -> Result<Verdict, OutOfMemory>
     ensures stays { F.contents files.new ≡ F.contents files.old }
     ensures grows { (other : List ℕ) → F.faults files.old other ≤ F.faults files.new other }
-    ensures judged { IfOk result (λ v. IsVerdictOnWords list.now (F.contents files.old) (F.faults files.old) (F.faults files.new) (denoted v)) }
+    ensures judged { IfOk result (λ v.
+        IsVerdictOnWords list.now (F.contents files.old) (F.faults files.old) (F.faults files.new) (denoted v)) }
     ensures fit { IfOk result (λ v. HasFittingJob (denoted v)) }
     ensures ran { IfOk result (λ v. IsRunAsOrdered list.now v) }
 {
@@ -57,7 +58,8 @@ fn carry_out<R: Threads + Wait + Sync, F: Files, G: Gate>(
     requires proper { IsProper request.now }
     ensures stays { F.contents files.new ≡ F.contents files.old }
     ensures grows { (other : List ℕ) → F.faults files.old other ≤ F.faults files.new other }
-    ensures judged { IfOk result (λ v. IsVerdictOnRequest (F.contents files.old) (F.faults files.old) (F.faults files.new) request.now (denoted v)) }
+    ensures judged { IfOk result (λ v.
+        IsVerdictOnRequest (F.contents files.old) (F.faults files.old) (F.faults files.new) request.now (denoted v)) }
     ensures fit { IfOk result (λ v. HasFittingJob (denoted v)) }
     ensures ran { IfOk result (λ v. IsRunAsAsked request.now v) }
 {

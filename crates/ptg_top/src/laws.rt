@@ -17,7 +17,8 @@ pub fn one_job()
     ensures { OneJob }
 {}
 
-/// A law: all arguments and files denote a verdict, and so something is printed for them: no input is without a meaning.
+/// A law: all arguments and files denote a verdict, and so something is printed for them: no input is without a
+/// meaning.
 pub fn some_meaning()
     ensures meaning { SomeMeaning }
     ensures output { SomeOutput }
@@ -25,8 +26,8 @@ pub fn some_meaning()
     words_give_one_order();
 }
 
-/// A law: the number of shards changes nothing in what arguments and files denote. Without a preload the number of workers does not
-/// either. The seed of ranks changes nothing.
+/// A law: the number of shards changes nothing in what arguments and files denote. Without a preload the number of
+/// workers does not either. The seed of ranks changes nothing.
 pub fn settings_change_nothing_else()
     ensures shards { ShardsChangeNothing }
     ensures workers { WorkersChangeNothing }

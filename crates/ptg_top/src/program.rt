@@ -24,18 +24,19 @@ use worker_core::Gate;
 
 /// Carries out the command that the arguments form, with these files, and prints the answer.
 ///
-/// Whatever the JDF, the data, the number of workers and the number of shards, `run JDF DATA` prints exactly the answer of the
-/// sequential dataflow meaning, with its status: the refusal, the final collections, all trapped tasks, or a stall with its waiting
-/// discovered tasks. Only a counted fault of reading or writing, want of memory, or a preload above 2^30 bytes takes its place. The
-/// same holds for `show JDF`, which prints the canonical spelling or the refusal; for `check JDF DATA`, which prints how many
-/// tasks, edges and write-backs a consistent job has, or the first refusal of the one order: the JDF's text, the data's text, a
-/// global that the data lack, names and kinds, consistency; for `demo N`, which runs the made job of N rows of tiles and prints the
-/// number of its tasks and the sum of all elements; for `certify JDF DATA`, which runs a job and prints a heaviest chain of its
-/// tasks with the level of each, or a cycle where it stalled, or its traps; for `replay JDF DATA TRACE`, which prints the answer of
-/// `run` where the trace is that of a whole order of the tasks that run, and else its first fault; and for `ranks JDF DATA R SEED`,
-/// which prints how many messages R ranks send one another in a run of the job, and then the answer of `run`, whatever the seed.
-/// `trace JDF DATA` runs a job, and prints some trace of it: the text of a whole order of the tasks that run. It may wait, as workers
-/// wait for each other.
+/// Whatever the JDF, the data, the number of workers and the number of shards, `run JDF DATA` prints exactly the answer
+/// of the sequential dataflow meaning, with its status: the refusal, the final collections, all trapped tasks, or a
+/// stall with its waiting discovered tasks. Only a counted fault of reading or writing, want of memory, or a preload
+/// above 2^30 bytes takes its place. The same holds for `show JDF`, which prints the canonical spelling or the refusal;
+/// for `check JDF DATA`, which prints how many tasks, edges and write-backs a consistent job has, or the first refusal
+/// of the one order: the JDF's text, the data's text, a global that the data lack, names and kinds, consistency; for
+/// `demo N`, which runs the made job of N rows of tiles and prints the number of its tasks and the sum of all elements;
+/// for `certify JDF DATA`, which runs a job and prints a heaviest chain of its tasks with the level of each, or a cycle
+/// where it stalled, or its traps; for `replay JDF DATA TRACE`, which prints the answer of `run` where the trace is
+/// that of a whole order of the tasks that run, and else its first fault; and for `ranks JDF DATA R SEED`, which prints
+/// how many messages R ranks send one another in a run of the job, and then the answer of `run`, whatever the seed.
+/// `trace JDF DATA` runs a job, and prints some trace of it: the text of a whole order of the tasks that run. It may
+/// wait, as workers wait for each other.
 pub fn ptg_main<R: Threads + Wait + Sync, F: Files, O: Sink, G: Gate>(
     rt: &R,
     alloc: Global,
@@ -51,8 +52,8 @@ pub fn ptg_main<R: Threads + Wait + Sync, F: Files, O: Sink, G: Gate>(
     // Where the contents of the files are known: exactly a text and a status that arguments and files denote.
     ensures exact { (entries : Entries) → F.contents files.old ≡ Some entries → IsExact result.status →
         Prints words.now entries (O.bytes out.old) (O.bytes out.new) result.status }
-    // `unread,NAME` is printed only if reading NAME failed; NAME is the data file's only once the JDF was read, and the trace file's
-    // only once the job was found to be consistent.
+    // `unread,NAME` is printed only if reading NAME failed; NAME is the data file's only once the JDF was read, and the
+    // trace file's only once the job was found to be consistent.
     ensures unread { result.status ≡ Status.ReadFault → (name : List ℕ)
         × Rose (F.faults files.old name) (F.faults files.new name)
         × MayBeUnread words.now (F.contents files.old) name
@@ -67,17 +68,22 @@ pub fn ptg_main<R: Threads + Wait + Sync, F: Files, O: Sink, G: Gate>(
         → ((name : List ℕ) → Rose (F.faults files.old name) (F.faults files.new name) → ⊥)
         → (Rose (O.faults out.old) (O.faults out.new) → ⊥)
         → Prints words.now entries (O.bytes out.old) (O.bytes out.new) result.status ⊎ (result.status ≡ Status.OutOfMemory) }
-    // Whatever the files: usage, with its line, is the answer only to arguments that form no command, and to those nothing else is,
-    // unless a write failed or memory ran out.
+    // Whatever the files: usage, with its line, is the answer only to arguments that form no command, and to those
+    // nothing else is, unless a write failed or memory ran out.
     ensures usage_only { result.status ≡ Status.Usage → IsNoOrder words.now }
     ensures usage_line { result.status ≡ Status.Usage → O.bytes out.new ≡ appended (O.bytes out.old) usage_line }
-    ensures usage { IsNoOrder words.now → (result.status ≡ Status.Usage) ⊎ ((result.status ≡ Status.WriteFault) ⊎ (result.status ≡ Status.OutOfMemory)) }
-    // The answer of a job that workers ran comes with the receipt of a table with the shards, the workers and the preload that were
-    // asked for, and no other status does.
-    ensures receipt { IfSome result.receipt (λ r. (o : Order) × Orders words.now o × IsReceiptFor o r × IsAnswerStatus result.status) }
-    ensures no_receipt { IfNone result.receipt ((o : Order) → Orders words.now o → IsRun o → IsAnswerStatus result.status → ⊥) }
+    ensures usage { IsNoOrder words.now
+        → (result.status ≡ Status.Usage)
+        ⊎ ((result.status ≡ Status.WriteFault) ⊎ (result.status ≡ Status.OutOfMemory)) }
+    // The answer of a job that workers ran comes with the receipt of a table with the shards, the workers and the
+    // preload that were asked for, and no other status does.
+    ensures receipt { IfSome result.receipt (λ r.
+        (o : Order) × Orders words.now o × IsReceiptFor o r × IsAnswerStatus result.status) }
+    ensures no_receipt { IfNone result.receipt
+        ((o : Order) → Orders words.now o → IsRun o → IsAnswerStatus result.status → ⊥) }
     // Where the contents of the files are known, the table had the job that the files denote.
-    ensures of_job { (entries : Entries) → F.contents files.old ≡ Some entries → IfSome result.receipt (λ r. HasConsistentPlan words.now entries r.plan) }
+    ensures of_job { (entries : Entries) → F.contents files.old ≡ Some entries
+        → IfSome result.receipt (λ r. HasConsistentPlan words.now entries r.plan) }
 {
     let host = Host { rt, alloc, gate };
     match judge(&host, words, files) {

@@ -22,8 +22,8 @@ use rank_world::ranks_of;
 use report_text::RankedAnswer;
 use std::alloc::Global;
 
-/// The verdict of `ranks` on a JDF file and a data file: of a job that `check` finds consistent, how many messages the ranks send one
-/// another, and the job's answer; else the verdict of `check`.
+/// The verdict of `ranks` on a JDF file and a data file: of a job that `check` finds consistent, how many messages the
+/// ranks send one another, and the job's answer; else the verdict of `check`.
 pub fn ranks<F: Files>(
     alloc: Global,
     jdf: &Text,
@@ -36,7 +36,9 @@ pub fn ranks<F: Files>(
     requires ranks { AreRanks settings.ranks }
     ensures stays { F.contents files.new ≡ F.contents files.old }
     ensures grows { (other : List ℕ) → F.faults files.old other ≤ F.faults files.new other }
-    ensures verdict { IfOk result (λ v. IsVerdictOnRequest (F.contents files.old) (F.faults files.old) (F.faults files.new) (asked.Ranks jdf.now tiles.now settings) (denoted v)) }
+    ensures verdict { IfOk result (λ v.
+        IsVerdictOnRequest (F.contents files.old) (F.faults files.old) (F.faults files.new)
+        (asked.Ranks jdf.now tiles.now settings) (denoted v)) }
     ensures fit { IfOk result (λ v. HasFittingJob (denoted v)) }
     ensures not_run { IfOk result (λ v. receipt_of v ≡ None) }
 {

@@ -23,8 +23,9 @@ use std::alloc::Global;
 use trace_core::{TraceCode, TraceFault};
 use trace_replay::judge_trace;
 
-/// The verdict of `replay` on a JDF file, a data file and a trace file: of a job that `check` finds consistent, the first fault of
-/// the trace, or the job's answer; else the verdict of `check`. The trace file is read only once the job was found to be consistent.
+/// The verdict of `replay` on a JDF file, a data file and a trace file: of a job that `check` finds consistent, the
+/// first fault of the trace, or the job's answer; else the verdict of `check`. The trace file is read only once the job
+/// was found to be consistent.
 pub fn replay<F: Files>(
     alloc: Global,
     jdf: &Text,
@@ -37,7 +38,9 @@ pub fn replay<F: Files>(
     requires trace_text { IsUtf8 trace.now }
     ensures stays { F.contents files.new ≡ F.contents files.old }
     ensures grows { (other : List ℕ) → F.faults files.old other ≤ F.faults files.new other }
-    ensures verdict { IfOk result (λ v. IsVerdictOnRequest (F.contents files.old) (F.faults files.old) (F.faults files.new) (asked.Replay jdf.now tiles.now trace.now) (denoted v)) }
+    ensures verdict { IfOk result (λ v.
+        IsVerdictOnRequest (F.contents files.old) (F.faults files.old) (F.faults files.new)
+        (asked.Replay jdf.now tiles.now trace.now) (denoted v)) }
     ensures fit { IfOk result (λ v. HasFittingJob (denoted v)) }
     ensures not_run { IfOk result (λ v. receipt_of v ≡ None) }
 {
@@ -60,7 +63,9 @@ fn replayed<F: Files>(
     requires fit { DataFit matched.colls matched.elems given }
     ensures stays { F.contents files.new ≡ F.contents files.old }
     ensures grows { (other : List ℕ) → F.faults files.old other ≤ F.faults files.new other }
-    ensures verdict { IfOk result (λ v. ReplayEndsWith (F.contents files.old) (F.faults files.old trace.now) (F.faults files.new trace.now) trace.now matched given (denoted v)) }
+    ensures verdict { IfOk result (λ v.
+        ReplayEndsWith (F.contents files.old) (F.faults files.old trace.now) (F.faults files.new trace.now) trace.now
+        matched given (denoted v)) }
     ensures fit { IfOk result (λ v. HasFittingJob (denoted v)) }
     ensures not_run { IfOk result (λ v. receipt_of v ≡ None) }
 {

@@ -25,8 +25,8 @@ use std::sync::Wait;
 use std::thread::Threads;
 use worker_core::Gate;
 
-/// The verdict of `run` on a JDF file and a data file: of a job that `check` finds consistent, that its preload is too large, or its
-/// answer; else the verdict of `check`.
+/// The verdict of `run` on a JDF file and a data file: of a job that `check` finds consistent, that its preload is too
+/// large, or its answer; else the verdict of `check`.
 pub fn run<R: Threads + Wait + Sync, F: Files, G: Gate>(
     host: &Host<R, G>,
     jdf: &Text,
@@ -39,7 +39,9 @@ pub fn run<R: Threads + Wait + Sync, F: Files, G: Gate>(
     requires counts { AreCounts settings.workers settings.shards }
     ensures stays { F.contents files.new ≡ F.contents files.old }
     ensures grows { (other : List ℕ) → F.faults files.old other ≤ F.faults files.new other }
-    ensures verdict { IfOk result (λ v. IsVerdictOnRequest (F.contents files.old) (F.faults files.old) (F.faults files.new) (asked.Run jdf.now tiles.now settings) (denoted v)) }
+    ensures verdict { IfOk result (λ v.
+        IsVerdictOnRequest (F.contents files.old) (F.faults files.old) (F.faults files.new)
+        (asked.Run jdf.now tiles.now settings) (denoted v)) }
     ensures fit { IfOk result (λ v. HasFittingJob (denoted v)) }
     ensures ran { IfOk result (λ v. IsOfRun settings v) }
 {

@@ -24,8 +24,8 @@ use std::sync::Wait;
 use std::thread::Threads;
 use worker_core::Gate;
 
-/// The verdict of `demo` on a number of rows of tiles: of the made job that is complete, its summary; else the verdict of `run` on
-/// the made texts.
+/// The verdict of `demo` on a number of rows of tiles: of the made job that is complete, its summary; else the verdict
+/// of `run` on the made texts.
 pub fn demo<R: Threads + Wait + Sync, G: Gate>(
     host: &Host<R, G>,
     rows: u32,

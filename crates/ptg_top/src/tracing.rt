@@ -29,8 +29,8 @@ use std::thread::Threads;
 use trace_core::trace_text;
 use worker_core::Gate;
 
-/// The verdict of `trace` on a JDF file and a data file: of a job that `check` finds consistent, the text of its tasks in the order in
-/// which workers claimed them; else the verdict of `check`.
+/// The verdict of `trace` on a JDF file and a data file: of a job that `check` finds consistent, the text of its tasks
+/// in the order in which workers claimed them; else the verdict of `check`.
 pub fn trace<R: Threads + Wait + Sync, F: Files, G: Gate>(
     host: &Host<R, G>,
     jdf: &Text,
@@ -44,7 +44,9 @@ pub fn trace<R: Threads + Wait + Sync, F: Files, G: Gate>(
     requires no_preload { settings.preload ≡ false }
     ensures stays { F.contents files.new ≡ F.contents files.old }
     ensures grows { (other : List ℕ) → F.faults files.old other ≤ F.faults files.new other }
-    ensures verdict { IfOk result (λ v. IsVerdictOnRequest (F.contents files.old) (F.faults files.old) (F.faults files.new) (asked.Trace jdf.now tiles.now settings) (denoted v)) }
+    ensures verdict { IfOk result (λ v.
+        IsVerdictOnRequest (F.contents files.old) (F.faults files.old) (F.faults files.new)
+        (asked.Trace jdf.now tiles.now settings) (denoted v)) }
     ensures fit { IfOk result (λ v. HasFittingJob (denoted v)) }
     ensures ran { IfOk result (λ v. IsOfRun settings v) }
 {
@@ -82,9 +84,11 @@ fn trace_of<R: Threads + Wait + Sync, G: Gate>(
     prepared: Prepared,
 ) -> Result<Verdict, OutOfMemory>
     requires { prepared.job.preloaded ≡ false }
-    ensures trace { (P : Plan) (given : Data) (settings : SettingsValue) → prepared ≡ run_of P given settings → IfOk result (λ v. IsTraced P given (denoted v)) }
+    ensures trace { (P : Plan) (given : Data) (settings : SettingsValue) → prepared ≡ run_of P given settings
+        → IfOk result (λ v. IsTraced P given (denoted v)) }
     ensures fit { IfOk result (λ v. HasFittingJob (denoted v)) }
-    ensures ran { (P : Plan) (given : Data) (settings : SettingsValue) → prepared ≡ run_of P given settings → IfOk result (λ v. IsOfRun settings v) }
+    ensures ran { (P : Plan) (given : Data) (settings : SettingsValue) → prepared ≡ run_of P given settings
+        → IfOk result (λ v. IsOfRun settings v) }
 {
     let (tasks, closed) = run_traced(host.alloc, host.rt, prepared, host.gate)?;
     let (_outcome, receipt) = closed.outcome()?;

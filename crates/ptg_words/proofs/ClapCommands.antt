@@ -24,13 +24,11 @@ use Rattle.ptg_words.proofs.PartsOfUses.{Apart, NoneIs, fresh_once, free_at, goo
 use Rattle.ptg_words.proofs.ClapEnd.{Fits, passes, level_passes, final_rows, settle_terms, seen, or_seen, seen_append, first_seen}
 use Rattle.ptg_words.proofs.ClapRules.{rules_from, filled_is, simple_new, simple_built, free_built, none_early, by_short, by_long, option_value, positions, quiet_rules, off_row, tail_of, finished, nothing_added, required}
 use Rattle.ptg_words.proofs.ValuesRead.{none_is, some_is, one_text-rows, counted}
-
-pub both_true : (a b : Bool) → (a && b) ≡ true → a ≡ true
-both_true true b e = refl
-both_true false b e = e
+use Rattle.std.specs.Cmp.{first_so}
+use Rattle.std.proofs.lemmas.Bool.{not-true, and_parts}
 
 pub simple_first : (a : App) → is_simple_and_free a ≡ true → is_simple a ≡ true
-simple_first a h = both_true _ _ h
+simple_first a h = first_so _ _ h
 
 -- ---- ids
 
@@ -41,25 +39,17 @@ other_way a b e = go (bytes_eq b a) refl
     go false h = h
     go true h = let again : bytes_eq a b ≡ true = (bytes_eq-Decides a b).1 (sym ((bytes_eq-Decides b a).0 h)) in let bad : false ≡ true = sym e ∙ again in absurd cc
 
-is_off : (b : Bool) → not b ≡ true → b ≡ false
-is_off false e = refl
-is_off true e = absurd cc
-
-both : (a b : Bool) → (a && b) ≡ true → (a ≡ true) × (b ≡ true)
-both true b e = (refl, e)
-both false b e = absurd cc
-
 pub apart_ids : (ids : List Text) → are_ids ids ≡ true → Apart ids
 apart_ids [] h = tt
 apart_ids (i ∷ is) h =
-    let outer = both (is_free_id i) _ h in
-    let rest = both (not (list_any (bytes_eq i) is)) _ outer.1 in
-    let free = both (not (bytes_eq (codes "workers") i)) _ outer.0 in
-    let frees = both (not (bytes_eq (codes "shards") i)) _ free.1 in
-    let of_workers = is_off _ free.0 in
-    let of_shards = is_off _ frees.0 in
-    let of_preload = is_off _ frees.1 in
-    (own of_workers of_shards, of_preload, other_way (codes "preload") i of_preload, is_off _ rest.0, apart_ids is rest.1)
+    let outer = and_parts (is_free_id i) _ h in
+    let rest = and_parts (not (list_any (bytes_eq i) is)) _ outer.1 in
+    let free = and_parts (not (bytes_eq (codes "workers") i)) _ outer.0 in
+    let frees = and_parts (not (bytes_eq (codes "shards") i)) _ free.1 in
+    let of_workers = not-true _ free.0 in
+    let of_shards = not-true _ frees.0 in
+    let of_preload = not-true _ frees.1 in
+    (own of_workers of_shards, of_preload, other_way (codes "preload") i of_preload, not-true _ rest.0, apart_ids is rest.1)
   where
     own : bytes_eq (codes "workers") i ≡ false → bytes_eq (codes "shards") i ≡ false → (s : NumberOption) → (bytes_eq (name_of s) i ≡ false) × (bytes_eq i (name_of s) ≡ false)
     own w k workers = (w, other_way (codes "workers") i w)
@@ -125,7 +115,7 @@ module _ (name : Text) (ids : List Text) (o : Options) (few : 1 + length ids ≤
       → matches_of (verb_command name ids o) ws ≡ map use_row (uses ids (parts o (drop 1 ws))) ++ tail_of o (map use_row (uses ids (parts o (drop 1 ws))))
   unfolding fits
   found_rows ws p h =
-      let ok = both_true _ _ (sym (ap none (fault_is ws) ∙ level_passes name (rules_from 1 ids o) ids o fits (drop 1 ws) p) ∙ h) in
+      let ok = first_so _ _ (sym (ap none (fault_is ws) ∙ level_passes name (rules_from 1 ids o) ids o fits (drop 1 ws) p) ∙ h) in
       rows_are ws ∙ final_rows name (rules_from 1 ids o) ids o fits (drop 1 ws) p ok
 
 has_first : (id : Text) (us : List Use) → has_row id (map use_row us) ≡ is_some (value_in id us)

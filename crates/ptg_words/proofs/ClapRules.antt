@@ -20,6 +20,8 @@ use Rattle.ptg_words.proofs.ClapStates.{IsValue, Positions}
 use Rattle.ptg_words.proofs.ClapViews.{long_rule}
 use Rattle.ptg_words.proofs.PartsOfUses.{Apart, same}
 use Rattle.ptg_words.proofs.ClapEnd.{Quiet, seen, value_default, value_kept, preload_default}
+use Rattle.list_lemmas.proofs.Truth.{or-false}
+use Rattle.std.proofs.lemmas.Bool.{or_parts}
 
 -- the rules of operands with these ids, the first of which is at this index
 abbrev pub operand_rules : ℕ → List Text → List Rule
@@ -80,10 +82,6 @@ none_early m n (i ∷ is) o = none_early m (n + 1) is o
 
 -- ---- a rule by what names it
 
-or_false : (b : Bool) → (b || false) ≡ b
-or_false true = refl
-or_false false = refl
-
 pub by_short : (n : ℕ) (ids : List Text) (o : Options) (x : ℕ) → arg_by_short (rules_from n ids o) x ≡ None
 by_short n [] NoOptions x = refl
 by_short n [] Counts x = refl
@@ -92,8 +90,8 @@ by_short n (i ∷ is) o x = by_short (n + 1) is o x
 
 pub by_long : (n : ℕ) (ids : List Text) (o : Options) (name : Text) → arg_by_long (rules_from n ids o) name ≡ long_rule o name
 by_long n [] NoOptions name = refl
-by_long n [] Counts name = rw (or_false (bytes_eq (codes "workers") name), or_false (bytes_eq (codes "shards") name)) refl
-by_long n [] CountsAndPreload name = rw (or_false (bytes_eq (codes "workers") name), or_false (bytes_eq (codes "shards") name), or_false (bytes_eq (codes "preload") name)) refl
+by_long n [] Counts name = rw (or-false (bytes_eq (codes "workers") name), or-false (bytes_eq (codes "shards") name)) refl
+by_long n [] CountsAndPreload name = rw (or-false (bytes_eq (codes "workers") name), or-false (bytes_eq (codes "shards") name), or-false (bytes_eq (codes "preload") name)) refl
 by_long n (i ∷ is) o name = by_long (n + 1) is o name
 
 option_by_id : (n : ℕ) (ids : List Text) (o : Options) (s : NumberOption) → Apart ids → has_counts o ≡ true → arg_by_id (rules_from n ids o) (name_of s) ≡ Some (number_option_rule s)
@@ -116,14 +114,10 @@ all_same : (c : List Rule) (ids : List Text) → SameIds c c ids
 all_same c [] = tt
 all_same c (i ∷ is) = (refl, all_same c is)
 
-neither : (a b : Bool) → (a || b) ≡ false → (a ≡ false) × (b ≡ false)
-neither false b e = (refl, e)
-neither true b e = absurd cc
-
 still_same : (c d : List Rule) (i : Text) (n : ℕ) (ids : List Text) → SameIds c (value_rule i None (Some n) true ∷ d) ids → list_any (bytes_eq i) ids ≡ false → SameIds c d ids
 still_same c d i n [] h e = tt
 still_same c d i n (j ∷ js) h e =
-    let two = neither (bytes_eq i j) (list_any (bytes_eq i) js) e in
+    let two = or_parts (bytes_eq i j) (list_any (bytes_eq i) js) e in
     (h.0 ∙ rw (two.0) refl, still_same c d i n js h.1 two.1)
 
 itself : (n : ℕ) → (n == n) ≡ true

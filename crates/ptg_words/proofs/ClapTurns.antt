@@ -9,8 +9,10 @@ use Rattle.clap.specs.Lexer.{usize_max}
 use Rattle.clap.specs.Lexer.{long_of, short_of}
 use Rattle.ptg_words.specs.declared.options.Options.{Options}
 use Rattle.ptg_words.specs.Parts.{NumberOption, name_of, workers, shards}
-use Rattle.ptg_words.proofs.ClapUses.{none, none_else, value_rule, preload_rule, number_option_rule, Use, use_row, added, fresh, and_true, and_false, and_left, and_swap, fresh_split, added_split}
+use Rattle.ptg_words.proofs.ClapUses.{none, none_else, value_rule, preload_rule, number_option_rule, Use, use_row, added, fresh, and_true, and_swap, fresh_split, added_split}
 use Rattle.ptg_words.proofs.ClapStates.{Pend, pending_of, uses_of, held, here, IsValue, Known, quiet, due, shape, settle_none, settle_rows}
+use Rattle.list_lemmas.proofs.Truth.{and-false}
+use Rattle.std.proofs.lemmas.Bool.{and_left}
 
 module _ (name : Text) (c : List Rule) (opts : Options) where
   -- ---- what each word comes to
@@ -19,14 +21,14 @@ module _ (name : Text) (c : List Rule) (opts : Options) where
       → bytes_eq w (45 ∷ 45 ∷ []) ≡ false → long_of w ≡ None → short_of w ≡ None
       → turn_fault (shape name c opts) [] (here rows (quiet q) n) w ≡ settle_fault c false (held rows (quiet q))
   turn_operand w i rows None n found dd l sh = rw (dd, l, sh, found) refl
-  turn_operand w i rows (Some u) n found dd l sh = rw (dd, l, sh, found, and_false (bytes_eq u.0 i)) refl
+  turn_operand w i rows (Some u) n found dd l sh = rw (dd, l, sh, found, and-false (bytes_eq u.0 i)) refl
 
   pub operand_leads : (w i : Text) (rows : List Row) (q : Option Use) (n : ℕ) → arg_by_index c n ≡ Some (value_rule i None (Some n) true) → min (n + 1) usize_max ≡ n + 1
       → bytes_eq w (45 ∷ 45 ∷ []) ≡ false → long_of w ≡ None → short_of w ≡ None
       → walked c [] (here rows (quiet q) n) w ≡ here (settled_rows c (pending_of (quiet q)) rows) (quiet (Some (i, w))) (n + 1)
   unfolding walked
   operand_leads w i rows None n found counted dd l sh = rw (dd, l, sh, found, counted) refl
-  operand_leads w i rows (Some u) n found counted dd l sh = rw (dd, l, sh, found, and_false (bytes_eq u.0 i), counted) refl
+  operand_leads w i rows (Some u) n found counted dd l sh = rw (dd, l, sh, found, and-false (bytes_eq u.0 i), counted) refl
 
   pub turn_stray : (w : Text) (rows : List Row) (q : Option Use) (n : ℕ) → arg_by_index c n ≡ None
       → bytes_eq w (45 ∷ 45 ∷ []) ≡ false → long_of w ≡ None → short_of w ≡ None

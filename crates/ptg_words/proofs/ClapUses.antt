@@ -99,13 +99,6 @@ pub and_true : (b : Bool) → (b && true) ≡ b
 and_true true = refl
 and_true false = refl
 
-pub and_false : (b : Bool) → (b && false) ≡ false
-and_false true = refl
-and_false false = refl
-
-pub and_left : (a b : Bool) → a ≡ false → (a && b) ≡ false
-and_left a b e = ap (λ x. x && b) e
-
 pub and_swap : (g b f : Bool) → (g && (b && f)) ≡ (b && (g && f))
 and_swap true b f = refl
 and_swap false true f = refl

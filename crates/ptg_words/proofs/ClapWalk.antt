@@ -4,9 +4,10 @@ use Rattle.clap.specs.Walk.{Row, Rule, Text, walked, used}
 use Rattle.clap.specs.Faults.{use_fault, turn_fault, walk_fault}
 use Rattle.ptg_words.specs.declared.options.Options.{Options}
 use Rattle.ptg_words.specs.Parts.{NumberOption, Part, Form, name_of, after, parts_from, form_of, plain, named, flag, unknown}
-use Rattle.ptg_words.proofs.ClapUses.{none, none_nothing, preload_rule, number_option_rule, Use, added, fresh, value_fault, value_used, preload_fault, preload_used, and_left, added_split}
+use Rattle.ptg_words.proofs.ClapUses.{none, none_nothing, preload_rule, number_option_rule, Use, added, fresh, value_fault, value_used, preload_fault, preload_used, added_split}
 use Rattle.ptg_words.proofs.ClapStates.{Pend, due_of, uses_of, here, Known, Positions, View, good, uses, Ends, quiet, due, is_plain, is_name, is_text, is_flag, is_refused, shape, total, final, settle_none, settle_rows, due_fails, stops, advance}
 use Rattle.ptg_words.proofs.ClapTurns.{turn_operand, operand_leads, turn_stray, none_nil, none_two, turn_name, name_leads, turn_text, text_leads, turn_flag, flag_leads, turn_refused, turn_value, value_leads, react_none, react_rows, more, ok_split}
+use Rattle.std.proofs.lemmas.Bool.{and_left}
 
 module _ (name : Text) (c : List Rule) (opts : Options) where
   -- ---- the walk over all words

@@ -2,9 +2,8 @@
 use Rattle.std.proofs.Common.{◌≡◌, ◌≢◌, ℕ, suc, Bool, true, false, List, [], ◌∷◌, length, Option, Some, None, refl, ap, inl, inr, arith, codes}
 use Rattle.std.specs.Prelude.{◌⊎◌, option_map}
 use Rattle.std.specs.List.{All, Any}
-use Rattle.std.specs.Str.{IsUtf8, is_utf8, bytes_eq}
+use Rattle.std.specs.Str.{IsUtf8, is_utf8}
 use Rattle.std.proofs.lemmas.List.Elements.{All-nil, All-cons}
-use Rattle.std.proofs.lemmas.Slice.Eq.{bytes_eq-Decides}
 use Rattle.std.proofs.lemmas.Str.{IsUtf8-from_is_utf8, is_utf8-from_IsUtf8}
 use Rattle.ptg_words.specs.declared.order.Order.{Order}
 use Rattle.ptg_words.specs.Parts.{Part, parts, operands}
@@ -14,12 +13,10 @@ use Rattle.ptg_words.specs.Laws.{OrderOrUsage}
 use Rattle.ptg_words.specs.Readings.{is_read}
 use Rattle.ptg_words.proofs.Rules.{breaks_none, breaks_rule, breaks_number}
 use Rattle.ptg_words.proofs.ValuesRead.{counted}
+use Rattle.std.proofs.lemmas.Bool.{both_ways}
+use Rattle.list_lemmas.proofs.Texts.{same_or_not}
 
 -- ---- proper words
-
-both_ways : (b : Bool) → b ≡ false → b ≡ true → ⊥
-both_ways true e f = absurd cc
-both_ways false e f = absurd cc
 
 text_or_not : (w : List ℕ) → IsUtf8 w ⊎ (IsUtf8 w → ⊥)
 text_or_not w = go (is_utf8 w) refl
@@ -27,13 +24,6 @@ text_or_not w = go (is_utf8 w) refl
     go : (b : Bool) → is_utf8 w ≡ b → IsUtf8 w ⊎ (IsUtf8 w → ⊥)
     go true e = inl (IsUtf8-from_is_utf8 w e)
     go false e = inr (λ u. both_ways (is_utf8 w) e (is_utf8-from_IsUtf8 w u))
-
-same_or_not : (a b : List ℕ) → (a ≡ b) ⊎ (a ≢ b)
-same_or_not a b = go (bytes_eq a b) refl
-  where
-    go : (c : Bool) → bytes_eq a b ≡ c → (a ≡ b) ⊎ (a ≢ b)
-    go true e = inl ((bytes_eq-Decides a b).0 e)
-    go false e = inr (λ same. both_ways (bytes_eq a b) e ((bytes_eq-Decides a b).1 same))
 
 proper_or_not : (w : List ℕ) → IsProper w ⊎ (IsProper w → ⊥)
 proper_or_not w = go (text_or_not w) (same_or_not w []) (same_or_not w (codes "-")) (same_or_not w (codes "--"))

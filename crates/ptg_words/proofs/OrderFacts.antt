@@ -1,5 +1,5 @@
 -- What the files and the numbers of a command are.
-use Rattle.std.proofs.Common.{◌≡◌, ◌∙◌, ℕ, ◌≤◌, ◌<◌, ◌^◌, Bool, true, false, not, ◌&&◌, ◌||◌, List, [], ◌∷◌, Option, Some, None, refl, sym, ap, subst, inl, inr, arith}
+use Rattle.std.proofs.Common.{◌≡◌, ◌∙◌, ℕ, ◌≤◌, ◌<◌, ◌^◌, Bool, true, false, not, ◌&&◌, List, [], ◌∷◌, Option, Some, None, refl, sym, ap, subst, inl, inr, arith}
 use Rattle.std.specs.Prelude.{◌⊎◌, nat_le, length, option_map}
 use Rattle.std.specs.List.{All, Any}
 use Rattle.std.proofs.lemmas.Bool.Decides.{nat_tests}
@@ -13,6 +13,7 @@ use Rattle.ptg_words.specs.Laws.{AreCounts, AreText, FilesAreText, HasNumbersInR
 use Rattle.ptg_words.specs.Readings.{AllProper}
 use Rattle.ptg_words.proofs.Rules.{all_proper, number_at_most, to_rule}
 use Rattle.ptg_words.proofs.Either.{all_or_any}
+use Rattle.std.proofs.lemmas.Bool.{or_parts}
 
 -- ---- the operands of proper words are proper
 
@@ -104,17 +105,13 @@ numbered least most text h =
     last true false c e = absurd cc
     last false b c e = absurd cc
 
-neither : (a b : Bool) → (a || b) ≡ false → (a ≡ false) × (b ≡ false)
-neither false b e = (refl, e)
-neither true b e = absurd cc
-
 counted : (most default : ℕ) (texts : List (List ℕ)) → 1 ≤ default → default ≤ most → has_no_number 1 most texts ≡ false → (1 ≤ number_or default texts) × (number_or default texts ≤ most)
 counted most default [] low high h = (low, high)
-counted most default (text ∷ texts) low high h = numbered 1 most text (neither _ _ h).0
+counted most default (text ∷ texts) low high h = numbered 1 most text (or_parts _ _ h).0
 
 are_counts : (ps : List Part) → has_bad_count ps ≡ false → AreCounts (workers_of ps) (shards_of ps)
 are_counts ps h =
-    let two = neither (has_no_number 1 64 (texts_of workers ps)) (has_no_number 1 256 (texts_of shards ps)) h in
+    let two = or_parts (has_no_number 1 64 (texts_of workers ps)) (has_no_number 1 256 (texts_of shards ps)) h in
     let w = counted 64 4 (texts_of workers ps) (omega arith) (omega arith) two.0 in
     let s = counted 256 16 (texts_of shards ps) (omega arith) (omega arith) two.1 in
     (w.0, w.1, s.0, s.1)
@@ -122,12 +119,12 @@ are_counts ps h =
 in_ranges : (v : Verb) (ops : List (List ℕ)) (ps : List Part) → has_bad_count ps ≡ false → has_bad_operand (operands_of v) ops ≡ false → OnOrder HasNumbersInRange (formed v ops ps)
 unfolding OnOrder
 in_ranges words.run (jdf ∷ data_name ∷ []) ps c h = are_counts ps c
-in_ranges words.demo (rows ∷ []) ps c h = numbered 1 96 rows (neither _ _ h).0
+in_ranges words.demo (rows ∷ []) ps c h = numbered 1 96 rows (or_parts _ _ h).0
 in_ranges words.trace (jdf ∷ data_name ∷ []) ps c h = are_counts ps c
 in_ranges words.ranks (jdf ∷ data_name ∷ count ∷ seed ∷ []) ps c h =
-    let two = neither _ _ h in
+    let two = or_parts _ _ h in
     let r = numbered 1 64 count two.0 in
-    let s = numbered 0 18446744073709551615 seed (neither _ _ two.1).0 in
+    let s = numbered 0 18446744073709551615 seed (or_parts _ _ two.1).0 in
     (r.0, r.1, below_two_to_64 (decimal seed) s.1)
   where
     below_two_to_64 : (n : ℕ) → n ≤ 18446744073709551615 → n < 2 ^ 64
@@ -144,5 +141,5 @@ numbers_in_range words o h = go (has_bad_number h.verb h.rest) refl
     go : (b : Bool) → has_bad_number h.verb h.rest ≡ b → HasNumbersInRange o
     go true e = absurd (h.breaks_no_rule (bad_number (to_rule has_bad_number words h.verb h.rest h.reads e)))
     go false e =
-        let two = neither (has_bad_count h.rest) (has_bad_operand (operands_of h.verb) (operands h.rest)) e in
+        let two = or_parts (has_bad_count h.rest) (has_bad_operand (operands_of h.verb) (operands h.rest)) e in
         of_order HasNumbersInRange (formed h.verb (operands h.rest) h.rest) o h.asks (in_ranges h.verb (operands h.rest) h.rest two.0 two.1)

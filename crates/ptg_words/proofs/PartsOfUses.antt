@@ -1,4 +1,5 @@
--- What clap keeps of the words says the same as their parts: each option occurs once, and the positionals are the operands.
+-- What clap keeps of the words says the same as their parts: each option occurs once, and the positionals are the
+-- operands.
 use Rattle.std.proofs.Common.{◌≡◌, ℕ, zero, suc, Bool, true, false, not, cond, ◌&&◌, ◌||◌, List, [], ◌∷◌, ◌++◌, length, map, Option, Some, None, is_some, refl, sym, ap, ◌∙◌, subst, arith, codes}
 use Rattle.std.specs.Prelude.{find, option_map, slice_get, nat_le, ◌==◌}
 use Rattle.std.specs.List.{list_any, list_all}
@@ -8,6 +9,7 @@ use Rattle.ptg_words.specs.Parts.{NumberOption, Part, name_of, workers, shards, 
 use Rattle.std.proofs.lemmas.Bool.Decides.{nat_tests}
 use Rattle.ptg_words.proofs.ClapUses.{Use, use_row, fresh}
 use Rattle.ptg_words.proofs.ClapStates.{good, uses}
+use Rattle.list_lemmas.proofs.Truth.{second_false}
 
 -- no id occurs twice
 abbrev pub distinct : List Use → Bool
@@ -69,15 +71,11 @@ abbrev pub IsOptionName : List Text → Text → Type 0
 IsOptionName [] name = Unit {0}
 IsOptionName (i ∷ is) name = (bytes_eq name i ≡ false) × IsOptionName is name
 
-right_of : (a b : Bool) → (a || b) ≡ false → b ≡ false
-right_of false b e = e
-right_of true b e = let bad : true ≡ false = e in absurd cc
-
 not_later : (i : Text) → ((s : NumberOption) → bytes_eq i (name_of s) ≡ false) → bytes_eq i (codes "preload") ≡ false
     → (is : List Text) (ps : List Part) → list_any (bytes_eq i) is ≡ false → list_any (λ (v : Use). bytes_eq i v.0) (uses is ps) ≡ false
 not_later i a b is [] e = refl
 not_later i a b [] (operand w ∷ ps) e = not_later i a b [] ps e
-not_later i a b (j ∷ js) (operand w ∷ ps) e = go (bytes_eq i j) refl (not_later i a b js ps (right_of (bytes_eq i j) _ e))
+not_later i a b (j ∷ js) (operand w ∷ ps) e = go (bytes_eq i j) refl (not_later i a b js ps (second_false (bytes_eq i j) _ e))
   where
     go : (t : Bool) → bytes_eq i j ≡ t → list_any (λ (v : Use). bytes_eq i v.0) (uses js ps) ≡ false → (bytes_eq i j || list_any (λ (v : Use). bytes_eq i v.0) (uses js ps)) ≡ false
     go false t r = rw t r
@@ -146,7 +144,7 @@ differs_at i (j ∷ js) zero id d e = let here : j ≡ id = cc in ap (bytes_eq i
     left_of : (a b : Bool) → (a || b) ≡ false → a ≡ false
     left_of false b e = refl
     left_of true b e = let bad : true ≡ false = e in absurd cc
-differs_at i (j ∷ js) (suc k) id d e = differs_at i js k id (right_of (bytes_eq i j) _ d) e
+differs_at i (j ∷ js) (suc k) id d e = differs_at i js k id (second_false (bytes_eq i j) _ d) e
 
 -- each operand is the first value of its id
 pub operand_at : (ids : List Text) (ps : List Part) (k : ℕ) (id : Text) → Apart ids → slice_get ids k ≡ Some id → value_in id (uses ids ps) ≡ slice_get (operands ps) k

@@ -1,5 +1,5 @@
 -- From clap's clauses to what the parts of the words give.
-use Rattle.std.proofs.Common.{◌≡◌, ◌≢◌, ℕ, Bool, true, false, not, cond, ◌&&◌, ◌||◌, List, [], ◌∷◌, map, length, Option, Some, None, refl, sym, ap, ◌∙◌, arith}
+use Rattle.std.proofs.Common.{◌≡◌, ◌≢◌, ℕ, Bool, true, false, not, cond, ◌&&◌, List, [], ◌∷◌, map, length, Option, Some, None, refl, sym, ap, ◌∙◌, arith}
 use Rattle.std.specs.Prelude.{option_map, option_and_then, slice_get, ◌==◌, find}
 use Rattle.std.specs.List.{list_any}
 use Rattle.std.specs.Str.{bytes_eq}
@@ -15,6 +15,7 @@ use Rattle.clap.specs.declared.parser.matches.MatchedArg.{MatchedArg}
 use Rattle.ptg_words.specs.Parts.{NumberOption, Part, name_of, workers, shards, operand, given, lacking, preload, stray, operands, texts_of, is_lacking, is_stray, is_named, has_twice}
 use Rattle.ptg_words.specs.Readings.{is_read, texts_in}
 use Rattle.ptg_words.proofs.ClapUses.{none}
+use Rattle.std.proofs.lemmas.Bool.{or_parts}
 
 pub none_is : (k : Kinds) → k ≡ [] → none k ≡ true
 unfolding none
@@ -81,11 +82,6 @@ no_texts workers (preload ∷ ps) e = no_texts workers ps e
 no_texts shards (preload ∷ ps) e = no_texts shards ps e
 no_texts s (stray ∷ ps) e = no_texts s ps e
 
-neither_of : (a b : Bool) → (a || b) ≡ false → (a ≡ false) × (b ≡ false)
-neither_of false false e = (refl, refl)
-neither_of true b e = absurd cc
-neither_of false true e = absurd cc
-
 abbrev listed : Option Text → List Text
 listed None = []
 listed (Some t) = t ∷ []
@@ -93,12 +89,12 @@ listed (Some t) = t ∷ []
 once : (s : NumberOption) (ps : List Part) → has_twice ps ≡ false → texts_of s ps ≡ listed (slice_get (texts_of s ps) 0)
 once s [] e = refl
 once s (operand w ∷ ps) e = once s ps e
-once workers (given workers t ∷ ps) e = ap (λ xs. t ∷ xs) (no_texts workers ps (neither_of _ _ e).0)
-once workers (given shards t ∷ ps) e = once workers ps (neither_of _ _ e).1
-once shards (given workers t ∷ ps) e = once shards ps (neither_of _ _ e).1
-once shards (given shards t ∷ ps) e = ap (λ xs. t ∷ xs) (no_texts shards ps (neither_of _ _ e).0)
-once s (lacking t ∷ ps) e = once s ps (neither_of _ _ e).1
-once s (preload ∷ ps) e = once s ps (neither_of _ _ e).1
+once workers (given workers t ∷ ps) e = ap (λ xs. t ∷ xs) (no_texts workers ps (or_parts _ _ e).0)
+once workers (given shards t ∷ ps) e = once workers ps (or_parts _ _ e).1
+once shards (given workers t ∷ ps) e = once shards ps (or_parts _ _ e).1
+once shards (given shards t ∷ ps) e = ap (λ xs. t ∷ xs) (no_texts shards ps (or_parts _ _ e).0)
+once s (lacking t ∷ ps) e = once s ps (or_parts _ _ e).1
+once s (preload ∷ ps) e = once s ps (or_parts _ _ e).1
 once s (stray ∷ ps) e = once s ps e
 
 pub text_of_number_option : (s : NumberOption) (ps : List Part) (o : Option (Bor Text)) → has_twice ps ≡ false

@@ -22,7 +22,8 @@ command name rules = record { top = record (new_shape name) { rules = rules; dis
 abbrev pub option_rules : Options → List Rule
 option_rules NoOptions = []
 option_rules Counts = option_rule (codes "workers") ∷ option_rule (codes "shards") ∷ []
-option_rules CountsAndPreload = option_rule (codes "workers") ∷ option_rule (codes "shards") ∷ flag_rule (codes "preload") ∷ []
+option_rules CountsAndPreload =
+    option_rule (codes "workers") ∷ option_rule (codes "shards") ∷ flag_rule (codes "preload") ∷ []
 
 -- the command with more rules at its end
 abbrev pub with_rules : App → List Rule → App

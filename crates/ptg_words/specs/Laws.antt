@@ -41,7 +41,8 @@ FilesAreText = (words : List (List ℕ)) (order : Order) → Orders words order 
 abbrev pub AreCounts : ℕ → ℕ → Type 0
 AreCounts w s = (1 ≤ w) × (w ≤ 64) × (1 ≤ s) × (s ≤ 256)
 
--- The numbers of a command are in their ranges: 1 to 64 workers or ranks, 1 to 256 shards, 1 to 96 rows of tiles, a seed below 2^64.
+-- The numbers of a command are in their ranges: 1 to 64 workers or ranks, 1 to 256 shards, 1 to 96 rows of tiles, a
+-- seed below 2^64.
 abbrev pub HasNumbersInRange : Order → Type 0
 HasNumbersInRange (Run jdf data_name w s p) = AreCounts w s
 HasNumbersInRange (Show jdf) = Unit {0}

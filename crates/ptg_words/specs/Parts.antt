@@ -1,5 +1,5 @@
--- The words after the verb, read as operands and options. Source: this project's own choice; the option forms are those of
--- GNU's long options.
+-- The words after the verb, read as operands and options. Source: this project's own choice; the option forms are those
+-- of GNU's long options.
 use Rattle.std.specs.Prelude.{◌==◌, ◌&&◌, ◌||◌, not, ℕ, Bool, true, false, List, [], ◌∷◌, Option, Some, None, is_some, if◌then◌else◌, codes, drop}
 use Rattle.std.specs.List.{list_any, before_first, after_first}
 use Rattle.std.specs.Option.{option_map_or}
@@ -27,8 +27,8 @@ abbrev pub name_of : NumberOption → List ℕ
 name_of workers = codes "workers"
 name_of shards = codes "shards"
 
--- What a word is by itself: plain, where it begins with no `-`; an option with a number, `--NAME` or `--NAME=TEXT`; the flag
--- `--preload`; or unknown: it begins with `-` and is no option of the verb.
+-- What a word is by itself: plain, where it begins with no `-`; an option with a number, `--NAME` or `--NAME=TEXT`; the
+-- flag `--preload`; or unknown: it begins with `-` and is no option of the verb.
 pub data Form : Type 0 where
   plain : Form
   named : NumberOption → Option (List ℕ) → Form
@@ -60,8 +60,8 @@ dashed_form options word =
 abbrev pub form_of : Options → List ℕ → Form
 form_of options word = if is_dashed word then dashed_form options (drop 1 word) else plain
 
--- The words in their order: an operand, an option with its number, an option that lacks it, `--preload`, or a stray word, which
--- begins with `-` and is no option.
+-- The words in their order: an operand, an option with its number, an option that lacks it, `--preload`, or a stray
+-- word, which begins with `-` and is no option.
 pub data Part : Type 0 where
   operand : List ℕ → Part
   given : NumberOption → List ℕ → Part

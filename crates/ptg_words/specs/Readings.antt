@@ -20,7 +20,8 @@ texts = map (λ s. s.now)
 
 -- no part is stray or lacks its number, no option occurs twice, and there are n operands
 abbrev pub is_read : ℕ → List Part → Bool
-is_read n ps = not (list_any is_stray ps) && (not (list_any is_lacking ps) && (not (has_twice ps) && (length (operands ps) == n)))
+is_read n ps =
+    not (list_any is_stray ps) && (not (list_any is_lacking ps) && (not (has_twice ps) && (length (operands ps) == n)))
 
 -- the text that there may be
 abbrev pub texts_in : Option (Bor (List ℕ)) → List (List ℕ)
@@ -49,7 +50,8 @@ pub record IsReadOf (n : ℕ) (ps : List Part) (r : ReadVerb) : Type 0 where
 
 -- an id is the name of no option
 abbrev pub is_free_id : List ℕ → Bool
-is_free_id id = not (bytes_eq (codes "workers") id) && (not (bytes_eq (codes "shards") id) && not (bytes_eq (codes "preload") id))
+is_free_id id =
+    not (bytes_eq (codes "workers") id) && (not (bytes_eq (codes "shards") id) && not (bytes_eq (codes "preload") id))
 
 -- ids of operands: they differ from each other and from the names of the options
 abbrev pub are_ids : List (List ℕ) → Bool

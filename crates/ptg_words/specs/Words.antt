@@ -49,8 +49,8 @@ pub data Operand : Type 0 where
   file : Operand
   number : ℕ → ℕ → Operand
 
--- `run JDF DATA`, `show JDF`, `check JDF DATA`, `demo N`, `trace JDF DATA`, `replay JDF DATA TRACE`, `certify JDF DATA`,
--- `ranks JDF DATA R SEED`: a made job of 1 to 96 tiles a side, 1 to 64 ranks, and a seed below 2^64
+-- `run JDF DATA`, `show JDF`, `check JDF DATA`, `demo N`, `trace JDF DATA`, `replay JDF DATA TRACE`, `certify JDF
+-- DATA`, `ranks JDF DATA R SEED`: a made job of 1 to 96 tiles a side, 1 to 64 ranks, and a seed below 2^64
 abbrev pub operands_of : Verb → List Operand
 operands_of run = file ∷ file ∷ []
 operands_of show = file ∷ []
@@ -81,7 +81,8 @@ has_no_number least most texts = list_any (λ text. not (is_number least most te
 -- a text that is to be a number and is none, or is out of its range
 abbrev pub has_bad_operand : List Operand → List (List ℕ) → Bool
 has_bad_operand (file ∷ rest) (text ∷ texts) = has_bad_operand rest texts
-has_bad_operand (number least most ∷ rest) (text ∷ texts) = not (is_number least most text) || has_bad_operand rest texts
+has_bad_operand (number least most ∷ rest) (text ∷ texts) =
+    not (is_number least most text) || has_bad_operand rest texts
 has_bad_operand _ _ = false
 
 -- 1 to 64 workers and 1 to 256 shards
@@ -102,9 +103,10 @@ has_wrong_count verb ps = not (length (operands ps) == operand_count verb)
 abbrev pub Breaks : (Verb → List Part → Bool) → List (List ℕ) → Type 0
 Breaks rule words = option_map_or (λ r. rule r.0 r.1) (read words) false ≡ true
 
--- The seven rules: arguments form no command where one of these holds. There is no word, or the first is no verb. A word is no
--- text, is empty, or is `-` or `--`. A word begins with `-` and is no option of the verb. An option lacks its number. An option
--- occurs twice. There are more or fewer operands than the verb takes. A number is none, or is out of its range.
+-- The seven rules: arguments form no command where one of these holds. There is no word, or the first is no verb. A
+-- word is no text, is empty, or is `-` or `--`. A word begins with `-` and is no option of the verb. An option lacks
+-- its number. An option occurs twice. There are more or fewer operands than the verb takes. A number is none, or is out
+-- of its range.
 pub data IsUsage (words : List (List ℕ)) : Type 0 where
   no_verb : read words ≡ None → IsUsage words
   improper_word : Any (λ word. IsProper word → ⊥) words → IsUsage words

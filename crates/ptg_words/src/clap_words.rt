@@ -54,7 +54,8 @@ fn plain<'a>(alloc: Global, name: &'a str) -> Command<'a>
 
 // The command with the options that have a number.
 fn with_counts<'a>(alloc: Global, command: Command<'a>) -> Result<Command<'a>, AllocError>
-    ensures { IfOk result (λ c. app_of c ≡ Commands.with_rules (app_of command.entry) (Commands.option_rules Options.Counts)) }
+    ensures { IfOk result (λ c.
+        app_of c ≡ Commands.with_rules (app_of command.entry) (Commands.option_rules Options.Counts)) }
 {
     let command = command.arg(option(alloc, "workers"))?;
     command.arg(option(alloc, "shards"))
@@ -117,7 +118,8 @@ fn operands_in<'a>(
     ids: &[&str],
 ) -> Result<Vec<&'a str>, WordsRefusal>
     ensures found { IfOk result (λ words. HasFirstValues (found_of matches.now) (texts ids.now) (texts words.items)) }
-    ensures usage { result ≡ Err WordsRefusal.Usage → (values : List (List ℕ)) → HasFirstValues (found_of matches.now) (texts ids.now) values → ⊥ }
+    ensures usage { result ≡ Err WordsRefusal.Usage → (values : List (List ℕ))
+        → HasFirstValues (found_of matches.now) (texts ids.now) values → ⊥ }
 {
     let mut words = Vec::new(alloc);
     for id in ids {
@@ -142,7 +144,8 @@ pub(crate) fn verb_words<'a>(
     requires at_most { length ids.now ≤ 4 }
     ensures found { IfOk result (λ r. (is_read (length ids.entry.now) (parts options (drop 1 (texts words.entry.now))) ≡ true)
         × HasWords (parts options (drop 1 (texts words.entry.now))) r) }
-    ensures usage { result ≡ Err WordsRefusal.Usage → is_read (length ids.entry.now) (parts options (drop 1 (texts words.entry.now))) ≡ false }
+    ensures usage { result ≡ Err WordsRefusal.Usage
+        → is_read (length ids.entry.now) (parts options (drop 1 (texts words.entry.now))) ≡ false }
 {
     let matches = parsed(verb_command(alloc, name, ids, options)?, words)?;
     let operands = operands_in(alloc, &matches, ids)?;

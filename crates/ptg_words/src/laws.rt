@@ -14,8 +14,8 @@ pub fn files_are_text()
     ensures { FilesAreText }
 {}
 
-/// A law: the numbers of a command are in their ranges: 1 to 64 workers or ranks, 1 to 256 shards, 1 to 96 rows of tiles, and a seed
-/// of 64 bits.
+/// A law: the numbers of a command are in their ranges: 1 to 64 workers or ranks, 1 to 256 shards, 1 to 96 rows of
+/// tiles, and a seed of 64 bits.
 pub fn orders_have_numbers_in_range()
     ensures { NumbersInRange }
 {}

@@ -9,7 +9,8 @@ use std::alloc::{AllocError, AllocFailed};
 /// A command of the program.
 #[derive(Drop)]
 pub enum Order {
-    /// Run the job of this JDF file on this data file, with these numbers of workers and of shards, and with all memory taken before the run or not.
+    /// Run the job of this JDF file on this data file, with these numbers of workers and of shards, and with all memory
+    /// taken before the run or not.
     Run(Text, Text, u32, u32, bool),
     /// Print the canonical spelling of this JDF file.
     Show(Text),
@@ -17,13 +18,15 @@ pub enum Order {
     Check(Text, Text),
     /// Run the made job with this many rows of tiles.
     Demo(u32),
-    /// Run the job of this JDF file on this data file, with these numbers of workers and of shards, and print the order in which its tasks ran.
+    /// Run the job of this JDF file on this data file, with these numbers of workers and of shards, and print the order
+    /// in which its tasks ran.
     Trace(Text, Text, u32, u32),
     /// Run the job of this JDF file on this data file in the order of this trace file.
     Replay(Text, Text, Text),
     /// Run the job of this JDF file on this data file, and print a longest chain of its tasks or a cycle.
     Certify(Text, Text),
-    /// Run the job of this JDF file on this data file on this many ranks that send messages to each other, delivered as this seed says.
+    /// Run the job of this JDF file on this data file on this many ranks that send messages to each other, delivered as
+    /// this seed says.
     Ranks(Text, Text, u32, u64),
 }
 

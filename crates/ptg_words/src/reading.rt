@@ -18,9 +18,10 @@ const MOST_RANKS: u32 = 64;
 // How many rows of tiles a made job may have.
 const MOST_ROWS: u32 = 96;
 
-/// Parses the command line, without the program's name: `run JDF DATA [--workers N] [--shards K] [--preload]`, `show JDF`,
-/// `check JDF DATA`, `demo N`, `trace JDF DATA [--workers N] [--shards K]`, `replay JDF DATA TRACE`, `certify JDF DATA` or
-/// `ranks JDF DATA R SEED`, with options anywhere after the verb. Usage exactly where one of the rules is broken.
+/// Parses the command line, without the program's name: `run JDF DATA [--workers N] [--shards K] [--preload]`, `show
+/// JDF`, `check JDF DATA`, `demo N`, `trace JDF DATA [--workers N] [--shards K]`, `replay JDF DATA TRACE`, `certify JDF
+/// DATA` or `ranks JDF DATA R SEED`, with options anywhere after the verb. Usage exactly where one of the rules is
+/// broken.
 pub fn words(alloc: Global, list: &[Text]) -> Result<Order, WordsRefusal>
     ensures found { IfOk result (λ order. Orders list.now order) }
     ensures usage { result ≡ Err WordsRefusal.Usage → IsUsage list.now }
@@ -43,7 +44,8 @@ fn texts_of<'a>(alloc: Global, list: &'a [Text]) -> Result<Vec<&'a str>, WordsRe
 
 // The word as text, unless it is empty, `-` or `--`.
 fn proper(word: &Text) -> Result<&str, WordsRefusal>
-    ensures { MatchResult result (λ text. (text.now ≡ word.now) × IsProper word.now) (λ e. (e ≡ WordsRefusal.Usage) × (IsProper word.now → ⊥)) }
+    ensures { MatchResult result (λ text. (text.now ≡ word.now) × IsProper word.now) (λ e.
+        (e ≡ WordsRefusal.Usage) × (IsProper word.now → ⊥)) }
 {
     match std::str::from_utf8(word.bytes()) {
         Ok(text) if text != "" && text != "-" && text != "--" => Ok(text),

@@ -19,7 +19,8 @@ const MOST_WORKERS: u32 = 64;
 // How many shards the table of a run may have.
 const MOST_SHARDS: u32 = 256;
 
-// The words of a verb: its operands as text, its numbers of workers and of shards, and whether all memory is to be taken before the run.
+// The words of a verb: its operands as text, its numbers of workers and of shards, and whether all memory is to be
+// taken before the run.
 #[derive(Drop)]
 pub(crate) struct ReadVerb<'a> {
     pub(crate) operands: Vec<&'a str>,
@@ -28,7 +29,8 @@ pub(crate) struct ReadVerb<'a> {
     pub(crate) preload: bool,
 }
 
-/// Reads the words of a verb with these operands and options: 1 to 64 workers, 4 by default, and 1 to 256 shards, 16 by default.
+/// Reads the words of a verb with these operands and options: 1 to 64 workers, 4 by default, and 1 to 256 shards, 16 by
+/// default.
 pub(crate) fn read_verb<'a>(
     alloc: Global,
     name: &'a str,
@@ -71,7 +73,8 @@ fn count(text: Option<&str>, most: u32, default: u32) -> Option<u32>
 
 /// The number of 1 to 20 decimal digits, if it is from 1 to `most`.
 pub(crate) fn small_number(text: &str, most: u32) -> Option<u32>
-    ensures { MatchOption result (is_number 1 most text.now ≡ false) (λ n. (is_number 1 most text.now ≡ true) × (n ≡ decimal text.now)) }
+    ensures { MatchOption result (is_number 1 most text.now ≡ false) (λ n.
+        (is_number 1 most text.now ≡ true) × (n ≡ decimal text.now)) }
 {
     match number(text, 1, most as u64) {
         Some(value) => Some(value as u32),
@@ -81,7 +84,8 @@ pub(crate) fn small_number(text: &str, most: u32) -> Option<u32>
 
 /// The number of 1 to 20 decimal digits, if it is from `least` to `most`. Leading zeros change nothing.
 pub(crate) fn number(text: &str, least: u64, most: u64) -> Option<u64>
-    ensures { MatchOption result (is_number least most text.now ≡ false) (λ n. (is_number least most text.now ≡ true) × (n ≡ decimal text.now)) }
+    ensures { MatchOption result (is_number least most text.now ≡ false) (λ n.
+        (is_number least most text.now ≡ true) × (n ≡ decimal text.now)) }
 {
     if text.len() > 20 {
         return None;

@@ -1,7 +1,6 @@
 -- No list of locals and no task of a class occurs twice, and parameters determine locals.
-use Rattle.std.proofs.Common.{◌≡◌, ℕ, zero, suc, ℤ, pos, negsuc, ◌+ℤ◌, true, List, [], ◌∷◌, ◌++◌, length, map, refl, ap, sym, ◌∙◌, subst, zero-add, Some, None, IsSome, Result, Ok, Err, inl, inr, Option, arith}
+use Rattle.std.proofs.Common.{◌≡◌, ℕ, zero, suc, ℤ, pos, negsuc, ◌+ℤ◌, true, List, [], ◌∷◌, ◌++◌, length, map, refl, ap, sym, ◌∙◌, zero-add, Some, None, IsSome, Result, Ok, Err, inl, inr, Option, arith}
 use Rattle.std.proofs.lemmas.Int.{ints}
-use Rattle.std.specs.List.{flat_map}
 use Rattle.ptg_base.specs.Lists.{IsIn, HasNoRepeats}
 use Rattle.term_core.specs.Value.{and_then}
 use Rattle.term_core.specs.declared.space.Def.{Def}
@@ -14,25 +13,13 @@ use Rattle.range_space.specs.Fault.{Bounds, bounds, number}
 use Rattle.range_space.specs.Tasks.{full_lists, def_values, or_empty, params_of, tasks, all_locals}
 use Rattle.range_space.specs.Locals.{IsLocalsOf}
 use Rattle.range_space.specs.Completion.{param_value, AgreesWith, AreLocals, AllAgree}
-use Rattle.range_space.proofs.Stepping.{by_test, while_in, while_past}
+use Rattle.range_space.proofs.Stepping.{while_in, while_past}
 use Rattle.range_space.proofs.Members.{on_way}
-use Rattle.range_space.proofs.MemberLists.{and_left, and_right, from_append, from_flat_map, from_map, IsIn-map, locals_from_full, IsSome-param_value, all_agree, agreement_from_params, arity_of_task}
-
--- lists without repeats, joined
-HasNoRepeats-append : {A : Type 0} (xs ys : List A) → HasNoRepeats xs → HasNoRepeats ys → ((x : A) → IsIn x xs → IsIn x ys → ⊥) → HasNoRepeats (xs ++ ys)
-HasNoRepeats-append [] ys w u apart = u
-HasNoRepeats-append (x ∷ xs) ys w u apart = (
-  λ t. elim (from_append x xs ys t) [ inl l ↦ w.0 l | inr r ↦ apart x (inl refl) r ],
-  HasNoRepeats-append xs ys w.1 u (λ z h k. apart z (inr h) k),
-)
-
-HasNoRepeats-flat_map : {A B : Type 0} (f : A → List B) (vs : List A) → HasNoRepeats vs → ((v : A) → HasNoRepeats (f v)) → ((v w : A) (x : B) → IsIn x (f v) → IsIn x (f w) → v ≡ w) → HasNoRepeats (flat_map f vs)
-HasNoRepeats-flat_map f [] w each apart = tt
-HasNoRepeats-flat_map f (v ∷ vs) w each apart =
-    HasNoRepeats-append (f v) (flat_map f vs) (each v) (HasNoRepeats-flat_map f vs w.1 each apart) (λ x h k.
-    let p = from_flat_map f vs x k in
-    let same = apart v p.0 x h p.2 in
-    w.0 (subst (λ z. IsIn z vs) (sym same) p.1))
+use Rattle.range_space.proofs.MemberLists.{locals_from_full, IsSome-param_value, all_agree, agreement_from_params, arity_of_task}
+use Rattle.list_lemmas.proofs.Truth.{by_test}
+use Rattle.std.specs.Cmp.{first_so, second_so}
+use Rattle.list_lemmas.proofs.Members.{from_map, IsIn-map}
+use Rattle.list_lemmas.proofs.Distinct.{HasNoRepeats-flat_map}
 
 HasNoRepeats-map : {A B : Type 0} (f : A → B) (xs : List A) → HasNoRepeats xs → ((x y : A) → IsIn x xs → IsIn y xs → f x ≡ f y → x ≡ y) → HasNoRepeats (map f xs)
 HasNoRepeats-map f [] w one = tt
@@ -85,7 +72,7 @@ distinct_lists : (ds : List Def) (outer : List ℤ) → HasNoRepeats (full_lists
 distinct_lists [] outer = (λ w. w, tt)
 distinct_lists (d ∷ ds) outer =
     HasNoRepeats-flat_map (λ v. full_lists ds (outer ++ v ∷ [])) (or_empty (def_values d outer)) (distinct_def d outer)
-    (λ v. distinct_lists ds (outer ++ v ∷ []))
+    (λ v among. distinct_lists ds (outer ++ v ∷ []))
     (λ v w x h k.
     let p = locals_from_full ds (outer ++ v ∷ []) x h in
     let q = locals_from_full ds (outer ++ w ∷ []) x k in
@@ -103,11 +90,11 @@ same_number (Err e) v w h k = absurd h
 module _ (ps : List ℕ) (params : List ℤ) (arity : length ps ≡ length params) where
   same_value : (d : Def) (ds : List Def) (n : ℕ) (outer : List ℤ) (v w : ℤ) → spans_are_params n (d ∷ ds) ps ≡ true → IsIn v (or_empty (def_values d outer)) → IsIn w (or_empty (def_values d outer)) → AgreesWith (param_value ps params n) v → AgreesWith (param_value ps params n) w → v ≡ w
   same_value (Span r) ds n outer v w spans h k a b =
-      same_given (param_value ps params n) v w (IsSome-param_value ps params n arity (and_left (is_among n ps) (spans_are_params (suc n) ds ps) spans)) a b
+      same_given (param_value ps params n) v w (IsSome-param_value ps params n arity (first_so (is_among n ps) (spans_are_params (suc n) ds ps) spans)) a b
   same_value (Value e) ds n outer v w spans h k a b = same_number (number e outer) v w h k
 
   spans_rest : (d : Def) (ds : List Def) (n : ℕ) → spans_are_params n (d ∷ ds) ps ≡ true → spans_are_params (suc n) ds ps ≡ true
-  spans_rest (Span r) ds n spans = and_right (is_among n ps) (spans_are_params (suc n) ds ps) spans
+  spans_rest (Span r) ds n spans = second_so (is_among n ps) (spans_are_params (suc n) ds ps) spans
   spans_rest (Value e) ds n spans = spans
 
   same_locals : (ds : List Def) (n : ℕ) (outer k l : List ℤ) → spans_are_params n ds ps ≡ true → AreLocals ds outer k → AreLocals ds outer l → AllAgree ps params n k → AllAgree ps params n l → k ≡ l

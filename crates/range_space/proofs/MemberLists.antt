@@ -1,12 +1,12 @@
 -- Which lists of locals are full, and which of them have given parameters.
-use Rattle.std.proofs.Common.{◌≡◌, ℕ, zero, suc, ◌+◌, ◌<◌, ℤ, pos, Bool, true, false, not, ◌&&◌, ◌||◌, ◌==◌, List, [], ◌∷◌, ◌++◌, length, map, slice_index_or, refl, ap, sym, ◌∙◌, append_assoc, add-zero, zero-add, Some, None, IsSome, nat_lt, IsTrue, ◌⊎◌, inl, inr, subst, eq-eqb, if◌then◌else◌, rules, arith}
+use Rattle.std.proofs.Common.{◌≡◌, ℕ, zero, suc, ◌+◌, ◌<◌, ℤ, pos, Bool, true, false, ◌||◌, ◌==◌, List, [], ◌∷◌, ◌++◌, length, slice_index_or, refl, ap, sym, ◌∙◌, append_assoc, add-zero, zero-add, Some, None, IsSome, nat_lt, IsTrue, inl, inr, subst, eq-eqb, if◌then◌else◌, rules, arith}
 use Rattle.std.proofs.lemmas.Bool.Decides.{nat_tests}
 use Rattle.std.proofs.lemmas.List.{length-map}
 use Rattle.std.specs.Bool.{OnTrue, OnFalse}
-use Rattle.std.proofs.lemmas.Bool.{false≢true}
+use Rattle.std.proofs.lemmas.Bool.{false≢true, not-true}
 use Rattle.std.proofs.lemmas.Bool.{eqb-true}
 use Rattle.std.proofs.lemmas.List.{append-nil}
-use Rattle.std.specs.List.{flat_map, list_all}
+use Rattle.std.specs.List.{list_all}
 use Rattle.ptg_base.specs.Lists.{IsIn}
 use Rattle.term_core.specs.declared.space.Def.{Def}
 use Rattle.term_core.specs.declared.space.Def.TheVariants.{Span, Value}
@@ -14,53 +14,9 @@ use Rattle.term_core.specs.declared.space.ClassSpace.{ClassSpace}
 use Rattle.term_core.specs.WellSpace.{IsWellSpace, is_among, are_different, spans_are_params}
 use Rattle.range_space.specs.Tasks.{full_lists, def_values, or_empty, params_of, tasks, all_locals}
 use Rattle.range_space.specs.Completion.{param_value, AgreesWith, IsGivenIfRanged, AreLocals, AllAgree, IsCompletion, HasNoCompletion}
-use Rattle.range_space.proofs.Stepping.{by_test}
-
-pub and_left : (a b : Bool) → (a && b) ≡ true → a ≡ true
-and_left true b h = refl
-and_left false b h = h
-
-pub and_right : (a b : Bool) → (a && b) ≡ true → b ≡ true
-and_right true b h = h
-and_right false b h = absurd (false≢true h)
-
-not_false : (a : Bool) → not a ≡ true → a ≡ false
-not_false true h = absurd (false≢true h)
-not_false false h = refl
-
-pub IsIn-append_left : {A : Type 0} (x : A) (xs ys : List A) → IsIn x xs → IsIn x (xs ++ ys)
-IsIn-append_left x [] ys w = absurd w
-IsIn-append_left x (y ∷ xs) ys w = elim w [ inl e ↦ inl e | inr t ↦ inr (IsIn-append_left x xs ys t) ]
-
-pub IsIn-append_right : {A : Type 0} (x : A) (xs ys : List A) → IsIn x ys → IsIn x (xs ++ ys)
-IsIn-append_right x [] ys w = w
-IsIn-append_right x (y ∷ xs) ys w = inr (IsIn-append_right x xs ys w)
-
-pub from_append : {A : Type 0} (x : A) (xs ys : List A) → IsIn x (xs ++ ys) → IsIn x xs ⊎ IsIn x ys
-from_append x [] ys w = inr w
-from_append x (y ∷ xs) ys w = elim w [ inl e ↦ inl (inl e) | inr t ↦ elim (from_append x xs ys t) [ inl l ↦ inl (inr l) | inr r ↦ inr r ] ]
-
-pub IsIn-flat_map : {A B : Type 0} (f : A → List B) (vs : List A) (v : A) (x : B) → IsIn v vs → IsIn x (f v) → IsIn x (flat_map f vs)
-IsIn-flat_map f [] v x w u = absurd w
-IsIn-flat_map f (y ∷ vs) v x w u = elim w [
-  | inl e ↦ IsIn-append_left x (f y) (flat_map f vs) (subst (λ z. IsIn x (f z)) e u)
-  | inr t ↦ IsIn-append_right x (f y) (flat_map f vs) (IsIn-flat_map f vs v x t u)
-]
-
-pub from_flat_map : {A B : Type 0} (f : A → List B) (vs : List A) (x : B) → IsIn x (flat_map f vs) → (v : A) × IsIn v vs × IsIn x (f v)
-from_flat_map f [] x w = absurd w
-from_flat_map f (y ∷ vs) x w = elim (from_append x (f y) (flat_map f vs) w) [
-  | inl l ↦ (y, inl refl, l)
-  | inr r ↦ let p = from_flat_map f vs x r in (p.0, inr p.1, p.2)
-]
-
-pub IsIn-map : {A B : Type 0} (f : A → B) (xs : List A) (x : A) → IsIn x xs → IsIn (f x) (map f xs)
-IsIn-map f [] x w = absurd w
-IsIn-map f (y ∷ xs) x w = elim w [ inl e ↦ inl (ap f e) | inr t ↦ inr (IsIn-map f xs x t) ]
-
-pub from_map : {A B : Type 0} (f : A → B) (xs : List A) (y : B) → IsIn y (map f xs) → (x : A) × IsIn x xs × (y ≡ f x)
-from_map f [] y w = absurd w
-from_map f (x ∷ xs) y w = elim w [ inl e ↦ (x, inl refl, e) | inr t ↦ let p = from_map f xs y t in (p.0, inr p.1, p.2) ]
+use Rattle.list_lemmas.proofs.Truth.{by_test}
+use Rattle.list_lemmas.proofs.Members.{IsIn-flat_map, from_flat_map, IsIn-map, from_map}
+use Rattle.std.specs.Cmp.{first_so, second_so}
 
 -- the full lists are those of the locals that are values of their definitions
 pub full_from_locals : (ds : List Def) (outer locals : List ℤ) → AreLocals ds outer locals → IsIn (outer ++ locals) (full_lists ds outer)
@@ -121,13 +77,13 @@ params_from_agreement [] [] l e d w f = refl
 params_from_agreement [] (v ∷ vs) l e d w f = absurd (omega arith)
 params_from_agreement (p ∷ ps) [] l e d w f = absurd (omega arith)
 params_from_agreement (p ∷ ps) (v ∷ vs) l e d w f =
-    let first_below = and_left (nat_lt p (length l)) (list_all (λ q. nat_lt q (length l)) ps) w in
+    let first_below = first_so (nat_lt p (length l)) (list_all (λ q. nat_lt q (length l)) ps) w in
     let below : p < length l = grind (arith, nat_tests) in
     let here : AgreesWith (if p == p then Some v else param_value ps vs p) (slice_index_or l p (pos 0)) = f p below in
     let first : slice_index_or l p (pos 0) ≡ v = rw (eq-eqb p p refl) at here in
-    let others = params_from_agreement ps vs l (omega arith) (and_right _ _ d) (and_right _ _ w) (λ i h.
+    let others = params_from_agreement ps vs l (omega arith) (second_so _ _ d) (second_so _ _ w) (λ i h.
     by_test (p == i)
-    (λ k. rw (no_param_value ps vs i (subst (λ j. is_among j ps ≡ false) (eqb-true p i k) (not_false _ (and_left _ _ d)))) tt)
+    (λ k. rw (no_param_value ps vs i (subst (λ j. is_among j ps ≡ false) (eqb-true p i k) (not-true _ (first_so _ _ d)))) tt)
     (λ k. rw k at (f i h))) in
     ap (λ z. z ∷ params_of ps l) first ∙ ap (λ zs. v ∷ zs) others
 
@@ -142,7 +98,7 @@ agreement_from_params (p ∷ ps) (v ∷ vs) l e i =
 
 -- in a well made space a value is given of each range
 pub given_if_ranged : (d : Def) (ds : List Def) (ps : List ℕ) (vs : List ℤ) (n : ℕ) → length ps ≡ length vs → spans_are_params n (d ∷ ds) ps ≡ true → IsGivenIfRanged d (param_value ps vs n)
-given_if_ranged (Span r) ds ps vs n e h = IsSome-param_value ps vs n e (and_left (is_among n ps) (spans_are_params (suc n) ds ps) h)
+given_if_ranged (Span r) ds ps vs n e h = IsSome-param_value ps vs n e (first_so (is_among n ps) (spans_are_params (suc n) ds ps) h)
 given_if_ranged (Value t) ds ps vs n e h = tt
 
 -- what extends locals by more extends them by the next one alone, if that one is known
@@ -196,7 +152,8 @@ arity_of_task s vs t =
     let m = from_map (params_of s.params) (all_locals s) vs t in
     sym (ap length m.2 ∙ length-map s.params (λ p. slice_index_or m.0 p (pos 0)))
 
--- an answer that is true where the first holds, which gives the fact, and false where the second does, which excludes it
+-- an answer that is true where the first holds, which gives the fact, and false where the second does, which excludes
+-- it
 pub decided_by : {P Q R : Type 0} (b : Bool) → OnTrue b P → OnFalse b Q → (P → R) → (Q → R → ⊥) → (IsTrue b → R) × (R → IsTrue b)
 decided_by true p q f g = (λ t. f p, λ r. refl)
 decided_by false p q f g = (λ t. absurd (false≢true t), λ r. absurd (g q r))

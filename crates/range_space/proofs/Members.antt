@@ -5,7 +5,8 @@ use Rattle.std.proofs.lemmas.Int.{ints}
 use Rattle.std.proofs.lemmas.Bool.{cases_lt}
 use Rattle.ptg_base.specs.Lists.{IsIn}
 use Rattle.range_space.specs.Values.{is_within, while_within, values}
-use Rattle.range_space.proofs.Stepping.{gap, by_test, gap-step, size_pos, gap_last, while_in, while_past}
+use Rattle.range_space.proofs.Stepping.{gap, gap-step, size_pos, gap_last, while_in, while_past}
+use Rattle.list_lemmas.proofs.Truth.{by_test}
 
 module _ (hi step : ℤ) where
   -- a range with a value has one more for each whole step up to hi

@@ -1,7 +1,6 @@
 -- How the full lists of an iteration space go on from one to the next.
-use Rattle.std.proofs.Common.{◌≡◌, ℕ, suc, ◌+◌, ◌<◌, ℤ, pos, ◌+ℤ◌, Bool, true, false, List, [], ◌∷◌, ◌++◌, length, take, drop, get_or, refl, ap, sym, ◌∙◌, append_assoc, add-one, Option, Some, None, Result, Ok, Err, MatchOption, arith}
+use Rattle.std.proofs.Common.{◌≡◌, ℕ, suc, ◌+◌, ◌<◌, ℤ, pos, ◌+ℤ◌, List, [], ◌∷◌, ◌++◌, length, take, drop, get_or, refl, ap, sym, ◌∙◌, append_assoc, add-one, Option, Some, None, Result, Ok, Err, MatchOption, arith}
 use Rattle.std.proofs.lemmas.List.{append-nil, take_more}
-use Rattle.std.specs.Bool.{OnTrue, OnFalse}
 use Rattle.std.proofs.lemmas.Int.{ints}
 use Rattle.std.proofs.Math.Seq.{drop-cons}
 use Rattle.term_core.specs.Value.{and_then}
@@ -14,16 +13,8 @@ use Rattle.term_core.specs.declared.space.Range.{Range}
 use Rattle.range_space.specs.Fault.{Bounds, bounds, number}
 use Rattle.range_space.specs.Tasks.{full_lists, def_values, or_empty}
 use Rattle.range_space.specs.ListsAfter.{def_bounds, lists_over, lists_over_rest, lists_past, lists_after, IsFirstOf, IsFirstOver, IsFirstPast}
-use Rattle.range_space.proofs.Stepping.{values_in, values_past, by_test}
-
--- what follows from a fact of one answer
-pub on_true : {P Q : Type 0} (b : Bool) → (P → Q) → OnTrue b P → OnTrue b Q
-on_true true f h = f h
-on_true false f h = h
-
-pub on_false : {P Q : Type 0} (b : Bool) → (P → Q) → OnFalse b P → OnFalse b Q
-on_false true f h = h
-on_false false f h = f h
+use Rattle.range_space.proofs.Stepping.{values_in, values_past}
+use Rattle.list_lemmas.proofs.Truth.{by_test}
 
 -- a range from a number to itself has that number alone
 pub values-one : (z : ℤ) → values z z (pos 1) ≡ z ∷ []

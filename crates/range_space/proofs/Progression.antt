@@ -2,8 +2,9 @@
 use Rattle.std.proofs.Common.{◌≡◌, ℕ, zero, suc, ℤ, ◌+ℤ◌, false, [], Some, None, slice_get, refl}
 use Rattle.std.specs.Prelude.{if◌then◌else◌}
 use Rattle.range_space.specs.Values.{is_within, values, steps_from}
-use Rattle.range_space.proofs.Stepping.{by_test, values_in, values_past}
+use Rattle.range_space.proofs.Stepping.{values_in, values_past}
 use Rattle.range_space.proofs.Members.{past_step}
+use Rattle.list_lemmas.proofs.Truth.{by_test}
 
 module _ (hi step : ℤ) where
   -- what is past hi stays past it

@@ -1,15 +1,12 @@
 -- How a range goes on from one value to the next.
-use Rattle.std.proofs.Common.{◌≡◌, ℕ, zero, suc, ◌+◌, ◌<◌, ℤ, pos, negsuc, ◌+ℤ◌, ◌-ℤ◌, unsigned_abs, Bool, true, false, [], ◌∷◌, refl, ap, sym, ◌∙◌, Option, Some, None, SomeIff, FitsSigned, w64, arith}
+use Rattle.std.proofs.Common.{◌≡◌, ℕ, zero, suc, ◌+◌, ◌<◌, ℤ, pos, negsuc, ◌+ℤ◌, ◌-ℤ◌, unsigned_abs, true, false, [], ◌∷◌, refl, ap, sym, ◌∙◌, Option, Some, None, SomeIff, FitsSigned, w64, arith}
 use Rattle.std.proofs.lemmas.Int.{ints}
 use Rattle.range_space.specs.Values.{is_within, while_within, values, values_from}
+use Rattle.list_lemmas.proofs.Truth.{by_test}
 
 -- how far v is from hi
 abbrev pub gap : ℤ → ℤ → ℕ
 gap hi v = unsigned_abs (hi -ℤ v)
-
-pub by_test : {P : Type 0} (b : Bool) → (b ≡ true → P) → (b ≡ false → P) → P
-by_test true on_true on_false = on_true refl
-by_test false on_true on_false = on_false refl
 
 -- a step that does not go past hi comes nearer to it by its size
 pub gap-step : (hi step v : ℤ) → is_within hi step v ≡ true → is_within hi step (v +ℤ step) ≡ true → gap hi v ≡ gap hi (v +ℤ step) + unsigned_abs step

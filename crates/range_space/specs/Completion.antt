@@ -19,7 +19,8 @@ AgreesWith (Some w) v = v ≡ w
 -- the only one of the values that agrees with what is given, or that none does
 abbrev pub IsOnlyAgreeing : List ℤ → Option ℤ → Option ℤ → Type 0
 IsOnlyAgreeing values given None = (v : ℤ) → IsIn v values → AgreesWith given v → ⊥
-IsOnlyAgreeing values given (Some v) = IsIn v values × AgreesWith given v × ((w : ℤ) → IsIn w values → AgreesWith given w → w ≡ v)
+IsOnlyAgreeing values given (Some v) =
+    IsIn v values × AgreesWith given v × ((w : ℤ) → IsIn w values → AgreesWith given w → w ≡ v)
 
 -- a value is given for each range
 abbrev pub IsGivenIfRanged : Def → Option ℤ → Type 0

@@ -1,4 +1,5 @@
--- The bounds and the values of a range under the values of the definitions before it, or the first fault. Source: the JDF documentation; that a step of 0 is a fault is this project's own choice.
+-- The bounds and the values of a range under the values of the definitions before it, or the first fault. Source: the
+-- JDF documentation; that a step of 0 is a fault is this project's own choice.
 use Rattle.std.specs.Prelude.{ℤ, pos, List, Option, Some, None, Result, Ok, Err, if◌then◌else◌}
 use Rattle.std.specs.Ordering.{int_eq}
 use Rattle.term_core.specs.Term.{Term}

@@ -1,4 +1,5 @@
--- The full lists of locals of an iteration space that come after one of them in walk order. Source: this project's own choice.
+-- The full lists of locals of an iteration space that come after one of them in walk order. Source: this project's own
+-- choice.
 use Rattle.std.specs.Prelude.{◌≡◌, ℤ, pos, ◌+ℤ◌, List, [], ◌∷◌, ◌++◌, length, Result, Ok, Err}
 use Rattle.std.specs.List.{flat_map}
 use Rattle.term_core.specs.Value.{and_then}

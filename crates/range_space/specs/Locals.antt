@@ -1,4 +1,5 @@
--- The locals of a task, under which all that a class says of the task is evaluated: its edges, its priority, its body. Source: the JDF documentation.
+-- The locals of a task, under which all that a class says of the task is evaluated: its edges, its priority, its body.
+-- Source: the JDF documentation.
 use Rattle.std.specs.Prelude.{◌≡◌, ℤ, List}
 use Rattle.ptg_base.specs.Lists.{IsIn}
 use Rattle.term_core.specs.declared.space.ClassSpace.{ClassSpace}

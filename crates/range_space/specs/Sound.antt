@@ -1,4 +1,5 @@
--- Prefixes, and the classes in which each definition has a value under each prefix. Source: the JDF documentation; that a fault is judged in walk order is this project's own choice.
+-- Prefixes, and the classes in which each definition has a value under each prefix. Source: the JDF documentation; that
+-- a fault is judged in walk order is this project's own choice.
 use Rattle.std.specs.Prelude.{ℕ, ◌+◌, ℤ, List, [], ◌∷◌, ◌++◌, length, Result, Ok, Err}
 use Rattle.std.specs.List.{flat_map, AllByRecursion}
 use Rattle.term_core.specs.declared.space.Def.{Def}
@@ -6,10 +7,12 @@ use Rattle.term_core.specs.declared.space.ClassSpace.{ClassSpace}
 use Rattle.range_space.specs.declared.fault.SpanFault.{SpanFault}
 use Rattle.range_space.specs.Tasks.{def_values, or_empty}
 
--- the prefixes that extend these values, in walk order: each value of the next definition, followed by the prefixes that extend it
+-- the prefixes that extend these values, in walk order: each value of the next definition, followed by the prefixes
+-- that extend it
 abbrev pub prefixes_from : List Def → List ℤ → List (List ℤ)
 prefixes_from [] outer = []
-prefixes_from (d ∷ ds) outer = flat_map (λ v. (outer ++ v ∷ []) ∷ prefixes_from ds (outer ++ v ∷ [])) (or_empty (def_values d outer))
+prefixes_from (d ∷ ds) outer =
+    flat_map (λ v. (outer ++ v ∷ []) ∷ prefixes_from ds (outer ++ v ∷ [])) (or_empty (def_values d outer))
 
 -- how many prefixes the classes have
 abbrev pub prefix_total : List ClassSpace → ℕ

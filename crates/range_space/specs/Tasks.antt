@@ -1,4 +1,5 @@
--- The iteration space of a class, built by nesting one definition in the one before it. Source: DAGuE (Parallel Computing, 2012) and the JDF documentation.
+-- The iteration space of a class, built by nesting one definition in the one before it. Source: DAGuE (Parallel
+-- Computing, 2012) and the JDF documentation.
 use Rattle.std.specs.Prelude.{ℕ, ℤ, pos, List, [], ◌∷◌, ◌++◌, map, Result, Ok, Err, slice_index_or}
 use Rattle.std.specs.List.{flat_map}
 use Rattle.term_core.specs.Value.{and_then}
@@ -18,7 +19,8 @@ abbrev pub or_empty : Result (List ℤ) SpanFault → List ℤ
 or_empty (Ok vs) = vs
 or_empty (Err e) = []
 
--- the full lists of locals that extend these outer values: for each value of the next definition, all that is nested in it
+-- the full lists of locals that extend these outer values: for each value of the next definition, all that is nested in
+-- it
 abbrev pub full_lists : List Def → List ℤ → List (List ℤ)
 full_lists [] outer = outer ∷ []
 full_lists (d ∷ ds) outer = flat_map (λ v. full_lists ds (outer ++ v ∷ [])) (or_empty (def_values d outer))

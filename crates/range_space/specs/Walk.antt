@@ -1,4 +1,5 @@
--- The walk through all classes as one list of what it visits, and what may stop it. Source: the JDF documentation; the limits are this project's own choice.
+-- The walk through all classes as one list of what it visits, and what may stop it. Source: the JDF documentation; the
+-- limits are this project's own choice.
 use Rattle.std.specs.Prelude.{◌≡◌, ℕ, suc, ◌+◌, ◌≤◌, ℤ, List, [], ◌∷◌, ◌++◌, length, Result, Ok, Err}
 use Rattle.std.specs.List.{flat_map}
 use Rattle.term_core.specs.declared.space.Def.{Def}
@@ -21,10 +22,12 @@ abbrev pub visits : (ℤ → List Visit) → Visit → Result (List ℤ) SpanFau
 visits next no_value (Ok vs) = flat_map next vs
 visits next no_value (Err e) = no_value ∷ []
 
--- the walk from these outer values on: each value of the next definition, followed by all that is nested in it; after the last definition, a task
+-- the walk from these outer values on: each value of the next definition, followed by all that is nested in it; after
+-- the last definition, a task
 abbrev pub walk : ℕ → List Def → List ℤ → List Visit
 walk class [] outer = Task class ∷ []
-walk class (d ∷ ds) outer = visits (λ v. Prefix class ∷ walk class ds (outer ++ v ∷ [])) (NoValue class outer) (def_values d outer)
+walk class (d ∷ ds) outer =
+    visits (λ v. Prefix class ∷ walk class ds (outer ++ v ∷ [])) (NoValue class outer) (def_values d outer)
 
 -- the walk from these outer values on, by each of the values given for the next definition
 abbrev pub walk_among : ℕ → List Def → List ℤ → List ℤ → List Visit
@@ -55,7 +58,8 @@ AllHaveValues (Prefix c ∷ ms) = AllHaveValues ms
 AllHaveValues (Task c ∷ ms) = AllHaveValues ms
 AllHaveValues (NoValue c vs ∷ ms) = ⊥
 
--- nothing stops the walk, after so many tasks and prefixes: there are at most 1,000,000 tasks and 16,000,000 prefixes, those before it counted
+-- nothing stops the walk, after so many tasks and prefixes: there are at most 1,000,000 tasks and 16,000,000 prefixes,
+-- those before it counted
 pub record IsUnstopped (tasks prefixes : ℕ) (ms : List Visit) : Type 0 where
   pub all_have_values : AllHaveValues ms
   pub tasks_at_most : tasks + task_count ms ≤ 1000000

@@ -9,7 +9,8 @@ use crate::walk::{advance, first};
 use std::marker::Model;
 use term_core::ClassSpace;
 
-/// An iterator over the lists of locals of the tasks of a class, in walk order. Contracts see it as the list of those not yet given.
+/// An iterator over the lists of locals of the tasks of a class, in walk order. Contracts see it as the list of those
+/// not yet given.
 /// Where a definition has no value there is none.
 #[derive(Drop)]
 pub struct AllLocals<'a> {
@@ -26,7 +27,8 @@ impl<'a> Model for AllLocals<'a> {
 
     ghost view = { λ s. remaining_locals s.live s.space.now s.locals };
 
-    ghost invariant = { λ s. (length s.space.now.defs ≤ 16) × (s.live ≡ true → length s.locals ≡ length s.space.now.defs) };
+    ghost invariant = { λ s.
+        (length s.space.now.defs ≤ 16) × (s.live ≡ true → length s.locals ≡ length s.space.now.defs) };
 }
 
 impl<'a> AllLocals<'a> {

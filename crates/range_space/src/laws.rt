@@ -12,7 +12,9 @@ ghost use Rattle.range_space.specs.Walk.{walk_all, IsFirstFault};
 
 /// A law: the value of a range at an index is the number so many steps from its start, where that is within its end.
 pub fn values_are_a_progression()
-    ensures { (lo hi step : ℤ) (index : ℕ) → slice_get (values lo hi step) index ≡ (if is_within hi step (steps_from lo step index) then Some (steps_from lo step index) else None) }
+    ensures { (lo hi step : ℤ) (index : ℕ)
+        → slice_get (values lo hi step) index
+        ≡ (if is_within hi step (steps_from lo step index) then Some (steps_from lo step index) else None) }
 {}
 
 /// A law: no task occurs twice in the space of its class.
@@ -22,12 +24,15 @@ pub fn tasks_are_distinct()
 
 /// A law: parameters are those of a task exactly where they have locals, and they have one list of locals at most.
 pub fn a_task_has_one_list_of_locals()
-    ensures some { (s : ClassSpace) (params : List ℤ) → IsIn params (tasks s) → (locals : List ℤ) × IsLocalsOf s params locals }
+    ensures some { (s : ClassSpace) (params : List ℤ) → IsIn params (tasks s)
+        → (locals : List ℤ) × IsLocalsOf s params locals }
     ensures task { (s : ClassSpace) (params locals : List ℤ) → IsLocalsOf s params locals → IsIn params (tasks s) }
-    ensures one { (s : ClassSpace) (params locals others : List ℤ) → IsWellSpace s → IsLocalsOf s params locals → IsLocalsOf s params others → locals ≡ others }
+    ensures one { (s : ClassSpace) (params locals others : List ℤ) → IsWellSpace s → IsLocalsOf s params locals
+        → IsLocalsOf s params others → locals ≡ others }
 {}
 
 /// A law: the walk through the classes has one first fault at most.
 pub fn one_first_fault()
-    ensures { (ss : List ClassSpace) (fault other : SpaceFault) → IsFirstFault 0 0 (walk_all 0 ss) fault → IsFirstFault 0 0 (walk_all 0 ss) other → fault ≡ other }
+    ensures { (ss : List ClassSpace) (fault other : SpaceFault) → IsFirstFault 0 0 (walk_all 0 ss) fault
+        → IsFirstFault 0 0 (walk_all 0 ss) other → fault ≡ other }
 {}

@@ -66,7 +66,8 @@ fn complete(defs: &[Def], params: &[u8], values: &[i64], locals: &mut Numbers<16
     requires defs_at_most { length locals.old + length defs.now ≤ 16 }
     requires arity { length params.now ≡ length values.now }
     requires spans { IsTrue (spans_are_params (length locals.old) defs.now params.now) }
-    ensures found { OnTrue result (IsCompletion defs.now params.now values.now (length locals.old) locals.old locals.new) }
+    ensures found { OnTrue result
+        (IsCompletion defs.now params.now values.now (length locals.old) locals.old locals.new) }
     ensures none { OnFalse result (HasNoCompletion defs.now params.now values.now (length locals.old) locals.old) }
 {
     let Some((def, inner)) = defs.split_first() else {
@@ -110,7 +111,8 @@ fn fill(defs: &[Def], params: &[u8], values: &[i64], locals: &mut Numbers<16>)
     requires defs_at_most { length locals.old + length defs.now ≤ 16 }
     requires arity { length params.now ≡ length values.now }
     requires spans { IsTrue (spans_are_params (length locals.old) defs.now params.now) }
-    ensures { (full : List ℤ) → IsCompletion defs.now params.now values.now (length locals.old) locals.old full → locals.new ≡ full }
+    ensures { (full : List ℤ) → IsCompletion defs.now params.now values.now (length locals.old) locals.old full
+        → locals.new ≡ full }
 {
     let Some((def, inner)) = defs.split_first() else {
         return;
@@ -137,11 +139,13 @@ pub fn in_space(space: &ClassSpace, params: &[i64]) -> bool
     )
 }
 
-/// The locals of the task with these parameters, or None where the class has no such task. Takes one pass over the definitions.
+/// The locals of the task with these parameters, or None where the class has no such task. Takes one pass over the
+/// definitions.
 pub fn find_locals(space: &ClassSpace, params: &[i64]) -> Option<Numbers<16>>
     requires well { IsWellSpace space.now }
     requires arity { length params.now ≡ length space.now.params }
-    ensures { MatchOption result (IsIn params.now (tasks space.now) → ⊥) (λ locals. IsIn params.now (tasks space.now) × IsLocalsOf space.now params.now locals) }
+    ensures { MatchOption result (IsIn params.now (tasks space.now) → ⊥) (λ locals.
+        IsIn params.now (tasks space.now) × IsLocalsOf space.now params.now locals) }
 {
     let mut locals = Numbers::new();
     let defs = space.defs.as_slice();
@@ -152,7 +156,8 @@ pub fn find_locals(space: &ClassSpace, params: &[i64]) -> Option<Numbers<16>>
     }
 }
 
-/// The locals of the task with these parameters. No range is evaluated, since the values of the parameters are known to be its own.
+/// The locals of the task with these parameters. No range is evaluated, since the values of the parameters are known to
+/// be its own.
 pub fn locals_of(space: &ClassSpace, params: &[i64]) -> Numbers<16>
     requires well { IsWellSpace space.now }
     requires task { IsIn params.now (tasks space.now) }

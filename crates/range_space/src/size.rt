@@ -27,7 +27,8 @@ struct Counts {
 
 // Counts a task of this class, or refuses the first one too many.
 fn count_task(class: u32, counts: &mut Counts) -> Result<(), SpaceFault>
-    ensures ok { OnOk result (IsWalked counts.old.tasks counts.old.prefixes counts.new.tasks counts.new.prefixes (Task class ∷ [])) }
+    ensures ok { OnOk result
+        (IsWalked counts.old.tasks counts.old.prefixes counts.new.tasks counts.new.prefixes (Task class ∷ [])) }
     ensures fault { IfErr result (IsFirstFault counts.old.tasks counts.old.prefixes (Task class ∷ [])) }
 {
     if counts.tasks == MOST_TASKS {
@@ -39,7 +40,8 @@ fn count_task(class: u32, counts: &mut Counts) -> Result<(), SpaceFault>
 
 // Counts a prefix of this class, or refuses the first one too many.
 fn count_prefix(class: u32, counts: &mut Counts) -> Result<(), SpaceFault>
-    ensures ok { OnOk result (IsWalked counts.old.tasks counts.old.prefixes counts.new.tasks counts.new.prefixes (Prefix class ∷ [])) }
+    ensures ok { OnOk result
+        (IsWalked counts.old.tasks counts.old.prefixes counts.new.tasks counts.new.prefixes (Prefix class ∷ [])) }
     ensures fault { IfErr result (IsFirstFault counts.old.tasks counts.old.prefixes (Prefix class ∷ [])) }
 {
     if counts.prefixes == MOST_PREFIXES {
@@ -51,8 +53,12 @@ fn count_prefix(class: u32, counts: &mut Counts) -> Result<(), SpaceFault>
 
 // Counts a prefix and a task of this class for each value of its last definition, or refuses the first one too many.
 fn count_last(class: u32, steps: &Steps, counts: &mut Counts) -> Result<(), SpaceFault>
-    ensures ok { OnOk result (IsWalked counts.old.tasks counts.old.prefixes counts.new.tasks counts.new.prefixes (walk_among class [] [] (values steps.now.lo steps.now.hi steps.now.step))) }
-    ensures fault { IfErr result (IsFirstFault counts.old.tasks counts.old.prefixes (walk_among class [] [] (values steps.now.lo steps.now.hi steps.now.step))) }
+    ensures ok { OnOk result
+        (IsWalked counts.old.tasks counts.old.prefixes counts.new.tasks counts.new.prefixes
+        (walk_among class [] [] (values steps.now.lo steps.now.hi steps.now.step))) }
+    ensures fault { IfErr result
+        (IsFirstFault counts.old.tasks counts.old.prefixes
+        (walk_among class [] [] (values steps.now.lo steps.now.hi steps.now.step))) }
 {
     let count = steps.count();
     let room = (MOST_TASKS - counts.tasks).min(MOST_PREFIXES - counts.prefixes);
@@ -73,7 +79,9 @@ fn count_from(
     counts: &mut Counts,
 ) -> Result<(), SpaceFault>
     requires { length outer.old + length defs.now ≤ 16 }
-    ensures ok { OnOk result (IsWalked counts.old.tasks counts.old.prefixes counts.new.tasks counts.new.prefixes (walk class defs.now outer.old)) }
+    ensures ok { OnOk result
+        (IsWalked counts.old.tasks counts.old.prefixes counts.new.tasks counts.new.prefixes
+        (walk class defs.now outer.old)) }
     ensures fault { IfErr result (IsFirstFault counts.old.tasks counts.old.prefixes (walk class defs.now outer.old)) }
     ensures same { OnOk result (outer.new ≡ outer.old) }
 {
@@ -97,8 +105,12 @@ fn count_among(
     counts: &mut Counts,
 ) -> Result<(), SpaceFault>
     requires { length outer.old + length inner.now < 16 }
-    ensures ok { OnOk result (IsWalked counts.old.tasks counts.old.prefixes counts.new.tasks counts.new.prefixes (walk_among class inner.now outer.old (values steps.now.lo steps.now.hi steps.now.step))) }
-    ensures fault { IfErr result (IsFirstFault counts.old.tasks counts.old.prefixes (walk_among class inner.now outer.old (values steps.now.lo steps.now.hi steps.now.step))) }
+    ensures ok { OnOk result
+        (IsWalked counts.old.tasks counts.old.prefixes counts.new.tasks counts.new.prefixes
+        (walk_among class inner.now outer.old (values steps.now.lo steps.now.hi steps.now.step))) }
+    ensures fault { IfErr result
+        (IsFirstFault counts.old.tasks counts.old.prefixes
+        (walk_among class inner.now outer.old (values steps.now.lo steps.now.hi steps.now.step))) }
     ensures same { OnOk result (outer.new ≡ outer.old) }
 {
     for v in steps.values() {
@@ -114,7 +126,9 @@ fn count_among(
 fn count_all(class: u32, spaces: &[ClassSpace], counts: &mut Counts) -> Result<(), SpaceFault>
     requires classes { class + length spaces.now ≤ 64 }
     requires defs_at_most { All (λ s. length s.defs ≤ 16) spaces.now }
-    ensures ok { OnOk result (IsWalked counts.old.tasks counts.old.prefixes counts.new.tasks counts.new.prefixes (walk_all class spaces.now)) }
+    ensures ok { OnOk result
+        (IsWalked counts.old.tasks counts.old.prefixes counts.new.tasks counts.new.prefixes
+        (walk_all class spaces.now)) }
     ensures fault { IfErr result (IsFirstFault counts.old.tasks counts.old.prefixes (walk_all class spaces.now)) }
 {
     let Some((space, others)) = spaces.split_first() else {
@@ -125,7 +139,8 @@ fn count_all(class: u32, spaces: &[ClassSpace], counts: &mut Counts) -> Result<(
     count_all(class + 1, others, counts)
 }
 
-/// How many tasks the classes have, or the first fault in walk order. The values of a last definition are counted at once.
+/// How many tasks the classes have, or the first fault in walk order. The values of a last definition are counted at
+/// once.
 pub fn space_size(spaces: &[ClassSpace]) -> Result<u64, SpaceFault>
     requires classes { length spaces.now ≤ 64 }
     requires defs_at_most { All (λ s. length s.defs ≤ 16) spaces.now }
@@ -134,7 +149,8 @@ pub fn space_size(spaces: &[ClassSpace]) -> Result<u64, SpaceFault>
     ensures prefixes { IfOk result (λ _. prefix_total spaces.now ≤ 16000000) }
     ensures sound { IfOk result (λ _. AllByRecursion IsSound spaces.now) }
     ensures fault { IfErr result (IsFirstFault 0 0 (walk_all 0 spaces.now)) }
-    ensures no_fault { AllByRecursion IsSound spaces.now → task_total spaces.now ≤ 1000000 → prefix_total spaces.now ≤ 16000000 → IsOk result }
+    ensures no_fault { AllByRecursion IsSound spaces.now → task_total spaces.now ≤ 1000000
+        → prefix_total spaces.now ≤ 16000000 → IsOk result }
 {
     let mut counts = Counts {
         tasks: 0,

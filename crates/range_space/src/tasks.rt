@@ -9,7 +9,8 @@ use crate::numbers::Numbers;
 use std::marker::Model;
 use term_core::{ClassSpace, local};
 
-/// An iterator over the tasks of a class, each by its parameters, in walk order. Contracts see it as the list of those not yet given.
+/// An iterator over the tasks of a class, each by its parameters, in walk order. Contracts see it as the list of those
+/// not yet given.
 /// Where a definition has no value there is no task.
 #[derive(Drop)]
 pub struct Space<'a> {

@@ -14,7 +14,8 @@ use term_core::{Def, Range};
 
 // The progression of a definition under the values of those before it; an expression has one value.
 pub(crate) fn def_steps(def: &Def, env: &[i64]) -> Result<Steps, SpanFault>
-    ensures steps { IfOk result (λ s. def_bounds def.now env.now ≡ Ok (record { lo = s.lo; hi = s.hi; step = s.step })) }
+    ensures steps { IfOk result (λ s.
+        def_bounds def.now env.now ≡ Ok (record { lo = s.lo; hi = s.hi; step = s.step })) }
     ensures fault { IfErr result (λ e. def_bounds def.now env.now ≡ Err e) }
 {
     match def {
@@ -61,7 +62,8 @@ pub(crate) fn first(defs: &[Def], locals: &mut Numbers<16>) -> bool
 #[cycle(nesting)]
 fn first_with(v: i64, inner: &[Def], locals: &mut Numbers<16>) -> bool
     requires { length locals.old + length inner.now < 16 }
-    ensures found { OnTrue result (IsFirstOf inner.now (locals.old ++ v ∷ []) locals.new (full_lists inner.now (locals.old ++ v ∷ []))) }
+    ensures found { OnTrue result
+        (IsFirstOf inner.now (locals.old ++ v ∷ []) locals.new (full_lists inner.now (locals.old ++ v ∷ []))) }
     ensures none { OnFalse result (full_lists inner.now (locals.old ++ v ∷ []) ≡ []) }
     ensures same { OnFalse result (locals.new ≡ locals.old) }
 {
@@ -77,8 +79,11 @@ fn first_with(v: i64, inner: &[Def], locals: &mut Numbers<16>) -> bool
 #[cycle(nesting)]
 fn first_among(steps: &Steps, inner: &[Def], locals: &mut Numbers<16>) -> bool
     requires { length locals.old + length inner.now < 16 }
-    ensures found { OnTrue result (IsFirstOver (Ok (record { lo = steps.now.lo; hi = steps.now.hi; step = steps.now.step })) inner.now locals.old locals.new (lists_over inner.now locals.old (values steps.now.lo steps.now.hi steps.now.step))) }
-    ensures none { OnFalse result (lists_over inner.now locals.old (values steps.now.lo steps.now.hi steps.now.step) ≡ []) }
+    ensures found { OnTrue result
+        (IsFirstOver (Ok (record { lo = steps.now.lo; hi = steps.now.hi; step = steps.now.step })) inner.now locals.old
+        locals.new (lists_over inner.now locals.old (values steps.now.lo steps.now.hi steps.now.step))) }
+    ensures none { OnFalse result
+        (lists_over inner.now locals.old (values steps.now.lo steps.now.hi steps.now.step) ≡ []) }
     ensures same { OnFalse result (locals.new ≡ locals.old) }
 {
     for v in steps.values() {
@@ -92,7 +97,9 @@ fn first_among(steps: &Steps, inner: &[Def], locals: &mut Numbers<16>) -> bool
 // Extends these locals to the first full list whose next value is one of this range after `v`, if there is one.
 fn first_in_range_past(range: &Range, v: i64, inner: &[Def], locals: &mut Numbers<16>) -> bool
     requires { length locals.old + length inner.now < 16 }
-    ensures found { OnTrue result (IsFirstOver (bounds range.now locals.old) inner.now locals.old locals.new (lists_over_rest inner.now locals.old (bounds range.now locals.old) v)) }
+    ensures found { OnTrue result
+        (IsFirstOver (bounds range.now locals.old) inner.now locals.old locals.new
+        (lists_over_rest inner.now locals.old (bounds range.now locals.old) v)) }
     ensures none { OnFalse result (lists_over_rest inner.now locals.old (bounds range.now locals.old) v ≡ []) }
     ensures same { OnFalse result (locals.new ≡ locals.old) }
 {
@@ -112,11 +119,12 @@ fn first_in_range_past(range: &Range, v: i64, inner: &[Def], locals: &mut Number
     }
 }
 
-// Extends these locals to the first full list whose next value is another one of this definition, after `v`, if there is one. An
-// expression has no other, and is not evaluated.
+// Extends these locals to the first full list whose next value is another one of this definition, after `v`, if there
+// is one. An expression has no other, and is not evaluated.
 fn first_past(def: &Def, v: i64, inner: &[Def], locals: &mut Numbers<16>) -> bool
     requires { length locals.old + length inner.now < 16 }
-    ensures found { OnTrue result (IsFirstPast def.now inner.now locals.old locals.new (lists_past def.now inner.now locals.old v)) }
+    ensures found { OnTrue result
+        (IsFirstPast def.now inner.now locals.old locals.new (lists_past def.now inner.now locals.old v)) }
     ensures none { OnFalse result (lists_past def.now inner.now locals.old v ≡ []) }
     ensures same { OnFalse result (locals.new ≡ locals.old) }
 {
@@ -126,11 +134,14 @@ fn first_past(def: &Def, v: i64, inner: &[Def], locals: &mut Numbers<16>) -> boo
     }
 }
 
-// Changes a full list into the one after it among those with the same first `depth` locals, or into these locals where there is none.
+// Changes a full list into the one after it among those with the same first `depth` locals, or into these locals where
+// there is none.
 pub(crate) fn advance(defs: &[Def], depth: usize, locals: &mut Numbers<16>) -> bool
     requires full { length locals.old ≡ depth + length defs.now }
     requires locals_at_most { length locals.old ≤ 16 }
-    ensures found { OnTrue result (IsFirstOf defs.now (take depth locals.old) locals.new (lists_after defs.now (take depth locals.old) (drop depth locals.old))) }
+    ensures found { OnTrue result
+        (IsFirstOf defs.now (take depth locals.old) locals.new
+        (lists_after defs.now (take depth locals.old) (drop depth locals.old))) }
     ensures none { OnFalse result (lists_after defs.now (take depth locals.old) (drop depth locals.old) ≡ []) }
     ensures truncated { OnFalse result (locals.new ≡ take depth locals.old) }
 {

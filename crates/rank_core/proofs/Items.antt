@@ -13,11 +13,10 @@ use Rattle.dep_iter.specs.Items.{edge_of, items, out_edges, write_backs, write_o
 use Rattle.dep_iter.specs.Tasks.{IsTask, all_tasks}
 use Rattle.dep_iter.proofs.Belonging.{out_edge_is}
 use Rattle.dep_iter.proofs.Listing.{listed}
-use Rattle.range_space.proofs.MemberLists.{IsIn-append_left, IsIn-append_right, IsIn-map, from_append, from_map}
-use Rattle.range_space.proofs.Stepping.{by_test}
-use Rattle.flow_meaning.proofs.Quiet.{filtered}
+use Rattle.list_lemmas.proofs.Members.{IsIn-append_left, IsIn-append_right, IsIn-map, from_append, from_map, IsIn-filter}
+use Rattle.list_lemmas.proofs.Truth.{by_test}
+use Rattle.list_lemmas.proofs.Distinct.{HasNoRepeats-append, HasNoRepeats-filter, HasNoRepeats-from_map, HasNoRepeats-map, HasNoRepeats-part}
 use Rattle.rank_core.specs.World.{edges_between, edges_within, is_between, items_within}
-use Rattle.rank_core.proofs.Lists.{distinct-append, distinct-filter, distinct-from_map, distinct-map, distinct-part}
 
 -- edges and write-backs among items
 edge_item : (is : List Item) (e : Edge) → IsIn e (filter_map edge_of is) → IsIn (item.Edge e) is
@@ -65,7 +64,7 @@ module _ (P : Plan) (t : Task) where
 
   module _ (r : ℕ) where
     pub between_is_out : (e : Edge) → IsIn e (edges_between P r t) → IsIn e (out_edges P t)
-    between_is_out e h = ((filtered (is_between P r) (out_edges P t) e).0 h).0
+    between_is_out e h = ((IsIn-filter (is_between P r) (out_edges P t) e).0 h).0
 
     -- an item within the rank is one of the task's
     pub within_is_item : (i : Item) → IsIn i (items_within P r t) → IsIn i (items P t)
@@ -75,7 +74,7 @@ module _ (P : Plan) (t : Task) where
           subst (λ j. IsIn j (items P t)) (sym p.2) (write_item (items P t) p.0 p.1)
       | inr right ↦
           let p = from_map (λ (e : Edge). item.Edge e) (edges_within P r t) i right in
-          subst (λ j. IsIn j (items P t)) (sym p.2) (edge_item (items P t) p.0 ((filtered (λ e. not (is_between P r e)) (out_edges P t) p.0).0 p.1).0)
+          subst (λ j. IsIn j (items P t)) (sym p.2) (edge_item (items P t) p.0 ((IsIn-filter (λ e. not (is_between P r e)) (out_edges P t) p.0).0 p.1).0)
     ]
 
     -- an item of a task that is not within its rank is an edge to another rank
@@ -89,25 +88,25 @@ module _ (P : Plan) (t : Task) where
         inl (IsIn-append_left (item.Write w) (map item.Write (write_backs P t)) (map item.Edge (edges_within P r t)) (IsIn-map (λ (v : WriteBack). item.Write v) (write_backs P t) w (item_write (items P t) w h)))
     within_or_between (item.Edge e) h =
         by_test (is_between P r e)
-        (λ k. inr (record { edge = e; is = refl; among = (filtered (is_between P r) (out_edges P t) e).1 (item_is_out e h, k) }))
+        (λ k. inr (record { edge = e; is = refl; among = (IsIn-filter (is_between P r) (out_edges P t) e).1 (item_is_out e h, k) }))
         (λ k.
-        inl (IsIn-append_right (item.Edge e) (map item.Write (write_backs P t)) (map item.Edge (edges_within P r t)) (IsIn-map (λ (d : Edge). item.Edge d) (edges_within P r t) e ((filtered (λ d. not (is_between P r d)) (out_edges P t) e).1 (item_is_out e h, ap not k)))))
+        inl (IsIn-append_right (item.Edge e) (map item.Write (write_backs P t)) (map item.Edge (edges_within P r t)) (IsIn-map (λ (d : Edge). item.Edge d) (edges_within P r t) e ((IsIn-filter (λ d. not (is_between P r d)) (out_edges P t) e).1 (item_is_out e h, ap not k)))))
 
 module _ (P : Plan) (con : IsConsistent P) (t : Task) (job : IsTask P t) where
   -- no edge and no item of a task occurs twice
   pub outs_once : HasNoRepeats (out_edges P t)
-  outs_once = distinct-part (out_edges P) (all_tasks P) con.no_out_edge_twice t ((listed P t).0 job)
+  outs_once = HasNoRepeats-part (out_edges P) (all_tasks P) con.no_out_edge_twice t ((listed P t).0 job)
 
   writes_once : HasNoRepeats (write_backs P t)
-  writes_once = distinct-part (write_backs P) (all_tasks P) (distinct-from_map (λ (w : WriteBack). w.place) (flat_map (write_backs P) (all_tasks P)) con.written_once) t ((listed P t).0 job)
+  writes_once = HasNoRepeats-part (write_backs P) (all_tasks P) (HasNoRepeats-from_map (λ (w : WriteBack). w.place) (flat_map (write_backs P) (all_tasks P)) con.written_once) t ((listed P t).0 job)
 
   pub between_once : (r : ℕ) → HasNoRepeats (edges_between P r t)
-  between_once r = distinct-filter (is_between P r) (out_edges P t) outs_once
+  between_once r = HasNoRepeats-filter (is_between P r) (out_edges P t) outs_once
 
   pub within_once : (r : ℕ) → HasNoRepeats (items_within P r t)
   within_once r =
-      distinct-append (map item.Write (write_backs P t)) (map item.Edge (edges_within P r t)) (distinct-map (λ (w : WriteBack). item.Write w) one_write (write_backs P t) writes_once)
-      (distinct-map (λ (e : Edge). item.Edge e) one_edge (edges_within P r t) (distinct-filter (λ e. not (is_between P r e)) (out_edges P t) outs_once))
+      HasNoRepeats-append (map item.Write (write_backs P t)) (map item.Edge (edges_within P r t)) (HasNoRepeats-map (λ (w : WriteBack). item.Write w) (write_backs P t) writes_once one_write)
+      (HasNoRepeats-map (λ (e : Edge). item.Edge e) (edges_within P r t) (HasNoRepeats-filter (λ e. not (is_between P r e)) (out_edges P t) outs_once) one_edge)
       (λ i left right.
       let p = from_map (λ (w : WriteBack). item.Write w) (write_backs P t) i left in
       let q = from_map (λ (e : Edge). item.Edge e) (edges_within P r t) i right in

@@ -1,4 +1,3 @@
-pub mod Lists
 pub mod Items
 pub mod Running
 pub mod Worlds

@@ -1,34 +1,32 @@
 -- How many messages are sent, and that none is sent twice.
 use Rattle.std.proofs.Common.{◌≡◌, ◌↔◌, ℕ, ◌≤◌, Bool, false, ◌&&◌, cond, List, [], ◌∷◌, map, length, refl, ap, sym, ◌∙◌, subst, IsTrue, is_some, inl, inr, Option, Some, None, arith}
 use Rattle.std.proofs.lemmas.Bool.{cases_eq, false≢true}
-use Rattle.std.proofs.lemmas.List.{length-append}
+use Rattle.std.proofs.lemmas.List.{length-append, length-map}
 use Rattle.std.specs.List.{filter, flat_map}
 use Rattle.ptg_base.specs.Lists.{HasNoRepeats, IsIn}
 use Rattle.ptg_base.specs.Task.{Task}
-use Rattle.ptg_base.specs.TaskComparing.{same_task}
-use Rattle.ptg_base.specs.TaskLaws.{same_task-decides}
 use Rattle.ptg_base.specs.declared.edge.Edge.{Edge}
 use Rattle.plan_core.specs.declared.plan.Plan.{Plan}
 use Rattle.coll_data.specs.Data.{Data}
-use Rattle.range_space.proofs.MemberLists.{from_map}
-use Rattle.range_space.proofs.Stepping.{by_test}
+use Rattle.list_lemmas.proofs.Members.{from_map}
+use Rattle.list_lemmas.proofs.Truth.{by_test}
+use Rattle.list_lemmas.proofs.Counts.{count-some, some_passes, weigh-append, same_counts, length-filter, weigh-same, weigh-zero}
+use Rattle.list_lemmas.proofs.Distinct.{HasNoRepeats-flat_map, HasNoRepeats-map}
+use Rattle.list_lemmas.proofs.Tasks.{distinct_once}
 use Rattle.dep_iter.specs.Consistent.{IsConsistent, all_in, all_out}
 use Rattle.dep_iter.specs.Items.{out_edges}
 use Rattle.dep_iter.specs.Tasks.{all_tasks}
 use Rattle.flow_meaning.specs.Answer.{ran}
 use Rattle.flow_meaning.specs.Backward.{ended}
 use Rattle.flow_meaning.specs.Comparing.{same_edge}
-use Rattle.flow_meaning.specs.Counting.{HasSameMembers, as_number, count, weigh}
+use Rattle.list_lemmas.specs.Counting.{HasSameMembers, as_number, count, weigh}
 use Rattle.flow_meaning.specs.Ending.{Ended, has_outputs, output_tile}
 use Rattle.flow_meaning.proofs.Comparing.{same_edge-decides}
-use Rattle.flow_meaning.proofs.Counting.{count-some, some_passes, weigh-append}
-use Rattle.flow_meaning.proofs.Counts.{same_counts}
 use Rattle.flow_meaning.proofs.Once.{claims_members}
 use Rattle.rank_core.specs.declared.message.Message.{Message}
 use Rattle.rank_core.specs.World.{IsQuiet, WorldState, edges_between, is_between, message_from, messages_by}
 use Rattle.rank_core.specs.Sound.{IsSoundWorld, message_count}
 use Rattle.rank_core.proofs.Items.{between_is_out, between_once, out_from}
-use Rattle.rank_core.proofs.Lists.{distinct-flat_map, distinct-map}
 use Rattle.rank_core.proofs.Quiet.{quiet_iff}
 use Rattle.rank_core.proofs.Running.{message_is, messages_with, messages_without}
 
@@ -75,35 +73,9 @@ weigh-filter g test none (x ∷ xs) =
     (λ k. let e = ap (λ b. weigh g (cond b (x ∷ filter test xs) (filter test xs))) k in omega (arith, e, weigh-filter g test none xs))
     (λ k. let e = ap (λ b. weigh g (cond b (x ∷ filter test xs) (filter test xs))) k in omega (arith, e, none x k, weigh-filter g test none xs))
 
-length-filter : {A : Type 0} (test : A → Bool) (xs : List A) → length (filter test xs) ≡ count test xs
-length-filter test [] = refl
-length-filter test (x ∷ xs) =
-    by_test (test x)
-    (λ k. let e = ap (λ b. length (cond b (x ∷ filter test xs) (filter test xs))) k in omega (arith, e, ap as_number k, length-filter test xs))
-    (λ k. let e = ap (λ b. length (cond b (x ∷ filter test xs) (filter test xs))) k in omega (arith, e, ap as_number k, length-filter test xs))
-
-length-map : {A B : Type 0} (f : A → B) (xs : List A) → length (map f xs) ≡ length xs
-length-map f [] = refl
-length-map f (x ∷ xs) = omega (arith, length-map f xs)
-
-weigh-equal : {A : Type 0} (f g : A → ℕ) (xs : List A) → ((x : A) → IsIn x xs → f x ≡ g x) → weigh f xs ≡ weigh g xs
-weigh-equal f g [] h = refl
-weigh-equal f g (x ∷ xs) h = omega (arith, h x (inl refl), weigh-equal f g xs (λ y i. h y (inr i)))
-
-weigh-nothing : {A : Type 0} (f : A → ℕ) (xs : List A) → ((x : A) → IsIn x xs → f x ≡ 0) → weigh f xs ≡ 0
-weigh-nothing f [] h = refl
-weigh-nothing f (x ∷ xs) h = omega (arith, h x (inl refl), weigh-nothing f xs (λ y i. h y (inr i)))
-
 no_end : (end : Option Ended) → is_some end ≡ false → has_outputs end ≡ false
 no_end None h = refl
 no_end (Some e) h = absurd (false≢true (sym h))
-
-claims_once : (ts : List Task) → ((t : Task) → count (same_task t) ts ≤ 1) → HasNoRepeats ts
-claims_once [] h = tt
-claims_once (t ∷ ts) h = (
-  λ i. absurd (omega (arith, h t, ap as_number ((same_task-decides t t).1 refl), count-some (same_task t) ts t i ((same_task-decides t t).1 refl))),
-  claims_once ts (λ u. omega (arith, h u)),
-)
 
 module _ (P : Plan) (G : Data) (r : ℕ) where
   -- whether an edge is a message of a run
@@ -117,12 +89,12 @@ module _ (P : Plan) (G : Data) (r : ℕ) where
       by_test (has_outputs (ended P G t))
       (λ o.
       ap length (messages_with P r t (ended P G t) o)
-      ∙ length-map (message_from (ended P G t)) (edges_between P r t)
+      ∙ length-map (edges_between P r t) (message_from (ended P G t))
       ∙ length-filter (is_between P r) (out_edges P t)
-      ∙ weigh-equal (λ e. as_number (is_between P r e)) (λ e. as_number (has_outputs (ended P G e.from) && is_between P r e)) (out_edges P t) (λ e h. ap (λ b. as_number (b && is_between P r e)) (sym (ap (λ u. has_outputs (ended P G u)) (out_from P t e h) ∙ o))))
+      ∙ weigh-same (λ e. as_number (has_outputs (ended P G e.from) && is_between P r e)) (λ e. as_number (is_between P r e)) (out_edges P t) (λ e h. ap (λ b. as_number (b && is_between P r e)) (sym (ap (λ u. has_outputs (ended P G u)) (out_from P t e h) ∙ o))))
       (λ o.
       ap length (messages_without P r t (ended P G t) o)
-      ∙ sym (weigh-nothing (λ e. as_number (has_outputs (ended P G e.from) && is_between P r e)) (out_edges P t) (λ e h. ap (λ b. as_number (b && is_between P r e)) (ap (λ u. has_outputs (ended P G u)) (out_from P t e h) ∙ o))))
+      ∙ sym (weigh-zero (λ e. as_number (has_outputs (ended P G e.from) && is_between P r e)) (out_edges P t) (λ e h. ap (λ b. as_number (b && is_between P r e)) (ap (λ u. has_outputs (ended P G u)) (out_from P t e h) ∙ o))))
 
   module _ (con : IsConsistent P) (w : WorldState) (sound : IsSoundWorld P G r w) where
     pub messages_counted : IsQuiet P w → length w.messages ≡ message_count P G r
@@ -133,7 +105,7 @@ module _ (P : Plan) (G : Data) (r : ℕ) where
         ∙ length-joined (λ t. messages_by P r t (ended P G t)) w.machine.claims
         ∙ claims_members P G con w.machine sound.state ((quiet_iff P G con r w sound).0 quiet) (λ t. length (messages_by P r t (ended P G t)))
         ∙ weigh-filter (λ t. length (messages_by P r t (ended P G t))) (λ t. is_some (ended P G t)) (λ t h. ap length (messages_without P r t (ended P G t) (no_end (ended P G t) h))) (all_tasks P)
-        ∙ weigh-equal (λ t. length (messages_by P r t (ended P G t))) (λ t. count counts (out_edges P t)) (all_tasks P) (λ t h. by_task t)
+        ∙ weigh-same (λ t. count counts (out_edges P t)) (λ t. length (messages_by P r t (ended P G t))) (all_tasks P) (λ t h. by_task t)
         ∙ count-joined counts (out_edges P) (all_tasks P)
         ∙ same_members same_edge same_edge-decides (all_out P) (all_in P) con.no_out_edge_twice con.no_in_edge_twice (λ e. let iff = con.same_edges e in (iff.1, iff.0)) (λ e. as_number (counts e))
 
@@ -150,13 +122,13 @@ module _ (P : Plan) (G : Data) (r : ℕ) where
         by_test (has_outputs (ended P G t))
         (λ o.
         subst HasNoRepeats (sym (messages_with P r t (ended P G t) o))
-        (distinct-map (message_from (ended P G t)) (λ d e q. ap (λ (x : Message). x.edge) q) (edges_between P r t) (between_once P con t (sound.state.claimed_have_all t c).task r)))
+        (HasNoRepeats-map (message_from (ended P G t)) (edges_between P r t) (between_once P con t (sound.state.claimed_have_all t c).task r) (λ d e q. ap (λ (x : Message). x.edge) q)))
         (λ o. subst HasNoRepeats (sym (messages_without P r t (ended P G t) o)) tt)
 
     pub messages_once : HasNoRepeats w.messages
     messages_once =
         subst HasNoRepeats (sym sound.messages)
-        (distinct-flat_map (λ t. messages_by P r t (ended P G t)) w.machine.claims (claims_once w.machine.claims sound.state.claimed_once) once_by (λ t u m h k. sym (from_of t m h) ∙ from_of u m k))
+        (HasNoRepeats-flat_map (λ t. messages_by P r t (ended P G t)) w.machine.claims (distinct_once w.machine.claims sound.state.claimed_once) once_by (λ t u m h k. sym (from_of t m h) ∙ from_of u m k))
 
     -- two messages of one edge are one message
     same_message : (a b : Message) → IsIn a w.messages → IsIn b w.messages → a.edge ≡ b.edge → a ≡ b

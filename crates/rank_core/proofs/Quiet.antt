@@ -8,8 +8,8 @@ use Rattle.ptg_base.specs.declared.edge.Item.{Item}
 use Rattle.ptg_base.specs.declared.edge.Item.TheVariants as item
 use Rattle.plan_core.specs.declared.plan.Plan.{Plan}
 use Rattle.coll_data.specs.Data.{Data}
-use Rattle.range_space.proofs.MemberLists.{IsIn-flat_map, IsIn-map}
-use Rattle.range_space.proofs.Stepping.{by_test}
+use Rattle.list_lemmas.proofs.Members.{IsIn-flat_map, IsIn-map}
+use Rattle.list_lemmas.proofs.Truth.{by_test}
 use Rattle.dep_iter.specs.Consistent.{IsConsistent}
 use Rattle.dep_iter.specs.Items.{items}
 use Rattle.flow_meaning.specs.Backward.{ended}

@@ -8,18 +8,18 @@ use Rattle.ptg_base.specs.declared.edge.Item.{Item}
 use Rattle.ptg_base.specs.declared.edge.Item.TheVariants as item
 use Rattle.plan_core.specs.declared.plan.Plan.{Plan}
 use Rattle.coll_data.specs.Data.{Data}
-use Rattle.range_space.proofs.MemberLists.{IsIn-append_right, from_flat_map, from_map}
-use Rattle.range_space.proofs.Stepping.{by_test}
+use Rattle.list_lemmas.proofs.Members.{IsIn-append_right, from_flat_map, from_map}
+use Rattle.list_lemmas.proofs.Truth.{by_test}
+use Rattle.list_lemmas.proofs.Counts.{weigh-push}
 use Rattle.dep_iter.specs.Consistent.{IsConsistent}
 use Rattle.dep_iter.specs.Items.{item_flow, items}
 use Rattle.flow_meaning.specs.Backward.{ended}
 use Rattle.flow_meaning.specs.Comparing.{same_item}
-use Rattle.flow_meaning.specs.Counting.{as_number}
+use Rattle.list_lemmas.specs.Counting.{as_number}
 use Rattle.flow_meaning.specs.Ending.{Ended, has_outputs, output_tile}
 use Rattle.flow_meaning.specs.Machine.{Claim, Event, Happen, MachineState, MayClaim, MaySend, Send, Sent, claim_count, end_in, is_sent, send_count, sender, sent_with, state_after}
 use Rattle.flow_meaning.specs.Sound.{HasAllArrived, IsSoundState}
 use Rattle.flow_meaning.proofs.Comparing.{same_item-decides}
-use Rattle.flow_meaning.proofs.Counting.{weigh-push}
 use Rattle.flow_meaning.proofs.Events.{claim_sound, ends_so, member_claim, send_member, send_sound, unsent}
 use Rattle.flow_meaning.proofs.Rest.{item_sender}
 use Rattle.rank_core.specs.declared.message.Message.{Message}
@@ -120,7 +120,8 @@ module _ (P : Plan) (G : Data) (con : IsConsistent P) where
       pub run_happens : (es : List Event) × Happen P G es w.machine (after_run P G r w t).machine
       run_happens = by_test (has_outputs (ended P G t)) (λ o. (Claim t ∷ map Send (items_within P r t), with_outputs o)) (λ o. (Claim t ∷ [], without_outputs o))
 
-    -- a message that was sent is an edge between ranks of a task that ran and has outputs, with the tile that the task leaves
+    -- a message that was sent is an edge between ranks of a task that ran and has outputs, with the tile that the task
+    -- leaves
     pub record IsMessageOf (m : Message) : Type 0 where
       pub claimed : IsIn m.edge.from w.machine.claims
       pub outputs : has_outputs (ended P G m.edge.from) ≡ true

@@ -1,5 +1,5 @@
 -- What each event of a world keeps.
-use Rattle.std.proofs.Common.{◌≡◌, ◌<◌, ℕ, zero, suc, Bool, true, false, cond, List, [], ◌∷◌, ◌++◌, length, refl, ap, sym, ◌∙◌, subst, inl, inr, Some, slice_get, arith}
+use Rattle.std.proofs.Common.{◌≡◌, ℕ, Bool, true, false, cond, List, [], ◌∷◌, ◌++◌, refl, ap, sym, ◌∙◌, subst, inl, inr, Some, slice_get, arith}
 use Rattle.std.proofs.lemmas.Bool.{ltb-true, lt-ltb}
 use Rattle.std.proofs.lemmas.List.{append-nil}
 use Rattle.std.proofs.lemmas.Grind.{flat_map-append}
@@ -11,15 +11,16 @@ use Rattle.ptg_base.specs.declared.edge.Item.{Item}
 use Rattle.ptg_base.specs.declared.edge.Item.TheVariants as item
 use Rattle.plan_core.specs.declared.plan.Plan.{Plan}
 use Rattle.coll_data.specs.Data.{Data}
-use Rattle.range_space.proofs.MemberLists.{IsIn-append_right, IsIn-map, from_append}
+use Rattle.list_lemmas.proofs.Members.{IsIn-append_right, IsIn-map, from_append}
+use Rattle.list_lemmas.proofs.Counts.{weigh-append}
+use Rattle.list_lemmas.proofs.Places.{slice_get_member}
 use Rattle.dep_iter.specs.Consistent.{IsConsistent}
 use Rattle.flow_meaning.specs.Backward.{ended}
 use Rattle.flow_meaning.specs.Comparing.{same_item}
-use Rattle.flow_meaning.specs.Counting.{as_number}
+use Rattle.list_lemmas.specs.Counting.{as_number}
 use Rattle.flow_meaning.specs.Ending.{has_outputs}
 use Rattle.flow_meaning.specs.Machine.{Event, Happen, MachineState, MayClaim, Sent, end_in, is_sent, opening_state, send_count}
 use Rattle.flow_meaning.specs.Order.{IsLegalOrder}
-use Rattle.flow_meaning.proofs.Counting.{weigh-append}
 use Rattle.flow_meaning.proofs.Events.{happen_sound, member_send, opening_sound}
 use Rattle.flow_meaning.proofs.Orders.{happen_legal}
 use Rattle.rank_core.specs.declared.message.Message.{Message}
@@ -48,12 +49,6 @@ delivery_keeps S m i h = by (stands S m)
     by : (b : Bool) → is_sent (cond b S (record { claims = S.claims; sends = S.sends ++ record { item = item.Edge m.edge; tile = m.tile } ∷ [] })) i ≡ true
     by true = h
     by false = still_sent S S.claims (record { item = item.Edge m.edge; tile = m.tile } ∷ []) i h
-
--- the member at an index
-pub at : {A : Type 0} (xs : List A) (n : ℕ) → n < length xs → (x : A) × (slice_get xs n ≡ Some x) × IsIn x xs
-at [] n h = absurd (omega arith)
-at (x ∷ xs) zero h = (x, refl, inl refl)
-at (x ∷ xs) (suc n) h = let p = at xs n (omega arith) in (p.0, p.1, inr p.2)
 
 module _ (P : Plan) (G : Data) (con : IsConsistent P) (r : ℕ) where
   module _ (w : WorldState) (sound : IsSoundWorld P G r w) where
@@ -105,13 +100,13 @@ module _ (P : Plan) (G : Data) (con : IsConsistent P) (r : ℕ) where
 
     pub event_sound : (e : WorldEvent) → IsPossibleIn P w e → IsSoundWorld P G r (world_after P G r w e)
     event_sound (Run t) may = run_sound t may
-    event_sound (Deliver n) h = let p = at w.messages n h in subst (IsSoundWorld P G r) (sym (delivery_is n p.0 p.1)) (message_sound p.0 p.2)
+    event_sound (Deliver n) h = let p = slice_get_member w.messages n h in subst (IsSoundWorld P G r) (sym (delivery_is n p.0 p.1)) (message_sound p.0 p.2)
 
     -- what happens is what some events of the event machine do
     pub event_happens : (e : WorldEvent) → IsPossibleIn P w e → (es : List Event) × Happen P G es w.machine (world_after P G r w e).machine
     event_happens (Run t) may = run_happens P G con r w sound t may
     event_happens (Deliver n) h =
-        let p = at w.messages n h in
+        let p = slice_get_member w.messages n h in
         subst (λ (v : WorldState). (es : List Event) × Happen P G es w.machine v.machine) (sym (delivery_is n p.0 p.1)) (delivered P G con r w sound p.0 p.2)
 
   pub events_sound : (es : List WorldEvent) (w v : WorldState) → IsSoundWorld P G r w → HappenIn P G r es w v → IsSoundWorld P G r v

@@ -7,7 +7,7 @@ use Rattle.ptg_base.specs.declared.edge.Item.{Item}
 use Rattle.plan_core.specs.declared.plan.Plan.{Plan}
 use Rattle.coll_data.specs.Data.{Data}
 use Rattle.dep_iter.specs.Consistent.{all_in}
-use Rattle.flow_meaning.specs.Counting.{count}
+use Rattle.list_lemmas.specs.Counting.{count}
 use Rattle.flow_meaning.specs.Ending.{has_outputs}
 use Rattle.flow_meaning.specs.Backward.{ended}
 use Rattle.flow_meaning.specs.Machine.{is_sent}
@@ -19,10 +19,12 @@ pub record IsSoundWorld (P : Plan) (G : Data) (r : ℕ) (w : WorldState) : Type 
   -- the state that it stands for is sound
   pub state : IsSoundState P G w.machine
   -- the items within its rank of a task that ran and has outputs stand
-  pub within : (t : Task) (i : Item) → IsIn t w.machine.claims → IsTrue (has_outputs (ended P G t)) → IsIn i (items_within P r t) → IsTrue (is_sent w.machine i)
+  pub within : (t : Task) (i : Item) → IsIn t w.machine.claims → IsTrue (has_outputs (ended P G t))
+      → IsIn i (items_within P r t) → IsTrue (is_sent w.machine i)
   -- the messages are those of the tasks that ran, in the order in which they ran
   pub messages : w.messages ≡ flat_map (λ t. messages_by P r t (ended P G t)) w.machine.claims
 
--- how many messages a run of a job by r ranks sends: as many as there are edges between two ranks whose source has outputs
+-- how many messages a run of a job by r ranks sends: as many as there are edges between two ranks whose source has
+-- outputs
 unfoldable pub message_count : Plan → Data → ℕ → ℕ
 message_count P G r = count (λ (e : Edge). has_outputs (ended P G e.from) && is_between P r e) (all_in P)

@@ -1,4 +1,7 @@
--- A world of ranks: the tasks of a job are shared out to ranks by their affinity, and an edge between two ranks is a message. Source: PaRSEC (2013), where a task runs on the rank that has the data of its affinity, and the runtime sends a message for an edge between ranks; that a rank is a remainder, and that a message may come late, twice and in any order, is this project's own choice.
+-- A world of ranks: the tasks of a job are shared out to ranks by their affinity, and an edge between two ranks is a
+-- message. Source: PaRSEC (2013), where a task runs on the rank that has the data of its affinity, and the runtime
+-- sends a message for an edge between ranks; that a rank is a remainder, and that a message may come late, twice and in
+-- any order, is this project's own choice.
 use Rattle.std.specs.Prelude.{◌≡◌, ℕ, ◌+◌, ◌%◌, ◌<◌, ◌==◌, List, [], ◌∷◌, ◌++◌, map, filter, length, slice_get, Bool, not, IsTrue, Option, if◌then◌else◌}
 use Rattle.std.specs.Option.{option_map_or}
 use Rattle.ptg_base.specs.Lists.{IsIn}
@@ -52,7 +55,8 @@ items_by P r t end = if has_outputs end then map (item_from end) (items_within P
 abbrev pub messages_by : Plan → ℕ → Task → Option Ended → List Message
 messages_by P r t end = if has_outputs end then map (message_from end) (edges_between P r t) else []
 
--- a world: the state of the event machine that it stands for, whose claimed tasks are those that ran and whose sent items are those that stand; and the messages that were sent, numbered from 0
+-- a world: the state of the event machine that it stands for, whose claimed tasks are those that ran and whose sent
+-- items are those that stand; and the messages that were sent, numbered from 0
 pub record WorldState : Type 0 where
   pub machine : MachineState
   pub messages : List Message
@@ -66,12 +70,14 @@ pub data WorldEvent : Type 0 where
   Run : Task → WorldEvent
   Deliver : ℕ → WorldEvent
 
--- a task may run that has not run, once all edges into it stand; a message may be delivered that was ever sent, as often as it may be
+-- a task may run that has not run, once all edges into it stand; a message may be delivered that was ever sent, as
+-- often as it may be
 abbrev pub IsPossibleIn : Plan → WorldState → WorldEvent → Type 0
 IsPossibleIn P w (Run t) = MayClaim P w.machine t
 IsPossibleIn P w (Deliver n) = n < length w.messages
 
--- after a task has run, its items within its rank stand and its edges to other ranks are messages, if its body has outputs on the tiles that stand
+-- after a task has run, its items within its rank stand and its edges to other ranks are messages, if its body has
+-- outputs on the tiles that stand
 abbrev pub after_run : Plan → Data → ℕ → WorldState → Task → WorldState
 after_run P G r w t = record {
   machine = record { claims = w.machine.claims ++ t ∷ []; sends = w.machine.sends ++ items_by P r t (end_in P G w.machine t) };
@@ -84,16 +90,24 @@ stands S m = is_sent S (item.Edge m.edge)
 
 -- after a message has come, its edge stands with its tile; where it stood before, nothing changes
 abbrev pub with_message : MachineState → Message → MachineState
-with_message S m = if stands S m then S else record { claims = S.claims; sends = S.sends ++ record { item = item.Edge m.edge; tile = m.tile } ∷ [] }
+with_message S m =
+    if stands S m
+    then S
+    else record { claims = S.claims; sends = S.sends ++ record { item = item.Edge m.edge; tile = m.tile } ∷ [] }
 
 abbrev pub after_delivery : WorldState → ℕ → WorldState
-after_delivery w n = record { machine = option_map_or (with_message w.machine) (slice_get w.messages n) w.machine; messages = w.messages }
+after_delivery w n =
+    record {
+      machine = option_map_or (with_message w.machine) (slice_get w.messages n) w.machine;
+      messages = w.messages;
+    }
 
 abbrev pub world_after : Plan → Data → ℕ → WorldState → WorldEvent → WorldState
 world_after P G r w (Run t) = after_run P G r w t
 world_after P G r w (Deliver n) = after_delivery w n
 
--- these events happen in a world of r ranks one after another, each where it is possible, and lead from one state to another
+-- these events happen in a world of r ranks one after another, each where it is possible, and lead from one state to
+-- another
 abbrev pub HappenIn : Plan → Data → ℕ → List WorldEvent → WorldState → WorldState → Type 0
 HappenIn P G r [] w v = w ≡ v
 HappenIn P G r (e ∷ es) w v = IsPossibleIn P w e × HappenIn P G r es (world_after P G r w e) v

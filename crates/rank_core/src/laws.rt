@@ -10,7 +10,7 @@ ghost use Rattle.coll_data.specs.Data.{Data};
 ghost use Rattle.dep_iter.specs.Consistent.{IsConsistent};
 ghost use Rattle.flow_meaning.specs.Answer.{answer, ran};
 ghost use Rattle.flow_meaning.specs.Backward.{ended, inputs};
-ghost use Rattle.flow_meaning.specs.Counting.{HasSameMembers};
+ghost use Rattle.list_lemmas.specs.Counting.{HasSameMembers};
 ghost use Rattle.flow_meaning.specs.Ending.{output_tile};
 ghost use Rattle.flow_meaning.specs.Machine.{Event, Happen, IsQuiescent, MayClaim, MaySend, claim_count, end_in, sent_tile};
 ghost use Rattle.flow_meaning.specs.Order.{IsLegalOrder};
@@ -24,42 +24,59 @@ ghost use Rattle.rank_core.specs.Sound.{IsSoundWorld, message_count};
 /// runs twice, and the tasks that ran did so in a legal order.
 pub fn events_keep_worlds_sound()
     ensures opening { (P : Plan) (G : Data) (r : ℕ) → IsSoundWorld P G r opening_world }
-    ensures event { (P : Plan) (G : Data) (r : ℕ) (w : WorldState) (e : WorldEvent) → IsConsistent P → IsSoundWorld P G r w → IsPossibleIn P w e → IsSoundWorld P G r (world_after P G r w e) }
-    ensures events { (P : Plan) (G : Data) (r : ℕ) (es : List WorldEvent) (w v : WorldState) → IsConsistent P → IsSoundWorld P G r w → HappenIn P G r es w v → IsSoundWorld P G r v }
-    ensures once { (P : Plan) (G : Data) (r : ℕ) (w : WorldState) (t : Task) → IsSoundWorld P G r w → claim_count w.machine t ≤ 1 }
-    ensures legal { (P : Plan) (G : Data) (r : ℕ) (es : List WorldEvent) (w : WorldState) → IsConsistent P → HappenIn P G r es opening_world w → IsLegalOrder P w.machine.claims }
+    ensures event { (P : Plan) (G : Data) (r : ℕ) (w : WorldState) (e : WorldEvent) → IsConsistent P
+        → IsSoundWorld P G r w → IsPossibleIn P w e → IsSoundWorld P G r (world_after P G r w e) }
+    ensures events { (P : Plan) (G : Data) (r : ℕ) (es : List WorldEvent) (w v : WorldState) → IsConsistent P
+        → IsSoundWorld P G r w → HappenIn P G r es w v → IsSoundWorld P G r v }
+    ensures once { (P : Plan) (G : Data) (r : ℕ) (w : WorldState) (t : Task) → IsSoundWorld P G r w
+        → claim_count w.machine t ≤ 1 }
+    ensures legal { (P : Plan) (G : Data) (r : ℕ) (es : List WorldEvent) (w : WorldState) → IsConsistent P
+        → HappenIn P G r es opening_world w → IsLegalOrder P w.machine.claims }
 {}
 
 /// A law: what happens in a sound world is what some events of the event machine do, so a world is a run of it.
 pub fn world_events_are_machine_events()
-    ensures event { (P : Plan) (G : Data) (r : ℕ) (w : WorldState) (e : WorldEvent) → IsConsistent P → IsSoundWorld P G r w → IsPossibleIn P w e → (es : List Event) × Happen P G es w.machine (world_after P G r w e).machine }
-    ensures events { (P : Plan) (G : Data) (r : ℕ) (es : List WorldEvent) (w v : WorldState) → IsConsistent P → IsSoundWorld P G r w → HappenIn P G r es w v → (fs : List Event) × Happen P G fs w.machine v.machine }
+    ensures event { (P : Plan) (G : Data) (r : ℕ) (w : WorldState) (e : WorldEvent) → IsConsistent P
+        → IsSoundWorld P G r w → IsPossibleIn P w e
+        → (es : List Event) × Happen P G es w.machine (world_after P G r w e).machine }
+    ensures events { (P : Plan) (G : Data) (r : ℕ) (es : List WorldEvent) (w v : WorldState) → IsConsistent P
+        → IsSoundWorld P G r w → HappenIn P G r es w v → (fs : List Event) × Happen P G fs w.machine v.machine }
 {}
 
 /// A law: the tiles that stand for a task that may run, or that ran, are its inputs. On these it ends as the backward
 /// meaning says.
 pub fn a_task_runs_on_its_inputs()
-    ensures now { (P : Plan) (G : Data) (r : ℕ) (w : WorldState) (t : Task) → IsConsistent P → IsSoundWorld P G r w → MayClaim P w.machine t → delivered_tiles P (sent_tile w.machine) t ≡ inputs P G t }
-    ensures then { (P : Plan) (G : Data) (r : ℕ) (w : WorldState) (t : Task) → IsConsistent P → IsSoundWorld P G r w → IsIn t w.machine.claims → delivered_tiles P (sent_tile w.machine) t ≡ inputs P G t }
-    ensures end { (P : Plan) (G : Data) (r : ℕ) (w : WorldState) (t : Task) → IsConsistent P → IsSoundWorld P G r w → MayClaim P w.machine t → (ended P G t ≡ end_in P G w.machine t) × IsSome (ended P G t) }
+    ensures now { (P : Plan) (G : Data) (r : ℕ) (w : WorldState) (t : Task) → IsConsistent P → IsSoundWorld P G r w
+        → MayClaim P w.machine t → delivered_tiles P (sent_tile w.machine) t ≡ inputs P G t }
+    ensures then { (P : Plan) (G : Data) (r : ℕ) (w : WorldState) (t : Task) → IsConsistent P → IsSoundWorld P G r w
+        → IsIn t w.machine.claims → delivered_tiles P (sent_tile w.machine) t ≡ inputs P G t }
+    ensures end { (P : Plan) (G : Data) (r : ℕ) (w : WorldState) (t : Task) → IsConsistent P → IsSoundWorld P G r w
+        → MayClaim P w.machine t → (ended P G t ≡ end_in P G w.machine t) × IsSome (ended P G t) }
 {}
 
 /// A law: a sound world is quiescent exactly where the state that it stands for is, so where no event is possible.
 pub fn quiet_worlds_are_quiescent()
-    ensures { (P : Plan) (G : Data) (r : ℕ) (w : WorldState) → IsConsistent P → IsSoundWorld P G r w → IsQuiet P w ↔ IsQuiescent P G w.machine }
+    ensures { (P : Plan) (G : Data) (r : ℕ) (w : WorldState) → IsConsistent P → IsSoundWorld P G r w
+        → IsQuiet P w ↔ IsQuiescent P G w.machine }
 {}
 
 /// A law: in a quiescent world, for every number of ranks, the tasks that ran are those that run, each once; the
 /// answer is the job's; and as many messages were sent as there are edges between ranks whose source has outputs.
 pub fn a_quiet_world_has_the_meaning()
-    ensures claims { (P : Plan) (G : Data) (r : ℕ) (w : WorldState) → IsConsistent P → IsSoundWorld P G r w → IsQuiet P w → HasSameMembers w.machine.claims (ran P G) }
-    ensures answer { (P : Plan) (G : Data) (r : ℕ) (w : WorldState) → IsConsistent P → IsSoundWorld P G r w → IsQuiet P w → answer P G ≡ state_answer P G w.machine }
-    ensures messages { (P : Plan) (G : Data) (r : ℕ) (w : WorldState) → IsConsistent P → IsSoundWorld P G r w → IsQuiet P w → length w.messages ≡ message_count P G r }
+    ensures claims { (P : Plan) (G : Data) (r : ℕ) (w : WorldState) → IsConsistent P → IsSoundWorld P G r w
+        → IsQuiet P w → HasSameMembers w.machine.claims (ran P G) }
+    ensures answer { (P : Plan) (G : Data) (r : ℕ) (w : WorldState) → IsConsistent P → IsSoundWorld P G r w
+        → IsQuiet P w → answer P G ≡ state_answer P G w.machine }
+    ensures messages { (P : Plan) (G : Data) (r : ℕ) (w : WorldState) → IsConsistent P → IsSoundWorld P G r w
+        → IsQuiet P w → length w.messages ≡ message_count P G r }
 {}
 
 /// A law: no two messages of a world are of one edge. The edge of a message that does not stand may be sent, with its
 /// tile.
 pub fn a_message_is_an_edge_of_its_own()
-    ensures once { (P : Plan) (G : Data) (r : ℕ) (w : WorldState) → IsConsistent P → IsSoundWorld P G r w → HasNoRepeats (map (λ (m : Message). m.edge) w.messages) }
-    ensures may { (P : Plan) (G : Data) (r : ℕ) (w : WorldState) (m : Message) → IsConsistent P → IsSoundWorld P G r w → IsIn m w.messages → IsFalse (stands w.machine m) → MaySend P G w.machine (item.Edge m.edge) × (m.tile ≡ output_tile (ended P G m.edge.from) m.edge.out_flow) }
+    ensures once { (P : Plan) (G : Data) (r : ℕ) (w : WorldState) → IsConsistent P → IsSoundWorld P G r w
+        → HasNoRepeats (map (λ (m : Message). m.edge) w.messages) }
+    ensures may { (P : Plan) (G : Data) (r : ℕ) (w : WorldState) (m : Message) → IsConsistent P → IsSoundWorld P G r w
+        → IsIn m w.messages → IsFalse (stands w.machine m)
+        → MaySend P G w.machine (item.Edge m.edge) × (m.tile ≡ output_tile (ended P G m.edge.from) m.edge.out_flow) }
 {}

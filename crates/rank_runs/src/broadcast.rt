@@ -11,7 +11,8 @@ use std::alloc::Global;
 use std::fmt;
 
 // Src(0) sends one tile to three tasks Sink(i). Each adds i and writes it back to its own place. In three ranks Src(0)
-// and Sink(0) are of rank 0, Sink(1) of rank 1 and Sink(2) of rank 2; message 0 goes to Sink(1) and message 1 to Sink(2).
+// and Sink(0) are of rank 0, Sink(1) of rank 1 and Sink(2) of rank 2; message 0 goes to Sink(1) and message 1 to
+// Sink(2).
 const JDF: &[u8] = b"D
 
 Src(z)

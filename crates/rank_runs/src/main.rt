@@ -1,5 +1,5 @@
-//! Runs jobs in worlds of ranks and prints how they end: a broadcast whose messages come late, in other orders and again,
-//! and jobs that are driven in the orders of several seeds.
+//! Runs jobs in worlds of ranks and prints how they end: a broadcast whose messages come late, in other orders and
+//! again, and jobs that are driven in the orders of several seeds.
 #![tactic(auto)]
 
 mod broadcast;

@@ -14,17 +14,18 @@ use Rattle.plan_core.specs.Kinds.{is_data}
 use Rattle.coll_data.specs.Data.{Data}
 use Rattle.coll_data.specs.WellMade.{IsWellMade}
 use Rattle.plan_data.specs.Fit.{DataFit}
-use Rattle.range_space.proofs.Stepping.{by_test}
+use Rattle.list_lemmas.proofs.Truth.{by_test}
+use Rattle.list_lemmas.proofs.Counts.{weigh-push}
+use Rattle.list_lemmas.proofs.Places.{IsIn-slice_get}
 use Rattle.dep_iter.specs.Consistent.{IsConsistent}
 use Rattle.dep_shard.specs.Content.{Content, IsTileOf}
 use Rattle.flow_meaning.specs.Backward.{ended}
 use Rattle.flow_meaning.specs.Comparing.{same_item}
-use Rattle.flow_meaning.specs.Counting.{as_number}
+use Rattle.list_lemmas.specs.Counting.{as_number}
 use Rattle.flow_meaning.specs.Ending.{output_tile}
 use Rattle.flow_meaning.specs.Machine.{MachineState, MaySend, Send, Sent, is_sent, send_count, sent_with, state_after}
 use Rattle.flow_meaning.specs.Sound.{IsSoundState}
 use Rattle.flow_meaning.proofs.Comparing.{same_item-decides}
-use Rattle.flow_meaning.proofs.Counting.{weigh-push}
 use Rattle.shard_meaning.specs.Moment.{Moment, with_send}
 use Rattle.shard_meaning.specs.Share.{IsShardOf, Placement}
 use Rattle.shard_meaning.proofs.Sends.{edge_away, edge_here}
@@ -38,7 +39,6 @@ use Rattle.rank_core.proofs.Messages.{edges_once}
 use Rattle.rank_core.proofs.Running.{message_is, message_may}
 use Rattle.rank_world.specs.Keeping.{IsUnderWay, at_rest, unless_it_stands}
 use Rattle.rank_world.specs.Sending.{MayTakeEdge, TakesEdge}
-use Rattle.rank_world.proofs.Keeping.{member_at}
 
 -- an edge that may be sent may come to the rank of its target, with the tile that its task leaves
 pub may_take_edge : (P : Plan) (G : Data) → IsConsistent P → DataFit P.colls P.elems G → IsWellMade G → (of : Placement) (k : ℕ) (R : Moment) → IsSoundState P G R.state → (e : Edge) → MaySend P G R.state (item.Edge e) → of e.to ≡ k → (y : Content) → IsShardOf P G of k R y
@@ -63,11 +63,11 @@ may_take_edge P G con fit well of k R sound e may at y h =
 one_index : {A : Type 0} (xs : List A) → HasNoRepeats xs → (n q : ℕ) (x : A) → slice_get xs n ≡ Some x → slice_get xs q ≡ Some x → n ≡ q
 one_index [] h n q x a b = absurd cc
 one_index (y ∷ ys) h zero zero x a b = refl
-one_index {A} (y ∷ ys) h zero (suc q) x a b = absurd (h.0 (subst (λ z. IsIn z ys) (same y a) (member_at ys q x b)))
+one_index {A} (y ∷ ys) h zero (suc q) x a b = absurd (h.0 (subst (λ z. IsIn z ys) (same y a) (IsIn-slice_get ys q x b)))
   where
     same : (z : A) → Some z ≡ Some x → x ≡ z
     same z e = cc
-one_index {A} (y ∷ ys) h (suc n) zero x a b = absurd (h.0 (subst (λ z. IsIn z ys) (same y b) (member_at ys n x a)))
+one_index {A} (y ∷ ys) h (suc n) zero x a b = absurd (h.0 (subst (λ z. IsIn z ys) (same y b) (IsIn-slice_get ys n x a)))
   where
     same : (z : A) → Some z ≡ Some x → x ≡ z
     same z e = cc
@@ -80,7 +80,7 @@ mapped_at f (y ∷ ys) (suc n) x e = mapped_at f ys n x e
 
 module _ (P : Plan) (G : Data) (con : IsConsistent P) (r : ℕ) (w : WorldState) (sound : IsSoundWorld P G r w) (n : ℕ) (m : Message) (is : slice_get w.messages n ≡ Some m) where
   among : IsIn m w.messages
-  among = member_at w.messages n m is
+  among = IsIn-slice_get w.messages n m is
 
   module _ (new : stands w.machine m ≡ false) where
     pub may : MaySend P G w.machine (item.Edge m.edge)

@@ -1,5 +1,5 @@
 -- What the ranks and the mail of a world say of it, between two events.
-use Rattle.std.proofs.Common.{◌≡◌, ◌<◌, ◌+◌, nat_eq, ℕ, zero, suc, true, false, cond, List, [], ◌∷◌, length, refl, ap, sym, ◌∙◌, subst, inl, inr, Option, Some, None, slice_get, arith}
+use Rattle.std.proofs.Common.{◌≡◌, ◌<◌, ◌+◌, nat_eq, ℕ, true, false, cond, List, [], ◌∷◌, length, refl, ap, sym, ◌∙◌, subst, Option, Some, None, slice_get}
 use Rattle.std.proofs.lemmas.Nat.{mod_below}
 use Rattle.std.specs.Cmp.{unsigned_Decides}
 use Rattle.std.specs.Map.{lookup}
@@ -7,7 +7,8 @@ use Rattle.ptg_base.specs.Lists.{IsIn}
 use Rattle.ptg_base.specs.Task.{Task}
 use Rattle.plan_core.specs.declared.plan.Plan.{Plan}
 use Rattle.coll_data.specs.Data.{Data}
-use Rattle.range_space.proofs.Stepping.{by_test}
+use Rattle.list_lemmas.proofs.Truth.{by_test}
+use Rattle.list_lemmas.proofs.Places.{slice_get_there, place_of_member, IsIn-slice_get}
 use Rattle.dep_iter.specs.Consistent.{IsConsistent}
 use Rattle.dep_iter.specs.Hints.{affinity, place_number}
 use Rattle.dep_shard.specs.Content.{Content, Entry, IsReady, entry_of}
@@ -28,24 +29,6 @@ use Rattle.rank_world.specs.Opened.{AreOpeningRanks}
 pub rank_below : (P : Plan) (r : ℕ) (t : Task) → 0 < r → rank_of P r t < r
 unfolding rank_of
 rank_below P r t some = mod_below ((affinity P t).coll + place_number P (affinity P t)) r some
-
--- a member at an index, and the index of a member
-pub found_at : {A : Type 0} (xs : List A) (k : ℕ) → k < length xs → (x : A) × (slice_get xs k ≡ Some x)
-found_at [] k h = absurd (omega arith)
-found_at (x ∷ xs) zero h = (x, refl)
-found_at (x ∷ xs) (suc k) h = found_at xs k (omega arith)
-
-pub index_of : {A : Type 0} (xs : List A) (x : A) → IsIn x xs → (n : ℕ) × (slice_get xs n ≡ Some x)
-index_of [] x i = absurd i
-index_of (y ∷ ys) x i = elim i [ inl e ↦ (0, ap (λ z. Some z) (sym e)) | inr t ↦ (let p = index_of ys x t in (suc p.0, p.1)) ]
-
-pub member_at : {A : Type 0} (xs : List A) (k : ℕ) (x : A) → slice_get xs k ≡ Some x → IsIn x xs
-member_at [] k x e = absurd cc
-member_at {A} (y ∷ ys) zero x e = inl (one y e)
-  where
-    one : (z : A) → Some z ≡ Some x → x ≡ z
-    one z q = cc
-member_at (y ∷ ys) (suc k) x e = inr (member_at ys k x e)
 
 -- what is under way
 pub under_way_none : (S : MachineState) (m : Message) → None ≡ unless_it_stands S (Some m) → stands S m ≡ true
@@ -70,7 +53,7 @@ opening_mail n = ap (unless_it_stands opening_world.machine) (sym (nothing_at n)
 -- nothing is under way where each message stands, and then only
 all_none : (S : MachineState) (ms : List Message) → ((m : Message) → IsIn m ms → stands S m ≡ true) → (n : ℕ) (o : Option Message) → slice_get ms n ≡ o → unless_it_stands S o ≡ None
 all_none S ms all n None e = refl
-all_none S ms all n (Some m) e = ap (λ b. cond b None (Some m)) (all m (member_at ms n m e))
+all_none S ms all n (Some m) e = ap (λ b. cond b None (Some m)) (all m (IsIn-slice_get ms n m e))
 
 pub mail_empty : (S : MachineState) (ms : List Message) (table : List (ℕ × Message)) → IsUnderWay S ms table → ((m : Message) → IsIn m ms → stands S m ≡ true) → table ≡ []
 mail_empty S ms [] under all = refl
@@ -82,7 +65,7 @@ mail_empty S ms (p ∷ ps) under all =
 
 pub empty_stands : (S : MachineState) (ms : List Message) (table : List (ℕ × Message)) → IsUnderWay S ms table → table ≡ [] → (m : Message) → IsIn m ms → stands S m ≡ true
 empty_stands S ms table under none m i =
-    let p = index_of ms m i in
+    let p = place_of_member ms m i in
     let at : lookup (nat_eq p.0) table ≡ None = ap (lookup (nat_eq p.0)) none in
     under_way_none S m (sym at ∙ under p.0 ∙ ap (unless_it_stands S) p.1)
 
@@ -93,7 +76,7 @@ module _ (P : Plan) (G : Data) (w : WorldState) (ys : List Content) (some : 0 < 
 
   pub quiet_by_ranks : ((k : ℕ) (y : Content) → slice_get ys k ≡ Some y → HasNoWork y) → (t : Task) → MayClaim P w.machine t → ⊥
   quiet_by_ranks idle t may =
-      let p = found_at ys (rank_of P (length ys) t) (rank_below P (length ys) t some) in
+      let p = slice_get_there ys (rank_of P (length ys) t) (rank_below P (length ys) t some) in
       let e = ready_at t (rank_of P (length ys) t) p.0 p.1 refl may in
       (idle (rank_of P (length ys) t) p.0 p.1).ready t e.0 e.1 e.2
 

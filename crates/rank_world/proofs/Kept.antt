@@ -26,7 +26,8 @@ use Rattle.rank_world.specs.Keeping.{IsUnderWay, Keeps, at_rest}
 use Rattle.rank_world.specs.Opened.{AreOpeningRanks}
 use Rattle.rank_world.specs.Sending.{MayTakeEdge}
 use Rattle.rank_world.proofs.Delivering.{away, here, its_tile, mail_then, may, may_take_edge}
-use Rattle.rank_world.proofs.Keeping.{found_at, opening_mail, opening_shares, rank_below, ready_at}
+use Rattle.rank_world.proofs.Keeping.{opening_mail, opening_shares, rank_below, ready_at}
+use Rattle.list_lemmas.proofs.Places.{slice_get_there}
 
 -- what follows where an `IfSome` or an `IfNone` holds
 pub if_some : {A : Type 0} {Q R : A → Type 0} (o : Option A) → ((x : A) → Q x → R x) → IfSome o Q → IfSome o R
@@ -53,7 +54,7 @@ new_keeps P G n ys w laid mail con fit some few ranks is bench none zero_sent = 
 module _ (P : Plan) (G : Data) (w : WorldState) (old : List Content) (laid : Laid) (mail : Mail) (k : Keeps P G w old laid mail) where
   -- the rank of a task is one of the ranks
   pub rank_at : (t : Task) → (y : Content) × (slice_get old (rank_of P (length old) t) ≡ Some y)
-  rank_at t = found_at old (rank_of P (length old) t) (rank_below P (length old) t k.some_ranks)
+  rank_at t = slice_get_there old (rank_of P (length old) t) (rank_below P (length old) t k.some_ranks)
 
   -- nothing but spares has changed
   pub stays : (i : ℕ) (new : List Content) → i < length old → StaysAt i old new → Keeps P G w new laid mail
@@ -71,7 +72,7 @@ module _ (P : Plan) (G : Data) (w : WorldState) (old : List Content) (laid : Lai
       share : (j : ℕ) (z : Content) → slice_get new j ≡ Some z → IsShardOf P G (rank_of P (length old)) j (at_rest w.machine) z
       share j z at = elim (cases_eq j i) [
         | inl same ↦
-            let y = found_at old j (omega (arith, same, near)) in
+            let y = slice_get_there old j (omega (arith, same, near)) in
             let own = ap (slice_get old) (sym same) ∙ y.1 in
             let new_own = ap (slice_get new) (sym same) ∙ at in
             unchanged P G (rank_of P (length old)) j (at_rest w.machine) y.0 z (s.here y.0 z own new_own) (k.shares j y.0 y.1)
@@ -81,14 +82,14 @@ module _ (P : Plan) (G : Data) (w : WorldState) (old : List Content) (laid : Lai
   -- the best task of a rank may run, and none may where the rank has none
   pub best_may : (i : ℕ) (t : Task) → i < length old → ((y : Content) → slice_get old i ≡ Some y → IsBest y.entries t) → MayClaim P w.machine t × (rank_of P (length old) t ≡ i)
   best_may i t near best =
-      let y = found_at old i near in
+      let y = slice_get_there old i near in
       let b = best y.0 y.1 in
       let share = k.shares i y.0 y.1 in
       (ready_may P G (rank_of P (length old)) i (at_rest w.machine) y.0 share t b.entry b.is b.ready, (share.only t b.entry b.is).1)
 
   pub none_may : (i : ℕ) → i < length old → ((y : Content) → slice_get old i ≡ Some y → HasNoReady y.entries) → (t : Task) → rank_of P (length old) t ≡ i → MayClaim P w.machine t → ⊥
   none_may i near none t at may =
-      let y = found_at old i near in
+      let y = slice_get_there old i near in
       let e = ready_at P G w old k.some_ranks k.shares t i y.0 y.1 at may in
       none y.0 y.1 t e.0 e.1 e.2
 

@@ -1,13 +1,13 @@
 -- What a task leaves within its rank, item after item, and the room for it.
 use Rattle.std.proofs.Common.{◌≡◌, ◌<◌, ◌≤◌, nat_eq, ℕ, ℤ, suc, Bool, true, false, not, cond, List, [], ◌∷◌, ◌++◌, length, map, refl, ap, sym, ◌∙◌, subst, append_assoc, inl, Option, Some, None, is_some, arith}
 use Rattle.std.proofs.lemmas.List.{append-nil, map-append}
-use Rattle.std.specs.List.{filter}
 use Rattle.ptg_base.specs.Lists.{IsIn}
 use Rattle.ptg_base.specs.declared.edge.Edge.{Edge}
 use Rattle.ptg_base.specs.declared.edge.WriteBack.{WriteBack}
 use Rattle.ptg_base.specs.declared.edge.Item.TheVariants as item
-use Rattle.range_space.proofs.MemberLists.{IsIn-append_right}
-use Rattle.range_space.proofs.Stepping.{by_test}
+use Rattle.list_lemmas.proofs.Members.{IsIn-append_right}
+use Rattle.list_lemmas.proofs.Truth.{by_test}
+use Rattle.std.proofs.lemmas.List.Elements.{filter-append}
 use Rattle.plan_core.specs.declared.plan.Plan.{Plan}
 use Rattle.dep_iter.specs.Items.{out_edges, write_backs}
 use Rattle.dep_iter.specs.Tasks.{IsTask}
@@ -21,13 +21,6 @@ use Rattle.rank_world.specs.declared.visit.Visit.{Visit}
 use Rattle.rank_world.specs.Sending.{HasRoomFor, MayTakeEdge, MayTakeWrite, TakesEdge, TakesWrite}
 use Rattle.rank_world.specs.Visits.{HoldsAt, IsVisit, data_of, its_writes, part_way, plan_of, within_among}
 use Rattle.rank_world.proofs.Parts.{by_task, edge_holds, may_edge, may_write, write_holds}
-
-filter-append : {A : Type 0} (p : A → Bool) (xs ys : List A) → filter p (xs ++ ys) ≡ filter p xs ++ filter p ys
-filter-append p [] ys = refl
-filter-append p (x ∷ xs) ys =
-    by_test (p x)
-    (λ k. ap (λ b. cond b (x ∷ filter p (xs ++ ys)) (filter p (xs ++ ys))) k ∙ ap (λ l. x ∷ l) (filter-append p xs ys) ∙ ap (λ b. cond b (x ∷ filter p xs) (filter p xs) ++ filter p ys) (sym k))
-    (λ k. ap (λ b. cond b (x ∷ filter p (xs ++ ys)) (filter p (xs ++ ys))) k ∙ filter-append p xs ys ∙ ap (λ b. cond b (x ∷ filter p xs) (filter p xs) ++ filter p ys) (sym k))
 
 one_tile : (d k : ℕ) → tiles_used (Some d) k ≤ 1
 one_tile d k = by (nat_eq d k)

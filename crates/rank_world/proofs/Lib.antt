@@ -1,4 +1,3 @@
-pub mod Sums
 pub mod TaskWalks
 pub mod OpeningSteps
 pub mod Opened

@@ -1,14 +1,15 @@
 -- What a task will send, edge after edge.
-use Rattle.std.proofs.Common.{◌≡◌, ◌+◌, ◌<◌, ◌≤◌, ℕ, ℤ, true, false, not, cond, List, [], ◌∷◌, ◌++◌, length, map, refl, ap, sym, ◌∙◌, subst, append_assoc, inl, inr, Option, Some, None, Ok, slice_index, arith}
-use Rattle.std.proofs.lemmas.List.{append-nil, length-append, map-append}
+use Rattle.std.proofs.Common.{◌≡◌, ◌+◌, ◌<◌, ◌≤◌, ℕ, ℤ, true, false, not, cond, List, [], ◌∷◌, ◌++◌, length, map, refl, ap, sym, ◌∙◌, subst, append_assoc, inl, Option, Some, None, Ok, slice_index, arith}
+use Rattle.std.proofs.lemmas.List.{append-nil, length-append, map-append, length-map}
 use Rattle.std.proofs.lemmas.List.Elements.{filter-append}
 use Rattle.std.specs.Map.{lookup}
 use Rattle.std.specs.Prelude.{nat_eq, option_map}
-use Rattle.ptg_base.specs.Lists.{HasNoRepeats, IsIn}
+use Rattle.ptg_base.specs.Lists.{IsIn}
 use Rattle.ptg_base.specs.declared.edge.Edge.{Edge}
 use Rattle.ptg_base.specs.declared.edge.Item.TheVariants as item
-use Rattle.range_space.proofs.MemberLists.{IsIn-append_right, IsIn-flat_map, from_map}
-use Rattle.range_space.proofs.Stepping.{by_test}
+use Rattle.list_lemmas.proofs.Members.{IsIn-append_right, IsIn-flat_map, from_map}
+use Rattle.list_lemmas.proofs.Truth.{by_test}
+use Rattle.list_lemmas.proofs.Distinct.{no_longer}
 use Rattle.plan_core.specs.declared.plan.Plan.{Plan}
 use Rattle.plan_core.specs.Kinds.{is_data}
 use Rattle.coll_data.specs.Data.{Data}
@@ -19,7 +20,6 @@ use Rattle.dep_iter.proofs.Listing.{listed}
 use Rattle.flow_meaning.specs.Backward.{ended}
 use Rattle.flow_meaning.specs.Ending.{has_outputs, output_tile}
 use Rattle.flow_meaning.specs.Machine.{MaySend, claim_count, end_in, send_count}
-use Rattle.flow_meaning.proofs.Counting.{without, without-length}
 use Rattle.shard_meaning.proofs.Typing.{edge_empty, edge_flow, edge_typed}
 use Rattle.rank_core.specs.declared.message.Message.{Message}
 use Rattle.rank_core.specs.Sound.{IsSoundWorld}
@@ -109,26 +109,6 @@ module _ (v : Visit) (h : IsVisit v) where
   pub outgoing_within : (whole : List Edge) → whole ≡ out_edges (plan_of v) v.task.now → (o : Outgoing) → OutgoingSoFar v whole [] o → o.within ≡ length (within_among v (out_edges (plan_of v) v.task.now))
   outgoing_within whole are o l = l.within ∙ ap (λ es. length (within_among v es)) (outgoing_all whole are o l)
 
--- a list without repeats whose members are all in another is no longer than it
-still : {A : Type 0} (x t : A) (zs : List A) (i : IsIn x zs) → IsIn t zs → (t ≡ x → ⊥) → IsIn t (without x zs i)
-unfolding without
-still x t [] i j other = absurd i
-still x t (z ∷ zs) (inl e) (inl q) other = absurd (other (q ∙ sym e))
-still x t (z ∷ zs) (inl e) (inr j) other = j
-still x t (z ∷ zs) (inr i) (inl q) other = inl q
-still x t (z ∷ zs) (inr i) (inr j) other = inr (still x t zs i j other)
-
-no_longer : {A : Type 0} (xs ys : List A) → HasNoRepeats xs → ((x : A) → IsIn x xs → IsIn x ys) → length xs ≤ length ys
-no_longer [] ys once among = omega arith
-no_longer (x ∷ xs) ys once among =
-    let i = among x (inl refl) in
-    let rest : length xs ≤ length (without x ys i) = no_longer xs (without x ys i) once.1 (λ t j. still x t ys i (among t (inr j)) (λ same. once.0 (subst (λ u. IsIn u xs) same j))) in
-    omega (arith, rest, without-length x ys i)
-
-length-map : {A B : Type 0} (f : A → B) (xs : List A) → length (map f xs) ≡ length xs
-length-map f [] = refl
-length-map f (x ∷ xs) = omega (arith, length-map f xs)
-
 -- no more messages are sent than a job may have edges
 pub messages_at_most : (P : Plan) (G : Data) (r : ℕ) (w : WorldState) → IsConsistent P → IsSoundWorld P G r w → length w.messages ≤ 4000000
 messages_at_most P G r w con sound =
@@ -140,7 +120,7 @@ messages_at_most P G r w con sound =
     let out = between_is_out P p.0.edge.from r p.0.edge is.among in
     let job = (sound.state.claimed_have_all p.0.edge.from is.claimed).task in
     (con.same_edges e).1 (subst (λ d. IsIn d (all_out P)) (sym p.2) (IsIn-flat_map (out_edges P) (all_tasks P) p.0.edge.from p.0.edge ((listed P p.0.edge.from).0 job) out))) in
-    omega (arith, few, con.in_edges_at_most, length-map (λ (m : Message). m.edge) w.messages)
+    omega (arith, few, con.in_edges_at_most, length-map w.messages (λ (m : Message). m.edge))
 
 module _ (v : Visit) (h : IsVisit v) (tiles : List (Option (List ℤ))) (ends : ended (plan_of v) (data_of v) v.task.now ≡ Some (Ok tiles)) where
   outputs : has_outputs (ended (plan_of v) (data_of v) v.task.now) ≡ true
@@ -235,8 +215,8 @@ module _ (v : Visit) (h : IsVisit v) (tiles : List (Option (List ℤ))) (ends : 
           l.sent,
           length-append (before v).messages (map (message_from (Some (Ok tiles))) (l.done ++ the_edge.edge ∷ the_edge.later)),
           length-append (before v).messages (map (message_from (Some (Ok tiles))) l.done),
-          length-map (message_from (Some (Ok tiles))) (l.done ++ the_edge.edge ∷ the_edge.later),
-          length-map (message_from (Some (Ok tiles))) l.done,
+          length-map (l.done ++ the_edge.edge ∷ the_edge.later) (message_from (Some (Ok tiles))),
+          length-map l.done (message_from (Some (Ok tiles))),
           length-append l.done (the_edge.edge ∷ the_edge.later),
         )
 

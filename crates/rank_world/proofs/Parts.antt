@@ -9,7 +9,8 @@ use Rattle.ptg_base.specs.declared.edge.WriteBack.{WriteBack}
 use Rattle.ptg_base.specs.declared.edge.Item.{Item}
 use Rattle.ptg_base.specs.declared.edge.Item.TheVariants as item
 use Rattle.term_core.specs.declared.trap.Trap.{Trap}
-use Rattle.range_space.proofs.MemberLists.{IsIn-append_left, IsIn-append_right, from_append, from_map}
+use Rattle.list_lemmas.proofs.Members.{IsIn-append_left, IsIn-append_right, from_append, from_map, IsIn-filter}
+use Rattle.list_lemmas.proofs.Distinct.{HasNoRepeats-left}
 use Rattle.plan_core.specs.declared.plan.Plan.{Plan}
 use Rattle.coll_data.specs.Data.{Data}
 use Rattle.dep_iter.specs.Items.{item_flow, items, out_edges, write_backs}
@@ -17,12 +18,11 @@ use Rattle.dep_iter.specs.Tasks.{IsTask}
 use Rattle.dep_shard.specs.Arrivals.{FlowTile}
 use Rattle.dep_shard.specs.Content.{Content, Ends, IsTileOf, KeepsEntriesAndWritten, Takes}
 use Rattle.flow_meaning.specs.Backward.{ended}
-use Rattle.flow_meaning.specs.Counting.{as_number}
+use Rattle.list_lemmas.specs.Counting.{as_number}
 use Rattle.flow_meaning.specs.Ending.{has_outputs, output_tile}
 use Rattle.flow_meaning.specs.Machine.{Claim, Event, Happen, end_in, IsPossible, MachineState, MaySend, Send, Sent, sender, sent_with, state_after}
 use Rattle.flow_meaning.specs.Sound.{IsSoundState}
 use Rattle.flow_meaning.proofs.Events.{claim_sound, happen_sound}
-use Rattle.flow_meaning.proofs.Quiet.{filtered}
 use Rattle.flow_meaning.proofs.Rest.{item_sender}
 use Rattle.shard_meaning.specs.Moment.{Moment, run_count, with_claim, with_end, with_send, without_task}
 use Rattle.shard_meaning.specs.Share.{IsShardOf}
@@ -49,10 +49,6 @@ happen-last P G (x ∷ es) e S T U h k = happen-last P G es e (state_after P G S
 pub get_ok : {X E Q : Type 0} (r : Result X E) → IsOk r → OnOk r Q → Q
 get_ok (Ok x) k q = q
 get_ok (Err e) k q = absurd (false≢true k)
-
-once-left : {A : Type 0} (xs ys : List A) → HasNoRepeats (xs ++ ys) → HasNoRepeats xs
-once-left [] ys h = tt
-once-left (x ∷ xs) ys h = (λ i. h.0 (IsIn-append_left x xs ys i), once-left xs ys h.1)
 
 module _ (v : Visit) (h : IsVisit v) where
   -- the task ends as its body says
@@ -122,7 +118,7 @@ module _ (v : Visit) (h : IsVisit v) where
     happens is rest split =
         part_happens (plan_of v) (data_of v) h.consistent v.ranks (before v) h.sound v.task.now h.may outputs is
         (λ i m. is_item i (subst (IsIn i) split (IsIn-append_left i is rest m)))
-        (once-left is rest (subst HasNoRepeats (sym split) (within_once (plan_of v) h.consistent v.task.now h.may.task v.ranks)))
+        (HasNoRepeats-left is rest (subst HasNoRepeats (sym split) (within_once (plan_of v) h.consistent v.task.now h.may.task v.ranks)))
 
     pub part_sound : (is rest : List Item) → is ++ rest ≡ all → IsSoundState (plan_of v) (data_of v) (part_way v is).state
     part_sound is rest split = happen_sound (plan_of v) (data_of v) h.consistent (Claim v.task.now ∷ map Send is) (before v).machine (part_way v is).state h.sound.state (happens is rest split)
@@ -222,7 +218,7 @@ module _ (v : Visit) (h : IsVisit v) where
       within_of : (i : Item) → IsIn i (map item.Edge (edges_within (plan_of v) v.ranks v.task.now)) → (e : Edge) × (i ≡ item.Edge e) × (is_between (plan_of v) v.ranks e ≡ false)
       within_of i m =
           let p = from_map (λ (e : Edge). item.Edge e) (edges_within (plan_of v) v.ranks v.task.now) i m in
-          let k = ((filtered (λ e. not (is_between (plan_of v) v.ranks e)) (out_edges (plan_of v) v.task.now) p.0).0 p.1).1 in
+          let k = ((IsIn-filter (λ e. not (is_between (plan_of v) v.ranks e)) (out_edges (plan_of v) v.task.now) p.0).0 p.1).1 in
           (p.0, p.2, flipped (is_between (plan_of v) v.ranks p.0) k)
         where
           flipped : (b : Bool) → not b ≡ true → b ≡ false

@@ -9,17 +9,17 @@ use Rattle.ptg_base.specs.declared.edge.Edge.{Edge}
 use Rattle.ptg_base.specs.declared.edge.WriteBack.{WriteBack}
 use Rattle.ptg_base.specs.declared.edge.Item.{Item}
 use Rattle.ptg_base.specs.declared.edge.Item.TheVariants as item
-use Rattle.range_space.proofs.MemberLists.{from_append, from_map}
-use Rattle.range_space.proofs.Stepping.{by_test}
+use Rattle.list_lemmas.proofs.Members.{from_append, from_map, IsIn-filter}
+use Rattle.list_lemmas.proofs.Truth.{by_test}
+use Rattle.list_lemmas.proofs.Counts.{some_passes, weigh-append}
+use Rattle.list_lemmas.proofs.Places.{IsIn-slice_get}
 use Rattle.dep_iter.specs.Items.{out_edges, write_backs}
 use Rattle.flow_meaning.specs.Comparing.{same_item}
-use Rattle.flow_meaning.specs.Counting.{as_number, weigh}
+use Rattle.list_lemmas.specs.Counting.{as_number, weigh}
 use Rattle.flow_meaning.specs.Ending.{Ended, has_outputs}
 use Rattle.flow_meaning.specs.Machine.{MachineState, Sent, claim_count, end_in, send_count, sender}
 use Rattle.flow_meaning.proofs.Comparing.{same_item-decides}
-use Rattle.flow_meaning.proofs.Counting.{some_passes, weigh-append}
 use Rattle.flow_meaning.proofs.Events.{member_claim}
-use Rattle.flow_meaning.proofs.Quiet.{filtered}
 use Rattle.flow_meaning.proofs.Rest.{item_sender}
 use Rattle.rank_core.specs.declared.message.Message.{Message}
 use Rattle.rank_core.specs.World.{edges_between, edges_within, is_between, item_from, items_by, items_within, message_from, stands}
@@ -28,7 +28,6 @@ use Rattle.rank_core.proofs.Running.{items_with, items_without, message_is, uncl
 use Rattle.rank_world.specs.declared.visit.Visit.{Visit}
 use Rattle.rank_world.specs.Keeping.{IsUnderWay, unless_it_stands}
 use Rattle.rank_world.specs.Visits.{IsVisit, after, before, data_of, plan_of}
-use Rattle.rank_world.proofs.Keeping.{member_at}
 
 -- a longer list, at its end and elsewhere
 last_at : {A : Type 0} (xs : List A) (x : A) → slice_get (xs ++ x ∷ []) (length xs) ≡ Some x
@@ -94,12 +93,12 @@ module _ (v : Visit) (h : IsVisit v) where
     where
       same : (o : Option Message) → slice_get (before v).messages q ≡ o → unless_it_stands (before v).machine o ≡ unless_it_stands (after v).machine o
       same None e = refl
-      same (Some m) e = ap (λ c. cond (nat_lt 0 c) None (Some m)) (sym (earlier m (member_at (before v).messages q m e)))
+      same (Some m) e = ap (λ c. cond (nat_lt 0 c) None (Some m)) (sym (earlier m (IsIn-slice_get (before v).messages q m e)))
 
   -- an edge to another rank does not stand after the run
   pub between_waits : (end : Option Ended) (e : Edge) → IsIn e (edges_between (plan_of v) v.ranks v.task.now) → stands (after v).machine (message_from end e) ≡ false
   between_waits end e i =
-      let p = (filtered (is_between (plan_of v) v.ranks) (out_edges (plan_of v) v.task.now) e).0 i in
+      let p = (IsIn-filter (is_between (plan_of v) v.ranks) (out_edges (plan_of v) v.task.now) e).0 i in
       let from : e.from ≡ v.task.now = out_from (plan_of v) v.task.now e p.0 in
       let none = unclaimed_unsent (plan_of v) (data_of v) (before v).machine h.sound.state (item.Edge e) (ap (claim_count (before v).machine) from ∙ h.may.unclaimed) in
       let kept = as_before (item.Edge e) (λ x j same. not_within e p.1 (subst (λ k. IsIn k (items_within (plan_of v) v.ranks v.task.now)) same (sent_within (end_in (plan_of v) (data_of v) (before v).machine v.task.now) x j))) in
@@ -111,7 +110,7 @@ module _ (v : Visit) (h : IsVisit v) where
         | inr right ↦
             let q = from_map (λ (e : Edge). item.Edge e) (edges_within (plan_of v) v.ranks v.task.now) (item.Edge d) right in
             let same : d ≡ q.0 = one d q.0 q.2 in
-            let stays : not (is_between (plan_of v) v.ranks q.0) ≡ true = ((filtered (λ e. not (is_between (plan_of v) v.ranks e)) (out_edges (plan_of v) v.task.now) q.0).0 q.1).1 in
+            let stays : not (is_between (plan_of v) v.ranks q.0) ≡ true = ((IsIn-filter (λ e. not (is_between (plan_of v) v.ranks e)) (out_edges (plan_of v) v.task.now) q.0).0 q.1).1 in
             let flips : not true ≡ true = ap not (sym between) ∙ ap (λ x. not (is_between (plan_of v) v.ranks x)) same ∙ stays in
             false≢true flips
       ]

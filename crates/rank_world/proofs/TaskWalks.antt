@@ -1,23 +1,14 @@
 -- Walks over the tasks of a job, class by class, for a relation that holds of no task and of one part after another.
-use Rattle.std.proofs.Common.{◌≡◌, ℕ, zero, suc, ◌<◌, ◌≤◌, ℤ, List, [], ◌∷◌, ◌++◌, length, map, drop, refl, ap, sym, ◌∙◌, subst, Option, Some, slice_get, inl, inr, append_assoc, arith}
+use Rattle.std.proofs.Common.{◌≡◌, ℕ, suc, ◌<◌, ◌≤◌, ℤ, List, [], ◌∷◌, ◌++◌, length, map, drop, refl, ap, sym, ◌∙◌, subst, Option, Some, slice_get, inl, inr, append_assoc}
 use Rattle.std.proofs.lemmas.List.{append-nil, drop_all}
 use Rattle.ptg_base.specs.Lists.{IsIn}
 use Rattle.ptg_base.specs.Task.{Task}
 use Rattle.term_core.specs.declared.space.ClassSpace.{ClassSpace}
 use Rattle.range_space.specs.Tasks.{tasks}
-use Rattle.range_space.proofs.MemberLists.{IsIn-append_right}
+use Rattle.list_lemmas.proofs.Members.{IsIn-append_right}
+use Rattle.list_lemmas.proofs.Places.{slice_get_there, drop_from}
 use Rattle.plan_core.specs.declared.plan.Plan.{Plan}
 use Rattle.dep_iter.specs.Tasks.{IsTask, task, tasks_from}
-
-pub below : {A : Type 0} (xs : List A) (k : ℕ) (x : A) → slice_get xs k ≡ Some x → k < length xs
-below [] k x e = absurd cc
-below (y ∷ ys) zero x e = omega arith
-below (y ∷ ys) (suc k) x e = omega (arith, below ys k x e)
-
-pub there_is : {A : Type 0} (xs : List A) (k : ℕ) → k < length xs → (x : A) × (slice_get xs k ≡ Some x)
-there_is [] k h = absurd (omega arith)
-there_is (x ∷ xs) zero h = (x, refl)
-there_is (x ∷ xs) (suc k) h = there_is xs k (omega arith)
 
 -- a relation that holds of no task, and of tasks and further ones together
 pub record IsStepwise {A : Type 0} (R : List Task → A → A → Type 0) : Type 0 where
@@ -46,19 +37,14 @@ module _ {A : Type 0} (R : List Task → A → A → Type 0) (steps : IsStepwise
       let same : w.tasks ≡ ts = sym (append-nil w.tasks) ∙ sym w.split in
       subst (λ l. R l a b) same w.done
 
-drop_at : {A : Type 0} (xs : List A) (k : ℕ) (x : A) → slice_get xs k ≡ Some x → drop k xs ≡ x ∷ drop (suc k) xs
-drop_at [] k x h = cc
-drop_at (y ∷ xs) zero x h = let e : y ≡ x = cc in ap (λ z. z ∷ xs) e
-drop_at (y ∷ xs) (suc k) x h = drop_at xs k x h
-
 module _ {A : Type 0} (R : List Task → A → A → Type 0) (steps : IsStepwise R) (P : Plan) (class : ℕ) (ss : List ClassSpace) where
   -- the tasks of a class, and those of the classes after it
   pub class_then : (a b c : A) → class < length P.spaces → drop class P.spaces ≡ ss
       → ((s : ClassSpace) → slice_get P.spaces class ≡ Some s → R (map (task class) (tasks s)) a b)
       → ((later : List ClassSpace) → drop (suc class) P.spaces ≡ later → R (tasks_from (suc class) later) b c) → R (tasks_from class ss) a c
   class_then a b c lt e first later =
-      let found = there_is P.spaces class lt in
-      let split : found.0 ∷ drop (suc class) P.spaces ≡ ss = sym (drop_at P.spaces class found.0 found.1) ∙ e in
+      let found = slice_get_there P.spaces class lt in
+      let split : found.0 ∷ drop (suc class) P.spaces ≡ ss = sym (drop_from P.spaces class found.0 found.1) ∙ e in
       let more = drop (suc class) P.spaces in
       subst (λ l. R (tasks_from class l) a c) split
       (steps.then (map (task class) (tasks found.0)) (tasks_from (suc class) more) a b c (first found.0 found.1) (later more refl))

@@ -8,21 +8,22 @@ use Rattle.ptg_base.specs.Task.{Task}
 use Rattle.ptg_base.specs.declared.edge.Item.TheVariants as item
 use Rattle.plan_core.specs.declared.plan.Plan.{Plan}
 use Rattle.coll_data.specs.Data.{Data}
-use Rattle.range_space.proofs.Stepping.{by_test}
+use Rattle.list_lemmas.proofs.Truth.{by_test, contrapositive}
+use Rattle.list_lemmas.proofs.Counts.{count-at_most, count-le, weigh-append, weigh-push, without, without-weigh, still}
+use Rattle.list_lemmas.proofs.Tasks.{distinct_once}
+use Rattle.list_lemmas.proofs.Places.{slice_get_member}
 use Rattle.dep_iter.specs.Tasks.{all_tasks}
 use Rattle.dep_iter.proofs.Listing.{listed}
 use Rattle.flow_meaning.specs.Comparing.{same_item}
-use Rattle.flow_meaning.specs.Counting.{as_number, count, weigh}
+use Rattle.list_lemmas.specs.Counting.{as_number, count, weigh}
 use Rattle.flow_meaning.specs.Ending.{Ended, has_outputs}
 use Rattle.flow_meaning.specs.Machine.{MachineState, MayClaim, Sent, end_in, send_count}
 use Rattle.flow_meaning.specs.Sound.{IsSoundState}
 use Rattle.flow_meaning.proofs.Comparing.{same_item-decides}
-use Rattle.flow_meaning.proofs.Counting.{count-at_most, count-le, weigh-append, weigh-push, without, without-weigh}
-use Rattle.shard_meaning.proofs.Listing.{distinct_once}
 use Rattle.rank_core.specs.declared.message.Message.{Message}
 use Rattle.rank_core.specs.Sound.{IsSoundWorld}
 use Rattle.rank_core.specs.World.{Deliver, HappenIn, Run, WorldEvent, WorldState, edges_between, items_by, message_from, messages_by, rank_of, stands, with_message, world_after}
-use Rattle.rank_core.proofs.Worlds.{at, delivery_claims, delivery_keeps, still_sent}
+use Rattle.rank_core.proofs.Worlds.{delivery_claims, delivery_keeps, still_sent}
 use Rattle.rank_world.specs.Driving.{LeadsTo, turns_left, turns_of}
 use Rattle.rank_world.specs.Views.{WorldView, with_delivery, with_run}
 use Rattle.rank_world.proofs.Keeping.{rank_below}
@@ -52,15 +53,6 @@ leads_by_run w t may = record { plan = refl; given = refl; ranks = refl; events 
 pub leads_by_delivery : (w : WorldView) (n : ℕ) → n < length w.state.messages → LeadsTo w (with_delivery n w)
 leads_by_delivery w n near = record { plan = refl; given = refl; ranks = refl; events = Deliver n ∷ []; happen = (near, refl) }
 
--- what is in a list is in it without another of its members
-still : {A : Type 0} (x t : A) (zs : List A) (i : IsIn x zs) → IsIn t zs → (t ≡ x → ⊥) → IsIn t (without x zs i)
-unfolding without
-still x t [] i j other = absurd i
-still x t (z ∷ zs) (inl e) (inl q) other = absurd (other (q ∙ sym e))
-still x t (z ∷ zs) (inl e) (inr j) other = j
-still x t (z ∷ zs) (inr i) (inl q) other = inl q
-still x t (z ∷ zs) (inr i) (inr j) other = inr (still x t zs i j other)
-
 -- a list without repeats whose members are all in another weighs no more than it
 weighs_less : {A : Type 0} (f : A → ℕ) (xs ys : List A) → HasNoRepeats xs → ((t : A) → IsIn t xs → IsIn t ys) → weigh f xs ≤ weigh f ys
 weighs_less f [] ys once among = omega arith
@@ -74,13 +66,9 @@ weighs_less f (x ∷ xs) ys once among =
 claims_weigh : (P : Plan) (G : Data) (f : Task → ℕ) (S : MachineState) → IsSoundState P G S → weigh f S.claims ≤ weigh f (all_tasks P)
 claims_weigh P G f S sound = weighs_less f S.claims (all_tasks P) (distinct_once S.claims sound.claimed_once) (λ t i. (listed P t).0 (sound.claimed_have_all t i).task)
 
-not_both : (a b : Bool) → (a ≡ true → b ≡ true) → not b ≡ true → not a ≡ true
-not_both true b h k = sym (ap not (h refl)) ∙ k
-not_both false b h k = refl
-
 -- no message is late later that was not before
 later_late : (S T : MachineState) (ms : List Message) → ((m : Message) → stands S m ≡ true → stands T m ≡ true) → count (λ m. not (stands T m)) ms ≤ count (λ m. not (stands S m)) ms
-later_late S T ms keeps = count-le (λ m. not (stands T m)) (λ m. not (stands S m)) ms (λ m i k. not_both (stands S m) (stands T m) (keeps m) k)
+later_late S T ms keeps = count-le (λ m. not (stands T m)) (λ m. not (stands S m)) ms (λ m i k. contrapositive (stands S m) (stands T m) (keeps m) k)
 
 -- where one more message stands, fewer are late
 one_less : {A : Type 0} (p q : A → Bool) (xs : List A) (n : ℕ) (x : A) → slice_get xs n ≡ Some x → p x ≡ false → q x ≡ true → ((y : A) → p y ≡ true → q y ≡ true) → count p xs < count q xs
@@ -149,13 +137,8 @@ module _ (w : WorldView) (n : ℕ) (m : Message) (is : slice_get w.state.message
   unfolding turns_left
   delivery_leaves_less new =
       let late = one_less (λ x. not (stands (with_delivery n w).state.machine x)) (λ x. not (stands w.state.machine x)) w.state.messages n m is (ap not (stands_then new)) (ap not new)
-      (λ x k. not_both (stands w.state.machine x) (stands (with_delivery n w).state.machine x) (keeps x) k) in
+      (λ x k. contrapositive (stands w.state.machine x) (stands (with_delivery n w).state.machine x) (keeps x) k) in
       omega (arith, ap (weigh (turns_of w.plan w.ranks)) same_claims, late)
-
-pub near_at : {A : Type 0} (xs : List A) (n : ℕ) (x : A) → slice_get xs n ≡ Some x → n < length xs
-near_at [] n x e = absurd cc
-near_at (y ∷ ys) zero x e = omega arith
-near_at (y ∷ ys) (suc n) x e = omega (arith, near_at ys n x e)
 
 -- what a call of `deliver` does
 module _ {E : Type 0} (a b : WorldView) (n : ℕ) (near : n < length a.state.messages) where
@@ -164,7 +147,7 @@ module _ {E : Type 0} (a b : WorldView) (n : ℕ) (near : n < length a.state.mes
   delivered_leads (Err e) ok err = subst (λ w. LeadsTo a w) (sym err) (leads_nowhere a)
 
   pub delivered_no_more : (r : Result Bool E) → OnOk r (b ≡ with_delivery n a) → OnErr r (b ≡ a) → turns_left b ≤ turns_left a
-  delivered_no_more (Ok came) ok err = let p = at a.state.messages n near in omega (arith, ap turns_left ok, delivery_leaves_no_more a n p.0 p.1)
+  delivered_no_more (Ok came) ok err = let p = slice_get_member a.state.messages n near in omega (arith, ap turns_left ok, delivery_leaves_no_more a n p.0 p.1)
   delivered_no_more (Err e) ok err = omega (arith, ap turns_left err)
 
   pub delivered_less : (m : Message) → slice_get a.state.messages n ≡ Some m → stands a.state.machine m ≡ false → (r : Result Bool E) → OnOk r (b ≡ with_delivery n a) → IfOk r (λ came. came ≡ true → turns_left b < turns_left a)

@@ -1,8 +1,7 @@
 -- The type of a flow is one of the plan's.
-use Rattle.std.proofs.Common.{◌≡◌, ℕ, zero, suc, ◌<◌, ◌≤◌, Bool, true, List, [], ◌∷◌, length, ap, sym, ◌∙◌, subst, Option, Some, None, slice_get, arith}
+use Rattle.std.proofs.Common.{◌≡◌, ℕ, ◌<◌, ◌≤◌, true, List, [], length, ap, sym, ◌∙◌, subst, Option, Some, None, slice_get, arith}
 use Rattle.std.proofs.lemmas.Bool.{and_parts, eqb-true, ltb-true}
 use Rattle.std.proofs.lemmas.Option.{slice_get-get_or}
-use Rattle.std.specs.List.{list_all}
 use Rattle.std.specs.Option.{option_map_or}
 use Rattle.std.specs.Prelude.{IfSome, MatchOption, get_or}
 use denote.Ref.{Bor}
@@ -15,13 +14,7 @@ use Rattle.plan_core.specs.declared.plan.Plan.{Plan}
 use Rattle.plan_core.specs.Flows.{is_datatype, is_flow}
 use Rattle.dep_iter.specs.Tasks.{IsTask, flows_of}
 use Rattle.flow_meaning.proofs.SourceEdges.{class_of}
-
-each_at : {A : Type 0} (test : A → Bool) (xs : List A) (n : ℕ) (x : A) → list_all test xs ≡ true → slice_get xs n ≡ Some x → test x ≡ true
-each_at test [] n x all is = absurd cc
-each_at test (y ∷ ys) zero x all is =
-    let same : y ≡ x = cc in
-    subst (λ z. test z ≡ true) same (and_parts (test y) (list_all test ys) all).0
-each_at test (y ∷ ys) (suc n) x all is = each_at test ys n x (and_parts (test y) (list_all test ys) all).1 is
+use Rattle.list_lemmas.proofs.Places.{passes_at}
 
 known_type : (types : ℕ) (k : FlowKind) (n : ℕ) → 1 ≤ types → is_datatype types k n ≡ true → n < types
 known_type types Read n some h = ltb-true n types h
@@ -35,7 +28,7 @@ known P t n f job here =
     let h = class_of P t job in
     let w = P.well_made.fit t.class h.class h.space h.class_is h.space_is in
     let among : slice_get h.class.flows n ≡ Some f = sym (ap (λ o. slice_get (option_map_or (λ (c : ClassPlan). c.flows) o []) n) h.class_is) ∙ here in
-    let flow = each_at (is_flow P.classes P.spaces P.colls (length P.elems) (length h.space.defs)) h.class.flows n f w.flows among in
+    let flow = passes_at (is_flow P.classes P.spaces P.colls (length P.elems) (length h.space.defs)) h.class.flows n f w.flows among in
     known_type (length P.elems) f.kind f.datatype P.well_made.has_default (and_parts _ _ (and_parts _ _ (and_parts _ _ flow).0).0).0
 
 pub found_known : (P : Plan) (t : Task) (n : ℕ) (fs : List FlowPlan) (none_is : Type 0) (some_is : Bor FlowPlan → Type 0) (o : Option (Bor FlowPlan)) → IsTask P t → fs ≡ flows_of P t

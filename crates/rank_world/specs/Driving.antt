@@ -1,9 +1,10 @@
--- A world that is driven until nothing more can happen: where its events lead, and how many turns are left. Source: this project's own choice.
+-- A world that is driven until nothing more can happen: where its events lead, and how many turns are left. Source:
+-- this project's own choice.
 use Rattle.std.specs.Prelude.{◌≡◌, ℕ, ◌+◌, ◌-◌, List, length, not}
 use Rattle.ptg_base.specs.Task.{Task}
 use Rattle.plan_core.specs.declared.plan.Plan.{Plan}
 use Rattle.dep_iter.specs.Tasks.{all_tasks}
-use Rattle.flow_meaning.specs.Counting.{count, weigh}
+use Rattle.list_lemmas.specs.Counting.{count, weigh}
 use Rattle.rank_core.specs.declared.message.Message.{Message}
 use Rattle.rank_core.specs.World.{HappenIn, WorldEvent, edges_between, stands}
 use Rattle.rank_world.specs.Views.{WorldView}
@@ -20,7 +21,8 @@ pub record LeadsTo (old new : WorldView) : Type 0 where
 abbrev pub turns_of : Plan → ℕ → Task → ℕ
 turns_of P r t = 1 + length (edges_between P r t)
 
--- the turns that are left at most: those of the tasks that have not run, and one for each message whose edge does not stand
+-- the turns that are left at most: those of the tasks that have not run, and one for each message whose edge does not
+-- stand
 unfoldable pub turns_left : WorldView → ℕ
 turns_left w =
     (weigh (turns_of w.plan w.ranks) (all_tasks w.plan) - weigh (turns_of w.plan w.ranks) w.state.machine.claims)

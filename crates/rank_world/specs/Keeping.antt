@@ -1,4 +1,5 @@
--- What a world keeps beside what has happened: its ranks, and the messages that are under way. Source: this project's own choice.
+-- What a world keeps beside what has happened: its ranks, and the messages that are under way. Source: this project's
+-- own choice.
 use Rattle.std.specs.Prelude.{◌≡◌, ◌<◌, ◌≤◌, nat_eq, ℕ, List, [], Option, Some, None, length, slice_get, if◌then◌else◌}
 use Rattle.std.specs.Map.{lookup}
 use Rattle.plan_core.specs.declared.plan.Plan.{Plan}
@@ -35,7 +36,8 @@ pub record IsMailOf (w : WorldState) (m : Mail) : Type 0 where
 
 -- each rank holds its share of the state, as a shard of a table does at rest
 abbrev pub HoldShares : Plan → Data → WorldState → List Content → Type 0
-HoldShares P G w ys = (k : ℕ) (y : Content) → slice_get ys k ≡ Some y → IsShardOf P G (rank_of P (length ys)) k (at_rest w.machine) y
+HoldShares P G w ys =
+    (k : ℕ) (y : Content) → slice_get ys k ≡ Some y → IsShardOf P G (rank_of P (length ys)) k (at_rest w.machine) y
 
 -- what a world keeps for its job and what has happened
 pub record Keeps (P : Plan) (G : Data) (w : WorldState) (ys : List Content) (laid : Laid) (letters : Mail) : Type 0 where

@@ -1,4 +1,5 @@
--- How a world is opened: its ranks, which are shards, get a ready entry of each task that no edge goes into. Source: DAGuE (Parallel Computing, 2012): a task without dependences may run at once.
+-- How a world is opened: its ranks, which are shards, get a ready entry of each task that no edge goes into. Source:
+-- DAGuE (Parallel Computing, 2012): a task without dependences may run at once.
 use Rattle.std.specs.Prelude.{◌≡◌, ◌≢◌, ℕ, ◌+◌, ◌==◌, ℤ, List, [], ◌++◌, length, filter, slice_get, Some, None}
 use Rattle.ptg_base.specs.Lists.{IsIn}
 use Rattle.ptg_base.specs.Task.{Task}
@@ -34,7 +35,8 @@ pub record AreOpened (P : Plan) (of : Placement) (ts : List Task) (o : Opening) 
 -- From old to new the ranks got the entries of these tasks, where they had those of the tasks before them.
 pub record Opens (P : Plan) (of : Placement) (ts : List Task) (old new : Opening) : Type 0 where
   pub count : length new.ranks.items ≡ length old.ranks.items
-  pub opened : (done rest : List Task) → all_tasks P ≡ (done ++ ts) ++ rest → AreOpened P of done old → AreOpened P of (done ++ ts) new
+  pub opened : (done rest : List Task) → all_tasks P ≡ (done ++ ts) ++ rest → AreOpened P of done old
+      → AreOpened P of (done ++ ts) new
 
 -- A ready entry of the task is entered. If the task has an entry, that one stays.
 pub record EntersIn (t : Task) (priority : ℤ) (old new : Content) : Type 0 where

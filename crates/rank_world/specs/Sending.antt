@@ -1,4 +1,6 @@
--- What an item needs of its rank, and what it changes there. Source: DAGuE (Parallel Computing, 2012), where a task that ends satisfies the dependences of its successors; that a write-back is kept by the rank of its task is this project's own choice.
+-- What an item needs of its rank, and what it changes there. Source: DAGuE (Parallel Computing, 2012), where a task
+-- that ends satisfies the dependences of its successors; that a write-back is kept by the rank of its task is this
+-- project's own choice.
 use Rattle.std.specs.Prelude.{◌++◌, ◌≡◌, ◌<◌, ◌≤◌, ◌+◌, ℕ, ℤ, List, [], ◌∷◌, Option, Some, None, IsSome, IfSome, is_some, if◌then◌else◌, length, slice_index}
 use Rattle.ptg_base.specs.declared.edge.Edge.{Edge}
 use Rattle.ptg_base.specs.declared.edge.WriteBack.{WriteBack}
@@ -10,7 +12,8 @@ use Rattle.dep_iter.specs.Hints.{priority}
 use Rattle.dep_iter.specs.Tasks.{IsTask}
 use Rattle.dep_shard.specs.Content.{Content, IsTileOf, IsWaiting, KeepsAllButEntries, KeepsAllButWritten, Updates, Uses, entry_before, entry_of, with_arrival}
 
--- the edge goes to a flow of a task that waits for it, by the entry that the rank has of the task, and its tile is of the flow's type
+-- the edge goes to a flow of a task that waits for it, by the entry that the rank has of the task, and its tile is of
+-- the flow's type
 pub record MayTakeEdge (P : Plan) (e : Edge) (tile : Option (List ℤ)) (y : Content) : Type 0 where
   pub task : IsTask P e.to
   pub flow : FlowPlan
@@ -37,9 +40,12 @@ pub record HasRoomFor (edge_count write_count : ℕ) (y : Content) : Type 0 wher
 
 -- the edge has come to its target's entry, with its tile
 pub record TakesEdge (P : Plan) (e : Edge) (tile : Option (List ℤ)) (old new : Content) : Type 0 where
-  pub entries : Updates old.entries new.entries e.to (Some (with_arrival (entry_before old e.to (goal P e.to) (priority P e.to)) e.in_flow tile))
+  pub entries : Updates old.entries new.entries e.to
+      (Some (with_arrival (entry_before old e.to (goal P e.to) (priority P e.to)) e.in_flow tile))
   pub rest : KeepsAllButEntries old new
-  pub uses : (datatype : ℕ) × Uses old.spare new.spare (if is_some (entry_of old e.to) then 0 else 1) (if is_some tile then Some datatype else None) 0 0
+  pub uses : (datatype : ℕ)
+      × Uses old.spare new.spare (if is_some (entry_of old e.to) then 0 else 1)
+      (if is_some tile then Some datatype else None) 0 0
 
 -- the tile of the write-back was written
 pub record TakesWrite (w : WriteBack) (tile : Option (List ℤ)) (old new : Content) : Type 0 where

@@ -18,7 +18,8 @@ opened P G r = record { plan = P; given = G; ranks = r; state = opening_world }
 
 -- the same world after a task has run, and after a message was delivered
 abbrev pub with_run : Task → WorldView → WorldView
-with_run t w = record { plan = w.plan; given = w.given; ranks = w.ranks; state = after_run w.plan w.given w.ranks w.state t }
+with_run t w =
+    record { plan = w.plan; given = w.given; ranks = w.ranks; state = after_run w.plan w.given w.ranks w.state t }
 
 abbrev pub with_delivery : ℕ → WorldView → WorldView
 with_delivery n w = record { plan = w.plan; given = w.given; ranks = w.ranks; state = after_delivery w.state n }

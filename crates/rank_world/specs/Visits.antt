@@ -1,4 +1,6 @@
--- A task that runs in a world, part by part: it is claimed, its items within its rank are sent one after another, and it ends. Source: DAGuE (Parallel Computing, 2012), where a task that ends satisfies the dependences of its successors.
+-- A task that runs in a world, part by part: it is claimed, its items within its rank are sent one after another, and
+-- it ends. Source: DAGuE (Parallel Computing, 2012), where a task that ends satisfies the dependences of its
+-- successors.
 use Rattle.std.specs.Prelude.{◌≡◌, ◌<◌, ◌≤◌, ◌++◌, ℤ, List, [], ◌∷◌, map, filter, length, not, option_map, slice_index, Option, Some, None, if◌then◌else◌}
 use Rattle.ptg_base.specs.declared.edge.Edge.{Edge}
 use Rattle.ptg_base.specs.declared.edge.Item.{Item}
@@ -71,7 +73,9 @@ between_among v es = filter (is_between (plan_of v) v.ranks) es
 
 -- whether there is a tile, and how many numbers it has, is as the flow says that the edge goes to
 abbrev pub IsShapeOf : Plan → Edge → Option (List ℤ) → Type 0
-IsShapeOf P e tile = (f : FlowPlan) → flow_of P.classes e.to.class e.in_flow ≡ Some f → option_map length tile ≡ (if is_data (Some f.kind) then Some (slice_index P.elems f.datatype) else None)
+IsShapeOf P e tile =
+    (f : FlowPlan) → flow_of P.classes e.to.class e.in_flow ≡ Some f
+    → option_map length tile ≡ (if is_data (Some f.kind) then Some (slice_index P.elems f.datatype) else None)
 
 abbrev pub HasShape : Plan → Message → Type 0
 HasShape P m = IsShapeOf P m.edge m.tile

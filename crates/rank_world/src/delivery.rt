@@ -39,13 +39,26 @@ fn arrive_first(
     requires goal { 0 < edges.goal m.now edge.now.to }
     requires new { entry_of desk.old edge.now.to ≡ None }
     requires tile { IfSome (option_copied tile) (λ t. IsTileOf desk.old.elems datatype t) }
-    ensures ok { OnOk result (Updates desk.old.entries desk.new.entries edge.now.to (Some (with_arrival (entry_before desk.old edge.now.to (edges.goal m.now edge.now.to) (hints.priority m.now edge.now.to)) edge.now.in_flow (option_copied tile.entry)))) }
-    ensures fired { IfOk result (λ a. (a ≡ Fired) ↔ IsReady (with_arrival (entry_before desk.old edge.now.to (edges.goal m.now edge.now.to) (hints.priority m.now edge.now.to)) edge.now.in_flow (option_copied tile.entry))) }
+    ensures ok { OnOk result
+        (Updates desk.old.entries desk.new.entries edge.now.to
+        (Some
+        (with_arrival
+        (entry_before desk.old edge.now.to (edges.goal m.now edge.now.to)
+        (hints.priority m.now edge.now.to))
+        edge.now.in_flow (option_copied tile.entry)))) }
+    ensures fired { IfOk result (λ a.
+        (a ≡ Fired)
+        ↔ IsReady
+        (with_arrival
+        (entry_before desk.old edge.now.to (edges.goal m.now edge.now.to) (hints.priority m.now edge.now.to))
+        edge.now.in_flow (option_copied tile.entry))) }
     ensures err { OnErr result (desk.new.entries ≡ desk.old.entries) }
     ensures rest { KeepsAllButEntries desk.old desk.new }
-    ensures spare { Uses desk.old.spare desk.new.spare (if is_some (entry_of desk.old edge.now.to) then 0 else 1) (if is_some tile.entry then Some datatype else None) 0 0 }
+    ensures spare { Uses desk.old.spare desk.new.spare (if is_some (entry_of desk.old edge.now.to) then 0 else 1)
+        (if is_some tile.entry then Some datatype else None) 0 0 }
     ensures kept { OnErr result (Uses desk.old.spare desk.new.spare 0 None 0 0) }
-    ensures succeeds { 0 < desk.old.spare.entries → (IsSome tile.entry → 0 < slice_index desk.old.spare.tiles datatype) → IsOk result }
+    ensures succeeds { 0 < desk.old.spare.entries → (IsSome tile.entry → 0 < slice_index desk.old.spare.tiles datatype)
+        → IsOk result }
 {
     let locals = locals_of(m.plan(), &edge.to);
     let goal = goal_under(m, &edge.to, locals.as_slice());
@@ -64,15 +77,29 @@ fn arrive(
     requires task { IsTask m.now edge.now.to }
     requires flow { edge.now.in_flow < 8 }
     requires goal { 0 < edges.goal m.now edge.now.to }
-    requires waits { IsWaiting (entry_before desk.old edge.now.to (edges.goal m.now edge.now.to) (hints.priority m.now edge.now.to)) }
+    requires waits { IsWaiting
+        (entry_before desk.old edge.now.to (edges.goal m.now edge.now.to) (hints.priority m.now edge.now.to)) }
     requires tile { IfSome (option_copied tile) (λ t. IsTileOf desk.old.elems datatype t) }
-    ensures ok { OnOk result (Updates desk.old.entries desk.new.entries edge.now.to (Some (with_arrival (entry_before desk.old edge.now.to (edges.goal m.now edge.now.to) (hints.priority m.now edge.now.to)) edge.now.in_flow (option_copied tile.entry)))) }
-    ensures fired { IfOk result (λ a. (a ≡ Fired) ↔ IsReady (with_arrival (entry_before desk.old edge.now.to (edges.goal m.now edge.now.to) (hints.priority m.now edge.now.to)) edge.now.in_flow (option_copied tile.entry))) }
+    ensures ok { OnOk result
+        (Updates desk.old.entries desk.new.entries edge.now.to
+        (Some
+        (with_arrival
+        (entry_before desk.old edge.now.to (edges.goal m.now edge.now.to)
+        (hints.priority m.now edge.now.to))
+        edge.now.in_flow (option_copied tile.entry)))) }
+    ensures fired { IfOk result (λ a.
+        (a ≡ Fired)
+        ↔ IsReady
+        (with_arrival
+        (entry_before desk.old edge.now.to (edges.goal m.now edge.now.to) (hints.priority m.now edge.now.to))
+        edge.now.in_flow (option_copied tile.entry))) }
     ensures err { OnErr result (desk.new.entries ≡ desk.old.entries) }
     ensures rest { KeepsAllButEntries desk.old desk.new }
-    ensures spare { Uses desk.old.spare desk.new.spare (if is_some (entry_of desk.old edge.now.to) then 0 else 1) (if is_some tile.entry then Some datatype else None) 0 0 }
+    ensures spare { Uses desk.old.spare desk.new.spare (if is_some (entry_of desk.old edge.now.to) then 0 else 1)
+        (if is_some tile.entry then Some datatype else None) 0 0 }
     ensures kept { OnErr result (Uses desk.old.spare desk.new.spare 0 None 0 0) }
-    ensures succeeds { (entry_of desk.old edge.now.to ≡ None → 0 < desk.old.spare.entries) → (IsSome tile.entry → 0 < slice_index desk.old.spare.tiles datatype) → IsOk result }
+    ensures succeeds { (entry_of desk.old edge.now.to ≡ None → 0 < desk.old.spare.entries)
+        → (IsSome tile.entry → 0 < slice_index desk.old.spare.tiles datatype) → IsOk result }
 {
     match desk.index_of(&edge.to) {
         Some(index) => desk.arrive_at(index, edge.in_flow, datatype, tile),

@@ -17,7 +17,9 @@ fn ready_among(world: &mut World<'_>, first: u32, end: u32) -> Option<TaskId>
     requires { end ≤ world.old.ranks }
     ensures same { world.new ≡ world.old }
     ensures some { IfSome result (λ t. MayClaim world.old.plan world.old.state.machine t) }
-    ensures none { IfNone result ((t : Task) → first ≤ rank_of world.old.plan world.old.ranks t → rank_of world.old.plan world.old.ranks t < end → MayClaim world.old.plan world.old.state.machine t → ⊥) }
+    ensures none { IfNone result
+        ((t : Task) → first ≤ rank_of world.old.plan world.old.ranks t → rank_of world.old.plan world.old.ranks t < end
+        → MayClaim world.old.plan world.old.state.machine t → ⊥) }
 {
     for rank in first..end {
         let task = world.ready(rank);
@@ -48,7 +50,8 @@ fn run_some(world: &mut World<'_>, pick: u64) -> Result<bool, OutOfMemory>
     ensures events { LeadsTo world.old world.new }
     ensures fewer { IfOk result (λ ran. IsTrue ran → turns_left world.new < turns_left world.old) }
     ensures same { IfOk result (λ ran. IsFalse ran → world.new ≡ world.old) }
-    ensures none { IfOk result (λ ran. IsFalse ran → (t : Task) → MayClaim world.old.plan world.old.state.machine t → ⊥) }
+    ensures none { IfOk result (λ ran.
+        IsFalse ran → (t : Task) → MayClaim world.old.plan world.old.state.machine t → ⊥) }
 {
     let first = (pick % u64::from(world.ranks())) as u32;
     match ready_from(world, first) {
@@ -62,7 +65,8 @@ fn deliver_some(world: &mut World<'_>, pick: u64) -> Result<bool, OutOfMemory>
     ensures events { LeadsTo world.old world.new }
     ensures fewer { IfOk result (λ came. IsTrue came → turns_left world.new < turns_left world.old) }
     ensures same { IfOk result (λ came. IsFalse came → world.new ≡ world.old) }
-    ensures none { IfOk result (λ came. IsFalse came → (m : Message) → IsIn m world.old.state.messages → IsTrue (stands world.old.state.machine m)) }
+    ensures none { IfOk result (λ came.
+        IsFalse came → (m : Message) → IsIn m world.old.state.messages → IsTrue (stands world.old.state.machine m)) }
 {
     match world.late_message(pick) {
         Some(number) => world.deliver(number),

@@ -22,9 +22,11 @@ use task_run::Bench;
 // Keeps a write-back of the task of a visit in its rank, which has room for it.
 fn leave_write(at: &Visit, desk: &mut Shard, bench: &Bench, write: &WriteBack)
     requires tiles { ended (plan_of at.now) (data_of at.now) write.now.from ≡ Some (Ok bench.now.tiles) }
-    requires may { MayTakeWrite (plan_of at.now) write.now (output_tile (ended (plan_of at.now) (data_of at.now) write.now.from) write.now.flow) desk.old }
+    requires may { MayTakeWrite (plan_of at.now) write.now
+        (output_tile (ended (plan_of at.now) (data_of at.now) write.now.from) write.now.flow) desk.old }
     requires room { HasRoomFor 0 1 desk.old }
-    ensures { TakesWrite write.now (output_tile (ended (plan_of at.now) (data_of at.now) write.now.from) write.now.flow) desk.old desk.new }
+    ensures { TakesWrite write.now (output_tile (ended (plan_of at.now) (data_of at.now) write.now.from) write.now.flow)
+        desk.old desk.new }
 {
     take_write(desk, at.matched, write, bench.tile(write.flow)).unwrap();
 }
@@ -36,7 +38,8 @@ fn leave_writes(at: &Visit, desk: &mut Shard, bench: &Bench)
     requires holds { HoldsAt at.now (part_way at.now []) desk.old }
     requires room { HasRoomFor 0 (length (items.write_backs (plan_of at.now) at.now.task.now)) desk.old }
     ensures holds { HoldsAt at.now (part_way at.now (its_writes at.now)) desk.new }
-    ensures room { (n : ℕ) → HasRoomFor n (length (items.write_backs (plan_of at.now) at.now.task.now)) desk.old → HasRoomFor n 0 desk.new }
+    ensures room { (n : ℕ) → HasRoomFor n (length (items.write_backs (plan_of at.now) at.now.task.now)) desk.old
+        → HasRoomFor n 0 desk.new }
 {
     for write in write_backs_under(at.matched.plan(), at.task, at.locals) {
         leave_write(at, desk, bench, &write);
@@ -49,9 +52,13 @@ fn leave_edge(at: &Visit, desk: &mut Shard, bench: &Bench, edge: &Edge)
     requires from { edge.now.from ≡ at.now.task.now }
     requires to { IsTask (plan_of at.now) edge.now.to }
     requires tiles { ended (plan_of at.now) (data_of at.now) edge.now.from ≡ Some (Ok bench.now.tiles) }
-    requires may { is_between (plan_of at.now) at.now.ranks edge.now ≡ false → MayTakeEdge (plan_of at.now) edge.now (output_tile (ended (plan_of at.now) (data_of at.now) edge.now.from) edge.now.out_flow) desk.old }
+    requires may { is_between (plan_of at.now) at.now.ranks edge.now ≡ false
+        → MayTakeEdge (plan_of at.now) edge.now
+        (output_tile (ended (plan_of at.now) (data_of at.now) edge.now.from) edge.now.out_flow) desk.old }
     requires room { is_between (plan_of at.now) at.now.ranks edge.now ≡ false → HasRoomFor 1 0 desk.old }
-    ensures takes { is_between (plan_of at.now) at.now.ranks edge.now ≡ false → TakesEdge (plan_of at.now) edge.now (output_tile (ended (plan_of at.now) (data_of at.now) edge.now.from) edge.now.out_flow) desk.old desk.new }
+    ensures takes { is_between (plan_of at.now) at.now.ranks edge.now ≡ false
+        → TakesEdge (plan_of at.now) edge.now
+        (output_tile (ended (plan_of at.now) (data_of at.now) edge.now.from) edge.now.out_flow) desk.old desk.new }
     ensures same { is_between (plan_of at.now) at.now.ranks edge.now ≡ true → desk.new ≡ desk.old }
 {
     if goes_away(at, edge) {
@@ -65,8 +72,13 @@ fn leave_edges(at: &Visit, desk: &mut Shard, bench: &Bench)
     requires visit { IsVisit at.now }
     requires tiles { ended (plan_of at.now) (data_of at.now) at.now.task.now ≡ Some (Ok bench.now.tiles) }
     requires holds { HoldsAt at.now (part_way at.now (its_writes at.now)) desk.old }
-    requires room { HasRoomFor (length (within_among at.now (items.out_edges (plan_of at.now) at.now.task.now))) 0 desk.old }
-    ensures { HoldsAt at.now (part_way at.now (its_writes at.now ++ map item.Edge (within_among at.now (items.out_edges (plan_of at.now) at.now.task.now)))) desk.new }
+    requires room { HasRoomFor (length (within_among at.now (items.out_edges (plan_of at.now) at.now.task.now))) 0
+        desk.old }
+    ensures { HoldsAt at.now
+        (part_way at.now
+        (its_writes at.now
+        ++ map item.Edge (within_among at.now (items.out_edges (plan_of at.now) at.now.task.now))))
+        desk.new }
 {
     for edge in out_edges_under(at.matched.plan(), at.task, at.locals) {
         leave_edge(at, desk, bench, &edge);
@@ -78,8 +90,13 @@ pub(crate) fn leave_within(at: &Visit, desk: &mut Shard, bench: &Bench)
     requires visit { IsVisit at.now }
     requires tiles { ended (plan_of at.now) (data_of at.now) at.now.task.now ≡ Some (Ok bench.now.tiles) }
     requires holds { HoldsAt at.now (part_way at.now []) desk.old }
-    requires room { HasRoomFor (length (within_among at.now (items.out_edges (plan_of at.now) at.now.task.now))) (length (items.write_backs (plan_of at.now) at.now.task.now)) desk.old }
-    ensures { HoldsAt at.now (part_way at.now (its_writes at.now ++ map item.Edge (within_among at.now (items.out_edges (plan_of at.now) at.now.task.now)))) desk.new }
+    requires room { HasRoomFor (length (within_among at.now (items.out_edges (plan_of at.now) at.now.task.now)))
+        (length (items.write_backs (plan_of at.now) at.now.task.now)) desk.old }
+    ensures { HoldsAt at.now
+        (part_way at.now
+        (its_writes at.now
+        ++ map item.Edge (within_among at.now (items.out_edges (plan_of at.now) at.now.task.now))))
+        desk.new }
 {
     leave_writes(at, desk, bench);
     leave_edges(at, desk, bench);

@@ -45,7 +45,8 @@ fn enter(ranks: &mut Vec<Shard>, k: usize, t: &TaskId, priority: i64) -> Result<
 fn open_task(opening: &mut Opening, m: &Matched, t: &TaskId) -> Result<(), OutOfMemory>
     requires task { IsTask m.now t.now }
     requires shards { (0 < length opening.old.ranks.items) × (length opening.old.ranks.items ≤ 64) }
-    ensures { OnOk result (Opens m.now (rank_of m.now (length opening.old.ranks.items)) (t.now ∷ []) opening.old opening.new) }
+    ensures { OnOk result
+        (Opens m.now (rank_of m.now (length opening.old.ranks.items)) (t.now ∷ []) opening.old opening.new) }
 {
     if opening.left == 0 {
         return Ok(());
@@ -76,7 +77,10 @@ fn space_of(m: &Matched, class: u32) -> &ClassSpace
 fn open_class(opening: &mut Opening, m: &Matched, class: u32) -> Result<(), OutOfMemory>
     requires class { class < length m.now.classes }
     requires shards { (0 < length opening.old.ranks.items) × (length opening.old.ranks.items ≤ 64) }
-    ensures { OnOk result ((s : ClassSpaceValue) → slice_get m.now.spaces class ≡ Some s → Opens m.now (rank_of m.now (length opening.old.ranks.items)) (map (task class) (range.tasks s)) opening.old opening.new) }
+    ensures { OnOk result
+        ((s : ClassSpaceValue) → slice_get m.now.spaces class ≡ Some s
+        → Opens m.now (rank_of m.now (length opening.old.ranks.items)) (map (task class) (range.tasks s))
+        opening.old opening.new) }
 {
     let space = space_of(m, class);
     for params in Space::new(space) {
@@ -89,7 +93,10 @@ fn open_class(opening: &mut Opening, m: &Matched, class: u32) -> Result<(), OutO
 // Enters the tasks of the classes from this number on that no edge goes into.
 fn open_classes(opening: &mut Opening, m: &Matched, class: u32) -> Result<(), OutOfMemory>
     requires shards { (0 < length opening.old.ranks.items) × (length opening.old.ranks.items ≤ 64) }
-    ensures { OnOk result ((ss : List ClassSpaceValue) → drop class m.now.spaces ≡ ss → Opens m.now (rank_of m.now (length opening.old.ranks.items)) (tasks_from class ss) opening.old opening.new) }
+    ensures { OnOk result
+        ((ss : List ClassSpaceValue) → drop class m.now.spaces ≡ ss
+        → Opens m.now (rank_of m.now (length opening.old.ranks.items)) (tasks_from class ss) opening.old
+        opening.new) }
 {
     if class as usize >= m.plan().classes.len() {
         return Ok(());

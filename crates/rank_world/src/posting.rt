@@ -36,8 +36,17 @@ fn filled(message: Message, tile: Option<&Tile>) -> Message
 fn post(mail: &mut Mail, bench: &Bench, message: Message)
     requires room { 0 < spare mail.old.under_way }
     requires few { mail.old.sent < 4000000 }
-    requires shape { option_map length message.tile ≡ option_map length (output_tile (Some (Ok bench.now.tiles)) message.edge.out_flow) }
-    ensures table { (q : ℕ) → lookup (nat_eq q) mail.new.under_way.entries ≡ cond (nat_eq mail.old.sent q) (Some (record { edge = message.edge; tile = output_tile (Some (Ok bench.now.tiles)) message.edge.out_flow })) (lookup (nat_eq q) mail.old.under_way.entries) }
+    requires shape { option_map length message.tile
+        ≡ option_map length (output_tile (Some (Ok bench.now.tiles)) message.edge.out_flow) }
+    ensures table { (q : ℕ)
+        → lookup (nat_eq q) mail.new.under_way.entries
+        ≡ cond (nat_eq mail.old.sent q)
+        (Some
+        (record {
+          edge = message.edge;
+          tile = output_tile (Some (Ok bench.now.tiles)) message.edge.out_flow;
+        }))
+        (lookup (nat_eq q) mail.old.under_way.entries) }
     ensures sent { mail.new.sent ≡ mail.old.sent + 1 }
     ensures room { spare mail.old.under_way ≤ spare mail.new.under_way + 1 }
 {
@@ -51,7 +60,8 @@ fn post(mail: &mut Mail, bench: &Bench, message: Message)
 pub(crate) fn post_all(at: &Visit, mail: &mut Mail, bench: &Bench, messages: Vec<Message>)
     requires visit { IsVisit at.now }
     requires tiles { ended (plan_of at.now) (data_of at.now) at.now.task.now ≡ Some (Ok bench.now.tiles) }
-    requires blank { AreBlank (plan_of at.now) (between_among at.now (items.out_edges (plan_of at.now) at.now.task.now)) messages.items }
+    requires blank { AreBlank (plan_of at.now) (between_among at.now (items.out_edges (plan_of at.now) at.now.task.now))
+        messages.items }
     requires mail { IsMailOf (before at.now) mail.old }
     requires room { length messages.items ≤ spare mail.old.under_way }
     ensures { IsMailOf (after at.now) mail.new }

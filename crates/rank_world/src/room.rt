@@ -42,7 +42,9 @@ fn one_more(count: u64) -> Result<u64, OutOfMemory>
 // A tile for a flow of this kind and type, whose numbers are any. None for a CTL flow.
 fn blank_tile(alloc: Global, m: &Matched, flow: &FlowPlan) -> Result<Option<Tile>, OutOfMemory>
     requires { flow.now.datatype < length m.now.elems }
-    ensures { IfOk result (λ tile. option_map length tile ≡ (if kinds.is_data (Some flow.now.kind) then Some (slice_index m.now.elems flow.now.datatype) else None)) }
+    ensures { IfOk result (λ tile.
+        option_map length tile
+        ≡ (if kinds.is_data (Some flow.now.kind) then Some (slice_index m.now.elems flow.now.datatype) else None)) }
 {
     if !is_data(flow.kind) {
         return Ok(None);
@@ -101,8 +103,11 @@ fn add_edge(
     requires visit { IsVisit at.now }
     requires from { edge.from ≡ at.now.task.now }
     requires to { IsTask (plan_of at.now) edge.to }
-    ensures between { OnOk result (is_between (plan_of at.now) at.now.ranks edge ≡ true → AddsBlank (plan_of at.now) edge outgoing.old outgoing.new) }
-    ensures within { OnOk result (is_between (plan_of at.now) at.now.ranks edge ≡ false → AddsWithin outgoing.old outgoing.new) }
+    ensures between { OnOk result
+        (is_between (plan_of at.now) at.now.ranks edge ≡ true
+        → AddsBlank (plan_of at.now) edge outgoing.old outgoing.new) }
+    ensures within { OnOk result
+        (is_between (plan_of at.now) at.now.ranks edge ≡ false → AddsWithin outgoing.old outgoing.new) }
 {
     if goes_away(at, &edge) {
         outgoing.messages.push(blank(alloc, at.matched, edge)?)?;
@@ -115,8 +120,11 @@ fn add_edge(
 // What the task of a visit will send, if it has outputs.
 pub(crate) fn outgoing_of(alloc: Global, at: &Visit) -> Result<Outgoing, OutOfMemory>
     requires { IsVisit at.now }
-    ensures messages { IfOk result (λ o. AreBlank (plan_of at.now) (between_among at.now (items.out_edges (plan_of at.now) at.now.task.now)) o.messages.items) }
-    ensures within { IfOk result (λ o. o.within ≡ length (within_among at.now (items.out_edges (plan_of at.now) at.now.task.now))) }
+    ensures messages { IfOk result (λ o.
+        AreBlank (plan_of at.now) (between_among at.now (items.out_edges (plan_of at.now) at.now.task.now))
+        o.messages.items) }
+    ensures within { IfOk result (λ o.
+        o.within ≡ length (within_among at.now (items.out_edges (plan_of at.now) at.now.task.now))) }
 {
     let mut outgoing = Outgoing {
         messages: Vec::new(alloc),

@@ -84,8 +84,10 @@ fn end_with_outputs(
     requires visit { IsVisit at.now }
     requires tiles { ended (plan_of at.now) (data_of at.now) at.now.task.now ≡ Some (Ok bench.now.tiles) }
     requires holds { HoldsAt at.now (part_way at.now []) desk.old }
-    requires room { HasRoomFor (length (within_among at.now (items.out_edges (plan_of at.now) at.now.task.now))) (length (items.write_backs (plan_of at.now) at.now.task.now)) desk.old }
-    requires blank { AreBlank (plan_of at.now) (between_among at.now (items.out_edges (plan_of at.now) at.now.task.now)) messages.items }
+    requires room { HasRoomFor (length (within_among at.now (items.out_edges (plan_of at.now) at.now.task.now)))
+        (length (items.write_backs (plan_of at.now) at.now.task.now)) desk.old }
+    requires blank { AreBlank (plan_of at.now) (between_among at.now (items.out_edges (plan_of at.now) at.now.task.now))
+        messages.items }
     requires mail { IsMailOf (before at.now) mail.old }
     requires mail_room { length messages.items ≤ spare mail.old.under_way }
     ensures holds { HoldsAt at.now (at_rest (after at.now).machine) desk.new }
@@ -117,10 +119,13 @@ fn end_run(
 )
     requires visit { IsVisit at.now }
     requires ok { OnOk outcome.0 (ended (plan_of at.now) (data_of at.now) at.now.task.now ≡ Some (Ok bench.now.tiles)) }
-    requires trap { IfErr outcome.0 (λ cause. ended (plan_of at.now) (data_of at.now) at.now.task.now ≡ Some (Err cause)) }
+    requires trap { IfErr outcome.0 (λ cause.
+        ended (plan_of at.now) (data_of at.now) at.now.task.now ≡ Some (Err cause)) }
     requires holds { HoldsAt at.now (part_way at.now []) desk.old }
-    requires room { HasRoomFor (length (within_among at.now (items.out_edges (plan_of at.now) at.now.task.now))) (length (items.write_backs (plan_of at.now) at.now.task.now)) desk.old }
-    requires blank { AreBlank (plan_of at.now) (between_among at.now (items.out_edges (plan_of at.now) at.now.task.now)) outcome.1.items }
+    requires room { HasRoomFor (length (within_among at.now (items.out_edges (plan_of at.now) at.now.task.now)))
+        (length (items.write_backs (plan_of at.now) at.now.task.now)) desk.old }
+    requires blank { AreBlank (plan_of at.now) (between_among at.now (items.out_edges (plan_of at.now) at.now.task.now))
+        outcome.1.items }
     requires mail { IsMailOf (before at.now) mail.old }
     requires mail_room { length outcome.1.items ≤ spare mail.old.under_way }
     ensures holds { HoldsAt at.now (at_rest (after at.now).machine) desk.new }
@@ -145,8 +150,10 @@ fn run_visit(
     requires visit { IsVisit at.now }
     requires bench { IsBenchOf (plan_of at.now) bench.old }
     requires holds { HoldsAt at.now (at_rest (before at.now).machine) desk.old }
-    requires room { HasRoomFor (length (within_among at.now (items.out_edges (plan_of at.now) at.now.task.now))) (length (items.write_backs (plan_of at.now) at.now.task.now)) desk.old }
-    requires blank { AreBlank (plan_of at.now) (between_among at.now (items.out_edges (plan_of at.now) at.now.task.now)) messages.items }
+    requires room { HasRoomFor (length (within_among at.now (items.out_edges (plan_of at.now) at.now.task.now)))
+        (length (items.write_backs (plan_of at.now) at.now.task.now)) desk.old }
+    requires blank { AreBlank (plan_of at.now) (between_among at.now (items.out_edges (plan_of at.now) at.now.task.now))
+        messages.items }
     requires mail { IsMailOf (before at.now) mail.old }
     requires mail_room { length messages.items ≤ spare mail.old.under_way }
     ensures holds { HoldsAt at.now (at_rest (after at.now).machine) desk.new }
@@ -195,13 +202,18 @@ fn run_at(
     requires visit { IsVisit at.now }
     requires within { at.now.rank < length ranks.old.items }
     requires bench { IsBenchOf (plan_of at.now) bench.old }
-    requires holds { (y : Content) → slice_get ranks.old.items at.now.rank ≡ Some y → HoldsAt at.now (at_rest (before at.now).machine) y }
+    requires holds { (y : Content) → slice_get ranks.old.items at.now.rank ≡ Some y
+        → HoldsAt at.now (at_rest (before at.now).machine) y }
     requires mail { IsMailOf (before at.now) mail.old }
     ensures others { (i : ℕ) → i ≢ at.now.rank → slice_get ranks.new.items i ≡ slice_get ranks.old.items i }
     ensures count { length ranks.new.items ≡ length ranks.old.items }
-    ensures holds { OnOk result ((z : Content) → slice_get ranks.new.items at.now.rank ≡ Some z → HoldsAt at.now (at_rest (after at.now).machine) z) }
+    ensures holds { OnOk result
+        ((z : Content) → slice_get ranks.new.items at.now.rank ≡ Some z
+        → HoldsAt at.now (at_rest (after at.now).machine) z) }
     ensures mail { OnOk result (IsMailOf (after at.now) mail.new) }
-    ensures same { OnErr result ((z : Content) → slice_get ranks.new.items at.now.rank ≡ Some z → HoldsAt at.now (at_rest (before at.now).machine) z) }
+    ensures same { OnErr result
+        ((z : Content) → slice_get ranks.new.items at.now.rank ≡ Some z
+        → HoldsAt at.now (at_rest (before at.now).machine) z) }
     ensures kept { OnErr result (IsMailOf (before at.now) mail.new) }
     ensures bench { IsBenchOf (plan_of at.now) bench.new }
 {

@@ -60,7 +60,8 @@ impl<'m> Model for World<'m> {
 
     ghost coded = { Prim.hlevel (codes, expr.the_row.coded, block.the_row.coded) };
 
-    ghost view = { λ w. record { plan = w.matched.now; given = w.given; ranks = length w.ranks.items; state = w.history.state } };
+    ghost view = { λ w.
+        record { plan = w.matched.now; given = w.given; ranks = length w.ranks.items; state = w.history.state } };
 
     ghost invariant = { λ w. Keeps w.matched.now w.given w.history.state w.ranks.items w.bench w.mail };
 }
@@ -73,7 +74,8 @@ fn take_edge_at(
     message: &Message,
 ) -> Result<(), OutOfMemory>
     requires within { k < length ranks.old.items }
-    requires may { (y : Content) → slice_get ranks.old.items k ≡ Some y → MayTakeEdge m.now message.now.edge message.now.tile y }
+    requires may { (y : Content) → slice_get ranks.old.items k ≡ Some y
+        → MayTakeEdge m.now message.now.edge message.now.tile y }
     ensures ok { OnOk result (TakesEdgeAt m.now message.now k ranks.old.items ranks.new.items) }
     ensures err { OnErr result (StaysAt k ranks.old.items ranks.new.items) }
 {
@@ -153,7 +155,8 @@ impl<'m> World<'m> {
     /// How many messages were sent. In a quiescent world they are as many as the job has at so many ranks.
     pub fn messages(&self) -> u64
         ensures sent { result ≡ length self.now.state.messages }
-        ensures all { IsQuiet self.now.plan self.now.state → result ≡ message_count self.now.plan self.now.given self.now.ranks }
+        ensures all { IsQuiet self.now.plan self.now.state
+            → result ≡ message_count self.now.plan self.now.given self.now.ranks }
     {
         self.mail.sent
     }
@@ -161,8 +164,11 @@ impl<'m> World<'m> {
     /// The number of a message whose edge does not stand; if there are several, the pick says which. `None` exactly
     /// where there is none.
     pub fn late_message(&self, pick: u64) -> Option<u64>
-        ensures some { IfSome result (λ n. (m : MessageValue) × (slice_get self.now.state.messages n ≡ Some m) × IsFalse (stands self.now.state.machine m)) }
-        ensures none { IfNone result ((m : MessageValue) → IsIn m self.now.state.messages → IsTrue (stands self.now.state.machine m)) }
+        ensures some { IfSome result (λ n.
+            (m : MessageValue) × (slice_get self.now.state.messages n ≡ Some m)
+            × IsFalse (stands self.now.state.machine m)) }
+        ensures none { IfNone result
+            ((m : MessageValue) → IsIn m self.now.state.messages → IsTrue (stands self.now.state.machine m)) }
     {
         let late = self.mail.under_way.len() as u64;
         if late == 0 {
@@ -179,8 +185,11 @@ impl<'m> World<'m> {
     pub fn ready(&mut self, rank: u32) -> Option<TaskId>
         requires { rank < self.old.ranks }
         ensures same { self.new ≡ self.old }
-        ensures some { IfSome result (λ t. MayClaim self.old.plan self.old.state.machine t × (world.rank_of self.old.plan self.old.ranks t ≡ rank)) }
-        ensures none { IfNone result ((t : Task) → world.rank_of self.old.plan self.old.ranks t ≡ rank → MayClaim self.old.plan self.old.state.machine t → ⊥) }
+        ensures some { IfSome result (λ t.
+            MayClaim self.old.plan self.old.state.machine t × (world.rank_of self.old.plan self.old.ranks t ≡ rank)) }
+        ensures none { IfNone result
+            ((t : Task) → world.rank_of self.old.plan self.old.ranks t ≡ rank
+            → MayClaim self.old.plan self.old.state.machine t → ⊥) }
     {
         best_at(&mut self.ranks, rank as usize)
     }
@@ -196,7 +205,9 @@ impl<'m> World<'m> {
     /// message's tile. Else nothing changes, nor does it without memory.
     pub fn deliver(&mut self, n: u64) -> Result<bool, OutOfMemory>
         requires { n < length self.old.state.messages }
-        ensures exact { IfOk result (λ stood_not. (m : MessageValue) → slice_get self.old.state.messages n ≡ Some m → IsTrue stood_not ↔ IsFalse (stands self.old.state.machine m)) }
+        ensures exact { IfOk result (λ stood_not.
+            (m : MessageValue) → slice_get self.old.state.messages n ≡ Some m
+            → IsTrue stood_not ↔ IsFalse (stands self.old.state.machine m)) }
         ensures state { OnOk result (self.new ≡ with_delivery n self.old) }
         ensures err { OnErr result (self.new ≡ self.old) }
         ensures sound { IsSoundWorld self.new.plan self.new.given self.new.ranks self.new.state }

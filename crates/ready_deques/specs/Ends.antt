@@ -7,14 +7,16 @@ use Rattle.ptg_base.specs.Task.{Task}
 abbrev pub DequeId : Type 0
 DequeId = (ℕ × ℕ) × Global
 
--- The owner's end, which pushes and pops at the back: its deque, its parts of the right to know the whole, and the ids that it pushed and took.
+-- The owner's end, which pushes and pops at the back: its deque, its parts of the right to know the whole, and the ids
+-- that it pushed and took.
 pub record Owner : Type 0 where
   pub deque : DequeId
   pub parts : ℕ
   pub pushed : List Task
   pub taken : List Task
 
--- A thief's end, which takes at the front: its deque, its part of the right to know the whole, and the ids that it took. It takes only with a part.
+-- A thief's end, which takes at the front: its deque, its part of the right to know the whole, and the ids that it
+-- took. It takes only with a part.
 pub record Thief : Type 0 where
   pub deque : DequeId
   pub parts : ℕ
@@ -30,7 +32,8 @@ new_thief b = record { deque = b.deque; parts = 1; taken = [] }
 
 -- Of all thieves' ends in one hand, each but that of this worker's deque has one part.
 abbrev pub OthersHaveParts : ℕ → List Thief → Type 0
-OthersHaveParts number thieves = (k : ℕ) → k < length thieves → k ≢ number → slice_get (map (λ f. f.parts) thieves) k ≡ Some 1
+OthersHaveParts number thieves =
+    (k : ℕ) → k < length thieves → k ≢ number → slice_get (map (λ f. f.parts) thieves) k ≡ Some 1
 
 -- Nothing was pushed or taken, and so many parts are given away.
 pub record IsNew (given : ℕ) (b : Owner) : Type 0 where

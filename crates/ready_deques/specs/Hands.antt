@@ -19,7 +19,8 @@ taken_from worker a = slice_index_or a.taken worker []
 abbrev pub fresh : List DequeId → ℕ → Account
 fresh deques number = record { number = number; deques = deques; pushed = []; taken = replicate (length deques) [] }
 
--- The accounts of so many workers, in order of their numbers from 0, before the first call. They share the deques, one for each.
+-- The accounts of so many workers, in order of their numbers from 0, before the first call. They share the deques, one
+-- for each.
 pub record AreFresh (workers : ℕ) (deques : List DequeId) (team : List Account) : Type 0 where
   pub one_for_each : length deques ≡ workers
   pub all : length team ≡ workers
@@ -45,4 +46,5 @@ pub record AreTheOthers (a : Account) (others : List Account) : Type 0 where
 
 -- Each id was taken from its deque at most as often as it pushed it, by it and the others together.
 abbrev pub TakenAtMostAsPushed : Account → List Account → Type 0
-TakenAtMostAsPushed a others = (id : Task) → sum_by (λ o. times id (taken_from a.number o)) (a ∷ others) ≤ times id a.pushed
+TakenAtMostAsPushed a others =
+    (id : Task) → sum_by (λ o. times id (taken_from a.number o)) (a ∷ others) ≤ times id a.pushed

@@ -1,4 +1,5 @@
--- The rule of a deque of ready tasks, over all who hold an end of it: an id is taken from it at most as often as it was pushed to it. Source: work stealing as in DAGuE 2012; the rule is this project's own choice.
+-- The rule of a deque of ready tasks, over all who hold an end of it: an id is taken from it at most as often as it was
+-- pushed to it. Source: work stealing as in DAGuE 2012; the rule is this project's own choice.
 use Rattle.std.specs.Prelude.{◌≡◌, ℕ, ◌+◌, ◌≤◌, ⊤, List, [], ◌∷◌, ◌++◌, length, Contains, All, sum_by, count_by}
 use Rattle.ptg_base.specs.Task.{Task}
 use Rattle.ptg_base.specs.TaskComparing.{same_task}
@@ -25,7 +26,8 @@ OnlyFirstPushes (own ∷ others) = All HasNotPushed others
 
 -- Each id was pushed as often as it was taken and is held, by all tallies together. There are 65 parts.
 pub record Balanced (held : List Task) (tallies : List Tally) : Type 0 where
-  pub ids : (id : Task) → sum_by (λ t. times id t.pushed) tallies ≡ sum_by (λ t. times id t.taken) tallies + times id held
+  pub ids : (id : Task)
+      → sum_by (λ t. times id t.pushed) tallies ≡ sum_by (λ t. times id t.taken) tallies + times id held
   pub parts : sum_by (λ t. t.parts) tallies ≡ 65
   pub idle : All IdleIsEmpty tallies
   pub pushes : OnlyFirstPushes tallies
@@ -34,13 +36,16 @@ pub record Balanced (held : List Task) (tallies : List Tally) : Type 0 where
 abbrev pub AllTaken : List Task → List Task → Type 0
 AllTaken pushed taken = (id : Task) → times id taken ≡ times id pushed
 
--- At one moment the deque held no id, and the rule held of all tallies, of which the worker's has so many parts and these pushed and taken.
+-- At one moment the deque held no id, and the rule held of all tallies, of which the worker's has so many parts and
+-- these pushed and taken.
 abbrev pub WasEmpty : ℕ → List Task → List Task → Type 0
 WasEmpty parts pushed taken = (others : List Tally) × Balanced [] (tally parts pushed taken ∷ others)
 
--- At one moment the deque held these ids, and the rule held of them and of all tallies, one of them with these pushed and taken.
+-- At one moment the deque held these ids, and the rule held of them and of all tallies, one of them with these pushed
+-- and taken.
 abbrev pub AtOneMoment : List Task → List Task → List Task → Type 0
-AtOneMoment held pushed taken = (tallies : List Tally) × (parts : ℕ) × Contains tallies (tally parts pushed taken) × Balanced held tallies
+AtOneMoment held pushed taken =
+    (tallies : List Tally) × (parts : ℕ) × Contains tallies (tally parts pushed taken) × Balanced held tallies
 
 -- The same for some ids, at most so many.
 abbrev pub HeldAtMost : ℕ → List Task → List Task → Type 0

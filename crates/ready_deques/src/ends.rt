@@ -65,7 +65,8 @@ impl OwnerEnd {
 
     // Adds at the back. The id comes back only where at least 16 were pushed before.
     pub(crate) fn push(&mut self, id: TaskId) -> Result<(), TaskId>
-        ensures pushed { MatchResult result (λ _. self.new ≡ record self.old { pushed = self.old.pushed ++ id ∷ [] }) (λ back. (back ≡ id) × (self.new ≡ self.old)) }
+        ensures pushed { MatchResult result (λ _. self.new ≡ record self.old { pushed = self.old.pushed ++ id ∷ [] })
+            (λ back. (back ≡ id) × (self.new ≡ self.old)) }
         ensures refused { IfErr result (λ _. 16 ≤ length self.old.pushed) }
     {
         self.worker.push_as::<Pushed>(id)
@@ -73,7 +74,8 @@ impl OwnerEnd {
 
     // Takes at the back. None only where the deque was empty at one moment.
     pub(crate) fn pop(&mut self) -> Option<TaskId>
-        ensures { MatchOption result ((self.new ≡ self.old) × WasEmpty self.old.parts self.old.pushed self.old.taken) (λ id. self.new ≡ record self.old { taken = self.old.taken ++ id ∷ [] }) }
+        ensures { MatchOption result ((self.new ≡ self.old) × WasEmpty self.old.parts self.old.pushed self.old.taken)
+            (λ id. self.new ≡ record self.old { taken = self.old.taken ++ id ∷ [] }) }
     {
         self.worker.pop_as::<Popped>()
     }
@@ -81,7 +83,8 @@ impl OwnerEnd {
     // Takes back the part of a thief's end of this deque, which takes nothing from then on.
     pub(crate) fn keep(&mut self, thief: &mut ThiefEnd)
         requires { thief.old.deque ≡ self.old.deque }
-        ensures own { self.new ≡ record self.old { parts = self.old.parts + thief.old.parts; taken = self.old.taken ++ thief.old.taken } }
+        ensures own { self.new
+            ≡ record self.old { parts = self.old.parts + thief.old.parts; taken = self.old.taken ++ thief.old.taken } }
         ensures thief { thief.new ≡ record { deque = thief.old.deque; parts = 0; taken = [] } }
     {
         let partless = self.worker.another::<Partless>();
@@ -92,7 +95,8 @@ impl OwnerEnd {
     // Takes over a thief's end of this deque, with its part and what it took.
     pub(crate) fn absorb(&mut self, thief: ThiefEnd)
         requires { thief.deque ≡ self.old.deque }
-        ensures { self.new ≡ record self.old { parts = self.old.parts + thief.parts; taken = self.old.taken ++ thief.taken } }
+        ensures { self.new
+            ≡ record self.old { parts = self.old.parts + thief.parts; taken = self.old.taken ++ thief.taken } }
     {
         let ThiefEnd { stealer: _, pass } = thief;
         self.worker.absorb::<Shares>(pass);
@@ -122,16 +126,19 @@ impl Model for ThiefEnd {
 
     ghost Value = { Thief };
 
-    ghost view = { λ f. record { deque = stealer_deque f.stealer; parts = (tally_of f.pass).parts; taken = (tally_of f.pass).taken } };
+    ghost view = { λ f.
+        record { deque = stealer_deque f.stealer; parts = (tally_of f.pass).parts; taken = (tally_of f.pass).taken } };
 
     ghost invariant = { λ f. IsPassOf (stealer_deque f.stealer) f.pass × ((tally_of f.pass).pushed ≡ []) };
 }
 
 impl ThiefEnd {
-    // Takes at the front. `Empty` only where the deque held one id at most at one moment. It tries again where another one was first.
+    // Takes at the front. `Empty` only where the deque held one id at most at one moment. It tries again where another
+    // one was first.
     pub(crate) fn take<R: Wait>(&mut self, rt: &R) -> Stolen
         requires { 0 < self.old.parts }
-        ensures { MatchStolen result (λ id. self.new ≡ record self.old { taken = self.old.taken ++ id ∷ [] }) ((self.new ≡ self.old) × HeldAtMost 1 [] self.old.taken) }
+        ensures { MatchStolen result (λ id. self.new ≡ record self.old { taken = self.old.taken ++ id ∷ [] })
+            ((self.new ≡ self.old) × HeldAtMost 1 [] self.old.taken) }
     {
         for _ in rt.forever() {
             match self.try_take() {
@@ -146,7 +153,8 @@ impl ThiefEnd {
     // One try. It may answer `Retry` where another one was first.
     fn try_take(&mut self) -> Steal<TaskId>
         requires { 0 < self.old.parts }
-        ensures { MatchSteal result ((self.new ≡ self.old) × HeldAtMost 1 [] self.old.taken) (self.new ≡ self.old) (λ id. self.new ≡ record self.old { taken = self.old.taken ++ id ∷ [] }) }
+        ensures { MatchSteal result ((self.new ≡ self.old) × HeldAtMost 1 [] self.old.taken) (self.new ≡ self.old)
+            (λ id. self.new ≡ record self.old { taken = self.old.taken ++ id ∷ [] }) }
     {
         self.stealer.steal_as::<Taken>(&mut self.pass)
     }

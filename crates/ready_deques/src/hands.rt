@@ -13,7 +13,8 @@ use std::marker::Model;
 use std::sync::Wait;
 use std::thread::Threads;
 
-/// One worker's ends of the deques of ready tasks. Each worker has a deque of its own, where it pushes and pops at the back, and steals at the front of the others'.
+/// One worker's ends of the deques of ready tasks. Each worker has a deque of its own, where it pushes and pops at the
+/// back, and steals at the front of the others'.
 ///
 /// An id only steers: the right to run its task comes from the table of dependences.
 #[derive(Drop)]
@@ -74,27 +75,33 @@ impl Hands {
         self.thieves.len() as u32
     }
 
-    /// Adds at the back of the worker's own deque. It may take memory; an id that it cannot take comes back, and only after 16 were pushed.
+    /// Adds at the back of the worker's own deque. It may take memory; an id that it cannot take comes back, and only
+    /// after 16 were pushed.
     pub fn push(&mut self, id: TaskId) -> Result<(), TaskId>
-        ensures pushed { MatchResult result (λ _. self.new ≡ after_push self.old id) (λ back. (back ≡ id) × (self.new ≡ self.old)) }
+        ensures pushed { MatchResult result (λ _. self.new ≡ after_push self.old id) (λ back.
+            (back ≡ id) × (self.new ≡ self.old)) }
         ensures refused { IfErr result (λ _. 16 ≤ length self.old.pushed) }
         ensures same { SameWorker self.old self.new }
     {
         self.own.push(id)
     }
 
-    /// Takes at the back of the worker's own deque. None only where it was empty at one moment of this call; so in a team of one
-    /// only where each id was taken as often as it was pushed.
+    /// Takes at the back of the worker's own deque. None only where it was empty at one moment of this call; so in a
+    /// team of one only where each id was taken as often as it was pushed.
     pub fn pop(&mut self) -> Option<TaskId>
-        ensures taken { MatchOption result (self.new ≡ self.old) (λ id. self.new ≡ after_take self.old.number self.old id) }
-        ensures empty { IfNone result ((parts : ℕ) × WasEmpty parts self.old.pushed (taken_from self.old.number self.old)) }
-        ensures alone { length self.old.deques ≡ 1 → IfNone result (AllTaken self.old.pushed (taken_from self.old.number self.old)) }
+        ensures taken { MatchOption result (self.new ≡ self.old) (λ id.
+            self.new ≡ after_take self.old.number self.old id) }
+        ensures empty { IfNone result
+            ((parts : ℕ) × WasEmpty parts self.old.pushed (taken_from self.old.number self.old)) }
+        ensures alone { length self.old.deques ≡ 1
+            → IfNone result (AllTaken self.old.pushed (taken_from self.old.number self.old)) }
         ensures same { SameWorker self.old self.new }
     {
         self.own.pop()
     }
 
-    /// Takes at the front of another worker's deque. `Empty` only where it held at most one id at one moment of this call.
+    /// Takes at the front of another worker's deque. `Empty` only where it held at most one id at one moment of this
+    /// call.
     /// It tries again where another worker was first, and so may wait.
     pub fn steal<R: Threads + Wait + Sync>(&mut self, rt: &R, from: u32) -> Stolen
         requires another { (from < length self.old.deques) × (from ≢ self.old.number) }
@@ -141,7 +148,8 @@ fn gather(own: &mut OwnerEnd, worker: u32, others: Vec<Hands>)
     requires { All (λ o. (slice_get o.deques worker ≡ Some own.old.deque) × (o.number ≢ worker)) others.items }
     ensures same { (own.new.deque ≡ own.old.deque) × (own.new.pushed ≡ own.old.pushed) }
     ensures parts { own.new.parts ≡ own.old.parts + length others.items }
-    ensures taken { (id : Task) → times id own.new.taken ≡ times id own.old.taken + sum_by (λ o. times id (taken_from worker o)) others.items }
+    ensures taken { (id : Task)
+        → times id own.new.taken ≡ times id own.old.taken + sum_by (λ o. times id (taken_from worker o)) others.items }
 {
     for hands in others {
         own.absorb(hands.into_thief(worker));

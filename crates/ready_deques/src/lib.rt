@@ -1,4 +1,5 @@
-//! Deques of ready tasks, one for each worker: it pushes and pops at the back of its own, and the others steal at the front.
+//! Deques of ready tasks, one for each worker: it pushes and pops at the back of its own, and the others steal at the
+//! front.
 #![tactic(auto)]
 
 mod ends;

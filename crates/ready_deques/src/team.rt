@@ -46,7 +46,8 @@ fn thief_rows(alloc: Global, owners: &mut Vec<OwnerEnd>) -> Result<Vec<Vec<Thief
 // A thief's end of each deque.
 fn thieves(alloc: Global, owners: &mut Vec<OwnerEnd>) -> Result<Vec<ThiefEnd>, OutOfMemory>
     requires { All (λ b. 1 < b.parts) owners.old.items }
-    ensures { IfOk result (λ thieves. (thieves.items ≡ map new_thief owners.old.items) × (owners.new.items ≡ map (less 1) owners.old.items)) }
+    ensures { IfOk result (λ thieves.
+        (thieves.items ≡ map new_thief owners.old.items) × (owners.new.items ≡ map (less 1) owners.old.items)) }
 {
     let mut thieves = Vec::new(alloc);
     for k in 0..owners.len() {
@@ -63,7 +64,8 @@ fn assemble(
 ) -> Result<Vec<Hands>, OutOfMemory>
     requires workers_at_most { length owners.items ≤ 64 }
     requires new { All (IsNew (length owners.items)) owners.items }
-    requires rows { (length rows.items ≡ length owners.items) × All (λ row. row.items ≡ map new_thief owners.items) rows.items }
+    requires rows { (length rows.items ≡ length owners.items)
+        × All (λ row. row.items ≡ map new_thief owners.items) rows.items }
     ensures { IfOk result (λ hands. AreFresh (length owners.items) (map (λ b. b.deque) owners.items) hands.items) }
 {
     let mut hands = Vec::new(alloc);

@@ -1,8 +1,7 @@
 -- The rows of an answer are of its plan: of its classes, and of their words.
 use Rattle.std.proofs.Common.{◌≡◌, ℕ, zero, suc, Bool, true, false, ◌==◌, nat_lt, if◌then◌else◌, List, [], ◌∷◌, ◌⊎◌, inl, inr, Option, Some, None, Ok, Err, refl, ap, sym, ◌∙◌, subst, length, slice_get}
-use Rattle.std.proofs.lemmas.List.Elements.{All-nil, All-cons}
-use Rattle.std.proofs.lemmas.Option.{slice_get_within}
-use Rattle.std.specs.Prelude.{All, option_map, unwrap_or}
+use Rattle.std.proofs.lemmas.Option.{slice_get_within, same_Some}
+use Rattle.std.specs.Prelude.{All, option_map}
 use Rattle.std.specs.Option.{option_map_or}
 use Rattle.std.specs.List.{flat_map}
 use Rattle.ptg_base.specs.Lists.{IsIn}
@@ -17,7 +16,7 @@ use Rattle.coll_data.specs.Data.{Data}
 use Rattle.body_eval.specs.Meaning.{body_meaning}
 use Rattle.dep_iter.specs.Tasks.{IsTask, all_tasks, locals_of}
 use Rattle.dep_iter.proofs.Listing.{listed}
-use Rattle.range_space.proofs.MemberLists.{from_flat_map}
+use Rattle.list_lemmas.proofs.Members.{from_flat_map, All-from_members}
 use Rattle.flow_meaning.specs.declared.outcome.TrapRow.{TrapRow}
 use Rattle.flow_meaning.specs.declared.outcome.WaitRow.{WaitRow}
 use Rattle.flow_meaning.specs.Starting.{Delivery, starting_tiles}
@@ -29,11 +28,6 @@ use Rattle.flow_meaning.specs.Answer.{answer, answer_by, ran, satisfied, trap_ro
 use Rattle.flow_meaning.proofs.SourceEdges.{class_of}
 use Rattle.report_text.specs.Rows.{HasClass, HasRowsOf, HasWord, IsTrapOf, trap_words}
 use Rattle.report_text.proofs.TrapWords.{Allows, IsAllowed, allows-body}
-
--- a property of all members holds of each element
-all_members : {A : Type 0} (Q : A → Type 0) (xs : List A) → ((x : A) → IsIn x xs → Q x) → All Q xs
-all_members Q [] h = All-nil Q
-all_members Q (x ∷ xs) h = All-cons Q x xs (h x (inl refl)) (all_members Q xs (λ y i. h y (inr i)))
 
 module _ {A : Type 0} (key : A → Task) where
   in_choice : (b : Bool) (p q : List A) (x : A) → IsIn x (if b then p else q) → IsIn x p ⊎ IsIn x q
@@ -54,9 +48,6 @@ module _ {A : Type 0} (key : A → Task) where
   in_ordered [] x i = i
   in_ordered (y ∷ ys) x i = elim (in_inserted y (in_task_order key ys) x i) [ inl e ↦ inl e | inr h ↦ inr (in_ordered ys x h) ]
 
-some_is : {A : Type 0} (x y : A) → Some x ≡ Some y → x ≡ y
-some_is x y e = ap (λ o. unwrap_or o y) e
-
 -- the class of a task of the job is one of the plan's
 pub has_class : (P : Plan) (t : Task) → IsTask P t → HasClass P t
 has_class P t task = let c = class_of P t task in slice_get_within P.classes t.class c.class c.class_is
@@ -71,7 +62,7 @@ module _ (P : Plan) (G : Data) where
   end_allowed t c d here words cause e =
       let tiles = starting_tiles P G d t in
       let end = body_meaning c.body (locals_of P t) tiles in
-      let same : end ≡ Err cause = some_is end (Err cause) (sym (ap (λ o. option_map (λ (k : ClassPlan). body_meaning k.body (locals_of P t) tiles) o) here) ∙ e) in
+      let same : end ≡ Err cause = same_Some end (Err cause) (sym (ap (λ o. option_map (λ (k : ClassPlan). body_meaning k.body (locals_of P t) tiles) o) here) ∙ e) in
       subst (λ (r : Ended). Allows (length c.trap_words) r) same (allows-body (length c.trap_words) c.body (locals_of P t) tiles words)
 
   choice_allowed : (c : ClassPlan) (b : Bool) (o : Option Ended) → EndAllowed c o → EndAllowed c (if b then o else None)
@@ -108,7 +99,7 @@ module _ (P : Plan) (G : Data) where
 
   traps_allowed : All (IsTrapOf P) (trapped P G)
   unfolding trapped
-  traps_allowed = all_members (IsTrapOf P) (trapped P G) (λ row i.
+  traps_allowed = All-from_members (IsTrapOf P) (trapped P G) (λ row i.
       let rows = flat_map (λ t. rows_of_end t (ended P G t)) (all_tasks P) in
       let m = from_flat_map (λ t. rows_of_end t (ended P G t)) (all_tasks P) row (in_ordered (λ (r : TrapRow). r.task) rows row i) in
       let r = trap_row_in m.0 (ended P G m.0) row m.2 in
@@ -125,7 +116,7 @@ module _ (P : Plan) (G : Data) where
 
   waits_allowed : All (λ (row : WaitRow). HasClass P row.task) (waiting P G)
   unfolding waiting
-  waits_allowed = all_members (λ (row : WaitRow). HasClass P row.task) (waiting P G) (λ row i.
+  waits_allowed = All-from_members (λ (row : WaitRow). HasClass P row.task) (waiting P G) (λ row i.
       let rows = flat_map (λ t. wait_rows P G t (ended P G t)) (all_tasks P) in
       let m = from_flat_map (λ t. wait_rows P G t (ended P G t)) (all_tasks P) row (in_ordered (λ (r : WaitRow). r.task) rows row i) in
       subst (HasClass P) (sym (wait_row_in m.0 (ended P G m.0) row m.2)) (has_class P m.0 ((listed P m.0).1 m.1)))

@@ -1,4 +1,5 @@
--- A body traps only with a word that is below the number of its class's words, if each of its `trap` statements has one.
+-- A body traps only with a word that is below the number of its class's words, if each of its `trap` statements has
+-- one.
 use Rattle.std.proofs.Common.{◌≡◌, ◌<◌, ℕ, ℤ, Bool, true, false, ◌&&◌, ◌==◌, ◌-◌, nat_lt, if◌then◌else◌, List, [], ◌∷◌, Option, Some, None, Result, Ok, Err}
 use Rattle.std.proofs.lemmas.Bool.{and_parts, ltb-true}
 use Rattle.std.specs.Prelude.{length}

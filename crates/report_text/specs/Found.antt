@@ -9,7 +9,8 @@ use Rattle.report_text.specs.declared.demo_line.Summary.{Summary}
 use Rattle.report_text.specs.declared.certificate.HeaviestChain.{HeaviestChain}
 use Rattle.report_text.specs.declared.certificate.FoundCycle.{FoundCycle}
 
--- what is printed of a made job that is complete: how many rows of tiles and how many tasks it has, and the sum of all elements
+-- what is printed of a made job that is complete: how many rows of tiles and how many tasks it has, and the sum of all
+-- elements
 abbrev pub summary_text : Summary → List ℕ
 summary_text s = line (codes "demo" ∷ decimal s.rows ∷ decimal s.tasks ∷ signed_decimal s.sum ∷ [])
 
@@ -19,19 +20,25 @@ link_line plan t = line (codes "link" ∷ class_name plan t.class ∷ map signed
 
 -- the line of a task with its level
 abbrev pub level_line : Plan → Task × ℕ → List ℕ
-level_line plan row = line (codes "level" ∷ class_name plan row.0.class ∷ (map signed_decimal row.0.params ++ decimal row.1 ∷ []))
+level_line plan row =
+    line (codes "level" ∷ class_name plan row.0.class ∷ (map signed_decimal row.0.params ++ decimal row.1 ∷ []))
 
 -- the first two lines of a heaviest chain: how many tasks the job has, and the chain's length and weight
 abbrev pub chain_head : HeaviestChain → List ℕ
-chain_head found = line (codes "complete" ∷ decimal found.tasks ∷ []) ++ line (codes "chain" ∷ decimal (length found.chain) ∷ decimal found.weight ∷ [])
+chain_head found =
+    line (codes "complete" ∷ decimal found.tasks ∷ [])
+    ++ line (codes "chain" ∷ decimal (length found.chain) ∷ decimal found.weight ∷ [])
 
 -- what is printed of a heaviest chain: those, its tasks, and the level of each task of the job
 abbrev pub chain_text : Plan → HeaviestChain → List ℕ
-chain_text plan found = chain_head found ++ (flat_map (link_line plan) found.chain ++ flat_map (level_line plan) found.levels)
+chain_text plan found =
+    chain_head found ++ (flat_map (link_line plan) found.chain ++ flat_map (level_line plan) found.levels)
 
 -- the first two lines of a cycle: how many tasks ran, of how many, and the cycle's length
 abbrev pub cycle_head : FoundCycle → List ℕ
-cycle_head found = line (codes "stalled" ∷ decimal found.ran ∷ decimal found.tasks ∷ []) ++ line (codes "cycle" ∷ decimal (length found.cycle) ∷ [])
+cycle_head found =
+    line (codes "stalled" ∷ decimal found.ran ∷ decimal found.tasks ∷ [])
+    ++ line (codes "cycle" ∷ decimal (length found.cycle) ∷ [])
 
 -- what is printed of a cycle: those, and its tasks
 abbrev pub cycle_text : Plan → FoundCycle → List ℕ

@@ -4,7 +4,8 @@ use Rattle.std.specs.List.{range_with_len}
 use Rattle.coll_data.specs.declared.coll.Coll.{Coll}
 use Rattle.coll_data.specs.Tiles.{tile_count}
 
--- the places of a collection, row by row and in each row column by column; a place is its row, and its column where there are columns
+-- the places of a collection, row by row and in each row column by column; a place is its row, and its column where
+-- there are columns
 abbrev pub places : ℕ → Option ℕ → List (List ℕ)
 places rows None = map (λ i. i ∷ []) (range_with_len 0 rows)
 places rows (Some cols) = flat_map (λ i. map (λ j. i ∷ j ∷ []) (range_with_len 0 cols)) (range_with_len 0 rows)

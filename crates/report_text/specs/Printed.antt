@@ -22,11 +22,17 @@ coll_lines coll = flat_map (λ p. tile_line coll.name p.0 p.1) (zip (places coll
 
 -- the line of a task that trapped: its class, its parameters, and the cause
 abbrev pub trap_line : Plan → TrapRow → List ℕ
-trap_line plan row = line (codes "trap" ∷ class_name plan row.task.class ∷ (map signed_decimal row.task.params ++ cause_text (trap_words plan row.task.class) row.cause ∷ []))
+trap_line plan row =
+    line
+    (codes "trap" ∷ class_name plan row.task.class
+    ∷ (map signed_decimal row.task.params ++ cause_text (trap_words plan row.task.class) row.cause ∷ []))
 
 -- the line of a task that waits: its class, its parameters, how many edges into it have come, and how many there are
 abbrev pub wait_line : Plan → WaitRow → List ℕ
-wait_line plan row = line (codes "wait" ∷ class_name plan row.task.class ∷ (map signed_decimal row.task.params ++ decimal row.arrived ∷ decimal row.goal ∷ []))
+wait_line plan row =
+    line
+    (codes "wait" ∷ class_name plan row.task.class
+    ∷ (map signed_decimal row.task.params ++ decimal row.arrived ∷ decimal row.goal ∷ []))
 
 -- the first line of an answer: what became of the job, with its counts
 abbrev pub first_line : Outcome → List ℕ

@@ -14,12 +14,16 @@ flow_text (Some flow) name = name
 
 -- the line of a job that is not consistent: the code of its fault, the class, the numbers and the flow
 abbrev pub inconsistent_line : MatchFault → List ℕ → List ℕ → List ℕ
-inconsistent_line fault class flow = line (codes "inconsistent" ∷ match_code fault.code ∷ class ∷ (map signed_decimal fault.numbers ++ flow_text fault.flow flow ∷ []))
+inconsistent_line fault class flow =
+    line
+    (codes "inconsistent" ∷ match_code fault.code ∷ class
+    ∷ (map signed_decimal fault.numbers ++ flow_text fault.flow flow ∷ []))
 
 -- what is printed of a refusal
 abbrev pub refusal_text : Line → List ℕ
 refusal_text Usage = line (codes "usage" ∷ [])
-refusal_text (Jdf fault) = line (codes "refused" ∷ decimal fault.spot.line ∷ decimal fault.spot.column ∷ jdf_code fault.code ∷ [])
+refusal_text (Jdf fault) =
+    line (codes "refused" ∷ decimal fault.spot.line ∷ decimal fault.spot.column ∷ jdf_code fault.code ∷ [])
 refusal_text (Rows fault) = line (codes "data" ∷ decimal fault.row ∷ data_code fault.code ∷ [])
 refusal_text (Match fault class flow) = inconsistent_line fault.now class.now flow.now
 refusal_text (Unread name) = line (codes "unread" ∷ name.now ∷ [])

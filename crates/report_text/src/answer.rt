@@ -19,7 +19,8 @@ use ptg_io::{Failed, Sink};
 pub fn report<O: Sink>(plan: &Plan, outcome: &Outcome, sink: &mut O) -> Result<(), Failed>
     requires { HasRowsOf plan.now outcome.now }
     ensures ok { OnOk result (O.bytes sink.new ≡ appended (O.bytes sink.old) (outcome_text plan.now outcome.now)) }
-    ensures prefix { OnErr result (HasPrefix (O.bytes sink.old) (O.bytes sink.new) (outcome_text plan.now outcome.now)) }
+    ensures prefix { OnErr result
+        (HasPrefix (O.bytes sink.old) (O.bytes sink.new) (outcome_text plan.now outcome.now)) }
     ensures grows { O.faults sink.old ≤ O.faults sink.new }
     ensures failed { OnErr result (Rose (O.faults sink.old) (O.faults sink.new)) }
 {
@@ -28,11 +29,12 @@ pub fn report<O: Sink>(plan: &Plan, outcome: &Outcome, sink: &mut O) -> Result<(
     flush(sink, &mut out)
 }
 
-/// Prints that a job is consistent, with its numbers of tasks, of edges and of write-backs. On `Err` some first bytes of it
-/// went out.
+/// Prints that a job is consistent, with its numbers of tasks, of edges and of write-backs. On `Err` some first bytes
+/// of it went out.
 pub fn consistent<O: Sink>(tasks: u64, edges: u64, writes: u64, sink: &mut O) -> Result<(), Failed>
     ensures ok { OnOk result (O.bytes sink.new ≡ appended (O.bytes sink.old) (consistent_text tasks edges writes)) }
-    ensures prefix { OnErr result (HasPrefix (O.bytes sink.old) (O.bytes sink.new) (consistent_text tasks edges writes)) }
+    ensures prefix { OnErr result
+        (HasPrefix (O.bytes sink.old) (O.bytes sink.new) (consistent_text tasks edges writes)) }
     ensures grows { O.faults sink.old ≤ O.faults sink.new }
     ensures failed { OnErr result (Rose (O.faults sink.old) (O.faults sink.new)) }
 {

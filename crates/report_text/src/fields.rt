@@ -29,7 +29,8 @@ pub fn put_line<O: Sink>(
     word: &[u8],
     fields: &[Field],
 ) -> Result<(), Failed>
-    ensures { Puts O.bytes O.faults result sink.old out.old sink.new out.new (line (word.now ∷ flat_map field_texts fields.now)) }
+    ensures { Puts O.bytes O.faults result sink.old out.old sink.new out.new
+        (line (word.now ∷ flat_map field_texts fields.now)) }
 {
     put_bytes(sink, out, word)?;
     put_fields(sink, out, fields)?;

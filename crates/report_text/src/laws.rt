@@ -7,8 +7,8 @@ ghost use Rattle.ptg_base.specs.Task.{Task};
 ghost use Rattle.dep_iter.specs.Tasks.{IsTask};
 ghost use Rattle.report_text.specs.Rows.{HasClass, HasRowsOf};
 
-/// A law: all names in the answer of a job can be printed: the class of each row is one of the plan's, and a trap's word is
-/// one of that class's.
+/// A law: all names in the answer of a job can be printed: the class of each row is one of the plan's, and a trap's
+/// word is one of that class's.
 pub fn answers_have_rows_of_their_plan()
     ensures { (P : Plan) (G : Data) → HasRowsOf P (answer P G) }
 {}

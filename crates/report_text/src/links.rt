@@ -50,7 +50,8 @@ pub fn put_levels<O: Sink>(
     levels: &[(TaskId, u64)],
 ) -> Result<(), Failed>
     requires { All (λ (row : Task × ℕ). HasClass plan.now row.0) levels.now }
-    ensures { Puts O.bytes O.faults result sink.old out.old sink.new out.new (flat_map (level_line plan.now) levels.now) }
+    ensures { Puts O.bytes O.faults result sink.old out.old sink.new out.new
+        (flat_map (level_line plan.now) levels.now) }
 {
     for level in levels {
         put_level(sink, out, plan, level)?;

@@ -25,8 +25,8 @@ pub struct RankedAnswer {
     pub outcome: Outcome,
 }
 
-/// Prints the line of the ranks, which goes out as a piece of its own, and the answer of the job. On `Err` some first bytes of both
-/// went out.
+/// Prints the line of the ranks, which goes out as a piece of its own, and the answer of the job. On `Err` some first
+/// bytes of both went out.
 pub fn ranked_answer<O: Sink>(plan: &Plan, found: &RankedAnswer, sink: &mut O) -> Result<(), Failed>
     requires { HasRowsOf plan.now found.now.outcome }
     ensures ok { OnOk result (O.bytes sink.new ≡ appended (O.bytes sink.old) (ranked_text plan.now found.now)) }

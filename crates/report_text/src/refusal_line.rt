@@ -24,7 +24,8 @@ pub enum Line<'a> {
     Jdf(JdfFault),
     /// The data file is refused.
     Rows(DataFault),
-    /// The job is not consistent: its fault, the name of the fault's class, and that of its flow, if the fault is at a flow.
+    /// The job is not consistent: its fault, the name of the fault's class, and that of its flow, if the fault is at a
+    /// flow.
     Match(&'a MatchFault, &'a [u8], &'a [u8]),
     /// The file with this name could not be read.
     Unread(&'a [u8]),
@@ -85,7 +86,8 @@ fn put_inconsistent<'a, O: Sink>(
     class: &'a [u8],
     flow: &'a [u8],
 ) -> Result<(), Failed>
-    ensures { Puts O.bytes O.faults result sink.old out.old sink.new out.new (inconsistent_line fault.now class.now flow.now) }
+    ensures { Puts O.bytes O.faults result sink.old out.old sink.new out.new
+        (inconsistent_line fault.now class.now flow.now) }
 {
     let fields = [
         Field::Word(match_code(fault.code)),

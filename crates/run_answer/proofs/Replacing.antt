@@ -14,6 +14,7 @@ use Rattle.coll_data.specs.WellMade.{elements_by_type}
 use Rattle.flow_meaning.specs.Final.{is_index, is_place_of, replaced_colls, replaced_data, replaced_tiles}
 use Rattle.flow_meaning.specs.StateAnswer.{first_written}
 use Rattle.run_answer.specs.Written.{IsWritable, with_tiles}
+use Rattle.list_lemmas.proofs.Numbers.{eqb-self}
 
 -- what was written to the place that passes a test, by these write-backs
 abbrev pub written_to : List (WriteBack × List ℤ) → (Place → Bool) → Option (List ℤ)
@@ -52,9 +53,6 @@ marked_one test t i (suc j) k (tile ∷ tiles) holds other e =
     ap (λ b. cond b t tile ∷ marked test t (suc k) tiles) (other k (λ same. omega arith))
     ∙ ap (λ l. tile ∷ l) (marked_one test t i j (suc k) tiles holds other (omega arith))
 
-eqb_self : (n : ℕ) → eqb n n ≡ true
-eqb_self n = grind arith
-
 eqb_other : (i n : ℕ) → n ≢ i → eqb i n ≡ false
 eqb_other i n ne = false_from_ne_true (eqb i n) (λ h. ne (sym (eqb-true i n h)))
 
@@ -86,7 +84,7 @@ module _ (ws : List (WriteBack × List ℤ)) (w : WriteBack × List ℤ) where
 
   marked_index : (o : Option ℕ) (tiles : List (List ℤ)) → marked (is_index o) w.1 0 tiles ≡ option_map_or (λ n. set tiles n w.1) o tiles
   marked_index None tiles = marked_none (is_index None) w.1 0 tiles (λ n le. refl)
-  marked_index (Some i) tiles = marked_one (is_index (Some i)) w.1 i i 0 tiles (eqb_self i) (λ n ne. eqb_other i n ne) (omega arith)
+  marked_index (Some i) tiles = marked_one (is_index (Some i)) w.1 i i 0 tiles (eqb-self i) (λ n ne. eqb_other i n ne) (omega arith)
 
   same_marks : (p q : ℕ → Bool) (t : List ℤ) (k : ℕ) (tiles : List (List ℤ)) → ((n : ℕ) → p n ≡ q n) → marked p t k tiles ≡ marked q t k tiles
   same_marks p q t k [] e = refl
@@ -119,7 +117,7 @@ module _ (ws : List (WriteBack × List ℤ)) (w : WriteBack × List ℤ) where
   colls_at c (suc j) [] e = refl
   colls_at c zero (x ∷ xs) e =
       let here : place.coll ≡ c = omega arith in
-      ap (λ (l : List (List ℤ)). record x { tiles = l } ∷ replaced_colls after (suc c) xs) (here_in c x (subst (λ n. eqb place.coll n ≡ true) here (eqb_self place.coll)))
+      ap (λ (l : List (List ℤ)). record x { tiles = l } ∷ replaced_colls after (suc c) xs) (here_in c x (subst (λ n. eqb place.coll n ≡ true) here (eqb-self place.coll)))
       ∙ ap (λ l. record x { tiles = replaced_tiles before c x 0 (coll_with x place.i place.j w.1).tiles } ∷ l) (colls_past (suc c) xs (omega arith))
   colls_at c (suc j) (x ∷ xs) e =
       ap (λ (l : List (List ℤ)). record x { tiles = l } ∷ replaced_colls after (suc c) xs) (elsewhere c x (eqb_other place.coll c (λ same. omega arith)))

@@ -1,6 +1,6 @@
 -- A sort by tasks gives rows of different tasks in task order.
 use Rattle.std.proofs.Common.{◌≡◌, ℕ, zero, suc, ◌+◌, ◌<◌, ◌≤◌, Bool, true, false, not, cond, List, [], ◌∷◌, length, get_or, refl, ap, sym, ◌∙◌, subst, ◌⊎◌, inl, inr, arith}
-use Rattle.std.proofs.lemmas.Bool.{false≢true, and_parts, and_from}
+use Rattle.std.proofs.lemmas.Bool.{false≢true, and_parts, and_from, not-true}
 use Rattle.std.proofs.lemmas.List.Sorted.{answers_always, ranks_by, sorted_far, IsPermutation-sym, Contains-permutation, sum_by-IsPermutation}
 use Rattle.std.proofs.lemmas.List.Sums.{sum_by-cons}
 use Rattle.std.specs.List.{filter, sum_by}
@@ -17,16 +17,9 @@ use Rattle.ptg_base.specs.Task.{Task}
 use Rattle.ptg_base.specs.TaskOrder.{in_task_order, insert_by, task_before}
 use Rattle.ptg_base.specs.TaskComparing.{same_task, task_cmp}
 use Rattle.ptg_base.specs.TaskLaws.{same_task-ties, task_before-cmp, task_cmp-total}
-use Rattle.flow_meaning.specs.Counting.{as_number, count, weigh}
+use Rattle.list_lemmas.specs.Counting.{as_number, count, weigh}
 use Rattle.run_answer.specs.Rows.{AreOfDifferentTasks}
-
-by_test : {P : Type 0} (b : Bool) → (b ≡ true → P) → (b ≡ false → P) → P
-by_test true on_true on_false = on_true refl
-by_test false on_true on_false = on_false refl
-
-not_true : (b : Bool) → not b ≡ true → b ≡ false
-not_true true h = absurd (false≢true h)
-not_true false h = refl
+use Rattle.list_lemmas.proofs.Truth.{by_test}
 
 module _ {A : Type 0} (key : A → Task) where
   -- whether the task of one row is before that of another
@@ -45,10 +38,10 @@ module _ {A : Type 0} (key : A → Task) where
   tie_from x y h k = and_from (not (lt x y)) (not (lt y x)) (ap not h) (ap not k)
 
   tie_left : (x y : A) → ties lt x y ≡ true → lt x y ≡ false
-  tie_left x y h = not_true (lt x y) ((and_parts (not (lt x y)) (not (lt y x)) h).0)
+  tie_left x y h = not-true (lt x y) ((and_parts (not (lt x y)) (not (lt y x)) h).0)
 
   tie_right : (x y : A) → ties lt x y ≡ true → lt y x ≡ false
-  tie_right x y h = not_true (lt y x) ((and_parts (not (lt x y)) (not (lt y x)) h).1)
+  tie_right x y h = not-true (lt y x) ((and_parts (not (lt x y)) (not (lt y x)) h).1)
 
   -- no later row is before an earlier one
   abbrev IsUp : List A → Type 0

@@ -1,5 +1,5 @@
 -- A write-back that was sent has a tile of the size of its collection's type, and a place of the data.
-use Rattle.std.proofs.Common.{◌≡◌, ℕ, zero, suc, ◌+◌, ℤ, Bool, true, false, ◌&&◌, eqb, List, [], ◌∷◌, length, map, refl, ap, sym, ◌∙◌, subst, Option, Some, None, Result, Ok, Err, slice_get, slice_index, IfSome, is_some, inl, inr, arith}
+use Rattle.std.proofs.Common.{◌≡◌, ℕ, suc, ◌+◌, ℤ, Bool, true, false, ◌&&◌, eqb, List, [], ◌∷◌, length, map, refl, ap, sym, ◌∙◌, subst, Option, Some, None, Result, Ok, Err, slice_get, slice_index, IfSome, is_some, inl, inr, arith}
 use Rattle.std.proofs.lemmas.Bool.{and_parts, eqb-true, false≢true}
 use Rattle.std.proofs.lemmas.Option.{slice_get-map}
 use Rattle.std.specs.Prelude.{option_map}
@@ -17,7 +17,9 @@ use Rattle.term_core.specs.Value.{and_then}
 use Rattle.term_core.specs.declared.fault.ExprFault.{ExprFault}
 use Rattle.term_core.specs.declared.flow.FlowKind.{FlowKind}
 use Rattle.term_core.specs.declared.flow.FlowKind.TheVariants.{Read, Write, Rw, Ctl}
-use Rattle.range_space.proofs.MemberLists.{from_append, from_flat_map, from_map}
+use Rattle.list_lemmas.proofs.Members.{from_append, from_flat_map, from_map, member_passes}
+use Rattle.list_lemmas.proofs.Places.{IsIn-slice_get}
+use Rattle.list_lemmas.proofs.Options.{from_option_map}
 use Rattle.plan_core.specs.declared.class.ClassPlan.{ClassPlan}
 use Rattle.plan_core.specs.declared.flow.DepPlan.{DepPlan}
 use Rattle.plan_core.specs.declared.flow.FlowPlan.{FlowPlan}
@@ -42,7 +44,6 @@ use Rattle.dep_iter.specs.Consistent.{IsConsistent}
 use Rattle.flow_meaning.specs.Ending.{has_outputs, output_tile}
 use Rattle.flow_meaning.specs.Backward.{ended}
 use Rattle.flow_meaning.specs.Machine.{MachineState, Sent, sender}
-use Rattle.flow_meaning.proofs.Members.{all_at}
 use Rattle.flow_meaning.proofs.Sizes.{item_sized}
 use Rattle.flow_meaning.proofs.SourceEdges.{class_of}
 use Rattle.run_answer.specs.Written.{IsWritable}
@@ -134,11 +135,6 @@ pub record IsWritingFlow (P : Plan) (t : Task) (w : WriteBack) : Type 0 where
   pub carries : is_data (Some flow.kind) ≡ true
   pub same_type : option_map_or (λ (s : Shape). eqb s.datatype flow.datatype) (slice_get P.colls w.place.coll) false ≡ true
 
-is_in_at : {A : Type 0} (xs : List A) (n : ℕ) (x : A) → slice_get xs n ≡ Some x → IsIn x xs
-is_in_at [] n x e = absurd cc
-is_in_at (y ∷ xs) zero x e = let same : y ≡ x = cc in inl (sym same)
-is_in_at (y ∷ xs) (suc n) x e = inr (is_in_at xs n x e)
-
 pub writing_flow : (P : Plan) (t : Task) → IsTask P t → (w : WriteBack) → IsIn (item.Write w) (items P t) → IsWritingFlow P t w
 unfolding items
 writing_flow P t job w among =
@@ -152,9 +148,9 @@ writing_flow P t job w among =
     let locals = length h.space.defs in
     let flows : flows_of P t ≡ h.class.flows = ap (λ o. option_map_or (λ (c : ClassPlan). c.flows) o []) h.class_is in
     let passes = is_destination P.classes P.spaces P.colls locals at.1 in
-    let flow = all_at (is_flow P.classes P.spaces P.colls (length P.elems) locals) h.class.flows well.flows at.1 (is_in_at h.class.flows at.0 at.1 (subst (λ fs. slice_get fs at.0 ≡ Some at.1) flows at.2)) in
+    let flow = member_passes (is_flow P.classes P.spaces P.colls (length P.elems) locals) h.class.flows well.flows at.1 (IsIn-slice_get h.class.flows at.0 at.1 (subst (λ fs. slice_get fs at.0 ≡ Some at.1) flows at.2)) in
     let outs = (and_parts _ _ flow).1 in
-    let passed = passing locals passes d.dependence d.by a.0.1 (all_at (is_dependence locals passes) at.1.outs outs d.dependence d.among) d.is in
+    let passed = passing locals passes d.dependence d.by a.0.1 (member_passes (is_dependence locals passes) at.1.outs outs d.dependence d.among) d.is in
     let element : passes (target.Element e.0 e.1) ≡ true = subst (λ x. passes x ≡ true) e.2 passed in
     let parts = and_parts _ _ element in
     let kind = carries_tile P.classes at.1.kind e.0 e.1 parts.1 in
@@ -166,10 +162,6 @@ writing_flow P t job w among =
       carries = kind;
       same_type = subst (λ n. option_map_or (λ (s : Shape). eqb s.datatype at.1.datatype) (slice_get P.colls n) false ≡ true) coll type;
     }
-
-some_of : {A B : Type 0} (f : A → B) (o : Option A) (y : B) → option_map f o ≡ Some y → (x : A) × (o ≡ Some x) × (f x ≡ y)
-some_of f None y e = absurd cc
-some_of f (Some x) y e = (x, refl, cc)
 
 -- a tile of a datatype is one of a collection of that datatype
 tile_of_coll : (P : Plan) (G : Data) → DataFit P.colls P.elems G → (coll datatype : ℕ) (tile : List ℤ) → option_map_or (λ (s : Shape). eqb s.datatype datatype) (slice_get P.colls coll) false ≡ true
@@ -203,7 +195,7 @@ module _ (P : Plan) (G : Data) (con : IsConsistent P) (S : MachineState) (sound 
       let outputs : has_outputs (ended P G w.from) ≡ true = subst (λ t. has_outputs (ended P G t) ≡ true) from out.outputs in
       let f = writing_flow P w.from job w among in
       let size = item_sized P G con known well w.from job outputs (item.Write w) among f.flow f.here f.carries in
-      let tile = some_of length (output_tile (ended P G w.from) w.flow) (slice_index P.elems f.flow.datatype) size in
+      let tile = from_option_map length (output_tile (ended P G w.from) w.flow) (slice_index P.elems f.flow.datatype) size in
       let exists = (con.connected w.from job).written_exist w (write_among (items P w.from) w among) in (
         tile.0,
         out.tile ∙ ap (λ j. output_tile (ended P G (sender j)) (item_flow j)) q ∙ tile.1,

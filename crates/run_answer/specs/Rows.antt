@@ -2,7 +2,7 @@
 use Rattle.std.specs.Prelude.{◌≤◌, List}
 use Rattle.ptg_base.specs.Task.{Task}
 use Rattle.ptg_base.specs.TaskComparing.{same_task}
-use Rattle.flow_meaning.specs.Counting.{count}
+use Rattle.list_lemmas.specs.Counting.{count}
 
 -- at most one of the rows is of a task
 abbrev pub AreOfDifferentTasks : {A : Type 0} → (A → Task) → List A → Type 0

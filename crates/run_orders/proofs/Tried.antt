@@ -6,8 +6,8 @@ use Rattle.ptg_base.specs.Task.{Task}
 use Rattle.ptg_base.specs.TaskComparing.{same_task}
 use Rattle.ptg_base.specs.TaskLaws.{same_task-decides}
 use Rattle.ptg_base.specs.declared.edge.Item.{Item}
-use Rattle.range_space.proofs.MemberLists.{IsIn-append_left, IsIn-append_right}
-use Rattle.range_space.proofs.Stepping.{by_test}
+use Rattle.list_lemmas.proofs.Members.{IsIn-append_left, IsIn-append_right}
+use Rattle.list_lemmas.proofs.Truth.{by_test}
 use Rattle.flow_meaning.specs.Ending.{Ended}
 use Rattle.flow_core.specs.RunState.{IsRunning, RunState, with_claim, with_end, with_send}
 

@@ -1,5 +1,5 @@
-//! Runs a broadcast by the calls of one run, in orders other than the program's, compares each answer with that of one thread,
-//! and prints how each order ends.
+//! Runs a broadcast by the calls of one run, in orders other than the program's, compares each answer with that of one
+//! thread, and prints how each order ends.
 #![tactic(auto)]
 
 mod orders;

@@ -5,8 +5,8 @@ use flow_meaning::Outcome;
 use ptg_base::{OutOfMemory, Place};
 use std::alloc::Global;
 
-// The job of the row 'a broadcast' of jobs.txt: Src(0) sends one tile to three tasks Sink(i), and each adds i to its number and
-// writes it back to its own place.
+// The job of the row 'a broadcast' of jobs.txt: Src(0) sends one tile to three tasks Sink(i), and each adds i to its
+// number and writes it back to its own place.
 const JDF: &[u8] = b"D
 
 Src(z)
@@ -102,7 +102,8 @@ pub const REFUSED: &[(Step, bool)] = &[
     (Step::Finish(0, 0), true),
     (Step::Runs(0, 0), false),
     (Step::Claim(0, 0), false),
-    // An edge that the job does not have, one that was sent, and claims where the edge was not sent or the task is claimed.
+    // An edge that the job does not have, one that was sent, and claims where the edge was not sent or the task is
+    // claimed.
     (Step::Edge(3), false),
     (Step::Edge(1), true),
     (Step::Edge(1), false),

@@ -51,7 +51,9 @@ impl Model for Stepwise {
 
     ghost view = { λ s. s.run };
 
-    ghost invariant = { λ s. DataFit s.job.colls s.job.elems s.given × Fits s.job s.given s.run × ((t : Task) → IsRunning s.run t → IsIn t s.tried.items) };
+    ghost invariant = { λ s.
+        DataFit s.job.colls s.job.elems s.given × Fits s.job s.given s.run
+        × ((t : Task) → IsRunning s.run t → IsIn t s.tried.items) };
 }
 
 fn edge(to: i64) -> Item {

@@ -1,4 +1,3 @@
-pub mod Lists
 pub mod Totals
 pub mod OneType
 pub mod Places

@@ -5,7 +5,8 @@ use Rattle.ptg_base.specs.Lists.{IsIn}
 use Rattle.ptg_base.specs.Task.{Task}
 use Rattle.ptg_base.specs.declared.edge.Edge.{Edge}
 use Rattle.ptg_base.specs.declared.edge.WriteBack.{WriteBack}
-use Rattle.range_space.proofs.MemberLists.{from_flat_map}
+use Rattle.list_lemmas.proofs.Members.{from_flat_map, from_filter}
+use Rattle.list_lemmas.proofs.Counts.{weigh-each}
 use Rattle.plan_core.specs.declared.flow.FlowPlan.{FlowPlan}
 use Rattle.plan_core.specs.declared.plan.Plan.{Plan}
 use Rattle.plan_core.specs.Kinds.{flow_of, is_data}
@@ -17,7 +18,6 @@ use Rattle.dep_iter.proofs.Listing.{listed}
 use Rattle.shard_meaning.proofs.Destinations.{flow_is, writes_from}
 use Rattle.task_run.proofs.FlowSizes.{known}
 use Rattle.run_pool.specs.Bytes.{edge_elements, elements_of, preload_bytes, sent_elements, write_elements}
-use Rattle.run_pool.proofs.Lists.{from_filter, weigh-equal}
 use Rattle.run_pool.proofs.Totals.{into, out_of, write_item}
 
 module _ (P : Plan) (elems : ℕ) (one : P.elems ≡ elems ∷ []) where
@@ -53,8 +53,8 @@ module _ (P : Plan) (elems : ℕ) (one : P.elems ≡ elems ∷ []) where
   pub sent_are : sent_elements P ≡ elems * (length (all_data P) + length (all_writes P))
   unfolding sent_elements
   sent_are =
-      let ins = weigh-equal (edge_elements P) elems (all_data P) of_edge in
-      let outs = weigh-equal (write_elements P) elems (all_writes P) of_write in
+      let ins = weigh-each (edge_elements P) elems (all_data P) of_edge in
+      let outs = weigh-each (write_elements P) elems (all_writes P) of_write in
       omega (arith, ins, outs)
 
   pub bytes_are : (workers : ℕ) → preload_bytes P workers ≡ 8 * elems * (length (all_data P) + length (all_writes P) + 8 * workers)

@@ -3,11 +3,12 @@ use Rattle.std.proofs.Common.{◌≡◌, List, [], ◌∷◌, ◌++◌, map, ap,
 use Rattle.atomic_table.specs.Seated.{TableId}
 use Rattle.crossbeam_utils.specs.Padded.{padded_value}
 use Rattle.ptg_base.specs.Lists.{IsIn}
-use Rattle.range_space.proofs.MemberLists.{from_append}
+use Rattle.list_lemmas.proofs.Members.{from_append}
+use Rattle.std.proofs.lemmas.List.{map-append}
+use Rattle.list_lemmas.proofs.Counts.{weigh-push}
+use Rattle.list_lemmas.proofs.Places.{slice_get_push}
 use Rattle.plan_core.specs.declared.plan.Plan.{Plan}
-use Rattle.dep_iter.proofs.Joining.{map-append}
-use Rattle.flow_meaning.specs.Counting.{HasSameMembers}
-use Rattle.flow_meaning.proofs.Counting.{weigh-push}
+use Rattle.list_lemmas.specs.Counting.{HasSameMembers}
 use Rattle.task_run.specs.Bench.{IsBenchOf}
 use Rattle.work_board.specs.declared.record.PassRecord.{PassRecord}
 use Rattle.table_rule.specs.Names.{AreAll}
@@ -15,12 +16,11 @@ use Rattle.dep_table.specs.Passes.{IsPassOf}
 use Rattle.dep_table.specs.Views.{PassView, shown}
 use Rattle.run_pool.specs.Desks.{AreReady, IsReady}
 use Rattle.run_pool.specs.Seated.{IsFresh, PaddedDesk, pass_on, record_on}
-use Rattle.run_pool.proofs.Places.{among_more}
 
 -- one ready desk more
 pub ready_more : (table : TableId) (plan : Plan) (ds : List PaddedDesk) (d : PaddedDesk) (es : List PaddedDesk) → AreReady (IsPassOf table) shown plan ds → IsReady (IsPassOf table) shown plan (padded_value d) → es ≡ ds ++ d ∷ [] → AreReady (IsPassOf table) shown plan es
 ready_more table plan ds d es all one is = subst (AreReady (IsPassOf table) shown plan) (sym is)
-    (λ k e at. elim (among_more ds d k e at) [ inl before ↦ all k e before | inr same ↦ subst (λ x. IsReady (IsPassOf table) shown plan (padded_value x)) same one ])
+    (λ k e at. elim (slice_get_push ds d k e at) [ inl before ↦ all k e before | inr same ↦ subst (λ x. IsReady (IsPassOf table) shown plan (padded_value x)) same one ])
 
 abbrev Reorders : Type 0
 Reorders = (vs ws : List PassRecord) → HasSameMembers vs ws → AreAll vs → AreAll ws

@@ -23,20 +23,22 @@ use Rattle.dep_iter.specs.Edges.{in_edges}
 use Rattle.dep_iter.specs.Items.{items, write_backs, write_of}
 use Rattle.dep_iter.specs.Tasks.{IsTask, all_tasks, task, tasks_from}
 use Rattle.dep_iter.proofs.Belonging.{in_edge_is}
-use Rattle.flow_meaning.proofs.Counting.{weigh-append}
+use Rattle.list_lemmas.proofs.Counts.{weigh-append, weigh-at_most, weigh-filter, weigh-flat_map, weigh-plus}
+use Rattle.list_lemmas.proofs.Places.{drop_from}
+use Rattle.list_lemmas.proofs.Members.{from_filter_map}
+use Rattle.list_lemmas.proofs.Joins.{length-filter_le, length-filter_map_le, length-flat_map_le}
 use Rattle.flow_meaning.proofs.Rest.{item_sender}
-use Rattle.flow_meaning.specs.Counting.{weigh}
+use Rattle.list_lemmas.specs.Counting.{weigh}
 use Rattle.run_pool.specs.Bytes.{edge_elements, elements_of, sent_elements, write_elements}
 use Rattle.run_pool.specs.Elements.{carried_elements, in_elements, out_elements, task_elements}
-use Rattle.run_pool.proofs.Lists.{drop_at, from_filter_map, filter-fewer, filter_map-fewer, flat-fewer, weigh-at_most, weigh-filter, weigh-flat, weigh-plus}
 
 -- task by task as many numbers go over edges and write-backs as over all of them
 pub all_tasks_send : (P : Plan) → weigh (task_elements P) (all_tasks P) ≡ sent_elements P
 unfolding task_elements sent_elements
 all_tasks_send P =
     let both = weigh-plus (in_elements P) (out_elements P) (all_tasks P) in
-    let ins = weigh-filter (is_data_edge P) (edge_elements P) (all_in P) ∙ weigh-flat (carried_elements P) (in_edges P) (all_tasks P) in
-    let outs = weigh-flat (write_elements P) (write_backs P) (all_tasks P) in
+    let ins = weigh-filter (is_data_edge P) (edge_elements P) (all_in P) ∙ weigh-flat_map (carried_elements P) (in_edges P) (all_tasks P) in
+    let outs = weigh-flat_map (write_elements P) (write_backs P) (all_tasks P) in
     omega (arith, both, ins, outs)
 
 length_at_most : (n : ℕ) → is_tile_length n ≡ true → n ≤ 4096
@@ -56,18 +58,18 @@ elements_at_most P (Some f) = type_at_most P.elems f.datatype P.well_made.tile_l
 
 -- a job has no more write-backs than items
 writes_at_most : (P : Plan) → length (all_writes P) ≤ length (all_items P)
-writes_at_most P = flat-fewer (write_backs P) (items P) (all_tasks P) (λ t. filter_map-fewer write_of (items P t))
+writes_at_most P = length-flat_map_le (write_backs P) (items P) (all_tasks P) (λ t. length-filter_map_le write_of (items P t))
 
 -- a job has some millions of data edges and write-backs at most
 pub counts_at_most : (P : Plan) → IsConsistent P → length (all_data P) + length (all_writes P) ≤ 8000000
-counts_at_most P con = omega (arith, filter-fewer (is_data_edge P) (all_in P), writes_at_most P, con.in_edges_at_most, con.items_at_most)
+counts_at_most P con = omega (arith, length-filter_le (is_data_edge P) (all_in P), writes_at_most P, con.in_edges_at_most, con.items_at_most)
 
 pub sent_at_most : (P : Plan) → IsConsistent P → sent_elements P ≤ 32768000000
 unfolding sent_elements
 sent_at_most P con =
     let ins = weigh-at_most (edge_elements P) (all_data P) (λ e. elements_at_most P _) in
     let outs = weigh-at_most (write_elements P) (all_writes P) (λ w. elements_at_most P _) in
-    let fewer = filter-fewer (is_data_edge P) (all_in P) in
+    let fewer = length-filter_le (is_data_edge P) (all_in P) in
     let writes = writes_at_most P in
     omega (arith, ins, outs, fewer, writes, con.in_edges_at_most, con.items_at_most)
 
@@ -114,7 +116,7 @@ pub class_first : (P : Plan) (class : ℕ) (s : ClassSpace) → slice_get P.spac
     → weigh (task_elements P) (tasks_from class (drop class P.spaces)) ≡ weigh (task_elements P) (map (task class) (tasks s)) + weigh (task_elements P) (tasks_from (class + 1) (drop (class + 1) P.spaces))
 class_first P class s here =
     let f = task_elements P in
-    let split : weigh f (tasks_from class (drop class P.spaces)) ≡ weigh f (tasks_from class (s ∷ drop (suc class) P.spaces)) = ap (λ ss. weigh f (tasks_from class ss)) (drop_at P.spaces class s here) in
+    let split : weigh f (tasks_from class (drop class P.spaces)) ≡ weigh f (tasks_from class (s ∷ drop (suc class) P.spaces)) = ap (λ ss. weigh f (tasks_from class ss)) (drop_from P.spaces class s here) in
     let both = weigh-append f (map (task class) (tasks s)) (tasks_from (suc class) (drop (suc class) P.spaces)) in
     rw add-one (split ∙ both)
 

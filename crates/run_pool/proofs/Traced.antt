@@ -7,9 +7,13 @@ use Rattle.std.specs.Result.{IfOk}
 use Rattle.std.specs.List.Sorted.{IsNonDecreasingBy, IsPermutation}
 use Rattle.ptg_base.specs.Lists.{IsIn}
 use Rattle.ptg_base.specs.Task.{Task}
-use Rattle.dep_iter.proofs.Joining.{map-append, map-map}
+use Rattle.std.proofs.lemmas.List.{map-append}
+use Rattle.list_lemmas.proofs.Joins.{map-map}
+use Rattle.std.proofs.lemmas.Option.{slice_get_within}
+use Rattle.list_lemmas.proofs.Places.{IsIn-slice_get}
+use Rattle.list_lemmas.proofs.Counts.{weigh-map}
 use Rattle.dep_shard.specs.Content.{Content}
-use Rattle.flow_meaning.specs.Counting.{weigh}
+use Rattle.list_lemmas.specs.Counting.{weigh}
 use Rattle.shard_meaning.specs.Moment.{Moment}
 use Rattle.worker_core.specs.Working.{HasLogged, logged}
 use Rattle.work_board.specs.declared.record.PassRecord.{PassRecord}
@@ -23,7 +27,7 @@ use Rattle.dep_table.specs.Views.{PassView, shown}
 use Rattle.run_pool.specs.Desks.{HaveLogged}
 use Rattle.run_pool.specs.Seated.{IsFresh, PaddedDesk, log_on, pass_on, record_on}
 use Rattle.run_pool.specs.Traces.{IsTraceOf}
-use Rattle.run_pool.proofs.Places.{below_length, has_both, index_or, is_member}
+use Rattle.run_pool.proofs.Places.{has_both, index_or}
 
 -- an entry of a log, and the stamp that it stands for
 abbrev pub Logged : Type 0
@@ -31,10 +35,6 @@ Logged = ℕ × Task
 
 abbrev pub stamp_of : Logged → Stamp
 stamp_of e = (e.1, e.0)
-
-weigh-map : {A B : Type 0} (f : B → ℕ) (g : A → B) (xs : List A) → weigh f (map g xs) ≡ weigh (λ x. f (g x)) xs
-weigh-map f g [] = refl
-weigh-map f g (x ∷ xs) = omega (arith, weigh-map f g xs)
 
 weigh-sum : {A : Type 0} (f : A → ℕ) (xs : List A) → weigh f xs ≡ sum_by f xs
 weigh-sum f [] = refl
@@ -79,8 +79,8 @@ module _ (ds es : List PaddedDesk) (count : length es ≡ length ds) (w : HaveLo
       let d : PaddedDesk = b.other in
       let h : HasLogged (record_on d) (record_on e) (log_on d) (log_on e) =
       subst (λ (x : PaddedDesk). HasLogged (record_on d) (record_on x) (log_on d) (log_on x)) (index_or es b.place d e b.after)
-      (subst (λ (x : PaddedDesk). HasLogged (record_on x) (record_on (slice_index_or es b.place d)) (log_on x) (log_on (slice_index_or es b.place d))) (index_or ds b.place d d b.before) (w b.place d (below_length ds b.place d b.before))) in
-      let f = fresh d (is_member ds b.place d b.before) in
+      (subst (λ (x : PaddedDesk). HasLogged (record_on x) (record_on (slice_index_or es b.place d)) (log_on x) (log_on (slice_index_or es b.place d))) (index_or ds b.place d d b.before) (w b.place d (slice_get_within ds b.place d b.before))) in
+      let f = fresh d (IsIn-slice_get ds b.place d b.before) in
       h.gained ∙ (ap (λ l. l ++ logged h.more) f.no_log ∙ ap logged (sym (h.claimed.stamps ∙ ap (λ l. l ++ h.more) f.no_stamp)))
 
   pub logs_are : flat_map log_on es ≡ logged (joined_stamps (map record_on es))

@@ -1,4 +1,5 @@
--- How much memory a preload takes: a tile for each data edge and each write-back, and eight tiles of each type for each worker. Source: this project's own choice.
+-- How much memory a preload takes: a tile for each data edge and each write-back, and eight tiles of each type for each
+-- worker. Source: this project's own choice.
 use Rattle.std.specs.Prelude.{ℕ, ◌+◌, ◌*◌, sum, Option, slice_index}
 use Rattle.std.specs.Option.{option_map_or}
 use Rattle.ptg_base.specs.declared.edge.Edge.{Edge}
@@ -7,13 +8,14 @@ use Rattle.plan_core.specs.declared.flow.FlowPlan.{FlowPlan}
 use Rattle.plan_core.specs.declared.plan.Plan.{Plan}
 use Rattle.plan_core.specs.Kinds.{flow_of}
 use Rattle.dep_iter.specs.Consistent.{all_data, all_writes}
-use Rattle.flow_meaning.specs.Counting.{weigh}
+use Rattle.list_lemmas.specs.Counting.{weigh}
 
 -- how many numbers a tile of a flow has; 0 where there is no such flow
 abbrev pub elements_of : Plan → Option FlowPlan → ℕ
 elements_of P f = option_map_or (λ (g : FlowPlan). slice_index P.elems g.datatype) f 0
 
--- how many numbers the tile of an edge, or of a write-back, has: by the flow that it comes to, or that it is written from
+-- how many numbers the tile of an edge, or of a write-back, has: by the flow that it comes to, or that it is written
+-- from
 abbrev pub edge_elements : Plan → Edge → ℕ
 edge_elements P e = elements_of P (flow_of P.classes e.to.class e.in_flow)
 

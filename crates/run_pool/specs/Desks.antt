@@ -19,7 +19,8 @@ module _ {P : Type 0} (is_pass : P → Type 0) (shown : P → PassRecord) where
     pub idle : (shown d.pass).running ≡ []
     pub bench : IsBenchOf plan d.bench
 
-  -- what the answer of a worker's work says of its pass: it has seen quiet and runs nothing, or the board is halted, which a preloaded board never is
+  -- what the answer of a worker's work says of its pass: it has seen quiet and runs nothing, or the board is halted,
+  -- which a preloaded board never is
   abbrev pub AnswerSays : Bool → PassRecord → Option (Result Worked OutOfMemory) → Type 0
   AnswerSays preloaded w None = ⊥
   AnswerSays preloaded w (Some (Ok worked)) = (w.quiet ≡ true) × (w.running ≡ [])
@@ -37,7 +38,9 @@ module _ {P : Type 0} (is_pass : P → Type 0) (shown : P → PassRecord) where
 
   -- each worker has worked
   abbrev pub HaveWorked : Bool → List (CachePadded (Desk P)) → List (CachePadded (Desk P)) → Type 0
-  HaveWorked preloaded ds es = (k : ℕ) (d : CachePadded (Desk P)) → k < length ds → HasWorkedAt preloaded (padded_value (slice_index_or ds k d)) (padded_value (slice_index_or es k d))
+  HaveWorked preloaded ds es =
+      (k : ℕ) (d : CachePadded (Desk P)) → k < length ds
+      → HasWorkedAt preloaded (padded_value (slice_index_or ds k d)) (padded_value (slice_index_or es k d))
 
 module _ {P : Type 0} (shown : P → PassRecord) where
   -- the log on a worker's desk has gained the claims of its pass, each with its stamp
@@ -46,4 +49,6 @@ module _ {P : Type 0} (shown : P → PassRecord) where
 
   -- the same of each worker
   abbrev pub HaveLogged : List (CachePadded (Desk P)) → List (CachePadded (Desk P)) → Type 0
-  HaveLogged ds es = (k : ℕ) (d : CachePadded (Desk P)) → k < length ds → HasLoggedAt (padded_value (slice_index_or ds k d)) (padded_value (slice_index_or es k d))
+  HaveLogged ds es =
+      (k : ℕ) (d : CachePadded (Desk P)) → k < length ds
+      → HasLoggedAt (padded_value (slice_index_or ds k d)) (padded_value (slice_index_or es k d))

@@ -6,7 +6,7 @@ use Rattle.plan_core.specs.declared.plan.Plan.{Plan}
 use Rattle.dep_iter.specs.Consistent.{is_data_edge}
 use Rattle.dep_iter.specs.Edges.{in_edges}
 use Rattle.dep_iter.specs.Items.{write_backs}
-use Rattle.flow_meaning.specs.Counting.{weigh}
+use Rattle.list_lemmas.specs.Counting.{weigh}
 use Rattle.run_pool.specs.Bytes.{edge_elements, write_elements}
 
 -- how many numbers go over an edge; none over one that carries no tile

@@ -13,7 +13,8 @@ pub record Run : Type 0 where
 
 -- the run of this job that is asked for
 abbrev pub run_of : Plan → Data → Settings → Run
-run_of P G s = record { job = record { matched = P; given = G; shards = s.shards; preloaded = s.preload }; workers = s.workers }
+run_of P G s =
+    record { job = record { matched = P; given = G; shards = s.shards; preloaded = s.preload }; workers = s.workers }
 
 -- the settings are within their limits
 pub record AreSettings (s : Settings) : Type 0 where

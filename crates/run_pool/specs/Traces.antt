@@ -7,7 +7,8 @@ use Rattle.dep_table.specs.ClosedTables.{ClosedView}
 use Rattle.dep_table.specs.Closing.{IsClosedAt}
 use Rattle.dep_table.specs.StampOrders.{AreInStampOrder, IsClaimOrder, joined_stamps}
 
--- The tasks are the claims of all passes of a closed table, in the order of their stamps: the table's shards hold what these passes did together.
+-- The tasks are the claims of all passes of a closed table, in the order of their stamps: the table's shards hold what
+-- these passes did together.
 pub record IsTraceOf (t : ClosedView) (ts : List Task) : Type 0 where
   pub records : List PassRecord
   pub at : IsClosedAt t.job (joined records) t.shards

@@ -21,8 +21,8 @@ fn type_elements(plan: &Plan) -> u64
     all
 }
 
-/// The bytes that a preload takes for so many workers: a tile for each data edge and each write-back, and for each worker eight
-/// tiles of each type. It takes no memory.
+/// The bytes that a preload takes for so many workers: a tile for each data edge and each write-back, and for each
+/// worker eight tiles of each type. It takes no memory.
 pub fn preload_bytes(m: &Matched, workers: u32) -> u64
     ensures { result ≡ bytes.preload_bytes m.now workers }
 {
@@ -33,5 +33,6 @@ pub fn preload_bytes(m: &Matched, workers: u32) -> u64
 
 /// A law: where DEFAULT is the only type, each tile has as many numbers, and the bytes are a product.
 pub fn with_one_type_the_preload_is_a_product()
-    ensures { (P : PlanValue) (elems workers : ℕ) → P.elems ≡ elems ∷ [] → bytes.preload_bytes P workers ≡ 8 * elems * (length (all_data P) + length (all_writes P) + 8 * workers) }
+    ensures { (P : PlanValue) (elems workers : ℕ) → P.elems ≡ elems ∷ []
+        → bytes.preload_bytes P workers ≡ 8 * elems * (length (all_data P) + length (all_writes P) + 8 * workers) }
 {}

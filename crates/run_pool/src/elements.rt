@@ -6,7 +6,7 @@ ghost use Rattle.plan_core.specs.Kinds as kinds;
 ghost use Rattle.dep_iter.specs.Edges as edges;
 ghost use Rattle.dep_iter.specs.Tasks as tasks;
 ghost use Rattle.dep_iter.specs.Tasks.{IsTask, task, tasks_from};
-ghost use Rattle.flow_meaning.specs.Counting.{weigh};
+ghost use Rattle.list_lemmas.specs.Counting.{weigh};
 ghost use Rattle.run_pool.specs.Bytes as bytes;
 ghost use Rattle.run_pool.specs.Elements as elements;
 
@@ -41,7 +41,10 @@ fn is_data_flow(plan: &Plan, t: &TaskId, flow: u8) -> bool
 // How many numbers go over an edge into this flow of a task.
 fn carried_elements(plan: &Plan, t: &TaskId, flow: u8) -> u64
     requires { IsTask plan.now t.now }
-    ensures { result ≡ (if kinds.is_data (kinds.kind_of plan.now.classes t.now.class flow) then bytes.elements_of plan.now (kinds.flow_of plan.now.classes t.now.class flow) else 0) }
+    ensures { result
+        ≡ (if kinds.is_data (kinds.kind_of plan.now.classes t.now.class flow)
+        then bytes.elements_of plan.now (kinds.flow_of plan.now.classes t.now.class flow)
+        else 0) }
 {
     if is_data_flow(plan, t, flow) {
         flow_elements(plan, t, flow)

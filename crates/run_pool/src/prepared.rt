@@ -7,8 +7,8 @@ use dep_table::pass::Pass;
 use dep_table::table::DepTable;
 use std::marker::Model;
 
-/// A run that is ready: its table, a desk for each worker, and room for the passes that the table is closed with. Contracts see its
-/// job and how many workers it has.
+/// A run that is ready: its table, a desk for each worker, and room for the passes that the table is closed with.
+/// Contracts see its job and how many workers it has.
 #[derive(Drop)]
 pub struct Prepared {
     pub(crate) table: DepTable,
@@ -31,7 +31,9 @@ impl Model for Prepared {
 
     ghost view = { λ p. record { job = job_of p.table; workers = length p.desks.items } };
 
-    ghost invariant = { λ p. AreSeated (id_of p.table) (job_of p.table).matched p.desks.items × (0 < length p.desks.items) × (p.room.items ≡ []) × (length p.desks.items ≤ vec_capacity p.room) };
+    ghost invariant = { λ p.
+        AreSeated (id_of p.table) (job_of p.table).matched p.desks.items × (0 < length p.desks.items)
+        × (p.room.items ≡ []) × (length p.desks.items ≤ vec_capacity p.room) };
 }
 
 impl Prepared {

@@ -90,8 +90,8 @@ fn lay_out(
     Ok(Prepared { table, desks, room })
 }
 
-/// Makes a run of a job ready: its table, its passes, hands and benches, and room for the close. A preload that takes more than
-/// 2^30 bytes is refused first; nothing else is refused but want of memory.
+/// Makes a run of a job ready: its table, its passes, hands and benches, and room for the close. A preload that takes
+/// more than 2^30 bytes is refused first; nothing else is refused but want of memory.
 pub fn prepare(
     alloc: Global,
     m: Matched,
@@ -101,7 +101,8 @@ pub fn prepare(
     requires settings { AreSettings settings }
     requires fit { DataFit m.colls m.elems given }
     ensures run { IfOk result (λ p. p ≡ run_of m given settings) }
-    ensures too_large { (bytes : ℕ) → (result ≡ Err (prepare_fault.PreloadTooLarge bytes)) ↔ IsTooLarge m settings bytes }
+    ensures too_large { (bytes : ℕ)
+        → (result ≡ Err (prepare_fault.PreloadTooLarge bytes)) ↔ IsTooLarge m settings bytes }
 {
     match too_large(&m, settings) {
         Some(bytes) => Err(PrepareFault::PreloadTooLarge(bytes)),

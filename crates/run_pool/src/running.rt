@@ -41,8 +41,8 @@ pub(crate) fn passes_of(desks: Vec<Seat>, room: Vec<Pass>) -> Result<Vec<Pass>, 
     Ok(passes)
 }
 
-/// Runs a job by as many workers as were made ready, and closes its table, with a pass for each worker. No shard has work then. A
-/// preloaded run never wants memory. It may wait.
+/// Runs a job by as many workers as were made ready, and closes its table, with a pass for each worker. No shard has
+/// work then. A preloaded run never wants memory. It may wait.
 pub fn run<R: Threads + Wait + Sync, G: Gate>(
     rt: &R,
     prepared: Prepared,

@@ -70,8 +70,8 @@ fn in_stamp_order(alloc: Global, log: Vec<(u64, TaskId)>) -> Result<Vec<TaskId>,
     tasks_of(alloc, log)
 }
 
-/// The same as `run`, for a run that is not preloaded, with all claims of its passes in the order of their stamps: a legal order of
-/// the tasks that run. It may wait.
+/// The same as `run`, for a run that is not preloaded, with all claims of its passes in the order of their stamps: a
+/// legal order of the tasks that run. It may wait.
 pub fn run_traced<R: Threads + Wait + Sync, G: Gate>(
     alloc: Global,
     rt: &R,

@@ -81,8 +81,8 @@ fn work_at<R: Threads + Wait + Sync, B: Board, G: Gate>(
     }
 }
 
-/// Lets a worker work at each desk until all is quiet, in as many threads as desks where so many can be made. In a traced run, which
-/// is not preloaded, each log gains the claims of its worker.
+/// Lets a worker work at each desk until all is quiet, in as many threads as desks where so many can be made. In a
+/// traced run, which is not preloaded, each log gains the claims of its worker.
 pub fn team<R: Threads + Wait + Sync, B: Board, G: Gate>(
     rt: &R,
     board: &B,
@@ -107,7 +107,8 @@ where
         &|_at: usize, desk: &mut CachePadded<Desk<B::Pass>>|
             requires ready { IsReady (B.is_pass board.now) B.shown (B.plan board.now) (padded_value desk.old) }
             requires traced { traced ≡ true → B.preloaded board.now ≡ false }
-            ensures worked { HasWorkedAt (B.is_pass board.entry.now) B.shown (B.preloaded board.entry.now) (padded_value desk.old) (padded_value desk.new) }
+            ensures worked { HasWorkedAt (B.is_pass board.entry.now) B.shown (B.preloaded board.entry.now)
+                (padded_value desk.old) (padded_value desk.new) }
             ensures logged { traced ≡ true → HasLoggedAt B.shown (padded_value desk.old) (padded_value desk.new) }
         {
             work_at(rt, board, &mut **desk, gate, traced);

@@ -1,5 +1,5 @@
 -- The answer of a run, from what its shards hold.
-use Rattle.std.proofs.Common.{◌≡◌, ℕ, suc, ◌≤◌, false, cond, ◌==◌, eq-eqb, List, [], ◌∷◌, map, length, slice_get, refl, ap, sym, ◌∙◌, subst, arith, Some}
+use Rattle.std.proofs.Common.{◌≡◌, ℕ, ◌≤◌, false, cond, ◌==◌, eq-eqb, List, [], ◌∷◌, map, length, slice_get, refl, ap, sym, ◌∙◌, subst, arith, Some}
 use Rattle.std.proofs.lemmas.Bool.{false_from_ne_true, eqb-true}
 use Rattle.std.specs.List.{IsDistinct, AllByRecursion}
 use Rattle.std.specs.Map.{keys_of}
@@ -8,8 +8,12 @@ use Rattle.ptg_base.specs.Task.{Task}
 use Rattle.ptg_base.specs.TaskComparing.{same_task}
 use Rattle.ptg_base.specs.TaskLaws.{same_task-decides}
 use Rattle.ptg_base.specs.TaskOrder.{in_task_order}
-use Rattle.range_space.proofs.MemberLists.{from_map}
-use Rattle.range_space.proofs.Stepping.{by_test}
+use Rattle.list_lemmas.proofs.Members.{from_map}
+use Rattle.list_lemmas.proofs.Truth.{by_test}
+use Rattle.list_lemmas.proofs.Counts.{weigh-one, count-map}
+use Rattle.list_lemmas.proofs.Tasks.{distinct_once}
+use Rattle.list_lemmas.proofs.Distinct.{no_longer}
+use Rattle.std.proofs.lemmas.List.{length-map}
 use Rattle.plan_core.specs.declared.plan.Plan.{Plan}
 use Rattle.coll_data.specs.Data.{Data}
 use Rattle.coll_data.specs.WellMade.{IsWellMade}
@@ -23,24 +27,22 @@ use Rattle.flow_meaning.specs.declared.outcome.TrapRow.{TrapRow}
 use Rattle.flow_meaning.specs.declared.outcome.WaitRow.{WaitRow}
 use Rattle.flow_meaning.specs.declared.outcome.Outcome.TheVariants.{Complete, Trapped, Stalled}
 use Rattle.flow_meaning.specs.Answer.{answer}
-use Rattle.flow_meaning.specs.Counting.{as_number, count}
+use Rattle.list_lemmas.specs.Counting.{as_number, count}
 use Rattle.flow_meaning.specs.Final.{replaced_data}
 use Rattle.flow_meaning.specs.Machine.{IsQuiescent, MachineState}
 use Rattle.flow_meaning.specs.StateAnswer.{first_written, state_answer, state_answer_by, state_data, state_traps}
 use Rattle.flow_meaning.specs.Table.{waiting_rows}
 use Rattle.flow_meaning.proofs.Answered.{answer_same}
-use Rattle.flow_meaning.proofs.Counting.{weigh-one}
 use Rattle.flow_meaning.proofs.Once.{traps_same}
 use Rattle.flow_meaning.proofs.Reordering.{reordered_quiescent}
 use Rattle.run_answer.specs.Rows.{AreOfDifferentTasks}
 use Rattle.run_answer.specs.Written.{with_tiles}
-use Rattle.shard_meaning.proofs.Listing.{distinct_once}
-use Rattle.shard_meaning.proofs.SoundMoments.{at_most, claims_at_most}
+use Rattle.shard_meaning.proofs.SoundMoments.{claims_at_most}
 use Rattle.shard_meaning.proofs.Calming.{calm_quiescent}
 use Rattle.shard_answer.specs.Ending.{HoldAnEnd}
 use Rattle.shard_answer.specs.Parts.{HaveDistinctEntries, all_ended, all_traps, all_waits, all_written}
 use Rattle.shard_answer.proofs.Gathering.{gathered, index_of}
-use Rattle.shard_answer.proofs.Traps.{count-map, rows_are_tasks, rows_differ, traps_are}
+use Rattle.shard_answer.proofs.Traps.{rows_are_tasks, rows_differ, traps_are}
 use Rattle.shard_answer.proofs.Waits.{AreFound, HaveOnce, waits_are, waits_are_tasks, waits_differ}
 use Rattle.shard_answer.proofs.Writes.{data_is, in_shard_order, is_reordered, sound_there}
 
@@ -63,16 +65,12 @@ once_by (x ∷ xs) distinct t =
     omega (arith, none, ap as_number k))
     (λ k. omega (arith, once_by xs distinct.1 t, ap as_number k))
 
-length-map : {A B : Type 0} (f : A → B) (xs : List A) → length (map f xs) ≡ length xs
-length-map f [] = refl
-length-map f (x ∷ xs) = ap (λ n. suc n) (length-map f xs)
-
 -- rows of different tasks of a job are no more than the job has tasks
 few_rows : {A : Type 0} (key : A → Task) (P : Plan) (rows : List A) → AreOfDifferentTasks key rows → ((r : A) → IsIn r rows → IsTask P (key r)) → length rows ≤ length (all_tasks P)
 few_rows key P rows once tasks =
-    let fits = at_most (map key rows) (all_tasks P) (distinct_once (map key rows) (λ t. omega (arith, once t, count-map (same_task t) key rows)))
+    let fits = no_longer (map key rows) (all_tasks P) (distinct_once (map key rows) (λ t. omega (arith, once t, count-map (same_task t) key rows)))
     (λ t i. let x = from_map key rows t i in (listed P t).0 (subst (IsTask P) (sym x.2) (tasks x.0 x.1))) in
-    omega (arith, fits, length-map key rows)
+    omega (arith, fits, length-map rows key)
 
 pub few_all_traps : (P : Plan) (G : Data) → IsConsistent P → (ys : List Content) → HoldAnEnd P G ys → length (all_traps ys) ≤ length (all_tasks P)
 few_all_traps P G con ys h = few_rows (λ (r : TrapRow). r.task) P (all_traps ys) (rows_differ P G con ys h) (rows_are_tasks P G con ys h)

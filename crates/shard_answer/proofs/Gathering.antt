@@ -6,16 +6,11 @@ use Rattle.ptg_base.specs.Lists.{IsIn}
 use Rattle.ptg_base.specs.Task.{Task}
 use Rattle.ptg_base.specs.TaskComparing.{same_task}
 use Rattle.ptg_base.specs.TaskLaws.{same_task-decides}
-use Rattle.range_space.proofs.MemberLists.{IsIn-flat_map, from_flat_map}
-use Rattle.range_space.proofs.Stepping.{by_test}
-use Rattle.flow_meaning.specs.Counting.{as_number, count, weigh}
-use Rattle.flow_meaning.proofs.Counting.{some_passes, weigh-append}
+use Rattle.list_lemmas.proofs.Members.{IsIn-flat_map, from_flat_map}
+use Rattle.list_lemmas.proofs.Truth.{by_test}
+use Rattle.list_lemmas.proofs.Counts.{some_passes, weigh-append, weigh-same, weigh-zero, weigh-plus}
+use Rattle.list_lemmas.specs.Counting.{as_number, count, weigh}
 use Rattle.run_answer.specs.Rows.{AreOfDifferentTasks}
-use Rattle.shard_meaning.proofs.Listing.{weigh-same, weigh-zero}
-
-pub weigh-sum : {A : Type 0} (f g : A → ℕ) (xs : List A) → weigh (λ x. f x + g x) xs ≡ weigh f xs + weigh g xs
-weigh-sum f g [] = omega arith
-weigh-sum f g (x ∷ xs) = omega (arith, weigh-sum f g xs)
 
 -- a list that weighs something has a member that does
 pub weigh-some : {A : Type 0} (f : A → ℕ) (xs : List A) → 0 < weigh f xs → (x : A) × IsIn x xs × (0 < f x)
@@ -62,7 +57,7 @@ module _ {A : Type 0} (g v : A → ℕ) where
   unfolding spread
   gathered_from w [] xs j h = sym (weigh-zero (λ x. 0) xs (λ x i. refl))
   gathered_from w (y ∷ ys) xs j h =
-      omega (arith, h 0 j y (omega arith) refl, gathered_from w ys xs (suc j) (λ i k z e is. h (suc i) k z (omega (arith, e)) is), weigh-sum (part j) (spread (suc j) (length ys)) xs)
+      omega (arith, h 0 j y (omega arith) refl, gathered_from w ys xs (suc j) (λ i k z e is. h (suc i) k z (omega (arith, e)) is), weigh-plus (part j) (spread (suc j) (length ys)) xs)
 
   -- If each shard weighs what belongs to it, all shards weigh what all things do.
   pub gathered : {B : Type 0} (w : B → ℕ) (ys : List B) (xs : List A) → ((k : ℕ) (y : B) → slice_get ys k ≡ Some y → w y ≡ weigh (part k) xs) → ((x : A) → IsIn x xs → g x < length ys) → weigh w ys ≡ weigh v xs
@@ -91,12 +86,6 @@ row_of rows ys r i =
 
 pub in_rows : {A B : Type 0} (rows : B → List A) (ys : List B) (k : ℕ) (y : B) (r : A) → slice_get ys k ≡ Some y → IsIn r (rows y) → IsIn r (flat_map rows ys)
 in_rows rows ys k y r at i = IsIn-flat_map rows ys y r (in_at y ys k at) i
-
--- there is a shard of each number
-pub shard_at : {B : Type 0} (ys : List B) (k : ℕ) → k < length ys → (y : B) × (slice_get ys k ≡ Some y)
-shard_at [] k h = absurd (omega (arith, h))
-shard_at (y ∷ ys) zero h = (y, refl)
-shard_at (y ∷ ys) (suc k) h = shard_at ys k (omega (arith, h))
 
 one_of_both : (a b : ℕ) → a ≤ 1 → b ≤ 1 → (0 < a → 0 < b → ⊥) → a + b ≤ 1
 one_of_both zero b one other apart = omega (arith, other)

@@ -5,7 +5,7 @@ use Rattle.std.proofs.lemmas.List.Elements.{All-weaker}
 use Rattle.std.specs.List.{All}
 use Rattle.ptg_base.specs.Lists.{IsIn}
 use Rattle.ptg_base.specs.declared.edge.WriteBack.{WriteBack}
-use Rattle.range_space.proofs.MemberLists.{IsIn-append_left, IsIn-append_right}
+use Rattle.list_lemmas.proofs.Members.{IsIn-append_left, IsIn-append_right}
 use Rattle.coll_data.specs.Data.{Data}
 use Rattle.dep_shard.specs.Content.{Content}
 use Rattle.flow_meaning.specs.Final.{replaced_data}

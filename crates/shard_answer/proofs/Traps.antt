@@ -1,5 +1,5 @@
 -- The trapped tasks of the shards are those of the run.
-use Rattle.std.proofs.Common.{◌≡◌, ℕ, zero, suc, ◌<◌, ◌≤◌, Bool, true, false, cond, ◌&&◌, ◌==◌, eq-eqb, List, [], ◌∷◌, map, slice_get, refl, ap, sym, ◌∙◌, subst, inl, inr, arith, Option, Some, None, Ok, Err}
+use Rattle.std.proofs.Common.{◌≡◌, ℕ, zero, suc, ◌<◌, ◌≤◌, Bool, true, false, cond, ◌&&◌, ◌==◌, eq-eqb, List, [], ◌∷◌, slice_get, refl, ap, sym, ◌∙◌, subst, inl, inr, arith, Option, Some, None, Ok, Err}
 use Rattle.std.proofs.lemmas.Bool.{eqb-true, and_parts, and_from}
 use Rattle.std.specs.Prelude.{flat_map}
 use Rattle.ptg_base.specs.Lists.{IsIn}
@@ -9,8 +9,10 @@ use Rattle.ptg_base.specs.TaskLaws.{same_task-decides}
 use Rattle.ptg_base.specs.TaskOrder.{in_task_order}
 use Rattle.term_core.specs.declared.trap.Trap.{Trap}
 use Rattle.term_core.specs.declared.trap.Trap.TheVariants.{Overflow, Divide, Index, Absent, Budget, Word}
-use Rattle.range_space.proofs.MemberLists.{IsIn-flat_map, IsIn-map, from_flat_map, from_map}
-use Rattle.range_space.proofs.Stepping.{by_test}
+use Rattle.list_lemmas.proofs.Members.{IsIn-flat_map, IsIn-map, from_flat_map, from_map}
+use Rattle.list_lemmas.proofs.Truth.{by_test}
+use Rattle.list_lemmas.proofs.Counts.{count-some, some_passes, weigh-append, weigh-le, weigh-member, count-map}
+use Rattle.list_lemmas.proofs.Places.{slice_get_there}
 use Rattle.plan_core.specs.declared.plan.Plan.{Plan}
 use Rattle.coll_data.specs.Data.{Data}
 use Rattle.dep_iter.specs.Consistent.{IsConsistent}
@@ -19,19 +21,17 @@ use Rattle.dep_shard.specs.Content.{Content}
 use Rattle.flow_meaning.specs.declared.outcome.TrapRow.{TrapRow}
 use Rattle.flow_meaning.specs.Answer.{trap_rows}
 use Rattle.flow_meaning.specs.Backward.{ended}
-use Rattle.flow_meaning.specs.Counting.{as_number, count, weigh}
+use Rattle.list_lemmas.specs.Counting.{as_number, count, weigh}
 use Rattle.flow_meaning.specs.Ending.{Ended}
 use Rattle.flow_meaning.specs.Machine.{MachineState, end_in}
 use Rattle.flow_meaning.specs.StateAnswer.{state_traps}
-use Rattle.flow_meaning.proofs.Counting.{count-some, some_passes, weigh-append, weigh-le}
 use Rattle.flow_meaning.proofs.Events.{ends_so}
 use Rattle.run_answer.specs.Rows.{AreOfDifferentTasks}
 use Rattle.run_answer.proofs.Sorting.{one_order}
 use Rattle.shard_meaning.specs.Share.{Placement, ended_weight, is_of, trap_weight}
-use Rattle.shard_meaning.proofs.Listing.{weigh-member}
 use Rattle.shard_answer.specs.Ending.{HoldAnEnd}
 use Rattle.shard_answer.specs.Parts.{all_traps, trap_row, traps_of}
-use Rattle.shard_answer.proofs.Gathering.{differ, in_rows, row_of, shard_at, weigh-some}
+use Rattle.shard_answer.proofs.Gathering.{differ, in_rows, row_of, weigh-some}
 
 -- a number for each cause, and the cause of a number
 abbrev cause_number : Trap → ℕ
@@ -80,10 +80,6 @@ ended_at_most : (t u : Task) (o : Option Ended) → ended_weight (λ (x : Task �
 ended_at_most t u None = omega arith
 ended_at_most t u (Some (Ok tiles)) = omega arith
 ended_at_most t u (Some (Err c)) = omega arith
-
-pub count-map : {A B : Type 0} (test : B → Bool) (f : A → B) (xs : List A) → count test (map f xs) ≡ count (λ x. test (f x)) xs
-count-map test f [] = refl
-count-map test f (x ∷ xs) = omega (arith, count-map test f xs)
 
 module _ (P : Plan) (G : Data) (of : Placement) (k : ℕ) where
   trap_some : (f : Task × Trap → ℕ) (t : Task) → 0 < trap_weight P G of k f t → (of t ≡ k) × (0 < ended_weight f t (ended P G t))
@@ -167,7 +163,7 @@ module _ (P : Plan) (G : Data) (con : IsConsistent P) (ys : List Content) (h : H
       let p = from_flat_map (λ t. trap_rows t (end_in P G state t)) state.claims r i in
       let q = row_in p.0 (end_in P G state p.0) r p.2 in
       let job = (h.sound.claimed_have_all p.0 p.1).task in
-      let y = shard_at ys (h.of p.0) (h.placed p.0 job) in
+      let y = slice_get_there ys (h.of p.0) (h.placed p.0 job) in
       let there = trap_has_row (h.of p.0) y.0 y.1 p.0 q.0 p.1 (end_known p.0 p.1 ∙ q.1) refl in
       subst (λ s. IsIn s (all_traps ys)) (sym q.2) (in_rows traps_of ys (h.of p.0) y.0 (trap_row (p.0, q.0)) y.1 (IsIn-map trap_row y.0.trapped (p.0, q.0) there))
 

@@ -9,8 +9,10 @@ use Rattle.ptg_base.specs.Task.{Task}
 use Rattle.ptg_base.specs.TaskComparing.{same_task}
 use Rattle.ptg_base.specs.TaskLaws.{same_task-decides}
 use Rattle.ptg_base.specs.TaskOrder.{in_task_order}
-use Rattle.range_space.proofs.MemberLists.{IsIn-map, from_map}
-use Rattle.range_space.proofs.Stepping.{by_test}
+use Rattle.list_lemmas.proofs.Members.{IsIn-map, from_map}
+use Rattle.list_lemmas.proofs.Truth.{by_test}
+use Rattle.list_lemmas.proofs.Places.{slice_get_there}
+use Rattle.list_lemmas.proofs.Counts.{count-map, count-filter}
 use Rattle.plan_core.specs.declared.plan.Plan.{Plan}
 use Rattle.coll_data.specs.Data.{Data}
 use Rattle.dep_iter.specs.Edges.{goal}
@@ -18,7 +20,7 @@ use Rattle.dep_iter.specs.Tasks.{IsTask, all_tasks}
 use Rattle.dep_iter.proofs.Listing.{listed}
 use Rattle.dep_shard.specs.Content.{Content, Entries, Entry, entry_in}
 use Rattle.flow_meaning.specs.declared.outcome.WaitRow.{WaitRow}
-use Rattle.flow_meaning.specs.Counting.{count}
+use Rattle.list_lemmas.specs.Counting.{count}
 use Rattle.flow_meaning.specs.Machine.{MachineState, arrived, claim_count}
 use Rattle.flow_meaning.specs.Table.{entry_of as table_row, is_ready, is_waiting, table_entry, waiting_rows, waiting_tasks}
 use Rattle.flow_meaning.proofs.Once.{tasks_once}
@@ -27,8 +29,7 @@ use Rattle.run_answer.proofs.Sorting.{one_order}
 use Rattle.shard_meaning.specs.Share.{as_entry}
 use Rattle.shard_answer.specs.Ending.{HoldAnEnd}
 use Rattle.shard_answer.specs.Parts.{all_waits, wait_row, waits_of}
-use Rattle.shard_answer.proofs.Gathering.{differ, in_rows, row_of, shard_at}
-use Rattle.shard_answer.proofs.Traps.{count-map}
+use Rattle.shard_answer.proofs.Gathering.{differ, in_rows, row_of}
 
 -- the entry that a look-up finds is in the list
 found_in : (t : Task) (e : Entry) (es : Entries) → entry_in es t ≡ Some e → IsIn (t, e) es
@@ -67,13 +68,6 @@ of_filter p t (u ∷ us) i =
     let j : IsIn t (u ∷ filter p us) = subst (IsIn t) (ap (λ b. cond b (u ∷ filter p us) (filter p us)) k) i in
     elim j [ inl e ↦ (inl e, subst (λ v. p v ≡ true) (sym e) k) | inr later ↦ let q = of_filter p t us later in (inr q.0, q.1) ])
     (λ k. let q = of_filter p t us (subst (IsIn t) (ap (λ b. cond b (u ∷ filter p us) (filter p us)) k) i) in (inr q.0, q.1))
-
-count-kept : (p q : Task → Bool) (ts : List Task) → count p (filter q ts) ≤ count p ts
-count-kept p q [] = omega arith
-count-kept p q (t ∷ ts) =
-    by_test (q t)
-    (λ k. omega (arith, count-kept p q ts, ap (λ b. count p (cond b (t ∷ filter q ts) (filter q ts))) k))
-    (λ k. omega (arith, count-kept p q ts, ap (λ b. count p (cond b (t ∷ filter q ts) (filter q ts))) k))
 
 module _ (P : Plan) (G : Data) (ys : List Content) (h : HoldAnEnd P G ys) (found : (k : ℕ) (y : Content) → slice_get ys k ≡ Some y → AreFound y.entries × HaveOnce y.entries) where
   abbrev state : MachineState
@@ -126,7 +120,7 @@ module _ (P : Plan) (G : Data) (ys : List Content) (h : HoldAnEnd P G ys) (found
       let p = from_map row waiting r i in
       let q = of_filter (is_waiting P state) p.0 (all_tasks P) p.1 in
       let job = (listed P p.0).1 q.0 in
-      let y = shard_at ys (h.of p.0) (h.placed p.0 job) in
+      let y = slice_get_there ys (h.of p.0) (h.placed p.0 job) in
       let is = (h.shares (h.of p.0) y.0 y.1).there p.0 job refl ∙ waiting_entry p.0 q.1 in
       let there = found_in p.0 (as_entry (table_row P state p.0)) y.0.entries is in
       subst (λ s. IsIn s (all_waits ys)) (sym p.2) (in_rows waits_of ys (h.of p.0) y.0 (row p.0) y.1 (IsIn-map wait_row y.0.entries (p.0, as_entry (table_row P state p.0)) there))
@@ -148,7 +142,7 @@ module _ (P : Plan) (G : Data) (ys : List Content) (h : HoldAnEnd P G ys) (found
   unfolding waiting_rows waiting_tasks
   waits_are =
       one_order (λ (r : WaitRow). r.task) (all_waits ys) (map row waiting) to_waiting from_waiting waits_differ
-      (λ t. omega (arith, count-rows t waiting, count-kept (same_task t) (is_waiting P state) (all_tasks P), tasks_once P t))
+      (λ t. omega (arith, count-rows t waiting, count-filter (same_task t) (is_waiting P state) (all_tasks P), tasks_once P t))
 
   pub waits_are_tasks : (r : WaitRow) → IsIn r (all_waits ys) → IsTask P r.task
   waits_are_tasks r i =

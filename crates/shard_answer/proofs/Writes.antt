@@ -1,35 +1,33 @@
--- What was written back in the shards is what the run sent. The state with its sends in the shards' order has the same answer.
-use Rattle.std.proofs.Common.{◌≡◌, ℕ, zero, ◌+◌, ℤ, Bool, true, false, cond, ◌==◌, List, [], ◌∷◌, ◌++◌, map, slice_get, refl, ap, sym, ◌∙◌, subst, inl, inr, arith, Option, Some, None}
-use Rattle.std.proofs.lemmas.List.Elements.{All-cons, All-nil}
+-- What was written back in the shards is what the run sent. The state with its sends in the shards' order has the same
+-- answer.
+use Rattle.std.proofs.Common.{◌≡◌, ℕ, zero, ◌+◌, ℤ, Bool, true, false, cond, ◌==◌, List, [], ◌∷◌, ◌++◌, map, slice_get, refl, ap, sym, ◌∙◌, subst, arith, Option, Some, None}
 use Rattle.std.specs.List.{All, cons_option, filter, filter_map}
-use Rattle.std.specs.Prelude.{flat_map}
 use Rattle.ptg_base.specs.Lists.{IsIn}
 use Rattle.ptg_base.specs.declared.edge.WriteBack.{WriteBack}
 use Rattle.ptg_base.specs.declared.edge.Item.{Item}
 use Rattle.ptg_base.specs.declared.edge.Item.TheVariants as item
-use Rattle.range_space.proofs.MemberLists.{IsIn-append_left, IsIn-flat_map, IsIn-map}
-use Rattle.range_space.proofs.Stepping.{by_test}
+use Rattle.list_lemmas.proofs.Members.{IsIn-append_left, IsIn-flat_map, IsIn-map, All-from_members}
+use Rattle.list_lemmas.proofs.Truth.{by_test}
+use Rattle.list_lemmas.proofs.Counts.{weigh-append, weigh-same, weigh-plus, weigh-flat_map, weigh-map, weigh-filter}
 use Rattle.plan_core.specs.declared.plan.Plan.{Plan}
 use Rattle.coll_data.specs.Data.{Data}
 use Rattle.coll_data.specs.WellMade.{IsWellMade}
 use Rattle.plan_data.specs.Fit.{DataFit}
 use Rattle.dep_iter.specs.Consistent.{IsConsistent}
 use Rattle.dep_shard.specs.Content.{Content}
-use Rattle.flow_meaning.specs.Counting.{weigh}
+use Rattle.list_lemmas.specs.Counting.{weigh}
 use Rattle.flow_meaning.specs.Final.{replaced_data}
 use Rattle.flow_meaning.specs.Machine.{MachineState, Sent, sender}
 use Rattle.flow_meaning.specs.Sound.{IsReordered, IsSoundState}
 use Rattle.flow_meaning.specs.StateAnswer.{first_written, state_data}
 use Rattle.flow_meaning.specs.Table.{written_by}
-use Rattle.flow_meaning.proofs.Counting.{weigh-append}
 use Rattle.flow_meaning.proofs.Reordering.{reordered_sound}
 use Rattle.run_answer.specs.Written.{IsWritable, with_tiles}
 use Rattle.run_answer.proofs.Writable.{write_sent}
 use Rattle.shard_meaning.specs.Share.{Placement, write_weight, written_weight}
-use Rattle.shard_meaning.proofs.Listing.{weigh-same}
 use Rattle.shard_answer.specs.Ending.{HoldAnEnd}
 use Rattle.shard_answer.specs.Parts.{all_written}
-use Rattle.shard_answer.proofs.Gathering.{gathered, in_at, part, weigh-sum}
+use Rattle.shard_answer.proofs.Gathering.{gathered, in_at, part}
 
 -- the weight of an item that was sent with this tile: that of the write-back and the tile, if it is one, else 0
 abbrev any_weight : (WriteBack × List ℤ → ℕ) → Item → Option (List ℤ) → ℕ
@@ -45,21 +43,6 @@ own_weight : (of : Placement) (k : ℕ) (f : WriteBack × List ℤ → ℕ) (i :
 own_weight of k f (item.Edge e) o = sym (none_either (of e.from == k))
 own_weight of k f (item.Write w) None = sym (none_either (of w.from == k))
 own_weight of k f (item.Write w) (Some tile) = refl
-
-weigh-flat_map : {A B : Type 0} (f : B → ℕ) (g : A → List B) (xs : List A) → weigh f (flat_map g xs) ≡ weigh (λ x. weigh f (g x)) xs
-weigh-flat_map f g [] = refl
-weigh-flat_map f g (x ∷ xs) = omega (arith, weigh-flat_map f g xs, weigh-append f (g x) (flat_map g xs))
-
-weigh-map : {A B : Type 0} (f : B → ℕ) (g : A → B) (xs : List A) → weigh f (map g xs) ≡ weigh (λ x. f (g x)) xs
-weigh-map f g [] = refl
-weigh-map f g (x ∷ xs) = omega (arith, weigh-map f g xs)
-
-weigh-filter : {A : Type 0} (f : A → ℕ) (p : A → Bool) (xs : List A) → weigh f (filter p xs) ≡ weigh (λ x. cond (p x) (f x) 0) xs
-weigh-filter f p [] = refl
-weigh-filter f p (x ∷ xs) =
-    by_test (p x)
-    (λ k. omega (arith, weigh-filter f p xs, ap (λ b. weigh f (cond b (x ∷ filter p xs) (filter p xs))) k, ap (λ b. cond b (f x) 0) k))
-    (λ k. omega (arith, weigh-filter f p xs, ap (λ b. weigh f (cond b (x ∷ filter p xs) (filter p xs))) k, ap (λ b. cond b (f x) 0) k))
 
 -- a write-back and its tile, as they are sent
 abbrev as_sent : WriteBack × List ℤ → Sent
@@ -89,10 +72,6 @@ no_writes (x ∷ xs) =
 all_writes_of : (ws : List (WriteBack × List ℤ)) (rest : List Sent) → filter_map write_of_sent rest ≡ [] → filter_map write_of_sent (map as_sent ws ++ rest) ≡ with_tiles ws
 all_writes_of [] rest none = none
 all_writes_of (w ∷ ws) rest none = ap (λ l. (w.0, Some w.1) ∷ l) (all_writes_of ws rest none)
-
-all_by : {A : Type 0} (Q : A → Type 0) (xs : List A) → ((x : A) → IsIn x xs → Q x) → All Q xs
-all_by Q [] h = All-nil Q
-all_by Q (x ∷ xs) h = All-cons Q x xs (h x (inl refl)) (all_by Q xs (λ y i. h y (inr i)))
 
 module _ (P : Plan) (G : Data) (con : IsConsistent P) (known : DataFit P.colls P.elems G) (well : IsWellMade G) (ys : List Content) (h : HoldAnEnd P G ys) where
   abbrev pub state : MachineState
@@ -130,9 +109,9 @@ module _ (P : Plan) (G : Data) (con : IsConsistent P) (known : DataFit P.colls P
           arith,
           weigh-append f (map as_sent (all_written ys)) (filter is_edge state.sends),
           weigh-map f as_sent (all_written ys),
-          weigh-filter f is_edge state.sends,
+          weigh-filter is_edge f state.sends,
           all_weights g,
-          weigh-sum a b state.sends,
+          weigh-plus a b state.sends,
           weigh-same f (λ x. a x + b x) state.sends (λ x i. one_sent f x i x.item refl x.tile refl),
         );
   }
@@ -143,7 +122,7 @@ module _ (P : Plan) (G : Data) (con : IsConsistent P) (known : DataFit P.colls P
   -- what is in a shard may be written
   pub writable : (k : ℕ) (y : Content) → slice_get ys k ≡ Some y → All (IsWritable G) y.written
   writable k y at =
-      all_by (IsWritable G) y.written
+      All-from_members (IsWritable G) y.written
       (λ w i.
       let among : IsIn w (all_written ys) = IsIn-flat_map (λ (z : Content). z.written) ys y w (in_at y ys k at) i in
       let sent : IsIn (as_sent w) in_shard_order.sends = IsIn-append_left (as_sent w) (map as_sent (all_written ys)) (filter is_edge state.sends) (IsIn-map as_sent (all_written ys) w among) in

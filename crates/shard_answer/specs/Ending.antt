@@ -10,8 +10,8 @@ use Rattle.shard_meaning.specs.Calm.{AreFinished, IsCalm}
 use Rattle.shard_meaning.specs.Moment.{Moment}
 use Rattle.shard_meaning.specs.Share.{IsShardOf, Placement}
 
--- Each shard holds its share of one sound moment, at which no task may be claimed, none runs and every claimed task is finished. Each
--- task belongs to one of the shards.
+-- Each shard holds its share of one sound moment, at which no task may be claimed, none runs and every claimed task is
+-- finished. Each task belongs to one of the shards.
 pub record HoldAnEnd (P : Plan) (G : Data) (shards : List Content) : Type 0 where
   pub of : Placement
   pub moment : Moment

@@ -1,4 +1,5 @@
--- The parts of the answer as the shards have them: rows of trapped and of waiting tasks, write-backs, and how many tasks have ended. Source: this project's own choice.
+-- The parts of the answer as the shards have them: rows of trapped and of waiting tasks, write-backs, and how many
+-- tasks have ended. Source: this project's own choice.
 use Rattle.std.specs.Prelude.{◌≡◌, ℕ, ℤ, List, Some, map, flat_map, slice_get}
 use Rattle.std.specs.List.{IsDistinct}
 use Rattle.std.specs.Map.{keys_of}
@@ -9,7 +10,7 @@ use Rattle.term_core.specs.declared.trap.Trap.{Trap}
 use Rattle.dep_shard.specs.Content.{Content, Entry}
 use Rattle.flow_meaning.specs.declared.outcome.TrapRow.{TrapRow}
 use Rattle.flow_meaning.specs.declared.outcome.WaitRow.{WaitRow}
-use Rattle.flow_meaning.specs.Counting.{weigh}
+use Rattle.list_lemmas.specs.Counting.{weigh}
 
 -- the row of a task that trapped with this cause
 abbrev pub trap_row : Task × Trap → TrapRow

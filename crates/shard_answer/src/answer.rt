@@ -24,8 +24,8 @@ use flow_meaning::{Outcome, TrapRow, WaitRow};
 use ptg_base::{OutOfMemory, Seq};
 use run_answer::{traps_in_task_order, waits_in_task_order, with_written};
 
-/// The answer of a job from the shards of a run in which nothing more can happen. No tile is copied. With room for a row of each
-/// task it takes no memory.
+/// The answer of a job from the shards of a run in which nothing more can happen. No tile is copied. With room for a
+/// row of each task it takes no memory.
 pub fn outcome_of(
     m: &Matched,
     given: Given,
@@ -54,7 +54,11 @@ fn incomplete(
 ) -> Result<Option<Outcome>, OutOfMemory>
     requires known { DataFit m.now.colls m.now.elems given.now }
     requires end { HoldAnEnd m.now given.now shards.now }
-    ensures answer { IfOk result (λ found. unwrap_or found (Complete (length (all_tasks m.now)) (replaced_data (λ here. first_written here (with_tiles (all_written shards.now))) given.now)) ≡ answer m.now given.now) }
+    ensures answer { IfOk result (λ found.
+        unwrap_or found
+        (Complete (length (all_tasks m.now))
+        (replaced_data (λ here. first_written here (with_tiles (all_written shards.now))) given.now))
+        ≡ answer m.now given.now) }
     ensures succeeds { length (all_tasks m.now) ≤ room → IsOk result }
 {
     let _ = m.plan();
@@ -96,7 +100,11 @@ fn stall(
     requires end { HoldAnEnd m.now given.now shards.now }
     requires none { in_task_order (λ (r : TrapRowValue). r.task) (all_traps shards.now) ≡ [] }
     requires empty { (rows.items ≡ []) × (vec_len rows ≡ 0) }
-    ensures answer { IfOk result (λ found. unwrap_or found (Complete (length (all_tasks m.now)) (replaced_data (λ here. first_written here (with_tiles (all_written shards.now))) given.now)) ≡ answer m.now given.now) }
+    ensures answer { IfOk result (λ found.
+        unwrap_or found
+        (Complete (length (all_tasks m.now))
+        (replaced_data (λ here. first_written here (with_tiles (all_written shards.now))) given.now))
+        ≡ answer m.now given.now) }
     ensures succeeds { length (all_tasks m.now) ≤ vec_capacity rows → IsOk result }
 {
     let _ = m.plan();

@@ -6,7 +6,9 @@ use Rattle.ptg_base.specs.Lists.{IsIn}
 use Rattle.ptg_base.specs.Task.{Task}
 use Rattle.ptg_base.specs.declared.edge.Edge.{Edge}
 use Rattle.ptg_base.specs.declared.edge.Item.TheVariants as item
-use Rattle.range_space.proofs.Stepping.{by_test}
+use Rattle.list_lemmas.proofs.Truth.{by_test}
+use Rattle.list_lemmas.proofs.Members.{IsIn-filter_map}
+use Rattle.list_lemmas.proofs.Options.{none_from_length}
 use Rattle.body_eval.specs.Meaning.{body_meaning}
 use Rattle.plan_core.specs.declared.class.ClassPlan.{ClassPlan}
 use Rattle.plan_core.specs.declared.flow.FlowPlan.{FlowPlan}
@@ -22,7 +24,6 @@ use Rattle.flow_meaning.specs.Starting.{Delivery, starting_tiles, tile_from, til
 use Rattle.flow_meaning.proofs.Shapes.{body_shape}
 use Rattle.flow_meaning.proofs.SourceEdges.{class_of}
 use Rattle.shard_meaning.proofs.Destinations.{flow_is, sends_to}
-use Rattle.shard_meaning.proofs.Listing.{IsIn-filter_map}
 
 -- the tile that an edge carries
 abbrev pub edge_tile : Plan → Data → MachineState → Edge → Option (List ℤ)
@@ -40,10 +41,6 @@ no_start P G d t n (f ∷ fs) zero g e ctl =
     ap (λ b. cond b (tile_from P G d f (data_source P t n)) None) (ap (λ (h : FlowPlan). is_data (Some h.kind)) same ∙ ctl)
 no_start P G d t n (f ∷ fs) (suc k) g e ctl = no_start P G d t (suc n) fs k g e ctl
 
-no_size : (o : Option (List ℤ)) → option_map length o ≡ None → o ≡ None
-no_size None h = refl
-no_size (Some x) h = absurd cc
-
 -- and a task leaves none in it
 pub no_output : (P : Plan) (G : Data) (d : Delivery) (t : Task) → IsTask P t → (k : ℕ) (g : FlowPlan) → slice_get (flows_of P t) k ≡ Some g → is_data (Some g.kind) ≡ false → (o : Option Ended) → ended_on P G d t ≡ o → output_tile o k ≡ None
 unfolding ended_on starting_tiles
@@ -54,7 +51,7 @@ no_output P G d t job k g here ctl (Some (Ok tiles)) is =
     let body : body_meaning h.class.body (locals_of P t) (starting_tiles P G d t) ≡ Ok tiles =
     inside (ap (λ o. option_map (λ (c : ClassPlan). body_meaning c.body (locals_of P t) (starting_tiles P G d t)) o) (sym h.class_is) ∙ is) in
     let start : get_or (tiles_from P G d t 0 (flows_of P t)) k None ≡ None = no_start P G d t 0 (flows_of P t) k g here ctl in
-    no_size _ ((body_shape h.class.body (locals_of P t) (starting_tiles P G d t) tiles body).sizes k ∙ ap (λ o. option_map length o) start)
+    none_from_length _ ((body_shape h.class.body (locals_of P t) (starting_tiles P G d t) tiles body).sizes k ∙ ap (λ o. option_map length o) start)
   where
     inside : {A : Type 0} {x y : A} → Some x ≡ Some y → x ≡ y
     inside e = cc

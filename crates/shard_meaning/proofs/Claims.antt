@@ -6,9 +6,9 @@ use Rattle.coll_data.specs.Data.{Data}
 use Rattle.dep_iter.specs.Consistent.{IsConsistent}
 use Rattle.dep_shard.specs.Arrivals.{FlowTile}
 use Rattle.dep_shard.specs.Content.{Content, Takes}
-use Rattle.flow_meaning.specs.Counting.{as_number, weigh}
+use Rattle.list_lemmas.specs.Counting.{as_number, weigh}
 use Rattle.flow_meaning.specs.Sound.{IsSoundState}
-use Rattle.flow_meaning.proofs.Counting.{weigh-push}
+use Rattle.list_lemmas.proofs.Counts.{weigh-push}
 use Rattle.shard_meaning.specs.Moment.{Moment, with_claim}
 use Rattle.shard_meaning.specs.Share.{IsShardOf, Placement, is_of, trap_weight}
 use Rattle.shard_meaning.proofs.Entries.{HoldsEntries, claim_entries, claim_entries_elsewhere}

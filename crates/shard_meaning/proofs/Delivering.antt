@@ -1,8 +1,7 @@
 -- One more tile that is delivered to a task stands among the others in flow order.
 use Rattle.std.proofs.Common.{◌≡◌, ◌≢◌, ℕ, zero, suc, ◌+◌, ◌<◌, ◌≤◌, ℤ, Bool, true, false, cond, List, [], ◌∷◌, ◌++◌, map, sym, refl, ap, ◌∙◌, subst, arith, Option, Some, None, slice_get, nat_eq, add-zero}
 use Rattle.std.specs.Prelude.{option_map, option_to_list}
-use Rattle.std.proofs.lemmas.Bool.{lt-ltb, le-ltb, false_from_ne_true}
-use Rattle.std.specs.Cmp.{unsigned_Decides}
+use Rattle.std.proofs.lemmas.Bool.{lt-ltb, le-ltb, ne_eqb}
 use Rattle.ptg_base.specs.Lists.{IsIn}
 use Rattle.ptg_base.specs.Task.{Task}
 use Rattle.ptg_base.specs.declared.edge.Edge.{Edge}
@@ -32,14 +31,11 @@ first_of_all : (k : ℕ) (tile : List ℤ) (xs : List FlowTile) → AllFrom (suc
 first_of_all k tile [] h = refl
 first_of_all k tile (x ∷ xs) h = ap (λ b. cond b ((k, tile) ∷ x ∷ xs) (cond (nat_eq k x.0) ((k, tile) ∷ xs) (x ∷ with_tile k tile xs))) (lt-ltb k x.0 (omega (arith, h.0)))
 
-unequal : (a b : ℕ) → a ≢ b → nat_eq a b ≡ false
-unequal a b ne = false_from_ne_true (nat_eq a b) (λ e. ne ((unsigned_Decides a b).0 e))
-
 -- and after smaller ones
 after_one : (n k : ℕ) (tile : List ℤ) (y : List ℤ) (xs : List FlowTile) → n < k → with_tile k tile ((n, y) ∷ xs) ≡ (n, y) ∷ with_tile k tile xs
 after_one n k tile y xs l =
     ap (λ b. cond b ((k, tile) ∷ (n, y) ∷ xs) (cond (nat_eq k n) ((k, tile) ∷ xs) ((n, y) ∷ with_tile k tile xs))) (le-ltb k n (omega arith))
-    ∙ ap (λ b. cond b ((k, tile) ∷ xs) ((n, y) ∷ with_tile k tile xs)) (unequal k n (λ e. absurd (omega arith)))
+    ∙ ap (λ b. cond b ((k, tile) ∷ xs) ((n, y) ∷ with_tile k tile xs)) (ne_eqb k n (λ e. absurd (omega arith)))
 
 after : (n k : ℕ) (tile : List ℤ) (o : Option (List ℤ)) (xs : List FlowTile) → n < k → with_tile k tile (map (λ y. (n, y)) (option_to_list o) ++ xs) ≡ map (λ y. (n, y)) (option_to_list o) ++ with_tile k tile xs
 after n k tile None xs l = refl

@@ -1,5 +1,5 @@
 -- The flow that an item is sent by, and that a tile comes to a data flow alone.
-use Rattle.std.proofs.Common.{◌≡◌, ℕ, zero, suc, ◌+◌, arith, map, Bool, true, false, List, [], ◌∷◌, ◌<◌, length, refl, ap, sym, ◌∙◌, subst, Option, Some, None, is_some, slice_get, IsSomeAnd, Result, Ok, Err, inl, inr, ◌&&◌, ℤ}
+use Rattle.std.proofs.Common.{◌≡◌, ℕ, suc, ◌+◌, arith, map, Bool, true, false, List, [], ◌∷◌, ◌<◌, length, refl, ap, sym, ◌∙◌, subst, Option, Some, None, is_some, slice_get, IsSomeAnd, Result, Ok, Err, inl, inr, ◌&&◌, ℤ}
 use Rattle.std.proofs.lemmas.Bool.{false≢true, and_parts, ltb-true}
 use Rattle.std.specs.Prelude.{option_and_then, flat_map}
 use Rattle.std.specs.Option.{option_map_or}
@@ -13,7 +13,8 @@ use Rattle.term_core.specs.Value.{and_then}
 use Rattle.term_core.specs.declared.fault.ExprFault.{ExprFault}
 use Rattle.term_core.specs.declared.flow.FlowKind.{FlowKind}
 use Rattle.term_core.specs.declared.flow.FlowKind.TheVariants.{Read, Write, Rw, Ctl}
-use Rattle.range_space.proofs.MemberLists.{from_append, from_flat_map, from_map}
+use Rattle.list_lemmas.proofs.Members.{from_append, from_flat_map, from_map, member_passes}
+use Rattle.list_lemmas.proofs.Places.{IsIn-slice_get}
 use Rattle.plan_core.specs.declared.class.ClassPlan.{ClassPlan}
 use Rattle.plan_core.specs.declared.flow.DepPlan.{DepPlan}
 use Rattle.plan_core.specs.declared.flow.FlowPlan.{FlowPlan}
@@ -32,7 +33,6 @@ use Rattle.dep_iter.specs.Items.{items, items_to, out_edges}
 use Rattle.dep_iter.specs.Links.{links_to}
 use Rattle.dep_iter.specs.Tasks.{IsTask, flows_of, locals_of, task}
 use Rattle.dep_iter.proofs.Belonging.{from_links, link_out, out_edge_is}
-use Rattle.flow_meaning.proofs.Members.{all_at}
 use Rattle.flow_meaning.proofs.SourceEdges.{class_of}
 use Rattle.shard_meaning.specs.Reserve.{has_type}
 
@@ -68,11 +68,6 @@ module _ (passes : Target → Bool) (locals : ℕ) (env : List ℤ) (x : Target)
   held_passes [] all i = absurd i
   held_passes (d ∷ ds) all i = first_or_later d ds (all d (inl refl)) (λ j. held_passes ds (λ c k. all c (inr k)) j) (held_target d env) refl i
 
-is_in_at : {A : Type 0} (xs : List A) (n : ℕ) (x : A) → slice_get xs n ≡ Some x → IsIn x xs
-is_in_at [] n x e = absurd cc
-is_in_at (y ∷ ys) zero x e = let same : y ≡ x = cc in inl (sym same)
-is_in_at (y ∷ ys) (suc n) x e = inr (is_in_at ys n x e)
-
 -- the flows of a task are those of its class
 pub flow_is : (P : Plan) (s : Task) (k : ℕ) → slice_get (flows_of P s) k ≡ flow_of P.classes s.class k
 flow_is P s k = by (slice_get P.classes s.class)
@@ -94,7 +89,7 @@ module _ (P : Plan) (t : Task) (job : IsTask P t) (n : ℕ) (g : FlowPlan) (here
       let h = class_of P t job in
       let well = P.well_made.fit t.class h.class h.space h.class_is h.space_is in
       let flows : flows_of P t ≡ h.class.flows = ap (λ o. option_map_or (λ (c : ClassPlan). c.flows) o []) h.class_is in
-      all_at (is_flow P.classes P.spaces P.colls (length P.elems) (length h.space.defs)) h.class.flows well.flows g (is_in_at h.class.flows n g (subst (λ fs. slice_get fs n ≡ Some g) flows here))
+      member_passes (is_flow P.classes P.spaces P.colls (length P.elems) (length h.space.defs)) h.class.flows well.flows g (IsIn-slice_get h.class.flows n g (subst (λ fs. slice_get fs n ≡ Some g) flows here))
 
   pub known_type : is_data (Some g.kind) ≡ true → g.datatype < length P.elems
   known_type d = type_known (length P.elems) g.kind g.datatype d (and_parts _ _ (and_parts _ _ (and_parts _ _ flow_well).0).0).0
@@ -104,7 +99,7 @@ module _ (P : Plan) (t : Task) (job : IsTask P t) (n : ℕ) (g : FlowPlan) (here
   destination x i =
       let all = length (class_of P t job).space.defs in
       let passes = is_destination P.classes P.spaces P.colls all g in
-      held_passes passes all (locals_of P t) x g.outs (λ d k. all_at (is_dependence all passes) g.outs (and_parts _ _ flow_well).1 d k) i
+      held_passes passes all (locals_of P t) x g.outs (λ d k. member_passes (is_dependence all passes) g.outs (and_parts _ _ flow_well).1 d k) i
 
   may_be : (x : Target) → IsIn x (flow_outs (locals_of P t) g) → is_out_target P.classes g.kind x ≡ true
   may_be x i = (and_parts _ _ (destination x i)).1

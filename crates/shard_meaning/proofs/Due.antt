@@ -1,23 +1,23 @@
 -- What is still due at a moment: an event makes nothing due, and one thing that was due is no more.
-use Rattle.std.proofs.Common.{◌≡◌, ℕ, ◌+◌, ◌<◌, ◌≤◌, Bool, true, false, not, ◌&&◌, ◌||◌, refl, ap, sym, ◌∙◌, arith, is_none, nat_lt, eq-eqb}
-use Rattle.std.proofs.lemmas.Bool.{and_from, and_parts, eqb-true, false_from_ne_true, false≢true, le-ltb, lt-ltb, ltb-true}
+use Rattle.std.proofs.Common.{◌≡◌, ℕ, ◌+◌, ◌<◌, ◌≤◌, Bool, true, false, not, ◌&&◌, ◌||◌, refl, ap, ◌∙◌, arith, is_none, nat_lt, eq-eqb}
+use Rattle.std.proofs.lemmas.Bool.{and_from, and_parts, eqb-true, false_from_ne_true, le-ltb, lt-ltb, ltb-true, or_left, or_right}
 use Rattle.ptg_base.specs.Task.{Task}
 use Rattle.ptg_base.specs.TaskComparing.{same_task}
 use Rattle.ptg_base.specs.TaskLaws.{same_task-decides}
 use Rattle.ptg_base.specs.declared.edge.Item.{Item}
 use Rattle.ptg_base.specs.declared.edge.Item.TheVariants as item
-use Rattle.range_space.proofs.Stepping.{by_test}
+use Rattle.list_lemmas.proofs.Truth.{by_test, contrapositive}
+use Rattle.list_lemmas.proofs.Counts.{count-le, weigh-push}
 use Rattle.plan_core.specs.declared.plan.Plan.{Plan}
 use Rattle.coll_data.specs.Data.{Data}
 use Rattle.dep_iter.specs.Consistent.{all_data, all_writes}
 use Rattle.dep_iter.specs.Tasks.{all_tasks}
 use Rattle.dep_shard.specs.Content.{Content, entry_of}
 use Rattle.flow_meaning.specs.Comparing.{same_item}
-use Rattle.flow_meaning.specs.Counting.{as_number, count}
+use Rattle.list_lemmas.specs.Counting.{as_number, count}
 use Rattle.flow_meaning.specs.Machine.{MachineState, MaySend, Send, Sent, claim_count, is_sent, send_count, sent_with, state_after}
 use Rattle.flow_meaning.specs.Table.{is_unclaimed}
 use Rattle.flow_meaning.proofs.Comparing.{same_item-decides}
-use Rattle.flow_meaning.proofs.Counting.{count-le, weigh-push}
 use Rattle.shard_meaning.specs.Moment.{Moment, run_count, with_claim, with_end, with_send}
 use Rattle.shard_meaning.specs.Share.{Placement, is_of}
 use Rattle.shard_meaning.specs.Reserve.{is_due_edge, is_due_end, is_due_entry, is_due_write, is_due_write_tile, is_edge_of_type, is_write_of_type}
@@ -33,17 +33,13 @@ pub record IsDueBefore (R T : Moment) : Type 0 where
   pub sent : (i : Item) → is_sent R.state i ≡ true → is_sent T.state i ≡ true
   pub to_end : (t : Task) → is_to_end T t ≡ true → is_to_end R t ≡ true
 
-not_back : (a b : Bool) → (a ≡ true → b ≡ true) → not b ≡ true → not a ≡ true
-not_back true b h e = absurd (false≢true (sym (ap not (h refl)) ∙ e))
-not_back false b h e = refl
-
 -- a test with a part that holds before where it holds later
 guarded : (a b c : Bool) → (b ≡ true → c ≡ true) → (a && b) ≡ true → (a && c) ≡ true
 guarded a b c h e = let p = and_parts a b e in and_from a c p.0 (h p.1)
 
 module _ (P : Plan) (of : Placement) (k : ℕ) (R T : Moment) (before : IsDueBefore R T) where
   unsent_before : (a : Bool) (i : Item) → (a && not (is_sent T.state i)) ≡ true → (a && not (is_sent R.state i)) ≡ true
-  unsent_before a i e = guarded a _ _ (not_back (is_sent R.state i) (is_sent T.state i) (before.sent i)) e
+  unsent_before a i e = guarded a _ _ (contrapositive (is_sent R.state i) (is_sent T.state i) (before.sent i)) e
 
   pub edges_due : (datatype : ℕ) → count (is_due_edge P of k datatype T.state) (all_data P) ≤ count (is_due_edge P of k datatype R.state) (all_data P)
   edges_due datatype = count-le (is_due_edge P of k datatype T.state) (is_due_edge P of k datatype R.state) (all_data P) (λ e i h. unsent_before (is_of of k e.to && is_edge_of_type P datatype e) (item.Edge e) h)
@@ -67,13 +63,6 @@ module _ (P : Plan) (of : Placement) (k : ℕ) (R T : Moment) (before : IsDueBef
 or_elim : {C : Type 0} (a b : Bool) → (a ≡ true → C) → (b ≡ true → C) → (a || b) ≡ true → C
 or_elim true b f g e = f refl
 or_elim false b f g e = g e
-
-or_left : (a b : Bool) → a ≡ true → (a || b) ≡ true
-or_left a b e = ap (λ c. c || b) e
-
-or_right : (a b : Bool) → b ≡ true → (a || b) ≡ true
-or_right true b e = refl
-or_right false b e = e
 
 unclaimed_is : (S : MachineState) (t : Task) → claim_count S t ≡ 0 → is_unclaimed S t ≡ true
 unclaimed_is S t e = eq-eqb (claim_count S t) 0 e

@@ -7,9 +7,9 @@ use Rattle.plan_core.specs.declared.plan.Plan.{Plan}
 use Rattle.coll_data.specs.Data.{Data}
 use Rattle.dep_shard.specs.Content.{Content, Ends, IsUnchanged, KeepsEntriesAndWritten, entry_in}
 use Rattle.flow_meaning.specs.Backward.{ended}
-use Rattle.flow_meaning.specs.Counting.{as_number, weigh}
+use Rattle.list_lemmas.specs.Counting.{as_number, weigh}
 use Rattle.flow_meaning.specs.Ending.{Ended, has_outputs}
-use Rattle.flow_meaning.proofs.Counting.{weigh-push}
+use Rattle.list_lemmas.proofs.Counts.{weigh-push}
 use Rattle.shard_meaning.specs.Moment.{Moment, run_count, with_end}
 use Rattle.shard_meaning.specs.Share.{IsShardOf, Placement, ended_weight, is_of, trap_weight}
 use Rattle.shard_meaning.proofs.Claims.{none_away, one_here}

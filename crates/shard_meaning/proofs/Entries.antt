@@ -14,7 +14,9 @@ use Rattle.ptg_base.specs.declared.edge.Item.{Item}
 use Rattle.ptg_base.specs.declared.edge.Item.TheVariants as item
 use Rattle.dep_iter.specs.declared.source.Source.{Source}
 use Rattle.dep_iter.specs.declared.source.Source.TheVariants as source
-use Rattle.range_space.proofs.Stepping.{by_test}
+use Rattle.list_lemmas.proofs.Truth.{by_test}
+use Rattle.list_lemmas.proofs.Counts.{count-at_most, count-some, weigh-push}
+use Rattle.list_lemmas.proofs.Members.{IsIn-filter_map}
 use Rattle.plan_core.specs.declared.flow.FlowPlan.{FlowPlan}
 use Rattle.plan_core.specs.declared.plan.Plan.{Plan}
 use Rattle.plan_core.specs.Kinds.{is_data}
@@ -25,7 +27,7 @@ use Rattle.dep_iter.specs.Hints.{priority}
 use Rattle.dep_iter.specs.Items.{edge_of, items}
 use Rattle.dep_iter.specs.Tasks.{IsTask, flows_of}
 use Rattle.dep_shard.specs.Content.{Content, Entry, Updates, entry_before, entry_in, entry_of, fresh, tiles_after, with_arrival}
-use Rattle.flow_meaning.specs.Counting.{as_number, count}
+use Rattle.list_lemmas.specs.Counting.{as_number, count}
 use Rattle.flow_meaning.specs.Comparing.{same_item}
 use Rattle.flow_meaning.specs.Machine.{Claim, MachineState, MaySend, Send, Sent, arrived, claim_count, first_tile, is_sent, sent_tile, state_after}
 use Rattle.flow_meaning.specs.Sound.{IsSoundState}
@@ -33,14 +35,12 @@ use Rattle.flow_meaning.specs.Starting.{delivered_from, delivered_tiles, deliver
 use Rattle.flow_meaning.specs.Table.{TableEntry, table_entry}
 use Rattle.flow_meaning.proofs.Arriving.{arrives, arrives_not, delivers_as_before, delivers_now, sent_edge_in, writes_not}
 use Rattle.flow_meaning.proofs.Comparing.{same_item-decides}
-use Rattle.flow_meaning.proofs.Counting.{count-at_most, count-some, weigh-push}
 use Rattle.flow_meaning.proofs.Members.{in_edge_to}
 use Rattle.flow_meaning.proofs.Events.{claim_member, unsent}
 use Rattle.flow_meaning.proofs.Rounds.{delivered_tiles-same}
 use Rattle.shard_meaning.specs.Share.{Placement, as_entry}
 use Rattle.shard_meaning.proofs.Carrying.{Carries, edge_tile}
 use Rattle.shard_meaning.proofs.Delivering.{in_order}
-use Rattle.shard_meaning.proofs.Listing.{IsIn-filter_map}
 use Rattle.shard_meaning.proofs.TableEntries.{by_same, no_entry, none_came, some_entry}
 
 -- the entries of the shard k in a state

@@ -1,4 +1,5 @@
--- What the holder of a shard knows: which tasks may be claimed, what a claim hands out, and what its two numbers are at most.
+-- What the holder of a shard knows: which tasks may be claimed, what a claim hands out, and what its two numbers are at
+-- most.
 use Rattle.std.proofs.Common.{◌≡◌, ℕ, ◌+◌, ◌<◌, ◌≤◌, Bool, true, false, cond, ◌==◌, ◌&&◌, ◌||◌, List, refl, ap, sym, ◌∙◌, subst, arith, Some, None, nat_lt, IsSome}
 use Rattle.std.proofs.lemmas.Bool.{eqb-true}
 use Rattle.std.specs.Prelude.{option_map}
@@ -12,17 +13,18 @@ use Rattle.dep_iter.specs.Tasks.{IsTask}
 use Rattle.dep_shard.specs.Arrivals.{FlowTile}
 use Rattle.dep_shard.specs.Content.{Content, Entry, IsReady, Takes, entry_of}
 use Rattle.flow_meaning.specs.Backward.{ended, inputs}
-use Rattle.flow_meaning.specs.Counting.{as_number}
+use Rattle.list_lemmas.specs.Counting.{as_number}
 use Rattle.flow_meaning.specs.Machine.{MachineState, MayClaim, arrived, claim_count, sent_tile}
 use Rattle.flow_meaning.specs.Sound.{IsSoundState}
 use Rattle.flow_meaning.specs.Starting.{delivered_tiles}
 use Rattle.flow_meaning.specs.Table.{is_ready, is_waiting}
-use Rattle.flow_meaning.proofs.Counting.{count-at_most}
+use Rattle.list_lemmas.proofs.Counts.{count-at_most, weigh-member}
+use Rattle.list_lemmas.proofs.Tasks.{counted_member}
+use Rattle.std.proofs.lemmas.Option.{same_Some}
 use Rattle.flow_meaning.proofs.Events.{has_inputs, it_ends}
 use Rattle.shard_meaning.specs.Moment.{Moment, run_count}
 use Rattle.shard_meaning.specs.Share.{IsShardOf, Placement, as_entry, is_of}
 use Rattle.shard_meaning.proofs.Claims.{one_here}
-use Rattle.shard_meaning.proofs.Listing.{counted_member, weigh-member}
 use Rattle.shard_meaning.proofs.SoundMoments.{claims_at_most, claims_below}
 use Rattle.shard_meaning.proofs.TableEntries.{by_same, full_entry}
 
@@ -34,11 +36,8 @@ pub record IsEntryOf (P : Plan) (S : MachineState) (t : Task) (e : Entry) : Type
   pub unclaimed : claim_count S t ≡ 0
   pub is : e ≡ whole_entry P S t
 
-some_same : {A : Type 0} (x y : A) → Some x ≡ Some y → x ≡ y
-some_same x y e = cc
-
 entry_is : (P : Plan) (S : MachineState) (t : Task) (e : Entry) (b : Bool) → is_ready P S t || is_waiting P S t ≡ b → option_map as_entry (cond b (Some (record { goal = goal P t; arrived = arrived P S t; priority = priority P t; tiles = delivered_tiles P (sent_tile S) t })) None) ≡ Some e → IsEntryOf P S t e
-entry_is P S t e true h is = record { unclaimed = free (claim_count S t == 0) refl h; is = sym (some_same (whole_entry P S t) e is) }
+entry_is P S t e true h is = record { unclaimed = free (claim_count S t == 0) refl h; is = sym (same_Some (whole_entry P S t) e is) }
   where
     free : (b : Bool) → (claim_count S t == 0) ≡ b → ((b && (arrived P S t == goal P t)) || (b && (nat_lt 0 (arrived P S t) && nat_lt (arrived P S t) (goal P t)))) ≡ true → claim_count S t ≡ 0
     free true k g = eqb-true (claim_count S t) 0 k

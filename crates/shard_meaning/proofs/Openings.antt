@@ -14,18 +14,17 @@ use Rattle.dep_iter.specs.Hints.{priority}
 use Rattle.dep_iter.specs.Tasks.{IsTask, all_tasks}
 use Rattle.dep_iter.proofs.Listing.{listed}
 use Rattle.dep_shard.specs.Content.{Content, entry_of, fresh}
-use Rattle.flow_meaning.specs.Counting.{weigh}
+use Rattle.list_lemmas.specs.Counting.{weigh}
 use Rattle.flow_meaning.specs.Machine.{arrived, opening_state, sent_tile}
 use Rattle.flow_meaning.specs.Starting.{delivered_tiles}
 use Rattle.flow_meaning.specs.Table.{is_unclaimed, table_entry}
-use Rattle.flow_meaning.proofs.Counting.{count-le}
+use Rattle.list_lemmas.proofs.Counts.{count-le, weigh-zero}
 use Rattle.shard_meaning.specs.Calm.{AreFinished}
 use Rattle.shard_meaning.specs.Moment.{opening_moment}
 use Rattle.shard_meaning.specs.Opening.{HasOpeningReserve, IsOpeningShard, is_edge_to, is_to_enter, is_write_from, opening_entry}
 use Rattle.shard_meaning.specs.Reserve.{HasReserve, is_due_edge, is_due_end, is_due_entry, is_due_write, is_due_write_tile, is_edge_of_type, is_write_of_type}
 use Rattle.shard_meaning.specs.Share.{IsShardOf, Placement, as_entry, is_of}
 use Rattle.shard_meaning.proofs.Entries.{nothing_comes}
-use Rattle.shard_meaning.proofs.Listing.{weigh-zero}
 use Rattle.shard_meaning.proofs.TableEntries.{by_same, entry_by, full_entry, none_came}
 
 none_sent : (P : Plan) (t : Task) → arrived P opening_state t ≡ 0

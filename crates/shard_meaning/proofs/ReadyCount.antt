@@ -1,5 +1,5 @@
 -- How many tasks are ready: one fewer after a claim, one more after a send that makes a task ready.
-use Rattle.std.proofs.Common.{◌≡◌, ◌≢◌, ◌+◌, ◌<◌, ◌≤◌, Bool, true, false, cond, ◌&&◌, ◌==◌, not, List, [], ◌∷◌, length, refl, ap, sym, ◌∙◌, subst, arith, eq-eqb, ne_eqb}
+use Rattle.std.proofs.Common.{◌≡◌, ◌≢◌, ◌+◌, ◌<◌, ◌≤◌, Bool, true, false, ◌&&◌, ◌==◌, not, List, [], ◌∷◌, length, refl, ap, sym, ◌∙◌, subst, arith, eq-eqb, ne_eqb}
 use Rattle.std.specs.List.{filter}
 use Rattle.std.proofs.lemmas.Bool.{and_from, false_from_ne_true, false≢true}
 use Rattle.ptg_base.specs.Lists.{HasNoRepeats, IsIn}
@@ -9,34 +9,27 @@ use Rattle.ptg_base.specs.TaskLaws.{same_task-decides}
 use Rattle.ptg_base.specs.declared.edge.Edge.{Edge}
 use Rattle.ptg_base.specs.declared.edge.WriteBack.{WriteBack}
 use Rattle.ptg_base.specs.declared.edge.Item.TheVariants as item
-use Rattle.range_space.proofs.Stepping.{by_test}
+use Rattle.list_lemmas.proofs.Truth.{by_test}
+use Rattle.list_lemmas.proofs.Counts.{count-some, one_at_most, weigh-push, count-same, length-filter}
+use Rattle.list_lemmas.proofs.Members.{IsIn-filter}
+use Rattle.list_lemmas.proofs.Distinct.{count-falls, no_longer}
+use Rattle.list_lemmas.proofs.Tasks.{distinct_once}
 use Rattle.plan_core.specs.declared.plan.Plan.{Plan}
 use Rattle.coll_data.specs.Data.{Data}
 use Rattle.dep_iter.specs.Consistent.{IsConsistent}
 use Rattle.dep_iter.specs.Edges.{goal}
 use Rattle.dep_iter.specs.Tasks.{all_tasks}
 use Rattle.dep_iter.proofs.Listing.{listed}
-use Rattle.flow_meaning.specs.Counting.{as_number, count}
+use Rattle.list_lemmas.specs.Counting.{as_number, count}
 use Rattle.flow_meaning.specs.Machine.{MachineState, MayClaim, MaySend, Send, arrived, claim_count, state_after}
 use Rattle.flow_meaning.specs.Sound.{IsSoundState}
 use Rattle.flow_meaning.specs.Table.{is_ready, is_unclaimed, ready_tasks}
 use Rattle.flow_meaning.proofs.Arriving.{arrives, arrives_not, writes_not}
-use Rattle.flow_meaning.proofs.Counting.{count-some, one_at_most, weigh-push}
 use Rattle.flow_meaning.proofs.Events.{member_claim}
 use Rattle.flow_meaning.proofs.Once.{tasks_once}
-use Rattle.flow_meaning.proofs.Quiet.{filtered}
 use Rattle.shard_meaning.specs.Calm.{IsCalm}
 use Rattle.shard_meaning.specs.Moment.{Moment, with_claim}
 use Rattle.shard_meaning.proofs.Entries.{missing, target, target_unclaimed}
-use Rattle.shard_meaning.proofs.Listing.{count-falls, count-same, distinct_once}
-use Rattle.shard_meaning.proofs.SoundMoments.{at_most}
-
-length-filter : {A : Type 0} (test : A → Bool) (xs : List A) → length (filter test xs) ≡ count test xs
-length-filter test [] = refl
-length-filter test (x ∷ xs) =
-    by_test (test x)
-    (λ k. omega (arith, ap (λ b. length (cond b (x ∷ filter test xs) (filter test xs))) k, ap as_number k, length-filter test xs))
-    (λ k. omega (arith, ap (λ b. length (cond b (x ∷ filter test xs) (filter test xs))) k, ap as_number k, length-filter test xs))
 
 -- the ready tasks are those of the job that are ready
 pub ready_count : (P : Plan) (S : MachineState) → length (ready_tasks P S) ≡ count (is_ready P S) (all_tasks P)
@@ -120,7 +113,7 @@ ready_at_most P G S sound =
     let claimed : Task → Bool = λ t. not (is_unclaimed S t) in
     let taken : (t : Task) → IsIn t S.claims → claimed t ≡ true = λ t i. ap not (ne_eqb (claim_count S t) 0 (λ z. absurd (omega (arith, z, member_claim S t i)))) in
     let claims : length S.claims ≤ length (filter claimed (all_tasks P)) =
-    at_most S.claims (filter claimed (all_tasks P)) (distinct_once S.claims sound.claimed_once) (λ t i. (filtered claimed (all_tasks P) t).1 ((listed P t).0 (sound.claimed_have_all t i).task, taken t i)) in
+    no_longer S.claims (filter claimed (all_tasks P)) (distinct_once S.claims sound.claimed_once) (λ t i. (IsIn-filter claimed (all_tasks P) t).1 ((listed P t).0 (sound.claimed_have_all t i).task, taken t i)) in
     omega (arith, claims, length-filter claimed (all_tasks P), ready_count P S, disjoint (is_ready P S) claimed (all_tasks P) (λ t h. not_one (is_unclaimed S t) (arrived P S t == goal P t) h))
   where
     not_one : (a b : Bool) → not a ≡ true → (a && b) ≡ false

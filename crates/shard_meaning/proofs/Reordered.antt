@@ -1,4 +1,5 @@
--- In whatever order tasks were claimed and items sent, shards hold the same, and the moment is as sound, finished and calm.
+-- In whatever order tasks were claimed and items sent, shards hold the same, and the moment is as sound, finished and
+-- calm.
 use Rattle.std.proofs.Common.{◌≡◌, ℕ, length, ap, sym, ◌∙◌, arith, nat_lt, inl, inr, ◌||◌, ◌==◌}
 use Rattle.std.specs.Prelude.{option_map}
 use Rattle.ptg_base.specs.Task.{Task}
@@ -7,12 +8,12 @@ use Rattle.ptg_base.specs.declared.edge.Item.{Item}
 use Rattle.plan_core.specs.declared.plan.Plan.{Plan}
 use Rattle.coll_data.specs.Data.{Data}
 use Rattle.dep_iter.specs.Consistent.{IsConsistent}
-use Rattle.dep_iter.proofs.Belonging.{empty_is}
+use Rattle.std.proofs.lemmas.List.{nil_from_length}
+use Rattle.list_lemmas.proofs.Counts.{weigh-one}
 use Rattle.dep_shard.specs.Content.{Content}
 use Rattle.flow_meaning.specs.Comparing.{same_item}
-use Rattle.flow_meaning.specs.Counting.{as_number}
+use Rattle.list_lemmas.specs.Counting.{as_number}
 use Rattle.flow_meaning.specs.Machine.{Claim, Sent, claim_count, is_sent}
-use Rattle.flow_meaning.proofs.Counting.{weigh-one}
 use Rattle.flow_meaning.proofs.Reordering.{back, claim_in, possible_there, reordered_sound, table_same}
 use Rattle.shard_meaning.specs.Calm.{AreFinished, IsCalm}
 use Rattle.shard_meaning.specs.Moment.{IsReorderedMoment, IsSoundMoment, Moment, run_count}
@@ -66,5 +67,5 @@ module _ (P : Plan) (R T : Moment) (same : IsReorderedMoment R T) where
       pub reordered_calm : IsCalm P R → IsCalm P T
       reordered_calm calm = record {
         none_ready = λ t may. calm.none_ready t (possible_there P G con T.state R.state reordered_moment.state (back R.state T.state same.state) (Claim t) may);
-        none_runs = empty_is T.running (omega (arith, same.running (λ t. 1), weigh-one T.running, ap length calm.none_runs, weigh-one R.running));
+        none_runs = nil_from_length T.running (omega (arith, same.running (λ t. 1), weigh-one T.running, ap length calm.none_runs, weigh-one R.running));
       }

@@ -5,27 +5,29 @@ use Rattle.ptg_base.specs.Task.{Task}
 use Rattle.ptg_base.specs.TaskComparing.{same_task}
 use Rattle.ptg_base.specs.TaskLaws.{same_task-decides}
 use Rattle.ptg_base.specs.declared.edge.Item.{Item}
-use Rattle.range_space.proofs.Stepping.{by_test}
+use Rattle.list_lemmas.proofs.Truth.{by_test}
+use Rattle.list_lemmas.proofs.Counts.{count-some, weigh-push}
+use Rattle.list_lemmas.proofs.Distinct.{count-falls}
+use Rattle.list_lemmas.proofs.Tasks.{distinct_once}
 use Rattle.plan_core.specs.declared.plan.Plan.{Plan}
 use Rattle.coll_data.specs.Data.{Data}
 use Rattle.dep_iter.specs.Tasks.{IsTask, all_tasks}
 use Rattle.dep_iter.proofs.Listing.{listed}
 use Rattle.dep_shard.specs.Arrivals.{FlowTile}
 use Rattle.dep_shard.specs.Content.{Content, KeepsEntriesAndWritten, Takes, Uses, entry_in, entry_of}
-use Rattle.flow_meaning.specs.Counting.{as_number}
+use Rattle.list_lemmas.specs.Counting.{as_number}
 use Rattle.flow_meaning.specs.Machine.{MayClaim, MaySend, claim_count}
 use Rattle.flow_meaning.specs.Table.{is_unclaimed}
-use Rattle.flow_meaning.proofs.Counting.{count-some, weigh-push}
 use Rattle.flow_meaning.proofs.Once.{tasks_once}
 use Rattle.shard_meaning.specs.Moment.{Moment, run_count, with_claim, with_end, with_send}
 use Rattle.shard_meaning.specs.Share.{Placement, is_of}
 use Rattle.shard_meaning.specs.Reserve.{HasReserve, is_due_end}
 use Rattle.shard_meaning.proofs.Due.{IsDueBefore, due-claim, due-end, due-send, edges_due, ends_due, entries_due, is_to_end, runs_as_before, runs_once_less, write_tiles_due, writes_due}
 use Rattle.shard_meaning.proofs.Entries.{still_there}
-use Rattle.shard_meaning.proofs.Listing.{count-falls, distinct_once}
 
 module _ (P : Plan) (of : Placement) (k : ℕ) where
-  -- a shard of which nothing but the entries and the spares has changed, where no event or one has happened that uses no spare
+  -- a shard of which nothing but the entries and the spares has changed, where no event or one has happened that uses
+  -- no spare
   kept_by : (R T : Moment) → IsDueBefore R T → (y z : Content) → ((t : Task) → is_unclaimed T.state t ≡ true → is_none (entry_of z t) ≡ true → is_none (entry_of y t) ≡ true)
       → Uses y.spare z.spare 0 None 0 0 → HasReserve P of k R y → HasReserve P of k T z
   kept_by R T before y z none uses h = record {

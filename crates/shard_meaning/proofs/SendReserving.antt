@@ -1,5 +1,6 @@
--- The reserve of a shard is kept where an edge to one of its tasks is sent or a write-back of one, and it is enough for that.
-use Rattle.std.proofs.Common.{◌≡◌, ℕ, ◌+◌, ◌<◌, ◌≤◌, Bool, true, false, cond, not, ◌&&◌, List, refl, ap, sym, ◌∙◌, subst, inl, inr, arith, Option, Some, None, is_none, is_some, nat_eq, eq-eqb, ℤ, slice_index, if◌then◌else◌, IsTrue}
+-- The reserve of a shard is kept where an edge to one of its tasks is sent or a write-back of one, and it is enough for
+-- that.
+use Rattle.std.proofs.Common.{◌≡◌, ℕ, ◌+◌, ◌<◌, ◌≤◌, true, false, cond, not, ◌&&◌, List, refl, ap, sym, ◌∙◌, subst, inl, inr, arith, Option, Some, None, is_none, is_some, nat_eq, eq-eqb, ℤ, slice_index, if◌then◌else◌, IsTrue}
 use Rattle.std.proofs.lemmas.Bool.{and_from, false_from_ne_true, false≢true}
 use Rattle.std.specs.Cmp.{unsigned_Decides}
 use Rattle.std.specs.Prelude.{option_map}
@@ -11,8 +12,11 @@ use Rattle.ptg_base.specs.declared.edge.Edge.{Edge}
 use Rattle.ptg_base.specs.declared.edge.WriteBack.{WriteBack}
 use Rattle.ptg_base.specs.declared.edge.Item.{Item}
 use Rattle.ptg_base.specs.declared.edge.Item.TheVariants as item
-use Rattle.range_space.proofs.MemberLists.{IsIn-flat_map}
-use Rattle.range_space.proofs.Stepping.{by_test}
+use Rattle.list_lemmas.proofs.Members.{IsIn-flat_map, IsIn-filter, IsIn-filter_map}
+use Rattle.list_lemmas.proofs.Truth.{by_test, and-false}
+use Rattle.list_lemmas.proofs.Counts.{count-some}
+use Rattle.list_lemmas.proofs.Distinct.{count-falls, HasNoRepeats-filter, HasNoRepeats-from_map}
+use Rattle.list_lemmas.proofs.Tasks.{distinct_once}
 use Rattle.plan_core.specs.declared.flow.FlowPlan.{FlowPlan}
 use Rattle.plan_core.specs.declared.plan.Plan.{Plan}
 use Rattle.plan_core.specs.Kinds.{flow_of, is_data}
@@ -25,16 +29,14 @@ use Rattle.dep_iter.proofs.Listing.{listed}
 use Rattle.dep_shard.specs.Content.{Content, Entry, KeepsAllButWritten, Updates, Uses, entry_in, entry_of}
 use Rattle.dep_shard.specs.Stock.{tiles_used}
 use Rattle.flow_meaning.specs.Backward.{ended}
-use Rattle.flow_meaning.specs.Counting.{count}
+use Rattle.list_lemmas.specs.Counting.{count}
 use Rattle.flow_meaning.specs.Ending.{output_tile}
 use Rattle.flow_meaning.specs.Machine.{MaySend, is_sent}
 use Rattle.flow_meaning.specs.Sound.{IsSoundState}
 use Rattle.flow_meaning.specs.Table.{is_unclaimed}
 use Rattle.flow_meaning.proofs.Arriving.{sent_edge_in}
-use Rattle.flow_meaning.proofs.Counting.{count-some}
 use Rattle.flow_meaning.proofs.Events.{ends_so}
 use Rattle.flow_meaning.proofs.Once.{tasks_once}
-use Rattle.flow_meaning.proofs.Quiet.{filtered}
 use Rattle.shard_meaning.specs.Moment.{Moment, with_send}
 use Rattle.shard_meaning.specs.Share.{Placement, is_of}
 use Rattle.shard_meaning.specs.Reserve.{HasReserve, has_type, is_due_edge, is_due_entry, is_due_write, is_due_write_tile, is_edge_of_type, is_write_of_type}
@@ -42,11 +44,6 @@ use Rattle.shard_meaning.proofs.Carrying.{Carries, carries, edge_tile}
 use Rattle.shard_meaning.proofs.Destinations.{flow_is}
 use Rattle.shard_meaning.proofs.Due.{IsDueBefore, due-send, edges_due, ends_due, entries_due, sent_as_before, sent_now, unsent_yet, write_tiles_due, writes_due}
 use Rattle.shard_meaning.proofs.Entries.{now_there, still_there, target, target_unclaimed}
-use Rattle.shard_meaning.proofs.Listing.{IsIn-filter_map, count-falls, distinct-filter, distinct-from_map, distinct_once}
-
-never : (a : Bool) → (a && false) ≡ false
-never true = refl
-never false = refl
 
 -- a tile uses a spare of its type, and no other
 used-here : (d n : ℕ) → d ≡ n → tiles_used (Some d) n ≡ 1
@@ -79,7 +76,7 @@ module _ (P : Plan) (G : Data) (con : IsConsistent P) (of : Placement) (k : ℕ)
     among_data : (x : List ℤ) → output_tile (ended P G e.from) e.out_flow ≡ Some x → IsIn e (all_data P)
     among_data x some =
         let so = ap (λ o. output_tile o e.out_flow) (ends_so P G con R.state sound e.from (sound.claimed_have_all e.from may.claimed)) in
-        (filtered (is_data_edge P) (all_in P) e).1 (
+        (IsIn-filter (is_data_edge P) (all_in P) e).1 (
           IsIn-flat_map (in_edges P) (all_tasks P) e.to e among_tasks (sent_edge_in P con e job may.is_item),
           data_edge (carries P G R.state e job may.is_item) x (sym so ∙ some),
         )
@@ -100,7 +97,7 @@ module _ (P : Plan) (G : Data) (con : IsConsistent P) (of : Placement) (k : ℕ)
           arith,
           count-falls (is_due_entry of k R.state y) (is_due_entry of k later.state z) (all_tasks P) e.to (distinct_once (all_tasks P) (tasks_once P)) among_tasks (entry_due y none)
               (ap (λ o. is_of of k e.to && (is_unclaimed R.state e.to && is_none o)) (now_there y z e.to e.to (Some w) updates ((same_task-decides e.to e.to).1 refl))
-              ∙ ap (λ b. is_of of k e.to && b) (never (is_unclaimed R.state e.to)) ∙ never (is_of of k e.to))
+              ∙ ap (λ b. is_of of k e.to && b) (and-false (is_unclaimed R.state e.to)) ∙ and-false (is_of of k e.to))
               (λ u ne. ap (λ o. is_of of k u && (is_unclaimed R.state u && is_none o)) (still_there y z e.to u (Some w) updates (unlike u ne))),
         )
     entries_after y z w updates (Some v) some =
@@ -115,8 +112,8 @@ module _ (P : Plan) (G : Data) (con : IsConsistent P) (of : Placement) (k : ℕ)
     edge_due d type = and_from (is_of of k e.to && is_edge_of_type P d e) (not (is_sent R.state (item.Edge e))) (and_from (is_of of k e.to) (is_edge_of_type P d e) (eq-eqb (of e.to) k at) type) (ap not (unsent_yet P G R (item.Edge e) may))
 
     edge_falls : (d : ℕ) (x : List ℤ) → has_type d (flow_of P.classes e.to.class e.in_flow) ≡ true → output_tile (ended P G e.from) e.out_flow ≡ Some x → count (is_due_edge P of k d later.state) (all_data P) + 1 ≡ count (is_due_edge P of k d R.state) (all_data P)
-    edge_falls d x type some = count-falls (is_due_edge P of k d R.state) (is_due_edge P of k d later.state) (all_data P) e (distinct-filter (is_data_edge P) (all_in P) con.no_in_edge_twice) (among_data x some) (edge_due d type)
-        (ap (λ b. (is_of of k e.to && is_edge_of_type P d e) && not b) (sent_now P G R (item.Edge e) may) ∙ never (is_of of k e.to && is_edge_of_type P d e))
+    edge_falls d x type some = count-falls (is_due_edge P of k d R.state) (is_due_edge P of k d later.state) (all_data P) e (HasNoRepeats-filter (is_data_edge P) (all_in P) con.no_in_edge_twice) (among_data x some) (edge_due d type)
+        (ap (λ b. (is_of of k e.to && is_edge_of_type P d e) && not b) (sent_now P G R (item.Edge e) may) ∙ and-false (is_of of k e.to && is_edge_of_type P d e))
         (λ c ne. ap (λ b. (is_of of k c.to && is_edge_of_type P d c) && not b) (sent_as_before P G R (item.Edge e) may (item.Edge c) (λ q. ne (ap (edge_in c) q))))
       where
         edge_in : Edge → Item → Edge
@@ -159,7 +156,7 @@ module _ (P : Plan) (G : Data) (con : IsConsistent P) (of : Placement) (k : ℕ)
     among_writes = IsIn-flat_map (write_backs P) (all_tasks P) w.from w ((listed P w.from).0 (sound.claimed_have_all w.from may.claimed).task) (IsIn-filter_map write_of (items P w.from) (item.Write w) w may.is_item refl)
 
     once : HasNoRepeats (all_writes P)
-    once = distinct-from_map (λ (v : WriteBack). v.place) (all_writes P) con.written_once
+    once = HasNoRepeats-from_map (λ (v : WriteBack). v.place) (all_writes P) con.written_once
 
     abbrev write_in : WriteBack → Item → WriteBack
     write_in v (item.Edge e) = v
@@ -176,7 +173,7 @@ module _ (P : Plan) (G : Data) (con : IsConsistent P) (of : Placement) (k : ℕ)
 
     write_falls : count (is_due_write of k after.state) (all_writes P) + 1 ≡ count (is_due_write of k R.state) (all_writes P)
     write_falls = count-falls (is_due_write of k R.state) (is_due_write of k after.state) (all_writes P) w once among_writes write_due
-        (ap (λ b. is_of of k w.from && not b) (sent_now P G R (item.Write w) may) ∙ never (is_of of k w.from))
+        (ap (λ b. is_of of k w.from && not b) (sent_now P G R (item.Write w) may) ∙ and-false (is_of of k w.from))
         (λ v ne. ap (λ b. is_of of k v.from && not b) (still_due v ne))
 
     tile_due : (d : ℕ) → has_type d (flow_of P.classes w.from.class w.flow) ≡ true → is_due_write_tile P of k d R.state w ≡ true
@@ -184,7 +181,7 @@ module _ (P : Plan) (G : Data) (con : IsConsistent P) (of : Placement) (k : ℕ)
 
     tile_falls : (d : ℕ) → has_type d (flow_of P.classes w.from.class w.flow) ≡ true → count (is_due_write_tile P of k d after.state) (all_writes P) + 1 ≡ count (is_due_write_tile P of k d R.state) (all_writes P)
     tile_falls d type = count-falls (is_due_write_tile P of k d R.state) (is_due_write_tile P of k d after.state) (all_writes P) w once among_writes (tile_due d type)
-        (ap (λ b. (is_of of k w.from && is_write_of_type P d w) && not b) (sent_now P G R (item.Write w) may) ∙ never (is_of of k w.from && is_write_of_type P d w))
+        (ap (λ b. (is_of of k w.from && is_write_of_type P d w) && not b) (sent_now P G R (item.Write w) may) ∙ and-false (is_of of k w.from && is_write_of_type P d w))
         (λ v ne. ap (λ b. (is_of of k v.from && is_write_of_type P d v) && not b) (still_due v ne))
 
     tiles_left : (d : ℕ) → has_type d (flow_of P.classes w.from.class w.flow) ≡ true → (n : ℕ) → count (is_due_write_tile P of k n after.state) (all_writes P) + tiles_used (Some d) n ≤ count (is_due_write_tile P of k n R.state) (all_writes P)

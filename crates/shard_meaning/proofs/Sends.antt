@@ -10,11 +10,11 @@ use Rattle.dep_iter.specs.Edges.{goal}
 use Rattle.dep_iter.specs.Hints.{priority}
 use Rattle.dep_shard.specs.Content.{Content, KeepsAllButEntries, KeepsAllButWritten, Updates, entry_before, entry_in, with_arrival}
 use Rattle.flow_meaning.specs.Backward.{ended}
-use Rattle.flow_meaning.specs.Counting.{weigh}
+use Rattle.list_lemmas.specs.Counting.{weigh}
 use Rattle.flow_meaning.specs.Ending.{output_tile}
 use Rattle.flow_meaning.specs.Machine.{MaySend, end_in, sent_with}
 use Rattle.flow_meaning.specs.Sound.{IsSoundState}
-use Rattle.flow_meaning.proofs.Counting.{weigh-push}
+use Rattle.list_lemmas.proofs.Counts.{weigh-push}
 use Rattle.flow_meaning.proofs.Events.{ends_so}
 use Rattle.shard_meaning.specs.Moment.{Moment, with_send}
 use Rattle.shard_meaning.specs.Share.{IsShardOf, Placement, write_weight, written_weight}

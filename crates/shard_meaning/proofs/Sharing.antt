@@ -1,4 +1,5 @@
--- A job may be shared between threads: its plan, its edges and its data, type by type from expressions upwards; a shard may be sent and shared.
+-- A job may be shared between threads: its plan, its edges and its data, type by type from expressions upwards; a shard
+-- may be sent and shared.
 use Rattle.std.proofs.Common.{rules}
 use denote.Param.Send.{IsSend, IsSync, AllSync, sendable, recorded_sync, struct_sync}
 use denote.Struct.Struct.{Struct}

@@ -1,29 +1,30 @@
 -- Sound moments, and what follows of the bounds of a job.
-use Rattle.std.proofs.Common.{◌≡◌, ℕ, zero, suc, ◌<◌, ◌≤◌, false, List, [], ◌∷◌, length, refl, ap, sym, ◌∙◌, subst, inl, inr, arith}
-use Rattle.ptg_base.specs.Lists.{HasNoRepeats, IsIn}
+use Rattle.std.proofs.Common.{◌≡◌, ℕ, zero, suc, ◌<◌, ◌≤◌, false, ◌∷◌, length, refl, ap, sym, ◌∙◌, subst, inl, inr, arith}
+use Rattle.ptg_base.specs.Lists.{IsIn}
 use Rattle.ptg_base.specs.Task.{Task}
 use Rattle.ptg_base.specs.TaskComparing.{same_task}
 use Rattle.ptg_base.specs.TaskLaws.{same_task-decides}
 use Rattle.ptg_base.specs.declared.edge.Item.{Item}
-use Rattle.range_space.proofs.Stepping.{by_test}
+use Rattle.list_lemmas.proofs.Truth.{by_test}
+use Rattle.list_lemmas.proofs.Counts.{some_passes, weigh-push}
+use Rattle.list_lemmas.proofs.Tasks.{distinct_once}
+use Rattle.list_lemmas.proofs.Distinct.{no_longer}
 use Rattle.plan_core.specs.declared.plan.Plan.{Plan}
 use Rattle.coll_data.specs.Data.{Data}
 use Rattle.dep_iter.specs.Consistent.{IsConsistent}
 use Rattle.dep_iter.specs.Tasks.{IsTask, all_tasks}
 use Rattle.dep_iter.proofs.Listing.{listed}
-use Rattle.flow_meaning.specs.Counting.{as_number}
+use Rattle.list_lemmas.specs.Counting.{as_number}
 use Rattle.flow_meaning.specs.Comparing.{same_item}
 use Rattle.flow_meaning.specs.Ending.{has_outputs, output_tile}
 use Rattle.flow_meaning.specs.Backward.{ended}
 use Rattle.dep_iter.specs.Items.{item_flow}
 use Rattle.flow_meaning.specs.Machine.{MachineState, MayClaim, MaySend, Sent, claim_count, send_count, sender, sent_with}
 use Rattle.flow_meaning.specs.Sound.{IsSoundState}
-use Rattle.flow_meaning.proofs.Counting.{some_passes, weigh-push, without, without-length}
 use Rattle.flow_meaning.proofs.Comparing.{same_item-decides}
 use Rattle.flow_meaning.proofs.Events.{claim_member, claim_sound, ends_so, member_claim, opening_sound, send_sound}
 use Rattle.shard_meaning.specs.Moment.{IsSoundMoment, MaySendNext, Moment, opening_moment, run_count, with_claim, with_end, with_send}
 use Rattle.shard_meaning.proofs.Due.{runs_as_before, runs_once_less}
-use Rattle.shard_meaning.proofs.Listing.{distinct_once}
 
 pub opening_moment_sound : (P : Plan) (G : Data) → IsSoundMoment P G opening_moment
 opening_moment_sound P G = record { state = opening_sound P G; claimed = λ t. omega arith }
@@ -81,31 +82,13 @@ unclaimed_unsent P G S sound i free = by (send_count S i) refl
         let same : i ≡ p.0.item = (same_item-decides i p.0.item).0 p.2 in
         absurd (omega (arith, free, member_claim S (sender i) (subst (λ j. IsIn (sender j) S.claims) (sym same) claimed)))
 
--- what is in a list is in it without another of its members
-still : (x t : Task) (zs : List Task) (i : IsIn x zs) → IsIn t zs → (t ≡ x → ⊥) → IsIn t (without x zs i)
-unfolding without
-still x t [] i j other = absurd i
-still x t (z ∷ zs) (inl e) (inl q) other = absurd (other (q ∙ sym e))
-still x t (z ∷ zs) (inl e) (inr j) other = j
-still x t (z ∷ zs) (inr i) (inl q) other = inl q
-still x t (z ∷ zs) (inr i) (inr j) other = inr (still x t zs i j other)
-
--- a list without repeats whose members are all in another is no longer than it
-pub at_most : (xs ys : List Task) → HasNoRepeats xs → ((t : Task) → IsIn t xs → IsIn t ys) → length xs ≤ length ys
-at_most [] ys once among = omega arith
-at_most (x ∷ xs) ys once among =
-    let i = among x (inl refl) in
-    let rest : length xs ≤ length (without x ys i) =
-    at_most xs (without x ys i) once.1 (λ t j. still x t ys i (among t (inr j)) (λ same. once.0 (subst (λ u. IsIn u xs) same j))) in
-    omega (arith, rest, without-length x ys i)
-
 -- no more tasks are claimed than there are
 pub claims_at_most : (P : Plan) (G : Data) (S : MachineState) → IsSoundState P G S → length S.claims ≤ length (all_tasks P)
-claims_at_most P G S sound = at_most S.claims (all_tasks P) (distinct_once S.claims sound.claimed_once) (λ t i. (listed P t).0 (sound.claimed_have_all t i).task)
+claims_at_most P G S sound = no_longer S.claims (all_tasks P) (distinct_once S.claims sound.claimed_once) (λ t i. (listed P t).0 (sound.claimed_have_all t i).task)
 
 -- and fewer, where one is not claimed
 pub claims_below : (P : Plan) (G : Data) (S : MachineState) → IsSoundState P G S → (t : Task) → IsTask P t → claim_count S t ≡ 0 → length S.claims < length (all_tasks P)
 claims_below P G S sound t job free =
-    let more = at_most (t ∷ S.claims) (all_tasks P) ((λ i. absurd (omega (arith, free, member_claim S t i))), distinct_once S.claims sound.claimed_once)
+    let more = no_longer (t ∷ S.claims) (all_tasks P) ((λ i. absurd (omega (arith, free, member_claim S t i))), distinct_once S.claims sound.claimed_once)
     (λ u i. elim i [ inl same ↦ subst (λ v. IsIn v (all_tasks P)) (sym same) ((listed P t).0 job) | inr claimed ↦ (listed P u).0 (sound.claimed_have_all u claimed).task ]) in
     omega (arith, more)

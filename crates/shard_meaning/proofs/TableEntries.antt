@@ -1,4 +1,5 @@
--- What a table of dependences holds of a task, by how often it was claimed, how many edges came and what they delivered.
+-- What a table of dependences holds of a task, by how often it was claimed, how many edges came and what they
+-- delivered.
 use Rattle.std.proofs.Common.{◌≡◌, ℕ, ◌<◌, ◌≤◌, false, cond, ◌==◌, ◌&&◌, ◌||◌, List, ap, ◌∙◌, arith, Option, Some, None, nat_lt, eq-eqb, ne_eqb}
 use Rattle.std.proofs.lemmas.Bool.{lt-ltb}
 use mathlib.Core.Logic.{dite}

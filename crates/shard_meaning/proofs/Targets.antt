@@ -11,7 +11,8 @@ use Rattle.ptg_base.specs.Lists.{IsIn}
 use Rattle.ptg_base.specs.Task.{Task}
 use Rattle.ptg_base.specs.declared.edge.Edge.{Edge}
 use Rattle.ptg_base.specs.declared.edge.Item.TheVariants as item
-use Rattle.range_space.proofs.Stepping.{by_test}
+use Rattle.list_lemmas.proofs.Truth.{by_test}
+use Rattle.list_lemmas.proofs.Places.{slice_get_below}
 use Rattle.plan_core.specs.declared.class.ClassPlan.{ClassPlan}
 use Rattle.plan_core.specs.declared.flow.FlowPlan.{FlowPlan}
 use Rattle.plan_core.specs.declared.plan.Plan.{Plan}
@@ -25,7 +26,6 @@ use Rattle.dep_iter.specs.Hints.{priority}
 use Rattle.dep_iter.specs.Tasks.{IsTask, flows_of}
 use Rattle.dep_iter.specs.Well.{IsWellTask}
 use Rattle.dep_iter.proofs.Belonging.{in_edge_is}
-use Rattle.dep_iter.proofs.Fitting.{below_length}
 use Rattle.dep_shard.specs.Arrivals.{FlowTile, tile_of}
 use Rattle.dep_shard.specs.Content.{Content, Entry, IsReady, IsWaiting, entry_before, entry_of, fresh, with_arrival}
 use Rattle.flow_meaning.specs.Machine.{MaySend, arrived, sent_tile}
@@ -83,7 +83,7 @@ pub in_flow_small : (P : Plan) (e : Edge) → IsTask P e.to → IsIn e (in_edges
 in_flow_small P e job among =
     let h = class_of P e.to job in
     let well = P.well_made.fit e.to.class h.class h.space h.class_is h.space_is in
-    let below = below_length (flows_of P e.to) e.in_flow _ ((in_edge_is P e.to e).0 among).1 in
+    let below = slice_get_below (flows_of P e.to) e.in_flow _ ((in_edge_is P e.to e).0 among).1 in
     omega (arith, below, well.body.flows_at_most, ap (λ o. length (option_map_or (λ (c : ClassPlan). c.flows) o [])) h.class_is)
 
 module _ (P : Plan) (G : Data) (con : IsConsistent P) (of : Placement) (k : ℕ) (R : Moment) (sound : IsSoundState P G R.state) (e : Edge) (may : MaySend P G R.state (item.Edge e)) where

@@ -24,7 +24,7 @@ use Rattle.flow_meaning.proofs.Sizes.{item_sized}
 use Rattle.shard_meaning.specs.Reserve.{has_type}
 use Rattle.shard_meaning.proofs.Carrying.{no_output}
 use Rattle.shard_meaning.proofs.Destinations.{SendsTo, flow_is, known_type, sends_to, writes_from}
-use Rattle.shard_meaning.proofs.Listing.{IsIn-filter_map}
+use Rattle.list_lemmas.proofs.Members.{IsIn-filter_map}
 
 -- a tile with a size is there
 sized : (o : Option (List ℤ)) (n : ℕ) → option_map length o ≡ Some n → (x : List ℤ) × (o ≡ Some x) × (length x ≡ n)

@@ -1,12 +1,14 @@
 -- The place of a write-back that may be sent was not written.
-use Rattle.std.proofs.Common.{◌≡◌, ℕ, ℤ, Bool, true, false, cond, List, [], ◌∷◌, map, refl, ap, sym, ◌∙◌, subst, inl, inr, arith, Option, Some, None}
+use Rattle.std.proofs.Common.{◌≡◌, ℕ, ℤ, Bool, true, false, cond, List, refl, ap, sym, ◌∙◌, arith, Option, Some, None}
 use Rattle.std.proofs.lemmas.Bool.{false_from_ne_true, false≢true}
-use Rattle.ptg_base.specs.Lists.{HasNoRepeats, IsIn}
+use Rattle.ptg_base.specs.Lists.{IsIn}
 use Rattle.ptg_base.specs.declared.place.Place.{Place}
 use Rattle.ptg_base.specs.declared.edge.WriteBack.{WriteBack}
 use Rattle.ptg_base.specs.declared.edge.Item.{Item}
 use Rattle.ptg_base.specs.declared.edge.Item.TheVariants as item
-use Rattle.range_space.proofs.MemberLists.{IsIn-flat_map, IsIn-map}
+use Rattle.list_lemmas.proofs.Members.{IsIn-flat_map, IsIn-filter_map}
+use Rattle.list_lemmas.proofs.Counts.{count-some, weigh-zero}
+use Rattle.list_lemmas.proofs.Distinct.{one_from_map}
 use Rattle.plan_core.specs.declared.plan.Plan.{Plan}
 use Rattle.coll_data.specs.Data.{Data}
 use Rattle.dep_iter.specs.Consistent.{IsConsistent, all_writes}
@@ -15,24 +17,14 @@ use Rattle.dep_iter.specs.Tasks.{all_tasks}
 use Rattle.dep_iter.proofs.Listing.{listed}
 use Rattle.dep_shard.specs.Content.{Content}
 use Rattle.flow_meaning.specs.Comparing.{same_item}
-use Rattle.flow_meaning.specs.Counting.{as_number}
+use Rattle.list_lemmas.specs.Counting.{as_number}
 use Rattle.flow_meaning.specs.Machine.{MaySend, is_sent, sender}
 use Rattle.flow_meaning.specs.Sound.{IsSoundState}
 use Rattle.flow_meaning.proofs.Comparing.{same_item-decides}
-use Rattle.flow_meaning.proofs.Counting.{count-some}
 use Rattle.flow_meaning.proofs.Events.{member_send}
 use Rattle.shard_meaning.specs.Moment.{Moment}
 use Rattle.shard_meaning.specs.Share.{IsShardOf, Placement, is_of, write_weight, written_weight}
 use Rattle.shard_meaning.proofs.Due.{unsent_yet}
-use Rattle.shard_meaning.proofs.Listing.{IsIn-filter_map, weigh-zero}
-
--- of a list that stands for things without repeats, two members that stand for the same are one
-one_member : {A B : Type 0} (f : A → B) (xs : List A) → HasNoRepeats (map f xs) → (x y : A) → IsIn x xs → IsIn y xs → f x ≡ f y → x ≡ y
-one_member f [] once x y i j same = absurd i
-one_member f (z ∷ zs) once x y (inl p) (inl q) same = p ∙ sym q
-one_member f (z ∷ zs) once x y (inl p) (inr j) same = absurd (once.0 (subst (λ b. IsIn b (map f zs)) (sym same ∙ ap f p) (IsIn-map f zs y j)))
-one_member f (z ∷ zs) once x y (inr i) (inl q) same = absurd (once.0 (subst (λ b. IsIn b (map f zs)) (same ∙ ap f q) (IsIn-map f zs x i)))
-one_member f (z ∷ zs) once x y (inr i) (inr j) same = one_member f zs once.1 x y i j same
 
 module _ (P : Plan) (G : Data) (con : IsConsistent P) (of : Placement) (k : ℕ) (R : Moment) (sound : IsSoundState P G R.state) where
   write_listed : (v : WriteBack) → IsIn (sender (item.Write v)) R.state.claims → IsIn (item.Write v) (items P v.from) → IsIn v (all_writes P)
@@ -59,7 +51,7 @@ module _ (P : Plan) (G : Data) (con : IsConsistent P) (of : Placement) (k : ℕ)
 
     other_place : (v : WriteBack) → is_sent R.state (item.Write v) ≡ true → IsIn v (all_writes P) → v.place ≡ w.place → ⊥
     other_place v sent among same =
-        let one : v ≡ w = one_member (λ (u : WriteBack). u.place) (all_writes P) con.written_once v w among (write_listed w may.claimed may.is_item) same in
+        let one : v ≡ w = one_from_map (λ (u : WriteBack). u.place) (all_writes P) con.written_once v w among (write_listed w may.claimed may.is_item) same in
         false≢true (sym (unsent_yet P G R (item.Write w) may) ∙ (ap (λ u. is_sent R.state (item.Write u)) (sym one) ∙ sent))
 
     no_weight : (i : Item) (o : Option (List ℤ)) → is_sent R.state i ≡ true → IsIn (sender i) R.state.claims → IsIn i (items P (sender i)) → written_weight of k at_place i o ≡ 0

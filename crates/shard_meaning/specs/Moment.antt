@@ -1,4 +1,5 @@
--- A moment of a run by several workers: what has happened, and which of the claimed tasks still run. Source: this project's own choice; the events are those of DAGuE (Parallel Computing, 2012), as the event machine has them.
+-- A moment of a run by several workers: what has happened, and which of the claimed tasks still run. Source: this
+-- project's own choice; the events are those of DAGuE (Parallel Computing, 2012), as the event machine has them.
 use Rattle.std.specs.Prelude.{◌≡◌, ◌<◌, ◌≤◌, ℕ, List, [], ◌∷◌, ◌++◌, IsTrue, if◌then◌else◌}
 use Rattle.ptg_base.specs.Lists.{IsIn}
 use Rattle.ptg_base.specs.Task.{Task}
@@ -7,7 +8,7 @@ use Rattle.ptg_base.specs.declared.edge.Item.{Item}
 use Rattle.plan_core.specs.declared.plan.Plan.{Plan}
 use Rattle.coll_data.specs.Data.{Data}
 use Rattle.dep_iter.specs.Items.{items}
-use Rattle.flow_meaning.specs.Counting.{HasSameMembers, count}
+use Rattle.list_lemmas.specs.Counting.{HasSameMembers, count}
 use Rattle.flow_meaning.specs.Ending.{has_outputs}
 use Rattle.flow_meaning.specs.Backward.{ended}
 use Rattle.flow_meaning.specs.Machine.{MachineState, Send, claim_count, opening_state, send_count, sender, state_after}
@@ -33,7 +34,11 @@ run_count R t = count (same_task t) R.running
 
 -- after a task was claimed it runs
 abbrev pub with_claim : Moment → Task → Moment
-with_claim R t = record { state = record { claims = R.state.claims ++ t ∷ []; sends = R.state.sends }; running = R.running ++ t ∷ [] }
+with_claim R t =
+    record {
+      state = record { claims = R.state.claims ++ t ∷ []; sends = R.state.sends };
+      running = R.running ++ t ∷ [];
+    }
 
 -- after an item was sent the same tasks run
 abbrev pub with_send : Plan → Data → Moment → Item → Moment

@@ -1,4 +1,5 @@
--- What a shard holds before the first event: of its tasks, those that no edge goes into are ready. Source: DAGuE (Parallel Computing, 2012): a task without dependences may run at once.
+-- What a shard holds before the first event: of its tasks, those that no edge goes into are ready. Source: DAGuE
+-- (Parallel Computing, 2012): a task without dependences may run at once.
 use Rattle.std.specs.Prelude.{◌≡◌, ◌≤◌, ℕ, ◌+◌, Bool, true, false, ◌&&◌, ◌==◌, [], Option, Some, None, slice_index, if◌then◌else◌}
 use Rattle.ptg_base.specs.Task.{Task}
 use Rattle.ptg_base.specs.declared.edge.Edge.{Edge}
@@ -9,7 +10,7 @@ use Rattle.dep_iter.specs.Edges.{goal}
 use Rattle.dep_iter.specs.Hints.{priority}
 use Rattle.dep_iter.specs.Tasks.{IsTask, all_tasks}
 use Rattle.dep_shard.specs.Content.{Content, Entry, entry_of, fresh}
-use Rattle.flow_meaning.specs.Counting.{count}
+use Rattle.list_lemmas.specs.Counting.{count}
 use Rattle.shard_meaning.specs.Share.{Placement, is_of}
 use Rattle.shard_meaning.specs.Reserve.{is_edge_of_type, is_write_of_type}
 
@@ -41,6 +42,8 @@ is_write_from P of k datatype w = is_of of k w.from && is_write_of_type P dataty
 -- the spares of the shard k before the first event: for all that will come to it
 pub record HasOpeningReserve (P : Plan) (of : Placement) (k : ℕ) (y : Content) : Type 0 where
   pub entries : count (is_to_enter P of k) (all_tasks P) ≤ y.spare.entries
-  pub tiles : (datatype : ℕ) → count (is_edge_to P of k datatype) (all_data P) + count (is_write_from P of k datatype) (all_writes P) ≤ slice_index y.spare.tiles datatype
+  pub tiles : (datatype : ℕ)
+      → count (is_edge_to P of k datatype) (all_data P) + count (is_write_from P of k datatype) (all_writes P)
+      ≤ slice_index y.spare.tiles datatype
   pub writes : count (λ (w : WriteBack). is_of of k w.from) (all_writes P) ≤ y.spare.writes
   pub traps : count (is_of of k) (all_tasks P) ≤ y.spare.traps

@@ -1,4 +1,5 @@
--- When the spares of a shard are enough for all that can still come to it, so that it needs no more memory. Source: this project's own choice.
+-- When the spares of a shard are enough for all that can still come to it, so that it needs no more memory. Source:
+-- this project's own choice.
 use Rattle.std.specs.Prelude.{◌≤◌, ℕ, ◌+◌, Bool, false, not, nat_lt, ◌==◌, ◌&&◌, ◌||◌, Option, slice_index, is_none}
 use Rattle.std.specs.Option.{option_map_or}
 use Rattle.ptg_base.specs.Task.{Task}
@@ -11,7 +12,7 @@ use Rattle.plan_core.specs.Kinds.{flow_of}
 use Rattle.dep_iter.specs.Consistent.{all_data, all_writes}
 use Rattle.dep_iter.specs.Tasks.{all_tasks}
 use Rattle.dep_shard.specs.Content.{Content, entry_of}
-use Rattle.flow_meaning.specs.Counting.{count}
+use Rattle.list_lemmas.specs.Counting.{count}
 use Rattle.flow_meaning.specs.Machine.{MachineState, is_sent}
 use Rattle.flow_meaning.specs.Table.{is_unclaimed}
 use Rattle.shard_meaning.specs.Moment.{Moment, run_count}
@@ -21,7 +22,8 @@ use Rattle.shard_meaning.specs.Share.{Placement, is_of}
 abbrev pub has_type : ℕ → Option FlowPlan → Bool
 has_type datatype f = option_map_or (λ (g : FlowPlan). g.datatype == datatype) f false
 
--- whether the tile of an edge, or of a write-back, is of this type: that of the flow that it comes to, or that it is written from
+-- whether the tile of an edge, or of a write-back, is of this type: that of the flow that it comes to, or that it is
+-- written from
 abbrev pub is_edge_of_type : Plan → ℕ → Edge → Bool
 is_edge_of_type P datatype e = has_type datatype (flow_of P.classes e.to.class e.in_flow)
 
@@ -42,7 +44,8 @@ is_due_write of k S w = is_of of k w.from && not (is_sent S (item.Write w))
 
 -- the same, and its tile is of this type
 abbrev pub is_due_write_tile : Plan → Placement → ℕ → ℕ → MachineState → WriteBack → Bool
-is_due_write_tile P of k datatype S w = (is_of of k w.from && is_write_of_type P datatype w) && not (is_sent S (item.Write w))
+is_due_write_tile P of k datatype S w =
+    (is_of of k w.from && is_write_of_type P datatype w) && not (is_sent S (item.Write w))
 
 -- whether a task of the shard k has not ended: it is not claimed, or runs
 abbrev pub is_due_end : Placement → ℕ → Moment → Task → Bool
@@ -53,7 +56,10 @@ pub record HasReserve (P : Plan) (of : Placement) (k : ℕ) (R : Moment) (y : Co
   -- an entry for each of its tasks that is not claimed and has none
   pub entries : count (is_due_entry of k R.state y) (all_tasks P) ≤ y.spare.entries
   -- a tile of its type for each data edge to one of its tasks and each write-back of one that is not sent
-  pub tiles : (datatype : ℕ) → count (is_due_edge P of k datatype R.state) (all_data P) + count (is_due_write_tile P of k datatype R.state) (all_writes P) ≤ slice_index y.spare.tiles datatype
+  pub tiles : (datatype : ℕ)
+      → count (is_due_edge P of k datatype R.state) (all_data P)
+      + count (is_due_write_tile P of k datatype R.state) (all_writes P)
+      ≤ slice_index y.spare.tiles datatype
   -- a place for each write-back of one of its tasks that is not sent
   pub writes : count (is_due_write of k R.state) (all_writes P) ≤ y.spare.writes
   -- a row for each of its tasks that has not ended

@@ -1,4 +1,6 @@
--- What a shard of the dependency table holds of a moment of a run. Source: DAGuE (Parallel Computing, 2012), where the tasks that are discovered are kept in a table by task; that the table is cut into shards, each with the tasks of its number, is this project's own choice.
+-- What a shard of the dependency table holds of a moment of a run. Source: DAGuE (Parallel Computing, 2012), where the
+-- tasks that are discovered are kept in a table by task; that the table is cut into shards, each with the tasks of its
+-- number, is this project's own choice.
 use Rattle.std.specs.Prelude.{◌≡◌, ℕ, ◌+◌, ℤ, Bool, ◌==◌, List, Option, Some, None, Ok, Err, option_map, if◌then◌else◌}
 use Rattle.ptg_base.specs.Task.{Task}
 use Rattle.ptg_base.specs.declared.edge.WriteBack.{WriteBack}
@@ -9,14 +11,15 @@ use Rattle.plan_core.specs.declared.plan.Plan.{Plan}
 use Rattle.coll_data.specs.Data.{Data}
 use Rattle.dep_iter.specs.Tasks.{IsTask}
 use Rattle.dep_shard.specs.Content.{Content, Entry, entry_of}
-use Rattle.flow_meaning.specs.Counting.{count, weigh}
+use Rattle.list_lemmas.specs.Counting.{count, weigh}
 use Rattle.flow_meaning.specs.Ending.{Ended}
 use Rattle.flow_meaning.specs.Backward.{ended}
 use Rattle.flow_meaning.specs.Machine.{Sent}
 use Rattle.flow_meaning.specs.Table.{TableEntry, table_entry}
 use Rattle.shard_meaning.specs.Moment.{Moment}
 
--- the number of the shard that a task belongs to. An edge belongs to the shard of its target, a write-back to that of its task
+-- the number of the shard that a task belongs to. An edge belongs to the shard of its target, a write-back to that of
+-- its task
 abbrev pub Placement : Type 0
 Placement = Task → ℕ
 
@@ -28,7 +31,8 @@ is_of of k t = of t == k
 abbrev pub as_entry : TableEntry → Entry
 as_entry e = record { goal = e.goal; arrived = e.arrived; priority = e.priority; tiles = e.tiles }
 
--- the weight of an item that was sent with this tile: that of the write-back and the tile, if the item is a write-back of a task of the shard k, else 0. In a consistent job each write-back has a tile
+-- the weight of an item that was sent with this tile: that of the write-back and the tile, if the item is a write-back
+-- of a task of the shard k, else 0. In a consistent job each write-back has a tile
 abbrev pub written_weight : Placement → ℕ → (WriteBack × List ℤ → ℕ) → Item → Option (List ℤ) → ℕ
 written_weight of k f (item.Edge e) tile = 0
 written_weight of k f (item.Write w) None = 0
@@ -55,7 +59,8 @@ pub record IsShardOf (P : Plan) (G : Data) (of : Placement) (k : ℕ) (R : Momen
   -- the write-backs of its tasks that were sent, with their tiles, in whatever order
   pub written : (f : WriteBack × List ℤ → ℕ) → weigh f y.written ≡ weigh (write_weight of k f) R.state.sends
   -- its claimed tasks that run no more and trap, with their causes, in whatever order
-  pub trapped : (f : Task × Trap → ℕ) → weigh f y.trapped + weigh (trap_weight P G of k f) R.running ≡ weigh (trap_weight P G of k f) R.state.claims
+  pub trapped : (f : Task × Trap → ℕ)
+      → weigh f y.trapped + weigh (trap_weight P G of k f) R.running ≡ weigh (trap_weight P G of k f) R.state.claims
   -- how many of its tasks run, and how many of its claimed tasks run no more
   pub running : y.running ≡ count (is_of of k) R.running
   pub ended : y.running + y.ended ≡ count (is_of of k) R.state.claims

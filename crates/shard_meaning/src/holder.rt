@@ -1,4 +1,5 @@
-//! Laws of what the holder of a shard knows before a call: which tasks may be claimed, what a claim hands out, what an edge finds.
+//! Laws of what the holder of a shard knows before a call: which tasks may be claimed, what a claim hands out, what an
+//! edge finds.
 
 ghost use Rattle.std.specs.Prelude.{◌≡◌, ◌<◌, ◌≤◌, ◌+◌, ◌↔◌, ℕ, ℤ, IsSome, List, None, Option, Some};
 ghost use Rattle.ptg_base.specs.Lists.{IsIn};
@@ -21,36 +22,68 @@ ghost use Rattle.flow_meaning.specs.Sound.{IsSoundState};
 ghost use Rattle.shard_meaning.specs.Moment.{Moment, run_count};
 ghost use Rattle.shard_meaning.specs.Share.{IsShardOf, Placement};
 
-/// A law: a task of a shard may be claimed exactly where it has a ready entry there; a claim hands out the inputs of its task, on
-/// which it ends, and no item of it was sent.
+/// A law: a task of a shard may be claimed exactly where it has a ready entry there; a claim hands out the inputs of
+/// its task, on which it ends, and no item of it was sent.
 pub fn a_claim_hands_out_the_inputs()
-    ensures may { (P : Plan) (G : Data) (of : Placement) (k : ℕ) (R : Moment) (y : Content) (t : Task) (e : Entry) → IsShardOf P G of k R y → entry_of y t ≡ Some e → IsReady e → MayClaim P R.state t × (of t ≡ k) }
-    ensures ready { (P : Plan) (G : Data) (of : Placement) (k : ℕ) (R : Moment) (y : Content) (t : Task) → IsShardOf P G of k R y → of t ≡ k → MayClaim P R.state t → (e : Entry) × (entry_of y t ≡ Some e) × IsReady e }
-    ensures inputs { (P : Plan) (G : Data) (of : Placement) (k : ℕ) (R : Moment) (y z : Content) (t : Task) (tiles : List FlowTile) → IsConsistent P → IsSoundState P G R.state → IsShardOf P G of k R y → Takes y z t tiles → tiles ≡ inputs P G t }
-    ensures ends { (P : Plan) (G : Data) (R : Moment) (t : Task) → IsConsistent P → IsSoundState P G R.state → MayClaim P R.state t → IsSome (ended P G t) }
-    ensures unsent { (P : Plan) (G : Data) (R : Moment) (i : Item) → IsSoundState P G R.state → MayClaim P R.state (sender i) → send_count R.state i ≡ 0 }
+    ensures may { (P : Plan) (G : Data) (of : Placement) (k : ℕ) (R : Moment) (y : Content) (t : Task) (e : Entry)
+        → IsShardOf P G of k R y → entry_of y t ≡ Some e → IsReady e → MayClaim P R.state t × (of t ≡ k) }
+    ensures ready { (P : Plan) (G : Data) (of : Placement) (k : ℕ) (R : Moment) (y : Content) (t : Task)
+        → IsShardOf P G of k R y → of t ≡ k → MayClaim P R.state t → (e : Entry) × (entry_of y t ≡ Some e) × IsReady e }
+    ensures inputs { (P : Plan) (G : Data) (of : Placement) (k : ℕ) (R : Moment) (y z : Content) (t : Task)
+        (tiles : List FlowTile)
+        → IsConsistent P → IsSoundState P G R.state → IsShardOf P G of k R y → Takes y z t tiles
+        → tiles ≡ inputs P G t }
+    ensures ends { (P : Plan) (G : Data) (R : Moment) (t : Task) → IsConsistent P → IsSoundState P G R.state
+        → MayClaim P R.state t → IsSome (ended P G t) }
+    ensures unsent { (P : Plan) (G : Data) (R : Moment) (i : Item) → IsSoundState P G R.state
+        → MayClaim P R.state (sender i) → send_count R.state i ≡ 0 }
 {}
 
-/// A law: the tasks of a shard that run and those that have ended are no more than a job may have, and fewer where a task has an
-/// entry; where a task runs, the number of those that run is not 0 and fewer have ended.
+/// A law: the tasks of a shard that run and those that have ended are no more than a job may have, and fewer where a
+/// task has an entry; where a task runs, the number of those that run is not 0 and fewer have ended.
 pub fn the_numbers_of_a_shard_are_bounded()
-    ensures at_most { (P : Plan) (G : Data) (of : Placement) (k : ℕ) (R : Moment) (y : Content) → IsConsistent P → IsSoundState P G R.state → IsShardOf P G of k R y → y.running + y.ended ≤ 1000000 }
-    ensures entry { (P : Plan) (G : Data) (of : Placement) (k : ℕ) (R : Moment) (y : Content) (t : Task) (e : Entry) → IsConsistent P → IsSoundState P G R.state → IsShardOf P G of k R y → entry_of y t ≡ Some e → y.running + y.ended < 1000000 }
-    ensures unclaimed { (P : Plan) (G : Data) (of : Placement) (k : ℕ) (R : Moment) (y : Content) (t : Task) → IsConsistent P → IsSoundState P G R.state → IsShardOf P G of k R y → IsTask P t → claim_count R.state t ≡ 0 → y.running + y.ended < 1000000 }
-    ensures running { (P : Plan) (G : Data) (of : Placement) (k : ℕ) (R : Moment) (y : Content) (t : Task) → IsConsistent P → IsSoundState P G R.state → IsShardOf P G of k R y → of t ≡ k → 0 < run_count R t → (0 < y.running) × (y.ended < 1000000) }
+    ensures at_most { (P : Plan) (G : Data) (of : Placement) (k : ℕ) (R : Moment) (y : Content) → IsConsistent P
+        → IsSoundState P G R.state → IsShardOf P G of k R y → y.running + y.ended ≤ 1000000 }
+    ensures entry { (P : Plan) (G : Data) (of : Placement) (k : ℕ) (R : Moment) (y : Content) (t : Task) (e : Entry)
+        → IsConsistent P → IsSoundState P G R.state → IsShardOf P G of k R y → entry_of y t ≡ Some e
+        → y.running + y.ended < 1000000 }
+    ensures unclaimed { (P : Plan) (G : Data) (of : Placement) (k : ℕ) (R : Moment) (y : Content) (t : Task)
+        → IsConsistent P → IsSoundState P G R.state → IsShardOf P G of k R y → IsTask P t → claim_count R.state t ≡ 0
+        → y.running + y.ended < 1000000 }
+    ensures running { (P : Plan) (G : Data) (of : Placement) (k : ℕ) (R : Moment) (y : Content) (t : Task)
+        → IsConsistent P → IsSoundState P G R.state → IsShardOf P G of k R y → of t ≡ k → 0 < run_count R t
+        → (0 < y.running) × (y.ended < 1000000) }
 {}
 
-/// A law: the target of an edge that may be sent is a task that waits for it. Its entry, if it has one, has the goal and the
-/// priority of the plan and no tile of the edge's flow yet; the edge makes it ready exactly where it is the last.
+/// A law: the target of an edge that may be sent is a task that waits for it. Its entry, if it has one, has the goal
+/// and the priority of the plan and no tile of the edge's flow yet; the edge makes it ready exactly where it is the
+/// last.
 pub fn an_edge_finds_its_target()
-    ensures target { (P : Plan) (G : Data) (R : Moment) (e : Edge) → IsConsistent P → IsSoundState P G R.state → MaySend P G R.state (item.Edge e) → IsTask P e.to × (e.in_flow < 8) × (0 < goal P e.to) }
-    ensures waits { (P : Plan) (G : Data) (of : Placement) (k : ℕ) (R : Moment) (e : Edge) (y : Content) → IsConsistent P → IsSoundState P G R.state → MaySend P G R.state (item.Edge e) → of e.to ≡ k → IsShardOf P G of k R y → IsWaiting (entry_before y e.to (goal P e.to) (priority P e.to)) }
-    ensures fires { (P : Plan) (G : Data) (of : Placement) (k : ℕ) (R : Moment) (e : Edge) (y : Content) (x : Option (List ℤ)) → IsConsistent P → IsSoundState P G R.state → MaySend P G R.state (item.Edge e) → of e.to ≡ k → IsShardOf P G of k R y → IsReady (with_arrival (entry_before y e.to (goal P e.to) (priority P e.to)) e.in_flow x) ↔ (arrived P R.state e.to + 1 ≡ goal P e.to) }
-    ensures free { (P : Plan) (G : Data) (of : Placement) (k : ℕ) (R : Moment) (e : Edge) (y : Content) → IsConsistent P → IsSoundState P G R.state → MaySend P G R.state (item.Edge e) → of e.to ≡ k → IsShardOf P G of k R y → tile_of (entry_before y e.to (goal P e.to) (priority P e.to)).tiles e.in_flow ≡ None }
-    ensures entry { (P : Plan) (G : Data) (of : Placement) (k : ℕ) (R : Moment) (e : Edge) (y : Content) (v : Entry) → IsConsistent P → IsSoundState P G R.state → MaySend P G R.state (item.Edge e) → of e.to ≡ k → IsShardOf P G of k R y → entry_of y e.to ≡ Some v → (v.goal ≡ goal P e.to) × (v.priority ≡ priority P e.to) × (entry_before y e.to (goal P e.to) (priority P e.to) ≡ v) }
+    ensures target { (P : Plan) (G : Data) (R : Moment) (e : Edge) → IsConsistent P → IsSoundState P G R.state
+        → MaySend P G R.state (item.Edge e) → IsTask P e.to × (e.in_flow < 8) × (0 < goal P e.to) }
+    ensures waits { (P : Plan) (G : Data) (of : Placement) (k : ℕ) (R : Moment) (e : Edge) (y : Content)
+        → IsConsistent P → IsSoundState P G R.state → MaySend P G R.state (item.Edge e) → of e.to ≡ k
+        → IsShardOf P G of k R y → IsWaiting (entry_before y e.to (goal P e.to) (priority P e.to)) }
+    ensures fires { (P : Plan) (G : Data) (of : Placement) (k : ℕ) (R : Moment) (e : Edge) (y : Content)
+        (x : Option (List ℤ))
+        → IsConsistent P → IsSoundState P G R.state → MaySend P G R.state (item.Edge e) → of e.to ≡ k
+        → IsShardOf P G of k R y
+        → IsReady (with_arrival (entry_before y e.to (goal P e.to) (priority P e.to)) e.in_flow x)
+        ↔ (arrived P R.state e.to + 1 ≡ goal P e.to) }
+    ensures free { (P : Plan) (G : Data) (of : Placement) (k : ℕ) (R : Moment) (e : Edge) (y : Content) → IsConsistent P
+        → IsSoundState P G R.state → MaySend P G R.state (item.Edge e) → of e.to ≡ k → IsShardOf P G of k R y
+        → tile_of (entry_before y e.to (goal P e.to) (priority P e.to)).tiles e.in_flow ≡ None }
+    ensures entry { (P : Plan) (G : Data) (of : Placement) (k : ℕ) (R : Moment) (e : Edge) (y : Content) (v : Entry)
+        → IsConsistent P → IsSoundState P G R.state → MaySend P G R.state (item.Edge e) → of e.to ≡ k
+        → IsShardOf P G of k R y → entry_of y e.to ≡ Some v
+        → (v.goal ≡ goal P e.to) × (v.priority ≡ priority P e.to)
+        × (entry_before y e.to (goal P e.to) (priority P e.to) ≡ v) }
 {}
 
 /// A law: the place of a write-back that may be sent was written by no shard.
 pub fn a_place_is_written_once()
-    ensures { (P : Plan) (G : Data) (of : Placement) (k : ℕ) (R : Moment) (w : WriteBack) (y : Content) (p : WriteBack × List ℤ) → IsConsistent P → IsSoundState P G R.state → MaySend P G R.state (item.Write w) → IsShardOf P G of k R y → IsIn p y.written → p.0.place ≡ w.place → ⊥ }
+    ensures { (P : Plan) (G : Data) (of : Placement) (k : ℕ) (R : Moment) (w : WriteBack) (y : Content)
+        (p : WriteBack × List ℤ)
+        → IsConsistent P → IsSoundState P G R.state → MaySend P G R.state (item.Write w) → IsShardOf P G of k R y
+        → IsIn p y.written → p.0.place ≡ w.place → ⊥ }
 {}

@@ -20,32 +20,47 @@ ghost use Rattle.shard_meaning.specs.Share.{IsShardOf, Placement};
 /// A law: the opening moment is sound, and each event leads from a sound moment to a sound moment.
 pub fn events_keep_moments_sound()
     ensures opening { (P : Plan) (G : Data) → IsSoundMoment P G opening_moment }
-    ensures claim { (P : Plan) (G : Data) (R : Moment) (t : Task) → IsConsistent P → IsSoundMoment P G R → MayClaim P R.state t → IsSoundMoment P G (with_claim R t) }
-    ensures send { (P : Plan) (G : Data) (R : Moment) (i : Item) → IsConsistent P → IsSoundMoment P G R → MaySend P G R.state i → IsSoundMoment P G (with_send P G R i) }
-    ensures end { (P : Plan) (G : Data) (R : Moment) (t : Task) → IsSoundMoment P G R → 0 < run_count R t → IsSoundMoment P G (with_end R t) }
+    ensures claim { (P : Plan) (G : Data) (R : Moment) (t : Task) → IsConsistent P → IsSoundMoment P G R
+        → MayClaim P R.state t → IsSoundMoment P G (with_claim R t) }
+    ensures send { (P : Plan) (G : Data) (R : Moment) (i : Item) → IsConsistent P → IsSoundMoment P G R
+        → MaySend P G R.state i → IsSoundMoment P G (with_send P G R i) }
+    ensures end { (P : Plan) (G : Data) (R : Moment) (t : Task) → IsSoundMoment P G R → 0 < run_count R t
+        → IsSoundMoment P G (with_end R t) }
 {}
 
-/// A law: what a running task may send next, the event machine may send, and what is sent is the tile that the task leaves.
+/// A law: what a running task may send next, the event machine may send, and what is sent is the tile that the task
+/// leaves.
 pub fn running_tasks_may_send()
-    ensures may { (P : Plan) (G : Data) (R : Moment) (i : Item) → IsConsistent P → IsSoundMoment P G R → MaySendNext P G R i → MaySend P G R.state i }
-    ensures tile { (P : Plan) (G : Data) (R : Moment) (i : Item) → IsConsistent P → IsSoundState P G R.state → MaySend P G R.state i → sent_with P G R.state i ≡ record { item = i; tile = output_tile (ended P G (sender i)) (item_flow i) } }
+    ensures may { (P : Plan) (G : Data) (R : Moment) (i : Item) → IsConsistent P → IsSoundMoment P G R
+        → MaySendNext P G R i → MaySend P G R.state i }
+    ensures tile { (P : Plan) (G : Data) (R : Moment) (i : Item) → IsConsistent P → IsSoundState P G R.state
+        → MaySend P G R.state i
+        → sent_with P G R.state i ≡ record { item = i; tile = output_tile (ended P G (sender i)) (item_flow i) } }
 {}
 
-/// A law: claimed tasks that run no more stay finished, also after the end of a task that has trapped or all of whose items were
-/// sent.
+/// A law: claimed tasks that run no more stay finished, also after the end of a task that has trapped or all of whose
+/// items were sent.
 pub fn finished_tasks_stay_finished()
     ensures opening { (P : Plan) (G : Data) → AreFinished P G opening_moment }
-    ensures claim { (P : Plan) (G : Data) (R : Moment) (t : Task) → AreFinished P G R → AreFinished P G (with_claim R t) }
-    ensures send { (P : Plan) (G : Data) (R : Moment) (i : Item) → MaySend P G R.state i → AreFinished P G R → AreFinished P G (with_send P G R i) }
-    ensures end { (P : Plan) (G : Data) (R : Moment) (t : Task) → 0 < run_count R t → IsFinished P G R.state t → AreFinished P G R → AreFinished P G (with_end R t) }
+    ensures claim { (P : Plan) (G : Data) (R : Moment) (t : Task) → AreFinished P G R
+        → AreFinished P G (with_claim R t) }
+    ensures send { (P : Plan) (G : Data) (R : Moment) (i : Item) → MaySend P G R.state i → AreFinished P G R
+        → AreFinished P G (with_send P G R i) }
+    ensures end { (P : Plan) (G : Data) (R : Moment) (t : Task) → 0 < run_count R t → IsFinished P G R.state t
+        → AreFinished P G R → AreFinished P G (with_end R t) }
 {}
 
-/// A law: in whatever order tasks were claimed and items sent, a shard holds the same and needs the same reserve, and the moment is
-/// as sound, finished and calm.
+/// A law: in whatever order tasks were claimed and items sent, a shard holds the same and needs the same reserve, and
+/// the moment is as sound, finished and calm.
 pub fn order_changes_no_shard()
-    ensures sound { (P : Plan) (G : Data) (R T : Moment) → IsReorderedMoment R T → IsSoundMoment P G R → IsSoundMoment P G T }
-    ensures share { (P : Plan) (G : Data) (of : Placement) (k : ℕ) (R T : Moment) (y : Content) → IsConsistent P → IsReorderedMoment R T → IsSoundMoment P G R → IsShardOf P G of k R y → IsShardOf P G of k T y }
-    ensures reserve { (P : Plan) (of : Placement) (k : ℕ) (R T : Moment) (y : Content) → IsReorderedMoment R T → HasReserve P of k R y → HasReserve P of k T y }
-    ensures finished { (P : Plan) (G : Data) (R T : Moment) → IsReorderedMoment R T → AreFinished P G R → AreFinished P G T }
-    ensures calm { (P : Plan) (G : Data) (R T : Moment) → IsConsistent P → IsReorderedMoment R T → IsSoundMoment P G R → IsCalm P R → IsCalm P T }
+    ensures sound { (P : Plan) (G : Data) (R T : Moment) → IsReorderedMoment R T → IsSoundMoment P G R
+        → IsSoundMoment P G T }
+    ensures share { (P : Plan) (G : Data) (of : Placement) (k : ℕ) (R T : Moment) (y : Content) → IsConsistent P
+        → IsReorderedMoment R T → IsSoundMoment P G R → IsShardOf P G of k R y → IsShardOf P G of k T y }
+    ensures reserve { (P : Plan) (of : Placement) (k : ℕ) (R T : Moment) (y : Content) → IsReorderedMoment R T
+        → HasReserve P of k R y → HasReserve P of k T y }
+    ensures finished { (P : Plan) (G : Data) (R T : Moment) → IsReorderedMoment R T → AreFinished P G R
+        → AreFinished P G T }
+    ensures calm { (P : Plan) (G : Data) (R T : Moment) → IsConsistent P → IsReorderedMoment R T → IsSoundMoment P G R
+        → IsCalm P R → IsCalm P T }
 {}

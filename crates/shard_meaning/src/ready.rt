@@ -16,13 +16,22 @@ ghost use Rattle.flow_meaning.specs.Table.{ready_tasks};
 ghost use Rattle.shard_meaning.specs.Calm.{IsCalm};
 ghost use Rattle.shard_meaning.specs.Moment.{Moment, with_claim, with_send};
 
-/// A law: a claim makes the ready tasks one fewer; a send makes them one more exactly where it sends the last edge into a task. They
-/// and the claimed tasks are no more than the job has, and where none is ready and none runs the moment is calm.
+/// A law: a claim makes the ready tasks one fewer; a send makes them one more exactly where it sends the last edge into
+/// a task. They and the claimed tasks are no more than the job has, and where none is ready and none runs the moment is
+/// calm.
 pub fn the_ready_tasks_are_counted()
-    ensures claim { (P : Plan) (R : Moment) (t : Task) → MayClaim P R.state t → length (ready_tasks P (with_claim R t).state) + 1 ≡ length (ready_tasks P R.state) }
-    ensures fires { (P : Plan) (G : Data) (R : Moment) (e : Edge) → IsConsistent P → IsSoundState P G R.state → MaySend P G R.state (item.Edge e) → arrived P R.state e.to + 1 ≡ goal P e.to → length (ready_tasks P (with_send P G R (item.Edge e)).state) ≡ length (ready_tasks P R.state) + 1 }
-    ensures waits { (P : Plan) (G : Data) (R : Moment) (e : Edge) → IsConsistent P → IsSoundState P G R.state → MaySend P G R.state (item.Edge e) → arrived P R.state e.to + 1 ≢ goal P e.to → length (ready_tasks P (with_send P G R (item.Edge e)).state) ≡ length (ready_tasks P R.state) }
-    ensures write { (P : Plan) (G : Data) (R : Moment) (w : WriteBack) → IsConsistent P → IsSoundState P G R.state → MaySend P G R.state (item.Write w) → length (ready_tasks P (with_send P G R (item.Write w)).state) ≡ length (ready_tasks P R.state) }
-    ensures at_most { (P : Plan) (G : Data) (R : Moment) → IsSoundState P G R.state → length (ready_tasks P R.state) + length R.state.claims ≤ length (all_tasks P) }
+    ensures claim { (P : Plan) (R : Moment) (t : Task) → MayClaim P R.state t
+        → length (ready_tasks P (with_claim R t).state) + 1 ≡ length (ready_tasks P R.state) }
+    ensures fires { (P : Plan) (G : Data) (R : Moment) (e : Edge) → IsConsistent P → IsSoundState P G R.state
+        → MaySend P G R.state (item.Edge e) → arrived P R.state e.to + 1 ≡ goal P e.to
+        → length (ready_tasks P (with_send P G R (item.Edge e)).state) ≡ length (ready_tasks P R.state) + 1 }
+    ensures waits { (P : Plan) (G : Data) (R : Moment) (e : Edge) → IsConsistent P → IsSoundState P G R.state
+        → MaySend P G R.state (item.Edge e) → arrived P R.state e.to + 1 ≢ goal P e.to
+        → length (ready_tasks P (with_send P G R (item.Edge e)).state) ≡ length (ready_tasks P R.state) }
+    ensures write { (P : Plan) (G : Data) (R : Moment) (w : WriteBack) → IsConsistent P → IsSoundState P G R.state
+        → MaySend P G R.state (item.Write w)
+        → length (ready_tasks P (with_send P G R (item.Write w)).state) ≡ length (ready_tasks P R.state) }
+    ensures at_most { (P : Plan) (G : Data) (R : Moment) → IsSoundState P G R.state
+        → length (ready_tasks P R.state) + length R.state.claims ≤ length (all_tasks P) }
     ensures calm { (P : Plan) (R : Moment) → length (ready_tasks P R.state) ≡ 0 → R.running ≡ [] → IsCalm P R }
 {}

@@ -23,33 +23,60 @@ ghost use Rattle.shard_meaning.specs.Share.{IsShardOf, Placement};
 
 /// A law: a claim changes the shard of its task as the call does that takes the ready entry out, and no other shard.
 pub fn a_claim_changes_its_own_shard()
-    ensures here { (P : Plan) (G : Data) (of : Placement) (k : ℕ) (R : Moment) (t : Task) (y z : Content) (tiles : List FlowTile) → IsConsistent P → IsSoundState P G R.state → of t ≡ k → Takes y z t tiles → IsShardOf P G of k R y → IsShardOf P G of k (with_claim R t) z }
-    ensures away { (P : Plan) (G : Data) (of : Placement) (k : ℕ) (R : Moment) (t : Task) (y : Content) → IsConsistent P → IsSoundState P G R.state → of t ≢ k → IsShardOf P G of k R y → IsShardOf P G of k (with_claim R t) y }
+    ensures here { (P : Plan) (G : Data) (of : Placement) (k : ℕ) (R : Moment) (t : Task) (y z : Content)
+        (tiles : List FlowTile)
+        → IsConsistent P → IsSoundState P G R.state → of t ≡ k → Takes y z t tiles → IsShardOf P G of k R y
+        → IsShardOf P G of k (with_claim R t) z }
+    ensures away { (P : Plan) (G : Data) (of : Placement) (k : ℕ) (R : Moment) (t : Task) (y : Content) → IsConsistent P
+        → IsSoundState P G R.state → of t ≢ k → IsShardOf P G of k R y → IsShardOf P G of k (with_claim R t) y }
 {}
 
-/// A law: a send of an edge changes the shard of its target as the call does that notes the arrival, with the tile that the
-/// edge's task leaves, and no other shard.
+/// A law: a send of an edge changes the shard of its target as the call does that notes the arrival, with the tile that
+/// the edge's task leaves, and no other shard.
 pub fn a_send_of_an_edge_changes_its_own_shard()
-    ensures here { (P : Plan) (G : Data) (of : Placement) (k : ℕ) (R : Moment) (e : Edge) (y z : Content) → IsConsistent P → IsSoundState P G R.state → MaySend P G R.state (item.Edge e) → of e.to ≡ k → Updates y.entries z.entries e.to (Some (with_arrival (entry_before y e.to (goal P e.to) (priority P e.to)) e.in_flow (output_tile (ended P G e.from) e.out_flow))) → KeepsAllButEntries y z → IsShardOf P G of k R y → IsShardOf P G of k (with_send P G R (item.Edge e)) z }
-    ensures away { (P : Plan) (G : Data) (of : Placement) (k : ℕ) (R : Moment) (e : Edge) (y : Content) → IsConsistent P → IsSoundState P G R.state → MaySend P G R.state (item.Edge e) → of e.to ≢ k → IsShardOf P G of k R y → IsShardOf P G of k (with_send P G R (item.Edge e)) y }
+    ensures here { (P : Plan) (G : Data) (of : Placement) (k : ℕ) (R : Moment) (e : Edge) (y z : Content)
+        → IsConsistent P → IsSoundState P G R.state → MaySend P G R.state (item.Edge e) → of e.to ≡ k
+        → Updates y.entries z.entries e.to
+        (Some
+        (with_arrival (entry_before y e.to (goal P e.to) (priority P e.to)) e.in_flow
+        (output_tile (ended P G e.from) e.out_flow)))
+        → KeepsAllButEntries y z → IsShardOf P G of k R y → IsShardOf P G of k (with_send P G R (item.Edge e)) z }
+    ensures away { (P : Plan) (G : Data) (of : Placement) (k : ℕ) (R : Moment) (e : Edge) (y : Content) → IsConsistent P
+        → IsSoundState P G R.state → MaySend P G R.state (item.Edge e) → of e.to ≢ k → IsShardOf P G of k R y
+        → IsShardOf P G of k (with_send P G R (item.Edge e)) y }
 {}
 
-/// A law: a send of a write-back changes the shard of its task as the call does that keeps the tile, and no other shard.
+/// A law: a send of a write-back changes the shard of its task as the call does that keeps the tile, and no other
+/// shard.
 pub fn a_send_of_a_write_back_changes_its_own_shard()
-    ensures here { (P : Plan) (G : Data) (of : Placement) (k : ℕ) (R : Moment) (w : WriteBack) (tile : List ℤ) (y z : Content) → IsConsistent P → IsSoundState P G R.state → MaySend P G R.state (item.Write w) → of w.from ≡ k → output_tile (ended P G w.from) w.flow ≡ Some tile → z.written ≡ y.written ++ (w, tile) ∷ [] → KeepsAllButWritten y z → IsShardOf P G of k R y → IsShardOf P G of k (with_send P G R (item.Write w)) z }
-    ensures away { (P : Plan) (G : Data) (of : Placement) (k : ℕ) (R : Moment) (w : WriteBack) (y : Content) → IsConsistent P → IsSoundState P G R.state → MaySend P G R.state (item.Write w) → of w.from ≢ k → IsShardOf P G of k R y → IsShardOf P G of k (with_send P G R (item.Write w)) y }
+    ensures here { (P : Plan) (G : Data) (of : Placement) (k : ℕ) (R : Moment) (w : WriteBack) (tile : List ℤ)
+        (y z : Content)
+        → IsConsistent P → IsSoundState P G R.state → MaySend P G R.state (item.Write w) → of w.from ≡ k
+        → output_tile (ended P G w.from) w.flow ≡ Some tile → z.written ≡ y.written ++ (w, tile) ∷ []
+        → KeepsAllButWritten y z → IsShardOf P G of k R y → IsShardOf P G of k (with_send P G R (item.Write w)) z }
+    ensures away { (P : Plan) (G : Data) (of : Placement) (k : ℕ) (R : Moment) (w : WriteBack) (y : Content)
+        → IsConsistent P → IsSoundState P G R.state → MaySend P G R.state (item.Write w) → of w.from ≢ k
+        → IsShardOf P G of k R y → IsShardOf P G of k (with_send P G R (item.Write w)) y }
 {}
 
-/// A law: the end of a task changes its shard as the call does that ends it, with a row where the task traps, and no other shard.
+/// A law: the end of a task changes its shard as the call does that ends it, with a row where the task traps, and no
+/// other shard.
 pub fn an_end_changes_its_own_shard()
-    ensures end { (P : Plan) (G : Data) (of : Placement) (k : ℕ) (R : Moment) (t : Task) (y z : Content) → 0 < run_count R t → of t ≡ k → IsTrue (has_outputs (ended P G t)) → Ends y z → KeepsEntriesAndWritten y z → z.trapped ≡ y.trapped → IsShardOf P G of k R y → IsShardOf P G of k (with_end R t) z }
-    ensures trap { (P : Plan) (G : Data) (of : Placement) (k : ℕ) (R : Moment) (t : Task) (cause : Trap) (y z : Content) → 0 < run_count R t → of t ≡ k → ended P G t ≡ Some (Err cause) → Ends y z → KeepsEntriesAndWritten y z → z.trapped ≡ y.trapped ++ (t, cause) ∷ [] → IsShardOf P G of k R y → IsShardOf P G of k (with_end R t) z }
-    ensures away { (P : Plan) (G : Data) (of : Placement) (k : ℕ) (R : Moment) (t : Task) (y : Content) → 0 < run_count R t → of t ≢ k → IsShardOf P G of k R y → IsShardOf P G of k (with_end R t) y }
+    ensures end { (P : Plan) (G : Data) (of : Placement) (k : ℕ) (R : Moment) (t : Task) (y z : Content)
+        → 0 < run_count R t → of t ≡ k → IsTrue (has_outputs (ended P G t)) → Ends y z → KeepsEntriesAndWritten y z
+        → z.trapped ≡ y.trapped → IsShardOf P G of k R y → IsShardOf P G of k (with_end R t) z }
+    ensures trap { (P : Plan) (G : Data) (of : Placement) (k : ℕ) (R : Moment) (t : Task) (cause : Trap) (y z : Content)
+        → 0 < run_count R t → of t ≡ k → ended P G t ≡ Some (Err cause) → Ends y z → KeepsEntriesAndWritten y z
+        → z.trapped ≡ y.trapped ++ (t, cause) ∷ [] → IsShardOf P G of k R y → IsShardOf P G of k (with_end R t) z }
+    ensures away { (P : Plan) (G : Data) (of : Placement) (k : ℕ) (R : Moment) (t : Task) (y : Content)
+        → 0 < run_count R t → of t ≢ k → IsShardOf P G of k R y → IsShardOf P G of k (with_end R t) y }
 {}
 
-/// A law: a shard that is given back without an event, with nothing changed but spares that grew, holds what it held and keeps its
-/// reserve.
+/// A law: a shard that is given back without an event, with nothing changed but spares that grew, holds what it held
+/// and keeps its reserve.
 pub fn nothing_changes_without_an_event()
-    ensures share { (P : Plan) (G : Data) (of : Placement) (k : ℕ) (R : Moment) (y z : Content) → IsUnchanged y z → IsShardOf P G of k R y → IsShardOf P G of k R z }
-    ensures reserve { (P : Plan) (of : Placement) (k : ℕ) (R : Moment) (y z : Content) → IsUnchanged y z → Uses y.spare z.spare 0 None 0 0 → HasReserve P of k R y → HasReserve P of k R z }
+    ensures share { (P : Plan) (G : Data) (of : Placement) (k : ℕ) (R : Moment) (y z : Content) → IsUnchanged y z
+        → IsShardOf P G of k R y → IsShardOf P G of k R z }
+    ensures reserve { (P : Plan) (of : Placement) (k : ℕ) (R : Moment) (y z : Content) → IsUnchanged y z
+        → Uses y.spare z.spare 0 None 0 0 → HasReserve P of k R y → HasReserve P of k R z }
 {}

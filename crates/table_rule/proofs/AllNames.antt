@@ -1,7 +1,7 @@
 -- Lists of all passes: the first pass, after a split, after a join, in another order.
 use Rattle.std.proofs.Common.{◌≡◌, ℕ, ◌+◌, List, [], ◌∷◌, ◌++◌, length, map, refl, sym, ap, ◌∙◌, arith}
-use Rattle.flow_meaning.specs.Counting.{HasSameMembers, weigh}
-use Rattle.flow_meaning.proofs.Counting.{weigh-append}
+use Rattle.list_lemmas.specs.Counting.{HasSameMembers, weigh}
+use Rattle.list_lemmas.proofs.Counts.{weigh-append}
 use Rattle.work_board.specs.declared.record.PassRecord.{PassRecord}
 use Rattle.table_rule.specs.Changes.{after_split, both, first_pass, split_off}
 use Rattle.table_rule.specs.Names.{AreAll, Name, names_after_split, names_split_off}

@@ -3,10 +3,9 @@ use Rattle.std.proofs.Common.{◌≡◌, ℕ, ◌<◌, ◌≢◌, [], ◌∷◌,
 use mathlib.Core.Option.{some}
 use lib.ListN.{get_elem?}
 use Rattle.ptg_base.specs.Lists.{IsIn}
-use Rattle.flow_meaning.specs.Counting.{HasSameMembers, as_number, weigh}
+use Rattle.list_lemmas.specs.Counting.{HasSameMembers, as_number, weigh}
 use Rattle.flow_meaning.specs.Machine.{sender}
-use Rattle.flow_meaning.proofs.Counting.{weigh-one}
-use Rattle.flow_meaning.proofs.Reordering.{same_in, turned}
+use Rattle.list_lemmas.proofs.Counts.{weigh-one, same_in, HasSameMembers-sym}
 use Rattle.shard_meaning.specs.Moment.{IsReorderedMoment}
 use Rattle.work_board.specs.declared.record.PassRecord.{PassRecord}
 use Rattle.table_rule.specs.declared.job.Job.{Job}
@@ -49,7 +48,7 @@ module _ (j : Job) (s : Table) (id : ℕ) (v : PassRecord) (rule : Rule j s) (me
   same_stamps f = alone_parts.live.theirs f ∙ weigh_alone (λ (u : PassRecord). weigh f u.stamps) s.views id v me (λ i u ne e. ap (weigh f) (others_empty i u ne e).stamps)
 
   among : (x : Stamp) → IsIn x v.stamps → IsIn x alone_parts.live.stamps
-  among x i = same_in same_stamp same_stamp-decides v.stamps alone_parts.live.stamps (turned alone_parts.live.stamps v.stamps same_stamps) x i
+  among x i = same_in same_stamp same_stamp-decides v.stamps alone_parts.live.stamps (HasSameMembers-sym alone_parts.live.stamps v.stamps same_stamps) x i
 
   pub alone_stamps : AreStamps j.matched (moment_of v) v.stamps (get_or s.words (stamp_word j.shards) 0)
   alone_stamps = let d = alone_parts.live.drawn in let parts = alone_parts in record {

@@ -6,15 +6,15 @@ use lib.ListN.{get_elem?}
 use Rattle.atomic_table.specs.Table.{Allows, gives, rest, step, stepped}
 use Rattle.ptg_base.specs.Task.{Task}
 use Rattle.ptg_base.specs.TaskComparing.{same_task}
-use Rattle.range_space.proofs.MemberLists.{IsIn-append_left}
+use Rattle.list_lemmas.proofs.Members.{IsIn-append_left}
+use Rattle.list_lemmas.proofs.Counts.{weigh-one, weigh-push}
 use Rattle.plan_core.specs.declared.plan.Plan.{Plan}
 use Rattle.coll_data.specs.Data.{Data}
 use Rattle.dep_shard.specs.Arrivals.{FlowTile}
 use Rattle.dep_shard.specs.Content.{Content, Takes, Uses}
 use Rattle.flow_meaning.specs.Comparing.{same_item}
-use Rattle.flow_meaning.specs.Counting.{as_number, weigh}
+use Rattle.list_lemmas.specs.Counting.{as_number, weigh}
 use Rattle.flow_meaning.specs.Machine.{MayClaim, Sent, claim_count, send_count, sender}
-use Rattle.flow_meaning.proofs.Counting.{weigh-one, weigh-push}
 use Rattle.flow_meaning.proofs.Events.{claim_sound}
 use Rattle.flow_meaning.proofs.Rest.{item_sender}
 use Rattle.shard_meaning.specs.Moment.{Moment, with_claim}

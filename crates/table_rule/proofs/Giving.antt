@@ -18,7 +18,7 @@ use Rattle.table_rule.proofs.Looking.{live_same}
 use Rattle.table_rule.proofs.Moving.{given_back}
 use Rattle.table_rule.proofs.Naming.{named_not_empty}
 use Rattle.table_rule.proofs.Passes.{same_records}
-use Rattle.flow_meaning.proofs.Counting.{weigh-one}
+use Rattle.list_lemmas.proofs.Counts.{weigh-one}
 
 -- the turn that a pass holds, in its record
 pub holds_turn : (m : Seated) (k : ℕ) (y₀ y : Content) (credits : ℕ) → HasTurn m k y₀ y credits → IsIn (k, y₀) m.0.turns

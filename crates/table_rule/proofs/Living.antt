@@ -1,7 +1,7 @@
 -- The live word and the stamps where no stamp is drawn, and how large the two words get.
-use Rattle.std.proofs.Common.{◌↔◌, IsTrue, ◌≡◌, ℕ, ◌+◌, ◌<◌, ◌≤◌, ◌⊎◌, Bool, true, false, ◌&&◌, not, List, [], ◌∷◌, map, set, length, sym, refl, ap, ◌∙◌, subst, ⊎_elim, arith, eqb, eq-eqb, eqb-true, ne_eqb, cond}
+use Rattle.std.proofs.Common.{◌↔◌, IsTrue, ◌≡◌, ℕ, ◌+◌, ◌<◌, ◌≤◌, ◌⊎◌, Bool, true, false, ◌&&◌, not, List, [], ◌∷◌, map, set, length, sym, refl, ap, ◌∙◌, subst, ⊎_elim, arith, eqb, eq-eqb, eqb-true, ne_eqb}
 use Rattle.std.specs.Cmp.{first_so, second_so}
-use Rattle.std.specs.List.{filter, flat_map}
+use Rattle.std.specs.List.{flat_map}
 use mathlib.Core.Logic.{dite}
 use mathlib.Core.Option.{some}
 use native.Mathlib.Decide.{ℕ_discrete}
@@ -16,11 +16,11 @@ use Rattle.dep_iter.specs.Tasks.{all_tasks}
 use Rattle.dep_iter.specs.Edges.{goal}
 use Rattle.dep_iter.proofs.Listing.{listed}
 use Rattle.dep_shard.specs.Content.{Content}
-use Rattle.flow_meaning.specs.Counting.{as_number, count, weigh}
+use Rattle.list_lemmas.specs.Counting.{as_number, count, weigh}
 use Rattle.flow_meaning.specs.Machine.{MachineState, Sent, arrived, claim_count, sender}
 use Rattle.flow_meaning.specs.Sound.{IsSoundState}
 use Rattle.flow_meaning.specs.Table.{is_ready, is_unclaimed, ready_tasks}
-use Rattle.flow_meaning.proofs.Counting.{count-some, one_at_most, some_passes, weigh-le, weigh-one}
+use Rattle.list_lemmas.proofs.Counts.{count-some, one_at_most, some_passes, weigh-le, weigh-one, weigh-flat_map, weigh-plus, length-filter}
 use Rattle.flow_meaning.proofs.Events.{claim_member, member_claim}
 use Rattle.shard_meaning.specs.Moment.{Moment}
 use Rattle.work_board.specs.declared.record.PassRecord.{PassRecord}
@@ -28,7 +28,7 @@ use Rattle.table_rule.specs.Live.{AreLive, OwnsLives, Stamp, own_stamps}
 use Rattle.table_rule.specs.Records.{AreRecordsOf}
 use Rattle.table_rule.specs.Turns.{AreTurns, holds}
 use Rattle.table_rule.proofs.Passes.{each_kept, same_weight}
-use Rattle.table_rule.proofs.Weighing.{dominated, few_numbers, some_place, term_le, weigh-flat, weigh-plus, weigh-same, weigh-set, weigh_terms}
+use Rattle.table_rule.proofs.Weighing.{dominated, few_numbers, some_place, term_le, weigh-same, weigh-set, weigh_terms}
 
 -- whether two stamps are the same
 abbrev pub same_stamp : Stamp → Stamp → Bool
@@ -93,15 +93,6 @@ module _ (P : Plan) (R R' : Moment) (live stamp : ℕ) (vs : List PassRecord) (i
     drawn = r.drawn;
   }
 
--- a filtered list is as long as many pass the test
-pub filter_count : {A : Type 0} (p : A → Bool) (xs : List A) → length (filter p xs) ≡ count p xs
-filter_count p [] = refl
-filter_count p (x ∷ xs) = by (p x) (filter_count p xs)
-  where
-    by : (b : Bool) → length (filter p xs) ≡ count p xs → length (cond b (x ∷ filter p xs) (filter p xs)) ≡ as_number b + count p xs
-    by true e = omega (arith, e)
-    by false e = omega (arith, e)
-
 -- a task is claimed at most once, so the claimed tasks are at most all tasks, and those that are ready besides
 module _ (P : Plan) (G : Data) (S : MachineState) (sound : IsSoundState P G S) where
   one_task : (a b : Task) → same_task a b ≡ true → a ≡ b
@@ -129,7 +120,7 @@ module _ (P : Plan) (G : Data) (S : MachineState) (sound : IsSoundState P G S) w
   unfolding ready_tasks
   ready_and_claimed =
       let one_each : length S.claims ≤ weigh (λ t. as_number (not (is_unclaimed S t))) S.claims = omega (arith, weigh-one S.claims, weigh-le (λ _. 1) (λ t. as_number (not (is_unclaimed S t))) S.claims (λ t i. omega (arith, unclaimed_not t i))) in
-      omega (arith, one_each, claims_among_tasks (λ t. as_number (not (is_unclaimed S t))), filter_count (is_ready P S) (all_tasks P), weigh-plus (λ t. as_number (is_ready P S t)) (λ t. as_number (not (is_unclaimed S t))) (all_tasks P), weigh-le (λ t. as_number (is_ready P S t) + as_number (not (is_unclaimed S t))) (λ _. 1) (all_tasks P) (λ t i. claimed_apart t), weigh-one (all_tasks P))
+      omega (arith, one_each, claims_among_tasks (λ t. as_number (not (is_unclaimed S t))), length-filter (is_ready P S) (all_tasks P), weigh-plus (λ t. as_number (is_ready P S t)) (λ t. as_number (not (is_unclaimed S t))) (all_tasks P), weigh-le (λ t. as_number (is_ready P S t) + as_number (not (is_unclaimed S t))) (λ _. 1) (all_tasks P) (λ t i. claimed_apart t), weigh-one (all_tasks P))
 
 -- the turns that are held are at most as many as there are shards
 module _ (words : List ℕ) (slots : List (mathlib.Core.Option.Option Content)) (vs : List PassRecord) (r : AreTurns words slots vs) where
@@ -142,7 +133,7 @@ module _ (words : List ℕ) (slots : List (mathlib.Core.Option.Option Content)) 
 
   numbers-weigh : (f : ℕ → ℕ) → weigh f numbers ≡ weigh (λ (v : PassRecord). weigh (λ (x : ℕ × Content). f x.0) v.turns) vs
   unfolding numbers
-  numbers-weigh f = weigh-flat f (λ (v : PassRecord). map (λ (x : ℕ × Content). x.0) v.turns) vs ∙ weigh-same (λ (v : PassRecord). weigh f (map (λ (x : ℕ × Content). x.0) v.turns)) (λ (v : PassRecord). weigh (λ (x : ℕ × Content). f x.0) v.turns) vs (λ v. weigh-map f v.turns)
+  numbers-weigh f = weigh-flat_map f (λ (v : PassRecord). map (λ (x : ℕ × Content). x.0) v.turns) vs ∙ weigh-same (λ (v : PassRecord). weigh f (map (λ (x : ℕ × Content). x.0) v.turns)) (λ (v : PassRecord). weigh (λ (x : ℕ × Content). f x.0) v.turns) vs (λ v. weigh-map f v.turns)
 
   near_number : (k : ℕ) → IsIn k numbers → k < length slots
   near_number k i =

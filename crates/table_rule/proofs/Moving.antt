@@ -4,7 +4,7 @@ use mathlib.Core.Option.{none, some}
 use lib.ListN.{get_elem?}
 use Rattle.ptg_base.specs.Lists.{IsIn}
 use Rattle.dep_shard.specs.Content.{Content}
-use Rattle.flow_meaning.specs.Counting.{as_number, weigh}
+use Rattle.list_lemmas.specs.Counting.{as_number, weigh}
 use Rattle.flow_meaning.specs.Sound.{IsSoundState}
 use Rattle.shard_meaning.specs.Calm.{AreFinished, IsCalm}
 use Rattle.shard_meaning.specs.Moment.{Moment}

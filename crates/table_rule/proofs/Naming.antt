@@ -4,13 +4,13 @@ use mathlib.Core.Logic.{dite}
 use mathlib.Core.Option.{some, some-injective}
 use native.Mathlib.Decide.{ℕ_discrete, dec_le}
 use lib.ListN.{get_elem?}
-use Rattle.std.specs.Cmp.{unsigned_Decides}
-use Rattle.std.specs.Cmp.Lexicographic.{pointwise, pointwise_decides}
-use Rattle.flow_meaning.specs.Counting.{as_number, weigh}
-use Rattle.flow_meaning.proofs.Counting.{one_at_most, weigh-le}
+use Rattle.std.specs.Cmp.Lexicographic.{pointwise}
+use Rattle.list_lemmas.specs.Counting.{as_number, weigh}
+use Rattle.list_lemmas.proofs.Counts.{one_at_most, weigh-le, weigh-plus}
+use Rattle.list_lemmas.proofs.Texts.{same_bytes, equal_bytes}
 use Rattle.work_board.specs.declared.record.PassRecord.{PassRecord}
 use Rattle.table_rule.specs.Names.{AreAll, AreNames, Name, has_split, is_named}
-use Rattle.table_rule.proofs.Weighing.{some_place, term_le, terms_le, weigh-plus, weigh-same}
+use Rattle.table_rule.proofs.Weighing.{some_place, term_le, terms_le, weigh-same}
 
 -- the weight of the names of all passes
 abbrev names_of : List PassRecord → (Name → ℕ) → ℕ
@@ -22,32 +22,26 @@ named p x = as_number (is_named p x)
 abbrev above : List ℕ → ℕ → Name → ℕ
 above p k x = as_number (has_split p k x)
 
-same_list : (p q : List ℕ) → pointwise nat_eq p q ≡ true → p ≡ q
-same_list p q h = (pointwise_decides unsigned_Decides p q).0 h
-
-same_itself : (p q : List ℕ) → p ≡ q → pointwise nat_eq p q ≡ true
-same_itself p q h = (pointwise_decides unsigned_Decides p q).1 h
-
 -- a test, as one of two facts
 tested : (p q : List ℕ) → ((p ≡ q) × (pointwise nat_eq p q ≡ true)) ⊎ ((p ≢ q) × (pointwise nat_eq p q ≡ false))
 tested p q = by (pointwise nat_eq p q) refl
   where
     by : (b : Bool) → pointwise nat_eq p q ≡ b → ((p ≡ q) × (pointwise nat_eq p q ≡ true)) ⊎ ((p ≢ q) × (pointwise nat_eq p q ≡ false))
-    by true e = inl (same_list p q e, e)
-    by false e = inr ((λ (h : p ≡ q). let z : true ≡ false = sym (same_itself p q h) ∙ e in cc), e)
+    by true e = inl (same_bytes p q e, e)
+    by false e = inr ((λ (h : p ≡ q). let z : true ≡ false = sym (equal_bytes p q h) ∙ e in cc), e)
 
 -- the name x.0, with exactly x.1 passes split off
 abbrev exact : Name → Name → ℕ
 exact x y = as_number (pointwise nat_eq y.0 x.0 && eqb y.1 x.1)
 
 pub named-here : (p : List ℕ) (x : Name) → x.0 ≡ p → named p x ≡ 1
-named-here p x e = ap as_number (same_itself x.0 p e)
+named-here p x e = ap as_number (equal_bytes x.0 p e)
 
 pub named-at : (p : List ℕ) (x : Name) → 0 < named p x → x.0 ≡ p
 named-at p x h = ⊎_elim (λ t. t.0) (λ t. absurd (omega (arith, ap as_number t.1))) (tested x.0 p)
 
 above-here : (p : List ℕ) (k : ℕ) (x : Name) → x.0 ≡ p → k < x.1 → above p k x ≡ 1
-above-here p k x e l = ap (λ (b : Bool). as_number (b && nat_lt k x.1)) (same_itself x.0 p e) ∙ ap as_number (lt-ltb k x.1 l)
+above-here p k x e l = ap (λ (b : Bool). as_number (b && nat_lt k x.1)) (equal_bytes x.0 p e) ∙ ap as_number (lt-ltb k x.1 l)
 
 pub above-past : (p : List ℕ) (k : ℕ) (x : Name) → x.1 ≤ k → above p k x ≡ 0
 above-past p k x l = ⊎_elim (λ t. ap (λ (b : Bool). as_number (b && nat_lt k x.1)) t.1 ∙ ap as_number (le-ltb k x.1 l)) (λ t. ap (λ (b : Bool). as_number (b && nat_lt k x.1)) t.1) (tested x.0 p)
@@ -69,7 +63,7 @@ exact-else : (x y : Name) → y.1 ≢ x.1 → exact x y ≡ 0
 exact-else x y ne = ⊎_elim (λ t. ap (λ (b : Bool). as_number (b && eqb y.1 x.1)) t.1 ∙ ap as_number (ne_eqb y.1 x.1 ne)) (λ t. ap (λ (b : Bool). as_number (b && eqb y.1 x.1)) t.1) (tested y.0 x.0)
 
 exact-here : (x : Name) → exact x x ≡ 1
-exact-here x = ap (λ (b : Bool). as_number (b && eqb x.1 x.1)) (same_itself x.0 x.0 refl) ∙ ap as_number (eq-eqb x.1 x.1 refl)
+exact-here x = ap (λ (b : Bool). as_number (b && eqb x.1 x.1)) (equal_bytes x.0 x.0 refl) ∙ ap as_number (eq-eqb x.1 x.1 refl)
 
 snoc_head : (p q : List ℕ) (k n : ℕ) → p ++ k ∷ [] ≡ q ++ n ∷ [] → (p ≡ q) × (k ≡ n)
 snoc_head [] [] k n e = (refl, (cc))

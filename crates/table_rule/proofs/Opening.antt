@@ -6,7 +6,7 @@ use lib.ListN.{get_elem?}
 use Rattle.atomic_table.specs.Table.{opening}
 use Rattle.ptg_base.specs.Lists.{IsIn}
 use Rattle.dep_shard.specs.Content.{Content}
-use Rattle.flow_meaning.proofs.Counting.{one_at_most}
+use Rattle.list_lemmas.proofs.Counts.{one_at_most}
 use Rattle.flow_meaning.proofs.Events.{opening_sound}
 use Rattle.shard_meaning.specs.Moment.{opening_moment}
 use Rattle.shard_meaning.proofs.Openings.{opening_finished, opening_reserve, opening_share}

@@ -6,9 +6,9 @@ use Rattle.atomic_table.proofs.Lists.{at_set, at_snoc}
 use Rattle.ptg_base.specs.Task.{Task}
 use Rattle.plan_core.specs.declared.plan.Plan.{Plan}
 use Rattle.coll_data.specs.Data.{Data}
-use Rattle.flow_meaning.specs.Counting.{weigh}
+use Rattle.list_lemmas.specs.Counting.{weigh}
 use Rattle.flow_meaning.specs.Machine.{Sent, sent_with}
-use Rattle.flow_meaning.proofs.Counting.{weigh-push}
+use Rattle.list_lemmas.proofs.Counts.{weigh-push}
 use Rattle.shard_meaning.specs.Moment.{Moment, with_claim, with_send}
 use Rattle.ptg_base.specs.declared.edge.Item.{Item}
 use Rattle.work_board.specs.declared.record.PassRecord.{PassRecord}

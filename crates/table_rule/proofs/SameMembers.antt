@@ -9,12 +9,12 @@ use Rattle.dep_iter.specs.Edges.{goal, in_edges}
 use Rattle.dep_iter.specs.Tasks.{all_tasks}
 use Rattle.dep_shard.specs.Content.{Content}
 use Rattle.flow_meaning.specs.Comparing.{same_item}
-use Rattle.flow_meaning.specs.Counting.{as_number}
+use Rattle.list_lemmas.specs.Counting.{as_number}
 use Rattle.flow_meaning.specs.Machine.{MachineState, Sent, arrived, is_sent, same_sent}
 use Rattle.flow_meaning.specs.Sound.{IsReordered}
 use Rattle.flow_meaning.specs.Table.{is_ready, ready_tasks}
-use Rattle.flow_meaning.proofs.Counting.{weigh-one}
-use Rattle.flow_meaning.proofs.Reordering.{same_in, same_sent-decides, turned}
+use Rattle.list_lemmas.proofs.Counts.{weigh-one, same_in, HasSameMembers-sym, weigh-flat_map}
+use Rattle.flow_meaning.proofs.Reordering.{same_sent-decides}
 use Rattle.shard_meaning.specs.Moment.{IsReorderedMoment, Moment}
 use Rattle.shard_meaning.proofs.ReadyCount.{ready_count}
 use Rattle.shard_meaning.proofs.Reordered.{reordered_calm, reordered_finished, reordered_moment, reordered_reserve, reordered_share}
@@ -25,7 +25,7 @@ use Rattle.table_rule.specs.Placing.{shard_of}
 use Rattle.table_rule.specs.Records.{AreRecordsOf, joined}
 use Rattle.table_rule.specs.Rule.{Parts, Reserve, Rule, Share, Table}
 use Rattle.table_rule.proofs.Ending.{sound_moment}
-use Rattle.table_rule.proofs.Weighing.{weigh-flat, weigh-same}
+use Rattle.table_rule.proofs.Weighing.{weigh-same}
 
 -- as many tasks are ready
 ready_same : (P : Plan) (S T : MachineState) → IsReordered S T → length (ready_tasks P T) ≡ length (ready_tasks P S)
@@ -52,7 +52,7 @@ module _ (j : Job) (s : Table) (R T : Moment) (r : Parts j s R) (same : IsReorde
       differ = l.drawn.differ;
       below = l.drawn.below;
       above_sources = l.drawn.above_sources;
-      senders = λ x i. l.drawn.senders x (same_in same_sent same_sent-decides T.state.sends R.state.sends (turned R.state.sends T.state.sends same.state.sends) x i);
+      senders = λ x i. l.drawn.senders x (same_in same_sent same_sent-decides T.state.sends R.state.sends (HasSameMembers-sym R.state.sends T.state.sends same.state.sends) x i);
     };
   }
 
@@ -91,10 +91,10 @@ module _ (j : Job) (s : Table) (R T : Moment) (r : Parts j s R) (same : IsReorde
 joined_members : (R : Moment) (vs : List PassRecord) → AreRecordsOf R vs → IsReorderedMoment R (joined vs)
 joined_members R vs r = record {
   state = record {
-    claims = λ f. r.claims f ∙ sym (weigh-flat f (λ (v : PassRecord). v.claims) vs);
-    sends = λ f. r.sends f ∙ sym (weigh-flat f (λ (v : PassRecord). v.sends) vs);
+    claims = λ f. r.claims f ∙ sym (weigh-flat_map f (λ (v : PassRecord). v.claims) vs);
+    sends = λ f. r.sends f ∙ sym (weigh-flat_map f (λ (v : PassRecord). v.sends) vs);
   };
-  running = λ f. r.running f ∙ sym (weigh-flat f (λ (v : PassRecord). v.running) vs);
+  running = λ f. r.running f ∙ sym (weigh-flat_map f (λ (v : PassRecord). v.running) vs);
 }
 
 -- the rule holds at the moment of all passes, joined

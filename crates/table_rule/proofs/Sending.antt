@@ -14,8 +14,9 @@ use Rattle.ptg_base.specs.declared.edge.Edge.{Edge}
 use Rattle.ptg_base.specs.declared.edge.Item.{Item}
 use Rattle.ptg_base.specs.declared.edge.Item.TheVariants as item
 use Rattle.ptg_base.specs.declared.edge.WriteBack.{WriteBack}
-use Rattle.range_space.proofs.MemberLists.{from_append}
-use Rattle.range_space.proofs.Stepping.{by_test}
+use Rattle.list_lemmas.proofs.Members.{from_append}
+use Rattle.list_lemmas.proofs.Truth.{by_test}
+use Rattle.list_lemmas.proofs.Counts.{count-some, some_passes, weigh-one}
 use Rattle.plan_core.specs.declared.plan.Plan.{Plan}
 use Rattle.plan_core.specs.Kinds.{flow_of}
 use Rattle.coll_data.specs.Data.{Data}
@@ -25,13 +26,12 @@ use Rattle.dep_iter.specs.Hints.{priority}
 use Rattle.dep_iter.specs.Items.{item_flow}
 use Rattle.dep_shard.specs.Content.{Content, KeepsAllButEntries, KeepsAllButWritten, Updates, Uses, entry_before, entry_of, with_arrival}
 use Rattle.flow_meaning.specs.Comparing.{same_item}
-use Rattle.flow_meaning.specs.Counting.{as_number, count, weigh}
+use Rattle.list_lemmas.specs.Counting.{as_number, count, weigh}
 use Rattle.flow_meaning.specs.Ending.{output_tile}
 use Rattle.flow_meaning.specs.Machine.{MaySend, Sent, end_in, send_count, sender, sent_with}
 use Rattle.flow_meaning.specs.Sound.{IsSoundState}
 use Rattle.flow_meaning.specs.Table.{ready_tasks}
 use Rattle.flow_meaning.proofs.Comparing.{same_item-decides}
-use Rattle.flow_meaning.proofs.Counting.{count-some, some_passes, weigh-one}
 use Rattle.flow_meaning.proofs.Events.{claim_member, ends_so, send_sound}
 use Rattle.shard_meaning.specs.Moment.{Moment, with_send}
 use Rattle.shard_meaning.specs.Reserve.{has_type}

@@ -1,5 +1,5 @@
 -- A pass is split off another, and a pass is joined to another.
-use Rattle.std.proofs.Common.{◌≡◌, ℕ, ◌+◌, ◌≤◌, ◌⊎◌, Bool, true, false, ◌||◌, List, [], ◌∷◌, ◌++◌, set, length, get_or, sym, refl, ap, ◌∙◌, inl, inr, ⊎_elim, arith, eqb}
+use Rattle.std.proofs.Common.{◌≡◌, ℕ, ◌+◌, ◌≤◌, Bool, true, false, ◌||◌, List, [], ◌∷◌, ◌++◌, set, length, get_or, sym, refl, ap, ◌∙◌, ⊎_elim, arith, eqb}
 use Rattle.std.proofs.lemmas.List.{length-append}
 use mathlib.Core.Option.{some}
 use lib.ListN.{get_elem?}
@@ -8,11 +8,12 @@ use Rattle.atomic_table.proofs.Lists.{set_else}
 use Rattle.ptg_base.specs.Lists.{IsIn}
 use Rattle.ptg_base.specs.Task.{Task}
 use Rattle.ptg_base.specs.TaskComparing.{same_task}
-use Rattle.range_space.proofs.MemberLists.{IsIn-append_left, IsIn-append_right, from_append}
+use Rattle.list_lemmas.proofs.Members.{IsIn-append_left, IsIn-append_right, from_append}
+use Rattle.list_lemmas.proofs.Counts.{weigh-append}
+use Rattle.std.proofs.lemmas.Bool.{or_cases}
 use Rattle.dep_shard.specs.Content.{Content}
-use Rattle.flow_meaning.specs.Counting.{as_number, weigh}
+use Rattle.list_lemmas.specs.Counting.{as_number, weigh}
 use Rattle.flow_meaning.specs.Machine.{Sent, sender}
-use Rattle.flow_meaning.proofs.Counting.{weigh-append}
 use Rattle.shard_meaning.specs.Calm.{IsCalm}
 use Rattle.shard_meaning.specs.Moment.{Moment}
 use Rattle.work_board.specs.declared.record.PassRecord.{PassRecord}
@@ -95,10 +96,6 @@ splits_one j id v one = by v.names refl one
     by (x ∷ []) e h = splits j id v x e
     by (x ∷ (y ∷ ys)) e h = absurd (omega arith)
 
-or_true : (a b : Bool) → (a || b) ≡ true → (a ≡ true) ⊎ (b ≡ true)
-or_true true b h = inl refl
-or_true false b h = inr h
-
 one_or : (a b : Bool) → (as_number (a || b) ≤ as_number a + as_number b) × (as_number a ≤ as_number (a || b)) × (as_number b ≤ as_number (a || b))
 one_or true true = (omega arith, omega arith, omega arith)
 one_or true false = (omega arith, omega arith, omega arith)
@@ -137,7 +134,7 @@ joins j id v other u named s rule me apart them = let R : Moment = rule.0 in let
             };
             holding = λ k. same (holds k) (weigh-append (λ (x : ℕ × Content). as_number (eqb x.0 k)) v.turns u.turns) refl;
             quieted = record {
-              calm = twice (λ (z : PassRecord). z.quiet ≡ true → IsCalm j.matched R) (λ q. cc) (λ q. ⊎_elim (r.quieted.calm id v me) (r.quieted.calm other u there) (or_true v.quiet u.quiet q)) r.quieted.calm;
+              calm = twice (λ (z : PassRecord). z.quiet ≡ true → IsCalm j.matched R) (λ q. cc) (λ q. ⊎_elim (r.quieted.calm id v me) (r.quieted.calm other u there) (or_cases v.quiet u.quiet q)) r.quieted.calm;
               low = λ z. r.quieted.low (omega (arith, sums raised, flags.1, flags.2, terms_le raised s.views id other v u apart me there));
               high = λ z. r.quieted.high (omega (arith, sums raised, flags.0));
             };

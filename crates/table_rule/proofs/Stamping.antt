@@ -12,15 +12,15 @@ use Rattle.ptg_base.specs.TaskComparing.{same_task}
 use Rattle.ptg_base.specs.TaskLaws.{same_task-decides}
 use Rattle.ptg_base.specs.declared.edge.Edge.{Edge}
 use Rattle.ptg_base.specs.declared.edge.Item.TheVariants as item
-use Rattle.range_space.proofs.MemberLists.{IsIn-append_left, from_append}
-use Rattle.range_space.proofs.Stepping.{by_test}
+use Rattle.list_lemmas.proofs.Members.{IsIn-append_left, from_append}
+use Rattle.list_lemmas.proofs.Truth.{by_test}
+use Rattle.list_lemmas.proofs.Counts.{some_passes, weigh-push}
 use Rattle.plan_core.specs.declared.plan.Plan.{Plan}
 use Rattle.coll_data.specs.Data.{Data}
 use Rattle.dep_iter.specs.Edges.{in_edges}
-use Rattle.flow_meaning.specs.Counting.{as_number, count, weigh}
+use Rattle.list_lemmas.specs.Counting.{as_number, count, weigh}
 use Rattle.flow_meaning.specs.Machine.{claim_count, sender}
 use Rattle.flow_meaning.specs.Sound.{IsSoundState}
-use Rattle.flow_meaning.proofs.Counting.{some_passes, weigh-push}
 use Rattle.flow_meaning.proofs.Events.{claim_member, each_arrived, send_member}
 use Rattle.shard_meaning.specs.Moment.{Moment}
 use Rattle.work_board.specs.declared.record.PassRecord.{PassRecord}

@@ -1,13 +1,12 @@
 -- Weights of lists that change in one place, and lists that weigh no more than others.
 use Rattle.std.proofs.Common.{◌≡◌, ℕ, zero, suc, ◌+◌, ◌<◌, ◌≤◌, ◌≢◌, Bool, true, List, [], ◌∷◌, set, length, sym, refl, ap, subst, inl, inr, arith, eqb, eq-eqb, ne_eqb}
-use Rattle.std.specs.List.{flat_map}
 use mathlib.Core.Option.{some, some-injective, some-ne-none}
 use mathlib.Core.Logic.{dite}
 use native.Mathlib.Decide.{ℕ_discrete}
 use lib.ListN.{get_elem?}
 use Rattle.ptg_base.specs.Lists.{IsIn}
-use Rattle.flow_meaning.specs.Counting.{as_number, count, weigh}
-use Rattle.flow_meaning.proofs.Counting.{some_passes, weigh-append, without, without-weigh}
+use Rattle.list_lemmas.specs.Counting.{as_number, count, weigh}
+use Rattle.list_lemmas.proofs.Counts.{some_passes, without, without-weigh}
 
 module _ {A : Type 0} (g : A → ℕ) where
   pub weigh-set : (l : List A) (j : ℕ) (v w : A) → get_elem? l j ≡ some v → weigh g (set l j w) + g v ≡ weigh g l + g w
@@ -45,18 +44,10 @@ module _ {A : Type 0} (g : A → ℕ) where
   weigh_alone (x ∷ xs) zero v e h = omega (arith, ap g (some-injective x v e), weightless xs (λ i u d. h (suc i) u (λ z. omega arith) d))
   weigh_alone (x ∷ xs) (suc id) v e h = omega (arith, h zero x (λ z. omega arith) refl, weigh_alone xs id v e (λ i u n d. h (suc i) u (λ z. n (omega arith)) d))
 
-pub weigh-flat : {A B : Type 0} (f : B → ℕ) (g : A → List B) (vs : List A) → weigh f (flat_map g vs) ≡ weigh (λ v. weigh f (g v)) vs
-weigh-flat f g [] = refl
-weigh-flat f g (v ∷ vs) = omega (arith, weigh-append f (g v) (flat_map g vs), weigh-flat f g vs)
-
 -- where no term is greater, no sum is
 pub weigh_terms : {A : Type 0} (f g : A → ℕ) (l : List A) → ((i : ℕ) (v : A) → get_elem? l i ≡ some v → f v ≤ g v) → weigh f l ≤ weigh g l
 weigh_terms f g [] h = omega arith
 weigh_terms f g (x ∷ xs) h = omega (arith, h zero x refl, weigh_terms f g xs (λ i v e. h (suc i) v e))
-
-pub weigh-plus : {A : Type 0} (f g : A → ℕ) (l : List A) → weigh (λ x. f x + g x) l ≡ weigh f l + weigh g l
-weigh-plus f g [] = refl
-weigh-plus f g (x ∷ xs) = omega (arith, weigh-plus f g xs)
 
 pub weigh-same : {A : Type 0} (f g : A → ℕ) (l : List A) → ((x : A) → f x ≡ g x) → weigh f l ≡ weigh g l
 weigh-same f g [] h = refl

@@ -14,7 +14,7 @@ use Rattle.dep_iter.specs.Tasks.{all_tasks}
 use Rattle.dep_iter.proofs.Listing.{listed}
 use Rattle.flow_meaning.specs.Machine.{MayClaim, arrived, claim_count}
 use Rattle.flow_meaning.specs.Table.{is_ready, ready_tasks}
-use Rattle.flow_meaning.proofs.Counting.{count-some, weigh-one}
+use Rattle.list_lemmas.proofs.Counts.{count-some, weigh-one, length-filter}
 use Rattle.shard_meaning.specs.Calm.{IsCalm}
 use Rattle.shard_meaning.specs.Moment.{Moment}
 use Rattle.work_board.specs.Word.{Live}
@@ -27,7 +27,7 @@ use Rattle.table_rule.specs.Plays.{HasName, Seated, lowered_live, raised_halt, r
 use Rattle.table_rule.specs.Quiet.{IsQuieted, raised}
 use Rattle.table_rule.specs.Rule.{Parts, Rule, Table}
 use Rattle.table_rule.specs.Words.{halt_word, live_word, stamp_word, turn_word}
-use Rattle.table_rule.proofs.Living.{filter_count, live_few, live_moved, stamps_few}
+use Rattle.table_rule.proofs.Living.{live_few, live_moved, stamps_few}
 use Rattle.table_rule.proofs.Looking.{live_same, looked, quiet_kept, seen_quiet}
 use Rattle.table_rule.proofs.Moving.{aside, board}
 use Rattle.table_rule.proofs.Naming.{named_not_empty}
@@ -159,7 +159,7 @@ calm_at_zero P R live stamp vs r zero_word = record {
     no_tasks (x ∷ xs) h = absurd (omega arith)
 
     some_ready : (P : Plan) (R : Moment) (t : Task) → MayClaim P R.state t → 0 < length (ready_tasks P R.state)
-    some_ready P R t may = omega (arith, filter_count (is_ready P R.state) (all_tasks P), count-some (is_ready P R.state) (all_tasks P) t ((listed P t).0 may.task) (λ i. eq-eqb (claim_count R.state t) 0 may.unclaimed i && eq-eqb (arrived P R.state t) (goal P t) may.all_arrived i))
+    some_ready P R t may = omega (arith, length-filter (is_ready P R.state) (all_tasks P), count-some (is_ready P R.state) (all_tasks P) t ((listed P t).0 may.task) (λ i. eq-eqb (claim_count R.state t) 0 may.unclaimed i && eq-eqb (arrived P R.state t) (goal P t) may.all_arrived i))
 
 -- the live word is read, and 0 is quiet
 pub reads_live : (j : Job) (n id : ℕ) (m : Seated) → Allows (Rule j) n id m (live_word j.shards) (λ x. x) (read_live (Some j) (step n (live_word j.shards) 0 0 none) m)

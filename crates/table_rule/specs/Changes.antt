@@ -10,7 +10,21 @@ use Rattle.table_rule.specs.Names.{Name, names_after_split, names_split_off}
 
 -- a pass with these names that has done nothing
 abbrev pub new_pass : List Name → PassRecord
-new_pass names = record { names = names; claims = []; sends = []; running = []; turns = []; last = []; quiet = false; halts = false; look = (Halt, 0); looks = 0; credit = 0; stamps = [] }
+new_pass names =
+    record {
+      names = names;
+      claims = [];
+      sends = [];
+      running = [];
+      turns = [];
+      last = [];
+      quiet = false;
+      halts = false;
+      look = (Halt, 0);
+      looks = 0;
+      credit = 0;
+      stamps = [];
+    }
 
 -- the first pass of a table
 abbrev pub first_pass : PassRecord

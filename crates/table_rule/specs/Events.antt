@@ -8,4 +8,8 @@ abbrev pub no_task : Task
 no_task = record { class = 0; params = [] }
 
 abbrev pub no_sent : Sent
-no_sent = record { item = item.Write record { from = no_task; flow = 0; place = record { coll = 0; i = pos 0; j = pos 0 } }; tile = None }
+no_sent =
+    record {
+      item = item.Write record { from = no_task; flow = 0; place = record { coll = 0; i = pos 0; j = pos 0 } };
+      tile = None;
+    }

@@ -6,7 +6,7 @@ use Rattle.ptg_base.specs.TaskComparing.{same_task}
 use Rattle.ptg_base.specs.declared.edge.Edge.{Edge}
 use Rattle.plan_core.specs.declared.plan.Plan.{Plan}
 use Rattle.dep_iter.specs.Edges.{in_edges}
-use Rattle.flow_meaning.specs.Counting.{count, weigh}
+use Rattle.list_lemmas.specs.Counting.{count, weigh}
 use Rattle.flow_meaning.specs.Machine.{Sent, sender}
 use Rattle.flow_meaning.specs.Table.{ready_tasks}
 use Rattle.shard_meaning.specs.Moment.{Moment}
@@ -42,7 +42,8 @@ pub record AreStamps (P : Plan) (R : Moment) (stamps : List Stamp) (word : ℕ) 
   pub differ : (s : ℕ) → count (λ (x : Stamp). x.1 == s) stamps ≤ 1
   pub below : (t : Task) (s : ℕ) → IsIn (t, s) stamps → s < word
   -- the stamp of a task is above those of its sources
-  pub above_sources : (e : Edge) (s r : ℕ) → IsIn e (in_edges P e.to) → IsIn (e.from, s) stamps → IsIn (e.to, r) stamps → s < r
+  pub above_sources : (e : Edge) (s r : ℕ) → IsIn e (in_edges P e.to) → IsIn (e.from, s) stamps → IsIn (e.to, r) stamps
+      → s < r
   -- a task that has sent an item has a stamp
   pub senders : (x : Sent) → IsIn x R.state.sends → (s : ℕ) × IsIn (sender x.item, s) stamps
 

@@ -1,7 +1,9 @@
--- The names of passes. The first pass has the empty name, and a pass that is split off has the name it was split off under, followed by one number more. They tell whether a list of passes is all passes of a table. Source: this project's own choice.
+-- The names of passes. The first pass has the empty name, and a pass that is split off has the name it was split off
+-- under, followed by one number more. They tell whether a list of passes is all passes of a table. Source: this
+-- project's own choice.
 use Rattle.std.specs.Prelude.{ℕ, ◌+◌, ◌<◌, ◌≤◌, List, [], ◌∷◌, ◌++◌, nat_eq, nat_lt, ◌&&◌, Bool}
 use Rattle.std.specs.Cmp.Lexicographic.{pointwise}
-use Rattle.flow_meaning.specs.Counting.{count, weigh}
+use Rattle.list_lemmas.specs.Counting.{count, weigh}
 use Rattle.work_board.specs.declared.record.PassRecord.{PassRecord}
 
 -- a name, and how many passes were split off under it

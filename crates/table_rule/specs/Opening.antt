@@ -11,7 +11,8 @@ use Rattle.table_rule.specs.declared.job.Job.{Job}
 use Rattle.table_rule.specs.Placing.{shard_of}
 use Rattle.table_rule.specs.Words.{live_word, word_count}
 
--- the words and the shards of a new table: the tasks that no edge goes into are entries of their shards, the live word counts them, and each other word is 0
+-- the words and the shards of a new table: the tasks that no edge goes into are entries of their shards, the live word
+-- counts them, and each other word is 0
 pub record IsOpening (j : Job) (words : List ℕ) (shards : List Content) : Type 0 where
   pub consistent : IsConsistent j.matched
   pub some_shards : 0 < j.shards
@@ -20,5 +21,7 @@ pub record IsOpening (j : Job) (words : List ℕ) (shards : List Content) : Type
   pub long : length words ≡ word_count j.shards
   pub zero : (i : ℕ) → i ≢ live_word j.shards → slice_index words i ≡ 0
   pub live : slice_index words (live_word j.shards) ≡ length (ready_tasks j.matched opening_state)
-  pub each : (k : ℕ) (y : Content) → get_elem? shards k ≡ some y → IsOpeningShard j.matched (shard_of j.matched j.shards) k y
-  pub spares : j.preloaded ≡ true → (k : ℕ) (y : Content) → get_elem? shards k ≡ some y → HasOpeningReserve j.matched (shard_of j.matched j.shards) k y
+  pub each : (k : ℕ) (y : Content) → get_elem? shards k ≡ some y
+      → IsOpeningShard j.matched (shard_of j.matched j.shards) k y
+  pub spares : j.preloaded ≡ true → (k : ℕ) (y : Content) → get_elem? shards k ≡ some y
+      → HasOpeningReserve j.matched (shard_of j.matched j.shards) k y

@@ -2,7 +2,7 @@
 use Rattle.std.specs.Prelude.{◌≡◌, ◌≤◌, ℕ, List, []}
 use Rattle.ptg_base.specs.Lists.{IsIn}
 use Rattle.ptg_base.specs.Task.{Task}
-use Rattle.flow_meaning.specs.Counting.{weigh}
+use Rattle.list_lemmas.specs.Counting.{weigh}
 use Rattle.flow_meaning.specs.Machine.{Sent, sender}
 use Rattle.work_board.specs.declared.record.PassRecord.{PassRecord}
 use Rattle.table_rule.specs.Names.{AreNames}

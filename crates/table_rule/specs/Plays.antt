@@ -51,14 +51,17 @@ pub record WasSeen (j : Job) (k : ℕ) (v : PassRecord) (y : Content) : Type 0 w
 
 -- whether an edge is the last one that its target waits for, by the entry that the shard has of it
 abbrev pub fires : Plan → Content → Edge → Bool
-fires P y e = ((entry_before y e.to (goal P e.to) (priority P e.to)).arrived + 1) == (entry_before y e.to (goal P e.to) (priority P e.to)).goal
+fires P y e =
+    ((entry_before y e.to (goal P e.to) (priority P e.to)).arrived + 1) ==
+    (entry_before y e.to (goal P e.to) (priority P e.to)).goal
 
 -- what is told of a job, where one is named
 abbrev pub Tells : Option Job → (Job → Type 0) → Type 0
 Tells None told = Unit {0}
 Tells (Some j) told = told j
 
--- a turn is taken, or was found taken: the step is on the turn word of that shard, and what it found there is the pass's look
+-- a turn is taken, or was found taken: the step is on the turn word of that shard, and what it found there is the
+-- pass's look
 abbrev pub took : Option Job → ℕ → Step Content → Seated → ℕ → Seated → Type 0
 took j k st m r n =
     (st.word ≡ turn_word k)
@@ -70,7 +73,8 @@ abbrev pub left : Step Content → Seated → ℕ → Seated → Type 0
 left st m r n = n ≡ (turn_left m.0, rest m.1)
 
 abbrev pub gave_claim : Option Job → Task → List FlowTile → Step Content → Seated → ℕ → Seated → Type 0
-gave_claim j t tiles st m r n = (n ≡ (turn_left (with_own_claim m.0 t), rest m.1)) × Tells j (λ (i : Job). MayStart i.matched i.given t tiles m.0)
+gave_claim j t tiles st m r n =
+    (n ≡ (turn_left (with_own_claim m.0 t), rest m.1)) × Tells j (λ (i : Job). MayStart i.matched i.given t tiles m.0)
 
 abbrev pub gave_send : Sent → Step Content → Seated → ℕ → Seated → Type 0
 gave_send x st m r n = n ≡ (turn_left (with_own_send m.0 x), rest m.1)
@@ -78,14 +82,18 @@ gave_send x st m r n = n ≡ (turn_left (with_own_send m.0 x), rest m.1)
 abbrev pub gave_end : Step Content → Seated → ℕ → Seated → Type 0
 gave_end st m r n = n ≡ (turn_left (with_own_end m.0), rest m.1)
 
--- the halt word is raised, or read: in a preloaded table it is 0. The step is on the halt word, which stands behind the turn words of the slots
+-- the halt word is raised, or read: in a preloaded table it is 0. The step is on the halt word, which stands behind the
+-- turn words of the slots
 abbrev pub raised_halt : Step Content → Seated → ℕ → Seated → Type 0
 raised_halt st m r n = (st.word ≡ halt_word st.slots) × (n ≡ (with_halt m.0, m.1))
 
 abbrev pub read_halt : Option Job → Step Content → Seated → ℕ → Seated → Type 0
-read_halt j st m r n = (st.word ≡ halt_word st.slots) × (n ≡ (with_look m.0 Halt r, m.1)) × Tells j (λ (i : Job). i.preloaded ≡ true → r ≡ 0)
+read_halt j st m r n =
+    (st.word ≡ halt_word st.slots) × (n ≡ (with_look m.0 Halt r, m.1))
+    × Tells j (λ (i : Job). i.preloaded ≡ true → r ≡ 0)
 
--- the live word is raised, lowered, or read: 0 is quiet. What is read, and becomes the pass's look, stands in the live word
+-- the live word is raised, lowered, or read: 0 is quiet. What is read, and becomes the pass's look, stands in the live
+-- word
 abbrev pub raised_live : Step Content → Seated → ℕ → Seated → Type 0
 raised_live st m r n = n ≡ (with_credit m.0, m.1)
 

@@ -1,7 +1,7 @@
 -- Quiet and halt. Source: this project's own choice.
 use Rattle.std.specs.Prelude.{◌≡◌, ℕ, ◌<◌, true, List}
 use Rattle.plan_core.specs.declared.plan.Plan.{Plan}
-use Rattle.flow_meaning.specs.Counting.{as_number, weigh}
+use Rattle.list_lemmas.specs.Counting.{as_number, weigh}
 use Rattle.shard_meaning.specs.Calm.{IsCalm}
 use Rattle.shard_meaning.specs.Moment.{Moment}
 use Rattle.work_board.specs.declared.record.PassRecord.{PassRecord}

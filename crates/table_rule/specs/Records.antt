@@ -4,7 +4,7 @@ use Rattle.std.specs.List.{flat_map}
 use mathlib.Core.Option.{some}
 use lib.ListN.{get_elem?}
 use Rattle.ptg_base.specs.Task.{Task}
-use Rattle.flow_meaning.specs.Counting.{weigh}
+use Rattle.list_lemmas.specs.Counting.{weigh}
 use Rattle.flow_meaning.specs.Machine.{Sent}
 use Rattle.shard_meaning.specs.Moment.{Moment}
 use Rattle.work_board.specs.Records.{done_by}
@@ -23,7 +23,8 @@ pub record AreRecordsOf (R : Moment) (vs : List PassRecord) : Type 0 where
 -- the lists of all passes, one pass after the other
 abbrev pub joined : List PassRecord → Moment
 joined vs = record {
-  state = record { claims = flat_map (λ (v : PassRecord). v.claims) vs; sends = flat_map (λ (v : PassRecord). v.sends) vs };
+  state =
+      record { claims = flat_map (λ (v : PassRecord). v.claims) vs; sends = flat_map (λ (v : PassRecord). v.sends) vs };
   running = flat_map (λ (v : PassRecord). v.running) vs;
 }
 

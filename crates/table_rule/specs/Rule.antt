@@ -59,7 +59,8 @@ pub record Parts (j : Job) (s : Table) (R : Moment) : Type 0 where
   -- quiet, and the halt word
   pub quieted : IsQuieted j.matched R (slice_index s.words (halt_word j.shards)) s.views
   -- the live word, and the stamps
-  pub live : AreLive j.matched R (slice_index s.words (live_word j.shards)) (slice_index s.words (stamp_word j.shards)) s.views
+  pub live : AreLive j.matched R (slice_index s.words (live_word j.shards)) (slice_index s.words (stamp_word j.shards))
+      s.views
   -- the spares of a preloaded table
   pub reserved : j.preloaded ≡ true → IsReserved j R (slice_index s.words (halt_word j.shards)) s.words s.homes s.views
 

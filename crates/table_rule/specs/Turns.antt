@@ -4,14 +4,16 @@ use mathlib.Core.Option.{Option, none, some}
 use lib.ListN.{get_elem?}
 use Rattle.ptg_base.specs.Lists.{IsIn}
 use Rattle.dep_shard.specs.Content.{Content}
-use Rattle.flow_meaning.specs.Counting.{count, weigh}
+use Rattle.list_lemmas.specs.Counting.{count, weigh}
 use Rattle.work_board.specs.declared.record.PassRecord.{PassRecord}
 use Rattle.table_rule.specs.Records.{Each}
 use Rattle.table_rule.specs.Words.{turn_word}
 
 -- a shard whose turn is free is in its slot, and this is true of its number and its content
 abbrev pub AtRest : (ℕ → Content → Type 0) → List ℕ → List (Option Content) → Type 0
-AtRest Q words slots = (k : ℕ) → k < length slots → slice_index words (turn_word k) ≡ 0 → (y : Content) × (get_elem? slots k ≡ some (some y)) × Q k y
+AtRest Q words slots =
+    (k : ℕ) → k < length slots → slice_index words (turn_word k) ≡ 0
+    → (y : Content) × (get_elem? slots k ≡ some (some y)) × Q k y
 
 -- this is true of each turn that a pass holds: of the number of its shard and of what that had when the turn was taken
 abbrev pub AreHeld : (ℕ → Content → Type 0) → List PassRecord → Type 0

@@ -1,4 +1,5 @@
--- Where the words of a table are: a turn word for each of the n shards, then the halt word, the live word and the stamp word. Source: this project's own choice.
+-- Where the words of a table are: a turn word for each of the n shards, then the halt word, the live word and the stamp
+-- word. Source: this project's own choice.
 use Rattle.std.specs.Prelude.{ℕ, ◌+◌, ◌*◌}
 
 -- how far apart the words are: no two that are used are on one line of a cache

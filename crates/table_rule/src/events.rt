@@ -1,4 +1,5 @@
-//! Laws of the steps that are an event of the run, or end a task: each is made as a turn is given back, and keeps the rule.
+//! Laws of the steps that are an event of the run, or end a task: each is made as a turn is given back, and keeps the
+//! rule.
 
 ghost use Rattle.std.specs.Prelude.{◌≡◌, ◌<◌, ◌++◌, ℕ, ℤ, List, [], ◌∷◌, Option, None, Some, IsTrue, is_some, if◌then◌else◌};
 ghost use mathlib.Core.Option.{none};
@@ -13,7 +14,7 @@ ghost use Rattle.dep_iter.specs.Edges.{goal};
 ghost use Rattle.dep_iter.specs.Hints.{priority};
 ghost use Rattle.dep_shard.specs.Arrivals.{FlowTile};
 ghost use Rattle.dep_shard.specs.Content.{Content, Ends, KeepsAllButEntries, KeepsAllButWritten, KeepsEntriesAndWritten, Takes, Updates, Uses, entry_before, entry_of, with_arrival};
-ghost use Rattle.flow_meaning.specs.Counting.{as_number};
+ghost use Rattle.list_lemmas.specs.Counting.{as_number};
 ghost use Rattle.shard_meaning.specs.Reserve.{has_type};
 ghost use Rattle.work_board.specs.Sends.{IsNext, MayEnd, MayTrap};
 ghost use Rattle.table_rule.specs.declared.job.Job.{Job};
@@ -23,22 +24,51 @@ ghost use Rattle.table_rule.specs.Plays.{HasTurn, Seated, fires, gave_claim, gav
 ghost use Rattle.table_rule.specs.Rule.{Rule};
 ghost use Rattle.table_rule.specs.Words.{turn_word};
 
-/// A law: a pass that took the ready entry of a task out of the shard whose turn it holds may give the turn back with a claim of
-/// that task. It is told that the task ends, that the tiles of the entry are its inputs, and that it has sent no item of it.
+/// A law: a pass that took the ready entry of a task out of the shard whose turn it holds may give the turn back with a
+/// claim of that task. It is told that the task ends, that the tiles of the entry are its inputs, and that it has sent
+/// no item of it.
 pub fn a_turn_is_given_back_with_a_claim()
-    ensures { (j : Job) (n id : ℕ) (m : Seated) (k : ℕ) (t : Task) (y z : Content) (tiles : List FlowTile) → HasTurn m k y z 0 → Takes y z t tiles → Uses y.spare z.spare 0 None 0 0 → Allows (Rule j) n id m (turn_word k) (λ _. 0) (λ _. gave_claim (Some j) t tiles (step n (turn_word k) 0 0 none) m 0) }
+    ensures { (j : Job) (n id : ℕ) (m : Seated) (k : ℕ) (t : Task) (y z : Content) (tiles : List FlowTile)
+        → HasTurn m k y z 0 → Takes y z t tiles → Uses y.spare z.spare 0 None 0 0
+        → Allows (Rule j) n id m (turn_word k) (λ _. 0) (λ _.
+        gave_claim (Some j) t tiles (step n (turn_word k) 0 0 none) m 0) }
 {}
 
-/// A law: a pass may give a turn back with a send of an item of the task that it runs, which has its stamp, where the shard has the
-/// arrival or the written tile. For an edge it has a credit exactly where the target fires, and spends it.
+/// A law: a pass may give a turn back with a send of an item of the task that it runs, which has its stamp, where the
+/// shard has the arrival or the written tile. For an edge it has a credit exactly where the target fires, and spends
+/// it.
 pub fn a_turn_is_given_back_with_a_send()
-    ensures edge { (j : Job) (n id : ℕ) (m : Seated) (k : ℕ) (e : Edge) (tile : Option (List ℤ)) (y z : Content) (datatype : ℕ) → HasTurn m k y z (as_number (fires j.matched y e)) → IsNext j.matched j.given (item.Edge e) tile m.0 → shard_of j.matched j.shards e.to ≡ k → 0 < own_stamps m.0 e.from → Updates y.entries z.entries e.to (Some (with_arrival (entry_before y e.to (goal j.matched e.to) (priority j.matched e.to)) e.in_flow tile)) → KeepsAllButEntries y z → IsTrue (has_type datatype (flow_of j.matched.classes e.to.class e.in_flow)) → Uses y.spare z.spare (if is_some (entry_of y e.to) then 0 else 1) (if is_some tile then Some datatype else None) 0 0 → Allows (Rule j) n id m (turn_word k) (λ _. 0) (λ _. gave_send record { item = item.Edge e; tile = tile } (step n (turn_word k) 0 0 none) m 0) }
-    ensures write { (j : Job) (n id : ℕ) (m : Seated) (k : ℕ) (w : WriteBack) (tile : List ℤ) (y z : Content) (datatype : ℕ) → HasTurn m k y z 0 → IsNext j.matched j.given (item.Write w) (Some tile) m.0 → shard_of j.matched j.shards w.from ≡ k → 0 < own_stamps m.0 w.from → z.written ≡ y.written ++ (w, tile) ∷ [] → KeepsAllButWritten y z → IsTrue (has_type datatype (flow_of j.matched.classes w.from.class w.flow)) → Uses y.spare z.spare 0 (Some datatype) 1 0 → Allows (Rule j) n id m (turn_word k) (λ _. 0) (λ _. gave_send record { item = item.Write w; tile = Some tile } (step n (turn_word k) 0 0 none) m 0) }
+    ensures edge { (j : Job) (n id : ℕ) (m : Seated) (k : ℕ) (e : Edge) (tile : Option (List ℤ)) (y z : Content)
+        (datatype : ℕ)
+        → HasTurn m k y z (as_number (fires j.matched y e)) → IsNext j.matched j.given (item.Edge e) tile m.0
+        → shard_of j.matched j.shards e.to ≡ k → 0 < own_stamps m.0 e.from
+        → Updates y.entries z.entries e.to
+        (Some (with_arrival (entry_before y e.to (goal j.matched e.to) (priority j.matched e.to)) e.in_flow tile))
+        → KeepsAllButEntries y z → IsTrue (has_type datatype (flow_of j.matched.classes e.to.class e.in_flow))
+        → Uses y.spare z.spare (if is_some (entry_of y e.to) then 0 else 1)
+        (if is_some tile then Some datatype else None) 0 0
+        → Allows (Rule j) n id m (turn_word k) (λ _. 0) (λ _.
+        gave_send record { item = item.Edge e; tile = tile } (step n (turn_word k) 0 0 none) m 0) }
+    ensures write { (j : Job) (n id : ℕ) (m : Seated) (k : ℕ) (w : WriteBack) (tile : List ℤ) (y z : Content)
+        (datatype : ℕ)
+        → HasTurn m k y z 0 → IsNext j.matched j.given (item.Write w) (Some tile) m.0
+        → shard_of j.matched j.shards w.from ≡ k → 0 < own_stamps m.0 w.from → z.written ≡ y.written ++ (w, tile) ∷ []
+        → KeepsAllButWritten y z → IsTrue (has_type datatype (flow_of j.matched.classes w.from.class w.flow))
+        → Uses y.spare z.spare 0 (Some datatype) 1 0
+        → Allows (Rule j) n id m (turn_word k) (λ _. 0) (λ _.
+        gave_send record { item = item.Write w; tile = Some tile } (step n (turn_word k) 0 0 none) m 0) }
 {}
 
-/// A law: a pass may give the turn of its running task's shard back with the end of that task, which has its stamp: where the task
-/// has outputs and the pass has sent all its items, or where it traps and the shard has the row.
+/// A law: a pass may give the turn of its running task's shard back with the end of that task, which has its stamp:
+/// where the task has outputs and the pass has sent all its items, or where it traps and the shard has the row.
 pub fn a_turn_is_given_back_with_an_end()
-    ensures end { (j : Job) (n id : ℕ) (m : Seated) (k : ℕ) (t : Task) (y z : Content) → HasTurn m k y z 0 → MayEnd j.matched j.given t m.0 → shard_of j.matched j.shards t ≡ k → 0 < own_stamps m.0 t → Ends y z → KeepsEntriesAndWritten y z → z.trapped ≡ y.trapped → Uses y.spare z.spare 0 None 0 0 → Allows (Rule j) n id m (turn_word k) (λ _. 0) (λ _. gave_end (step n (turn_word k) 0 0 none) m 0) }
-    ensures trap { (j : Job) (n id : ℕ) (m : Seated) (k : ℕ) (t : Task) (cause : Trap) (y z : Content) → HasTurn m k y z 0 → MayTrap j.matched j.given t cause m.0 → shard_of j.matched j.shards t ≡ k → 0 < own_stamps m.0 t → Ends y z → KeepsEntriesAndWritten y z → z.trapped ≡ y.trapped ++ (t, cause) ∷ [] → Uses y.spare z.spare 0 None 0 1 → Allows (Rule j) n id m (turn_word k) (λ _. 0) (λ _. gave_end (step n (turn_word k) 0 0 none) m 0) }
+    ensures end { (j : Job) (n id : ℕ) (m : Seated) (k : ℕ) (t : Task) (y z : Content) → HasTurn m k y z 0
+        → MayEnd j.matched j.given t m.0 → shard_of j.matched j.shards t ≡ k → 0 < own_stamps m.0 t → Ends y z
+        → KeepsEntriesAndWritten y z → z.trapped ≡ y.trapped → Uses y.spare z.spare 0 None 0 0
+        → Allows (Rule j) n id m (turn_word k) (λ _. 0) (λ _. gave_end (step n (turn_word k) 0 0 none) m 0) }
+    ensures trap { (j : Job) (n id : ℕ) (m : Seated) (k : ℕ) (t : Task) (cause : Trap) (y z : Content)
+        → HasTurn m k y z 0 → MayTrap j.matched j.given t cause m.0 → shard_of j.matched j.shards t ≡ k
+        → 0 < own_stamps m.0 t → Ends y z → KeepsEntriesAndWritten y z → z.trapped ≡ y.trapped ++ (t, cause) ∷ []
+        → Uses y.spare z.spare 0 None 0 1
+        → Allows (Rule j) n id m (turn_word k) (λ _. 0) (λ _. gave_end (step n (turn_word k) 0 0 none) m 0) }
 {}

@@ -19,7 +19,8 @@ impl TableRule<Shard, PassRecord, Job> for Law {
     ghost first = { λ _. first_pass };
 }
 
-/// What a step is about. A call at `Brand` picks it, since a step is given neither the job nor the arguments of its caller.
+/// What a step is about. A call at `Brand` picks it, since a step is given neither the job nor the arguments of its
+/// caller.
 pub trait Event {
     ghost use Rattle.std.specs.Prelude.{List, Option, ℕ};
     ghost use Rattle.ptg_base.specs.Task.{Task};

@@ -65,8 +65,8 @@ fn closed_after(
     })
 }
 
-/// Claims one task of a job with three shards, and closes the table: with a task that is not ready the ready ones are left, and
-/// with one that is it runs.
+/// Claims one task of a job with three shards, and closes the table: with a task that is not ready the ready ones are
+/// left, and with one that is it runs.
 pub fn claim_and_close(
     alloc: Global,
     texts: &Texts,

@@ -1,5 +1,6 @@
-//! Plays jobs over the shared table: by one worker while two passes look on, in several orders, by several workers in threads, and
-//! up to a close before the end. It prints what the passes were answered and what the closed tables answer.
+//! Plays jobs over the shared table: by one worker while two passes look on, in several orders, by several workers in
+//! threads, and up to a close before the end. It prints what the passes were answered and what the closed tables
+//! answer.
 #![tactic(auto)]
 
 mod answer;

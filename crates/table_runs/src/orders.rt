@@ -85,7 +85,8 @@ fn work_with<R: Threads + Wait + Sync>(
     Ok(Ordered { claims, answer })
 }
 
-/// Lets one worker run a job over three shards, with the ids of these tasks of class 0 in its deque: it takes the last one first.
+/// Lets one worker run a job over three shards, with the ids of these tasks of class 0 in its deque: it takes the last
+/// one first.
 pub fn play_in_order<R: Threads + Wait + Sync>(
     rt: &R,
     alloc: Global,

@@ -7,20 +7,19 @@ use Rattle.ptg_base.specs.TaskComparing.{same_task}
 use Rattle.ptg_base.specs.TaskLaws.{same_task-decides}
 use Rattle.ptg_base.specs.declared.edge.Edge.{Edge}
 use Rattle.plan_core.specs.declared.plan.Plan.{Plan}
-use Rattle.range_space.proofs.MemberLists.{IsIn-append_left, IsIn-append_right, IsIn-flat_map, from_append, from_flat_map}
+use Rattle.list_lemmas.proofs.Members.{IsIn-append_left, IsIn-append_right, IsIn-flat_map, from_append, from_flat_map, IsIn-filter}
+use Rattle.list_lemmas.proofs.Counts.{weigh-push, length-filter}
+use Rattle.list_lemmas.proofs.Distinct.{HasNoRepeats-apart, no_longer, HasNoRepeats-filter, HasNoRepeats-part, HasNoRepeats-append, HasNoRepeats-left, onto}
 use Rattle.dep_iter.specs.Tasks.{IsTask, all_tasks}
 use Rattle.dep_iter.specs.Edges.{goal, in_edges}
 use Rattle.dep_iter.specs.Items.{out_edges}
 use Rattle.dep_iter.specs.Consistent.{IsConsistent}
 use Rattle.dep_iter.proofs.Belonging.{out_edge_is}
 use Rattle.dep_iter.proofs.Listing.{listed}
-use Rattle.flow_meaning.specs.Counting.{as_number}
+use Rattle.list_lemmas.specs.Counting.{as_number}
 use Rattle.flow_meaning.specs.Order.{IsLegalOrder}
-use Rattle.flow_meaning.proofs.Counting.{weigh-push}
 use Rattle.flow_meaning.proofs.Members.{in_edge_to}
-use Rattle.flow_meaning.proofs.Quiet.{filtered}
 use Rattle.task_order.specs.Growing.{HaveCome, MayCome, edges_to}
-use Rattle.task_order.proofs.Lists.{apart, at_most, distinct-filter, distinct_part, length-filter, once_both, once_left, onto}
 use Rattle.task_order.proofs.Orders.{legal_tasks}
 
 pub out_from : (P : Plan) (s : Task) (e : Edge) → IsIn e (out_edges P s) → e.from ≡ s
@@ -29,7 +28,7 @@ out_from P s e h = ((out_edge_is P s e).0 h).0
 -- edges that have come, and the first of them
 pub come_first : (P : Plan) (order : List Task) (es fs : List Edge) → HaveCome P order (es ++ fs) → HaveCome P order es
 come_first P order es fs h = record {
-  once = once_left es fs h.once;
+  once = HasNoRepeats-left es fs h.once;
   from = λ e i. h.from e (IsIn-append_left e es fs i);
   out = λ e i. h.out e (IsIn-append_left e es fs i);
 }
@@ -42,11 +41,11 @@ come_longer P order more es h = record { once = h.once; from = λ e i. IsIn-appe
 pub may_come : (P : Plan) (order : List Task) (es : List Edge) (e : Edge) (rest : List Edge) → HaveCome P order (es ++ e ∷ rest) → MayCome P es order e
 may_come P order es e rest h =
     let here : IsIn e (es ++ e ∷ rest) = IsIn-append_right e es (e ∷ rest) (inl refl) in
-    record { new = λ i. apart es (e ∷ rest) h.once e i (inl refl); from = h.from e here; out = h.out e here }
+    record { new = λ i. HasNoRepeats-apart es (e ∷ rest) h.once e i (inl refl); from = h.from e here; out = h.out e here }
 
 pub come_next : (P : Plan) (order : List Task) (es : List Edge) (e : Edge) → HaveCome P order es → MayCome P es order e → HaveCome P order (es ++ e ∷ [])
 come_next P order es e h may = record {
-  once = once_both es (e ∷ []) h.once ((λ i. i), tt) (λ d i j. elim j [ inl q ↦ may.new (subst (λ x. IsIn x es) q i) | inr never ↦ never ]);
+  once = HasNoRepeats-append es (e ∷ []) h.once ((λ i. i), tt) (λ d i j. elim j [ inl q ↦ may.new (subst (λ x. IsIn x es) q i) | inr never ↦ never ]);
   from = λ d i. elim (from_append d es (e ∷ []) i) [ inl old ↦ h.from d old | inr new ↦ elim new [ inl q ↦ subst (λ (x : Edge). IsIn x.from order) (sym q) may.from | inr never ↦ absurd never ] ];
   out = λ d i. elim (from_append d es (e ∷ []) i) [ inl old ↦ h.out d old | inr new ↦ elim new [ inl q ↦ subst (λ (x : Edge). IsIn x (out_edges P x.from)) (sym q) may.out | inr never ↦ absurd never ] ];
 }
@@ -67,33 +66,33 @@ module _ (P : Plan) (con : IsConsistent P) where
       subst (λ s. IsIn e (out_edges P s)) (sym (out_from P p.0 e p.2)) p.2
 
   pub ins_once : (t : Task) → IsTask P t → HasNoRepeats (in_edges P t)
-  ins_once t job = distinct_part (in_edges P) (all_tasks P) con.no_in_edge_twice t ((listed P t).0 job)
+  ins_once t job = HasNoRepeats-part (in_edges P) (all_tasks P) con.no_in_edge_twice t ((listed P t).0 job)
 
   pub outs_once : (t : Task) → IsTask P t → HasNoRepeats (out_edges P t)
-  outs_once t job = distinct_part (out_edges P) (all_tasks P) con.no_out_edge_twice t ((listed P t).0 job)
+  outs_once t job = HasNoRepeats-part (out_edges P) (all_tasks P) con.no_out_edge_twice t ((listed P t).0 job)
 
   module _ (order : List Task) (legal : IsLegalOrder P order) (came : List Edge) (h : HaveCome P order came) (t : Task) where
     these_in : (e : Edge) → IsIn e (filter (λ (d : Edge). same_task t d.to) came) → IsIn e (in_edges P t)
     these_in e i =
-        let p = (filtered (λ (d : Edge). same_task t d.to) came e).0 i in
+        let p = (IsIn-filter (λ (d : Edge). same_task t d.to) came e).0 i in
         let to : t ≡ e.to = (same_task-decides t e.to).0 p.1 in
         subst (λ u. IsIn e (in_edges P u)) (sym to) (goes_into e.from (legal_tasks P [] order legal e.from (h.from e p.0)) e (h.out e p.0))
 
     -- no more have come to a task than go into it
     pub to_at_most : edges_to t came ≤ goal P t
     to_at_most =
-        let few = at_most (filter (λ (d : Edge). same_task t d.to) came) (in_edges P t) (distinct-filter (λ (d : Edge). same_task t d.to) came h.once) these_in in
+        let few = no_longer (filter (λ (d : Edge). same_task t d.to) came) (in_edges P t) (HasNoRepeats-filter (λ (d : Edge). same_task t d.to) came h.once) these_in in
         omega (arith, few, length-filter (λ (d : Edge). same_task t d.to) came)
 
     -- where as many have come, all have
     pub all_came : goal P t ≤ edges_to t came → (e : Edge) → IsIn e (in_edges P t) → IsIn e came
     all_came enough e i =
-        let j = onto (filter (λ (d : Edge). same_task t d.to) came) (in_edges P t) (distinct-filter (λ (d : Edge). same_task t d.to) came h.once) these_in (omega (arith, enough, length-filter (λ (d : Edge). same_task t d.to) came)) e i in
-        ((filtered (λ (d : Edge). same_task t d.to) came e).0 j).0
+        let j = onto (filter (λ (d : Edge). same_task t d.to) came) (in_edges P t) (HasNoRepeats-filter (λ (d : Edge). same_task t d.to) came h.once) these_in (omega (arith, enough, length-filter (λ (d : Edge). same_task t d.to) came)) e i in
+        ((IsIn-filter (λ (d : Edge). same_task t d.to) came e).0 j).0
 
     -- and the other way round
     pub as_many : IsTask P t → ((e : Edge) → IsIn e (in_edges P t) → IsIn e came) → goal P t ≤ edges_to t came
     as_many job all =
-        let few = at_most (in_edges P t) (filter (λ (d : Edge). same_task t d.to) came) (ins_once t job)
-        (λ e i. (filtered (λ (d : Edge). same_task t d.to) came e).1 (all e i, (same_task-decides t e.to).1 (sym (in_edge_to P t e i)))) in
+        let few = no_longer (in_edges P t) (filter (λ (d : Edge). same_task t d.to) came) (ins_once t job)
+        (λ e i. (IsIn-filter (λ (d : Edge). same_task t d.to) came e).1 (all e i, (same_task-decides t e.to).1 (sym (in_edge_to P t e i)))) in
         omega (arith, few, length-filter (λ (d : Edge). same_task t d.to) came)

@@ -1,28 +1,28 @@
 -- How an order grows by edges, and where it ends.
 use Rattle.std.proofs.Common.{◌≡◌, ℕ, zero, suc, ◌+◌, length-append, ◌<◌, ◌≤◌, ◌↔◌, ◌==◌, false, List, [], ◌∷◌, ◌++◌, length, take, slice_get, refl, ap, sym, ◌∙◌, subst, append_assoc, inl, inr, Some, arith, eq-eqb, add-one}
 use Rattle.std.proofs.lemmas.Bool.{eqb-true}
-use Rattle.std.proofs.lemmas.List.{append-nil, take-append-le}
+use Rattle.std.proofs.lemmas.List.{append-nil, take-append-le, nil_from_length}
 use Rattle.ptg_base.specs.Lists.{HasNoRepeats, IsIn}
 use Rattle.ptg_base.specs.Task.{Task}
 use Rattle.ptg_base.specs.TaskComparing.{same_task}
 use Rattle.ptg_base.specs.TaskLaws.{same_task-decides}
 use Rattle.ptg_base.specs.declared.edge.Edge.{Edge}
 use Rattle.plan_core.specs.declared.plan.Plan.{Plan}
-use Rattle.range_space.proofs.MemberLists.{IsIn-append_left, IsIn-append_right, IsIn-flat_map, from_append, from_flat_map}
-use Rattle.range_space.proofs.Stepping.{by_test}
+use Rattle.list_lemmas.proofs.Members.{IsIn-append_left, IsIn-append_right, IsIn-flat_map, from_append, from_flat_map, IsIn-filter}
+use Rattle.list_lemmas.proofs.Truth.{by_test}
+use Rattle.list_lemmas.proofs.Distinct.{HasNoRepeats-apart, no_longer as at_most, HasNoRepeats-filter, HasNoRepeats-append}
+use Rattle.list_lemmas.proofs.Tasks.{distinct_once}
+use Rattle.std.proofs.lemmas.List.Concat.{flat_map-append}
 use Rattle.dep_iter.specs.Tasks.{IsTask, all_tasks}
 use Rattle.dep_iter.specs.Edges.{goal, in_edges}
 use Rattle.dep_iter.specs.Items.{out_edges}
 use Rattle.dep_iter.specs.Consistent.{IsConsistent}
-use Rattle.dep_iter.proofs.Belonging.{empty_is}
 use Rattle.dep_iter.proofs.Listing.{listed}
-use Rattle.flow_meaning.specs.Counting.{as_number}
+use Rattle.list_lemmas.specs.Counting.{as_number}
 use Rattle.flow_meaning.specs.Order.{IsLegalAfter, MayFollow}
 use Rattle.flow_meaning.proofs.Once.{tasks_once}
-use Rattle.flow_meaning.proofs.Quiet.{filtered}
 use Rattle.task_order.specs.Greatest.{IsGreatestOrder}
 use Rattle.task_order.specs.Growing.{GrowsBy, HasGrown, HaveCome, IsNext, MayCome, edges_of, edges_to, lacking, without_sources}
-use Rattle.task_order.proofs.Lists.{apart, at_most, distinct-filter, distinct_once, flat_map-append, once_both}
 use Rattle.task_order.proofs.Orders.{legal_once, legal_push, legal_tasks}
 use Rattle.task_order.proofs.Coming.{all_came, as_many, come_first, come_longer, come_next, comes_from, may_come, out_from, outs_once, to_at_most, to_push}
 
@@ -131,7 +131,7 @@ module _ (P : Plan) (con : IsConsistent P) where
       let job = legal_tasks P [] order g.legal t next.member in
       let from : (e : Edge) → IsIn e (out_edges P t) → e.from ≡ t = λ e i. out_from P t e i in
       record {
-        once = once_both came (out_edges P t) g.edges.once (outs_once P con t job) (λ e i j. next.new e i (from e j));
+        once = HasNoRepeats-append came (out_edges P t) g.edges.once (outs_once P con t job) (λ e i j. next.new e i (from e j));
         from = λ e i. elim (from_append e came (out_edges P t) i) [ inl old ↦ g.edges.from e old | inr here ↦ subst (λ s. IsIn s order) (sym (from e here)) next.member ];
         out = λ e i. elim (from_append e came (out_edges P t) i) [ inl old ↦ g.edges.out e old | inr here ↦ subst (λ s. IsIn e (out_edges P s)) (sym (from e here)) here ];
       }
@@ -141,7 +141,7 @@ module _ (P : Plan) (con : IsConsistent P) where
   legal_roots before [] once h = tt
   legal_roots before (t ∷ ts) once h =
       let here = h t (inl refl) in
-      let may : MayFollow P before t = record { task = here.0; first_time = here.2; after_sources = λ e i. absurd (subst (IsIn e) (empty_is (in_edges P t) here.1) i) } in (
+      let may : MayFollow P before t = record { task = here.0; first_time = here.2; after_sources = λ e i. absurd (subst (IsIn e) (nil_from_length (in_edges P t) here.1) i) } in (
         may,
         legal_roots (before ++ t ∷ []) ts once.1 (λ u i.
             let there = h u (inr i) in (
@@ -156,13 +156,13 @@ module _ (P : Plan) (con : IsConsistent P) where
 
   root_is : (t : Task) → IsIn t (without_sources P (all_tasks P)) ↔ (IsIn t (all_tasks P) × (goal P t ≡ 0))
   root_is t =
-      let f = filtered (λ u. goal P u == 0) (all_tasks P) t in
+      let f = IsIn-filter (λ u. goal P u == 0) (all_tasks P) t in
       (λ i. let p = f.0 i in (p.0, eqb-true (goal P t) 0 p.1), λ p. f.1 (p.0, eq-eqb (goal P t) 0 p.1))
 
   -- the order before an edge has come
   pub opened : (order : List Task) → order ≡ without_sources P (all_tasks P) → HasGrown P [] order []
   opened order is = subst (λ l. HasGrown P [] l []) (sym is) (record {
-    legal = legal_roots [] (without_sources P (all_tasks P)) (distinct-filter (λ u. goal P u == 0) (all_tasks P) (distinct_once (all_tasks P) (tasks_once P)))
+    legal = legal_roots [] (without_sources P (all_tasks P)) (HasNoRepeats-filter (λ u. goal P u == 0) (all_tasks P) (distinct_once (all_tasks P) (tasks_once P)))
         (λ t i. let p = (root_is t).0 i in ((listed P t).1 p.0, p.1, λ j. j));
     edges = record { once = tt; from = λ e i. absurd i; out = λ e i. absurd i };
     counts = λ t job. omega arith;
@@ -190,7 +190,7 @@ module _ (P : Plan) (con : IsConsistent P) where
         member = subst (IsIn t) (sym p.1) (IsIn-append_right t (take n order) (t ∷ p.0) (inl refl));
         new = λ e i same.
             let q = from_flat_map (out_edges P) (take n order) e i in
-            apart (take n order) (t ∷ p.0) split t (subst (λ u. IsIn u (take n order)) (sym (out_from P q.0 e q.2) ∙ same) q.1) (inl refl);
+            HasNoRepeats-apart (take n order) (t ∷ p.0) split t (subst (λ u. IsIn u (take n order)) (sym (out_from P q.0 e q.2) ∙ same) q.1) (inl refl);
       }
 
   -- and then one more has passed
@@ -224,10 +224,3 @@ module _ (P : Plan) (con : IsConsistent P) where
         let enough = as_many P con order g.legal (edges_of P order) g.edges t may.task all in
         may.first_time ((g.ready t may.task).1 (omega (arith, enough, g.counts t may.task)));
   }
-
--- all of a list
-pub take_whole : {A : Type 0} (n : ℕ) (xs : List A) → length xs ≤ n → take n xs ≡ xs
-take_whole zero [] h = refl
-take_whole zero (x ∷ xs) h = absurd (omega arith)
-take_whole (suc n) [] h = refl
-take_whole (suc n) (x ∷ xs) h = ap (λ l. x ∷ l) (take_whole n xs (omega arith))

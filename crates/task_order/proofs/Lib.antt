@@ -1,4 +1,3 @@
-pub mod Lists
 pub mod Orders
 pub mod Coming
 pub mod Grown

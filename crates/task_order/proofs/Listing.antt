@@ -1,12 +1,13 @@
 -- The tasks of a class, listed one after another where no edge goes into them.
-use Rattle.std.proofs.Common.{◌≡◌, ℕ, zero, suc, ◌+◌, IsSomeAnd, ◌<◌, ◌≤◌, ◌==◌, ℤ, Bool, true, false, cond, List, [], ◌∷◌, ◌++◌, length, map, drop, slice_get, refl, ap, sym, ◌∙◌, subst, append_assoc, add-one, Some, inl, arith, Result, Ok, Err, OnOk}
+use Rattle.std.proofs.Common.{◌≡◌, ℕ, ◌+◌, IsSomeAnd, ◌<◌, ◌≤◌, ◌==◌, ℤ, List, [], ◌∷◌, ◌++◌, length, map, drop, slice_get, refl, ap, sym, ◌∙◌, subst, append_assoc, add-one, Some, inl}
 use Rattle.std.proofs.lemmas.List.{append-nil, drop_all}
-use Rattle.std.specs.List.{filter}
 use Rattle.ptg_base.specs.Lists.{IsIn}
 use Rattle.ptg_base.specs.Task.{Task}
 use Rattle.term_core.specs.declared.space.ClassSpace.{ClassSpace}
 use Rattle.range_space.specs.Tasks.{tasks}
-use Rattle.range_space.proofs.MemberLists.{IsIn-append_right, from_map}
+use Rattle.list_lemmas.proofs.Members.{IsIn-append_right, from_map}
+use Rattle.std.proofs.lemmas.List.Elements.{filter-append}
+use Rattle.list_lemmas.proofs.Places.{slice_get_there, drop_from}
 use Rattle.plan_core.specs.declared.plan.Plan.{Plan}
 use Rattle.dep_iter.specs.Tasks.{IsTask, task, tasks_from}
 use Rattle.dep_iter.specs.Edges.{goal}
@@ -20,14 +21,6 @@ pub record IsListing (P : Plan) (all left old new : List Task) : Type 0 where
 
 pub list_start : (P : Plan) (all old : List Task) → IsListing P all all old old
 list_start P all old = record { listed = []; split = refl; order = sym (append-nil old) }
-
-filter-append : {A : Type 0} (p : A → Bool) (xs ys : List A) → filter p (xs ++ ys) ≡ filter p xs ++ filter p ys
-filter-append p [] ys = refl
-filter-append {A} p (x ∷ xs) ys = by (p x) (filter-append p xs ys)
-  where
-    by : (b : Bool) → filter p (xs ++ ys) ≡ filter p xs ++ filter p ys → cond b (x ∷ filter p (xs ++ ys)) (filter p (xs ++ ys)) ≡ cond b (x ∷ filter p xs) (filter p xs) ++ filter p ys
-    by true e = ap (λ l. x ∷ l) e
-    by false e = e
 
 pub list_next : (P : Plan) (all left : List Task) (t : Task) (old mid new : List Task) → IsListing P all (t ∷ left) old mid → new ≡ mid ++ without_sources P (t ∷ []) → IsListing P all left old new
 list_next P all left t old mid new w e = record {
@@ -48,25 +41,14 @@ class_task P class s here all left params old new is w =
     let there = from_map (task class) all (task class params) among in
     subst (IsTask P) (sym there.2) (subst (λ o. IsSomeAnd o (λ (x : ClassSpace). IsIn there.0 (tasks x))) (sym here) (subst (IsIn there.0) is there.1))
 
--- a list has an element at each index below its length, and it comes first where the list is dropped up to there
-pub at_least_one : {A : Type 0} (xs : List A) (k : ℕ) → k < length xs → (x : A) × (slice_get xs k ≡ Some x)
-at_least_one [] k h = absurd (omega arith)
-at_least_one (x ∷ xs) zero h = (x, refl)
-at_least_one (x ∷ xs) (suc k) h = at_least_one xs k (omega arith)
-
-pub drop_at : {A : Type 0} (xs : List A) (k : ℕ) (x : A) → slice_get xs k ≡ Some x → drop k xs ≡ x ∷ drop (suc k) xs
-drop_at [] k x h = cc
-drop_at (y ∷ xs) zero x h = let e : y ≡ x = cc in ap (λ z. z ∷ xs) e
-drop_at (y ∷ xs) (suc k) x h = drop_at xs k x h
-
 -- the tasks of a class, and those of the classes after it
 pub class_then : (P : Plan) (class : ℕ) (ss : List ClassSpace) (a b c : List Task) → class < length P.spaces → drop class P.spaces ≡ ss
     → ((s : ClassSpace) → slice_get P.spaces class ≡ Some s → b ≡ a ++ without_sources P (map (task class) (tasks s)))
     → ((rest : List ClassSpace) → drop (class + 1) P.spaces ≡ rest → c ≡ b ++ without_sources P (tasks_from (class + 1) rest)) → c ≡ a ++ without_sources P (tasks_from class ss)
 class_then P class ss a b c lt e first later =
-    let found = at_least_one P.spaces class lt in
+    let found = slice_get_there P.spaces class lt in
     let rest = drop (class + 1) P.spaces in
-    let split : found.0 ∷ rest ≡ ss = ap (λ k. found.0 ∷ drop k P.spaces) (add-one class) ∙ sym (drop_at P.spaces class found.0 found.1) ∙ e in
+    let split : found.0 ∷ rest ≡ ss = ap (λ k. found.0 ∷ drop k P.spaces) (add-one class) ∙ sym (drop_from P.spaces class found.0 found.1) ∙ e in
     let here = map (task class) (tasks found.0) in
     later rest refl ∙ ap (λ l. l ++ without_sources P (tasks_from (class + 1) rest)) (first found.0 found.1)
     ∙ append_assoc a (without_sources P here) (without_sources P (tasks_from (class + 1) rest))
@@ -77,8 +59,3 @@ class_then P class ss a b c lt e first later =
 -- no class is left
 pub no_class : (P : Plan) (class : ℕ) (ss : List ClassSpace) (a : List Task) → length P.spaces ≤ class → drop class P.spaces ≡ ss → a ≡ a ++ without_sources P (tasks_from class ss)
 no_class P class ss a ge e = subst (λ l. a ≡ a ++ without_sources P (tasks_from class l)) (sym (drop_all class P.spaces ge) ∙ e) (sym (append-nil a))
-
--- what follows where a call succeeds
-pub on_ok_then : {T E P Q : Type 0} (r : Result T E) → (P → Q) → OnOk r P → OnOk r Q
-on_ok_then (Ok x) f h = f h
-on_ok_then (Err e) f h = h

@@ -1,9 +1,9 @@
 -- Where no task traps, a greatest legal order has the tasks that run.
-use Rattle.std.proofs.Common.{◌≡◌, ℕ, zero, suc, ◌≤◌, ◌↔◌, Bool, true, false, cond, List, [], ◌∷◌, ◌++◌, length, refl, ap, sym, ◌∙◌, subst, inl, inr, Option, Some, None, Ok, Err, is_some, arith}
+use Rattle.std.proofs.Common.{◌≡◌, ℕ, zero, suc, ◌↔◌, Bool, true, false, cond, List, [], ◌∷◌, ◌++◌, length, refl, ap, sym, ◌∙◌, subst, inl, inr, Option, Some, None, Ok, Err, is_some, arith}
 use Rattle.std.proofs.lemmas.Bool.{false≢true}
 use Rattle.std.specs.List.{filter, flat_map}
 use Rattle.std.specs.Prelude.{option_map}
-use Rattle.ptg_base.specs.Lists.{HasNoRepeats, IsIn}
+use Rattle.ptg_base.specs.Lists.{IsIn}
 use Rattle.ptg_base.specs.Task.{Task}
 use Rattle.ptg_base.specs.TaskComparing.{same_task}
 use Rattle.ptg_base.specs.TaskLaws.{same_task-decides}
@@ -13,29 +13,28 @@ use Rattle.plan_core.specs.declared.plan.Plan.{Plan}
 use Rattle.plan_core.specs.declared.class.ClassPlan.{ClassPlan}
 use Rattle.coll_data.specs.Data.{Data}
 use Rattle.body_eval.specs.Meaning.{body_meaning}
-use Rattle.range_space.proofs.MemberLists.{IsIn-flat_map, from_append}
-use Rattle.range_space.proofs.Stepping.{by_test}
+use Rattle.list_lemmas.proofs.Members.{IsIn-flat_map, from_append, member_passes, list_all-from_members, IsIn-filter}
+use Rattle.list_lemmas.proofs.Counts.{count-some, same_counts}
+use Rattle.list_lemmas.proofs.Options.{some_value}
+use Rattle.list_lemmas.proofs.Distinct.{HasNoRepeats-filter}
+use Rattle.list_lemmas.proofs.Tasks.{distinct_once, member_or_not, uncounted, once_each}
 use Rattle.dep_iter.specs.Tasks.{IsTask, all_tasks, locals_of}
 use Rattle.dep_iter.specs.Edges.{in_edges}
 use Rattle.dep_iter.specs.Consistent.{IsConsistent}
 use Rattle.dep_iter.proofs.Listing.{listed}
 use Rattle.flow_meaning.specs.declared.outcome.TrapRow.{TrapRow}
-use Rattle.flow_meaning.specs.Counting.{HasSameMembers, as_number, count}
+use Rattle.list_lemmas.specs.Counting.{HasSameMembers, count}
 use Rattle.flow_meaning.specs.Starting.{starting_tiles}
 use Rattle.flow_meaning.specs.Ending.{Ended, ended_on, has_outputs}
 use Rattle.flow_meaning.specs.Backward.{ended, ended_within, has_all_sources, source_tile}
 use Rattle.flow_meaning.specs.Answer.{ran, trap_rows, trapped}
 use Rattle.flow_meaning.specs.Order.{IsLegalAfter}
-use Rattle.flow_meaning.proofs.Counting.{count-some}
-use Rattle.flow_meaning.proofs.Counts.{same_counts}
-use Rattle.flow_meaning.proofs.Enough.{fixed, with_outputs, with_some}
-use Rattle.flow_meaning.proofs.Members.{all_at, all_from, source_is_task}
+use Rattle.flow_meaning.proofs.Enough.{fixed, with_outputs}
+use Rattle.flow_meaning.proofs.Members.{source_is_task}
 use Rattle.flow_meaning.proofs.Once.{tasks_once}
-use Rattle.flow_meaning.proofs.Quiet.{filtered}
 use Rattle.flow_meaning.proofs.Rounds.{has_sources}
 use Rattle.flow_meaning.proofs.SourceEdges.{class_of}
 use Rattle.task_order.specs.Greatest.{IsGreatestOrder}
-use Rattle.task_order.proofs.Lists.{distinct-filter, distinct_once, member_or_not}
 use Rattle.task_order.proofs.Orders.{joins, legal_once, legal_tasks}
 
 -- a list that is put in order is not empty where the list is not
@@ -50,21 +49,6 @@ not_empty (x ∷ rows) r i e = inserted (in_task_order (λ (y : TrapRow). y.task
         by : (b : Bool) → cond b (y ∷ insert_by (λ (z : TrapRow). z.task) x ys) (x ∷ y ∷ ys) ≡ [] → ⊥
         by true k = cc
         by false k = cc
-
--- how often a task is listed
-uncounted : (t : Task) (ts : List Task) → (IsIn t ts → ⊥) → count (same_task t) ts ≡ 0
-uncounted t [] absent = refl
-uncounted t (u ∷ us) absent =
-    by_test (same_task t u)
-    (λ k. absurd (absent (inl ((same_task-decides t u).0 k))))
-    (λ k. omega (arith, ap as_number k, uncounted t us (λ i. absent (inr i))))
-
-pub once_each : (ts : List Task) → HasNoRepeats ts → (t : Task) → count (same_task t) ts ≤ 1
-once_each [] h t = omega arith
-once_each (u ∷ us) h t =
-    by_test (same_task t u)
-    (λ k. omega (arith, ap as_number k, uncounted t us (λ i. h.0 (subst (λ v. IsIn v us) ((same_task-decides t u).0 k) i))))
-    (λ k. omega (arith, ap as_number k, once_each us h.1 t))
 
 module _ (P : Plan) (G : Data) (con : IsConsistent P) (calm : trapped P G ≡ []) where
   -- a task that ends has outputs
@@ -84,7 +68,7 @@ module _ (P : Plan) (G : Data) (con : IsConsistent P) (calm : trapped P G ≡ []
   ends_after : (t : Task) → IsTask P t → ((e : Edge) → IsIn e (in_edges P t) → has_outputs (ended P G e.from) ≡ true) → is_some (ended P G t) ≡ true
   unfolding ended_on
   ends_after t job sources =
-      let all : has_all_sources P (ended P G) t ≡ true = all_from (λ (e : Edge). has_outputs (ended P G e.from)) (in_edges P t) sources in
+      let all : has_all_sources P (ended P G) t ≡ true = list_all-from_members (λ (e : Edge). has_outputs (ended P G e.from)) (in_edges P t) sources in
       let h = class_of P t job in
       ap is_some (fixed P G con t job ∙ ap (λ b. cond b (ended_on P G (source_tile (ended P G)) t) None) all
       ∙ ap (λ o. option_map (λ (c : ClassPlan). body_meaning c.body (locals_of P t) (starting_tiles P G (source_tile (ended P G)) t)) o) h.class_is)
@@ -111,7 +95,7 @@ module _ (P : Plan) (G : Data) (con : IsConsistent P) (calm : trapped P G ≡ []
     within (suc n) t job v e =
         let all = has_sources P G con t job (ended_within P G n) v e in
         joins P ts g t job (λ d i.
-        let o = with_outputs (ended_within P G n d.from) (all_at (λ (d : Edge). has_outputs (ended_within P G n d.from)) (in_edges P t) all d i) in
+        let o = with_outputs (ended_within P G n d.from) (member_passes (λ (d : Edge). has_outputs (ended_within P G n d.from)) (in_edges P t) all d i) in
         within n d.from (source_is_task P con t job d i) o.0 o.1)
 
     pub member_ends : (t : Task) → IsIn t ts → is_some (ended P G t) ≡ true
@@ -119,13 +103,13 @@ module _ (P : Plan) (G : Data) (con : IsConsistent P) (calm : trapped P G ≡ []
 
     pub ends_member : (t : Task) → IsTask P t → is_some (ended P G t) ≡ true → IsIn t ts
     unfolding ended
-    ends_member t job h = let o = with_some (ended P G t) h in within (length (all_tasks P)) t job o.0 o.1
+    ends_member t job h = let o = some_value (ended P G t) h in within (length (all_tasks P)) t job o.0 o.1
 
     -- the members are the tasks that run
     pub members_ran : (t : Task) → IsIn t ts ↔ IsIn t (ran P G)
     unfolding ran
     members_ran t =
-        let f = filtered (λ u. is_some (ended P G u)) (all_tasks P) t in (
+        let f = IsIn-filter (λ u. is_some (ended P G u)) (all_tasks P) t in (
           λ i. f.1 ((listed P t).0 (legal_tasks P [] ts g.legal t i), member_ends t i),
           λ i. let p = f.0 i in ends_member t ((listed P t).1 p.0) p.1,
         )
@@ -134,7 +118,7 @@ module _ (P : Plan) (G : Data) (con : IsConsistent P) (calm : trapped P G ≡ []
     same_count : (t : Task) → count (same_task t) ts ≡ count (same_task t) (ran P G)
     unfolding ran
     same_count t =
-        let there = once_each (filter (λ u. is_some (ended P G u)) (all_tasks P)) (distinct-filter (λ u. is_some (ended P G u)) (all_tasks P) (distinct_once (all_tasks P) (tasks_once P))) t in
+        let there = once_each (filter (λ u. is_some (ended P G u)) (all_tasks P)) (HasNoRepeats-filter (λ u. is_some (ended P G u)) (all_tasks P) (distinct_once (all_tasks P) (tasks_once P))) t in
         let here = once_each ts (legal_once P [] ts g.legal) t in
         elim (member_or_not t ts) [
           | inl i ↦ omega (arith, here, there, count-some (same_task t) ts t i ((same_task-decides t t).1 refl), count-some (same_task t) (ran P G) t ((members_ran t).0 i) ((same_task-decides t t).1 refl))

@@ -1,4 +1,5 @@
--- Greatest legal orders. Source: the usual topological order, gone on with for as long as a task has all its sources in it.
+-- Greatest legal orders. Source: the usual topological order, gone on with for as long as a task has all its sources in
+-- it.
 use Rattle.std.specs.Prelude.{List}
 use Rattle.ptg_base.specs.Task.{Task}
 use Rattle.plan_core.specs.declared.plan.Plan.{Plan}

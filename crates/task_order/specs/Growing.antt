@@ -1,4 +1,5 @@
--- An order that grows: the edges out of its tasks come to their targets one after another, and a task joins once all edges into it have come. Source: the usual way to sort a graph topologically, by counts of edges.
+-- An order that grows: the edges out of its tasks come to their targets one after another, and a task joins once all
+-- edges into it have come. Source: the usual way to sort a graph topologically, by counts of edges.
 use Rattle.std.specs.Prelude.{◌≡◌, ◌+◌, ◌↔◌, ℕ, ◌==◌, List, ◌++◌, unwrap_or}
 use Rattle.std.specs.List.{filter, flat_map}
 use Rattle.std.specs.Map.{lookup}
@@ -10,7 +11,7 @@ use Rattle.plan_core.specs.declared.plan.Plan.{Plan}
 use Rattle.dep_iter.specs.Tasks.{IsTask}
 use Rattle.dep_iter.specs.Edges.{goal}
 use Rattle.dep_iter.specs.Items.{out_edges}
-use Rattle.flow_meaning.specs.Counting.{count}
+use Rattle.list_lemmas.specs.Counting.{count}
 use Rattle.flow_meaning.specs.Order.{IsLegalOrder}
 
 -- the edges out of these tasks
@@ -35,7 +36,8 @@ pub record HaveCome (P : Plan) (order : List Task) (came : List Edge) : Type 0 w
   pub from : (e : Edge) → IsIn e came → IsIn e.from order
   pub out : (e : Edge) → IsIn e came → IsIn e (out_edges P e.from)
 
--- an order after these edges have come: it has the tasks that lack no edge, and the table has how many edges the others lack
+-- an order after these edges have come: it has the tasks that lack no edge, and the table has how many edges the others
+-- lack
 pub record HasGrown (P : Plan) (came : List Edge) (order : List Task) (table : List (Task × ℕ)) : Type 0 where
   pub legal : IsLegalOrder P order
   pub edges : HaveCome P order came
@@ -57,4 +59,5 @@ pub record IsNext (P : Plan) (came : List Edge) (order : List Task) (t : Task) :
 pub record GrowsBy (P : Plan) (edges : List Edge) (old : List Task) (old_table : List (Task × ℕ)) (new : List Task) (new_table : List (Task × ℕ)) : Type 0 where
   pub more : List Task
   pub extends : new ≡ old ++ more
-  pub grown : (came : List Edge) → HasGrown P came old old_table → HaveCome P old (came ++ edges) → HasGrown P (came ++ edges) new new_table
+  pub grown : (came : List Edge) → HasGrown P came old old_table → HaveCome P old (came ++ edges)
+      → HasGrown P (came ++ edges) new new_table

@@ -34,8 +34,11 @@ pub(crate) fn start(alloc: Global, m: &Matched) -> Result<Growing, OutOfMemory>
 
 // Lets an edge come to the task that it goes to, which joins the order if it lacks no other.
 fn let_come(growing: &mut Growing, m: &Matched, edge: &Edge) -> Result<(), OutOfMemory>
-    requires { (came : List EdgeValue) × HasGrown m.now came growing.old.order.items growing.old.lacking.entries × MayCome m.now came growing.old.order.items edge.now }
-    ensures { OnOk result (GrowsBy m.now (edge.now ∷ []) growing.old.order.items growing.old.lacking.entries growing.new.order.items growing.new.lacking.entries) }
+    requires { (came : List EdgeValue) × HasGrown m.now came growing.old.order.items growing.old.lacking.entries
+        × MayCome m.now came growing.old.order.items edge.now }
+    ensures { OnOk result
+        (GrowsBy m.now (edge.now ∷ []) growing.old.order.items growing.old.lacking.entries growing.new.order.items
+        growing.new.lacking.entries) }
 {
     let _ = m.plan();
     let left = note_edge(&mut growing.lacking, m, &edge.to)?;
@@ -47,8 +50,11 @@ fn let_come(growing: &mut Growing, m: &Matched, edge: &Edge) -> Result<(), OutOf
 
 // Lets all edges out of a task of the order come.
 pub(crate) fn pass(growing: &mut Growing, m: &Matched, t: &TaskId) -> Result<(), OutOfMemory>
-    requires { (came : List EdgeValue) × HasGrown m.now came growing.old.order.items growing.old.lacking.entries × IsNext m.now came growing.old.order.items t.now }
-    ensures { OnOk result (GrowsBy m.now (items.out_edges m.now t.now) growing.old.order.items growing.old.lacking.entries growing.new.order.items growing.new.lacking.entries) }
+    requires { (came : List EdgeValue) × HasGrown m.now came growing.old.order.items growing.old.lacking.entries
+        × IsNext m.now came growing.old.order.items t.now }
+    ensures { OnOk result
+        (GrowsBy m.now (items.out_edges m.now t.now) growing.old.order.items growing.old.lacking.entries
+        growing.new.order.items growing.new.lacking.entries) }
 {
     for edge in out_edges(m.plan(), t) {
         let_come(growing, m, &edge)?;

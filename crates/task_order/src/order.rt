@@ -8,7 +8,8 @@ use dep_iter::Matched;
 use ptg_base::{OutOfMemory, Seq, TaskId};
 use std::alloc::Global;
 
-/// A greatest legal order of the tasks of a job: each task comes after all sources of the edges into it, and no other task may follow.
+/// A greatest legal order of the tasks of a job: each task comes after all sources of the edges into it, and no other
+/// task may follow.
 pub fn order_of(alloc: Global, m: &Matched) -> Result<Seq<TaskId>, OutOfMemory>
     ensures { IfOk result (λ order. IsGreatestOrder m.now order) }
 {

@@ -37,7 +37,9 @@ fn space_of(m: &Matched, class: u32) -> &ClassSpace
 // Adds the tasks of a class that no edge goes into.
 fn push_roots_of(order: &mut Vec<TaskId>, m: &Matched, class: u32) -> Result<(), OutOfMemory>
     requires { class < length m.now.classes }
-    ensures { OnOk result ((s : ClassSpaceValue) → slice_get m.now.spaces class ≡ Some s → order.new.items ≡ order.old.items ++ without_sources m.now (map (task class) (range.tasks s))) }
+    ensures { OnOk result
+        ((s : ClassSpaceValue) → slice_get m.now.spaces class ≡ Some s
+        → order.new.items ≡ order.old.items ++ without_sources m.now (map (task class) (range.tasks s))) }
 {
     let space = space_of(m, class);
     for params in Space::new(space) {
@@ -53,7 +55,9 @@ pub(crate) fn push_roots(
     m: &Matched,
     class: u32,
 ) -> Result<(), OutOfMemory>
-    ensures { OnOk result ((ss : List ClassSpaceValue) → drop class m.now.spaces ≡ ss → order.new.items ≡ order.old.items ++ without_sources m.now (tasks_from class ss)) }
+    ensures { OnOk result
+        ((ss : List ClassSpaceValue) → drop class m.now.spaces ≡ ss
+        → order.new.items ≡ order.old.items ++ without_sources m.now (tasks_from class ss)) }
 {
     if class as usize >= m.plan().classes.len() {
         return Ok(());

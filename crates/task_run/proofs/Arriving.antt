@@ -14,19 +14,15 @@ use Rattle.dep_iter.specs.Tasks.{flows_of}
 use Rattle.dep_shard.specs.Arrivals.{FlowTile, tile_of, without_tile}
 use Rattle.flow_meaning.specs.Starting.{Delivery, delivered_from, delivered_tile, delivered_tiles, delivered_to, starting_tile, tile_from}
 use Rattle.task_run.specs.Start.{without_edges}
-
-same : (n : ℕ) → nat_eq n n ≡ true
-same n = grind (arith, nat_tests)
-
-differ : (m n : ℕ) → m ≢ n → nat_eq m n ≡ false
-differ m n h = grind (arith, nat_tests)
+use Rattle.list_lemmas.proofs.Numbers.{eqb-self}
+use Rattle.std.proofs.lemmas.Bool.{ne_eqb}
 
 -- the first of the tiles is of this flow, or it is not
 found : (n : ℕ) (x : List ℤ) (ts : List FlowTile) → tile_of ((n, x) ∷ ts) n ≡ Some x
-found n x ts = ap (λ b. cond b (Some x) (tile_of ts n)) (same n)
+found n x ts = ap (λ b. cond b (Some x) (tile_of ts n)) (eqb-self n)
 
 passed : (m n : ℕ) (x : List ℤ) (ts : List FlowTile) → m ≢ n → tile_of ((n, x) ∷ ts) m ≡ tile_of ts m
-passed m n x ts h = ap (λ b. cond b (Some x) (tile_of ts m)) (differ m n h)
+passed m n x ts h = ap (λ b. cond b (Some x) (tile_of ts m)) (ne_eqb m n h)
 
 -- the tile of another flow stays when one is taken
 pub others_stay : (m n : ℕ) (ts : List FlowTile) → m ≢ n → tile_of (without_tile n ts) m ≡ tile_of ts m

@@ -12,7 +12,7 @@ use Rattle.body_eval.specs.Meaning.{body_meaning}
 use Rattle.range_space.specs.Locals.{IsLocalsOf}
 use Rattle.range_space.specs.Tasks.{all_locals, params_of, tasks}
 use Rattle.range_space.proofs.Distinct.{one_locals}
-use Rattle.range_space.proofs.MemberLists.{from_map, length-locals, locals_from_full}
+use Rattle.range_space.proofs.MemberLists.{length-locals, locals_from_full}
 use Rattle.plan_core.specs.declared.class.ClassPlan.{ClassPlan}
 use Rattle.plan_core.specs.declared.flow.FlowPlan.{FlowPlan}
 use Rattle.plan_core.specs.declared.plan.Plan.{Plan}
@@ -26,6 +26,7 @@ use Rattle.flow_meaning.specs.Backward.{ended, has_all_sources, source_tile}
 use Rattle.flow_meaning.proofs.Enough.{fixed}
 use Rattle.flow_meaning.proofs.SourceEdges.{class_of}
 use Rattle.task_run.specs.Start.{delivered}
+use Rattle.list_lemmas.proofs.Members.{from_map}
 
 tiles_each : (P : Plan) (G : Data) (d : Delivery) (t : Task) (n : ℕ) (fs : List FlowPlan) → length (tiles_from P G d t n fs) ≡ length fs
 tiles_each P G d t n [] = refl

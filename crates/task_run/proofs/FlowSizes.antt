@@ -1,9 +1,7 @@
 -- The types of the flows of a task, and the sizes of the tiles that they read.
-use Rattle.std.proofs.Common.{◌≡◌, ℕ, zero, suc, ◌<◌, ◌≤◌, Bool, true, false, eqb, List, [], ◌∷◌, length, ap, sym, ◌∙◌, subst, nat_lt, Option, Some, None, slice_get, slice_index, arith}
-use Rattle.std.proofs.lemmas.Bool.{and_parts, eqb-true, false≢true}
-use Rattle.std.proofs.lemmas.Bool.Decides.{nat_tests}
+use Rattle.std.proofs.Common.{◌≡◌, ℕ, ◌<◌, ◌≤◌, true, false, eqb, List, [], length, ap, sym, ◌∙◌, Option, Some, None, slice_get, slice_index, arith}
+use Rattle.std.proofs.lemmas.Bool.{and_parts, eqb-true, false≢true, ltb-true}
 use Rattle.std.specs.Option.{option_map_or}
-use Rattle.std.specs.List.{list_all}
 use Rattle.std.specs.Prelude.{IfSome}
 use Rattle.ptg_base.specs.Task.{Task}
 use Rattle.ptg_base.specs.declared.place.Place.{Place}
@@ -21,22 +19,12 @@ use Rattle.dep_iter.specs.Edges.{data_source}
 use Rattle.dep_iter.specs.Consistent.{IsConsistent}
 use Rattle.flow_meaning.proofs.SourceEdges.{class_of}
 use Rattle.flow_meaning.proofs.Sizes.{coll_type}
-
--- what holds of each member holds of the one at a place
-each_at : {A : Type 0} (test : A → Bool) (xs : List A) (n : ℕ) (x : A) → list_all test xs ≡ true → slice_get xs n ≡ Some x → test x ≡ true
-each_at test [] n x all is = absurd cc
-each_at test (y ∷ ys) zero x all is =
-    let same : y ≡ x = cc in
-    subst (λ z. test z ≡ true) same (and_parts (test y) (list_all test ys) all).0
-each_at test (y ∷ ys) (suc n) x all is = each_at test ys n x (and_parts (test y) (list_all test ys) all).1 is
-
-below : (n types : ℕ) → nat_lt n types ≡ true → n < types
-below n types h = grind (arith, nat_tests)
+use Rattle.list_lemmas.proofs.Places.{passes_at}
 
 known_type : (types : ℕ) (k : FlowKind) (n : ℕ) → 1 ≤ types → is_datatype types k n ≡ true → n < types
-known_type types Read n some h = below n types h
-known_type types Write n some h = below n types h
-known_type types Rw n some h = below n types h
+known_type types Read n some h = ltb-true n types h
+known_type types Write n some h = ltb-true n types h
+known_type types Rw n some h = ltb-true n types h
 known_type types Ctl n some h = omega (arith, eqb-true n 0 h)
 
 -- the type of a flow is one of the plan's
@@ -45,7 +33,7 @@ known P t n f job here =
     let h = class_of P t job in
     let w = P.well_made.fit t.class h.class h.space h.class_is h.space_is in
     let among : slice_get h.class.flows n ≡ Some f = sym (ap (λ o. slice_get (option_map_or (λ (c : ClassPlan). c.flows) o []) n) h.class_is) ∙ here in
-    let flow = each_at (is_flow P.classes P.spaces P.colls (length P.elems) (length h.space.defs)) h.class.flows n f w.flows among in
+    let flow = passes_at (is_flow P.classes P.spaces P.colls (length P.elems) (length h.space.defs)) h.class.flows n f w.flows among in
     known_type (length P.elems) f.kind f.datatype P.well_made.has_default (and_parts _ _ (and_parts _ _ (and_parts _ _ flow).0).0).0
 
 -- a tile that a flow reads from a place is of the type of the flow

@@ -1,10 +1,10 @@
 -- The tiles on a bench, one after another.
 use Rattle.std.proofs.Common.{◌≡◌, ℕ, zero, suc, ◌+◌, ◌-◌, ◌<◌, ◌≤◌, ℤ, List, [], ◌∷◌, ◌++◌, length, refl, ap, sym, ◌∙◌, subst, take, drop, Option, Some, None, slice_get, slice_index, slice_index_or, slice_set, Result, Ok, Err, arith}
-use Rattle.std.specs.Prelude.{option_map, OnOk, IfErr}
+use Rattle.std.specs.Prelude.{option_map, IfErr}
 use Rattle.std.proofs.Math.ListN.{get_or-append}
 use Rattle.std.proofs.Math.Seq.{take-append_seam}
 use Rattle.std.proofs.Common.{length-append, length-drop}
-use Rattle.std.proofs.lemmas.List.{get_or-take}
+use Rattle.std.proofs.lemmas.List.{get_or-take, length-take-le}
 use Rattle.std.proofs.lemmas.Option.{get_or_from_slice_get, slice_get_read, slice_get_within}
 use Rattle.body_eval.specs.Sizes.{KeepsSizes, size_of}
 use Rattle.task_run.specs.Bench.{FitLent}
@@ -21,13 +21,6 @@ laid elems (l ∷ lent) type (t ∷ ts) tile zero fit at h fits i k is = absurd 
 laid elems (l ∷ lent) type (t ∷ ts) tile (suc n) fit at h fits zero k is = fit zero k is
 laid elems (l ∷ lent) type (t ∷ ts) tile (suc n) fit at h fits (suc i) k is =
     laid elems lent type ts tile n (λ j m e. fit (suc j) m e) (omega (arith, at)) (omega (arith, h)) fits i k is
-
--- as many tiles are shown as flows have one
-pub shown_count : {A : Type 0} (n : ℕ) (xs : List A) → n ≤ length xs → length (take n xs) ≡ n
-shown_count zero [] h = refl
-shown_count zero (x ∷ xs) h = refl
-shown_count (suc n) [] h = absurd (omega (arith, h))
-shown_count (suc n) (x ∷ xs) h = ap suc (shown_count n xs (omega (arith, h)))
 
 -- the last place is cleared
 pub cleared : (elems : List ℕ) (init : List (Option ℕ)) (type : Option ℕ) (tiles : List (Option (List ℤ))) (n : ℕ) (y : Option (List ℤ)) → FitLent elems (init ++ type ∷ []) tiles → n ≡ length init → FitLent elems init (slice_set tiles n y)
@@ -72,11 +65,6 @@ kept elems lent tiles new rest n fit at count keeps i k is =
 pub take_new : (n : ℕ) (new rest : List (Option (List ℤ))) → length new ≡ n → take n (new ++ rest) ≡ new
 take_new n new rest e = ap (λ m. take m (new ++ rest)) (sym e) ∙ take-append_seam new rest
 
--- what is known of the answer of a run
-pub if_ok : {T E : Type 0} {A B : Type 0} (r : Result T E) → (A → B) → OnOk r A → OnOk r B
-if_ok (Ok x) f h = f h
-if_ok (Err e) f h = h
-
 pub if_err : {T E : Type 0} {A B : E → Type 0} (r : Result T E) → ((e : E) → A e → B e) → IfErr r A → IfErr r B
 if_err (Ok x) f h = h
 if_err (Err e) f h = f e h
@@ -108,7 +96,7 @@ pub less_lent : (b new : Lent) (tiles : List (Option (List ℤ))) (n : ℕ) (y :
 less_lent b new tiles n y fit some at e =
     let l = split_last b.lent some in
     let before : length b.lent - 1 ≤ length b.lent = omega arith in
-    let index : n - 1 ≡ length (take (length b.lent - 1) b.lent) = omega (arith, at, shown_count (length b.lent - 1) b.lent before) in
+    let index : n - 1 ≡ length (take (length b.lent - 1) b.lent) = omega (arith, at, length-take-le (length b.lent - 1) b.lent before) in
     let split : FitLent b.elems (take (length b.lent - 1) b.lent ++ l.last ∷ []) tiles = subst (λ m. FitLent b.elems m tiles) l.split fit in
     subst (λ (c : Lent). FitLent c.elems c.lent (slice_set tiles (n - 1) y)) (sym e) (cleared b.elems (take (length b.lent - 1) b.lent) l.last tiles (n - 1) y split index)
 

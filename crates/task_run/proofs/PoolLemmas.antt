@@ -3,12 +3,13 @@ use Rattle.std.proofs.Common.{◌≡◌, ◌≢◌, ℕ, zero, suc, ◌+◌, ◌
 use Rattle.std.proofs.lemmas.Bool.Decides.{nat_tests}
 use Rattle.std.proofs.lemmas.List.Sums.{count_by-le-length, sum_by-append}
 use Rattle.std.proofs.Math.Seq.{take-suc}
-use Rattle.std.proofs.lemmas.List.{map-append}
+use Rattle.std.proofs.lemmas.List.{map-append, length-set}
 use Rattle.std.proofs.lemmas.Option.{slice_get_read}
 use Rattle.tile_pool.specs.Pool.{Pool, IsTakenFrom}
 use Rattle.task_run.specs.declared.pools.TypePool.{TypePool}
 use Rattle.task_run.specs.Pools.{AreBelow, IsPoolOf, is_of_type}
 use Rattle.task_run.specs.PoolList.{ArePools, IsGivenBack}
+use Rattle.list_lemmas.proofs.Places.{slice_get-set_other, slice_get-set_same}
 
 -- one tile of type k, or none
 abbrev pub one : ℕ → Option ℕ → ℕ
@@ -27,30 +28,12 @@ other_type j k h =
     let e : nat_eq j k ≡ false = grind (arith, nat_tests) in
     ap (λ b. cond b 1 0) e
 
--- a read after a write to a list
-pub set_here : {A : Type 0} (xs : List A) (k : ℕ) (x y : A) → slice_get (slice_set xs k x) k ≡ Some y → x ≡ y
-set_here [] k x y h = absurd cc
-set_here (z ∷ zs) zero x y h = cc
-set_here (z ∷ zs) (suc k) x y h = set_here zs k x y h
-
-pub set_there : {A : Type 0} (xs : List A) (k j : ℕ) (x : A) → j ≢ k → slice_get (slice_set xs k x) j ≡ slice_get xs j
-set_there [] k j x h = refl
-set_there (z ∷ zs) zero zero x h = absurd (h refl)
-set_there (z ∷ zs) zero (suc j) x h = refl
-set_there (z ∷ zs) (suc k) zero x h = refl
-set_there (z ∷ zs) (suc k) (suc j) x h = set_there zs k j x (λ e. h (ap suc e))
-
 pub map_set : {A B : Type 0} (f : A → B) (xs : List A) (k : ℕ) (x y : A) → slice_get xs k ≡ Some x → f y ≡ f x → map f (slice_set xs k y) ≡ map f xs
 map_set f [] k x y h e = refl
 map_set f (z ∷ zs) zero x y h e =
     let same : z ≡ x = cc in
     ap (λ b. b ∷ map f zs) (e ∙ ap f (sym same))
 map_set f (z ∷ zs) (suc k) x y h e = ap (λ l. f z ∷ l) (map_set f zs k x y h e)
-
-pub length_set : {A : Type 0} (xs : List A) (k : ℕ) (x : A) → length (slice_set xs k x) ≡ length xs
-length_set [] k x = refl
-length_set (z ∷ zs) zero x = refl
-length_set (z ∷ zs) (suc k) x = ap suc (length_set zs k x)
 
 -- while fewer than eight flows have their tiles, a pool has a tile to lend
 pub has_spare : (lent : List (Option ℕ)) (k : ℕ) (pool : Pool) (zeros : List ℤ) → IsPoolOf lent k pool zeros → length lent < 8 → 0 < pool.spare
@@ -87,12 +70,12 @@ one_lent pools lent k old new are is taken same j p at = by (nat_eq j k) refl
     by : (b : Bool) → nat_eq j k ≡ b → IsPoolOf (lent ++ Some k ∷ []) j p.pool p.zeros
     by true e =
         let here : j ≡ k = grind (arith, nat_tests) in
-        let new_is : new ≡ p = set_here pools k new p (subst (λ n. slice_get (slice_set pools k new) n ≡ Some p) here at) in
+        let new_is : new ≡ p = slice_get-set_same pools k new p (subst (λ n. slice_get (slice_set pools k new) n ≡ Some p) here at) in
         subst (λ n. IsPoolOf (lent ++ Some k ∷ []) n p.pool p.zeros) (sym here)
         (subst (λ (q : TypePool). IsPoolOf (lent ++ Some k ∷ []) k q.pool q.zeros) new_is (lent_one lent k old.pool new.pool old.zeros new.zeros (are k old is) taken same))
     by false e =
         let apart : j ≢ k = λ h. absurd (grind (arith, nat_tests)) in
-        one_more lent (Some k) j p.pool p.zeros (other_type j k apart) (are j p (sym (set_there pools k j new apart) ∙ at))
+        one_more lent (Some k) j p.pool p.zeros (other_type j k apart) (are j p (sym (slice_get-set_other pools k j new apart) ∙ at))
 
 pub given_back : (old new : List TypePool) (lent : List (Option ℕ)) (type : Option ℕ) → ArePools old (lent ++ type ∷ []) → IsGivenBack old type new → ArePools new lent
 given_back old new lent None are given k p is = one_less lent None k p.pool p.zeros refl (are k p (ap (λ l. slice_get l k) (sym given) ∙ is))
@@ -104,12 +87,12 @@ given_back old new lent (Some k) are given j p at = by (nat_eq j k) refl
     by : (b : Bool) → nat_eq j k ≡ b → IsPoolOf lent j p.pool p.zeros
     by true e =
         let here : j ≡ k = grind (arith, nat_tests) in
-        let after_is : given.after ≡ p = set_here old k given.after p (subst (λ n. slice_get (slice_set old k given.after) n ≡ Some p) here at_set) in
+        let after_is : given.after ≡ p = slice_get-set_same old k given.after p (subst (λ n. slice_get (slice_set old k given.after) n ≡ Some p) here at_set) in
         subst (λ n. IsPoolOf lent n p.pool p.zeros) (sym here)
         (subst (λ (q : TypePool). IsPoolOf lent k q.pool q.zeros) after_is (got_one lent k given.before.pool given.after.pool given.before.zeros given.after.zeros (are k given.before given.is) given.taken given.zeros))
     by false e =
         let apart : j ≢ k = λ h. absurd (grind (arith, nat_tests)) in
-        one_less lent (Some k) j p.pool p.zeros (other_type j k apart) (are j p (sym (set_there old k j given.after apart) ∙ at_set))
+        one_less lent (Some k) j p.pool p.zeros (other_type j k apart) (are j p (sym (slice_get-set_other old k j given.after apart) ∙ at_set))
 
 -- the lengths of tiles stay
 pub same_elems : (old new : List TypePool) (type : Option ℕ) → IsGivenBack old type new → map (λ (p : TypePool). p.pool.elems) new ≡ map (λ (p : TypePool). p.pool.elems) old
@@ -120,7 +103,7 @@ same_elems old new (Some k) given =
 
 pub same_count : (old new : List TypePool) (type : Option ℕ) → IsGivenBack old type new → length new ≡ length old
 same_count old new None given = ap length given
-same_count old new (Some k) given = ap length given.set ∙ length_set old k given.after
+same_count old new (Some k) given = ap length given.set ∙ length-set old k given.after
 
 -- which types may be lent
 pub below_more : (types : ℕ) (lent : List (Option ℕ)) (type : Option ℕ) → AreBelow types lent → ((k : ℕ) → type ≡ Some k → k < types) → AreBelow types (lent ++ type ∷ [])
@@ -160,23 +143,10 @@ pub types_count : (pools : List TypePool) → length (map (λ (q : TypePool). q.
 types_count [] = refl
 types_count (q ∷ qs) = ap suc (types_count qs)
 
-pub zeros_count : (n : ℕ) → length (replicate n (pos 0)) ≡ n
-zeros_count zero = refl
-zeros_count (suc n) = ap suc (zeros_count n)
-
 pub some_type : (types k j : ℕ) → k < types → Some k ≡ Some j → j < types
 some_type types k j h e =
     let same : k ≡ j = cc in
     omega (arith, h, same)
-
--- lists with one more element at the end
-pub snoc_last : {A : Type 0} (xs ys : List A) (x y : A) → xs ++ x ∷ [] ≡ ys ++ y ∷ [] → x ≡ y
-snoc_last [] [] x y e = cc
-snoc_last [] (b ∷ []) x y e = absurd cc
-snoc_last [] (b ∷ c ∷ ys) x y e = absurd cc
-snoc_last (a ∷ []) [] x y e = absurd cc
-snoc_last (a ∷ c ∷ xs) [] x y e = absurd cc
-snoc_last (a ∷ xs) (b ∷ ys) x y e = snoc_last xs ys x y cc
 
 pub snoc_init : {A : Type 0} (xs ys : List A) (x y : A) → xs ++ x ∷ [] ≡ ys ++ y ∷ [] → xs ≡ ys
 snoc_init [] [] x y e = refl
@@ -216,9 +186,3 @@ pub more_elems : (pools : List TypePool) (p : TypePool) (new : List TypePool) (i
 more_elems pools p new items i e made h is =
     ap (map (λ (q : TypePool). q.pool.elems)) e ∙ map-append (λ (q : TypePool). q.pool.elems) pools (p ∷ []) ∙ ap (λ l. l ++ p.pool.elems ∷ []) made ∙ ap (λ n. take i items ++ n ∷ []) is
     ∙ sym (rw (add-one, take-suc items i 0 h) refl)
-
-pub push_count : {A : Type 0} (xs : List A) (x : A) → length (xs ++ x ∷ []) ≡ length xs + 1
-push_count [] x = refl
-push_count (y ∷ ys) x =
-    let later = push_count ys x in
-    omega (arith, later)

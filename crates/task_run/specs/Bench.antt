@@ -3,7 +3,8 @@ use Rattle.std.specs.Prelude.{◌≡◌, ℕ, ℤ, List, [], slice_get, slice_in
 use Rattle.body_eval.specs.Sizes.{size_of}
 use Rattle.plan_core.specs.declared.plan.Plan.{Plan}
 
--- how many numbers a tile of each type has, and the tiles of the flows of the task on the bench, one place for each; no place where no task is on it
+-- how many numbers a tile of each type has, and the tiles of the flows of the task on the bench, one place for each; no
+-- place where no task is on it
 pub record Laid : Type 0 where
   pub elems : List ℕ
   pub tiles : List (Option (List ℤ))

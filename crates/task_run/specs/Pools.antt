@@ -1,8 +1,10 @@
--- The tiles of a bench, in a pool for each type, of which some are lent to the flows of a task. Source: this project's own choice.
+-- The tiles of a bench, in a pool for each type, of which some are lent to the flows of a task. Source: this project's
+-- own choice.
 use Rattle.std.specs.Prelude.{◌≡◌, ℕ, ◌+◌, ◌-◌, ◌<◌, ◌≤◌, ℤ, pos, Bool, false, nat_eq, List, [], ◌∷◌, ◌++◌, count_by, length, replicate, slice_get, slice_index, take, option_map, Option, Some, None}
 use Rattle.tile_pool.specs.Pool.{Pool}
 
--- how many numbers a tile of each type has, and for each flow, in order, the type of the tile that it was lent, if it was lent one
+-- how many numbers a tile of each type has, and for each flow, in order, the type of the tile that it was lent, if it
+-- was lent one
 pub record Lent : Type 0 where
   pub elems : List ℕ
   pub lent : List (Option ℕ)

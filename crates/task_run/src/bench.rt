@@ -20,8 +20,8 @@ use std::alloc::Global;
 use std::marker::Model;
 use term_core::Trap;
 
-/// Where one worker runs tasks, one after another: a place for the tile of each flow, eight tiles of each type for the flows
-/// whose tile comes by no edge, and room for the variables of a body. Only `new` takes memory.
+/// Where one worker runs tasks, one after another: a place for the tile of each flow, eight tiles of each type for the
+/// flows whose tile comes by no edge, and room for the variables of a body. Only `new` takes memory.
 #[derive(Drop)]
 pub struct Bench {
     scratch: Scratch,
@@ -59,16 +59,25 @@ impl Bench {
         self.pools.flows()
     }
 
-    // Lays the tile of the next flow of a task on the bench: the one that arrived, or else the one that its source gives.
+    // Lays the tile of the next flow of a task on the bench: the one that arrived, or else the one that its source
+    // gives.
     fn lay(&mut self, start: &Start, flow: &FlowPlan, arrivals: &mut Arrivals)
         requires start { IsStart start.now.plan.now start.now.given.now start.now.task.now start.now.locals.now }
         requires elems { self.old.elems ≡ start.now.plan.now.elems }
         requires room { length self.old.tiles < 8 }
-        requires flow { slice_get (tasks.flows_of start.now.plan.now start.now.task.now) (length self.old.tiles) ≡ Some flow.now }
-        requires inputs { HasInputsFrom start.now.plan.now start.now.given.now start.now.task.now (length self.old.tiles) arrivals.old }
+        requires flow { slice_get (tasks.flows_of start.now.plan.now start.now.task.now) (length self.old.tiles)
+            ≡ Some flow.now }
+        requires inputs { HasInputsFrom start.now.plan.now start.now.given.now start.now.task.now
+            (length self.old.tiles) arrivals.old }
         ensures elems { self.new.elems ≡ self.old.elems }
-        ensures tiles { self.new.tiles ≡ self.old.tiles ++ starting.starting_tile start.now.plan.now start.now.given.now (delivered start.now.plan.now start.now.given.now) start.now.task.now (length self.old.tiles) flow.now ∷ [] }
-        ensures inputs { HasInputsFrom start.now.plan.now start.now.given.now start.now.task.now (length self.old.tiles + 1) arrivals.new }
+        ensures tiles { self.new.tiles
+            ≡ self.old.tiles
+            ++ starting.starting_tile start.now.plan.now start.now.given.now
+            (delivered start.now.plan.now start.now.given.now) start.now.task.now (length self.old.tiles)
+            flow.now
+            ∷ [] }
+        ensures inputs { HasInputsFrom start.now.plan.now start.now.given.now start.now.task.now
+            (length self.old.tiles + 1) arrivals.new }
     {
         let number = self.pools.flows();
         let tile = next_tile(&mut self.pools, start, flow, arrivals);
@@ -81,7 +90,9 @@ impl Bench {
         requires bench { IsBenchOf start.now.plan.now self.old }
         requires inputs { arrivals.old ≡ inputs start.now.plan.now start.now.given.now start.now.task.now }
         ensures elems { self.new.elems ≡ self.old.elems }
-        ensures tiles { self.new.tiles ≡ starting.starting_tiles start.now.plan.now start.now.given.now (delivered start.now.plan.now start.now.given.now) start.now.task.now }
+        ensures tiles { self.new.tiles
+            ≡ starting.starting_tiles start.now.plan.now start.now.given.now
+            (delivered start.now.plan.now start.now.given.now) start.now.task.now }
     {
         for flow in flows_of(start.plan, start.task) {
             self.lay(start, flow, arrivals);
@@ -91,11 +102,15 @@ impl Bench {
     // Runs the body of the task whose tiles are on the bench.
     fn run_laid(&mut self, start: &Start) -> Result<(), Trap>
         requires start { IsStart start.now.plan.now start.now.given.now start.now.task.now start.now.locals.now }
-        requires tiles { self.old.tiles ≡ starting.starting_tiles start.now.plan.now start.now.given.now (delivered start.now.plan.now start.now.given.now) start.now.task.now }
+        requires tiles { self.old.tiles
+            ≡ starting.starting_tiles start.now.plan.now start.now.given.now
+            (delivered start.now.plan.now start.now.given.now) start.now.task.now }
         requires runs { IsSome (ended start.now.plan.now start.now.given.now start.now.task.now) }
         ensures elems { self.new.elems ≡ self.old.elems }
-        ensures ok { OnOk result (ended start.now.plan.now start.now.given.now start.now.task.now ≡ Some (Ok self.new.tiles)) }
-        ensures trap { IfErr result (λ cause. ended start.now.plan.now start.now.given.now start.now.task.now ≡ Some (Err cause)) }
+        ensures ok { OnOk result
+            (ended start.now.plan.now start.now.given.now start.now.task.now ≡ Some (Ok self.new.tiles)) }
+        ensures trap { IfErr result (λ cause.
+            ended start.now.plan.now start.now.given.now start.now.task.now ≡ Some (Err cause)) }
     {
         let class = start.plan.class(start.task.class());
         let flows = self.pools.flows();
@@ -107,15 +122,17 @@ impl Bench {
         )
     }
 
-    /// Runs a task on the tiles that came to it by edges and on those that its other sources give: exactly as the task ends. A
-    /// tile that came is moved; only for the other flows is the source evaluated. It takes no memory.
+    /// Runs a task on the tiles that came to it by edges and on those that its other sources give: exactly as the task
+    /// ends. A tile that came is moved; only for the other flows is the source evaluated. It takes no memory.
     pub fn run(&mut self, start: &Start, arrivals: Arrivals) -> Result<(), Trap>
         requires bench { IsBenchOf start.now.plan.now self.old }
         requires start { IsStart start.now.plan.now start.now.given.now start.now.task.now start.now.locals.now }
         requires inputs { MayRun start.now.plan.now start.now.given.now start.now.task.now arrivals }
         ensures elems { self.new.elems ≡ self.old.elems }
-        ensures ok { OnOk result (ended start.now.plan.now start.now.given.now start.now.task.now ≡ Some (Ok self.new.tiles)) }
-        ensures trap { IfErr result (λ cause. ended start.now.plan.now start.now.given.now start.now.task.now ≡ Some (Err cause)) }
+        ensures ok { OnOk result
+            (ended start.now.plan.now start.now.given.now start.now.task.now ≡ Some (Ok self.new.tiles)) }
+        ensures trap { IfErr result (λ cause.
+            ended start.now.plan.now start.now.given.now start.now.task.now ≡ Some (Err cause)) }
     {
         let mut arrivals = arrivals;
         self.lay_all(start, &mut arrivals);
@@ -132,7 +149,8 @@ impl Bench {
         self.tiles[flow as usize].as_ref()
     }
 
-    // Clears the place of the last flow of the task on the bench. The tile that came to it by an edge goes to those that are spent.
+    // Clears the place of the last flow of the task on the bench. The tile that came to it by an edge goes to those
+    // that are spent.
     fn clear_last(&mut self, spent: &mut Arrivals)
         requires { 0 < length self.old.tiles }
         ensures elems { self.new.elems ≡ self.old.elems }
@@ -145,8 +163,8 @@ impl Bench {
         }
     }
 
-    /// Takes the task off the bench: tiles of the bench come back, and those that came with the task are the answer, so that their memory
-    /// can be used again.
+    /// Takes the task off the bench: tiles of the bench come back, and those that came with the task are the answer, so
+    /// that their memory can be used again.
     pub fn clear(&mut self) -> Arrivals
         ensures elems { self.new.elems ≡ self.old.elems }
         ensures idle { self.new.tiles ≡ [] }

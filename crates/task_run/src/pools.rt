@@ -107,14 +107,16 @@ impl Pools {
         requires flows { length self.old.lent < 8 }
         requires known { datatype < length self.old.elems }
         requires length { IfSome (option_copied from) (λ tile. length tile ≡ slice_index self.old.elems datatype) }
-        ensures tile { result ≡ unwrap_or (option_copied from.entry) (replicate (slice_index self.old.elems datatype) (pos 0)) }
+        ensures tile { result
+            ≡ unwrap_or (option_copied from.entry) (replicate (slice_index self.old.elems datatype) (pos 0)) }
         ensures lent { self.new ≡ with_lent self.old (Some datatype) }
     {
         self.lent.push(Some(datatype));
         copy_in(&mut self.pools[datatype as usize], from)
     }
 
-    // The last flow has ended with this tile: it comes back if it was lent. The tile that came by an edge is the answer.
+    // The last flow has ended with this tile: it comes back if it was lent. The tile that came by an edge is the
+    // answer.
     pub(crate) fn take_back(&mut self, tile: Option<Tile>) -> Option<Tile>
         requires some { 0 < length self.old.lent }
         requires fits { LendsTo (without_last self.old) self.old tile }

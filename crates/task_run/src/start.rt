@@ -33,9 +33,11 @@ fn lend_place(pools: &mut Pools, start: &Start, flow: &FlowPlan, place: &Place) 
     requires start { IsStart start.now.plan.now start.now.given.now start.now.task.now start.now.locals.now }
     requires elems { pools.old.elems ≡ start.now.plan.now.elems }
     requires flows { length pools.old.lent < 8 }
-    requires flow { slice_get (tasks.flows_of start.now.plan.now start.now.task.now) (length pools.old.lent) ≡ Some flow.now }
+    requires flow { slice_get (tasks.flows_of start.now.plan.now start.now.task.now) (length pools.old.lent)
+        ≡ Some flow.now }
     requires kind { kinds.is_data (Some flow.now.kind) ≡ true }
-    requires place { edges.data_source start.now.plan.now start.now.task.now (length pools.old.lent) ≡ source.Place place.now }
+    requires place { edges.data_source start.now.plan.now start.now.task.now (length pools.old.lent)
+        ≡ source.Place place.now }
     ensures tile { result ≡ tile_at start.now.given.now.colls place.now }
     ensures lent { LendsTo pools.old pools.new result }
 {
@@ -47,7 +49,8 @@ fn lend_place(pools: &mut Pools, start: &Start, flow: &FlowPlan, place: &Place) 
 fn lend_unsourced(pools: &mut Pools, flow: &FlowPlan) -> Option<Tile>
     requires flows { length pools.old.lent < 8 }
     requires known { flow.now.datatype < length pools.old.elems }
-    ensures tile { result ≡ starting.unsourced_tile flow.now.kind (replicate (slice_index pools.old.elems flow.now.datatype) (pos 0)) }
+    ensures tile { result
+        ≡ starting.unsourced_tile flow.now.kind (replicate (slice_index pools.old.elems flow.now.datatype) (pos 0)) }
     ensures lent { LendsTo pools.old pools.new result }
 {
     match flow.kind {
@@ -64,10 +67,12 @@ fn lend_from(pools: &mut Pools, start: &Start, flow: &FlowPlan, source: &Source)
     requires start { IsStart start.now.plan.now start.now.given.now start.now.task.now start.now.locals.now }
     requires elems { pools.old.elems ≡ start.now.plan.now.elems }
     requires flows { length pools.old.lent < 8 }
-    requires flow { slice_get (tasks.flows_of start.now.plan.now start.now.task.now) (length pools.old.lent) ≡ Some flow.now }
+    requires flow { slice_get (tasks.flows_of start.now.plan.now start.now.task.now) (length pools.old.lent)
+        ≡ Some flow.now }
     requires kind { kinds.is_data (Some flow.now.kind) ≡ true }
     requires source { edges.data_source start.now.plan.now start.now.task.now (length pools.old.lent) ≡ source.now }
-    ensures tile { result ≡ starting.tile_from start.now.plan.now start.now.given.now without_edges flow.now source.now }
+    ensures tile { result
+        ≡ starting.tile_from start.now.plan.now start.now.given.now without_edges flow.now source.now }
     ensures lent { LendsTo pools.old pools.new result }
 {
     match source {
@@ -86,8 +91,11 @@ fn lend_source(pools: &mut Pools, start: &Start, flow: &FlowPlan) -> Option<Tile
     requires start { IsStart start.now.plan.now start.now.given.now start.now.task.now start.now.locals.now }
     requires elems { pools.old.elems ≡ start.now.plan.now.elems }
     requires flows { length pools.old.lent < 8 }
-    requires flow { slice_get (tasks.flows_of start.now.plan.now start.now.task.now) (length pools.old.lent) ≡ Some flow.now }
-    ensures tile { result ≡ starting.starting_tile start.now.plan.now start.now.given.now without_edges start.now.task.now (length pools.old.lent) flow.now }
+    requires flow { slice_get (tasks.flows_of start.now.plan.now start.now.task.now) (length pools.old.lent)
+        ≡ Some flow.now }
+    ensures tile { result
+        ≡ starting.starting_tile start.now.plan.now start.now.given.now without_edges start.now.task.now
+        (length pools.old.lent) flow.now }
     ensures lent { LendsTo pools.old pools.new result }
 {
     if !is_data(flow.kind) {
@@ -108,11 +116,16 @@ pub(crate) fn next_tile(
     requires start { IsStart start.now.plan.now start.now.given.now start.now.task.now start.now.locals.now }
     requires elems { pools.old.elems ≡ start.now.plan.now.elems }
     requires flows { length pools.old.lent < 8 }
-    requires flow { slice_get (tasks.flows_of start.now.plan.now start.now.task.now) (length pools.old.lent) ≡ Some flow.now }
-    requires inputs { HasInputsFrom start.now.plan.now start.now.given.now start.now.task.now (length pools.old.lent) arrivals.old }
-    ensures tile { result ≡ starting.starting_tile start.now.plan.now start.now.given.now (delivered start.now.plan.now start.now.given.now) start.now.task.now (length pools.old.lent) flow.now }
+    requires flow { slice_get (tasks.flows_of start.now.plan.now start.now.task.now) (length pools.old.lent)
+        ≡ Some flow.now }
+    requires inputs { HasInputsFrom start.now.plan.now start.now.given.now start.now.task.now (length pools.old.lent)
+        arrivals.old }
+    ensures tile { result
+        ≡ starting.starting_tile start.now.plan.now start.now.given.now
+        (delivered start.now.plan.now start.now.given.now) start.now.task.now (length pools.old.lent) flow.now }
     ensures lent { LendsTo pools.old pools.new result }
-    ensures rest { HasInputsFrom start.now.plan.now start.now.given.now start.now.task.now (length pools.old.lent + 1) arrivals.new }
+    ensures rest { HasInputsFrom start.now.plan.now start.now.given.now start.now.task.now (length pools.old.lent + 1)
+        arrivals.new }
 {
     match arrivals.take(pools.flows() as u8) {
         Some(tile) => {

@@ -1,4 +1,5 @@
--- Arithmetic on numbers of 64 bits, with a fault where there is no such number. Source: this project's own choice, with the operators of C.
+-- Arithmetic on numbers of 64 bits, with a fault where there is no such number. Source: this project's own choice, with
+-- the operators of C.
 use Rattle.std.specs.Prelude.{ℤ, pos, negsuc, ◌+ℤ◌, ◌-ℤ◌, ◌*ℤ◌, neg_ℤ, int_div, int_rem, int_lt, int_le, nat_lt, Bool, true, false, not, ◌&&◌, ◌||◌, Result, Ok, Err, if◌then◌else◌, Option, Some, None}
 use Rattle.std.specs.Ordering.{int_eq}
 use Rattle.term_core.specs.declared.fault.ExprFault.{ExprFault}
@@ -30,8 +31,8 @@ fitted z = if is_number z then Ok z else Err Overflow
 abbrev pub divided : ℤ → ℤ → ℤ → Result ℤ ExprFault
 divided a b z = if int_eq b (pos 0) then Err Divide else (if is_number (int_div a b) then Ok z else Err Overflow)
 
--- the value of an infix operator on two numbers: a quotient is cut toward 0, and a remainder has the sign of the dividend; the operands
--- of `&&` and `||` are both evaluated here, and `decided` is where they are not
+-- the value of an infix operator on two numbers: a quotient is cut toward 0, and a remainder has the sign of the
+-- dividend; the operands of `&&` and `||` are both evaluated here, and `decided` is where they are not
 abbrev pub arithmetic : BinOp → ℤ → ℤ → Result ℤ ExprFault
 arithmetic Add a b = fitted (a +ℤ b)
 arithmetic Sub a b = fitted (a -ℤ b)

@@ -1,4 +1,5 @@
--- The statements of a block, as a tree: none, or a statement and those after it. Source: the language of bodies is this project's own choice.
+-- The statements of a block, as a tree: none, or a statement and those after it. Source: the language of bodies is this
+-- project's own choice.
 use Rattle.std.specs.Prelude.{ℕ, ◌+◌}
 use Rattle.term_core.specs.Term.{Term}
 

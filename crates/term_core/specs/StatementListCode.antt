@@ -9,9 +9,16 @@ use Rattle.term_core.specs.StatementList.{StatementList, Done, SetThen, PutThen,
 pub code_of_statement_list : StatementList → Gv
 code_of_statement_list Done = gnum 0
 code_of_statement_list (SetThen a b c) = gcons (gnum 1) (gcons (gnum a) (gcons (ghost_of b) (code_of_statement_list c)))
-code_of_statement_list (PutThen a b c d) = gcons (gnum 2) (gcons (gnum a) (gcons (ghost_of b) (gcons (ghost_of c) (code_of_statement_list d))))
-code_of_statement_list (IfThen a b c d) = gcons (gnum 3) (gcons (ghost_of a) (gcons (code_of_statement_list b) (gcons (code_of_statement_list c) (code_of_statement_list d))))
-code_of_statement_list (ForThen a b c d e) = gcons (gnum 4) (gcons (gnum a) (gcons (ghost_of b) (gcons (ghost_of c) (gcons (code_of_statement_list d) (code_of_statement_list e)))))
+code_of_statement_list (PutThen a b c d) =
+    gcons (gnum 2) (gcons (gnum a) (gcons (ghost_of b) (gcons (ghost_of c) (code_of_statement_list d))))
+code_of_statement_list (IfThen a b c d) =
+    gcons (gnum 3)
+    (gcons (ghost_of a)
+    (gcons (code_of_statement_list b) (gcons (code_of_statement_list c) (code_of_statement_list d))))
+code_of_statement_list (ForThen a b c d e) =
+    gcons (gnum 4)
+    (gcons (gnum a)
+    (gcons (ghost_of b) (gcons (ghost_of c) (gcons (code_of_statement_list d) (code_of_statement_list e)))))
 code_of_statement_list (TrapThen a b) = gcons (gnum 5) (gcons (gnum a) (code_of_statement_list b))
 
 pub one_statement_list : (x y : StatementList) → code_of_statement_list x ≡ code_of_statement_list y → x ≡ y

@@ -1,4 +1,5 @@
--- The value of an expression, by cases on its tree in the order of evaluation. Source: the JDF documentation, for expressions as in C.
+-- The value of an expression, by cases on its tree in the order of evaluation. Source: the JDF documentation, for
+-- expressions as in C.
 use Rattle.std.specs.Prelude.{ℕ, ℤ, pos, List, Bool, true, ◌&&◌, nat_lt, Result, Ok, Err, Option, Some, None, if◌then◌else◌, slice_index_or}
 use Rattle.term_core.specs.declared.fault.ExprFault.{ExprFault}
 use Rattle.term_core.specs.declared.operator.BinOp.{BinOp}
@@ -25,13 +26,14 @@ abbrev pub binary_with : {F : Type 0} → (ExprFault → F) → BinOp → Result
 binary_with fault o left right =
     and_then left (λ x. decided_or (decided o x) (and_then right (λ y. map_fault fault (arithmetic o x y))))
 
--- the value of an expression, or the first fault in the order of evaluation: `fault` makes of a fault of arithmetic one of F,
--- `element` gives the value of an element by its flow and index, and the list has the values of the locals
+-- the value of an expression, or the first fault in the order of evaluation: `fault` makes of a fault of arithmetic one
+-- of F, `element` gives the value of an element by its flow and index, and the list has the values of the locals
 abbrev pub value_with : {F : Type 0} → (ExprFault → F) → (ℕ → ℤ → Result ℤ F) → List ℤ → Term → Result ℤ F
 value_with fault element locals (Num z) = Ok z
 value_with fault element locals (Local n) = Ok (slice_index_or locals n (pos 0))
 value_with fault element locals (Elem flow at) = and_then (value_with fault element locals at) (λ i. element flow i)
-value_with fault element locals (Unary o a) = and_then (value_with fault element locals a) (λ x. map_fault fault (unary_value o x))
+value_with fault element locals (Unary o a) =
+    and_then (value_with fault element locals a) (λ x. map_fault fault (unary_value o x))
 value_with fault element locals (Binary o a b) =
     binary_with fault o (value_with fault element locals a) (value_with fault element locals b)
 value_with fault element locals (Choose c a b) =

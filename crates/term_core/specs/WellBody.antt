@@ -1,4 +1,5 @@
--- Well made bodies: they name only slots and flows that there are, and set no local of the task. Source: this project's own choice; so are the limits.
+-- Well made bodies: they name only slots and flows that there are, and set no local of the task. Source: this project's
+-- own choice; so are the limits.
 use Rattle.std.specs.Prelude.{ℕ, Bool, true, ◌&&◌, ◌+◌, ◌≤◌, nat_lt, nat_le, IsTrue}
 use Rattle.term_core.specs.StatementList.{StatementList, Done, SetThen, PutThen, IfThen, ForThen, TrapThen}
 use Rattle.term_core.specs.Value.{is_closed_with}

@@ -1,4 +1,5 @@
--- Well made spaces: a definition names only those before it, and each range is the definition of a parameter. Source: the JDF documentation; the limit is this project's own choice.
+-- Well made spaces: a definition names only those before it, and each range is the definition of a parameter. Source:
+-- the JDF documentation; the limit is this project's own choice.
 use Rattle.std.specs.Prelude.{ℕ, suc, List, [], ◌∷◌, length, Option, Some, None, Bool, true, not, ◌&&◌, ◌==◌, ◌≤◌, nat_lt, IsTrue}
 use Rattle.std.specs.List.{list_all, list_any}
 use Rattle.term_core.specs.Term.{Term}
@@ -37,7 +38,8 @@ abbrev pub are_different : List ℕ → Bool
 are_different [] = true
 are_different (p ∷ ps) = not (is_among p ps) && are_different ps
 
--- at most 16 definitions that name only those before them; the parameters are different definitions, each range among them
+-- at most 16 definitions that name only those before them; the parameters are different definitions, each range among
+-- them
 pub record IsWellSpace (s : ClassSpace) : Type 0 where
   pub definitions_at_most : length s.defs ≤ 16
   pub closed : IsTrue (are_closed 0 s.defs)

@@ -69,8 +69,8 @@ impl Block {
     }
 }
 
-/// What a task does to its tiles: statements over numbered slots. The first slots hold the task's locals, the others the
-/// body's own variables.
+/// What a task does to its tiles: statements over numbered slots. The first slots hold the task's locals, the others
+/// the body's own variables.
 pub struct Body {
     pub statements: Block,
     pub slots: u16,

@@ -1,14 +1,14 @@
 -- The numbers and the rows with which a text begins.
-use Rattle.std.proofs.Common.{◌≡◌, ◌≢◌, ◌↔◌, ℕ, suc, ◌+◌, ◌<◌, ◌≤◌, ℤ, Bool, true, false, ◌&&◌, List, [], ◌∷◌, ◌++◌, codes, length, refl, ap, sym, ◌∙◌, subst, length-append, arith}
+use Rattle.std.proofs.Common.{◌≡◌, ◌≢◌, ◌↔◌, ℕ, suc, ◌+◌, ◌≤◌, ℤ, Bool, true, false, ◌&&◌, List, [], ◌∷◌, ◌++◌, codes, refl, ap, sym, ◌∙◌, subst}
 use Rattle.std.specs.List.{list_all}
 use Rattle.std.specs.Fmt.{signed_decimal}
-use Rattle.std.proofs.lemmas.Bool.{eqb-true, false≢true}
-use Rattle.range_space.proofs.MemberLists.{and_left, and_right}
+use Rattle.std.proofs.lemmas.Bool.{eqb-true, false≢true, and_from}
+use Rattle.std.specs.Cmp.{first_so, second_so}
 use Rattle.trace_core.specs.Cutting.{IsCut, opens_with}
 use Rattle.trace_core.specs.Rows.{AreNumbers, BeginsWithNumber, BeginsWithRow, HasNoNumber, IsOfNumbers, IsRowOf, number_field, number_fields, row_content}
 use Rattle.trace_core.specs.Spelling.{HasNoRow, IsSpelled, fits_64, is_name}
 use Rattle.trace_core.specs.Text.{Entry, row_line}
-use Rattle.trace_core.proofs.Cuts.{both, cut_once}
+use Rattle.trace_core.proofs.Cuts.{cut_once}
 use Rattle.trace_core.proofs.Spelled.{fields_open, name_free, row_free, row_split, same_number, signed_free}
 
 -- the field after a comma is no number, or is one
@@ -18,45 +18,30 @@ field_none text rest field later is cut none n more w =
     let tail : field ++ later ≡ signed_decimal n ++ more = cc in
     none n w.fits (cut_once 44 field (signed_decimal n) later more cut.free (signed_free 44 n w.fits refl refl) cut.next w.next tail).0
 
-pub field_some : (text rest field later : List ℕ) (n : ℤ) → text ≡ 44 ∷ rest → IsCut 44 rest field later → fits_64 n ≡ true → field ≡ signed_decimal n → BeginsWithNumber text n later
-field_some text rest field later n is cut fits same = record { split = is ∙ ap (λ t. 44 ∷ t) (cut.split ∙ ap (λ t. t ++ later) same); fits = fits; next = cut.next }
-
-pub other_first : (text rest : List ℕ) (b : ℕ) → text ≡ b ∷ rest → b ≢ 44 → HasNoNumber text
-other_first text rest b is other n more w = let whole : b ∷ rest ≡ 44 ∷ (signed_decimal n ++ more) = sym is ∙ w.split in other cc
-
-pub nothing_first : (text : List ℕ) → text ≡ [] → HasNoNumber text
-nothing_first text is n more w = let whole : [] ≡ 44 ∷ (signed_decimal n ++ more) = sym is ∙ w.split in cc
-
 -- numbers are a first one and those after it
 pub numbers_next : (text later : List ℕ) (n : ℤ) (ns : List ℤ) → BeginsWithNumber text n later → AreNumbers text ns → (ms : List ℤ) × (ns ≡ n ∷ ms) × AreNumbers later ms
 numbers_next text later n [] w a = let whole : 44 ∷ (signed_decimal n ++ later) ≡ [] = sym w.split ∙ a.spelled in absurd cc
 numbers_next text later n (m ∷ ms) w a =
-    let fits = and_left (fits_64 m) (list_all fits_64 ms) a.fit in
+    let fits = first_so (fits_64 m) (list_all fits_64 ms) a.fit in
     let whole : 44 ∷ (signed_decimal n ++ later) ≡ 44 ∷ (signed_decimal m ++ number_fields ms) = sym w.split ∙ a.spelled in
     let tail : signed_decimal n ++ later ≡ signed_decimal m ++ number_fields ms = cc in
     let r = cut_once 44 (signed_decimal n) (signed_decimal m) later (number_fields ms) (signed_free 44 n w.fits refl refl) (signed_free 44 m fits refl refl) w.next (fields_open ms) tail in
     let same = same_number n m w.fits fits r.0 in
-    (ms, (λ i. sym same i ∷ ms), record { spelled = r.1; fit = and_right (fits_64 m) (list_all fits_64 ms) a.fit })
+    (ms, (λ i. sym same i ∷ ms), record { spelled = r.1; fit = second_so (fits_64 m) (list_all fits_64 ms) a.fit })
 
 pub numbers_more : (text later : List ℕ) (n : ℤ) → BeginsWithNumber text n later → IsOfNumbers later ↔ IsOfNumbers text
 numbers_more text later n w = (
-  λ p. (n ∷ p.0, record { spelled = w.split ∙ ap (λ t. number_field n ++ t) p.1.spelled; fit = both (fits_64 n) (list_all fits_64 p.0) w.fits p.1.fit }),
+  λ p. (n ∷ p.0, record { spelled = w.split ∙ ap (λ t. number_field n ++ t) p.1.spelled; fit = and_from (fits_64 n) (list_all fits_64 p.0) w.fits p.1.fit }),
   λ p. let q = numbers_next text later n p.0 w p.1 in (q.0, q.2),
 )
 
 -- no number comes first: then there are none
 pub none_left : (text : List ℕ) (ns : List ℤ) → HasNoNumber text → AreNumbers text ns → ns ≡ []
 none_left text [] none a = refl
-none_left text (m ∷ ms) none a = absurd (none m (number_fields ms) (record { split = a.spelled; fits = and_left (fits_64 m) (list_all fits_64 ms) a.fit; next = fields_open ms }))
-
-pub not_numbers : (text : List ℕ) → HasNoNumber text → (text ≡ [] → ⊥) → IsOfNumbers text → ⊥
-not_numbers text none some p = let e = none_left text p.0 none p.1 in some (p.1.spelled ∙ ap number_fields e)
+none_left text (m ∷ ms) none a = absurd (none m (number_fields ms) (record { split = a.spelled; fits = first_so (fits_64 m) (list_all fits_64 ms) a.fit; next = fields_open ms }))
 
 pub no_numbers : (text : List ℕ) → text ≡ [] → IsOfNumbers text
 no_numbers text is = ([], record { spelled = is; fit = refl })
-
-pub fewer : (text later : List ℕ) (n : ℤ) → BeginsWithNumber text n later → length later < length text
-fewer text later n w = let l = ap length w.split in omega (arith, l, length-append (signed_decimal n) later)
 
 -- the parts of a row
 module _ (line fields name numbers : List ℕ) (word : line ≡ codes "ran," ++ fields) (cut : IsCut 44 fields name numbers) where
@@ -78,17 +63,6 @@ module _ (line fields name numbers : List ℕ) (word : line ≡ codes "ran," ++ 
   parts_none none e s is =
       let r = parts_are e s is in
       none (ap is_name r.0 ∙ s.name) (e.params, record { spelled = r.1; fit = s.params })
-
-pub no_word : (line : List ℕ) → ((rest : List ℕ) → line ≡ codes "ran," ++ rest → ⊥) → (e : Entry) → IsSpelled e → line ≡ row_content e → ⊥
-no_word line none e s is = none (e.name ++ number_fields e.params) is
-
--- a row is what comes before the first LF, if there is one
-pub no_lf : (text line rest : List ℕ) → IsCut 10 text line rest → rest ≡ [] → HasNoRow text
-no_lf text line rest cut is e later s h =
-    let whole : line ++ rest ≡ row_content e ++ 10 ∷ later = sym cut.split ∙ h ∙ row_split e later in
-    let r = cut_once 10 line (row_content e) rest (10 ∷ later) cut.free (row_free e s) cut.next refl whole in
-    let never : [] ≡ 10 ∷ later = sym is ∙ r.1 in
-    cc
 
 pub lf_first : (text line rest : List ℕ) (b : ℕ) (later : List ℕ) → IsCut 10 text line rest → rest ≡ b ∷ later → text ≡ line ++ 10 ∷ later
 lf_first text line rest b later cut is =

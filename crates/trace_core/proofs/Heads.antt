@@ -1,6 +1,5 @@
 -- The head with which a text begins, and the rows after it.
-use Rattle.std.proofs.Common.{◌≡◌, ◌≢◌, ℕ, ◌+◌, ◌≤◌, ℤ, pos, true, ◌==◌, List, [], ◌∷◌, ◌++◌, codes, length, refl, ap, sym, ◌∙◌, subst, append_assoc, length-append, arith}
-use Rattle.std.specs.List.{AllByRecursion}
+use Rattle.std.proofs.Common.{◌≡◌, ◌≢◌, ℕ, ◌≤◌, ℤ, pos, true, ◌==◌, List, [], ◌∷◌, ◌++◌, codes, length, refl, ap, sym, ◌∙◌, subst, append_assoc, arith}
 use Rattle.std.specs.Fmt.{decimal, signed_decimal}
 use Rattle.std.proofs.lemmas.Bool.{eqb-true, lt-ltb}
 use Rattle.std.proofs.lemmas.List.{append-nil}
@@ -12,6 +11,7 @@ use Rattle.trace_core.specs.Text.{Entry, head_line, row_line, rows_text}
 use Rattle.trace_core.proofs.Cuts.{cut_once}
 use Rattle.trace_core.proofs.Fields.{lf_first}
 use Rattle.trace_core.proofs.Spelled.{decimal_free, head_split, same_head, same_number}
+use Rattle.list_lemmas.proofs.Places.{each_push}
 
 module _ (text fields field rest : List ℕ) (word : text ≡ codes "trace," ++ fields) (cut : IsCut 10 fields field rest) where
   -- the number of the head is the field up to LF
@@ -38,14 +38,6 @@ no_count field none n le h = none (pos n) (small_fits n le) h
 pub other_count : (field : List ℕ) (z : ℤ) → fits_64 z ≡ true → field ≡ signed_decimal z → ((n : ℕ) → n ≤ 1000000 → z ≢ pos n) → (n : ℕ) → n ≤ 1000000 → field ≢ decimal n
 other_count field z fits is none n le h = none n le (same_number z (pos n) fits (small_fits n le) (sym is ∙ h))
 
--- no row yet, and one more
-pub begin_with : (text : List ℕ) (n : ℕ) (rest : List ℕ) → n ≤ 1000000 → text ≡ head_line n ++ rest → BeginsWith text n [] rest
-begin_with text n rest le is = record { at_most = le; split = is; spelled = tt }
-
-pub all_push : {A : Type 0} (Q : A → Type 0) (xs : List A) (x : A) → AllByRecursion Q xs → Q x → AllByRecursion Q (xs ++ x ∷ [])
-all_push Q [] x h q = (q, tt)
-all_push Q (y ∷ ys) x h q = (h.0, all_push Q ys x h.1 q)
-
 pub rows_push : (es : List Entry) (e : Entry) (rest : List ℕ) → rows_text (es ++ e ∷ []) ++ rest ≡ rows_text es ++ (row_line e ++ rest)
 rows_push es e rest =
     ap (λ t. t ++ rest) (flat_map-append row_line es (e ∷ []) ∙ ap (λ t. rows_text es ++ t) (append-nil (row_line e)))
@@ -55,11 +47,8 @@ pub begin_more : (text : List ℕ) (n : ℕ) (es : List Entry) (rest name number
 begin_more text n es rest name numbers later w r = record {
   at_most = w.at_most;
   split = w.split ∙ ap (λ t. head_line n ++ t) (ap (λ t. rows_text es ++ t) r.split ∙ sym (rows_push es r.entry later));
-  spelled = all_push IsSpelled es r.entry w.spelled r.row.spelled;
+  spelled = each_push IsSpelled es r.entry w.spelled r.row.spelled;
 }
-
-pub length_push : {A : Type 0} (xs : List A) (x : A) → length (xs ++ x ∷ []) ≡ length xs + 1
-length_push xs x = length-append xs (x ∷ [])
 
 pub empty : (xs : List ℕ) → (length xs == 0) ≡ true → xs ≡ []
 empty [] h = refl

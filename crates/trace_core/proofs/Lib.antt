@@ -1,5 +1,4 @@
 pub mod Cuts
-pub mod Words
 pub mod Spelled
 pub mod Fields
 pub mod Heads

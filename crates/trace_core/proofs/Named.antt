@@ -12,13 +12,14 @@ use Rattle.plan_core.specs.declared.class.ClassPlan.{ClassPlan}
 use Rattle.plan_core.specs.declared.plan.Plan.{Plan}
 use Rattle.term_core.specs.declared.space.ClassSpace.{ClassSpace}
 use Rattle.range_space.specs.Tasks.{tasks}
-use Rattle.range_space.proofs.MemberLists.{and_left, and_right, arity_of_task}
+use Rattle.range_space.proofs.MemberLists.{arity_of_task}
 use Rattle.dep_iter.specs.Tasks.{task}
 use Rattle.flow_meaning.proofs.SourceEdges.{class_of}
 use Rattle.trace_core.specs.Naming.{IsNamed, Names}
 use Rattle.trace_core.specs.Rows.{AreNumbers, IsRowOf}
 use Rattle.trace_core.specs.Text.{Entry}
-use Rattle.trace_core.proofs.Words.{equal_bytes}
+use Rattle.std.specs.Cmp.{first_so, second_so}
+use Rattle.list_lemmas.proofs.Texts.{equal_bytes}
 
 -- the number of a class among those from the first on
 pub no_class : (classes : List ClassPlan) (name : List ℕ) → classes ≡ [] → (k : ℕ) → IsNamed classes name k → ⊥
@@ -69,7 +70,7 @@ any_named name (c ∷ cs) (suc k) p = or_true (pointwise nat_eq name c.name) (li
 first_apart : (c : ClassPlan) (cs : List ClassPlan) (name : List ℕ) (k : ℕ) → are_distinct (map (λ (d : ClassPlan). d.name) (c ∷ cs)) ≡ true → c.name ≡ name → IsNamed cs name k → ⊥
 first_apart c cs name k distinct here p =
     let there = any_named c.name cs k (p.0, p.1, p.2 ∙ sym here) in
-    let none = and_left (not (list_any (pointwise nat_eq c.name) (map (λ (d : ClassPlan). d.name) cs))) (are_distinct (map (λ (d : ClassPlan). d.name) cs)) distinct in
+    let none = first_so (not (list_any (pointwise nat_eq c.name) (map (λ (d : ClassPlan). d.name) cs))) (are_distinct (map (λ (d : ClassPlan). d.name) cs)) distinct in
     false≢true (sym (ap not there) ∙ none)
 
 one_name : (cs : List ClassPlan) (name : List ℕ) → are_distinct (map (λ (d : ClassPlan). d.name) cs) ≡ true → (j k : ℕ) → IsNamed cs name j → IsNamed cs name k → j ≡ k
@@ -85,7 +86,7 @@ one_name (c ∷ cs) name distinct (suc j) zero p q = absurd (first_apart c cs na
     head_name : IsNamed (c ∷ cs) name zero → c.name ≡ name
     head_name p = let e : Some c ≡ Some p.0 = p.1 in let same : c ≡ p.0 = cc in ap (λ (d : ClassPlan). d.name) same ∙ p.2
 one_name (c ∷ cs) name distinct (suc j) (suc k) p q =
-    ap suc (one_name cs name (and_right (not (list_any (pointwise nat_eq c.name) (map (λ (d : ClassPlan). d.name) cs))) (are_distinct (map (λ (d : ClassPlan). d.name) cs)) distinct) j k p q)
+    ap suc (one_name cs name (second_so (not (list_any (pointwise nat_eq c.name) (map (λ (d : ClassPlan). d.name) cs))) (are_distinct (map (λ (d : ClassPlan). d.name) cs)) distinct) j k p q)
 
 pub class_name_at : (P : Plan) (n : ℕ) (c : ClassPlan) → slice_get P.classes n ≡ Some c → class_name P n ≡ c.name
 class_name_at P n c e = ap (λ o. option_map_or (λ (d : ClassPlan). d.name) o []) e

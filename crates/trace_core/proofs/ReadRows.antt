@@ -1,15 +1,17 @@
 -- How far a text has been read: the tasks of its first rows, and the rows that are left.
 use Rattle.std.proofs.Common.{◌≡◌, ◌≢◌, ℕ, ◌+◌, ◌<◌, ◌≤◌, Bool, true, false, ◌||◌, cond, not, List, [], ◌∷◌, ◌++◌, map, length, refl, ap, sym, ◌∙◌, subst, append_assoc, length-append, inl, inr, Some, arith}
 use Rattle.std.specs.List.{AllByRecursion, list_any}
-use Rattle.std.proofs.lemmas.Bool.{false≢true}
+use Rattle.std.proofs.lemmas.Bool.{false≢true, not-false, not-true}
 use Rattle.std.proofs.lemmas.List.{append-nil, map-append}
 use Rattle.ptg_base.specs.Lists.{HasNoRepeats, IsIn}
 use Rattle.ptg_base.specs.Task.{Task}
 use Rattle.ptg_base.specs.TaskComparing.{same_task}
 use Rattle.ptg_base.specs.TaskLaws.{same_task-decides}
 use Rattle.plan_core.specs.declared.plan.Plan.{Plan}
-use Rattle.range_space.proofs.MemberLists.{from_append}
-use Rattle.range_space.proofs.Stepping.{by_test}
+use Rattle.list_lemmas.proofs.Members.{from_append}
+use Rattle.list_lemmas.proofs.Truth.{by_test}
+use Rattle.list_lemmas.proofs.Places.{each_push}
+use Rattle.list_lemmas.proofs.Tasks.{none_member}
 use Rattle.dep_iter.specs.Tasks.{IsTask}
 use Rattle.trace_core.specs.declared.fault.TraceCode.{TraceCode}
 use Rattle.trace_core.specs.declared.fault.TraceCode.TheVariants.{UnknownTask, RanTwice}
@@ -17,7 +19,6 @@ use Rattle.trace_core.specs.Naming.{AreRowsBefore, AreRowsOf, IsNamingFault, Nam
 use Rattle.trace_core.specs.Rows.{BeginsWithRow, IsRowOf}
 use Rattle.trace_core.specs.Spelling.{HasNoRow, IsSpelled}
 use Rattle.trace_core.specs.Text.{Entry, entry_of, row_line, rows_text}
-use Rattle.trace_core.proofs.Heads.{all_push}
 use Rattle.trace_core.proofs.Spelled.{row_line_is, same_row}
 
 -- these tasks are those of the first rows, and the rest of the text is that of the others
@@ -70,16 +71,6 @@ pub any_member : (t : Task) (ts : List Task) → list_any (same_task t) ts ≡ t
 any_member t [] h = absurd (false≢true h)
 any_member t (u ∷ us) h = by_test (same_task t u) (λ k. inl ((same_task-decides t u).0 k)) (λ k. inr (any_member t us (sym (ap (λ b. b || list_any (same_task t) us) k) ∙ h)))
 
-pub none_member : (t : Task) (ts : List Task) → list_any (same_task t) ts ≡ false → IsIn t ts → ⊥
-none_member t [] h i = i
-none_member t (u ∷ us) h i =
-    by_test (same_task t u)
-    (λ k. false≢true (sym h ∙ ap (λ b. b || list_any (same_task t) us) k))
-    (λ k. elim i [
-      | inl e ↦ false≢true (sym k ∙ (same_task-decides t u).1 e)
-      | inr later ↦ none_member t us (sym (ap (λ b. b || list_any (same_task t) us) k) ∙ h) later
-    ])
-
 module _ (P : Plan) (es : List Entry) (ts : List Task) (e : Entry) (later : List ℕ) (n : IsNextRow P es ts e later) where
   pub read_more : (t : Task) → Names P e t → (IsIn t ts → ⊥) → IsReadTo P es (ts ++ t ∷ []) later
   read_more t named new = record {
@@ -90,7 +81,7 @@ module _ (P : Plan) (es : List Entry) (ts : List Task) (e : Entry) (later : List
     text = n.text;
     rows = record {
       named = (λ i. n.rows.named i ++ named.1 i ∷ []) ∙ sym (map-append (entry_of P) ts (t ∷ []));
-      tasks = all_push (IsTask P) ts t n.rows.tasks named.0;
+      tasks = each_push (IsTask P) ts t n.rows.tasks named.0;
       once = once_push ts t n.rows.once new;
     };
   }
@@ -98,21 +89,12 @@ module _ (P : Plan) (es : List Entry) (ts : List Task) (e : Entry) (later : List
   pub stops_at : (code : TraceCode) → IsNamingFault P ts e code → AreRowsBefore P es ts code
   stops_at code fault = record { front = n.front; failed = e; later = n.others; split = n.split; rows = n.rows; fault = fault }
 
--- what an insertion into a set of tasks says
-not_false : (b : Bool) → not b ≡ false → b ≡ true
-not_false true h = refl
-not_false false h = sym h
-
-not_true : (b : Bool) → not b ≡ true → b ≡ false
-not_true true h = sym h
-not_true false h = refl
-
 pub inserted_old : (t : Task) (ts new : List Task) (b : Bool) → b ≡ not (list_any (same_task t) ts) → b ≡ false → new ≡ cond (list_any (same_task t) ts) ts (ts ++ t ∷ []) → (new ≡ ts) × IsIn t ts
 inserted_old t ts new b is h keys =
-    let there = not_false (list_any (same_task t) ts) (sym is ∙ h) in
+    let there = not-false (list_any (same_task t) ts) (sym is ∙ h) in
     (keys ∙ ap (λ c. cond c ts (ts ++ t ∷ [])) there, any_member t ts there)
 
 pub inserted_new : (t : Task) (ts new : List Task) (b : Bool) → b ≡ not (list_any (same_task t) ts) → b ≡ true → new ≡ cond (list_any (same_task t) ts) ts (ts ++ t ∷ []) → (new ≡ ts ++ t ∷ []) × (IsIn t ts → ⊥)
 inserted_new t ts new b is h keys =
-    let absent = not_true (list_any (same_task t) ts) (sym is ∙ h) in
+    let absent = not-true (list_any (same_task t) ts) (sym is ∙ h) in
     (keys ∙ ap (λ c. cond c ts (ts ++ t ∷ [])) absent, none_member t ts absent)

@@ -6,18 +6,18 @@ use Rattle.std.specs.Prelude.{nat_le}
 use Rattle.std.specs.List.{list_all, join_with_byte}
 use Rattle.std.specs.Fmt.{decimal, signed_decimal}
 use Rattle.std.specs.Str.Parse.{AllDigits}
-use Rattle.std.proofs.lemmas.Bool.{false≢true, le-leb, ltb-true}
+use Rattle.std.proofs.lemmas.Bool.{false≢true, le-leb, ltb-true, and_from}
 use Rattle.std.proofs.lemmas.Fmt.{decimal_is_IsNumeral, decimal_injective, signed_decimal_injective}
 use Rattle.std.proofs.lemmas.List.{append-nil}
 use Rattle.std.proofs.lemmas.Str.Parse.{digit_from_value}
 use Rattle.ptg_base.specs.Decimal.{is_digit}
-use Rattle.range_space.proofs.MemberLists.{and_left, and_right}
+use Rattle.std.specs.Cmp.{first_so, second_so}
 use Rattle.ptg_base.specs.Names.{is_letter, is_part}
 use Rattle.trace_core.specs.Cutting.{is_free_of, opens_with}
 use Rattle.trace_core.specs.Rows.{number_field, number_fields, row_content}
 use Rattle.trace_core.specs.Spelling.{IsSpelled, fits_64, is_name}
 use Rattle.trace_core.specs.Text.{Entry, head_line, row_line}
-use Rattle.trace_core.proofs.Cuts.{both, cut_once, free_append, free_by}
+use Rattle.trace_core.proofs.Cuts.{cut_once, free_append, free_by}
 
 -- a number that fits 64 bits
 pub fits_mag : (z : ℤ) → fits_64 z ≡ true → mag z < 2 ^ 63
@@ -32,7 +32,7 @@ digits_pass : (ds : List ℕ) → AllDigits 10 ds → list_all is_digit ds ≡ t
 digits_pass [] h = refl
 digits_pass (d ∷ ds) h =
     let r = digit_from_value d h.0 in
-    both (is_digit d) (list_all is_digit ds) (both (nat_le 48 d) (nat_le d 57) (le-leb 48 d r.0) (le-leb d 57 r.1)) (digits_pass ds h.1)
+    and_from (is_digit d) (list_all is_digit ds) (and_from (nat_le 48 d) (nat_le d 57) (le-leb 48 d r.0) (le-leb d 57 r.1)) (digits_pass ds h.1)
 
 pub decimal_free : (c n : ℕ) → n < 2 ^ 64 → is_digit c ≡ false → is_free_of c (decimal n) ≡ true
 decimal_free c n h fails = free_by is_digit c fails (decimal n) (digits_pass (decimal n) (decimal_is_IsNumeral n h).0.1)
@@ -41,7 +41,7 @@ pub signed_free : (c : ℕ) (z : ℤ) → fits_64 z ≡ true → is_digit c ≡ 
 signed_free c (pos n) fits fails other = let small = ltb-true n 9223372036854775808 fits in decimal_free c n (omega arith) fails
 signed_free c (negsuc n) fits fails other =
     let small = ltb-true n 9223372036854775808 fits in
-    both (not (45 == c)) (is_free_of c (decimal (suc n))) (ap not other) (decimal_free c (suc n) (omega arith) fails)
+    and_from (not (45 == c)) (is_free_of c (decimal (suc n))) (ap not other) (decimal_free c (suc n) (omega arith) fails)
 
 pub same_number : (y z : ℤ) → fits_64 y ≡ true → fits_64 z ≡ true → signed_decimal y ≡ signed_decimal z → y ≡ z
 same_number y z h k e = signed_decimal_injective y z (fits_mag y h) (fits_mag z k) e
@@ -50,7 +50,7 @@ same_number y z h k e = signed_decimal_injective y z (fits_mag y h) (fits_mag z 
 pub name_free : (c : ℕ) → is_part c ≡ false → (name : List ℕ) → is_name name ≡ true → is_free_of c name ≡ true
 name_free c fails [] h = absurd (false≢true h)
 name_free c fails (b ∷ bs) h =
-    free_by is_part c fails (b ∷ bs) (both (is_part b) (list_all is_part bs) (letter_part b (and_left (is_letter b) (list_all is_part bs) h)) (and_right (is_letter b) (list_all is_part bs) h))
+    free_by is_part c fails (b ∷ bs) (and_from (is_part b) (list_all is_part bs) (letter_part b (first_so (is_letter b) (list_all is_part bs) h)) (second_so (is_letter b) (list_all is_part bs) h))
   where
     letter_part : (b : ℕ) → is_letter b ≡ true → is_part b ≡ true
     letter_part b h = ap (λ x. x || is_digit b) h
@@ -58,7 +58,7 @@ name_free c fails (b ∷ bs) h =
 pub fields_free : (ns : List ℤ) → list_all fits_64 ns ≡ true → is_free_of 10 (number_fields ns) ≡ true
 fields_free [] h = refl
 fields_free (n ∷ ns) h =
-    free_append 10 (number_field n) (number_fields ns) (signed_free 10 n (and_left (fits_64 n) (list_all fits_64 ns) h) refl refl) (fields_free ns (and_right (fits_64 n) (list_all fits_64 ns) h))
+    free_append 10 (number_field n) (number_fields ns) (signed_free 10 n (first_so (fits_64 n) (list_all fits_64 ns) h) refl refl) (fields_free ns (second_so (fits_64 n) (list_all fits_64 ns) h))
 
 pub fields_open : (ns : List ℤ) → opens_with 44 (number_fields ns) ≡ true
 fields_open [] = refl
@@ -85,12 +85,12 @@ same_numbers [] [] h k e = refl
 same_numbers [] (n ∷ ns) h k e = cc
 same_numbers (m ∷ ms) [] h k e = cc
 same_numbers (m ∷ ms) (n ∷ ns) h k e =
-    let fm = and_left (fits_64 m) (list_all fits_64 ms) h in
-    let fn = and_left (fits_64 n) (list_all fits_64 ns) k in
+    let fm = first_so (fits_64 m) (list_all fits_64 ms) h in
+    let fn = first_so (fits_64 n) (list_all fits_64 ns) k in
     let tail : signed_decimal m ++ number_fields ms ≡ signed_decimal n ++ number_fields ns = cc in
     let r = cut_once 44 (signed_decimal m) (signed_decimal n) (number_fields ms) (number_fields ns) (signed_free 44 m fm refl refl) (signed_free 44 n fn refl refl) (fields_open ms) (fields_open ns) tail in
     let first = same_number m n fm fn r.0 in
-    let later = same_numbers ms ns (and_right (fits_64 m) (list_all fits_64 ms) h) (and_right (fits_64 n) (list_all fits_64 ns) k) r.1 in
+    let later = same_numbers ms ns (second_so (fits_64 m) (list_all fits_64 ms) h) (second_so (fits_64 n) (list_all fits_64 ns) k) r.1 in
     λ i. first i ∷ later i
 
 -- rows are printed alike only where they say the same

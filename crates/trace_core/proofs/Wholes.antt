@@ -13,26 +13,26 @@ use Rattle.plan_core.specs.declared.class.ClassPlan.{ClassPlan}
 use Rattle.plan_core.specs.declared.plan.Plan.{Plan}
 use Rattle.coll_data.specs.Data.{Data}
 use Rattle.body_eval.specs.Meaning.{body_meaning}
-use Rattle.range_space.proofs.Stepping.{by_test}
+use Rattle.list_lemmas.proofs.Truth.{by_test}
+use Rattle.list_lemmas.proofs.Counts.{count-some, some_passes, same_counts}
+use Rattle.list_lemmas.proofs.Options.{some_value}
+use Rattle.list_lemmas.proofs.Members.{member_passes, list_all-from_members, IsIn-filter}
+use Rattle.list_lemmas.proofs.Distinct.{no_longer, HasNoRepeats-filter}
+use Rattle.list_lemmas.proofs.Tasks.{distinct_once, member_or_not, uncounted, once_each}
 use Rattle.dep_iter.specs.Tasks.{IsTask, all_tasks, locals_of}
 use Rattle.dep_iter.specs.Edges.{in_edges}
 use Rattle.dep_iter.specs.Consistent.{IsConsistent}
 use Rattle.dep_iter.proofs.Listing.{listed}
 use Rattle.flow_meaning.specs.Answer.{ran}
 use Rattle.flow_meaning.specs.Backward.{ended, has_all_sources, source_tile}
-use Rattle.flow_meaning.specs.Counting.{HasSameMembers, as_number, count}
+use Rattle.list_lemmas.specs.Counting.{HasSameMembers, as_number, count}
 use Rattle.flow_meaning.specs.Ending.{ended_on, has_outputs}
 use Rattle.flow_meaning.specs.Order.{IsLegalAfter}
 use Rattle.flow_meaning.specs.Starting.{starting_tiles}
-use Rattle.flow_meaning.proofs.Counting.{count-some, some_passes}
-use Rattle.flow_meaning.proofs.Counts.{same_counts}
-use Rattle.flow_meaning.proofs.Enough.{fixed, with_some}
-use Rattle.flow_meaning.proofs.Members.{all_at, all_from}
+use Rattle.flow_meaning.proofs.Enough.{fixed}
 use Rattle.flow_meaning.proofs.Once.{tasks_once}
-use Rattle.flow_meaning.proofs.Quiet.{filtered}
 use Rattle.flow_meaning.proofs.Rounds.{has_sources}
 use Rattle.flow_meaning.proofs.SourceEdges.{class_of}
-use Rattle.task_order.proofs.Lists.{at_most, distinct-filter, distinct_once, member_or_not}
 use Rattle.task_order.proofs.Orders.{legal_once, legal_tasks}
 use Rattle.trace_core.specs.Faults.{IsMissing}
 use Rattle.trace_core.specs.Orders.{IsWholeOrder, MayAllRunAfter, MayRunAfter}
@@ -63,53 +63,27 @@ all_or_missing P G before (d ∷ ds) = elim (member_or_not d.from before) [
       (λ o. inr (d, inl refl, inr o))
 ]
 
--- of tasks, all are among these, or one is not
-pub all_or_absent : (ts us : List Task) → ((t : Task) → IsIn t us → IsIn t ts) ⊎ ((t : Task) × IsIn t us × (IsIn t ts → ⊥))
-all_or_absent ts [] = inl (λ t i. absurd i)
-all_or_absent ts (u ∷ us) = elim (member_or_not u ts) [
-  | inr absent ↦ inr (u, inl refl, absent)
-  | inl here ↦ elim (all_or_absent ts us) [
-    | inl all ↦ inl (λ t i. elim i [ inl q ↦ subst (λ v. IsIn v ts) (sym q) here | inr later ↦ all t later ])
-    | inr p ↦ inr (p.0, inr p.1, p.2)
-  ]
-]
-
--- how often a task is listed
-uncounted : (t : Task) (ts : List Task) → (IsIn t ts → ⊥) → count (same_task t) ts ≡ 0
-uncounted t [] absent = refl
-uncounted t (u ∷ us) absent =
-    by_test (same_task t u)
-    (λ k. absurd (absent (inl ((same_task-decides t u).0 k))))
-    (λ k. omega (arith, ap as_number k, uncounted t us (λ i. absent (inr i))))
-
-once_each : (ts : List Task) → HasNoRepeats ts → (t : Task) → count (same_task t) ts ≤ 1
-once_each [] h t = omega arith
-once_each (u ∷ us) h t =
-    by_test (same_task t u)
-    (λ k. omega (arith, ap as_number k, uncounted t us (λ i. h.0 (subst (λ v. IsIn v us) ((same_task-decides t u).0 k) i))))
-    (λ k. omega (arith, ap as_number k, once_each us h.1 t))
-
 module _ (P : Plan) (G : Data) (con : IsConsistent P) where
   -- a task ends whose sources all have outputs, and the other way round
   pub it_ends : (t : Task) → IsTask P t → ((e : Edge) → IsIn e (in_edges P t) → has_outputs (ended P G e.from) ≡ true) → is_some (ended P G t) ≡ true
   unfolding ended_on
   it_ends t job sources =
-      let all : has_all_sources P (ended P G) t ≡ true = all_from (λ (e : Edge). has_outputs (ended P G e.from)) (in_edges P t) sources in
+      let all : has_all_sources P (ended P G) t ≡ true = list_all-from_members (λ (e : Edge). has_outputs (ended P G e.from)) (in_edges P t) sources in
       let h = class_of P t job in
       ap is_some (fixed P G con t job ∙ ap (λ b. cond b (ended_on P G (source_tile (ended P G)) t) None) all
       ∙ ap (λ o. option_map (λ (c : ClassPlan). body_meaning c.body (locals_of P t) (starting_tiles P G (source_tile (ended P G)) t)) o) h.class_is)
 
   pub sources_end : (t : Task) → IsTask P t → is_some (ended P G t) ≡ true → (e : Edge) → IsIn e (in_edges P t) → has_outputs (ended P G e.from) ≡ true
   sources_end t job some e i =
-      let o = with_some (ended P G t) some in
+      let o = some_value (ended P G t) some in
       let all = has_sources P G con t job (ended P G) o.0 (sym (fixed P G con t job) ∙ o.1) in
-      all_at (λ (d : Edge). has_outputs (ended P G d.from)) (in_edges P t) all e i
+      member_passes (λ (d : Edge). has_outputs (ended P G d.from)) (in_edges P t) all e i
 
   -- the tasks that run are those that end
   pub ran_ends : (t : Task) → IsIn t (ran P G) ↔ (IsTask P t × (is_some (ended P G t) ≡ true))
   unfolding ran
   ran_ends t =
-      let f = filtered (λ u. is_some (ended P G u)) (all_tasks P) t in
+      let f = IsIn-filter (λ u. is_some (ended P G u)) (all_tasks P) t in
       (λ i. let p = f.0 i in ((listed P t).1 p.0, p.1), λ p. f.1 ((listed P t).0 p.0, p.1))
 
   -- tasks that may run in their order run
@@ -123,7 +97,7 @@ module _ (P : Plan) (G : Data) (con : IsConsistent P) where
   same_count : (ts : List Task) → HasNoRepeats ts → ((t : Task) → IsIn t ts ↔ IsIn t (ran P G)) → (t : Task) → count (same_task t) ts ≡ count (same_task t) (ran P G)
   unfolding ran
   same_count ts once same t =
-      let there = once_each (filter (λ u. is_some (ended P G u)) (all_tasks P)) (distinct-filter (λ u. is_some (ended P G u)) (all_tasks P) (distinct_once (all_tasks P) (tasks_once P))) t in
+      let there = once_each (filter (λ u. is_some (ended P G u)) (all_tasks P)) (HasNoRepeats-filter (λ u. is_some (ended P G u)) (all_tasks P) (distinct_once (all_tasks P) (tasks_once P))) t in
       let here = once_each ts once t in
       elim (member_or_not t ts) [
         | inl i ↦ omega (arith, here, there, count-some (same_task t) ts t i ((same_task-decides t t).1 refl), count-some (same_task t) (ran P G) t ((same t).0 i) ((same_task-decides t t).1 refl))
@@ -161,6 +135,6 @@ module _ (P : Plan) (G : Data) (con : IsConsistent P) where
 
   pub whole_length : (ts : List Task) → IsWholeOrder P G ts → length ts ≤ 1000000
   whole_length ts w =
-      let few = at_most ts (all_tasks P) (legal_once P [] ts w.legal) (λ t i. (listed P t).0 (legal_tasks P [] ts w.legal t i)) in
+      let few = no_longer ts (all_tasks P) (legal_once P [] ts w.legal) (λ t i. (listed P t).0 (legal_tasks P [] ts w.legal t i)) in
       let limit = con.tasks_at_most in
       omega arith

@@ -1,4 +1,5 @@
--- Orders in which the tasks of a job may run, and whole orders. Source: DAGuE (Parallel Computing, 2012): a task runs after the sources of its edges.
+-- Orders in which the tasks of a job may run, and whole orders. Source: DAGuE (Parallel Computing, 2012): a task runs
+-- after the sources of its edges.
 use Rattle.std.specs.Prelude.{◌≡◌, List, [], ◌∷◌, ◌++◌, IsTrue}
 use Rattle.ptg_base.specs.Lists.{IsIn}
 use Rattle.ptg_base.specs.Task.{Task}
@@ -8,7 +9,7 @@ use Rattle.coll_data.specs.Data.{Data}
 use Rattle.dep_iter.specs.Edges.{in_edges}
 use Rattle.flow_meaning.specs.Answer.{ran}
 use Rattle.flow_meaning.specs.Backward.{ended}
-use Rattle.flow_meaning.specs.Counting.{HasSameMembers}
+use Rattle.list_lemmas.specs.Counting.{HasSameMembers}
 use Rattle.flow_meaning.specs.Ending.{has_outputs}
 use Rattle.flow_meaning.specs.Order.{IsLegalOrder, MayFollow}
 

@@ -1,4 +1,5 @@
--- Which texts are spelled as a trace, whatever their rows name, and which row is the first that is not. Source: this project's own choice.
+-- Which texts are spelled as a trace, whatever their rows name, and which row is the first that is not. Source: this
+-- project's own choice.
 use Rattle.std.specs.Prelude.{◌≡◌, ◌≢◌, ◌+◌, ◌<◌, ◌≤◌, ℕ, ℤ, pos, negsuc, nat_lt, Bool, false, ◌&&◌, IsTrue, List, [], ◌∷◌, ◌++◌, length}
 use Rattle.std.specs.List.{AllByRecursion, list_all}
 pub use Rattle.ptg_base.specs.Names.{is_name}
@@ -36,6 +37,8 @@ pub data IsBadRow (text : List ℕ) (row : ℕ) : Type 0 where
   -- the head
   bad_head : HasNoHead text → row ≡ 1 → IsBadRow text row
   -- a row of those that the head says, which is missing or not spelled as one
-  bad_row : (n : ℕ) (es : List Entry) (rest : List ℕ) → BeginsWith text n es rest → length es < n → HasNoRow rest → row ≡ length es + 2 → IsBadRow text row
+  bad_row : (n : ℕ) (es : List Entry) (rest : List ℕ) → BeginsWith text n es rest → length es < n → HasNoRow rest
+      → row ≡ length es + 2 → IsBadRow text row
   -- what follows them
-  row_too_many : (n : ℕ) (es : List Entry) (rest : List ℕ) → BeginsWith text n es rest → length es ≡ n → rest ≢ [] → row ≡ length es + 2 → IsBadRow text row
+  row_too_many : (n : ℕ) (es : List Entry) (rest : List ℕ) → BeginsWith text n es rest → length es ≡ n → rest ≢ []
+      → row ≡ length es + 2 → IsBadRow text row

@@ -1,4 +1,5 @@
--- The text of a trace: a line with the number of its rows, and a row for each task in the order in which they ran. Source: this project's own choice.
+-- The text of a trace: a line with the number of its rows, and a row for each task in the order in which they ran.
+-- Source: this project's own choice.
 use Rattle.std.specs.Prelude.{ℕ, ℤ, List, [], ◌∷◌, ◌++◌, codes, flat_map, length, map}
 use Rattle.std.specs.Fmt.{decimal, signed_decimal}
 use Rattle.ptg_base.specs.Line.{line}

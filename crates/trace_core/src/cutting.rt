@@ -26,7 +26,8 @@ pub(crate) fn cut(bytes: &[u8], end: u8) -> (&[u8], &[u8])
 
 // What follows a word with which the bytes begin.
 pub(crate) fn after_word<'a>(bytes: &'a [u8], word: &[u8]) -> Option<&'a [u8]>
-    ensures { MatchOption result ((rest : List ℕ) → bytes.now ≡ word.now ++ rest → ⊥) (λ rest. bytes.now ≡ word.now ++ rest.now) }
+    ensures { MatchOption result ((rest : List ℕ) → bytes.now ≡ word.now ++ rest → ⊥) (λ rest.
+        bytes.now ≡ word.now ++ rest.now) }
 {
     match bytes.strip_prefix(word) {
         Some(rest) => Some(rest),

@@ -17,7 +17,8 @@ use range_space::Numbers;
 // The number of the class with this name among these, of which the first has number `n`.
 fn class_among(classes: &[ClassPlan], name: &[u8], n: u32) -> Option<u32>
     requires { n + length classes.now ≤ 64 }
-    ensures { MatchOption result ((k : ℕ) → IsNamed classes.now name.now k → ⊥) (λ number. (k : ℕ) × IsNamed classes.now name.now k × (number ≡ n + k)) }
+    ensures { MatchOption result ((k : ℕ) → IsNamed classes.now name.now k → ⊥) (λ number.
+        (k : ℕ) × IsNamed classes.now name.now k × (number ≡ n + k)) }
 {
     let Some((first, later)) = classes.split_first() else {
         return None;
@@ -30,7 +31,8 @@ fn class_among(classes: &[ClassPlan], name: &[u8], n: u32) -> Option<u32>
 
 // The number of the class with this name.
 fn class_named(plan: &Plan, name: &[u8]) -> Option<u32>
-    ensures { MatchOption result ((k : ℕ) → IsNamed plan.now.classes name.now k → ⊥) (λ k. IsNamed plan.now.classes name.now k) }
+    ensures { MatchOption result ((k : ℕ) → IsNamed plan.now.classes name.now k → ⊥) (λ k.
+        IsNamed plan.now.classes name.now k) }
 {
     class_among(plan.classes.as_slice(), name, 0)
 }
@@ -46,7 +48,8 @@ fn parameter_count(plan: &Plan, class: u32) -> usize
 
 // The task that a row names, if the job has it.
 pub(crate) fn task_of(plan: &Plan, row: &Row) -> Option<TaskId>
-    ensures { (e : Entry) → IsRowOf e row.now.name.now row.now.numbers.now → MatchOption result ((t : Task) → Names plan.now e t → ⊥) (λ t. Names plan.now e t) }
+    ensures { (e : Entry) → IsRowOf e row.now.name.now row.now.numbers.now
+        → MatchOption result ((t : Task) → Names plan.now e t → ⊥) (λ t. Names plan.now e t) }
 {
     let Some(class) = class_named(plan, row.name) else {
         return None;

@@ -25,7 +25,8 @@ fn read_number(field: &[u8]) -> Option<i64>
 
 // The number of which a field is the spelling, if it fits 64 bits.
 pub(crate) fn number(field: &[u8]) -> Option<i64>
-    ensures { MatchOption result ((n : ℤ) → IsTrue (fits_64 n) → field.now ≢ signed_decimal n) (λ n. IsTrue (fits_64 n) × (field.now ≡ signed_decimal n)) }
+    ensures { MatchOption result ((n : ℤ) → IsTrue (fits_64 n) → field.now ≢ signed_decimal n) (λ n.
+        IsTrue (fits_64 n) × (field.now ≡ signed_decimal n)) }
 {
     let Some(n) = read_number(field) else {
         return None;

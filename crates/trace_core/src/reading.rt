@@ -27,7 +27,9 @@ pub(crate) fn add_tasks(
     tasks: &mut IndexSet<TaskId>,
 ) -> Result<Option<TraceCode>, OutOfMemory>
     requires { tasks.old.keys ≡ [] }
-    ensures { IfOk result (λ code. (es : List Entry) → AllByRecursion IsSpelled es → rows.now ≡ rows_text es → AreRead plan.now es tasks.new.keys code) }
+    ensures { IfOk result (λ code.
+        (es : List Entry) → AllByRecursion IsSpelled es → rows.now ≡ rows_text es
+        → AreRead plan.now es tasks.new.keys code) }
 {
     let mut left = rows;
     'rows: while let Some((row, later)) = next_row(left) {
@@ -76,7 +78,9 @@ fn fault_after(tasks: &Seq<TaskId>, code: Option<TraceCode>) -> Option<TraceFaul
 
 // The tasks of the rows of a text that is well spelled.
 fn read_tasks(alloc: Global, plan: &Plan, rows: &[u8]) -> Result<Reading, OutOfMemory>
-    ensures { IfOk result (λ r. (es : List Entry) → AllByRecursion IsSpelled es → rows.now ≡ rows_text es → IsReadAs plan.now es r.tasks r.fault) }
+    ensures { IfOk result (λ r.
+        (es : List Entry) → AllByRecursion IsSpelled es → rows.now ≡ rows_text es
+        → IsReadAs plan.now es r.tasks r.fault) }
 {
     let mut set = IndexSet::new(alloc);
     let code = add_tasks(plan, rows, &mut set)?;
@@ -92,7 +96,8 @@ fn refused<T>(row: u64, code: TraceCode) -> Result<T, TraceRefusal>
     Err(Refusal::Fault(TraceFault { row, code }))
 }
 
-/// Reads the tasks of the rows of a text that is spelled as a trace. A fault is of the text's length or of its spelling.
+/// Reads the tasks of the rows of a text that is spelled as a trace. A fault is of the text's length or of its
+/// spelling.
 pub fn read_rows(alloc: Global, m: &Matched, bytes: &[u8]) -> Result<Reading, TraceRefusal>
     ensures read { IfOk result (λ r. IsReading m.now bytes.now r.tasks r.fault) }
     ensures fault { (f : TraceFaultValue) → result ≡ Err (Fault f) → IsSpellingFault bytes.now f }

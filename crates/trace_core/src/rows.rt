@@ -19,7 +19,8 @@ pub(crate) struct Row<'a> {
 
 // The parts of a row without its LF.
 fn row_of(line: &[u8]) -> Option<Row<'_>>
-    ensures { MatchOption result ((e : Entry) → IsSpelled e → line.now ≡ row_content e → ⊥) (λ row. (e : Entry) × IsRowOf e row.name.now row.numbers.now × (line.now ≡ row_content e)) }
+    ensures { MatchOption result ((e : Entry) → IsSpelled e → line.now ≡ row_content e → ⊥) (λ row.
+        (e : Entry) × IsRowOf e row.name.now row.numbers.now × (line.now ≡ row_content e)) }
 {
     let Some(fields) = after_word(line, b"ran,") else {
         return None;
@@ -36,7 +37,8 @@ fn row_of(line: &[u8]) -> Option<Row<'_>>
 
 // The row with which a text begins, and the rest of the text.
 pub(crate) fn next_row(text: &[u8]) -> Option<(Row<'_>, &[u8])>
-    ensures { MatchOption result (HasNoRow text.now) (λ found. BeginsWithRow text.now found.0.name.now found.0.numbers.now found.1.now) }
+    ensures { MatchOption result (HasNoRow text.now) (λ found.
+        BeginsWithRow text.now found.0.name.now found.0.numbers.now found.1.now) }
 {
     let (line, rest) = cut(text, b'\n');
     let Some((_, later)) = rest.split_first() else {
@@ -50,7 +52,8 @@ pub(crate) fn next_row(text: &[u8]) -> Option<(Row<'_>, &[u8])>
 
 // The number of rows that a field says, if a text may have so many.
 fn row_count(field: &[u8]) -> Option<u64>
-    ensures { MatchOption result ((n : ℕ) → n ≤ 1000000 → field.now ≢ decimal n) (λ n. (n ≤ 1000000) × (field.now ≡ decimal n)) }
+    ensures { MatchOption result ((n : ℕ) → n ≤ 1000000 → field.now ≢ decimal n) (λ n.
+        (n ≤ 1000000) × (field.now ≡ decimal n)) }
 {
     let Some(n) = number(field) else {
         return None;
@@ -66,7 +69,8 @@ fn row_count(field: &[u8]) -> Option<u64>
 
 // The number of rows in the head with which a text begins, and the rest of the text.
 pub(crate) fn head(text: &[u8]) -> Option<(u64, &[u8])>
-    ensures { MatchOption result (HasNoHead text.now) (λ found. (found.0 ≤ 1000000) × (text.now ≡ head_line found.0 ++ found.1.now)) }
+    ensures { MatchOption result (HasNoHead text.now) (λ found.
+        (found.0 ≤ 1000000) × (text.now ≡ head_line found.0 ++ found.1.now)) }
 {
     let Some(fields) = after_word(text, b"trace,") else {
         return None;

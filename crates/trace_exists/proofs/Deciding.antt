@@ -1,11 +1,10 @@
 -- Whether one of the first numbers has a property, whether a text begins with a word, and where a text is cut.
-use Rattle.std.proofs.Common.{◌≡◌, ◌≢◌, ◌==◌, ℕ, zero, suc, ◌<◌, not, nat_eq, List, [], ◌∷◌, ◌++◌, length, take, drop, refl, ap, sym, ◌∙◌, subst, ◌⊎◌, inl, inr, arith}
+use Rattle.std.proofs.Common.{◌≡◌, ◌==◌, ℕ, zero, suc, ◌<◌, not, nat_eq, List, [], ◌∷◌, ◌++◌, length, take, drop, refl, ap, subst, ◌⊎◌, inl, inr, arith}
 use Rattle.std.specs.Cmp.Lexicographic.{pointwise}
-use Rattle.std.proofs.lemmas.Bool.{cases_lt, false≢true}
-use Rattle.range_space.proofs.Stepping.{by_test}
+use Rattle.std.proofs.lemmas.Bool.{cases_lt, and_from}
+use Rattle.list_lemmas.proofs.Truth.{by_test}
+use Rattle.list_lemmas.proofs.Texts.{other_word, word_first}
 use Rattle.trace_core.specs.Cutting.{IsCut, is_free_of}
-use Rattle.trace_core.proofs.Cuts.{both}
-use Rattle.trace_core.proofs.Words.{equal_bytes, other_word, same_bytes, word_first}
 
 -- a number below m has the property, or none has
 module _ (Q : ℕ → Type 0) (decide : (n : ℕ) → Q n ⊎ (Q n → ⊥)) where
@@ -21,9 +20,6 @@ module _ (Q : ℕ → Type 0) (decide : (n : ℕ) → Q n ⊎ (Q n → ⊥)) whe
       ])
     ]
   ]
-
-pub same_or_not : (xs ys : List ℕ) → (xs ≡ ys) ⊎ (xs ≢ ys)
-same_or_not xs ys = by_test (pointwise nat_eq xs ys) (λ k. inl (same_bytes xs ys k)) (λ k. inr (λ e. false≢true (sym k ∙ equal_bytes xs ys e)))
 
 -- a text begins with a word, or not
 pub begins_or_not : (word text : List ℕ) → ((rest : List ℕ) × (text ≡ word ++ rest)) ⊎ ((rest : List ℕ) → text ≡ word ++ rest → ⊥)
@@ -42,5 +38,5 @@ cut_at c (b ∷ bs) =
     let later = cut_at c bs in (
       b ∷ later.0,
       later.1,
-      record { split = ap (λ l. b ∷ l) later.2.split; free = both (not (b == c)) (is_free_of c later.0) (ap not k) later.2.free; next = later.2.next },
+      record { split = ap (λ l. b ∷ l) later.2.split; free = and_from (not (b == c)) (is_free_of c later.0) (ap not k) later.2.free; next = later.2.next },
     ))

@@ -19,10 +19,11 @@ use Rattle.trace_core.specs.Spelling.{IsWellSpelled}
 use Rattle.trace_core.specs.Text.{Entry, entry_of}
 use Rattle.trace_core.proofs.Lists.{is_list}
 use Rattle.trace_core.proofs.OneFault.{faultless}
-use Rattle.trace_core.proofs.Wholes.{all_or_absent, whole, whole_all, whole_may}
+use Rattle.trace_core.proofs.Wholes.{whole, whole_all, whole_may}
 use Rattle.trace_exists.specs.Traces.{IsSomeTrace, IsTrace}
 use Rattle.trace_exists.proofs.Running.{may_run_or_fault}
 use Rattle.trace_exists.proofs.Spellings.{spelled_or_bad}
+use Rattle.list_lemmas.proofs.Tasks.{all_or_absent}
 
 module _ (P : Plan) (G : Data) (con : IsConsistent P) (text : List ℕ) where
   -- a text has a fault, or is a trace

@@ -13,10 +13,13 @@ use Rattle.dep_iter.proofs.Listing.{listed}
 use Rattle.flow_meaning.specs.Answer.{ran}
 use Rattle.flow_meaning.specs.Backward.{ended, ended_within}
 use Rattle.flow_meaning.specs.Ending.{Ended, has_outputs}
-use Rattle.flow_meaning.proofs.Enough.{with_outputs, with_some}
-use Rattle.flow_meaning.proofs.Members.{all_at, source_is_task}
+use Rattle.flow_meaning.proofs.Enough.{with_outputs}
+use Rattle.flow_meaning.proofs.Members.{source_is_task}
 use Rattle.flow_meaning.proofs.Rounds.{has_sources}
-use Rattle.task_order.proofs.Lists.{at_most, member_or_not}
+use Rattle.list_lemmas.proofs.Options.{some_value}
+use Rattle.list_lemmas.proofs.Members.{member_passes}
+use Rattle.list_lemmas.proofs.Distinct.{no_longer}
+use Rattle.list_lemmas.proofs.Tasks.{member_or_not}
 use Rattle.task_order.proofs.Orders.{legal_once, legal_tasks}
 use Rattle.trace_core.specs.Orders.{IsWholeOrder, MayAllRunAfter, MayRunAfter}
 use Rattle.trace_core.specs.Faults.{IsMissing}
@@ -50,7 +53,7 @@ module _ (P : Plan) (G : Data) where
   ]
 
   few : (ts : List Task) → MayAllRunAfter P G [] ts → length ts ≤ length (all_tasks P)
-  few ts may = let legal = may_legal P G [] ts may in at_most ts (all_tasks P) (legal_once P [] ts legal) (λ t i. (listed P t).0 (legal_tasks P [] ts legal t i))
+  few ts may = let legal = may_legal P G [] ts may in no_longer ts (all_tasks P) (legal_once P [] ts legal) (λ t i. (listed P t).0 (legal_tasks P [] ts legal t i))
 
   module _ (con : IsConsistent P) where
     module _ (ts : List Task) (none : (t : Task) → MayRunAfter P G ts t → ⊥) where
@@ -68,7 +71,7 @@ module _ (P : Plan) (G : Data) where
                 task = job;
                 first_time = absent;
                 after_sources = λ d i.
-                    let o = with_outputs (ended_within P G n d.from) (all_at (λ (x : Edge). has_outputs (ended_within P G n x.from)) (in_edges P t) all d i) in
+                    let o = with_outputs (ended_within P G n d.from) (member_passes (λ (x : Edge). has_outputs (ended_within P G n x.from)) (in_edges P t) all d i) in
                     let s = with_outputs (ended P G d.from) (outputs d i) in
                     within n d.from (source_is_task P con t job d i) (ap is_some s.1) o.0 o.1;
               };
@@ -80,7 +83,7 @@ module _ (P : Plan) (G : Data) where
       unfolding ended
       has_all t i =
           let r = (ran_ends P G con t).0 i in
-          let o = with_some (ended P G t) r.1 in
+          let o = some_value (ended P G t) r.1 in
           within (length (all_tasks P)) t r.0 r.1 o.0 o.1
 
     -- tasks that may run can be gone on with to a whole order

@@ -1,3 +1,4 @@
+pub mod Fields
 pub mod Deciding
 pub mod Numbers
 pub mod Rows

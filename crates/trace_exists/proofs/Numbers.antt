@@ -2,11 +2,13 @@
 use Rattle.std.proofs.Common.{◌≡◌, ◌≢◌, ◌==◌, ℕ, zero, suc, ◌≤◌, ℤ, pos, negsuc, ◌<◌, true, List, [], ◌∷◌, length, refl, sym, ◌∙◌, ◌⊎◌, inl, inr, arith}
 use Rattle.std.specs.Fmt.{signed_decimal}
 use Rattle.std.proofs.lemmas.Bool.{eqb-true, false≢true, eq-eqb, lt-ltb, ltb-true}
-use Rattle.range_space.proofs.Stepping.{by_test}
+use Rattle.list_lemmas.proofs.Truth.{by_test}
+use Rattle.list_lemmas.proofs.Texts.{same_or_not}
 use Rattle.trace_core.specs.Rows.{BeginsWithNumber, HasNoNumber, IsOfNumbers}
 use Rattle.trace_core.specs.Spelling.{fits_64}
-use Rattle.trace_core.proofs.Fields.{fewer, field_none, field_some, no_numbers, not_numbers, nothing_first, numbers_more, other_first}
-use Rattle.trace_exists.proofs.Deciding.{cut_at, one_below, same_or_not}
+use Rattle.trace_core.proofs.Fields.{field_none, no_numbers, numbers_more}
+use Rattle.trace_exists.proofs.Fields.{fewer, field_some, not_numbers, nothing_first, other_first}
+use Rattle.trace_exists.proofs.Deciding.{cut_at, one_below}
 
 -- a field is a number that fits 64 bits, or is none
 abbrev IsNumber : List ℕ → Type 0

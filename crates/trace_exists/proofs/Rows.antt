@@ -1,12 +1,13 @@
 -- Whether a text begins with a row.
 use Rattle.std.proofs.Common.{◌≡◌, ℕ, List, [], ◌∷◌, codes, length, refl, sym, ◌∙◌, ◌⊎◌, inl, inr, arith}
 use Rattle.std.proofs.lemmas.Bool.{false≢true}
-use Rattle.range_space.proofs.Stepping.{by_test}
+use Rattle.list_lemmas.proofs.Truth.{by_test}
 use Rattle.trace_core.specs.Cutting.{IsCut}
 use Rattle.trace_core.specs.Rows.{BeginsWithRow, IsRowOf, row_content}
 use Rattle.trace_core.specs.Spelling.{HasNoRow, IsSpelled, is_name}
 use Rattle.trace_core.specs.Text.{Entry}
-use Rattle.trace_core.proofs.Fields.{a_row, no_lf, no_row, no_word, parts_none, parts_some}
+use Rattle.trace_core.proofs.Fields.{a_row, no_row, parts_none, parts_some}
+use Rattle.trace_exists.proofs.Fields.{no_lf, no_word}
 use Rattle.trace_exists.proofs.Deciding.{begins_or_not, cut_at}
 use Rattle.trace_exists.proofs.Numbers.{numbers_or_not}
 

@@ -9,11 +9,12 @@ use Rattle.ptg_base.specs.TaskLaws.{same_task-decides}
 use Rattle.plan_core.specs.ClassName.{class_name}
 use Rattle.plan_core.specs.declared.plan.Plan.{Plan}
 use Rattle.coll_data.specs.Data.{Data}
-use Rattle.range_space.proofs.Stepping.{by_test}
+use Rattle.list_lemmas.proofs.Truth.{by_test}
+use Rattle.list_lemmas.proofs.Tasks.{member_or_not}
+use Rattle.list_lemmas.proofs.Texts.{same_or_not}
 use Rattle.dep_iter.specs.Edges.{in_edges}
 use Rattle.dep_iter.specs.Tasks.{all_tasks}
 use Rattle.dep_iter.proofs.Listing.{listed}
-use Rattle.task_order.proofs.Lists.{member_or_not}
 use Rattle.trace_core.specs.declared.fault.TraceCode.{TraceCode}
 use Rattle.trace_core.specs.declared.fault.TraceCode.TheVariants.{UnknownTask, RanTwice, TooEarly}
 use Rattle.trace_core.specs.declared.fault.TraceFault.{TraceFault}
@@ -22,7 +23,6 @@ use Rattle.trace_core.specs.Naming.{Names}
 use Rattle.trace_core.specs.Orders.{MayAllRunAfter, MayRunAfter}
 use Rattle.trace_core.specs.Text.{Entry, entry_of}
 use Rattle.trace_core.proofs.Wholes.{all_or_missing, may_push}
-use Rattle.trace_exists.proofs.Deciding.{same_or_not}
 
 module _ (P : Plan) (e : Entry) where
   -- a row is that of a task, or not

@@ -2,9 +2,14 @@
 use Rattle.std.proofs.Common.{◌≡◌, ℕ, zero, suc, ◌+◌, ◌≤◌, List, [], ◌∷◌, ◌++◌, length, refl, subst, ◌⊎◌, inl, inr, arith}
 use Rattle.trace_core.specs.Spelling.{BeginsWith, HasNoHead, IsBadRow, bad_head, bad_row, row_too_many, IsWellSpelled}
 use Rattle.trace_core.specs.Text.{Entry, head_line}
-use Rattle.trace_core.proofs.Heads.{begin_more, begin_with, length_push}
+use Rattle.trace_core.proofs.Heads.{begin_more}
 use Rattle.trace_exists.proofs.Deciding.{begins_or_not, one_below}
 use Rattle.trace_exists.proofs.Rows.{row_or_none}
+use Rattle.std.proofs.lemmas.List.{length_push}
+
+-- no row yet, and one more
+begin_with : (text : List ℕ) (n : ℕ) (rest : List ℕ) → n ≤ 1000000 → text ≡ head_line n ++ rest → BeginsWith text n [] rest
+begin_with text n rest le is = record { at_most = le; split = is; spelled = tt }
 
 abbrev HasHead : List ℕ → ℕ → Type 0
 HasHead text n = (rest : List ℕ) × (text ≡ head_line n ++ rest)

@@ -18,7 +18,7 @@ use Rattle.dep_iter.specs.Edges.{in_edges}
 use Rattle.dep_iter.specs.Consistent.{IsConsistent}
 use Rattle.flow_meaning.specs.declared.outcome.Outcome.{Outcome}
 use Rattle.flow_meaning.specs.Answer.{answer, ran}
-use Rattle.task_order.proofs.Lists.{apart}
+use Rattle.list_lemmas.proofs.Distinct.{HasNoRepeats-apart}
 use Rattle.trace_core.specs.declared.fault.TraceCode.{TraceCode}
 use Rattle.trace_core.specs.declared.fault.TraceCode.TheVariants.{TooLong, BadTrace, UnknownTask, RanTwice, TooEarly, Unfinished}
 use Rattle.trace_core.specs.declared.fault.TraceFault.{TraceFault}
@@ -61,7 +61,7 @@ module _ (P : Plan) (G : Data) (es : List Entry) (ts : List Task) (jobs : AllByR
   pub stopped_early : (index : ℕ) → StopsAt P G ts index → (f : TraceFault) → f ≡ record { row = index + 2; code = TooEarly } → IsVerdictOn P G es ts (Err f)
   stopped_early index s f is =
       let job = middle_task P s.before s.later s.stopped (subst (AllByRecursion (IsTask P)) s.split jobs) in
-      let new : IsIn s.stopped s.before → ⊥ = λ i. apart s.before (s.stopped ∷ s.later) (subst HasNoRepeats s.split once) s.stopped i (inl refl) in
+      let new : IsIn s.stopped s.before → ⊥ = λ i. HasNoRepeats-apart s.before (s.stopped ∷ s.later) (subst HasNoRepeats s.split once) s.stopped i (inl refl) in
       let x = edge_missing s job new in
       let more = rows_go_on P es ts fault read in
       let e = entry_of P s.stopped in

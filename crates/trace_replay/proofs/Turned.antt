@@ -19,8 +19,9 @@ use Rattle.flow_core.specs.RunState.{RunState, machine}
 use Rattle.flow_core.specs.Turns.{IsBetweenTurns}
 use Rattle.flow_core.proofs.Turning.{between_finished, may_follow_finished}
 use Rattle.trace_core.specs.Orders.{MayRunAfter}
-use Rattle.trace_core.proofs.Wholes.{all_or_absent, may_push, ran_ends}
+use Rattle.trace_core.proofs.Wholes.{may_push, ran_ends}
 use Rattle.trace_replay.specs.Replaying.{HasRunInOrder, StopsAt}
+use Rattle.list_lemmas.proofs.Tasks.{all_or_absent}
 
 module _ (P : Plan) (G : Data) (con : IsConsistent P) (ts : List Task) (r : RunState) (h : HasRunInOrder P G ts r) where
   -- a task gets its turn where it may run

@@ -36,7 +36,8 @@ abbrev pub IsEndOf : Plan → Data → List Task → TraceFault → Result Outco
 IsEndOf P G ts unfinished (Ok o) = (o ≡ answer P G) × ((t : Task) → IsIn t (ran P G) → IsIn t ts)
 IsEndOf P G ts unfinished (Err f) = (f ≡ unfinished) × ((t : Task) × IsIn t (ran P G) × (IsIn t ts → ⊥))
 
--- the verdict on rows, of which these tasks were read: their first fault; or the answer, where the tasks are those of all rows and a whole order
+-- the verdict on rows, of which these tasks were read: their first fault; or the answer, where the tasks are those of
+-- all rows and a whole order
 abbrev pub IsVerdictOn : Plan → Data → List Entry → List Task → Result Outcome TraceFault → Type 0
 IsVerdictOn P G es ts (Err f) = IsFaultOfRow P G es f ⊎ IsUnfinished P G es f
 IsVerdictOn P G es ts (Ok o) = (o ≡ answer P G) × AreRowsOf P es ts × IsWholeOrder P G ts

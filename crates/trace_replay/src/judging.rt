@@ -35,7 +35,8 @@ fn judge_tasks(
     requires tasks { AllByRecursion (IsTask m.now) tasks.now }
     requires once { HasNoRepeats tasks.now }
     requires known { DataFit m.now.colls m.now.elems given }
-    ensures { IfOk result (λ v. (es : List Entry) → IsReadAs m.now es tasks.now fault → IsVerdictOn m.now given es tasks.now v) }
+    ensures { IfOk result (λ v.
+        (es : List Entry) → IsReadAs m.now es tasks.now fault → IsVerdictOn m.now given es tasks.now v) }
 {
     let _ = m.plan();
     let (run, early) = run_in_order(alloc, m, &given, tasks)?;
@@ -69,8 +70,8 @@ fn unread(refusal: TraceRefusal) -> Result<Result<Outcome, TraceFault>, OutOfMem
     }
 }
 
-/// Runs the tasks of a list in its order on one thread: the answer of the job, if the list is a whole order; else the first fault
-/// of the list, by the row that its task would have in a trace.
+/// Runs the tasks of a list in its order on one thread: the answer of the job, if the list is a whole order; else the
+/// first fault of the list, by the row that its task would have in a trace.
 pub fn replay(
     alloc: Global,
     m: &Matched,
@@ -82,7 +83,9 @@ pub fn replay(
     requires known { DataFit m.now.colls m.now.elems given }
     ensures answer { IfOk result (λ outcome. outcome ≡ meaning.answer m.now given) }
     ensures whole { OnOk result (IsWholeOrder m.now given list.now) }
-    ensures fault { (f : TraceFaultValue) → result ≡ Err (Fault f) → IsFaultOfRow m.now given (map (entry_of m.now) list.now) f ⊎ IsUnfinished m.now given (map (entry_of m.now) list.now) f }
+    ensures fault { (f : TraceFaultValue) → result ≡ Err (Fault f)
+        → IsFaultOfRow m.now given (map (entry_of m.now) list.now) f
+        ⊎ IsUnfinished m.now given (map (entry_of m.now) list.now) f }
 {
     let verdict = judge_tasks(alloc, m, given, list, None)?;
     match verdict {
@@ -91,7 +94,8 @@ pub fn replay(
     }
 }
 
-/// The verdict on a text as a trace of a job: its first fault, or the answer of the job, where it is the text of a whole order.
+/// The verdict on a text as a trace of a job: its first fault, or the answer of the job, where it is the text of a
+/// whole order.
 pub fn judge_trace(
     alloc: Global,
     m: &Matched,
@@ -104,7 +108,8 @@ pub fn judge_trace(
     // A text with a fault is refused with its first one, unless memory runs out.
     ensures refused { (f : TraceFaultValue) → IsTraceFault m.now given bytes.now f → IfOk result (λ v. v ≡ Err f) }
     // A text that is accepted is that of a whole order within 16 MiB, and the answer is that of the job.
-    ensures whole { IfOk result (λ v. OnOk v ((tasks : List Task) × IsListOf m.now bytes.now tasks × IsWholeOrder m.now given tasks)) }
+    ensures whole { IfOk result (λ v.
+        OnOk v ((tasks : List Task) × IsListOf m.now bytes.now tasks × IsWholeOrder m.now given tasks)) }
     ensures answer { IfOk result (λ v. IfOk v (λ outcome. outcome ≡ meaning.answer m.now given)) }
 {
     let _ = m.plan();

@@ -33,7 +33,9 @@ pub(crate) fn run_in_order(
     list: &[TaskId],
 ) -> Result<(State, Option<usize>), OutOfMemory>
     requires { AllByRecursion (IsTask m.now) list.now }
-    ensures { IfOk result (λ r. MatchOption r.1 (HasRunInOrder m.now given.now list.now r.0) (λ index. StopsAt m.now given.now list.now index)) }
+    ensures { IfOk result (λ r.
+        MatchOption r.1 (HasRunInOrder m.now given.now list.now r.0) (λ index.
+        StopsAt m.now given.now list.now index)) }
 {
     let _ = m.plan();
     let mut run = opened(alloc, m, given);

@@ -1,4 +1,5 @@
-//! Rows of traces: each is a job with a text that is read as its trace, written down in a file. The words name the files.
+//! Rows of traces: each is a job with a text that is read as its trace, written down in a file. The words name the
+//! files.
 //! Prints the rows that came out otherwise.
 #![tactic(auto)]
 

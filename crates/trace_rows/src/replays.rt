@@ -25,7 +25,8 @@ const STALLED: u8 = 6;
 // The status of a fault of a trace.
 const TRACE_REFUSED: u8 = 11;
 
-/// The answer of a job, where the text is that of its tasks in an order in which they may run; else the text's first fault.
+/// The answer of a job, where the text is that of its tasks in an order in which they may run; else the text's first
+/// fault.
 pub fn replayed(alloc: Global, m: &Matched, given: Given, trace: &[u8]) -> Result<Printed, Why>
     requires { DataFit m.now.colls m.now.elems given }
 {
@@ -37,8 +38,8 @@ pub fn replayed(alloc: Global, m: &Matched, given: Given, trace: &[u8]) -> Resul
     }
 }
 
-/// The text of the tasks that were read, and what comes of them in this order: the answer of the job, or the list's first fault. Of a text
-/// that is not one of different tasks of the job its first fault as such.
+/// The text of the tasks that were read, and what comes of them in this order: the answer of the job, or the list's
+/// first fault. Of a text that is not one of different tasks of the job its first fault as such.
 pub fn listed(alloc: Global, m: &Matched, given: Given, trace: &[u8]) -> Result<Printed, Why>
     requires { DataFit m.now.colls m.now.elems given }
 {

@@ -13,17 +13,19 @@ use Rattle.dep_iter.specs.Active.{active_target, guard_value, held_target, held_
 use Rattle.dep_iter.specs.Well.{are_well, has_arg, has_arguments, has_value, is_well_then}
 use Rattle.std.specs.Result.{result_unwrap_or}
 use Rattle.well_laws.specs.Values.{ArgumentsHaveValues, HasValue}
-use Rattle.well_laws.proofs.Lists.{all_pass, both, each_passes, first_of_both, second_of_both}
+use Rattle.list_lemmas.proofs.Members.{list_all-from_members, member_passes}
+use Rattle.std.proofs.lemmas.Bool.{and_from}
+use Rattle.std.specs.Cmp.{first_so, second_so}
 
 pub to_arguments : (env : List ℤ) (x : Target) → has_arguments env x ≡ true → ArgumentsHaveValues env x
-to_arguments env (target.Task class flow args) e = each_passes (has_arg env) args e
-to_arguments env (target.Element coll indices) e = each_passes (has_value env) indices e
+to_arguments env (target.Task class flow args) e = member_passes (has_arg env) args e
+to_arguments env (target.Element coll indices) e = member_passes (has_value env) indices e
 to_arguments env target.New e = tt
 to_arguments env target.Null e = tt
 
 pub from_arguments : (env : List ℤ) (x : Target) → ArgumentsHaveValues env x → has_arguments env x ≡ true
-from_arguments env (target.Task class flow args) have = all_pass (has_arg env) args have
-from_arguments env (target.Element coll indices) have = all_pass (has_value env) indices have
+from_arguments env (target.Task class flow args) have = list_all-from_members (has_arg env) args have
+from_arguments env (target.Element coll indices) have = list_all-from_members (has_value env) indices have
 from_arguments env target.New have = refl
 from_arguments env target.Null have = refl
 
@@ -130,14 +132,14 @@ module _ (env : List ℤ) where
     ];
   }
   after_one false d ds (Ok (Some x)) at later e =
-      let have = later (second_of_both (has_arguments env x) (are_well false env ds) e) in
+      let have = later (second_so (has_arguments env x) (are_well false env ds) e) in
       record {
         guards = λ g reached. elim (reached_cases false env d g ds reached) [
           | inl same ↦ subst (GuardHasValue env) (sym same) (guard_of env d (Some x) at)
           | inr there ↦ have.guards g there.0
         ];
         arguments = λ y among. elim (subst (IsIn y) (targets_then false d ds (Some x) at) among) [
-          | inl same ↦ subst (ArgumentsHaveValues env) (sym same) (to_arguments env x (first_of_both (has_arguments env x) (are_well false env ds) e))
+          | inl same ↦ subst (ArgumentsHaveValues env) (sym same) (to_arguments env x (first_so (has_arguments env x) (are_well false env ds) e))
           | inr there ↦ have.arguments y there
         ];
       }
@@ -157,7 +159,7 @@ module _ (env : List ℤ) where
   before_one true d ds (Ok (Some x)) at ok later have =
       from_arguments env x (have.arguments x (subst (IsIn x) (sym (targets_then true d ds (Some x) at)) (inl refl)))
   before_one false d ds (Ok (Some x)) at ok later have =
-      both (has_arguments env x) (are_well false env ds)
+      and_from (has_arguments env x) (are_well false env ds)
       (from_arguments env x (have.arguments x (subst (IsIn x) (sym (targets_then false d ds (Some x) at)) (inl refl))))
       (later (record {
         guards = λ g reached. have.guards g (reached_later false env d g ds (λ f. absurd cc) reached);

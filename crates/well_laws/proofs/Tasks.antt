@@ -18,7 +18,9 @@ use Rattle.dep_iter.specs.Active.{flow_ins, flow_outs, held_target, takes_first}
 use Rattle.dep_iter.specs.Tasks.{locals_of}
 use Rattle.dep_iter.specs.Well.{IsWellTask, are_well, first_ill_flow, has_hints, has_priority, has_value, ill_part, ill_part_of, is_well_flow}
 use Rattle.well_laws.specs.Values.{FlowHasValues, HasValue, IsReached, TaskHasValues}
-use Rattle.well_laws.proofs.Lists.{all_pass, both, each_passes, first_of_both, second_of_both}
+use Rattle.list_lemmas.proofs.Members.{list_all-from_members, member_passes}
+use Rattle.std.proofs.lemmas.Bool.{and_from}
+use Rattle.std.specs.Cmp.{first_so, second_so}
 use Rattle.well_laws.proofs.Dependences.{IsReachedIn, active_reached, each_reached, have_well, reached_active, reached_among, well_have}
 
 first_is_data : (k : FlowKind) → takes_first k ≡ is_data (Some k)
@@ -36,8 +38,8 @@ module _ (env : List ℤ) (f : FlowPlan) where
 
   well_flow : is_well_flow env f ≡ true → FlowHasValues env f
   well_flow e =
-      let ins = well_have env (takes_first f.kind) f.ins (first_of_both (are_well (takes_first f.kind) env f.ins) (are_well false env f.outs) e) in
-      let outs = well_have env false f.outs (second_of_both (are_well (takes_first f.kind) env f.ins) (are_well false env f.outs) e) in
+      let ins = well_have env (takes_first f.kind) f.ins (first_so (are_well (takes_first f.kind) env f.ins) (are_well false env f.outs) e) in
+      let outs = well_have env false f.outs (second_so (are_well (takes_first f.kind) env f.ins) (are_well false env f.outs) e) in
       record {
         in_guards = λ d c reached. ins.guards d (from_reached d reached) c;
         out_guards = λ d c among. outs.guards d (each_reached env f.outs d among) c;
@@ -47,7 +49,7 @@ module _ (env : List ℤ) (f : FlowPlan) where
 
   valued_flow : FlowHasValues env f → is_well_flow env f ≡ true
   valued_flow have =
-      both (are_well (takes_first f.kind) env f.ins) (are_well false env f.outs)
+      and_from (are_well (takes_first f.kind) env f.ins) (are_well false env f.outs)
       (have_well env (takes_first f.kind) f.ins (record { guards = λ d reached c. have.in_guards d c (to_reached d reached); arguments = have.in_arguments }))
       (have_well env false f.outs (record { guards = λ d reached c. have.out_guards d c (reached_among false env f.outs d reached); arguments = have.out_arguments }))
 
@@ -107,15 +109,15 @@ class_to env None e = record {
 class_to env (Some d) e =
     let parts = no_ill_part env d e in
     record {
-      affinity = λ c t at among. let same : d ≡ c = cc in each_passes (has_value env) d.affinity.1 (first_of_both (list_all (has_value env) d.affinity.1) (has_priority env d.priority) parts.0) t (subst (λ (k : ClassPlan). IsIn t k.affinity.1) (sym same) among);
-      priority = λ c t at is. let same : d ≡ c = cc in has_priority_to env d.priority t (second_of_both (list_all (has_value env) d.affinity.1) (has_priority env d.priority) parts.0) (ap (λ (k : ClassPlan). k.priority) same ∙ is);
+      affinity = λ c t at among. let same : d ≡ c = cc in member_passes (has_value env) d.affinity.1 (first_so (list_all (has_value env) d.affinity.1) (has_priority env d.priority) parts.0) t (subst (λ (k : ClassPlan). IsIn t k.affinity.1) (sym same) among);
+      priority = λ c t at is. let same : d ≡ c = cc in has_priority_to env d.priority t (second_so (list_all (has_value env) d.affinity.1) (has_priority env d.priority) parts.0) (ap (λ (k : ClassPlan). k.priority) same ∙ is);
       flows = λ f among. well_flow env f (no_ill_flow env 0 d.flows parts.1 f among);
     }
 
 class_from : (env : List ℤ) (o : Option ClassPlan) → HaveClassValues env o → option_and_then (ill_part_of env) o ≡ None
 class_from env None have = refl
 class_from env (Some c) have =
-    let hints : has_hints env c ≡ true = both (list_all (has_value env) c.affinity.1) (has_priority env c.priority) (all_pass (has_value env) c.affinity.1 (λ e among. have.affinity c e refl among)) (has_priority_from env c.priority (λ e is. have.priority c e refl is)) in
+    let hints : has_hints env c ≡ true = and_from (list_all (has_value env) c.affinity.1) (has_priority env c.priority) (list_all-from_members (has_value env) c.affinity.1 (λ e among. have.affinity c e refl among)) (has_priority_from env c.priority (λ e is. have.priority c e refl is)) in
     ap (λ b. cond b (option_map Some (first_ill_flow env 0 c.flows)) (Some None)) hints
     ∙ ap (λ i. option_map Some i) (each_well env 0 c.flows (λ f among. valued_flow env f (have.flows f among)))
 

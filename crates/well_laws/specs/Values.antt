@@ -1,4 +1,6 @@
--- What a task needs has its values, for each expression that it needs. Source: DAGuE (Parallel Computing, 2012) and PaRSEC (2013): of a data flow's in dependences the first that holds counts, so those after it are not reached; of its out dependences, and of a CTL flow's dependences, all are.
+-- What a task needs has its values, for each expression that it needs. Source: DAGuE (Parallel Computing, 2012) and
+-- PaRSEC (2013): of a data flow's in dependences the first that holds counts, so those after it are not reached; of its
+-- out dependences, and of a CTL flow's dependences, all are.
 use Rattle.std.specs.Prelude.{◌≡◌, ℤ, List, ◌∷◌, ◌++◌, IsTrue, IsOk, Some, None, slice_get}
 use Rattle.ptg_base.specs.Lists.{IsIn}
 use Rattle.ptg_base.specs.Task.{Task}
@@ -20,7 +22,8 @@ use Rattle.dep_iter.specs.Arguments.{arg_values}
 abbrev pub HasValue : List ℤ → Term → Type 0
 HasValue env e = IsOk (value e env)
 
--- each argument of a target has its values: each index of an element, and each argument of a task, be it one value or a range
+-- each argument of a target has its values: each index of an element, and each argument of a task, be it one value or a
+-- range
 abbrev pub ArgumentsHaveValues : List ℤ → Target → Type 0
 ArgumentsHaveValues env (target.Task class flow args) = (a : Arg) → IsIn a args → IsOk (arg_values a env)
 ArgumentsHaveValues env (target.Element coll indices) = (e : Term) → IsIn e indices → HasValue env e
@@ -46,7 +49,9 @@ pub record FlowHasValues (env : List ℤ) (f : FlowPlan) : Type 0 where
 -- what a task needs has its values
 pub record TaskHasValues (P : Plan) (t : Task) : Type 0 where
   -- each index of the affinity of its class, and the priority, if one is written
-  pub affinity : (c : ClassPlan) (e : Term) → slice_get P.classes t.class ≡ Some c → IsIn e c.affinity.1 → HasValue (locals_of P t) e
-  pub priority : (c : ClassPlan) (e : Term) → slice_get P.classes t.class ≡ Some c → c.priority ≡ Some e → HasValue (locals_of P t) e
+  pub affinity : (c : ClassPlan) (e : Term) → slice_get P.classes t.class ≡ Some c → IsIn e c.affinity.1
+      → HasValue (locals_of P t) e
+  pub priority : (c : ClassPlan) (e : Term) → slice_get P.classes t.class ≡ Some c → c.priority ≡ Some e
+      → HasValue (locals_of P t) e
   -- what each of its flows needs
   pub flows : (f : FlowPlan) → IsIn f (flows_of P t) → FlowHasValues (locals_of P t) f

@@ -1,6 +1,6 @@
 -- What the form of a word says of it.
 use Rattle.std.proofs.Common.{◌≡◌, ℕ, Bool, true, false, not, ◌==◌, ◌&&◌, ◌||◌, List, [], ◌∷◌, ◌++◌, ◌⊎◌, inl, inr, Option, Some, None, is_some, codes, refl, sym, ap, ◌∙◌, subst, eq-eqb}
-use Rattle.std.proofs.lemmas.Bool.{eqb-true, false_from_ne_true, false≢true}
+use Rattle.std.proofs.lemmas.Bool.{eqb-true, false_from_ne_true, false≢true, and_parts, and_from}
 use Rattle.std.proofs.lemmas.Slice.Eq.{bytes_eq-Decides}
 use Rattle.std.specs.List.{before_first}
 use Rattle.std.specs.Str.{bytes_eq}
@@ -50,14 +50,6 @@ no_dash : (b : ℕ) (w : List ℕ) → (b == 45) ≡ false → begins_with_dash 
 no_dash b w e =
     false_from_ne_true (bytes_eq (b ∷ []) (codes "-"))
     (λ k. false≢true (sym e ∙ eq-eqb b 45 (same_head b ((bytes_eq-Decides (b ∷ []) (codes "-")).0 k))))
-
-both_true : (a b : Bool) → (a && b) ≡ true → (a ≡ true) × (b ≡ true)
-both_true true b e = (refl, e)
-both_true false b e = absurd (false≢true e)
-
-both_are : (a b : Bool) → a ≡ true → b ≡ true → (a && b) ≡ true
-both_are true b e f = f
-both_are false b e f = e
 
 clash : {P : Type 0} (b : Bool) → b ≡ true → b ≡ false → P
 clash b e f = absurd (false≢true (sym f ∙ e))
@@ -138,20 +130,20 @@ module _ (verb : Verb) where
         let is = k.1 in
         let same : k.0 ≡ v = cc in
         elim (subst (IsOption verb) same k.2) [
-          | inl p ↦ clash (tests workers) (both_are (has_counts (options_of verb)) _ (counts_are verb ∙ p.0) (is_name (codes "workers") p.1)) no_workers
+          | inl p ↦ clash (tests workers) (and_from (has_counts (options_of verb)) _ (counts_are verb ∙ p.0) (is_name (codes "workers") p.1)) no_workers
           | inr q ↦ elim q [
-            | inl p ↦ clash (tests shards) (both_are (has_counts (options_of verb)) _ (counts_are verb ∙ p.0) (is_name (codes "shards") p.1)) no_shards
-            | inr p ↦ clash tests_flag (both_are (has_preload (options_of verb)) _ (flags_are verb ∙ p.0) (both_are (bytes_eq (codes "preload") (before_first (λ x. x == 61) v)) _ (is_name (codes "preload") p.1) (ap (λ o. not (is_some o)) p.2))) no_flag
+            | inl p ↦ clash (tests shards) (and_from (has_counts (options_of verb)) _ (counts_are verb ∙ p.0) (is_name (codes "shards") p.1)) no_shards
+            | inr p ↦ clash tests_flag (and_from (has_preload (options_of verb)) _ (flags_are verb ∙ p.0) (and_from (bytes_eq (codes "preload") (before_first (λ x. x == 61) v)) _ (is_name (codes "preload") p.1) (ap (λ o. not (is_some o)) p.2))) no_flag
           ]
         ]
 
     option_says : (x y z : Bool) → tests workers ≡ x → tests shards ≡ y → tests_flag ≡ z
         → Says verb (b ∷ c ∷ v) (if x then named workers (text_after v) else if y then named shards (text_after v) else if z then flag else unknown)
-    option_says true y z p q r = let k = both_true (has_counts (options_of verb)) _ p in of_workers (sym (counts_are verb) ∙ k.0) (name_is (codes "workers") k.1)
-    option_says false true z p q r = let k = both_true (has_counts (options_of verb)) _ q in of_shards (sym (counts_are verb) ∙ k.0) (name_is (codes "shards") k.1)
+    option_says true y z p q r = let k = and_parts (has_counts (options_of verb)) _ p in of_workers (sym (counts_are verb) ∙ k.0) (name_is (codes "workers") k.1)
+    option_says false true z p q r = let k = and_parts (has_counts (options_of verb)) _ q in of_shards (sym (counts_are verb) ∙ k.0) (name_is (codes "shards") k.1)
     option_says false false true p q r =
-        let k = both_true (has_preload (options_of verb)) _ r in
-        let l = both_true (bytes_eq (codes "preload") (before_first (λ x. x == 61) v)) _ k.1 in
+        let k = and_parts (has_preload (options_of verb)) _ r in
+        let l = and_parts (bytes_eq (codes "preload") (before_first (λ x. x == 61) v)) _ k.1 in
         of_preload (sym (flags_are verb) ∙ k.0) (name_is (codes "preload") l.0) (no_text (text_after v) l.1)
     option_says false false false p q r = (dash b (c ∷ v) e, none_of_these p q r)
 
@@ -203,7 +195,7 @@ module _ (verb : Verb) (word : List ℕ) where
 
   next_cases : takes_next verb word ≡ true → (has_numbers verb ≡ true) × ((word ≡ codes "--workers") ⊎ (word ≡ codes "--shards"))
   next_cases e =
-      let k = both_true (has_numbers verb) (bytes_eq word (codes "--workers") || bytes_eq word (codes "--shards")) e in
+      let k = and_parts (has_numbers verb) (bytes_eq word (codes "--workers") || bytes_eq word (codes "--shards")) e in
       (k.0, by (bytes_eq word (codes "--workers")) refl k.1)
     where
       by : (x : Bool) → bytes_eq word (codes "--workers") ≡ x → (x || bytes_eq word (codes "--shards")) ≡ true → (word ≡ codes "--workers") ⊎ (word ≡ codes "--shards")
@@ -211,7 +203,7 @@ module _ (verb : Verb) (word : List ℕ) where
       by false at k = inr ((bytes_eq-Decides word (codes "--shards")).0 k)
 
   takes_of : has_numbers verb ≡ true → (other : List ℕ) → word ≡ other → (bytes_eq other (codes "--workers") || bytes_eq other (codes "--shards")) ≡ true → takes_next verb word ≡ true
-  takes_of has other is test = both_are (has_numbers verb) (bytes_eq word (codes "--workers") || bytes_eq word (codes "--shards")) has (ap (λ w. bytes_eq w (codes "--workers") || bytes_eq w (codes "--shards")) is ∙ test)
+  takes_of has other is test = and_from (has_numbers verb) (bytes_eq word (codes "--workers") || bytes_eq word (codes "--shards")) has (ap (λ w. bytes_eq w (codes "--workers") || bytes_eq w (codes "--shards")) is ∙ test)
 
   not_by : (other : List ℕ) → word ≡ other → (bytes_eq other (codes "--workers") || bytes_eq other (codes "--shards")) ≡ false → takes_next verb word ≡ false
   not_by other is test = ap (λ w. has_numbers verb && (bytes_eq w (codes "--workers") || bytes_eq w (codes "--shards"))) is ∙ ap (λ x. has_numbers verb && x) test ∙ never (has_numbers verb)

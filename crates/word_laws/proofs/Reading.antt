@@ -8,10 +8,7 @@ use Rattle.ptg_words.specs.Parts.{Form, NumberOption, Part, after, flag, form_of
 use Rattle.ptg_words.specs.Words.{Verb, options_of}
 use Rattle.word_laws.specs.Forms.{HasForm, LacksValue, NoValueFollows, begins_with_dash, has_numbers, is_other, is_value, takes_next, with_previous}
 use Rattle.word_laws.proofs.Forms.{dashed, is_name_alone, is_plain, is_unknown, known_has_form, taking, unknown_has_none}
-
-by_test : {P : Type 0} (b : Bool) → (b ≡ true → P) → (b ≡ false → P) → P
-by_test true on_true on_false = on_true refl
-by_test false on_true on_false = on_false refl
+use Rattle.list_lemmas.proofs.Truth.{by_test}
 
 -- ---- stray options
 

@@ -1,6 +1,6 @@
 -- The rules that arguments break, over the words themselves.
-use Rattle.std.proofs.Common.{◌≡◌, ◌≢◌, ℕ, Bool, true, false, not, ◌||◌, ◌==◌, List, ◌∷◌, ◌⊎◌, ◌↔◌, inl, inr, length, Some, None, option_map, refl, sym, ap, ◌∙◌, eq-eqb, ne_eqb}
-use Rattle.std.proofs.lemmas.Bool.{false≢true}
+use Rattle.std.proofs.Common.{◌≡◌, ◌≢◌, ℕ, Bool, true, false, not, ◌==◌, List, ◌∷◌, ◌↔◌, inl, inr, length, Some, None, option_map, sym, ap, ◌∙◌, eq-eqb, ne_eqb}
+use Rattle.std.proofs.lemmas.Bool.{false≢true, or_cases, or_left, or_right, not-true}
 use Rattle.std.specs.List.{list_any}
 use Rattle.std.specs.Option.{option_map_or}
 use Rattle.ptg_base.specs.Lists.{IsIn}
@@ -13,21 +13,6 @@ use Rattle.word_laws.proofs.Twice.{twice_iff}
 
 pub no_read : (first : List ℕ) (words : List (List ℕ)) → verb_of first ≡ None → IsUsage (first ∷ words)
 no_read first words e = no_verb (ap (option_map (λ verb. (verb, parts (options_of verb) words))) e)
-
-or_cases : (a b : Bool) → (a || b) ≡ true → (a ≡ true) ⊎ (b ≡ true)
-or_cases true b e = inl refl
-or_cases false b e = inr e
-
-or_left : (a b : Bool) → a ≡ true → (a || b) ≡ true
-or_left a b e = ap (λ x. x || b) e
-
-or_right : (a b : Bool) → b ≡ true → (a || b) ≡ true
-or_right true b e = refl
-or_right false b e = e
-
-not_true : (b : Bool) → not b ≡ true → b ≡ false
-not_true true e = absurd (false≢true e)
-not_true false e = refl
 
 module _ (verb : Verb) (first : List ℕ) (words : List (List ℕ)) (verb_is : verb_of first ≡ Some verb) where
   abbrev ps : List Part
@@ -52,14 +37,14 @@ module _ (verb : Verb) (first : List ℕ) (words : List (List ℕ)) (verb_is : v
   count_differs : has_wrong_count verb ps ≡ true → length (other_words verb words) ≢ operand_count verb
   count_differs h same =
       let is : (length (operands ps) == operand_count verb) ≡ true = eq-eqb (length (operands ps)) (operand_count verb) (ap length others ∙ same) in
-      false≢true (sym (not_true (length (operands ps) == operand_count verb) h) ∙ is)
+      false≢true (sym (not-true (length (operands ps) == operand_count verb) h) ∙ is)
 
   differs_count : length (other_words verb words) ≢ operand_count verb → has_wrong_count verb ps ≡ true
   differs_count ne = ap not (ne_eqb (length (operands ps)) (operand_count verb) (λ e. ne (sym (ap length others) ∙ e)))
 
   -- numbers
   bad_text : (least most : ℕ) (texts : List (List ℕ)) → has_no_number least most texts ≡ true → (text : List ℕ) × IsIn text texts × (is_number least most text ≡ false)
-  bad_text least most texts e = let p = some_passes (λ text. not (is_number least most text)) texts e in (p.0, p.1, not_true (is_number least most p.0) p.2)
+  bad_text least most texts e = let p = some_passes (λ text. not (is_number least most text)) texts e in (p.0, p.1, not-true (is_number least most p.0) p.2)
 
   text_bad : (least most : ℕ) (texts : List (List ℕ)) (text : List ℕ) → IsIn text texts → is_number least most text ≡ false → has_no_number least most texts ≡ true
   text_bad least most texts text among e = one_passes (λ t. not (is_number least most t)) texts text among (ap not e)

@@ -8,6 +8,7 @@ use Rattle.ptg_words.specs.Parts.{Form, NumberOption, Part, after, flag, form_of
 use Rattle.ptg_words.specs.Words.{Verb, options_of}
 use Rattle.word_laws.specs.Forms.{HasForm, begins_with_dash, has_numbers, shards_alone, shards_with, with_previous, workers_alone, workers_with}
 use Rattle.word_laws.proofs.Forms.{Says, says}
+use Rattle.list_lemmas.proofs.Members.{IsIn-append_left, IsIn-append_right, from_append}
 
 -- an option with a number, alone and with a text
 abbrev pub alone : NumberOption → List ℕ
@@ -29,18 +30,6 @@ one_if b text = cond b (text ∷ []) []
 one_more : (b : Bool) (text : List ℕ) (rest : List (List ℕ)) → cond b (text ∷ rest) rest ≡ one_if b text ++ rest
 one_more true text rest = refl
 one_more false text rest = refl
-
-left : {A : Type 0} (x : A) (xs ys : List A) → IsIn x xs → IsIn x (xs ++ ys)
-left x [] ys i = absurd i
-left x (y ∷ xs) ys i = elim i [ inl e ↦ inl e | inr t ↦ inr (left x xs ys t) ]
-
-right : {A : Type 0} (x : A) (xs ys : List A) → IsIn x ys → IsIn x (xs ++ ys)
-right x [] ys i = i
-right x (y ∷ xs) ys i = inr (right x xs ys i)
-
-split : {A : Type 0} (x : A) (xs ys : List A) → IsIn x (xs ++ ys) → IsIn x xs ⊎ IsIn x ys
-split x [] ys i = inr i
-split x (y ∷ xs) ys i = elim i [ inl e ↦ inl (inl e) | inr t ↦ elim (split x xs ys t) [ inl l ↦ inl (inr l) | inr r ↦ inr r ] ]
 
 same_option : (s t : NumberOption) → is_of s t ≡ true → t ≡ s
 same_option workers workers e = refl
@@ -201,7 +190,7 @@ module _ (verb : Verb) (s : NumberOption) where
 
   to_given : (previous : List ℕ) (words : List (List ℕ)) (text : List ℕ) → IsIn text (all_texts (next_due (form previous)) words) → Given previous words text
   to_given previous [] text i = absurd i
-  to_given previous (word ∷ words) text i = elim (split text (own (next_due (form previous)) (form word) word) (all_texts (next_due (form word)) words) i) [
+  to_given previous (word ∷ words) text i = elim (from_append text (own (next_due (form previous)) (form word) word) (all_texts (next_due (form word)) words) i) [
     | inl own_one ↦ by_own previous word words text (next_due (form previous)) (form word) refl (says verb word) own_one
     | inr rest ↦ later previous word words text (to_given word words text rest)
   ]
@@ -218,9 +207,9 @@ module _ (verb : Verb) (s : NumberOption) where
   from_given previous [] text g = elim g.1 [ inl i ↦ absurd i | inr p ↦ absurd p.0 ]
   from_given previous (word ∷ words) text g = elim g.1 [
     | inl i ↦ elim i [
-      | inl e ↦ left text (own (next_due (form previous)) (form word) word) (all_texts (next_due (form word)) words)
+      | inl e ↦ IsIn-append_left text (own (next_due (form previous)) (form word) word) (all_texts (next_due (form word)) words)
           (own_text (next_due (form previous)) word text (form word) (text_form s word text (form word) (says verb word) (text_has s word text g.0 (sym e)) (sym e)))
-      | inr rest ↦ right text (own (next_due (form previous)) (form word) word) (all_texts (next_due (form word)) words) (from_given word words text (g.0, inl rest))
+      | inr rest ↦ IsIn-append_right text (own (next_due (form previous)) (form word) word) (all_texts (next_due (form word)) words) (from_given word words text (g.0, inl rest))
     ]
     | inr p ↦ elim p.0 [
       | inl e ↦
@@ -228,9 +217,9 @@ module _ (verb : Verb) (s : NumberOption) where
           let is : text ≡ word = ap (λ (q : List ℕ × List ℕ). q.1) e in
           let named_it = alone_form s previous (form previous) (says verb previous) (alone_has s previous g.0 (sym before)) (sym before) in
           let plain_it = plain_form word (form word) (says verb word) (ap begins_with_dash (sym is) ∙ p.1) in
-          left text (own (next_due (form previous)) (form word) word) (all_texts (next_due (form word)) words)
+          IsIn-append_left text (own (next_due (form previous)) (form word) word) (all_texts (next_due (form word)) words)
           (subst (λ z. IsIn z (own (next_due (form previous)) (form word) word)) (sym is) (own_value (next_due (form previous)) word (form word) (ap next_due named_it) plain_it))
-      | inr rest ↦ right text (own (next_due (form previous)) (form word) word) (all_texts (next_due (form word)) words) (from_given word words text (g.0, inr (rest, p.1)))
+      | inr rest ↦ IsIn-append_right text (own (next_due (form previous)) (form word) word) (all_texts (next_due (form word)) words) (from_given word words text (g.0, inr (rest, p.1)))
     ]
   ]
 

@@ -1,5 +1,5 @@
--- The words after a verb, each by itself and with its neighbours. Source: this project's own choice; the forms of options are those of
--- GNU's long options.
+-- The words after a verb, each by itself and with its neighbours. Source: this project's own choice; the forms of
+-- options are those of GNU's long options.
 use Rattle.std.specs.Prelude.{◌≡◌, ◌⊎◌, ◌&&◌, ◌||◌, not, ℕ, Bool, true, false, IsTrue, List, [], ◌∷◌, ◌++◌, codes}
 use Rattle.std.specs.List.{zip}
 use Rattle.std.specs.Str.{bytes_eq}
@@ -62,10 +62,12 @@ is_other verb p = not (takes_next verb p.0) && not (begins_with_dash p.1)
 
 -- a word is this option of the verb, alone or with a text after `=`
 abbrev pub IsWorkers : Verb → List ℕ → Type 0
-IsWorkers verb word = (has_numbers verb ≡ true) × ((word ≡ codes "--workers") ⊎ ((text : List ℕ) × (word ≡ codes "--workers=" ++ text)))
+IsWorkers verb word =
+    (has_numbers verb ≡ true) × ((word ≡ codes "--workers") ⊎ ((text : List ℕ) × (word ≡ codes "--workers=" ++ text)))
 
 abbrev pub IsShards : Verb → List ℕ → Type 0
-IsShards verb word = (has_numbers verb ≡ true) × ((word ≡ codes "--shards") ⊎ ((text : List ℕ) × (word ≡ codes "--shards=" ++ text)))
+IsShards verb word =
+    (has_numbers verb ≡ true) × ((word ≡ codes "--shards") ⊎ ((text : List ℕ) × (word ≡ codes "--shards=" ++ text)))
 
 abbrev pub IsPreload : Verb → List ℕ → Type 0
 IsPreload verb word = (has_flag verb ≡ true) × (word ≡ codes "--preload")

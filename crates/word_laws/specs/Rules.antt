@@ -9,7 +9,9 @@ use Rattle.word_laws.specs.Forms.{HasForm, IsPreload, IsShards, IsTextOfShards, 
 abbrev pub other_words : Verb → List (List ℕ) → List (List ℕ)
 other_words verb words = map (λ (p : List ℕ × List ℕ). p.1) (filter (is_other verb) (with_previous words))
 
--- The words after a verb break a rule: one of them is no text, is empty, or is `-` or `--`; one has a form that the verb does not have; an option lacks its value; an option occurs twice; the other words are more or fewer than the verb's operands; a number is none, or is out of its range.
+-- The words after a verb break a rule: one of them is no text, is empty, or is `-` or `--`; one has a form that the
+-- verb does not have; an option lacks its value; an option occurs twice; the other words are more or fewer than the
+-- verb's operands; a number is none, or is out of its range.
 pub data BreaksRule (verb : Verb) (first : List ℕ) (words : List (List ℕ)) : Type 0 where
   improper : Any (λ word. IsProper word → ⊥) (first ∷ words) → BreaksRule verb first words
   no_form : (word : List ℕ) → IsIn word words → (HasForm verb word → ⊥) → BreaksRule verb first words
@@ -18,6 +20,8 @@ pub data BreaksRule (verb : Verb) (first : List ℕ) (words : List (List ℕ)) :
   shards_twice : OccursTwice (IsShards verb) words → BreaksRule verb first words
   preload_twice : OccursTwice (IsPreload verb) words → BreaksRule verb first words
   wrong_count : length (other_words verb words) ≢ operand_count verb → BreaksRule verb first words
-  bad_workers : (text : List ℕ) → IsTextOfWorkers verb words text → is_number 1 64 text ≡ false → BreaksRule verb first words
-  bad_shards : (text : List ℕ) → IsTextOfShards verb words text → is_number 1 256 text ≡ false → BreaksRule verb first words
+  bad_workers : (text : List ℕ) → IsTextOfWorkers verb words text → is_number 1 64 text ≡ false
+      → BreaksRule verb first words
+  bad_shards : (text : List ℕ) → IsTextOfShards verb words text → is_number 1 256 text ≡ false
+      → BreaksRule verb first words
   bad_operand : has_bad_operand (operands_of verb) (other_words verb words) ≡ true → BreaksRule verb first words

@@ -10,37 +10,53 @@ ghost use Rattle.word_laws.specs.Rules.{BreaksRule};
 
 /// A law: there is a stray option exactly where some word has a form that the verb does not have.
 pub fn a_stray_option_has_no_form_of_the_verb()
-    ensures { (verb : Verb) (words : List (List ℕ)) → IsTrue (list_any is_stray (parts (options_of verb) words)) ↔ ((word : List ℕ) × IsIn word words × (HasForm verb word → ⊥)) }
+    ensures { (verb : Verb) (words : List (List ℕ))
+        → IsTrue (list_any is_stray (parts (options_of verb) words))
+        ↔ ((word : List ℕ) × IsIn word words × (HasForm verb word → ⊥)) }
 {}
 
-/// A law: a value is lacking exactly where an option that takes one is last, or is followed by a word that begins with `-`.
+/// A law: a value is lacking exactly where an option that takes one is last, or is followed by a word that begins with
+/// `-`.
 pub fn a_value_is_lacking_where_none_follows()
-    ensures { (verb : Verb) (words : List (List ℕ)) → IsTrue (list_any is_lacking (parts (options_of verb) words)) ↔ LacksValue verb words }
+    ensures { (verb : Verb) (words : List (List ℕ))
+        → IsTrue (list_any is_lacking (parts (options_of verb) words)) ↔ LacksValue verb words }
 {}
 
-/// A law: the operands are the words that are neither options nor values, in their order. So they are as many as the words less the
-/// options and the values.
+/// A law: the operands are the words that are neither options nor values, in their order. So they are as many as the
+/// words less the options and the values.
 pub fn the_other_words_are_the_operands()
-    ensures which { (verb : Verb) (words : List (List ℕ)) → operands (parts (options_of verb) words) ≡ map (λ (p : List ℕ × List ℕ). p.1) (filter (is_other verb) (with_previous words)) }
-    ensures count { (verb : Verb) (words : List (List ℕ)) → length (operands (parts (options_of verb) words)) + (length (filter begins_with_dash words) + length (filter (is_value verb) (with_previous words))) ≡ length words }
+    ensures which { (verb : Verb) (words : List (List ℕ))
+        → operands (parts (options_of verb) words)
+        ≡ map (λ (p : List ℕ × List ℕ). p.1) (filter (is_other verb) (with_previous words)) }
+    ensures count { (verb : Verb) (words : List (List ℕ))
+        → length (operands (parts (options_of verb) words))
+        + (length (filter begins_with_dash words) + length (filter (is_value verb) (with_previous words)))
+        ≡ length words }
 {}
 
-/// A law: an option occurs twice exactly where two words are the same option of the verb, alone or with a text after `=`.
+/// A law: an option occurs twice exactly where two words are the same option of the verb, alone or with a text after
+/// `=`.
 pub fn an_option_occurs_twice_where_two_words_are_it()
-    ensures { (verb : Verb) (words : List (List ℕ)) → IsTrue (has_twice (parts (options_of verb) words)) ↔ (OccursTwice (IsWorkers verb) words ⊎ (OccursTwice (IsShards verb) words ⊎ OccursTwice (IsPreload verb) words)) }
+    ensures { (verb : Verb) (words : List (List ℕ))
+        → IsTrue (has_twice (parts (options_of verb) words))
+        ↔ (OccursTwice (IsWorkers verb) words
+        ⊎ (OccursTwice (IsShards verb) words ⊎ OccursTwice (IsPreload verb) words)) }
 {}
 
-/// A law: the texts of an option with a number are those that its words give: `--NAME=TEXT`, or `--NAME` and then a word that begins
-/// with no `-`.
+/// A law: the texts of an option with a number are those that its words give: `--NAME=TEXT`, or `--NAME` and then a
+/// word that begins with no `-`.
 pub fn the_texts_of_an_option_are_given_by_its_words()
-    ensures workers { (verb : Verb) (words : List (List ℕ)) (text : List ℕ) → IsIn text (texts_of workers (parts (options_of verb) words)) ↔ IsTextOfWorkers verb words text }
-    ensures shards { (verb : Verb) (words : List (List ℕ)) (text : List ℕ) → IsIn text (texts_of shards (parts (options_of verb) words)) ↔ IsTextOfShards verb words text }
+    ensures workers { (verb : Verb) (words : List (List ℕ)) (text : List ℕ)
+        → IsIn text (texts_of workers (parts (options_of verb) words)) ↔ IsTextOfWorkers verb words text }
+    ensures shards { (verb : Verb) (words : List (List ℕ)) (text : List ℕ)
+        → IsIn text (texts_of shards (parts (options_of verb) words)) ↔ IsTextOfShards verb words text }
 {}
 
-/// A law: arguments break a rule exactly where there is no first word, or it is no verb, or the words after it break a rule that is
-/// stated over the words themselves.
+/// A law: arguments break a rule exactly where there is no first word, or it is no verb, or the words after it break a
+/// rule that is stated over the words themselves.
 pub fn the_rules_are_over_the_words()
     ensures none { IsUsage [] }
     ensures no_verb { (first : List ℕ) (words : List (List ℕ)) → verb_of first ≡ None → IsUsage (first ∷ words) }
-    ensures rules { (verb : Verb) (first : List ℕ) (words : List (List ℕ)) → verb_of first ≡ Some verb → IsUsage (first ∷ words) ↔ BreaksRule verb first words }
+    ensures rules { (verb : Verb) (first : List ℕ) (words : List (List ℕ)) → verb_of first ≡ Some verb
+        → IsUsage (first ∷ words) ↔ BreaksRule verb first words }
 {}

@@ -1,4 +1,5 @@
--- What a claim answers, and how it changes the record of its pass. Source: DAGuE (Parallel Computing, 2012), where a worker takes a ready task from the table; the answers are this project's own choice.
+-- What a claim answers, and how it changes the record of its pass. Source: DAGuE (Parallel Computing, 2012), where a
+-- worker takes a ready task from the table; the answers are this project's own choice.
 use Rattle.std.specs.Prelude.{◌≡◌, ℕ, List, [], ◌∷◌, ◌++◌, Some, IsSome}
 use Rattle.ptg_base.specs.Lists.{IsIn}
 use Rattle.ptg_base.specs.Task.{Task}
@@ -30,14 +31,16 @@ pub record HasReady (y : Content) (t : Task) (tiles : List FlowTile) : Type 0 wh
 abbrev pub HasNoReadyOf : Content → Task → Type 0
 HasNoReadyOf y t = (e : Entry) → entry_of y t ≡ Some e → IsReady e → ⊥
 
--- A task that may start, with the tiles that it starts on: it runs in this job, the tiles are its inputs, and the pass has sent none of its items.
+-- A task that may start, with the tiles that it starts on: it runs in this job, the tiles are its inputs, and the pass
+-- has sent none of its items.
 pub record MayStart (P : Plan) (G : Data) (t : Task) (tiles : List FlowTile) (v : PassRecord) : Type 0 where
   pub task : IsTask P t
   pub runs : IsSome (ended P G t)
   pub inputs : tiles ≡ inputs P G t
   pub unsent : (i : Item) → IsIn i (items P t) → send_count (done_by v) i ≡ 0
 
--- The claim is added to the record with its stamp, and its task runs. All else stays but the looks and the shard taken last.
+-- The claim is added to the record with its stamp, and its task runs. All else stays but the looks and the shard taken
+-- last.
 pub record AddsClaim (t : Task) (v w : PassRecord) : Type 0 where
   pub stamp : ℕ
   pub claims : w.claims ≡ v.claims ++ t ∷ []

@@ -50,7 +50,8 @@ pub record HasHalted (v w : PassRecord) : Type 0 where
   pub running : w.running ≡ v.running
   pub done : KeepsDone v w
 
--- The board is halted, as the pass knows it: the pass raised the halt word, or it looked at that word last and found that it was not 0.
+-- The board is halted, as the pass knows it: the pass raised the halt word, or it looked at that word last and found
+-- that it was not 0.
 abbrev pub KnowsHalted : PassRecord → Type 0
 KnowsHalted v = (v.halts ≡ true) ⊎ ((v.look.0 ≡ Halt) × (v.look.1 ≢ 0))
 

@@ -1,4 +1,6 @@
--- What a send answers, what it needs, and how it changes the record of its pass; the same for the end of a task. Source: DAGuE (Parallel Computing, 2012), where a task that ends satisfies the dependences of its successors; the answers are this project's own choice.
+-- What a send answers, what it needs, and how it changes the record of its pass; the same for the end of a task.
+-- Source: DAGuE (Parallel Computing, 2012), where a task that ends satisfies the dependences of its successors; the
+-- answers are this project's own choice.
 use Rattle.std.specs.Prelude.{◌≡◌, ℕ, ◌+◌, ◌<◌, ℤ, true, false, Bool, List, [], ◌∷◌, ◌++◌, Option, Err, Some, IsTrue}
 use Rattle.std.specs.Option.{option_map_or}
 use Rattle.ptg_base.specs.Lists.{IsIn}
@@ -20,7 +22,8 @@ use Rattle.work_board.specs.declared.answers.Sent.TheVariants as answer
 use Rattle.work_board.specs.Records.{FoundBusy, KeepsDone, KeepsNamesAndMarks, TookShard, done_by}
 use Rattle.work_board.specs.Word.{Turn}
 
--- The pass may send the item with this tile: it is an item of the task that the pass runs, that task has outputs, the item was not sent, and the tile is the one that the task leaves in the item's flow.
+-- The pass may send the item with this tile: it is an item of the task that the pass runs, that task has outputs, the
+-- item was not sent, and the tile is the one that the task leaves in the item's flow.
 pub record IsNext (P : Plan) (G : Data) (i : Item) (sent_tile : Option (List ℤ)) (v : PassRecord) : Type 0 where
   pub runs : v.running ≡ sender i ∷ []
   pub is_item : IsIn i (items P (sender i))
@@ -28,7 +31,8 @@ pub record IsNext (P : Plan) (G : Data) (i : Item) (sent_tile : Option (List ℤ
   pub unsent : send_count (done_by v) i ≡ 0
   pub tile : sent_tile ≡ output_tile (ended P G (sender i)) (item_flow i)
 
--- an item is handled in the shard of the task that it goes to: an edge in that of its target, a write-back in that of its task
+-- an item is handled in the shard of the task that it goes to: an edge in that of its target, a write-back in that of
+-- its task
 abbrev pub shard_of_item : (Task → ℕ) → Item → ℕ
 shard_of_item of (item.Edge e) = of e.to
 shard_of_item of (item.Write w) = of w.from
@@ -45,7 +49,8 @@ pub record AddsSend (i : Item) (tile : Option (List ℤ)) (v w : PassRecord) : T
 abbrev pub arrived_in : Content → Task → ℕ
 arrived_in y t = option_map_or (λ (e : Entry). e.arrived) (entry_of y t) 0
 
--- a write-back is kept. With an edge its target fires if it was the last edge that the target waited for, and else waits on
+-- a write-back is kept. With an edge its target fires if it was the last edge that the target waited for, and else
+-- waits on
 abbrev pub AnswersFor : Plan → Content → Item → Sent → Type 0
 AnswersFor P y (item.Edge e) answer.Fired = arrived_in y e.to + 1 ≡ goal P e.to
 AnswersFor P y (item.Edge e) answer.Waits = arrived_in y e.to + 1 < goal P e.to

@@ -18,11 +18,12 @@ use ptg_base::{Item, OutOfMemory, TaskId, Tile};
 use std::marker::Sync;
 use term_core::Trap;
 
-/// A table of dependences that workers share, each by a pass of its own. Its calls go for the turn of one shard, once, and do not
-/// wait: where another pass holds that turn they answer so, and the pass's look shows the word that was not 0.
+/// A table of dependences that workers share, each by a pass of its own. Its calls go for the turn of one shard, once,
+/// and do not wait: where another pass holds that turn they answer so, and the pass's look shows the word that was not
+/// 0.
 ///
-/// Every call that takes a pass needs a clean pass of this board, and leaves it so. Want of memory, `Busy` and false change at most
-/// the pass's looks and the shard that it took last.
+/// Every call that takes a pass needs a clean pass of this board, and leaves it so. Want of memory, `Busy` and false
+/// change at most the pass's looks and the shard that it took last.
 pub trait Board: Sync {
     ghost use Rattle.std.specs.Prelude.{Bool, ℕ};
     ghost use Rattle.ptg_base.specs.Task.{Task};
@@ -76,7 +77,8 @@ pub trait Board: Sync {
         requires task { IsTask (plan self.now) t.now }
         requires idle { (shown pass.old).running ≡ [] }
         ensures pass { is_pass self.now pass.new }
-        ensures claim { Claimed (plan self.now) (job_data self.now) (placement self.now t.now) t.now result (shown pass.old) (shown pass.new) };
+        ensures claim { Claimed (plan self.now) (job_data self.now) (placement self.now t.now) t.now result
+            (shown pass.old) (shown pass.new) };
 
     /// Claims the best ready task of a shard: `Empty` exactly where none is ready.
     fn try_scan(&self, pass: &mut Self::Pass, shard: u32) -> Scan
@@ -84,7 +86,8 @@ pub trait Board: Sync {
         requires shard { shard < shard_count self.now }
         requires idle { (shown pass.old).running ≡ [] }
         ensures pass { is_pass self.now pass.new }
-        ensures scan { Scanned (plan self.now) (job_data self.now) (placement self.now) shard result (shown pass.old) (shown pass.new) };
+        ensures scan { Scanned (plan self.now) (job_data self.now) (placement self.now) shard result (shown pass.old)
+            (shown pass.new) };
 
     /// Sends an item of the task that the pass runs, with the tile that the task leaves in its flow.
     fn try_send(
@@ -96,12 +99,15 @@ pub trait Board: Sync {
         requires pass { is_pass self.now pass.old }
         requires item { IsNext (plan self.now) (job_data self.now) item.now (option_copied tile) (shown pass.old) }
         ensures pass { is_pass self.now pass.new }
-        ensures sent { IfOk result (λ a. SentAs (plan self.now) (shard_of_item (placement self.now) item.now) item.now (option_copied tile.entry) a (shown pass.old) (shown pass.new)) }
-        ensures err { OnErr result (OnlyTook (shard_of_item (placement self.now) item.now) (shown pass.old) (shown pass.new)) }
+        ensures sent { IfOk result (λ a.
+            SentAs (plan self.now) (shard_of_item (placement self.now) item.now) item.now (option_copied tile.entry) a
+            (shown pass.old) (shown pass.new)) }
+        ensures err { OnErr result
+            (OnlyTook (shard_of_item (placement self.now) item.now) (shown pass.old) (shown pass.new)) }
         ensures preloaded { preloaded self.now ≡ true → IsOk result };
 
-    /// Ends the task that the pass runs, whose items were all sent. False only where the turn was taken. The board may keep the tiles
-    /// that came with the task, for what is sent later.
+    /// Ends the task that the pass runs, whose items were all sent. False only where the turn was taken. The board may
+    /// keep the tiles that came with the task, for what is sent later.
     fn try_end(&self, pass: &mut Self::Pass, t: &TaskId, spent: &mut Arrivals) -> bool
         requires pass { is_pass self.now pass.old }
         requires task { MayEnd (plan self.now) (job_data self.now) t.now (shown pass.old) }

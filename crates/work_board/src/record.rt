@@ -30,7 +30,8 @@ pub struct PassRecord {
     pub ghost look: { Word × ℕ },
     /// How many looks it has made.
     pub ghost looks: { ℕ },
-    /// Its part of the live word that stands for no task: it will lower the word by it, or make a task ready that takes its place.
+    /// Its part of the live word that stands for no task: it will lower the word by it, or make a task ready that takes
+    /// its place.
     pub ghost credit: { ℕ },
     /// The stamps of its claims, each with its task.
     pub ghost stamps: { List (Task × ℕ) },

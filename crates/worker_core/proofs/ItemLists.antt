@@ -15,14 +15,15 @@ use Rattle.dep_iter.specs.Tasks.{IsTask, all_tasks}
 use Rattle.dep_iter.specs.Items.{edge_of, items, out_edges, write_backs, write_of}
 use Rattle.dep_iter.specs.Consistent.{IsConsistent}
 use Rattle.dep_iter.proofs.Listing.{listed}
-use Rattle.range_space.proofs.MemberLists.{IsIn-append_left, IsIn-map}
-use Rattle.flow_meaning.specs.Counting.{as_number, count, weigh}
+use Rattle.list_lemmas.proofs.Members.{IsIn-map}
+use Rattle.list_lemmas.proofs.Counts.{weigh-append}
+use Rattle.list_lemmas.proofs.Distinct.{HasNoRepeats-part, HasNoRepeats-from_map}
+use Rattle.list_lemmas.specs.Counting.{as_number, count, weigh}
 use Rattle.flow_meaning.specs.Comparing.{same_item}
 use Rattle.flow_meaning.specs.Ending.{has_outputs}
 use Rattle.flow_meaning.specs.Backward.{ended}
 use Rattle.flow_meaning.specs.Machine.{Sent, send_count, sender}
 use Rattle.flow_meaning.proofs.Comparing.{same_item-decides}
-use Rattle.flow_meaning.proofs.Counting.{weigh-append}
 use Rattle.flow_meaning.proofs.Rest.{item_sender}
 use Rattle.work_board.specs.declared.record.PassRecord.{PassRecord}
 use Rattle.work_board.specs.Records.{done_by}
@@ -135,22 +136,6 @@ module _ (P : Plan) (G : Data) where
         tile = refl;
       }
 
-part_distinct : {A : Type 0} (xs ys : List A) → HasNoRepeats (xs ++ ys) → HasNoRepeats xs × HasNoRepeats ys
-part_distinct [] ys h = (tt, h)
-part_distinct (x ∷ xs) ys h =
-    let p = part_distinct xs ys h.1 in
-    ((λ i. h.0 (IsIn-append_left x xs ys i), p.0), p.1)
-
-joined_distinct : {A B : Type 0} (f : A → List B) (xs : List A) → HasNoRepeats (flat_map f xs) → (x : A) → IsIn x xs → HasNoRepeats (f x)
-joined_distinct f [] h x i = absurd i
-joined_distinct f (y ∷ ys) h x i =
-    let p = part_distinct (f y) (flat_map f ys) h in
-    elim i [ inl e ↦ subst (λ z. HasNoRepeats (f z)) (sym e) p.0 | inr t ↦ joined_distinct f ys p.1 x t ]
-
-from_map_distinct : {A B : Type 0} (f : A → B) (xs : List A) → HasNoRepeats (map f xs) → HasNoRepeats xs
-from_map_distinct f [] h = tt
-from_map_distinct f (x ∷ xs) h = (λ i. h.0 (IsIn-map f xs x i), from_map_distinct f xs h.1)
-
 -- an item of a list that is an edge is one of its edges; likewise a write-back
 edge_among : (is : List Item) (e : Edge) → IsIn (item.Edge e) is → IsIn e (filter_map edge_of is)
 edge_among [] e h = absurd h
@@ -215,10 +200,10 @@ is_write (w ∷ ws) i h = elim h [ inl q ↦ (w, q) | inr t ↦ is_write ws i t 
 
 module _ (P : Plan) (G : Data) (con : IsConsistent P) (t : Task) (job : IsTask P t) where
   edges_distinct : HasNoRepeats (out_edges P t)
-  edges_distinct = joined_distinct (out_edges P) (all_tasks P) con.no_out_edge_twice t ((listed P t).0 job)
+  edges_distinct = HasNoRepeats-part (out_edges P) (all_tasks P) con.no_out_edge_twice t ((listed P t).0 job)
 
   writes_distinct : HasNoRepeats (write_backs P t)
-  writes_distinct = joined_distinct (write_backs P) (all_tasks P) (from_map_distinct (λ (w : WriteBack). w.place) (flat_map (write_backs P) (all_tasks P)) con.written_once) t ((listed P t).0 job)
+  writes_distinct = HasNoRepeats-part (write_backs P) (all_tasks P) (HasNoRepeats-from_map (λ (w : WriteBack). w.place) (flat_map (write_backs P) (all_tasks P)) con.written_once) t ((listed P t).0 job)
 
   -- the edges may be sent first, and then the write-backs
   pub edges_may : (v : PassRecord) → IsTrue (has_outputs (ended P G t)) → RunsUnsent P t v → MaySendAll P G t (as_edges (out_edges P t)) v

@@ -1,5 +1,5 @@
 -- How the record of a pass grows over several calls.
-use Rattle.std.proofs.Common.{◌≡◌, ℕ, List, [], ◌∷◌, ◌++◌, ap, sym, ◌∙◌, subst, IsTrue}
+use Rattle.std.proofs.Common.{◌≡◌, ℕ, List, ap, sym, ◌∙◌, subst, IsTrue}
 use Rattle.ptg_base.specs.Task.{Task}
 use Rattle.term_core.specs.declared.trap.Trap.{Trap}
 use Rattle.plan_core.specs.declared.plan.Plan.{Plan}
@@ -10,6 +10,7 @@ use Rattle.work_board.specs.Records.{IsStill, KeepsNamesAndMarks}
 use Rattle.work_board.specs.Claims.{AddsClaim}
 use Rattle.work_board.specs.Sends.{MayEnd, MayTrap}
 use Rattle.work_board.specs.Looks.{HasStamp}
+use Rattle.list_lemmas.proofs.Joins.{last_from_push}
 
 pub kept_then : {u v w : PassRecord} → KeepsNamesAndMarks u v → KeepsNamesAndMarks v w → KeepsNamesAndMarks u w
 kept_then a b = record { names = b.names ∙ a.names; turns = b.turns ∙ a.turns; quiet = b.quiet ∙ a.quiet; halts = b.halts ∙ a.halts; credit = b.credit ∙ a.credit }
@@ -24,14 +25,5 @@ end_after {w = w} a b = record {
 pub trap_after : {P : Plan} {G : Data} {t : Task} {cause : Trap} {v w : PassRecord} → IsStill v w → MayTrap P G t cause v → MayTrap P G t cause w
 trap_after a b = record { runs = a.running ∙ b.runs; traps = b.traps }
 
--- the stamp that a board tells is that of the claim that was added last
-snoc_last : {A : Type 0} (xs ys : List A) (x y : A) → xs ++ x ∷ [] ≡ ys ++ y ∷ [] → x ≡ y
-snoc_last [] [] x y e = cc
-snoc_last [] (b ∷ []) x y e = absurd cc
-snoc_last [] (b ∷ c ∷ ys) x y e = absurd cc
-snoc_last (a ∷ []) [] x y e = absurd cc
-snoc_last (a ∷ c ∷ xs) [] x y e = absurd cc
-snoc_last (a ∷ xs) (b ∷ ys) x y e = snoc_last xs ys x y cc
-
 pub same_stamp : (t : Task) (v w : PassRecord) (stamp : ℕ) (a : AddsClaim t v w) → HasStamp w t stamp → stamp ≡ a.stamp
-same_stamp t v w stamp a h = ap (λ (c : Task × ℕ). c.1) (snoc_last h.earlier v.stamps (t, stamp) (t, a.stamp) (sym h.is_last ∙ a.stamps))
+same_stamp t v w stamp a h = ap (λ (c : Task × ℕ). c.1) (last_from_push h.earlier v.stamps (t, stamp) (t, a.stamp) (sym h.is_last ∙ a.stamps))

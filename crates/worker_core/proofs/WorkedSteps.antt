@@ -1,18 +1,19 @@
 -- A worker's tasks, one after another.
-use Rattle.std.proofs.Common.{◌≡◌, ℕ, ◌+◌, List, [], ◌∷◌, ◌++◌, length, refl, ap, sym, ◌∙◌, subst, append_assoc, Bool, true, IsTrue, inl, inr, ◌⊎◌, nat_lt, arith, IsSome}
+use Rattle.std.proofs.Common.{◌≡◌, ℕ, ◌+◌, List, [], ◌∷◌, ◌++◌, length, refl, ap, sym, ◌∙◌, subst, append_assoc, Bool, true, IsTrue, inl, inr, nat_lt, arith, IsSome}
 use Rattle.std.proofs.lemmas.Bool.Decides.{nat_tests}
-use Rattle.std.proofs.lemmas.List.{append-nil, map-append}
+use Rattle.std.proofs.lemmas.List.{append-nil, map-append, length_push}
 use Rattle.ptg_base.specs.Lists.{IsIn}
 use Rattle.ptg_base.specs.Task.{Task}
 use Rattle.ptg_base.specs.declared.edge.Item.{Item}
 use Rattle.plan_core.specs.declared.plan.Plan.{Plan}
 use Rattle.coll_data.specs.Data.{Data}
 use Rattle.flow_meaning.specs.Backward.{ended}
-use Rattle.flow_meaning.specs.Counting.{as_number}
+use Rattle.list_lemmas.specs.Counting.{as_number}
 use Rattle.flow_meaning.specs.Comparing.{same_item}
 use Rattle.flow_meaning.specs.Machine.{Sent, is_sent, send_count}
 use Rattle.flow_meaning.specs.Sound.{IsFinished}
-use Rattle.flow_meaning.proofs.Counting.{weigh-append}
+use Rattle.list_lemmas.proofs.Counts.{weigh-append}
+use Rattle.list_lemmas.proofs.Members.{from_push}
 use Rattle.work_board.specs.declared.record.PassRecord.{PassRecord}
 use Rattle.work_board.specs.Records.{IsLaterRecord, done_by}
 use Rattle.worker_core.specs.declared.claiming.Found.{Found}
@@ -55,19 +56,6 @@ pub record IsWorked (P : Plan) (G : Data) (lets : Task → Type 0) (keeps : Bool
   pub followed : AreFollowed P G lets (tasks_of more) w
   pub idle : w.running ≡ []
   pub gained : keeps ≡ true → new ≡ old ++ logged more
-
-length_push : {A : Type 0} (xs : List A) (x : A) → length (xs ++ x ∷ []) ≡ length xs + 1
-length_push [] x = refl
-length_push (y ∷ ys) x =
-    let later = length_push ys x in
-    omega (arith, later)
-
-from_push : {A : Type 0} (x : A) (xs : List A) (y : A) → IsIn x (xs ++ y ∷ []) → IsIn x xs ⊎ (x ≡ y)
-from_push x [] y h = elim h [ inl e ↦ inr e | inr none ↦ absurd none ]
-from_push x (z ∷ zs) y h = elim h [
-  | inl e ↦ inl (inl e)
-  | inr t ↦ (let later = from_push x zs y t in elim later [ inl k ↦ inl (inr k) | inr e ↦ inr e ])
-]
 
 module _ (P : Plan) (G : Data) (lets : Task → Type 0) (keeps : Bool) where
   pub nothing_done : (v : PassRecord) (log : List (ℕ × Task)) → v.running ≡ [] → IsWorked P G lets keeps 0 v v log log

@@ -1,4 +1,5 @@
--- How a worker sends what a task leaves. Source: DAGuE (Parallel Computing, 2012), where a task that ends satisfies the dependences of its successors.
+-- How a worker sends what a task leaves. Source: DAGuE (Parallel Computing, 2012), where a task that ends satisfies the
+-- dependences of its successors.
 use Rattle.std.specs.Prelude.{◌≡◌, List, [], ◌∷◌, ◌++◌, map, IsTrue}
 use Rattle.ptg_base.specs.Lists.{HasNoRepeats, IsIn}
 use Rattle.ptg_base.specs.Task.{Task}
@@ -17,7 +18,8 @@ use Rattle.work_board.specs.Records.{KeepsNamesAndMarks, done_by}
 abbrev pub with_output : Plan → Data → Item → Sent
 with_output P G i = record { item = i; tile = output_tile (ended P G (sender i)) (item_flow i) }
 
--- The pass sent these items, each with the tile that its task leaves. All else stays but the looks and the shard taken last.
+-- The pass sent these items, each with the tile that its task leaves. All else stays but the looks and the shard taken
+-- last.
 pub record HasSentAll (P : Plan) (G : Data) (is : List Item) (v w : PassRecord) : Type 0 where
   pub sends : w.sends ≡ v.sends ++ map (with_output P G) is
   pub claims : w.claims ≡ v.claims
@@ -25,7 +27,8 @@ pub record HasSentAll (P : Plan) (G : Data) (is : List Item) (v w : PassRecord) 
   pub running : w.running ≡ v.running
   pub kept : KeepsNamesAndMarks v w
 
--- The pass may send these items one after another: they are items of the task that it runs, which has outputs, and each is there once and was not sent.
+-- The pass may send these items one after another: they are items of the task that it runs, which has outputs, and each
+-- is there once and was not sent.
 pub record MaySendAll (P : Plan) (G : Data) (t : Task) (is : List Item) (v : PassRecord) : Type 0 where
   pub runs : v.running ≡ t ∷ []
   pub outputs : IsTrue (has_outputs (ended P G t))

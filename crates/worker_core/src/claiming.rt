@@ -36,7 +36,8 @@ fn claim<R: Threads + Wait + Sync, B: Board, G>(
     requires idle { (B.shown pass.old).running ≡ [] }
     ensures pass { B.is_pass post.now.board.now pass.new }
     ensures gone { IfNone result (IsStill (B.shown pass.old) (B.shown pass.new)) }
-    ensures start { IfSome result (λ tiles. MayStart (B.plan post.now.board.now) (B.job_data post.now.board.now) t.now tiles (B.shown pass.old)) }
+    ensures start { IfSome result (λ tiles.
+        MayStart (B.plan post.now.board.now) (B.job_data post.now.board.now) t.now tiles (B.shown pass.old)) }
     ensures added { OnSome result (AddsClaim t.now (B.shown pass.old) (B.shown pass.new)) }
 {
     let backoff = Backoff::new();
@@ -59,7 +60,8 @@ pub(crate) fn claim_id<R: Threads + Wait + Sync, B: Board, G>(
     requires pass { B.is_pass post.now.board.now pass.old }
     requires idle { (B.shown pass.old).running ≡ [] }
     ensures pass { B.is_pass post.now.board.now pass.new }
-    ensures found { MatchOption result (IsStill (B.shown pass.old) (B.shown pass.new)) (λ f. HasGot (B.plan post.now.board.now) (B.job_data post.now.board.now) f (B.shown pass.old) (B.shown pass.new)) }
+    ensures found { MatchOption result (IsStill (B.shown pass.old) (B.shown pass.new)) (λ f.
+        HasGot (B.plan post.now.board.now) (B.job_data post.now.board.now) f (B.shown pass.old) (B.shown pass.new)) }
 {
     let plan = post.board.matched().plan();
     let locals = task_locals(plan, &id)?;
@@ -71,7 +73,8 @@ pub(crate) fn claim_id<R: Threads + Wait + Sync, B: Board, G>(
     })
 }
 
-// Claims the best ready task of the next shard in turn, if one is ready and the shard's turn is free. The shard stays next while it has ready tasks.
+// Claims the best ready task of the next shard in turn, if one is ready and the shard's turn is free. The shard stays
+// next while it has ready tasks.
 pub(crate) fn scan<R: Threads + Wait + Sync, B: Board, G>(
     post: &Post<R, B, G>,
     pass: &mut B::Pass,
@@ -80,7 +83,8 @@ pub(crate) fn scan<R: Threads + Wait + Sync, B: Board, G>(
     requires pass { B.is_pass post.now.board.now pass.old }
     requires idle { (B.shown pass.old).running ≡ [] }
     ensures pass { B.is_pass post.now.board.now pass.new }
-    ensures found { MatchOption result (IsStill (B.shown pass.old) (B.shown pass.new)) (λ f. HasGot (B.plan post.now.board.now) (B.job_data post.now.board.now) f (B.shown pass.old) (B.shown pass.new)) }
+    ensures found { MatchOption result (IsStill (B.shown pass.old) (B.shown pass.new)) (λ f.
+        HasGot (B.plan post.now.board.now) (B.job_data post.now.board.now) f (B.shown pass.old) (B.shown pass.new)) }
 {
     let shards = post.board.shards();
     if shards == 0 {

@@ -33,7 +33,8 @@ fn see_quiet<R: Threads + Wait + Sync, B: Board, G>(
 ) -> Look
     requires { B.is_pass post.now.board.now pass.old }
     ensures pass { B.is_pass post.now.board.now pass.new }
-    ensures looked { Looked (B.plan post.now.board.now) (B.job_data post.now.board.now) result (B.shown pass.old) (B.shown pass.new) }
+    ensures looked { Looked (B.plan post.now.board.now) (B.job_data post.now.board.now) result (B.shown pass.old)
+        (B.shown pass.new) }
 {
     if post.board.see_quiet(pass) {
         return Look::Quiet;
@@ -52,7 +53,8 @@ fn look_once<R: Threads + Wait + Sync, B: Board, G>(
     requires idle { (B.shown pass.old).running ≡ [] }
     ensures pass { B.is_pass post.now.board.now pass.new }
     ensures hands { SameWorker hands.old hands.new }
-    ensures looked { Looked (B.plan post.now.board.now) (B.job_data post.now.board.now) result (B.shown pass.old) (B.shown pass.new) }
+    ensures looked { Looked (B.plan post.now.board.now) (B.job_data post.now.board.now) result (B.shown pass.old)
+        (B.shown pass.new) }
 {
     if let Some(id) = take_id(post.rt, hands) {
         return match claim_id(post, pass, id) {
@@ -77,7 +79,10 @@ pub(crate) fn next_task<R: Threads + Wait + Sync, B: Board, G>(
     requires idle { (B.shown pass.old).running ≡ [] }
     ensures pass { B.is_pass post.now.board.now pass.new }
     ensures hands { SameWorker hands.old hands.new }
-    ensures found { IfOk result (λ found. MatchOption found (IsQuietAfter (B.shown pass.old) (B.shown pass.new)) (λ f. HasGot (B.plan post.now.board.now) (B.job_data post.now.board.now) f (B.shown pass.old) (B.shown pass.new))) }
+    ensures found { IfOk result (λ found.
+        MatchOption found (IsQuietAfter (B.shown pass.old) (B.shown pass.new)) (λ f.
+        HasGot (B.plan post.now.board.now) (B.job_data post.now.board.now) f (B.shown pass.old)
+        (B.shown pass.new))) }
     ensures still { OnErr result (IsStill (B.shown pass.old) (B.shown pass.new)) }
     ensures halted { OnErr result (B.preloaded post.now.board.now ≡ false) }
 {

@@ -38,8 +38,11 @@ fn run_body<R: Threads + Wait + Sync, B: Board, G: Gate>(
     requires locals { at.now.locals.now ≡ locals_of (B.plan post.now.board.now) at.now.task.now }
     requires inputs { MayRun (B.plan post.now.board.now) (B.job_data post.now.board.now) at.now.task.now arrivals }
     ensures elems { bench.new.elems ≡ bench.old.elems }
-    ensures ok { OnOk result (ended (B.plan post.now.board.now) (B.job_data post.now.board.now) at.now.task.now ≡ Some (Ok bench.new.tiles)) }
-    ensures trap { IfErr result (λ cause. ended (B.plan post.now.board.now) (B.job_data post.now.board.now) at.now.task.now ≡ Some (Err cause)) }
+    ensures ok { OnOk result
+        (ended (B.plan post.now.board.now) (B.job_data post.now.board.now) at.now.task.now
+        ≡ Some (Ok bench.new.tiles)) }
+    ensures trap { IfErr result (λ cause.
+        ended (B.plan post.now.board.now) (B.job_data post.now.board.now) at.now.task.now ≡ Some (Err cause)) }
 {
     let start = Start {
         plan: post.board.matched().plan(),
@@ -61,13 +64,16 @@ fn send_and_end<R: Threads + Wait + Sync, B: Board, G>(
     requires pass { B.is_pass post.now.board.now pass.old }
     requires task { IsTask (B.plan post.now.board.now) at.now.task.now }
     requires locals { at.now.locals.now ≡ locals_of (B.plan post.now.board.now) at.now.task.now }
-    requires tiles { ended (B.plan post.now.board.now) (B.job_data post.now.board.now) at.now.task.now ≡ Some (Ok bench.old.tiles) }
+    requires tiles { ended (B.plan post.now.board.now) (B.job_data post.now.board.now) at.now.task.now
+        ≡ Some (Ok bench.old.tiles) }
     requires unsent { RunsUnsent (B.plan post.now.board.now) at.now.task.now (B.shown pass.old) }
     ensures pass { B.is_pass post.now.board.now pass.new }
     ensures hands { SameWorker hands.old hands.new }
     ensures elems { bench.new.elems ≡ bench.old.elems }
     ensures some { HasSentSome (B.shown pass.old) (B.shown pass.new) }
-    ensures run { OnOk result (HasRun (B.plan post.now.board.now) (B.job_data post.now.board.now) at.now.task.now (B.shown pass.old) (B.shown pass.new)) }
+    ensures run { OnOk result
+        (HasRun (B.plan post.now.board.now) (B.job_data post.now.board.now) at.now.task.now (B.shown pass.old)
+        (B.shown pass.new)) }
     ensures err { OnErr result (B.preloaded post.now.board.now ≡ false) }
 {
     send_all(post, pass, hands, bench, at)?;
@@ -83,16 +89,20 @@ fn note_trap<R: Threads + Wait + Sync, B: Board, G>(
     cause: Trap,
 ) -> Result<(), OutOfMemory>
     requires pass { B.is_pass post.now.board.now pass.old }
-    requires task { MayTrap (B.plan post.now.board.now) (B.job_data post.now.board.now) at.now.task.now cause (B.shown pass.old) }
+    requires task { MayTrap (B.plan post.now.board.now) (B.job_data post.now.board.now) at.now.task.now cause
+        (B.shown pass.old) }
     ensures pass { B.is_pass post.now.board.now pass.new }
     ensures some { HasSentSome (B.shown pass.old) (B.shown pass.new) }
-    ensures run { OnOk result (HasRun (B.plan post.now.board.now) (B.job_data post.now.board.now) at.now.task.now (B.shown pass.old) (B.shown pass.new)) }
+    ensures run { OnOk result
+        (HasRun (B.plan post.now.board.now) (B.job_data post.now.board.now) at.now.task.now (B.shown pass.old)
+        (B.shown pass.new)) }
     ensures err { OnErr result (B.preloaded post.now.board.now ≡ false) }
 {
     trap_one(post, pass, at.task, cause)
 }
 
-// Runs a claimed task after the gate: its body, then its sends and its end, or its trap. The bench is cleared whatever comes.
+// Runs a claimed task after the gate: its body, then its sends and its end, or its trap. The bench is cleared whatever
+// comes.
 pub(crate) fn run_found<R: Threads + Wait + Sync, B: Board, G: Gate>(
     post: &Post<R, B, G>,
     pass: &mut B::Pass,
@@ -108,7 +118,9 @@ pub(crate) fn run_found<R: Threads + Wait + Sync, B: Board, G: Gate>(
     ensures bench { IsBenchOf (B.plan post.now.board.now) bench.new }
     ensures gate { G.lets post.now.gate.now post.now.worker found.task }
     ensures some { HasSentSome (B.shown pass.old) (B.shown pass.new) }
-    ensures run { OnOk result (HasRun (B.plan post.now.board.now) (B.job_data post.now.board.now) found.task (B.shown pass.old) (B.shown pass.new)) }
+    ensures run { OnOk result
+        (HasRun (B.plan post.now.board.now) (B.job_data post.now.board.now) found.task (B.shown pass.old)
+        (B.shown pass.new)) }
     ensures err { OnErr result (B.preloaded post.now.board.now ≡ false) }
 {
     let Found {

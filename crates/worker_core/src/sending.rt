@@ -31,7 +31,8 @@ fn send_one<R: Threads + Wait + Sync, B: Board, G>(
     tile: Option<&Tile>,
 ) -> Result<bool, OutOfMemory>
     requires pass { B.is_pass post.now.board.now pass.old }
-    requires item { IsNext (B.plan post.now.board.now) (B.job_data post.now.board.now) item.now (option_copied tile) (B.shown pass.old) }
+    requires item { IsNext (B.plan post.now.board.now) (B.job_data post.now.board.now) item.now (option_copied tile)
+        (B.shown pass.old) }
     ensures pass { B.is_pass post.now.board.now pass.new }
     ensures sent { OnOk result (AddsSend item.now (option_copied tile.entry) (B.shown pass.old) (B.shown pass.new)) }
     ensures still { OnErr result (IsStill (B.shown pass.old) (B.shown pass.new)) }
@@ -66,11 +67,16 @@ fn send_edge<R: Threads + Wait + Sync, B: Board, G>(
     edge: Edge,
 ) -> Result<(), OutOfMemory>
     requires pass { B.is_pass post.now.board.now pass.old }
-    requires tiles { ended (B.plan post.now.board.now) (B.job_data post.now.board.now) edge.from ≡ Some (Ok bench.now.tiles) }
-    requires next { IsNext (B.plan post.now.board.now) (B.job_data post.now.board.now) (item.Edge edge) (with_output (B.plan post.now.board.now) (B.job_data post.now.board.now) (item.Edge edge)).tile (B.shown pass.old) }
+    requires tiles { ended (B.plan post.now.board.now) (B.job_data post.now.board.now) edge.from
+        ≡ Some (Ok bench.now.tiles) }
+    requires next { IsNext (B.plan post.now.board.now) (B.job_data post.now.board.now) (item.Edge edge)
+        (with_output (B.plan post.now.board.now) (B.job_data post.now.board.now) (item.Edge edge)).tile
+        (B.shown pass.old) }
     ensures pass { B.is_pass post.now.board.now pass.new }
     ensures hands { SameWorker hands.old hands.new }
-    ensures sent { OnOk result (HasSentAll (B.plan post.now.board.now) (B.job_data post.now.board.now) (item.Edge edge ∷ []) (B.shown pass.old) (B.shown pass.new)) }
+    ensures sent { OnOk result
+        (HasSentAll (B.plan post.now.board.now) (B.job_data post.now.board.now) (item.Edge edge ∷ []) (B.shown pass.old)
+        (B.shown pass.new)) }
     ensures still { OnErr result (IsStill (B.shown pass.old) (B.shown pass.new)) }
     ensures err { OnErr result (B.preloaded post.now.board.now ≡ false) }
 {
@@ -93,11 +99,17 @@ fn send_edges<R: Threads + Wait + Sync, B: Board, G>(
     requires pass { B.is_pass post.now.board.now pass.old }
     requires task { IsTask (B.plan post.now.board.now) at.now.task.now }
     requires locals { at.now.locals.now ≡ locals_of (B.plan post.now.board.now) at.now.task.now }
-    requires tiles { ended (B.plan post.now.board.now) (B.job_data post.now.board.now) at.now.task.now ≡ Some (Ok bench.now.tiles) }
-    requires edges { MaySendAll (B.plan post.now.board.now) (B.job_data post.now.board.now) at.now.task.now (map (λ (e : EdgeValue). item.Edge e) (items.out_edges (B.plan post.now.board.now) at.now.task.now)) (B.shown pass.old) }
+    requires tiles { ended (B.plan post.now.board.now) (B.job_data post.now.board.now) at.now.task.now
+        ≡ Some (Ok bench.now.tiles) }
+    requires edges { MaySendAll (B.plan post.now.board.now) (B.job_data post.now.board.now) at.now.task.now
+        (map (λ (e : EdgeValue). item.Edge e) (items.out_edges (B.plan post.now.board.now) at.now.task.now))
+        (B.shown pass.old) }
     ensures pass { B.is_pass post.now.board.now pass.new }
     ensures hands { SameWorker hands.old hands.new }
-    ensures sent { OnOk result (HasSentAll (B.plan post.now.board.now) (B.job_data post.now.board.now) (map (λ (e : EdgeValue). item.Edge e) (items.out_edges (B.plan post.now.board.now) at.now.task.now)) (B.shown pass.old) (B.shown pass.new)) }
+    ensures sent { OnOk result
+        (HasSentAll (B.plan post.now.board.now) (B.job_data post.now.board.now)
+        (map (λ (e : EdgeValue). item.Edge e) (items.out_edges (B.plan post.now.board.now) at.now.task.now))
+        (B.shown pass.old) (B.shown pass.new)) }
     ensures some { OnErr result (HasSentSome (B.shown pass.old) (B.shown pass.new)) }
     ensures err { OnErr result (B.preloaded post.now.board.now ≡ false) }
 {
@@ -115,10 +127,15 @@ fn send_write<R: Threads + Wait + Sync, B: Board, G>(
     write: WriteBack,
 ) -> Result<(), OutOfMemory>
     requires pass { B.is_pass post.now.board.now pass.old }
-    requires tiles { ended (B.plan post.now.board.now) (B.job_data post.now.board.now) write.from ≡ Some (Ok bench.now.tiles) }
-    requires next { IsNext (B.plan post.now.board.now) (B.job_data post.now.board.now) (item.Write write) (with_output (B.plan post.now.board.now) (B.job_data post.now.board.now) (item.Write write)).tile (B.shown pass.old) }
+    requires tiles { ended (B.plan post.now.board.now) (B.job_data post.now.board.now) write.from
+        ≡ Some (Ok bench.now.tiles) }
+    requires next { IsNext (B.plan post.now.board.now) (B.job_data post.now.board.now) (item.Write write)
+        (with_output (B.plan post.now.board.now) (B.job_data post.now.board.now) (item.Write write)).tile
+        (B.shown pass.old) }
     ensures pass { B.is_pass post.now.board.now pass.new }
-    ensures sent { OnOk result (HasSentAll (B.plan post.now.board.now) (B.job_data post.now.board.now) (item.Write write ∷ []) (B.shown pass.old) (B.shown pass.new)) }
+    ensures sent { OnOk result
+        (HasSentAll (B.plan post.now.board.now) (B.job_data post.now.board.now) (item.Write write ∷ [])
+        (B.shown pass.old) (B.shown pass.new)) }
     ensures still { OnErr result (IsStill (B.shown pass.old) (B.shown pass.new)) }
     ensures err { OnErr result (B.preloaded post.now.board.now ≡ false) }
 {
@@ -137,10 +154,16 @@ fn send_writes<R: Threads + Wait + Sync, B: Board, G>(
     requires pass { B.is_pass post.now.board.now pass.old }
     requires task { IsTask (B.plan post.now.board.now) at.now.task.now }
     requires locals { at.now.locals.now ≡ locals_of (B.plan post.now.board.now) at.now.task.now }
-    requires tiles { ended (B.plan post.now.board.now) (B.job_data post.now.board.now) at.now.task.now ≡ Some (Ok bench.now.tiles) }
-    requires writes { MaySendAll (B.plan post.now.board.now) (B.job_data post.now.board.now) at.now.task.now (map (λ (w : WriteBackValue). item.Write w) (items.write_backs (B.plan post.now.board.now) at.now.task.now)) (B.shown pass.old) }
+    requires tiles { ended (B.plan post.now.board.now) (B.job_data post.now.board.now) at.now.task.now
+        ≡ Some (Ok bench.now.tiles) }
+    requires writes { MaySendAll (B.plan post.now.board.now) (B.job_data post.now.board.now) at.now.task.now
+        (map (λ (w : WriteBackValue). item.Write w) (items.write_backs (B.plan post.now.board.now) at.now.task.now))
+        (B.shown pass.old) }
     ensures pass { B.is_pass post.now.board.now pass.new }
-    ensures sent { OnOk result (HasSentAll (B.plan post.now.board.now) (B.job_data post.now.board.now) (map (λ (w : WriteBackValue). item.Write w) (items.write_backs (B.plan post.now.board.now) at.now.task.now)) (B.shown pass.old) (B.shown pass.new)) }
+    ensures sent { OnOk result
+        (HasSentAll (B.plan post.now.board.now) (B.job_data post.now.board.now)
+        (map (λ (w : WriteBackValue). item.Write w) (items.write_backs (B.plan post.now.board.now) at.now.task.now))
+        (B.shown pass.old) (B.shown pass.new)) }
     ensures some { OnErr result (HasSentSome (B.shown pass.old) (B.shown pass.new)) }
     ensures err { OnErr result (B.preloaded post.now.board.now ≡ false) }
 {
@@ -161,11 +184,13 @@ pub(crate) fn send_all<R: Threads + Wait + Sync, B: Board, G>(
     requires pass { B.is_pass post.now.board.now pass.old }
     requires task { IsTask (B.plan post.now.board.now) at.now.task.now }
     requires locals { at.now.locals.now ≡ locals_of (B.plan post.now.board.now) at.now.task.now }
-    requires tiles { ended (B.plan post.now.board.now) (B.job_data post.now.board.now) at.now.task.now ≡ Some (Ok bench.now.tiles) }
+    requires tiles { ended (B.plan post.now.board.now) (B.job_data post.now.board.now) at.now.task.now
+        ≡ Some (Ok bench.now.tiles) }
     requires unsent { RunsUnsent (B.plan post.now.board.now) at.now.task.now (B.shown pass.old) }
     ensures pass { B.is_pass post.now.board.now pass.new }
     ensures hands { SameWorker hands.old hands.new }
-    ensures sent { OnOk result (MayEnd (B.plan post.now.board.now) (B.job_data post.now.board.now) at.now.task.now (B.shown pass.new)) }
+    ensures sent { OnOk result
+        (MayEnd (B.plan post.now.board.now) (B.job_data post.now.board.now) at.now.task.now (B.shown pass.new)) }
     ensures some { HasSentSome (B.shown pass.old) (B.shown pass.new) }
     ensures err { OnErr result (B.preloaded post.now.board.now ≡ false) }
 {

@@ -41,9 +41,13 @@ fn claim_next<R: Threads + Wait + Sync, B: Board, G, L: Log>(
     requires log { L.keeps ≡ true → B.preloaded post.now.board.now ≡ false }
     ensures pass { B.is_pass post.now.board.now pass.new }
     ensures hands { SameWorker hands.old hands.new }
-    ensures found { IfOk result (λ found. MatchOption found (IsQuietAfter (B.shown pass.old) (B.shown pass.new)) (λ f. HasGotLogged (B.plan post.now.board.now) (B.job_data post.now.board.now) L.keeps f (B.shown pass.old) (B.shown pass.new) (L.entries log.old) (L.entries log.new))) }
+    ensures found { IfOk result (λ found.
+        MatchOption found (IsQuietAfter (B.shown pass.old) (B.shown pass.new)) (λ f.
+        HasGotLogged (B.plan post.now.board.now) (B.job_data post.now.board.now) L.keeps f (B.shown pass.old)
+        (B.shown pass.new) (L.entries log.old) (L.entries log.new))) }
     ensures none { IfOk result (λ found. IfNone found (L.entries log.new ≡ L.entries log.old)) }
-    ensures still { OnErr result (IsStill (B.shown pass.old) (B.shown pass.new) × (L.entries log.new ≡ L.entries log.old)) }
+    ensures still { OnErr result
+        (IsStill (B.shown pass.old) (B.shown pass.new) × (L.entries log.new ≡ L.entries log.old)) }
     ensures err { OnErr result (B.preloaded post.now.board.now ≡ false) }
 {
     log.make_room()?;
@@ -69,7 +73,9 @@ fn run_all<R: Threads + Wait + Sync, B: Board, G: Gate, L: Log>(
     ensures pass { B.is_pass post.now.board.now pass.new }
     ensures hands { SameWorker hands.old hands.new }
     ensures bench { IsBenchOf (B.plan post.now.board.now) bench.new }
-    ensures worked { IfOk result (λ worked. HasWorked (B.plan post.now.board.now) (B.job_data post.now.board.now) (G.lets post.now.gate.now post.now.worker) worked.ran (B.shown pass.old) (B.shown pass.new)) }
+    ensures worked { IfOk result (λ worked.
+        HasWorked (B.plan post.now.board.now) (B.job_data post.now.board.now) (G.lets post.now.gate.now post.now.worker)
+        worked.ran (B.shown pass.old) (B.shown pass.new)) }
     ensures quiet { OnOk result ((B.shown pass.new).quiet ≡ true) }
     ensures grown { HasGrown L.keeps (B.shown pass.old) (B.shown pass.new) (L.entries log.old) (L.entries log.new) }
     ensures err { OnErr result (B.preloaded post.now.board.now ≡ false) }
@@ -101,7 +107,9 @@ fn work_with<R: Threads + Wait + Sync, B: Board, G: Gate, L: Log>(
     ensures pass { B.is_pass post.now.board.now pass.new }
     ensures hands { SameWorker hands.old hands.new }
     ensures bench { IsBenchOf (B.plan post.now.board.now) bench.new }
-    ensures worked { IfOk result (λ worked. HasWorked (B.plan post.now.board.now) (B.job_data post.now.board.now) (G.lets post.now.gate.now post.now.worker) worked.ran (B.shown pass.old) (B.shown pass.new)) }
+    ensures worked { IfOk result (λ worked.
+        HasWorked (B.plan post.now.board.now) (B.job_data post.now.board.now) (G.lets post.now.gate.now post.now.worker)
+        worked.ran (B.shown pass.old) (B.shown pass.new)) }
     ensures quiet { OnOk result ((B.shown pass.new).quiet ≡ true) }
     ensures grown { HasGrown L.keeps (B.shown pass.old) (B.shown pass.new) (L.entries log.old) (L.entries log.new) }
     ensures halted { OnErr result (KnowsHalted (B.shown pass.new)) }
@@ -116,9 +124,9 @@ fn work_with<R: Threads + Wait + Sync, B: Board, G: Gate, L: Log>(
     }
 }
 
-/// Works at a board until all is quiet: takes the next ready task, of its own, of another worker or of a shard, runs it after the
-/// gate, and sends its items, or notes its trap. Ok only where the pass has seen quiet and runs nothing. With want of memory the
-/// board is halted; at a preloaded board it does not come. It may wait.
+/// Works at a board until all is quiet: takes the next ready task, of its own, of another worker or of a shard, runs it
+/// after the gate, and sends its items, or notes its trap. Ok only where the pass has seen quiet and runs nothing. With
+/// want of memory the board is halted; at a preloaded board it does not come. It may wait.
 pub fn work<R: Threads + Wait + Sync, B: Board, G: Gate>(
     rt: &R,
     worker: u32,
@@ -135,7 +143,9 @@ pub fn work<R: Threads + Wait + Sync, B: Board, G: Gate>(
     ensures hands { SameWorker hands.old hands.new }
     ensures bench { IsBenchOf (B.plan board.now) bench.new }
     ensures later { IsLaterRecord (B.shown pass.old) (B.shown pass.new) }
-    ensures worked { IfOk result (λ worked. HasWorked (B.plan board.now) (B.job_data board.now) (G.lets gate.now worker) worked.ran (B.shown pass.old) (B.shown pass.new)) }
+    ensures worked { IfOk result (λ worked.
+        HasWorked (B.plan board.now) (B.job_data board.now) (G.lets gate.now worker) worked.ran (B.shown pass.old)
+        (B.shown pass.new)) }
     ensures quiet { OnOk result ((B.shown pass.new).quiet ≡ true) }
     ensures halted { OnErr result (KnowsHalted (B.shown pass.new)) }
     ensures preloaded { B.preloaded board.now ≡ true → IsOk result }
@@ -149,8 +159,8 @@ pub fn work<R: Threads + Wait + Sync, B: Board, G: Gate>(
     work_with(&post, pass, hands, bench, &mut NoLog)
 }
 
-/// The same, for a board that is not preloaded. It takes room in the log before each claim; afterwards, whatever the answer, the
-/// log has gained exactly the claims of the pass, each with its stamp.
+/// The same, for a board that is not preloaded. It takes room in the log before each claim; afterwards, whatever the
+/// answer, the log has gained exactly the claims of the pass, each with its stamp.
 pub fn work_logged<R: Threads + Wait + Sync, B: Board, G: Gate>(
     rt: &R,
     worker: u32,
@@ -169,7 +179,9 @@ pub fn work_logged<R: Threads + Wait + Sync, B: Board, G: Gate>(
     ensures hands { SameWorker hands.old hands.new }
     ensures bench { IsBenchOf (B.plan board.now) bench.new }
     ensures later { IsLaterRecord (B.shown pass.old) (B.shown pass.new) }
-    ensures worked { IfOk result (λ worked. HasWorked (B.plan board.now) (B.job_data board.now) (G.lets gate.now worker) worked.ran (B.shown pass.old) (B.shown pass.new)) }
+    ensures worked { IfOk result (λ worked.
+        HasWorked (B.plan board.now) (B.job_data board.now) (G.lets gate.now worker) worked.ran (B.shown pass.old)
+        (B.shown pass.new)) }
     ensures quiet { OnOk result ((B.shown pass.new).quiet ≡ true) }
     ensures logged { HasLogged (B.shown pass.old) (B.shown pass.new) log.old.items log.new.items }
     ensures halted { OnErr result (KnowsHalted (B.shown pass.new)) }

@@ -16,7 +16,7 @@ ghost use Rattle.flow_meaning.specs.declared.outcome.Outcome.{Outcome as Outcome
 ghost use Rattle.flow_meaning.specs.declared.outcome.Outcome.TheVariants.{Complete};
 ghost use Rattle.flow_meaning.specs.Answer as meaning;
 ghost use Rattle.flow_meaning.specs.Answer.{trap_rows};
-ghost use Rattle.flow_meaning.specs.Counting.{count};
+ghost use Rattle.list_lemmas.specs.Counting.{count};
 ghost use Rattle.flow_meaning.specs.Machine.{IsQuiescent};
 ghost use Rattle.flow_meaning.specs.StateAnswer.{state_answer, state_answer_by, state_data};
 ghost use Rattle.flow_meaning.specs.Table.{waiting_rows};
@@ -103,7 +103,10 @@ impl State {
     ) -> Result<Outcome, OutOfMemory>
         requires fits { Fits m.now given self }
         requires known { DataFit m.now.colls m.now.elems given }
-        ensures { (all : OutcomeValue) → IfOk found (λ o. unwrap_or o (Complete (length (all_tasks m.now)) (state_data given (machine self))) ≡ all) → IfOk result (λ outcome. outcome ≡ all) }
+        ensures { (all : OutcomeValue)
+            → IfOk found (λ o.
+            unwrap_or o (Complete (length (all_tasks m.now)) (state_data given (machine self))) ≡ all)
+            → IfOk result (λ outcome. outcome ≡ all) }
     {
         match found {
             Ok(None) => self.complete(m, given),
@@ -117,7 +120,10 @@ impl State {
         requires idle { (t : Task) → IsRunning self.now t → ⊥ }
         requires fits { (G : Data) × Fits m.now G self.now }
         requires consistent { IsConsistent m.now }
-        ensures { IfOk result (λ found. (G : Data) → Fits m.now G self.now → unwrap_or found (Complete (length (all_tasks m.now)) (state_data G (machine self.now))) ≡ state_answer m.now G (machine self.now)) }
+        ensures { IfOk result (λ found.
+            (G : Data) → Fits m.now G self.now
+            → unwrap_or found (Complete (length (all_tasks m.now)) (state_data G (machine self.now)))
+            ≡ state_answer m.now G (machine self.now)) }
     {
         let traps = self.traps()?;
         if !traps.is_empty() {
@@ -129,7 +135,10 @@ impl State {
     // The answer of a run without traps that has stalled. `None` where all tasks ran.
     fn stall(&self, m: &Matched) -> Result<Option<Outcome>, OutOfMemory>
         requires { (G : Data) × Fits m.now G self.now }
-        ensures { IfOk result (λ found. (G : Data) → unwrap_or found (Complete (length (all_tasks m.now)) (state_data G (machine self.now))) ≡ state_answer_by m.now G (machine self.now) []) }
+        ensures { IfOk result (λ found.
+            (G : Data)
+            → unwrap_or found (Complete (length (all_tasks m.now)) (state_data G (machine self.now)))
+            ≡ state_answer_by m.now G (machine self.now) []) }
     {
         let ran = self.claims.len() as u64;
         let all = m.tasks();
@@ -143,7 +152,8 @@ impl State {
     fn complete(self, m: &Matched, given: Given) -> Result<Outcome, OutOfMemory>
         requires fits { Fits m.now given self }
         requires known { DataFit m.now.colls m.now.elems given }
-        ensures { IfOk result (λ outcome. outcome ≡ Complete (length (all_tasks m.now)) (state_data given (machine self))) }
+        ensures { IfOk result (λ outcome.
+            outcome ≡ Complete (length (all_tasks m.now)) (state_data given (machine self))) }
     {
         let all = m.tasks();
         Ok(Outcome::Complete(all, self.final_data(m, given)?))
@@ -152,7 +162,8 @@ impl State {
     // The rows of the tasks that have trapped, in task order.
     fn traps(&self) -> Result<Seq<TrapRow>, OutOfMemory>
         requires { (t : Task) → count (same_task t) (keys_of self.now.claims) ≤ 1 }
-        ensures { IfOk result (λ rows. rows ≡ in_task_order (λ (r : TrapRowValue). r.task) (claim_traps self.now.claims)) }
+        ensures { IfOk result (λ rows.
+            rows ≡ in_task_order (λ (r : TrapRowValue). r.task) (claim_traps self.now.claims)) }
     {
         let mut rows = Vec::new(self.alloc);
         for (t, end) in self.claims.iter() {
@@ -179,7 +190,9 @@ impl State {
         rows: &mut Vec<WaitRow>,
     ) -> Result<(), OutOfMemory>
         requires { (G : Data) × Fits m.now G self.now }
-        ensures { (ss : List ClassSpaceValue) → drop class m.now.spaces ≡ ss → OnOk result (rows.new.items ≡ rows.old.items ++ waits_among m.now (machine self.now) (tasks_from class ss)) }
+        ensures { (ss : List ClassSpaceValue) → drop class m.now.spaces ≡ ss
+            → OnOk result
+            (rows.new.items ≡ rows.old.items ++ waits_among m.now (machine self.now) (tasks_from class ss)) }
     {
         if class as usize >= m.plan().classes.len() {
             return Ok(());
@@ -198,7 +211,10 @@ impl State {
         requires fits { (G : Data) × Fits m.now G self.now }
         requires class { class < length m.now.classes }
         requires consistent { IsConsistent m.now }
-        ensures { (s : ClassSpaceValue) → slice_get m.now.spaces class ≡ Some s → OnOk result (rows.new.items ≡ rows.old.items ++ waits_among m.now (machine self.now) (map (task class) (range.tasks s))) }
+        ensures { (s : ClassSpaceValue) → slice_get m.now.spaces class ≡ Some s
+            → OnOk result
+            (rows.new.items
+            ≡ rows.old.items ++ waits_among m.now (machine self.now) (map (task class) (range.tasks s))) }
     {
         for params in Space::new(space_of(m, class)) {
             let t = TaskId::new(class, params.as_slice());

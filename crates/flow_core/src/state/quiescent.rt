@@ -41,7 +41,8 @@ impl State {
     // Whether a task may be claimed, of the classes from this number on.
     fn has_ready(&self, m: &Matched, class: u32) -> bool
         requires { (G : Data) × Fits m.now G self.now }
-        ensures { (ss : List ClassSpaceValue) → drop class m.now.spaces ≡ ss → IsTrue result ↔ HasOne (MayClaim m.now (machine self.now)) (tasks_from class ss) }
+        ensures { (ss : List ClassSpaceValue) → drop class m.now.spaces ≡ ss
+            → IsTrue result ↔ HasOne (MayClaim m.now (machine self.now)) (tasks_from class ss) }
     {
         if class as usize >= m.plan().classes.len() {
             return false;
@@ -56,7 +57,8 @@ impl State {
     fn has_ready_of(&self, m: &Matched, class: u32) -> bool
         requires fits { (G : Data) × Fits m.now G self.now }
         requires class { class < length m.now.classes }
-        ensures { (s : ClassSpaceValue) → slice_get m.now.spaces class ≡ Some s → IsTrue result ↔ HasOne (λ params. MayClaim m.now (machine self.now) (task class params)) (range.tasks s) }
+        ensures { (s : ClassSpaceValue) → slice_get m.now.spaces class ≡ Some s
+            → IsTrue result ↔ HasOne (λ params. MayClaim m.now (machine self.now) (task class params)) (range.tasks s) }
     {
         let space = space_of(m, class);
         for params in Space::new(space) {
@@ -102,7 +104,8 @@ impl State {
         requires task { IsTask m.now t.now }
         requires outputs { IsTrue (ending.has_outputs (end_of self.now t.now)) }
         requires fits { (G : Data) × Fits m.now G self.now }
-        ensures { IsTrue result ↔ HasOne (λ (e : EdgeValue). IsUnsent self.now.sends (item.Edge e)) (items.out_edges m.now t.now) }
+        ensures { IsTrue result
+            ↔ HasOne (λ (e : EdgeValue). IsUnsent self.now.sends (item.Edge e)) (items.out_edges m.now t.now) }
     {
         for edge in out_edges(m.plan(), t) {
             if self.is_unsent(m, &Item::Edge(edge)) {
@@ -117,7 +120,8 @@ impl State {
         requires task { IsTask m.now t.now }
         requires outputs { IsTrue (ending.has_outputs (end_of self.now t.now)) }
         requires fits { (G : Data) × Fits m.now G self.now }
-        ensures { IsTrue result ↔ HasOne (λ (w : WriteBackValue). IsUnsent self.now.sends (item.Write w)) (items.write_backs m.now t.now) }
+        ensures { IsTrue result
+            ↔ HasOne (λ (w : WriteBackValue). IsUnsent self.now.sends (item.Write w)) (items.write_backs m.now t.now) }
     {
         for write in write_backs(m.plan(), t) {
             if self.is_unsent(m, &Item::Write(write)) {

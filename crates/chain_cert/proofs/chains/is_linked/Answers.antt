@@ -1,6 +1,6 @@
 use Rattle.std.proofs.Common.{sym, ◌∙◌, refl}
 use Rattle.std.proofs.lemmas.Bool.{false≢true}
-use Rattle.dep_iter.proofs.Belonging.{empty_is}
+use Rattle.std.proofs.lemmas.List.{nil_from_length}
 use Rattle.chain_cert.proofs.chains.is_linked.Goals as goal
 
 pub returns-then-not-is_task : goal.returns-then-not-is_task
@@ -9,7 +9,7 @@ returns-then-not-is_task c =
 
 pub returns-in_default-split_first : goal.returns-in_default-split_first
 returns-in_default-split_first c =
-    let e = empty_is c.in-Some.later.now c.in_default-split_first.ensures.cases in
+    let e = nil_from_length c.in-Some.later.now c.in_default-split_first.ensures.cases in
     rw (c.in-Some.ensures.cases.0, e) (λ q. (c.is_task.ensures.0 c.if-not-is_task.false, tt), λ l. refl)
 
 pub returns : goal.returns

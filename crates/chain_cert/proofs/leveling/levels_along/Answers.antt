@@ -1,5 +1,5 @@
 use Rattle.std.proofs.Common.{◌≤◌, [], length, take, sym, subst, arith}
-use Rattle.task_order.proofs.Grown.{take_whole}
+use Rattle.std.proofs.lemmas.List.{take_all}
 use Rattle.chain_cert.specs.Finding.{HasLevels}
 use Rattle.chain_cert.proofs.Lookups.{take_next}
 use Rattle.chain_cert.proofs.TableLevels.{none_noted}
@@ -28,4 +28,4 @@ pub returns : goal.returns
 returns c =
     let order = c.args.order.now in
     let all : length order ≤ c.loop-t.t-index = omega arith in
-    subst (λ l. HasLevels c.args.m.now c.args.weights.now l c.loop-t.table.entries) (take_whole c.loop-t.t-index order all) c.loop-t.invariant
+    subst (λ l. HasLevels c.args.m.now c.args.weights.now l c.loop-t.table.entries) (take_all c.loop-t.t-index order all) c.loop-t.invariant

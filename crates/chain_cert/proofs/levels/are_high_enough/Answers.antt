@@ -3,9 +3,9 @@ use Rattle.std.proofs.lemmas.Bool.{false≢true}
 use Rattle.ptg_base.specs.Lists.{IsIn}
 use Rattle.ptg_base.specs.Task.{Task}
 use Rattle.plan_core.specs.declared.plan.Plan.{Plan}
-use Rattle.range_space.proofs.MemberLists.{IsIn-map, from_append}
+use Rattle.list_lemmas.proofs.Members.{IsIn-map, from_append}
+use Rattle.std.proofs.lemmas.List.{take_all}
 use Rattle.dep_iter.specs.Tasks.{IsTask}
-use Rattle.task_order.proofs.Grown.{take_whole}
 use Rattle.chain_cert.specs.Checking.{IsHighEnough}
 use Rattle.chain_cert.proofs.Lookups.{read_in, take_next}
 use Rattle.chain_cert.proofs.TaskSorting.{order_rising, order_task}
@@ -47,4 +47,4 @@ pub returns : goal.returns
 returns c =
     let levels = c.args.levels.now in
     let all : length levels ≤ c.loop-row.row-index = omega arith in
-    (λ e r i. c.loop-row.invariant r (subst (IsIn r) (sym (take_whole c.loop-row.row-index levels all)) i), λ h. refl)
+    (λ e r i. c.loop-row.invariant r (subst (IsIn r) (sym (take_all c.loop-row.row-index levels all)) i), λ h. refl)

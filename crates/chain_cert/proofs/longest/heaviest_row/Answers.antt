@@ -1,5 +1,5 @@
 use Rattle.std.proofs.Common.{◌≤◌, length, take, sym, subst, arith}
-use Rattle.task_order.proofs.Grown.{take_whole}
+use Rattle.std.proofs.lemmas.List.{take_all}
 use Rattle.chain_cert.specs.Finding.{IsHeaviestRow}
 use Rattle.chain_cert.proofs.Lookups.{take_next}
 use Rattle.chain_cert.proofs.longest.heaviest_row.Goals as goal
@@ -14,4 +14,4 @@ pub returns : goal.returns
 returns c =
     let rows = c.args.rows.now in
     let all : length rows ≤ c.loop-row.row-index = omega arith in
-    subst (λ l. IsHeaviestRow l c.loop-row.best) (take_whole c.loop-row.row-index rows all) c.loop-row.invariant
+    subst (λ l. IsHeaviestRow l c.loop-row.best) (take_all c.loop-row.row-index rows all) c.loop-row.invariant

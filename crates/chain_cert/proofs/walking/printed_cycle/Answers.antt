@@ -3,7 +3,7 @@ use Rattle.std.specs.List.{list_any}
 use Rattle.std.proofs.lemmas.List.{take_rest}
 use Rattle.ptg_base.specs.TaskComparing.{same_task}
 use Rattle.plan_core.specs.declared.plan.Plan.{Plan}
-use Rattle.range_space.proofs.MemberLists.{IsIn-append_right}
+use Rattle.list_lemmas.proofs.Members.{IsIn-append_right}
 use Rattle.dep_iter.specs.Tasks.{IsTask}
 use Rattle.dep_iter.specs.Edges.{sources}
 use Rattle.chain_cert.specs.Finding.{IsLeastWhere, is_left}

@@ -1,8 +1,9 @@
 use Rattle.dep_iter.specs.Edges.{in_edges}
 use Rattle.dep_iter.specs.Items.{out_edges}
 use Rattle.dep_iter.specs.Tasks.{all_tasks}
-use Rattle.dep_iter.proofs.Listing.{length-part, listed}
+use Rattle.dep_iter.proofs.Listing.{listed}
 use Rattle.dep_iter.proofs.laws.a_task_has_no_more_edges_than_the_job.Goals as goal
+use Rattle.list_lemmas.proofs.Members.{length-part}
 
 pub returns : goal.returns
 returns c = record {

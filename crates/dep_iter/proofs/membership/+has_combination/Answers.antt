@@ -3,13 +3,14 @@ use Rattle.std.proofs.lemmas.Int.{to_z-of_z}
 use Rattle.std.proofs.lemmas.Bool.{false≢true}
 use Rattle.range_space.specs.Tasks.{or_empty}
 use Rattle.dep_iter.specs.Arguments.{arg_values}
-use Rattle.dep_iter.proofs.Belonging.{empty_is, from_product, not_product, to_product}
+use Rattle.dep_iter.proofs.Belonging.{from_product, not_product, to_product}
 use Rattle.dep_iter.proofs.membership.+has_combination.Goals as goal
+use Rattle.std.proofs.lemmas.List.{nil_from_length}
 
 pub returns-in_default-split_first : goal.returns-in_default-split_first
 returns-in_default-split_first t c =
     let env = c.args.env.now in
-    let e = empty_is c.args.params.now c.in_default-split_first.ensures.cases in
+    let e = nil_from_length c.args.params.now c.in_default-split_first.ensures.cases in
     (λ q. absurd (false≢true q), λ h. absurd (not_product (or_empty (arg_values c.in-Some.arg.now env)) (map (λ a. or_empty (arg_values a env)) c.in-Some.others.now) (rw (e, c.in-Some.ensures.cases.0) at h)))
 
 pub returns-then-not-has_value : goal.returns-then-not-has_value

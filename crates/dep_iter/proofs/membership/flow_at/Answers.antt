@@ -2,7 +2,8 @@ use Rattle.std.proofs.Common.{◌≡◌, sym, ◌∙◌, slice_get, None, arith}
 use Rattle.std.proofs.lemmas.Bool.{false≢true}
 use Rattle.dep_iter.specs.Directions.{near_flow}
 use Rattle.dep_iter.specs.Tasks.{flows_of}
-use Rattle.dep_iter.proofs.Fitting.{at_index, past_end}
+use Rattle.list_lemmas.proofs.Places.{slice_get_at}
+use Rattle.std.proofs.lemmas.Option.{slice_get_past}
 use Rattle.dep_iter.proofs.membership.flow_at.Goals as goal
 
 pub returns-then-not-same_task : goal.returns-then-not-same_task
@@ -11,7 +12,7 @@ returns-then-not-same_task c = λ f near.
 
 pub returns-then-number-flows : goal.returns-then-number-flows
 returns-then-number-flows c = λ f near.
-    let past = past_end c.flows_of-flows.result.now c.near_flow-number.result (omega arith) in
+    let past = slice_get_past c.flows_of-flows.result.now c.near_flow-number.result (omega arith) in
     let k : slice_get (flows_of c.args.plan.now c.args.t.now) (near_flow c.args.way c.args.edge.now) ≡ None =
     rw (c.flows_of-flows.ensures.flows, c.near_flow-number.ensures) at past in
     let e = near.1 in
@@ -21,7 +22,7 @@ pub returns : goal.returns
 returns c =
     let fs = c.flows_of-flows.result.now in
     let f = c.index-flows-number.result in
-    let here = at_index fs c.near_flow-number.result f (omega arith) c.index-flows-number.is in (
+    let here = slice_get_at fs c.near_flow-number.result f (omega arith) c.index-flows-number.is in (
       sym c.near_task.ensures ∙ c.eq-same_task.ensures.same.0 c.if-not-same_task.false,
       rw (c.flows_of-flows.ensures.flows, c.near_flow-number.ensures) at here,
     )

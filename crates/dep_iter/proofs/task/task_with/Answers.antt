@@ -1,7 +1,7 @@
 use Rattle.std.proofs.Common.{rules, ◌≡◌, refl, sym}
 use Rattle.range_space.specs.Locals.{IsLocalsOf}
 use Rattle.range_space.specs.Tasks.{all_locals, params_of}
-use Rattle.range_space.proofs.MemberLists.{IsIn-map}
+use Rattle.list_lemmas.proofs.Members.{IsIn-map}
 use Rattle.dep_iter.proofs.Fitting.{locals_with-only}
 use Rattle.dep_iter.proofs.task.task_with.Goals as goal
 

@@ -1,7 +1,7 @@
 use Rattle.std.proofs.Common.{◌≡◌, map, true, ap}
 use Rattle.std.proofs.lemmas.Bool.{OnTrue_from}
 use Rattle.ptg_base.specs.declared.edge.Edge.{Edge}
-use Rattle.range_space.proofs.Nesting.{on_true}
+use Rattle.list_lemmas.proofs.Truth.{on_true_weaker as on_true}
 use Rattle.dep_iter.specs.declared.source.Source.TheVariants as source
 use Rattle.dep_iter.specs.Arguments.{single_value}
 use Rattle.dep_iter.specs.Edges.{edge, source_at}

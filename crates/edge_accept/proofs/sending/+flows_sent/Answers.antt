@@ -1,10 +1,10 @@
 use Rattle.std.proofs.Common.{suc, refl}
-use Rattle.dep_iter.proofs.Belonging.{empty_is}
+use Rattle.std.proofs.lemmas.List.{nil_from_length}
 use Rattle.edge_accept.specs.Flows.{items_of_flow, items_of_flows}
 use Rattle.edge_accept.proofs.sending.+flows_sent.Goals as goal
 
 pub returns-in_default : goal.returns-in_default
-returns-in_default m c = λ t n. rw (empty_is c.args.flows.now c.in_default.ensures.cases) (record { edges = λ h. refl; writes = λ h. refl })
+returns-in_default m c = λ t n. rw (nil_from_length c.args.flows.now c.in_default.ensures.cases) (record { edges = λ h. refl; writes = λ h. refl })
 
 pub returns : goal.returns
 returns m c = λ t n.

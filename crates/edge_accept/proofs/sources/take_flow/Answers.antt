@@ -1,6 +1,6 @@
 use Rattle.std.proofs.Common.{true, false, sym, ◌∙◌}
 use Rattle.std.specs.List.{flat_map}
-use Rattle.range_space.proofs.Nesting.{on_true}
+use Rattle.list_lemmas.proofs.Truth.{on_true_weaker}
 use Rattle.dep_iter.specs.Active.{held_targets}
 use Rattle.dep_iter.specs.Edges.{edges_into, in_edges_before}
 use Rattle.edge_accept.proofs.TaskFlows.{source-is}
@@ -22,4 +22,4 @@ returns-else-takes_first-clause-taken c =
     let at = c.args.at.now in
     let es = flat_map (edges_into at.task.now at.env.now at.number) (held_targets false at.flow.now.ins at.env.now) in
     rw (sym c.takes_first.ensures, c.if-takes_first.false)
-    (on_true c.take_all.result (once_forget at.plan.now (in_edges_before at.plan.now at.task.now at.number 0) c.args.ins.now c.take_all.new.ins es) c.take_all.ensures.taken)
+    (on_true_weaker c.take_all.result (once_forget at.plan.now (in_edges_before at.plan.now at.task.now at.number 0) c.args.ins.now c.take_all.new.ins es) c.take_all.ensures.taken)

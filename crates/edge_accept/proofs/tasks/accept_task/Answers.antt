@@ -1,5 +1,5 @@
 use Rattle.goal_count.proofs.WellFlows.{well_flows}
-use Rattle.range_space.proofs.Nesting.{on_true}
+use Rattle.list_lemmas.proofs.Truth.{on_true_weaker}
 use Rattle.edge_accept.proofs.Walking.{went_one}
 use Rattle.edge_accept.proofs.tasks.accept_task.Goals as goal
 
@@ -9,4 +9,4 @@ invariant_of-task-clause-well c = rw (c.requires.locals, c.flows_of-flows.ensure
 pub returns : goal.returns
 returns c =
     let sound = c.if-not-is_sound.ensures in
-    on_true c.send.result (went_one c.args.plan.now c.args.tally.now c.take_ins.new.tally c.send.new.tally c.args.t.now sound.well sound.place c.if-not-take_ins.ensures) c.send.ensures
+    on_true_weaker c.send.result (went_one c.args.plan.now c.args.tally.now c.take_ins.new.tally c.send.new.tally c.args.t.now sound.well sound.place c.if-not-take_ins.ensures) c.send.ensures

@@ -1,7 +1,7 @@
 use Rattle.std.proofs.Common.{◌≡◌, [], sym, arith}
 use Rattle.std.proofs.lemmas.List.{nil_from_length}
 use Rattle.dep_iter.specs.Items.{write_backs}
-use Rattle.range_space.proofs.Nesting.{on_true}
+use Rattle.list_lemmas.proofs.Truth.{on_true_weaker}
 use Rattle.edge_accept.proofs.Walking.{written_nil}
 use Rattle.edge_accept.proofs.TaskFlows.{items-by_flow}
 use Rattle.edge_accept.proofs.tasks.send.Goals as goal
@@ -34,4 +34,4 @@ returns c =
     let w = sent.writes (omega arith) in
     let o = add.outs in
     let n = add.writes in
-    on_true c.write_places.result (λ h. record { ins = add.ins; roots = add.roots; outs = omega arith; writes = omega arith; written = h }) (rw add.written at c.write_places.ensures)
+    on_true_weaker c.write_places.result (λ h. record { ins = add.ins; roots = add.roots; outs = omega arith; writes = omega arith; written = h }) (rw add.written at c.write_places.ensures)

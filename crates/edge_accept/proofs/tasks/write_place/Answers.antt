@@ -3,7 +3,7 @@ use Rattle.std.proofs.lemmas.Bool.{OnTrue_from}
 use Rattle.ptg_base.specs.declared.edge.WriteBack.{WriteBack}
 use Rattle.plan_core.specs.Place.{HasPlace}
 use Rattle.edge_accept.specs.Tallies.{AreWritten}
-use Rattle.edge_accept.proofs.Lists.{once-end}
+use Rattle.list_lemmas.proofs.Distinct.{HasNoRepeats-push}
 use Rattle.edge_accept.proofs.tasks.write_place.Goals as goal
 
 pub returns : goal.returns
@@ -15,7 +15,7 @@ returns c =
       exist = λ x k. elim k [ inl e ↦ subst (λ (w : WriteBack). HasPlace colls w.place) (sym e) there | inr none ↦ absurd none ];
       added = λ ps k. record {
         set = c.insert.ensures.added colls ps there k.set;
-        once = once-end ps p k.once ((c.insert.ensures.fresh colls ps there k.set).0 h);
+        once = HasNoRepeats-push ps p k.once ((c.insert.ensures.fresh colls ps there k.set).0 h);
       };
     } in
     OnTrue_from c.insert.result _ added

@@ -1,5 +1,5 @@
 use Rattle.std.proofs.Common.{sym, ◌∙◌, length, ap, add-one, arith}
-use Rattle.range_space.proofs.MemberLists.{and_right}
+use Rattle.std.specs.Cmp.{second_so}
 use Rattle.dep_iter.specs.Directions.{dependences}
 use Rattle.edge_match.proofs.Directed.{drop_cons, pass_at, skip, stop_at}
 use Rattle.edge_match.proofs.dependences.+check_dependences.Goals as goal
@@ -10,7 +10,7 @@ check_dependences-requires m c =
     let shorter = ap length cons in
     let room = c.requires.room in
     let last = (drop_cons (dependences c.args.way c.args.at.now.flow.now) c.args.k _ _ (c.requires.last ∙ cons)).1 in
-    let fit = and_right _ _ (rw cons at c.requires.fit) in
+    let fit = second_so _ _ (rw cons at c.requires.fit) in
     (omega (arith, shorter, c.decreases), (c.requires.of_job, (rw add-one last, (fit, omega arith))))
 
 pub check_dependences-requires-2 : goal.check_dependences-requires-2
@@ -19,7 +19,7 @@ check_dependences-requires-2 m c =
     let shorter = ap length cons in
     let room = c.requires.room in
     let last = (drop_cons (dependences c.args.way c.args.at.now.flow.now) c.args.k _ _ (c.requires.last ∙ cons)).1 in
-    let fit = and_right _ _ (rw cons at c.requires.fit) in
+    let fit = second_so _ _ (rw cons at c.requires.fit) in
     (omega (arith, shorter, c.decreases), (c.requires.of_job, (rw add-one last, (fit, omega arith))))
 
 pub returns-in_default-held_target : goal.returns-in_default-held_target

@@ -1,5 +1,5 @@
 use Rattle.std.proofs.Common.{ap, ◌∙◌, length, add-one, arith}
-use Rattle.range_space.proofs.MemberLists.{and_right}
+use Rattle.std.specs.Cmp.{second_so}
 use Rattle.dep_iter.specs.Tasks.{flows_of}
 use Rattle.edge_match.proofs.Directed.{drop_cons}
 use Rattle.edge_match.proofs.Parts.{followed}
@@ -17,7 +17,7 @@ check_flows-requires m c =
     let room = c.requires.room in
     let last = (drop_cons (flows_of task.plan.now task.task.now) c.args.number c.in-Some.flow.now c.in-Some.others.now (c.requires.last ∙ c.in-Some.ensures.cases.0)).1 in (
       omega (arith, shorter, c.decreases),
-      (c.requires.of_job, (rw add-one last, (and_right _ _ (rw c.in-Some.ensures.cases.0 at c.requires.fit), omega arith))),
+      (c.requires.of_job, (rw add-one last, (second_so _ _ (rw c.in-Some.ensures.cases.0 at c.requires.fit), omega arith))),
     )
 
 pub returns : goal.returns

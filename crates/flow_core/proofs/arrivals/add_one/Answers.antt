@@ -1,5 +1,6 @@
-use Rattle.flow_core.proofs.Lookups.{added, on_success}
+use Rattle.flow_core.proofs.Lookups.{added}
 use Rattle.flow_core.proofs.arrivals.add_one.Goals as goal
+use Rattle.list_lemmas.proofs.Options.{on_success}
 
 pub returns : goal.returns
 returns c = λ u.

@@ -1,8 +1,9 @@
 use Rattle.std.proofs.Common.{ap, sym, subst, ◌∙◌}
 use Rattle.dep_iter.specs.Tasks.{IsTask, locals_of}
 use Rattle.flow_meaning.specs.Ending.{has_outputs}
-use Rattle.flow_core.proofs.OneThread.{done_then, done_with_these, items_parts, on_ok_then}
+use Rattle.flow_core.proofs.OneThread.{done_then, done_with_these, items_parts}
 use Rattle.flow_core.proofs.sending.send_items.Goals as goal
+use Rattle.std.proofs.lemmas.Result.{on_ok_weaker}
 
 pub locals_of-locals-requires : goal.locals_of-locals-requires
 locals_of-locals-requires c = subst (λ P. IsTask P c.args.t.now) (sym c.plan.ensures.same) c.requires.task
@@ -29,6 +30,6 @@ send_writes-requires c = record {
 
 pub returns-clause-done : goal.returns-clause-done
 returns-clause-done c =
-    on_ok_then c.send_writes.result
+    on_ok_weaker c.send_writes.result
     (λ d. done_with_these c.args.m.now _ _ _ c.args.runner.now.run c.send_writes.new.runner.run (items_parts c.args.m.now c.args.t.now)
     (done_then c.args.m.now _ _ _ _ c.args.runner.now.run c.send_edges.new.runner.run c.send_writes.new.runner.run c.in_ok-send_edges.ensures.done d)) c.send_writes.ensures.done

@@ -5,7 +5,7 @@ use Rattle.ptg_base.specs.declared.edge.WriteBack.{WriteBack}
 use Rattle.ptg_base.specs.declared.edge.Item.{Item}
 use Rattle.ptg_base.specs.declared.edge.Item.TheVariants as item
 use Rattle.plan_core.specs.declared.plan.Plan.{Plan}
-use Rattle.range_space.proofs.MemberLists.{from_map}
+use Rattle.list_lemmas.proofs.Members.{from_map}
 use Rattle.dep_iter.specs.Items.{items, write_backs}
 use Rattle.flow_core.specs.Turns.{HasSent}
 use Rattle.flow_core.proofs.Fitting.{write_among}

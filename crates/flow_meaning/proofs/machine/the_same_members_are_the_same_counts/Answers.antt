@@ -1,7 +1,7 @@
 use Rattle.ptg_base.specs.TaskComparing.{same_task}
 use Rattle.ptg_base.specs.TaskLaws.{same_task-decides}
 use Rattle.flow_meaning.specs.Machine.{same_sent}
-use Rattle.flow_meaning.proofs.Counts.{same_counts}
+use Rattle.list_lemmas.proofs.Counts.{same_counts}
 use Rattle.flow_meaning.proofs.Reordering.{same_sent-decides}
 use Rattle.flow_meaning.proofs.machine.the_same_members_are_the_same_counts.Goals as goal
 

@@ -7,10 +7,12 @@ use Rattle.grammar_core.specs.declared.code.Code.{Code}
 use Rattle.grammar_core.specs.Reading.{reading}
 use Rattle.grammar_core.specs.Returns.{ReadRefusal, Fails, fault_with}
 use Rattle.jdf_tree.specs.Grammar.{productions, class_and_skips, classes}
-use Rattle.jdf_tree.proofs.Lists.{list_moves, counted_goes_on, counted_fails, counted_is_full, counted_ends, longer}
+use Rattle.jdf_tree.proofs.Lists.{list_moves}
+use Rattle.jdf_read.proofs.ListSteps.{counted_goes_on, counted_fails, counted_is_full, counted_ends}
 use Rattle.jdf_read.proofs.Listed.{classes_listed, classes_fail}
 use Rattle.jdf_read.proofs.Counts.{room, another_within, first_within}
 use Rattle.jdf_read.proofs.class.classes.Goals as goal
+use Rattle.list_lemmas.proofs.Joins.{length_longer}
 
 pub more-smaller : goal.more-smaller
 more-smaller c = omega (arith, list_moves {g = class_and_skips} _ _ _ classes_listed c.in_ok-next.ensures)
@@ -22,7 +24,7 @@ more-init c =
 
 pub more-preserved : goal.more-preserved
 more-preserved c =
-    let up = longer c.more.list c.push-in-more.new.self c.in_ok-next.next c.in_ok-push-2.ensures.ok in
+    let up = length_longer c.more.list c.push-in-more.new.self c.in_ok-next.next c.in_ok-push-2.ensures.ok in
     let within = another_within (length c.more.list) (length c.push-in-more.new.self) c.len.result c.len.ensures c.if-len-eq-MOST_CLASSES.false c.more.invariant.at_most c.more.invariant.some up in
     record {
       reads = counted_goes_on 63 TooManyClasses (length c.more.list - 1) (length c.push-in-more.new.self - 1) c.more.list c.more.rest.now c.in_ok-next.next c.in_ok-next.after.now _ c.push-in-more.new.self classes_listed c.in_ok-push-2.ensures.ok within.room within.next (sym c.is_name_next.ensures ∙ c.more-test.true) c.in_ok-next.ensures c.more.invariant.reads;

@@ -3,7 +3,7 @@ use Rattle.jdf_alphabet.specs.Codes.{TooManyClasses}
 use Rattle.grammar_core.specs.Reading.{reading}
 use Rattle.grammar_core.proofs.Loops.{so_far}
 use Rattle.jdf_tree.specs.Grammar.{productions, class_and_skips, classes}
-use Rattle.jdf_tree.proofs.Lists.{counted}
+use Rattle.jdf_read.proofs.ListSteps.{counted}
 use Rattle.jdf_read.proofs.class.classes.Given as goal
 
 abbrev pub invariant-more : goal.invariant-more

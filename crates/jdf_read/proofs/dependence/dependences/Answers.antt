@@ -5,10 +5,12 @@ use Rattle.grammar_core.specs.Reading.{reading}
 use Rattle.grammar_core.specs.Returns.{ReadRefusal, Fails, fault_with}
 use Rattle.jdf_tree.specs.ClassGrammar.{dependence, dependences}
 use Rattle.jdf_tree.specs.Grammar.{productions}
-use Rattle.jdf_tree.proofs.Lists.{list_moves, counted_goes_on, counted_fails, counted_is_full, counted_ends, longer}
+use Rattle.jdf_tree.proofs.Lists.{list_moves}
+use Rattle.jdf_read.proofs.ListSteps.{counted_goes_on, counted_fails, counted_is_full, counted_ends}
 use Rattle.jdf_read.proofs.Counts.{room_left, still_within, none_within}
 use Rattle.jdf_read.proofs.Listed.{dependences_listed, dependences_begin}
 use Rattle.jdf_read.proofs.dependence.dependences.Goals as goal
+use Rattle.list_lemmas.proofs.Joins.{length_longer}
 
 pub more-smaller : goal.more-smaller
 more-smaller c = list_moves {g = dependence} _ _ _ dependences_listed c.in_ok-next.ensures
@@ -19,7 +21,7 @@ more-init c = rw c.new-list.ensures record { reads = dependences_begin c.args.to
 pub more-preserved : goal.more-preserved
 more-preserved c =
     let room = room_left 16 (length c.more.list) c.len.result c.len.ensures c.if-len-eq-MOST_DEPENDENCES.false c.more.invariant.at_most in
-    let up = longer c.more.list c.push.new.self c.in_ok-next.next c.in_ok-push.ensures.ok in
+    let up = length_longer c.more.list c.push.new.self c.in_ok-next.next c.in_ok-push.ensures.ok in
     record {
       reads = counted_goes_on 16 TooManyDeps (length c.more.list) (length c.push.new.self) c.more.list c.more.rest.now c.in_ok-next.next c.in_ok-next.after.now _ c.push.new.self dependences_listed c.in_ok-push.ensures.ok room up (sym c.is_arrow_next.ensures ∙ c.more-test.true) c.in_ok-next.ensures c.more.invariant.reads;
       at_most = still_within 16 (length c.more.list) (length c.push.new.self) room up;

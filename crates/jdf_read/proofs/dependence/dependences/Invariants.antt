@@ -4,7 +4,7 @@ use Rattle.grammar_core.specs.Reading.{reading}
 use Rattle.grammar_core.proofs.Loops.{so_far}
 use Rattle.jdf_tree.specs.ClassGrammar.{dependence, dependences}
 use Rattle.jdf_tree.specs.Grammar.{productions}
-use Rattle.jdf_tree.proofs.Lists.{counted}
+use Rattle.jdf_read.proofs.ListSteps.{counted}
 use Rattle.jdf_read.proofs.dependence.dependences.Given as goal
 
 abbrev pub invariant-more : goal.invariant-more

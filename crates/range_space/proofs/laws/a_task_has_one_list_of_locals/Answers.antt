@@ -1,7 +1,7 @@
 use Rattle.std.proofs.Common.{sym, subst}
 use Rattle.ptg_base.specs.Lists.{IsIn}
 use Rattle.range_space.specs.Tasks.{params_of, tasks, all_locals}
-use Rattle.range_space.proofs.MemberLists.{IsIn-map, from_map}
+use Rattle.list_lemmas.proofs.Members.{IsIn-map, from_map}
 use Rattle.range_space.proofs.Distinct.{one_locals}
 use Rattle.range_space.proofs.laws.a_task_has_one_list_of_locals.Goals as goal
 

@@ -1,7 +1,8 @@
 use Rattle.std.proofs.Common.{◌≡◌, ℕ, FitsSigned, w64, rules, arith, ap, sym, ◌∙◌, length, take, get_or, pos}
 use Rattle.std.proofs.lemmas.Int.{to_z-of_z}
-use Rattle.range_space.proofs.Nesting.{cut, found_deeper, found_past, none_past, unsnoc, on_true, on_false}
+use Rattle.range_space.proofs.Nesting.{cut, found_deeper, found_past, none_past, unsnoc}
 use Rattle.range_space.proofs.walk.+advance.Goals as goal
+use Rattle.list_lemmas.proofs.Truth.{on_true_weaker, on_false_weaker}
 
 pub returns-then-advance-clause-found : goal.returns-then-advance-clause-found
 returns-then-advance-clause-found t c =
@@ -31,7 +32,7 @@ returns-in-Some-pop-clause-found t c =
     let u = kept t c in
     let g : FitsSigned w64 c.in-Some-pop.v = search rules in
     let f = rw (u.0, u.1) at (simp to_z-of_z at c.first_past.ensures.found) in
-    rw e.0 (on_true c.first_past.result (found_past _ _ old depth _ k c.if-advance.ensures.none _) f)
+    rw e.0 (on_true_weaker c.first_past.result (found_past _ _ old depth _ k c.if-advance.ensures.none _) f)
 
 pub returns-in-Some-pop-clause-none : goal.returns-in-Some-pop-clause-none
 returns-in-Some-pop-clause-none t c =
@@ -43,9 +44,9 @@ returns-in-Some-pop-clause-none t c =
     let u = kept t c in
     let g : FitsSigned w64 c.in-Some-pop.v = search rules in
     let f = rw (u.0, u.1) at (simp to_z-of_z at c.first_past.ensures.none) in
-    rw e.0 (on_false c.first_past.result (none_past c.in-Some.def.now c.in-Some.inner.now old depth _ k c.if-advance.ensures.none) f)
+    rw e.0 (on_false_weaker c.first_past.result (none_past c.in-Some.def.now c.in-Some.inner.now old depth _ k c.if-advance.ensures.none) f)
 
 pub returns-in-Some-pop-clause-truncated : goal.returns-in-Some-pop-clause-truncated
 returns-in-Some-pop-clause-truncated t c =
     let u = kept t c in
-    on_false c.first_past.result (λ e. e ∙ u.0) c.first_past.ensures.same
+    on_false_weaker c.first_past.result (λ e. e ∙ u.0) c.first_past.ensures.same

@@ -4,7 +4,7 @@ use Rattle.ptg_base.specs.declared.place.Place.{Place}
 use Rattle.plan_core.specs.declared.plan.Plan.{Plan}
 use Rattle.dep_iter.specs.Hints.{affinity, place_number}
 use Rattle.rank_core.specs.World.{rank_of}
-use Rattle.rank_world.proofs.Sums.{mod_sum}
+use Rattle.list_lemmas.proofs.Numbers.{mod_sum}
 use Rattle.rank_world.proofs.placing.rank_under.Goals as goal
 
 pub returns-clause-number : goal.returns-clause-number

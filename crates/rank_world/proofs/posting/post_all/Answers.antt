@@ -1,7 +1,7 @@
 use Rattle.std.proofs.Common.{◌≤◌, List, length, sym, ◌∙◌, subst}
 use Rattle.indexmap.specs.IndexMap.{spare}
 use Rattle.dep_iter.specs.Items.{out_edges}
-use Rattle.dep_iter.proofs.Belonging.{empty_is}
+use Rattle.std.proofs.lemmas.List.{nil_from_length}
 use Rattle.rank_core.specs.declared.message.Message.{Message}
 use Rattle.rank_world.specs.Visits.{AreBlank, between_among, plan_of}
 use Rattle.rank_world.proofs.Outgoings.{PostedSoFar, post_few, post_room, post_shape, post_then, posted_first, posted_last}
@@ -39,5 +39,5 @@ loop-message-preserved c =
 pub returns : goal.returns
 returns c =
     let v = c.args.at.now in
-    let l = subst (λ (ms : List Message). PostedSoFar v c.args.bench.now.tiles ms c.loop-message.mail) (empty_is c.loop-message.message-iterator.rest.items (sym c.loop-message.message-iterator.rest.ok.0 ∙ c.in-None.ensures.steps.0)) c.loop-message.invariant.so_far in
+    let l = subst (λ (ms : List Message). PostedSoFar v c.args.bench.now.tiles ms c.loop-message.mail) (nil_from_length c.loop-message.message-iterator.rest.items (sym c.loop-message.message-iterator.rest.ok.0 ∙ c.in-None.ensures.steps.0)) c.loop-message.invariant.so_far in
     posted_last v c.requires.visit c.args.bench.now.tiles c.requires.tiles c.loop-message.mail l

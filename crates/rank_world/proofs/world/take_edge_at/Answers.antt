@@ -1,8 +1,9 @@
 use Rattle.std.proofs.Common.{Some, ap, sym, ◌∙◌, subst}
 use Rattle.std.proofs.lemmas.Option.{slice_get-get_or}
 use Rattle.rank_world.specs.Sending.{MayTakeEdge, TakesEdge}
-use Rattle.rank_world.proofs.Setting.{on_err_map, on_ok_map, stays_at, takes_at}
+use Rattle.rank_world.proofs.Setting.{stays_at, takes_at}
 use Rattle.rank_world.proofs.world.take_edge_at.Goals as goal
+use Rattle.std.proofs.lemmas.Result.{on_err_weaker, on_ok_weaker}
 
 pub take_edge-requires : goal.take_edge-requires
 take_edge-requires c =
@@ -12,11 +13,11 @@ take_edge-requires c =
 pub returns-clause-ok : goal.returns-clause-ok
 returns-clause-ok c =
     let at = slice_get-get_or c.args.ranks.now.items c.args.k c.index_mut.result.now c.requires.within ∙ ap (λ x. Some x) (sym c.index_mut.ensures.value) in
-    on_ok_map c.take_edge.result
+    on_ok_weaker c.take_edge.result
     (λ takes. takes_at c.args.m.now c.args.message.now c.args.k c.args.ranks.now.items c.index_mut.result.now c.take_edge.new.desk at
     (subst (λ o. TakesEdge c.args.m.now c.args.message.now.edge o c.index_mut.result.now c.take_edge.new.desk) c.as_ref.ensures.value takes)) c.take_edge.ensures.takes
 
 pub returns-clause-err : goal.returns-clause-err
 returns-clause-err c =
     let at = slice_get-get_or c.args.ranks.now.items c.args.k c.index_mut.result.now c.requires.within ∙ ap (λ x. Some x) (sym c.index_mut.ensures.value) in
-    on_err_map c.take_edge.result (λ same. stays_at c.args.k c.args.ranks.now.items c.index_mut.result.now c.take_edge.new.desk at same) c.take_edge.ensures.same
+    on_err_weaker c.take_edge.result (λ same. stays_at c.args.k c.args.ranks.now.items c.index_mut.result.now c.take_edge.new.desk at same) c.take_edge.ensures.same

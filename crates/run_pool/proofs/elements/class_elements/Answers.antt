@@ -2,7 +2,7 @@ use Rattle.std.proofs.Common.{rules, ◌≡◌, ◌∙◌, map, ap, sym, subst, 
 use Rattle.ptg_base.specs.Lists.{IsIn}
 use Rattle.range_space.specs.Tasks.{tasks}
 use Rattle.dep_iter.specs.Tasks.{IsTask, task}
-use Rattle.flow_meaning.specs.Counting.{weigh}
+use Rattle.list_lemmas.specs.Counting.{weigh}
 use Rattle.run_pool.specs.Elements.{task_elements}
 use Rattle.run_pool.proofs.Totals.{of_class, tasks_left}
 use Rattle.run_pool.proofs.elements.class_elements.Goals as goal

@@ -2,7 +2,7 @@ use Rattle.std.proofs.Common.{◌≡◌, ◌+◌, ℤ, List, map}
 use Rattle.ptg_base.specs.Lists.{IsIn}
 use Rattle.range_space.specs.Tasks.{tasks}
 use Rattle.dep_iter.specs.Tasks.{task}
-use Rattle.flow_meaning.specs.Counting.{weigh}
+use Rattle.list_lemmas.specs.Counting.{weigh}
 use Rattle.run_pool.specs.Elements.{task_elements}
 use Rattle.run_pool.proofs.elements.class_elements.Given as goal
 

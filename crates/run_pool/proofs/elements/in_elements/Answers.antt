@@ -3,7 +3,7 @@ use Rattle.ptg_base.specs.Lists.{IsIn}
 use Rattle.ptg_base.specs.Task.{Task}
 use Rattle.plan_core.specs.Kinds.{flow_of, is_data, kind_of}
 use Rattle.dep_iter.specs.Edges.{in_edges}
-use Rattle.flow_meaning.specs.Counting.{weigh}
+use Rattle.list_lemmas.specs.Counting.{weigh}
 use Rattle.run_pool.specs.Bytes.{elements_of}
 use Rattle.run_pool.specs.Elements.{carried_elements}
 use Rattle.run_pool.proofs.Totals.{into}

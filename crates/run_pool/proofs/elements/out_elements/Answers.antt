@@ -3,7 +3,7 @@ use Rattle.ptg_base.specs.Lists.{IsIn}
 use Rattle.ptg_base.specs.Task.{Task}
 use Rattle.plan_core.specs.Kinds.{flow_of}
 use Rattle.dep_iter.specs.Items.{write_backs}
-use Rattle.flow_meaning.specs.Counting.{weigh}
+use Rattle.list_lemmas.specs.Counting.{weigh}
 use Rattle.run_pool.specs.Bytes.{elements_of, write_elements}
 use Rattle.run_pool.proofs.Totals.{out_of}
 use Rattle.run_pool.proofs.elements.out_elements.Goals as goal

@@ -1,7 +1,7 @@
 use Rattle.std.proofs.Common.{◌≡◌, ◌+◌}
 use Rattle.ptg_base.specs.Lists.{IsIn}
 use Rattle.ptg_base.specs.declared.edge.WriteBack.{WriteBack}
-use Rattle.flow_meaning.specs.Counting.{weigh}
+use Rattle.list_lemmas.specs.Counting.{weigh}
 use Rattle.run_pool.specs.Bytes.{write_elements}
 use Rattle.run_pool.specs.Elements.{out_elements}
 use Rattle.run_pool.proofs.elements.out_elements.Given as goal

@@ -1,8 +1,9 @@
 use Rattle.std.proofs.Common.{◌≡◌, ◌<◌, ◌≤◌, length, take, slice_get, Some, ap, sym, ◌∙◌, subst, arith, length-append}
-use Rattle.dep_iter.proofs.Fitting.{at_index}
+use Rattle.list_lemmas.proofs.Places.{slice_get_at}
+use Rattle.std.proofs.lemmas.List.{take_all}
 use Rattle.task_order.specs.Greatest.{IsGreatestOrder}
 use Rattle.task_order.specs.Growing.{HasGrown, edges_of}
-use Rattle.task_order.proofs.Grown.{greatest, is_next, no_longer, passed, take_whole}
+use Rattle.task_order.proofs.Grown.{greatest, is_next, no_longer, passed}
 use Rattle.task_order.proofs.order.order_of.Goals as goal
 
 pub pass-requires : goal.pass-requires
@@ -12,7 +13,7 @@ pass-requires c =
     let table = c.loop-at.growing.lacking.entries in
     let g = c.loop-at.invariant.grown in
     let lt : c.loop-at.at < length order = omega (arith, c.len.ensures, c.loop-at.growing.order.ok.0) in
-    let here : slice_get order c.loop-at.at ≡ Some c.copy-t.result = at_index order c.loop-at.at c.index.result.now lt c.index.ensures ∙ ap Some (sym c.copy-t.ensures) in
+    let here : slice_get order c.loop-at.at ≡ Some c.copy-t.result = slice_get_at order c.loop-at.at c.index.result.now lt c.index.ensures ∙ ap Some (sym c.copy-t.ensures) in
     (edges_of P (take c.loop-at.at order), g, is_next P c.plan.ensures.consistent c.loop-at.at order table c.copy-t.result g here)
 
 pub loop-at-smaller : goal.loop-at-smaller
@@ -31,7 +32,7 @@ loop-at-preserved c =
     let new = c.pass.new.growing.order.items in
     let g = c.loop-at.invariant.grown in
     let lt : c.loop-at.at < length order = omega (arith, c.len.ensures, c.loop-at.growing.order.ok.0) in
-    let here : slice_get order c.loop-at.at ≡ Some c.copy-t.result = at_index order c.loop-at.at c.index.result.now lt c.index.ensures ∙ ap Some (sym c.copy-t.ensures) in
+    let here : slice_get order c.loop-at.at ≡ Some c.copy-t.result = slice_get_at order c.loop-at.at c.index.result.now lt c.index.ensures ∙ ap Some (sym c.copy-t.ensures) in
     let grows = c.in_ok-pass.ensures in
     record {
       within = omega (arith, lt, ap length grows.extends, length-append order grows.more);
@@ -44,5 +45,5 @@ returns c =
     let order = c.loop-at.growing.order.items in
     let table = c.loop-at.growing.lacking.entries in
     let ge : length order ≤ c.loop-at.at = omega (arith, c.len.ensures, c.loop-at.growing.order.ok.0) in
-    let whole = subst (λ l. HasGrown P (edges_of P l) order table) (take_whole c.loop-at.at order ge) c.loop-at.invariant.grown in
+    let whole = subst (λ l. HasGrown P (edges_of P l) order table) (take_all c.loop-at.at order ge) c.loop-at.invariant.grown in
     subst (IsGreatestOrder P) (sym c.of.ensures) (greatest P c.plan.ensures.consistent order table whole)

@@ -1,4 +1,4 @@
-use Rattle.trace_core.proofs.Words.{other_word, word_first}
+use Rattle.list_lemmas.proofs.Texts.{other_word, word_first}
 use Rattle.trace_core.proofs.cutting.after_word.Goals as goal
 
 pub returns-in-Some : goal.returns-in-Some

@@ -1,7 +1,7 @@
 use Rattle.std.proofs.Common.{◌≡◌, sym, ◌∙◌, ap, nat_eq}
 use Rattle.std.proofs.lemmas.Bool.{false≢true}
 use Rattle.trace_core.proofs.Named.{later_class}
-use Rattle.trace_core.proofs.Words.{equal_bytes}
+use Rattle.list_lemmas.proofs.Texts.{equal_bytes}
 use Rattle.trace_core.proofs.naming.+class_among.Goals as goal
 
 pub returns : goal.returns

@@ -1,7 +1,7 @@
 use Rattle.std.proofs.Common.{refl, sym, subst, IsTrue}
 use Rattle.flow_meaning.specs.Backward.{ended}
 use Rattle.flow_meaning.specs.Ending.{has_outputs}
-use Rattle.task_run.proofs.Laying.{if_ok}
+use Rattle.std.proofs.lemmas.Result.{on_ok_weaker}
 use Rattle.worker_core.proofs.ItemLists.{edges_may, may_end, writes_may}
 use Rattle.worker_core.proofs.sending.send_all.Goals as goal
 
@@ -27,6 +27,6 @@ returns-clause-sent g c =
     let G = g.B.Board.job_data c.args.post.now.board.now in
     let t = c.args.at.now.task.now in
     let outputs : IsTrue (has_outputs (ended P G t)) = subst (λ e. IsTrue (has_outputs e)) (sym c.requires.tiles) refl in
-    if_ok c.send_writes.result
+    on_ok_weaker c.send_writes.result
     (λ sent. may_end P G c.requires.unsent.consistent t c.requires.task (g.B.Board.shown c.args.pass.now) (g.B.Board.shown c.send_edges.new.pass) (g.B.Board.shown c.send_writes.new.pass) outputs c.requires.unsent c.in_ok-send_edges.ensures.sent sent)
     c.send_writes.ensures.sent

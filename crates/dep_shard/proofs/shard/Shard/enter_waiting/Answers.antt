@@ -3,9 +3,10 @@ use Rattle.std.specs.BinaryHeap.{heap_items}
 use Rattle.indexmap.specs.IndexMap.{insert_entry}
 use Rattle.ptg_base.specs.TaskComparing.{same_task}
 use Rattle.dep_shard.specs.Content.{Content, Entries, fresh, entry_in}
-use Rattle.dep_shard.proofs.QueueLemmas.{at_end, enters_waiting, on_success}
+use Rattle.dep_shard.proofs.QueueLemmas.{at_end, enters_waiting}
 use Rattle.indexmap.proofs.CallerLemmas.{insert_entry-new}
 use Rattle.dep_shard.proofs.shard.Shard.enter_waiting.Goals as goal
+use Rattle.list_lemmas.proofs.Options.{on_success}
 
 pub invariant_of-self : goal.invariant_of-self
 invariant_of-self c =

@@ -3,8 +3,9 @@ use Rattle.std.specs.BinaryHeap.{heap_items}
 use Rattle.indexmap.specs.IndexMap.{set_value_at}
 use Rattle.indexmap.proofs.CallerLemmas.{updates-with_value_at}
 use Rattle.dep_shard.specs.Content.{Content, Entry, IsReady, IsWaiting}
-use Rattle.dep_shard.proofs.QueueLemmas.{arrives_at, lands, fires, one_row, some_wait, on_success, task_equivalence}
+use Rattle.dep_shard.proofs.QueueLemmas.{arrives_at, lands, fires, one_row, some_wait, task_equivalence}
 use Rattle.dep_shard.proofs.shard.Shard.land.Goals as goal
+use Rattle.list_lemmas.proofs.Options.{on_success}
 
 pub invariant_of-self : goal.invariant_of-self
 invariant_of-self c =

@@ -3,7 +3,7 @@ use Rattle.ptg_base.specs.declared.place.Place.{Place}
 use Rattle.plan_core.specs.declared.plan.Plan.{Plan}
 use Rattle.dep_iter.specs.Hints.{affinity, place_number}
 use Rattle.table_rule.specs.Placing.{shard_of}
-use Rattle.dep_table.proofs.Sums.{mod_sum}
+use Rattle.list_lemmas.proofs.Numbers.{mod_sum}
 use Rattle.dep_table.proofs.table.DepTable.shard_of.Goals as goal
 
 pub returns-clause-number : goal.returns-clause-number

@@ -1,5 +1,5 @@
 use Rattle.std.proofs.Common.{◌≡◌, ◌+◌, None, ap, subst, sym, ◌∙◌}
-use Rattle.flow_meaning.specs.Counting.{as_number}
+use Rattle.list_lemmas.specs.Counting.{as_number}
 use Rattle.flow_meaning.specs.Machine.{Sent}
 use Rattle.flow_core.specs.Arrivals.{edges_to, is_edge_to, number_at}
 use Rattle.flow_core.specs.Kept.{AreKept, SentAndKept, kept_with, sent_as}

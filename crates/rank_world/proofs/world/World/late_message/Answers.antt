@@ -1,6 +1,6 @@
 use Rattle.std.proofs.Common.{◌≡◌, true, false, Some, slice_get, sym, ◌∙◌, subst, arith}
 use Rattle.ptg_base.specs.Lists.{IsIn}
-use Rattle.dep_iter.proofs.Belonging.{empty_is}
+use Rattle.std.proofs.lemmas.List.{nil_from_length}
 use Rattle.rank_core.specs.declared.message.Message.{Message}
 use Rattle.rank_core.specs.World.{stands}
 use Rattle.rank_world.specs.Views.{WorldView}
@@ -10,7 +10,7 @@ use Rattle.rank_world.proofs.world.World.late_message.Goals as goal
 pub returns-then-late-eq0-clause-none : goal.returns-then-late-eq0-clause-none
 returns-then-late-eq0-clause-none c =
     let i = c.self.inside in
-    let none = empty_is i.mail.under_way.entries (omega (arith, c.len-late.ensures.len, c.if-late-eq0.true)) in
+    let none = nil_from_length i.mail.under_way.entries (omega (arith, c.len-late.ensures.len, c.if-late-eq0.true)) in
     subst (λ (w : WorldView). (m : Message) → IsIn m w.state.messages → stands w.state.machine m ≡ true) c.self.view_is
     (empty_stands i.history.state.machine i.history.state.messages i.mail.under_way.entries c.self.invariant.mail.under_way none)
 

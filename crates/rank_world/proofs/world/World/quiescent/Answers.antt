@@ -1,5 +1,5 @@
 use Rattle.std.proofs.Common.{length, ap, sym, ◌∙◌, subst, slice_get}
-use Rattle.dep_iter.proofs.Belonging.{empty_is}
+use Rattle.std.proofs.lemmas.List.{nil_from_length}
 use Rattle.std.proofs.lemmas.Bool.{false≢true}
 use Rattle.rank_core.specs.World.{IsQuiet}
 use Rattle.rank_world.specs.Views.{WorldView}
@@ -10,7 +10,7 @@ pub returns-then-is_empty : goal.returns-then-is_empty
 returns-then-is_empty c =
     let i = c.self.inside in
     let k = c.self.invariant in
-    let none = empty_is i.mail.under_way.entries (c.is_empty.ensures.0 c.if-is_empty.true) in (
+    let none = nil_from_length i.mail.under_way.entries (c.is_empty.ensures.0 c.if-is_empty.true) in (
       λ calm. subst (λ (w : WorldView). IsQuiet w.plan w.state) c.self.view_is (record {
         none_may_run = quiet_by_ranks i.matched.now i.given i.history.state i.ranks.items k.some_ranks k.shares (λ j y at. c.are_calm.ensures.0 calm j y (ap (λ ys. slice_get ys j) c.as_slice.ensures.value ∙ at));
         all_stand = empty_stands i.history.state.machine i.history.state.messages i.mail.under_way.entries k.mail.under_way none;

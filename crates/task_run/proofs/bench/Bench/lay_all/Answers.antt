@@ -2,7 +2,7 @@ use Rattle.std.proofs.Common.{◌≡◌, ◌+◌, length, ap, sym, ◌∙◌, ar
 use Rattle.std.proofs.lemmas.Option.{slice_get_read}
 use Rattle.task_run.specs.Start.{HasInputsFrom, delivered}
 use Rattle.task_run.proofs.Ending.{laid_all, laid_next}
-use Rattle.task_run.proofs.PoolLemmas.{push_count}
+use Rattle.std.proofs.lemmas.List.{length_push}
 use Rattle.task_run.proofs.bench.Bench.lay_all.Goals as goal
 
 pub loop-flow-preserved : goal.loop-flow-preserved
@@ -13,7 +13,7 @@ loop-flow-preserved c =
     let flows = c.flows_of-flow-items.result.now in
     let i = c.loop-flow.flow-index in
     let here = slice_get_read flows (length flows) i c.flow-item.result (λ j. length flows) c.loop-flow-test.true c.flow-item.is in
-    let count : length c.lay.new.self.tiles ≡ length c.loop-flow.self.tiles + 1 = ap length c.lay.ensures.tiles ∙ push_count c.loop-flow.self.tiles _ in
+    let count : length c.lay.new.self.tiles ≡ length c.loop-flow.self.tiles + 1 = ap length c.lay.ensures.tiles ∙ length_push c.loop-flow.self.tiles _ in
     record {
       elems = c.lay.ensures.elems ∙ c.loop-flow.invariant.elems;
       tiles = laid_next P G (delivered P G) t flows i c.flow-item.result c.loop-flow.self.tiles c.lay.new.self.tiles c.loop-flow.invariant.tiles here c.loop-flow.invariant.count c.lay.ensures.tiles;

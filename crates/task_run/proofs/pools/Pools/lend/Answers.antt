@@ -2,9 +2,11 @@ use Rattle.std.proofs.Common.{◌≡◌, ◌++◌, ◌∷◌, [], length, ap, sy
 use Rattle.std.specs.Option.{option_copied}
 use Rattle.task_run.specs.Pools.{AreBelow, Lent}
 use Rattle.task_run.specs.declared.pools.TypePool.{TypePool}
-use Rattle.task_run.proofs.PoolLemmas.{below_more, one_lent, pools_along, below_along, has_spare, zeros_count, map_set, length_set, some_type}
+use Rattle.task_run.proofs.PoolLemmas.{below_more, one_lent, pools_along, below_along, has_spare, map_set, some_type}
 use Rattle.task_run.proofs.Lending.{at, elems_is, elems_of, length_along, within}
 use Rattle.task_run.proofs.pools.Pools.lend.Goals as goal
+use Rattle.list_lemmas.proofs.Places.{length-zeros}
+use Rattle.std.proofs.lemmas.List.{length-set}
 
 pub copy_in-requires-clause-spare : goal.copy_in-requires-clause-spare
 copy_in-requires-clause-spare c =
@@ -27,7 +29,7 @@ copy_in-requires-clause-zeros c =
     let lent = c.self.inside.lent.items in
     let p = c.index_mut.result.now in
     let k = c.args.datatype in
-    ap length (c.self.invariant.0 k p (at pools lent c.args.self.now c.self.view_is k c.requires.known p c.index_mut.ensures.value)).zeros ∙ zeros_count p.pool.elems
+    ap length (c.self.invariant.0 k p (at pools lent c.args.self.now c.self.view_is k c.requires.known p c.index_mut.ensures.value)).zeros ∙ length-zeros p.pool.elems
 
 pub invariant_of-self : goal.invariant_of-self
 invariant_of-self c =
@@ -39,7 +41,7 @@ invariant_of-self c =
     let is = at pools lent c.args.self.now c.self.view_is k c.requires.known p c.index_mut.ensures.value in (
       pools_along new c.push.ensures.items (one_lent pools lent k p c.copy_in.new.p c.self.invariant.0 is c.copy_in.ensures.taken c.copy_in.ensures.zeros),
       below_along (length new) c.push.ensures.items
-          (subst (λ n. AreBelow n (lent ++ Some k ∷ [])) (sym (length_set pools k c.copy_in.new.p)) (below_more (length pools) lent (Some k) c.self.invariant.1 (λ j e. some_type (length pools) k j (within pools lent c.args.self.now c.self.view_is k c.requires.known) e))),
+          (subst (λ n. AreBelow n (lent ++ Some k ∷ [])) (sym (length-set pools k c.copy_in.new.p)) (below_more (length pools) lent (Some k) c.self.invariant.1 (λ j e. some_type (length pools) k j (within pools lent c.args.self.now c.self.view_is k c.requires.known) e))),
     )
 
 pub returns-clause-tile : goal.returns-clause-tile

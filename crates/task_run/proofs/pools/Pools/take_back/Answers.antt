@@ -1,9 +1,10 @@
 use Rattle.std.proofs.Common.{◌≡◌, ◌++◌, ◌∷◌, [], length, ap, sym, ◌∙◌, subst}
 use Rattle.std.specs.Prelude.{option_to_list}
 use Rattle.task_run.specs.Pools.{AreBelow, Lent, without_last}
-use Rattle.task_run.proofs.PoolLemmas.{below_along, below_less, given_back, pools_along, same_count, same_elems, snoc_init, snoc_last}
+use Rattle.task_run.proofs.PoolLemmas.{below_along, below_less, given_back, pools_along, same_count, same_elems, snoc_init}
 use Rattle.task_run.proofs.Lending.{elems_of, may_come_back}
 use Rattle.task_run.proofs.pools.Pools.take_back.Goals as goal
+use Rattle.list_lemmas.proofs.Joins.{last_from_push}
 
 pub give_back-requires : goal.give_back-requires
 give_back-requires c =
@@ -13,7 +14,7 @@ give_back-requires c =
     let type = c.unwrap-lent.result in
     let split : lent ≡ init ++ type ∷ [] = c.pop.ensures.items ∙ ap (λ o. init ++ option_to_list o) c.unwrap-lent.ensures in
     let seen : lent ≡ c.args.self.now.lent = ap (λ (b : Lent). b.lent) c.self.view_is in
-    let same : type ≡ c.requires.fits.type = snoc_last init (without_last c.args.self.now).lent type c.requires.fits.type (sym split ∙ seen ∙ ap (λ (b : Lent). b.lent) c.requires.fits.lent) in
+    let same : type ≡ c.requires.fits.type = last_from_push init (without_last c.args.self.now).lent type c.requires.fits.type (sym split ∙ seen ∙ ap (λ (b : Lent). b.lent) c.requires.fits.lent) in
     may_come_back pools lent c.args.self.now c.self.view_is init type c.args.tile split c.self.invariant.0 c.self.invariant.1
     (λ k e. c.requires.fits.fits k (sym same ∙ e))
 

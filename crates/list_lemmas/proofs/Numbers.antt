@@ -1,6 +1,9 @@
--- A sum under a remainder.
-use Rattle.std.proofs.Common.{◌≡◌, ℕ, ◌+◌, ◌*◌, ◌/◌, ◌%◌, sym, ap, ◌∙◌, arith}
+-- Numbers: a test of a number with itself, and a sum under a remainder.
+use Rattle.std.proofs.Common.{arith, eqb, true, ℕ, ◌≡◌, ap, sym, ◌%◌, ◌*◌, ◌+◌, ◌/◌, ◌∙◌}
 use Rattle.std.proofs.Math.Nat.{add-mul-mod_self_right, mod-add-div'}
+
+pub eqb-self : (n : ℕ) → eqb n n ≡ true
+eqb-self n = grind arith
 
 pub mod_sum : (a b n : ℕ) → (a % n + b % n) % n ≡ (a + b) % n
 mod_sum a b n =

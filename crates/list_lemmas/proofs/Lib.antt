@@ -1,0 +1,12 @@
+pub mod Truth
+pub mod Options
+pub mod Joins
+pub mod Members
+pub mod Counts
+pub mod Distinct
+pub mod Pigeonhole
+pub mod Places
+pub mod Tasks
+pub mod Texts
+pub mod Grids
+pub mod Numbers

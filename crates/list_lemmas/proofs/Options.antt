@@ -1,0 +1,49 @@
+-- Options and results: what is known of the value inside.
+use Rattle.std.proofs.Common.{None, Option, Some, refl, ◌≡◌, IsSomeAnd, option_and_then, option_map, List, length, ℤ, ℕ}
+use Rattle.std.proofs.Common.{◌+◌, subst, Err}
+use Rattle.std.proofs.lemmas.Option.{same_Some}
+use Rattle.std.specs.Option.{IsSome}
+use Rattle.std.specs.Prelude.{Ok, OnOk, Result}
+
+pub some_value : {A : Type 0} (o : Option A) → IsSome o → (x : A) × (o ≡ Some x)
+some_value None h = absurd cc
+some_value (Some x) h = (x, refl)
+
+pub from_is_some_and : {A : Type 0} (o : Option A) (Q : A → Type 0) → IsSomeAnd o Q → (x : A) × (o ≡ Some x) × Q x
+from_is_some_and None Q h = absurd h
+from_is_some_and (Some x) Q h = (x, refl, h)
+
+pub from_option_and_then : {A B : Type 0} (f : A → Option B) (o : Option A) (y : B) → option_and_then f o ≡ Some y
+    → (x : A) × (o ≡ Some x) × (f x ≡ Some y)
+from_option_and_then f None y e = absurd cc
+from_option_and_then f (Some x) y e = (x, refl, e)
+
+pub from_option_map : {A B : Type 0} (f : A → B) (o : Option A) (z : B) → option_map f o ≡ Some z
+    → (x : A) × (o ≡ Some x) × (f x ≡ z)
+from_option_map f None z e = absurd cc
+from_option_map f (Some x) z e = (x, refl, same_Some (f x) z e)
+
+pub IsSome-option_map : {A B : Type 0} (f : A → B) (o : Option A) → IsSome o → IsSome (option_map f o)
+IsSome-option_map f None h = absurd cc
+IsSome-option_map f (Some x) h = refl
+
+pub none_from_length : (o : Option (List ℤ)) → option_map length o ≡ None → o ≡ None
+none_from_length None h = refl
+none_from_length (Some x) h = absurd cc
+
+pub none_from_one_more : (o : Option ℕ) → option_map (λ n. n + 1) o ≡ None → o ≡ None
+none_from_one_more None e = refl
+none_from_one_more (Some m) e = absurd cc
+
+pub some_from_one_more : (o : Option ℕ) (at : ℕ) → option_map (λ n. n + 1) o ≡ Some at
+    → (m : ℕ) × (o ≡ Some m) × (m + 1 ≡ at)
+some_from_one_more None at e = absurd cc
+some_from_one_more (Some m) at e = (m, refl, cc)
+
+-- what an `OnOk` says of an `Ok`
+pub on_success : {T E P : Type 0} (r : Result T E) (x : T) → r ≡ Ok x → OnOk r P → P
+on_success {T} {E} {P} r x e h = subst (λ (s : Result T E). OnOk s P) e h
+
+pub by_result : {A E P : Type 0} (r : Result A E) → ((a : A) → r ≡ Ok a → P) → ((e : E) → r ≡ Err e → P) → P
+by_result (Ok a) if_ok if_err = if_ok a refl
+by_result (Err e) if_ok if_err = if_err e refl
