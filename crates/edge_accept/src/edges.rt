@@ -11,9 +11,10 @@ ghost use Rattle.edge_accept.specs.Flows.{AreTaken, AreTakenOnce};
 
 use crate::at::FlowAt;
 use crate::ins::Ins;
-use crate::named::{Named, arguments_at_most};
+use crate::named::Named;
 use dep_iter::{
-    Combinations, Direction, LentEdge, edges_of_a_dependence_differ, far_locals, has_edge_before,
+    Combinations, Direction, LentEdge, arguments_at_most, edges_of_a_dependence_differ, far_locals,
+    has_edge_before,
 };
 use plan_core::{Target, is_data};
 use ptg_base::TaskId;

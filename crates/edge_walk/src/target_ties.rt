@@ -1,16 +1,15 @@
 //! The ties of one target.
 
-ghost use Rattle.std.specs.Prelude.{◌≡◌, ◌≤◌, [], length, map, IsTrue, slice_get};
+ghost use Rattle.std.specs.Prelude.{◌≡◌, [], map, IsTrue, slice_get};
 ghost use Rattle.std.specs.Iterator.{YieldsFirst};
 ghost use Rattle.dep_iter.specs.Links.{fits};
-ghost use Rattle.plan_core.specs.declared.target.Target.TheVariants.{Task};
 ghost use Rattle.edge_walk.specs.Ties.{task_tie, ties_to};
 
 use crate::position::Active;
 use crate::single::single;
 use crate::tie::{Far, Tie};
-use dep_iter::Combinations;
-use plan_core::{Arg, Plan, Target};
+use dep_iter::{Combinations, arguments_at_most};
+use plan_core::{Plan, Target};
 use ptg_base::TaskId;
 use std::marker::Model;
 
@@ -34,14 +33,6 @@ impl Model for TargetTies {
 
     ghost view = { λ t. single_ties t.flow t.dependence t.single
         ++ map (task_tie t.flow t.dependence t.class t.far_flow) t.params };
-}
-
-// So many arguments as the class has parameters are at most eight.
-fn arguments_at_most(plan: &Plan, class: u32, flow: u8, args: &[Arg])
-    requires { IsTrue (fits plan.now (Task class flow args.now)) }
-    ensures { length args.now ≤ 8 }
-{
-    let _ = plan.space(class).params.as_slice();
 }
 
 // The tie with the next task, if there is one.

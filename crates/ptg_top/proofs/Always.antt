@@ -62,13 +62,13 @@ content_shows_some name (Some text) = shows_some text
 job_texts_some : (text data_text : List ℕ) → (v : Denotation) × JobTextsDenote text data_text v
 job_texts_some text data_text = let job = texts_some text data_text in (verdicts.Job job.0, (job.0, job.1, refl))
 
-contents_some : (jdf tiles : List ℕ) (a b : Option (List ℕ)) → (v : Denotation) × ContentsDenote jdf tiles a b v
-contents_some jdf tiles None b = (verdicts.Unread jdf, refl)
-contents_some jdf tiles (Some text) None = elim (tree_or_fault text) [
-  | inl tree ↦ (verdicts.Unread tiles, inr (tree.0, tree.1, refl))
+contents_some : (jdf data_name : List ℕ) (a b : Option (List ℕ)) → (v : Denotation) × ContentsDenote jdf data_name a b v
+contents_some jdf data_name None b = (verdicts.Unread jdf, refl)
+contents_some jdf data_name (Some text) None = elim (tree_or_fault text) [
+  | inl tree ↦ (verdicts.Unread data_name, inr (tree.0, tree.1, refl))
   | inr w ↦ (verdicts.Job (jobs.Jdf w.0), inl (fault_refuses text w.0 w.1))
 ]
-contents_some jdf tiles (Some text) (Some data_text) = job_texts_some text data_text
+contents_some jdf data_name (Some text) (Some data_text) = job_texts_some text data_text
 
 demo_some : (n : ℕ) → (v : Denotation) × DemoDenotes n v
 demo_some n =
@@ -82,12 +82,12 @@ certified_some P given con =
     let c = some_certificate P given ws con in
     (verdicts.Ran P (certified ws (answer P given) c.0), (c.0, c.1, refl))
 
-certify_some : (files : Entries) (jdf tiles : List ℕ) → (v : Denotation) × RequestDenotes files (Certify jdf tiles) v
-certify_some files jdf tiles =
+certify_some : (files : Entries) (jdf data_name : List ℕ) → (v : Denotation) × RequestDenotes files (Certify jdf data_name) v
+certify_some files jdf data_name =
     let a = file_of files jdf in
-    let b = file_of files tiles in
-    let checked = contents_some jdf tiles a b in
-    let found = some_on IsCertified checked.0 (λ P given is. certified_some P given (contents_consistent jdf tiles a b P given (subst (ContentsDenote jdf tiles a b) is checked.1))) in
+    let b = file_of files data_name in
+    let checked = contents_some jdf data_name a b in
+    let found = some_on IsCertified checked.0 (λ P given is. certified_some P given (contents_consistent jdf data_name a b P given (subst (ContentsDenote jdf data_name a b) is checked.1))) in
     (found.0, (checked.0, checked.1, found.1))
 
 traced_some : (P : Plan) (given : Data) → IsConsistent P → (v : Denotation) × IsTraced P given v
@@ -95,12 +95,12 @@ traced_some P given con =
     let order = some_whole_order P given con in
     (verdicts.Ran P (TraceText (trace_text P order.0)), (order.0, order.1, refl))
 
-trace_some : (files : Entries) (jdf tiles : List ℕ) (settings : Settings) → (v : Denotation) × RequestDenotes files (Trace jdf tiles settings) v
-trace_some files jdf tiles settings =
+trace_some : (files : Entries) (jdf data_name : List ℕ) (settings : Settings) → (v : Denotation) × RequestDenotes files (Trace jdf data_name settings) v
+trace_some files jdf data_name settings =
     let a = file_of files jdf in
-    let b = file_of files tiles in
-    let checked = contents_some jdf tiles a b in
-    let found = some_on IsTraced checked.0 (λ P given is. traced_some P given (contents_consistent jdf tiles a b P given (subst (ContentsDenote jdf tiles a b) is checked.1))) in
+    let b = file_of files data_name in
+    let checked = contents_some jdf data_name a b in
+    let found = some_on IsTraced checked.0 (λ P given is. traced_some P given (contents_consistent jdf data_name a b P given (subst (ContentsDenote jdf data_name a b) is checked.1))) in
     (found.0, (checked.0, checked.1, found.1))
 
 replayed_some : (trace : List ℕ) (content : Option (List ℕ)) (P : Plan) (given : Data) → IsConsistent P → (v : Denotation) × IsReplayed trace content P given v
@@ -110,35 +110,35 @@ replayed_some trace (Some text) P given con = elim (fault_or_trace P given con t
   | inr found ↦ (verdicts.Ran P (Answer (answer P given)), inr (found, refl))
 ]
 
-replay_some : (files : Entries) (jdf tiles trace : List ℕ) → (v : Denotation) × RequestDenotes files (Replay jdf tiles trace) v
-replay_some files jdf tiles trace =
+replay_some : (files : Entries) (jdf data_name trace : List ℕ) → (v : Denotation) × RequestDenotes files (Replay jdf data_name trace) v
+replay_some files jdf data_name trace =
     let a = file_of files jdf in
-    let b = file_of files tiles in
+    let b = file_of files data_name in
     let content = file_of files trace in
-    let checked = contents_some jdf tiles a b in
-    let found = some_on (IsReplayed trace content) checked.0 (λ P given is. replayed_some trace content P given (contents_consistent jdf tiles a b P given (subst (ContentsDenote jdf tiles a b) is checked.1))) in
+    let checked = contents_some jdf data_name a b in
+    let found = some_on (IsReplayed trace content) checked.0 (λ P given is. replayed_some trace content P given (contents_consistent jdf data_name a b P given (subst (ContentsDenote jdf data_name a b) is checked.1))) in
     (found.0, (checked.0, checked.1, found.1))
 
 abbrev ranked : ℕ → Plan → Data → Denotation
 ranked r P given = verdicts.Ran P (Ranked (record { ranks = r; messages = message_count P given r; outcome = answer P given }))
 
-ranks_some : (files : Entries) (jdf tiles : List ℕ) (r seed : ℕ) → (v : Denotation) × RequestDenotes files (Ranks jdf tiles (record { ranks = r; seed = seed })) v
-ranks_some files jdf tiles r seed =
-    let checked = contents_some jdf tiles (file_of files jdf) (file_of files tiles) in
+ranks_some : (files : Entries) (jdf data_name : List ℕ) (r seed : ℕ) → (v : Denotation) × RequestDenotes files (Ranks jdf data_name (record { ranks = r; seed = seed })) v
+ranks_some files jdf data_name r seed =
+    let checked = contents_some jdf data_name (file_of files jdf) (file_of files data_name) in
     let found = some_on (IsRanked r) checked.0 (λ P given is. (ranked r P given, refl)) in
     (found.0, (checked.0, checked.1, found.1))
 
 request_some : (files : Entries) (request : Request) → (v : Denotation) × RequestDenotes files request v
-request_some files (Run jdf tiles settings) = let checked = contents_some jdf tiles (file_of files jdf) (file_of files tiles) in
+request_some files (Run jdf data_name settings) = let checked = contents_some jdf data_name (file_of files jdf) (file_of files data_name) in
     let found = some_on (IsAnswer settings) checked.0 (λ P given is. (if is_too_large settings P then verdicts.Preload else verdicts.Ran P (Answer (answer P given)), refl)) in
     (found.0, (checked.0, checked.1, found.1))
 request_some files (Show jdf) = content_shows_some jdf (file_of files jdf)
-request_some files (Check jdf tiles) = contents_some jdf tiles (file_of files jdf) (file_of files tiles)
+request_some files (Check jdf data_name) = contents_some jdf data_name (file_of files jdf) (file_of files data_name)
 request_some files (Demo rows) = demo_some rows
-request_some files (Trace jdf tiles settings) = trace_some files jdf tiles settings
-request_some files (Replay jdf tiles trace) = replay_some files jdf tiles trace
-request_some files (Certify jdf tiles) = certify_some files jdf tiles
-request_some files (Ranks jdf tiles settings) = ranks_some files jdf tiles settings.ranks settings.seed
+request_some files (Trace jdf data_name settings) = trace_some files jdf data_name settings
+request_some files (Replay jdf data_name trace) = replay_some files jdf data_name trace
+request_some files (Certify jdf data_name) = certify_some files jdf data_name
+request_some files (Ranks jdf data_name settings) = ranks_some files jdf data_name settings.ranks settings.seed
 
 -- ---- arguments and files
 

@@ -57,73 +57,73 @@ answer_of_texts settings P given v h = subst IsOfTexts (sym h) (either (is_too_l
     either false = tt
 
 -- the request asks for a verb that goes on from the check of two files
-record GoesOn (request : Request) (jdf tiles : List ℕ) (Verb : Plan → Data → Denotation → Type 0) : Type 0 where
-  unread : (contents : Option Entries) (name : List ℕ) → IsUnreadOf contents jdf tiles name → MayBeUnreadFor contents request name
-  denotes : (files : Entries) (checked v : Denotation) → FilesDenote files jdf tiles checked → OnConsistent Verb checked v → RequestDenotes files request v
+record GoesOn (request : Request) (jdf data_name : List ℕ) (Verb : Plan → Data → Denotation → Type 0) : Type 0 where
+  unread : (contents : Option Entries) (name : List ℕ) → IsUnreadOf contents jdf data_name name → MayBeUnreadFor contents request name
+  denotes : (files : Entries) (checked v : Denotation) → FilesDenote files jdf data_name checked → OnConsistent Verb checked v → RequestDenotes files request v
   of_texts : IsVerbOfTexts Verb
 
-run_goes_on : (jdf tiles : List ℕ) (settings : Settings) → GoesOn (Run jdf tiles settings) jdf tiles (IsAnswer settings)
-run_goes_on jdf tiles settings =
+run_goes_on : (jdf data_name : List ℕ) (settings : Settings) → GoesOn (Run jdf data_name settings) jdf data_name (IsAnswer settings)
+run_goes_on jdf data_name settings =
     record { unread = λ contents name h. h; denotes = λ files checked v h k. (checked, h, k); of_texts = answer_of_texts settings }
 
-trace_goes_on : (jdf tiles : List ℕ) (settings : Settings) → GoesOn (Trace jdf tiles settings) jdf tiles IsTraced
-trace_goes_on jdf tiles settings =
+trace_goes_on : (jdf data_name : List ℕ) (settings : Settings) → GoesOn (Trace jdf data_name settings) jdf data_name IsTraced
+trace_goes_on jdf data_name settings =
     record { unread = λ contents name h. h; denotes = λ files checked v h k. (checked, h, k); of_texts = λ P given v h. subst IsOfTexts (sym h.2) tt }
 
-certify_goes_on : (jdf tiles : List ℕ) → GoesOn (Certify jdf tiles) jdf tiles IsCertified
-certify_goes_on jdf tiles =
+certify_goes_on : (jdf data_name : List ℕ) → GoesOn (Certify jdf data_name) jdf data_name IsCertified
+certify_goes_on jdf data_name =
     record { unread = λ contents name h. h; denotes = λ files checked v h k. (checked, h, k); of_texts = λ P given v h. subst IsOfTexts (sym h.2) tt }
 
-ranks_goes_on : (jdf tiles : List ℕ) (settings : RankSettings) → GoesOn (Ranks jdf tiles settings) jdf tiles (IsRanked settings.ranks)
-ranks_goes_on jdf tiles settings =
+ranks_goes_on : (jdf data_name : List ℕ) (settings : RankSettings) → GoesOn (Ranks jdf data_name settings) jdf data_name (IsRanked settings.ranks)
+ranks_goes_on jdf data_name settings =
     record { unread = λ contents name h. h; denotes = λ files checked v h k. (checked, h, k); of_texts = λ P given v h. subst IsOfTexts (sym h) tt }
 
-module _ (contents : Option Entries) (old new : List ℕ → ℕ) (jdf tiles : List ℕ) where
-  module _ (request : Request) (Verb : Plan → Data → Denotation → Type 0) (on : GoesOn request jdf tiles Verb) where
+module _ (contents : Option Entries) (old new : List ℕ → ℕ) (jdf data_name : List ℕ) where
+  module _ (request : Request) (Verb : Plan → Data → Denotation → Type 0) (on : GoesOn request jdf data_name Verb) where
     -- the verdict of a verb, from that of `check`
-    verb_ends : (checked v : Denotation) → IsVerdictOnRequest contents old new (Check jdf tiles) checked → OnConsistent Verb checked v → IsVerdictOnRequest contents old new request v
+    verb_ends : (checked v : Denotation) → IsVerdictOnRequest contents old new (Check jdf data_name) checked → OnConsistent Verb checked v → IsVerdictOnRequest contents old new request v
     verb_ends checked v (inl (name, rose, may, e)) h = inl (name, rose, on.unread contents name may, subst (λ (c : Denotation). OnConsistent Verb c v) e h)
     verb_ends checked v (inr (of, known)) h = inr (on_texts Verb on.of_texts checked v of h, λ files t. on.denotes files checked v (known files t) h)
 
-    verb_refuses : (checked : Denotation) → IsVerdictOnRequest contents old new (Check jdf tiles) checked → IsRefusal checked → IsVerdictOnRequest contents old new request checked
+    verb_refuses : (checked : Denotation) → IsVerdictOnRequest contents old new (Check jdf data_name) checked → IsRefusal checked → IsVerdictOnRequest contents old new request checked
     verb_refuses checked h refused = verb_ends checked checked h (kept Verb checked refused)
 
     verb_finds : (checked : Denotation) (P : Plan) (given : Data) (r : Result Verdict OutOfMemory) → checked ≡ verdicts.Job (jobs.Consistent P given)
-        → IsVerdictOnRequest contents old new (Check jdf tiles) checked → IfOk r (λ v. Verb P given (denoted v)) → IfOk r (λ v. IsVerdictOnRequest contents old new request (denoted v))
+        → IsVerdictOnRequest contents old new (Check jdf data_name) checked → IfOk r (λ v. Verb P given (denoted v)) → IfOk r (λ v. IsVerdictOnRequest contents old new request (denoted v))
     verb_finds checked P given (Ok v) e h a = verb_ends checked (denoted v) h (subst (λ (c : Denotation). OnConsistent Verb c (denoted v)) (sym e) a)
     verb_finds checked P given (Err x) e h a = tt
 
   -- the verdict of `run`, from that of `check`
   module _ (settings : Settings) where
-    pub refused_ends : (checked : Denotation) → IsVerdictOnRequest contents old new (Check jdf tiles) checked → IsRefusal checked → IsVerdictOnRequest contents old new (Run jdf tiles settings) checked
-    refused_ends = verb_refuses (Run jdf tiles settings) (IsAnswer settings) (run_goes_on jdf tiles settings)
+    pub refused_ends : (checked : Denotation) → IsVerdictOnRequest contents old new (Check jdf data_name) checked → IsRefusal checked → IsVerdictOnRequest contents old new (Run jdf data_name settings) checked
+    refused_ends = verb_refuses (Run jdf data_name settings) (IsAnswer settings) (run_goes_on jdf data_name settings)
 
     pub answered_ends : (checked : Denotation) (P : Plan) (given : Data) (r : Result Verdict OutOfMemory) → checked ≡ verdicts.Job (jobs.Consistent P given)
-        → IsVerdictOnRequest contents old new (Check jdf tiles) checked → IfOk r (λ v. IsAnswer settings P given (denoted v)) → IfOk r (λ v. IsVerdictOnRequest contents old new (Run jdf tiles settings) (denoted v))
-    answered_ends = verb_finds (Run jdf tiles settings) (IsAnswer settings) (run_goes_on jdf tiles settings)
+        → IsVerdictOnRequest contents old new (Check jdf data_name) checked → IfOk r (λ v. IsAnswer settings P given (denoted v)) → IfOk r (λ v. IsVerdictOnRequest contents old new (Run jdf data_name settings) (denoted v))
+    answered_ends = verb_finds (Run jdf data_name settings) (IsAnswer settings) (run_goes_on jdf data_name settings)
 
   -- the verdict of `certify`, from that of `check`
-  pub certify_refuses : (checked : Denotation) → IsVerdictOnRequest contents old new (Check jdf tiles) checked → IsRefusal checked → IsVerdictOnRequest contents old new (Certify jdf tiles) checked
-  certify_refuses = verb_refuses (Certify jdf tiles) IsCertified (certify_goes_on jdf tiles)
+  pub certify_refuses : (checked : Denotation) → IsVerdictOnRequest contents old new (Check jdf data_name) checked → IsRefusal checked → IsVerdictOnRequest contents old new (Certify jdf data_name) checked
+  certify_refuses = verb_refuses (Certify jdf data_name) IsCertified (certify_goes_on jdf data_name)
 
   pub certify_finds : (checked : Denotation) (P : Plan) (given : Data) (r : Result Verdict OutOfMemory) → checked ≡ verdicts.Job (jobs.Consistent P given)
-      → IsVerdictOnRequest contents old new (Check jdf tiles) checked → IfOk r (λ v. IsCertified P given (denoted v)) → IfOk r (λ v. IsVerdictOnRequest contents old new (Certify jdf tiles) (denoted v))
-  certify_finds = verb_finds (Certify jdf tiles) IsCertified (certify_goes_on jdf tiles)
+      → IsVerdictOnRequest contents old new (Check jdf data_name) checked → IfOk r (λ v. IsCertified P given (denoted v)) → IfOk r (λ v. IsVerdictOnRequest contents old new (Certify jdf data_name) (denoted v))
+  certify_finds = verb_finds (Certify jdf data_name) IsCertified (certify_goes_on jdf data_name)
 
   -- the verdict of `trace`, from that of `check`
   module _ (settings : Settings) where
-    pub trace_refuses : (checked : Denotation) → IsVerdictOnRequest contents old new (Check jdf tiles) checked → IsRefusal checked → IsVerdictOnRequest contents old new (Trace jdf tiles settings) checked
-    trace_refuses = verb_refuses (Trace jdf tiles settings) IsTraced (trace_goes_on jdf tiles settings)
+    pub trace_refuses : (checked : Denotation) → IsVerdictOnRequest contents old new (Check jdf data_name) checked → IsRefusal checked → IsVerdictOnRequest contents old new (Trace jdf data_name settings) checked
+    trace_refuses = verb_refuses (Trace jdf data_name settings) IsTraced (trace_goes_on jdf data_name settings)
 
     pub trace_finds : (checked : Denotation) (P : Plan) (given : Data) (r : Result Verdict OutOfMemory) → checked ≡ verdicts.Job (jobs.Consistent P given)
-        → IsVerdictOnRequest contents old new (Check jdf tiles) checked → IfOk r (λ v. IsTraced P given (denoted v)) → IfOk r (λ v. IsVerdictOnRequest contents old new (Trace jdf tiles settings) (denoted v))
-    trace_finds = verb_finds (Trace jdf tiles settings) IsTraced (trace_goes_on jdf tiles settings)
+        → IsVerdictOnRequest contents old new (Check jdf data_name) checked → IfOk r (λ v. IsTraced P given (denoted v)) → IfOk r (λ v. IsVerdictOnRequest contents old new (Trace jdf data_name settings) (denoted v))
+    trace_finds = verb_finds (Trace jdf data_name settings) IsTraced (trace_goes_on jdf data_name settings)
 
   -- the verdict of `ranks`, from that of `check`
   module _ (settings : RankSettings) where
-    pub ranks_refuses : (checked : Denotation) → IsVerdictOnRequest contents old new (Check jdf tiles) checked → IsRefusal checked → IsVerdictOnRequest contents old new (Ranks jdf tiles settings) checked
-    ranks_refuses = verb_refuses (Ranks jdf tiles settings) (IsRanked settings.ranks) (ranks_goes_on jdf tiles settings)
+    pub ranks_refuses : (checked : Denotation) → IsVerdictOnRequest contents old new (Check jdf data_name) checked → IsRefusal checked → IsVerdictOnRequest contents old new (Ranks jdf data_name settings) checked
+    ranks_refuses = verb_refuses (Ranks jdf data_name settings) (IsRanked settings.ranks) (ranks_goes_on jdf data_name settings)
 
     pub ranks_finds : (checked : Denotation) (P : Plan) (given : Data) (r : Result Verdict OutOfMemory) → checked ≡ verdicts.Job (jobs.Consistent P given)
-        → IsVerdictOnRequest contents old new (Check jdf tiles) checked → IfOk r (λ v. IsRanked settings.ranks P given (denoted v)) → IfOk r (λ v. IsVerdictOnRequest contents old new (Ranks jdf tiles settings) (denoted v))
-    ranks_finds = verb_finds (Ranks jdf tiles settings) (IsRanked settings.ranks) (ranks_goes_on jdf tiles settings)
+        → IsVerdictOnRequest contents old new (Check jdf data_name) checked → IfOk r (λ v. IsRanked settings.ranks P given (denoted v)) → IfOk r (λ v. IsVerdictOnRequest contents old new (Ranks jdf data_name settings) (denoted v))
+    ranks_finds = verb_finds (Ranks jdf data_name settings) (IsRanked settings.ranks) (ranks_goes_on jdf data_name settings)

@@ -47,15 +47,15 @@ long_refuses text fault e long = fault_refuses text fault (inl (record { long = 
 pub job_is_of_texts : (v : Denotation) (job : JobVerdict) → v ≡ verdicts.Job job → IsOfTexts v
 job_is_of_texts v job e = subst IsOfTexts (sym e) tt
 
-module _ (contents : Option Entries) (old new : ℕ) (text tiles : List ℕ) where
+module _ (contents : Option Entries) (old new : ℕ) (text data_name : List ℕ) where
   -- a data file that was loaded
-  pub data_ends : (data_text : List ℕ) (job : JobVerdict) → ((files : Entries) → contents ≡ Some files → file_of files tiles ≡ Some data_text) → TextsDenote text data_text job
-      → CheckOfDataEndsWith contents old new text tiles (verdicts.Job job)
+  pub data_ends : (data_text : List ℕ) (job : JobVerdict) → ((files : Entries) → contents ≡ Some files → file_of files data_name ≡ Some data_text) → TextsDenote text data_text job
+      → CheckOfDataEndsWith contents old new text data_name (verdicts.Job job)
   data_ends data_text job there h = inr (job, refl, λ files t. (data_text, there files t, h))
 
   -- a data file that is too long
-  pub long_data_ends : (J : Jdf) (fault : DataFault) → IsJdf text J → fault ≡ too_long → ((files : Entries) → contents ≡ Some files → IsLonger files tiles 16777216)
-      → CheckOfDataEndsWith contents old new text tiles (verdicts.Job (jobs.Data fault))
+  pub long_data_ends : (J : Jdf) (fault : DataFault) → IsJdf text J → fault ≡ too_long → ((files : Entries) → contents ≡ Some files → IsLonger files data_name 16777216)
+      → CheckOfDataEndsWith contents old new text data_name (verdicts.Job (jobs.Data fault))
   long_data_ends J fault tree e long =
       inr (
         jobs.Data fault,
@@ -66,51 +66,51 @@ module _ (contents : Option Entries) (old new : ℕ) (text tiles : List ℕ) whe
       )
 
   -- a JDF's text that is that of a tree
-  pub tree_ends : (J : Jdf) (r : Result Verdict OutOfMemory) → IsJdf text J → IfOk r (λ v. CheckOfDataEndsWith contents old new text tiles (denoted v))
-      → IfOk r (λ v. CheckOfTextEndsWith contents old new text tiles (denoted v))
+  pub tree_ends : (J : Jdf) (r : Result Verdict OutOfMemory) → IsJdf text J → IfOk r (λ v. CheckOfDataEndsWith contents old new text data_name (denoted v))
+      → IfOk r (λ v. CheckOfTextEndsWith contents old new text data_name (denoted v))
   tree_ends J (Ok v) tree h = inr (J, tree, h)
   tree_ends J (Err x) tree h = tt
 
 -- a fault of the JDF's text is denoted whatever the data file is, and whether it is there or not
-refused_whatever : (jdf tiles text : List ℕ) (other : Option (List ℕ)) (v : Denotation) → RefusesText text v → ContentsDenote jdf tiles (Some text) other v
-refused_whatever jdf tiles text None v h = inl h
-refused_whatever jdf tiles text (Some data_text) v h = (h.0, inl h.1, h.2)
+refused_whatever : (jdf data_name text : List ℕ) (other : Option (List ℕ)) (v : Denotation) → RefusesText text v → ContentsDenote jdf data_name (Some text) other v
+refused_whatever jdf data_name text None v h = inl h
+refused_whatever jdf data_name text (Some data_text) v h = (h.0, inl h.1, h.2)
 
 -- what the contents of a JDF file that is there denote, the files denote
-files_denote : (files : Entries) (jdf tiles text : List ℕ) (v : Denotation) → file_of files jdf ≡ Some text → ContentsDenote jdf tiles (Some text) (file_of files tiles) v → FilesDenote files jdf tiles v
-files_denote files jdf tiles text v there h = subst (λ (o : Option (List ℕ)). ContentsDenote jdf tiles o (file_of files tiles) v) (sym there) h
+files_denote : (files : Entries) (jdf data_name text : List ℕ) (v : Denotation) → file_of files jdf ≡ Some text → ContentsDenote jdf data_name (Some text) (file_of files data_name) v → FilesDenote files jdf data_name v
+files_denote files jdf data_name text v there h = subst (λ (o : Option (List ℕ)). ContentsDenote jdf data_name o (file_of files data_name) v) (sym there) h
 
-module _ (contents : Option Entries) (old new : List ℕ → ℕ) (jdf tiles : List ℕ) where
+module _ (contents : Option Entries) (old new : List ℕ → ℕ) (jdf data_name : List ℕ) where
   -- the check of the JDF's text, which was read, is the check of the files
-  text_ends : (mid : ℕ) (text : List ℕ) (v : Denotation) → old tiles ≤ mid → ((files : Entries) → contents ≡ Some files → file_of files jdf ≡ Some text)
-      → CheckOfTextEndsWith contents mid (new tiles) text tiles v → IsVerdictOnRequest contents old new (Check jdf tiles) v
+  text_ends : (mid : ℕ) (text : List ℕ) (v : Denotation) → old data_name ≤ mid → ((files : Entries) → contents ≡ Some files → file_of files jdf ≡ Some text)
+      → CheckOfTextEndsWith contents mid (new data_name) text data_name v → IsVerdictOnRequest contents old new (Check jdf data_name) v
   text_ends mid text v le there (inl h) =
-      inr (job_is_of_texts v h.0 h.2, λ files t. files_denote files jdf tiles text v (there files t) (refused_whatever jdf tiles text (file_of files tiles) v h))
+      inr (job_is_of_texts v h.0 h.2, λ files t. files_denote files jdf data_name text v (there files t) (refused_whatever jdf data_name text (file_of files data_name) v h))
   text_ends mid text v le there (inr (J, tree, inl (e, rose))) =
-      inl (tiles, rose_since (old tiles) mid (new tiles) le rose, inr (refl, λ files t. (J, (text, there files t, tree))), e)
+      inl (data_name, rose_since (old data_name) mid (new data_name) le rose, inr (refl, λ files t. (J, (text, there files t, tree))), e)
   text_ends mid text v le there (inr (J, tree, inr (job, e, known))) =
       inr (
         job_is_of_texts v job e,
         λ files t.
             let at = known files t in
-            files_denote files jdf tiles text v (there files t) (subst (λ (o : Option (List ℕ)). ContentsDenote jdf tiles (Some text) o v) (sym at.1) (job, at.2, e)),
+            files_denote files jdf data_name text v (there files t) (subst (λ (o : Option (List ℕ)). ContentsDenote jdf data_name (Some text) o v) (sym at.1) (job, at.2, e)),
       )
 
-  pub text_result_ends : (mid : ℕ) (text : List ℕ) (r : Result Verdict OutOfMemory) → old tiles ≤ mid → ((files : Entries) → contents ≡ Some files → file_of files jdf ≡ Some text)
-      → IfOk r (λ v. CheckOfTextEndsWith contents mid (new tiles) text tiles (denoted v)) → IfOk r (λ v. IsVerdictOnRequest contents old new (Check jdf tiles) (denoted v))
+  pub text_result_ends : (mid : ℕ) (text : List ℕ) (r : Result Verdict OutOfMemory) → old data_name ≤ mid → ((files : Entries) → contents ≡ Some files → file_of files jdf ≡ Some text)
+      → IfOk r (λ v. CheckOfTextEndsWith contents mid (new data_name) text data_name (denoted v)) → IfOk r (λ v. IsVerdictOnRequest contents old new (Check jdf data_name) (denoted v))
   text_result_ends mid text (Ok v) le there h = text_ends mid text (denoted v) le there h
   text_result_ends mid text (Err x) le there h = tt
 
   -- a JDF file that is too long
   pub long_ends : (fault : JdfFault) → fault ≡ record { spot = first_spot; code = jdf_codes.TooLong } → ((files : Entries) → contents ≡ Some files → IsLonger files jdf 16777216)
-      → IsVerdictOnRequest contents old new (Check jdf tiles) (verdicts.Job (jobs.Jdf fault))
+      → IsVerdictOnRequest contents old new (Check jdf data_name) (verdicts.Job (jobs.Jdf fault))
   long_ends fault e long =
       inr (
         tt,
         λ files t.
             let at = long files t in
             let v : Denotation = verdicts.Job (jobs.Jdf fault) in
-            files_denote files jdf tiles at.0 v at.1 (refused_whatever jdf tiles at.0 (file_of files tiles) v (long_refuses at.0 fault e at.2)),
+            files_denote files jdf data_name at.0 v at.1 (refused_whatever jdf data_name at.0 (file_of files data_name) v (long_refuses at.0 fault e at.2)),
       )
 
 -- ---- two files denote one verdict at most
@@ -123,13 +123,13 @@ refused_or_read text v J (job, (f, first, is), e) tree = not_both text J f tree 
 pub job_texts_once : (text data_text : List ℕ) (v w : Denotation) → JobTextsDenote text data_text v → JobTextsDenote text data_text w → v ≡ w
 job_texts_once text data_text v w (job, h, e) (other, k, d) = e ∙ (ap verdicts.Job (texts_once text data_text job other h k) ∙ sym d)
 
-pub contents_once : (jdf tiles : List ℕ) (a b : Option (List ℕ)) (v w : Denotation) → ContentsDenote jdf tiles a b v → ContentsDenote jdf tiles a b w → v ≡ w
-contents_once jdf tiles None b v w h k = h ∙ sym k
-contents_once jdf tiles (Some text) None v w (inl h) (inl k) = refused_once text v w h k
-contents_once jdf tiles (Some text) None v w (inl h) (inr (J, tree, d)) = absurd (refused_or_read text v J h tree)
-contents_once jdf tiles (Some text) None v w (inr (J, tree, d)) (inl h) = absurd (refused_or_read text w J h tree)
-contents_once jdf tiles (Some text) None v w (inr h) (inr k) = h.2 ∙ sym k.2
-contents_once jdf tiles (Some text) (Some data_text) v w h k = job_texts_once text data_text v w h k
+pub contents_once : (jdf data_name : List ℕ) (a b : Option (List ℕ)) (v w : Denotation) → ContentsDenote jdf data_name a b v → ContentsDenote jdf data_name a b w → v ≡ w
+contents_once jdf data_name None b v w h k = h ∙ sym k
+contents_once jdf data_name (Some text) None v w (inl h) (inl k) = refused_once text v w h k
+contents_once jdf data_name (Some text) None v w (inl h) (inr (J, tree, d)) = absurd (refused_or_read text v J h tree)
+contents_once jdf data_name (Some text) None v w (inr (J, tree, d)) (inl h) = absurd (refused_or_read text w J h tree)
+contents_once jdf data_name (Some text) None v w (inr h) (inr k) = h.2 ∙ sym k.2
+contents_once jdf data_name (Some text) (Some data_text) v w h k = job_texts_once text data_text v w h k
 
 -- ---- what is found consistent is
 texts_consistent : (text data_text : List ℕ) (P : Plan) (given : Data) → TextsDenote text data_text (jobs.Consistent P given) → IsConsistent P
@@ -140,9 +140,9 @@ texts_consistent text data_text P given (inr (inr (job, has, plan))) = plan.1
 same_job : (a b : JobVerdict) → verdicts.Job a ≡ verdicts.Job b → a ≡ b
 same_job a b e = cc
 
-pub contents_consistent : (jdf tiles : List ℕ) (a b : Option (List ℕ)) (P : Plan) (given : Data) → ContentsDenote jdf tiles a b (verdicts.Job (jobs.Consistent P given)) → IsConsistent P
-contents_consistent jdf tiles None b P given e = absurd cc
-contents_consistent jdf tiles (Some text) None P given (inl (job, (fault, h, is), e)) = absurd cc
-contents_consistent jdf tiles (Some text) None P given (inr (J, tree, e)) = absurd cc
-contents_consistent jdf tiles (Some text) (Some data_text) P given (job, h, e) =
+pub contents_consistent : (jdf data_name : List ℕ) (a b : Option (List ℕ)) (P : Plan) (given : Data) → ContentsDenote jdf data_name a b (verdicts.Job (jobs.Consistent P given)) → IsConsistent P
+contents_consistent jdf data_name None b P given e = absurd cc
+contents_consistent jdf data_name (Some text) None P given (inl (job, (fault, h, is), e)) = absurd cc
+contents_consistent jdf data_name (Some text) None P given (inr (J, tree, e)) = absurd cc
+contents_consistent jdf data_name (Some text) (Some data_text) P given (job, h, e) =
     texts_consistent text data_text P given (subst (TextsDenote text data_text) (sym (same_job (jobs.Consistent P given) job e)) h)

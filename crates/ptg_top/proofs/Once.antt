@@ -57,13 +57,13 @@ certified_once P given v w con (c, h, e) (d, k, q) =
     let ws = class_weights P given in
     e ∙ (ap (λ (x : Certificate). verdicts.Ran P (certified ws (answer P given) x)) (one P given ws c d con h k) ∙ sym q)
 
-certify_once : (files : Entries) (jdf tiles : List ℕ) (v w : Denotation) → RequestDenotes files (Certify jdf tiles) v → RequestDenotes files (Certify jdf tiles) w → v ≡ w
-certify_once files jdf tiles v w (a, h, e) (b, k, d) =
+certify_once : (files : Entries) (jdf data_name : List ℕ) (v w : Denotation) → RequestDenotes files (Certify jdf data_name) v → RequestDenotes files (Certify jdf data_name) w → v ≡ w
+certify_once files jdf data_name v w (a, h, e) (b, k, d) =
     let a_file = file_of files jdf in
-    let b_file = file_of files tiles in
+    let b_file = file_of files data_name in
     once_on IsCertified b v w
-    (λ P given is. certified_once P given v w (contents_consistent jdf tiles a_file b_file P given (subst (ContentsDenote jdf tiles a_file b_file) is k)))
-    (subst (λ (c : Denotation). OnConsistent IsCertified c v) (contents_once jdf tiles a_file b_file a b h k) e) d
+    (λ P given is. certified_once P given v w (contents_consistent jdf data_name a_file b_file P given (subst (ContentsDenote jdf data_name a_file b_file) is k)))
+    (subst (λ (c : Denotation). OnConsistent IsCertified c v) (contents_once jdf data_name a_file b_file a b h k) e) d
 
 -- a text has one first fault, or is a trace
 replay_of_once : (P : Plan) (given : Data) (text : List ℕ) (v w : Denotation) → IsConsistent P → IsReplayOf text P given v → IsReplayOf text P given w → v ≡ w
@@ -76,40 +76,40 @@ replayed_once : (trace : List ℕ) (content : Option (List ℕ)) (P : Plan) (giv
 replayed_once trace None P given v w con h k = h ∙ sym k
 replayed_once trace (Some text) P given v w con h k = replay_of_once P given text v w con h k
 
-replay_once : (files : Entries) (jdf tiles trace : List ℕ) (v w : Denotation) → RequestDenotes files (Replay jdf tiles trace) v → RequestDenotes files (Replay jdf tiles trace) w → v ≡ w
-replay_once files jdf tiles trace v w (a, h, e) (b, k, d) =
+replay_once : (files : Entries) (jdf data_name trace : List ℕ) (v w : Denotation) → RequestDenotes files (Replay jdf data_name trace) v → RequestDenotes files (Replay jdf data_name trace) w → v ≡ w
+replay_once files jdf data_name trace v w (a, h, e) (b, k, d) =
     let a_file = file_of files jdf in
-    let b_file = file_of files tiles in
+    let b_file = file_of files data_name in
     let Verb = IsReplayed trace (file_of files trace) in
     once_on Verb b v w
-    (λ P given is. replayed_once trace (file_of files trace) P given v w (contents_consistent jdf tiles a_file b_file P given (subst (ContentsDenote jdf tiles a_file b_file) is k)))
-    (subst (λ (c : Denotation). OnConsistent Verb c v) (contents_once jdf tiles a_file b_file a b h k) e) d
+    (λ P given is. replayed_once trace (file_of files trace) P given v w (contents_consistent jdf data_name a_file b_file P given (subst (ContentsDenote jdf data_name a_file b_file) is k)))
+    (subst (λ (c : Denotation). OnConsistent Verb c v) (contents_once jdf data_name a_file b_file a b h k) e) d
 
 -- two verdicts of `trace` are the same refusal, or traces of one job
-traces_on : (files : Entries) (jdf tiles : List ℕ) (checked v w : Denotation) → FilesDenote files jdf tiles checked → OnConsistent IsTraced checked v → OnConsistent IsTraced checked w → (v ≡ w) ⊎ AreTracesOfOneJob files v w
-traces_on files jdf tiles (verdicts.Job (jobs.Consistent P given)) v w found h k = inr (jdf, tiles, P, given, found, h, k)
-traces_on files jdf tiles checked v w found h k = inl (h ∙ sym k)
+traces_on : (files : Entries) (jdf data_name : List ℕ) (checked v w : Denotation) → FilesDenote files jdf data_name checked → OnConsistent IsTraced checked v → OnConsistent IsTraced checked w → (v ≡ w) ⊎ AreTracesOfOneJob files v w
+traces_on files jdf data_name (verdicts.Job (jobs.Consistent P given)) v w found h k = inr (jdf, data_name, P, given, found, h, k)
+traces_on files jdf data_name checked v w found h k = inl (h ∙ sym k)
 
-traces_of_one_job : (files : Entries) (jdf tiles : List ℕ) (settings : Settings) (v w : Denotation) → RequestDenotes files (Trace jdf tiles settings) v → RequestDenotes files (Trace jdf tiles settings) w
+traces_of_one_job : (files : Entries) (jdf data_name : List ℕ) (settings : Settings) (v w : Denotation) → RequestDenotes files (Trace jdf data_name settings) v → RequestDenotes files (Trace jdf data_name settings) w
     → (v ≡ w) ⊎ AreTracesOfOneJob files v w
-traces_of_one_job files jdf tiles settings v w (a, h, e) (b, k, d) =
-    traces_on files jdf tiles b v w k (subst (λ (c : Denotation). OnConsistent IsTraced c v) (contents_once jdf tiles (file_of files jdf) (file_of files tiles) a b h k) e) d
+traces_of_one_job files jdf data_name settings v w (a, h, e) (b, k, d) =
+    traces_on files jdf data_name b v w k (subst (λ (c : Denotation). OnConsistent IsTraced c v) (contents_once jdf data_name (file_of files jdf) (file_of files data_name) a b h k) e) d
 
 -- what is asked and the files denote one verdict at most, where it is no trace
 request_once : (files : Entries) (request : Request) (v w : Denotation) → IsNoTrace request → RequestDenotes files request v → RequestDenotes files request w → v ≡ w
-request_once files (Trace jdf tiles settings) v w free h k = absurd free
-request_once files (Run jdf tiles settings) v w free (a, h, e) (b, k, d) =
+request_once files (Trace jdf data_name settings) v w free h k = absurd free
+request_once files (Run jdf data_name settings) v w free (a, h, e) (b, k, d) =
     once_on (IsAnswer settings) b v w (λ P given is p q. p ∙ sym q)
-    (subst (λ (c : Denotation). OnConsistent (IsAnswer settings) c v) (contents_once jdf tiles (file_of files jdf) (file_of files tiles) a b h k) e) d
+    (subst (λ (c : Denotation). OnConsistent (IsAnswer settings) c v) (contents_once jdf data_name (file_of files jdf) (file_of files data_name) a b h k) e) d
 request_once files (Show jdf) v w free h k = content_shows_once jdf (file_of files jdf) v w h k
-request_once files (Check jdf tiles) v w free h k = contents_once jdf tiles (file_of files jdf) (file_of files tiles) v w h k
+request_once files (Check jdf data_name) v w free h k = contents_once jdf data_name (file_of files jdf) (file_of files data_name) v w h k
 request_once files (Demo rows) v w free h k = demo_once rows v w h k
-request_once files (Replay jdf tiles trace) v w free h k = replay_once files jdf tiles trace v w h k
-request_once files (Certify jdf tiles) v w free h k = certify_once files jdf tiles v w h k
-request_once files (Ranks jdf tiles settings) v w free (a, h, e) (b, k, d) =
+request_once files (Replay jdf data_name trace) v w free h k = replay_once files jdf data_name trace v w h k
+request_once files (Certify jdf data_name) v w free h k = certify_once files jdf data_name v w h k
+request_once files (Ranks jdf data_name settings) v w free (a, h, e) (b, k, d) =
     let Verb = IsRanked settings.ranks in
     once_on Verb b v w (λ P given is p q. p ∙ sym q)
-    (subst (λ (c : Denotation). OnConsistent Verb c v) (contents_once jdf tiles (file_of files jdf) (file_of files tiles) a b h k) e) d
+    (subst (λ (c : Denotation). OnConsistent Verb c v) (contents_once jdf data_name (file_of files jdf) (file_of files data_name) a b h k) e) d
 
 pub one_meaning : OneMeaning
 one_meaning words files v w free (inl h) (inl k) = h.1 ∙ sym k.1
@@ -120,14 +120,14 @@ one_meaning words files v w free (inr (a, asked, h)) (inr (b, other, k)) =
 
 -- and two of a trace are of one job
 one_or_traces : (files : Entries) (request : Request) (v w : Denotation) → RequestDenotes files request v → RequestDenotes files request w → (v ≡ w) ⊎ AreTracesOfOneJob files v w
-one_or_traces files (Trace jdf tiles settings) v w h k = traces_of_one_job files jdf tiles settings v w h k
-one_or_traces files (Run jdf tiles settings) v w h k = inl (request_once files (Run jdf tiles settings) v w tt h k)
+one_or_traces files (Trace jdf data_name settings) v w h k = traces_of_one_job files jdf data_name settings v w h k
+one_or_traces files (Run jdf data_name settings) v w h k = inl (request_once files (Run jdf data_name settings) v w tt h k)
 one_or_traces files (Show jdf) v w h k = inl (request_once files (Show jdf) v w tt h k)
-one_or_traces files (Check jdf tiles) v w h k = inl (request_once files (Check jdf tiles) v w tt h k)
+one_or_traces files (Check jdf data_name) v w h k = inl (request_once files (Check jdf data_name) v w tt h k)
 one_or_traces files (Demo rows) v w h k = inl (request_once files (Demo rows) v w tt h k)
-one_or_traces files (Replay jdf tiles trace) v w h k = inl (request_once files (Replay jdf tiles trace) v w tt h k)
-one_or_traces files (Certify jdf tiles) v w h k = inl (request_once files (Certify jdf tiles) v w tt h k)
-one_or_traces files (Ranks jdf tiles settings) v w h k = inl (request_once files (Ranks jdf tiles settings) v w tt h k)
+one_or_traces files (Replay jdf data_name trace) v w h k = inl (request_once files (Replay jdf data_name trace) v w tt h k)
+one_or_traces files (Certify jdf data_name) v w h k = inl (request_once files (Certify jdf data_name) v w tt h k)
+one_or_traces files (Ranks jdf data_name settings) v w h k = inl (request_once files (Ranks jdf data_name settings) v w tt h k)
 
 pub one_job : OneJob
 one_job words files v w (inl h) (inl k) = inl (h.1 ∙ sym k.1)

@@ -151,11 +151,11 @@ module _ (P : Plan) (finding : Finding) where
   no_texts_are_run : (text data_text : List ℕ) → JobTextsDenote text data_text (verdicts.Ran P finding) → ⊥
   no_texts_are_run text data_text (job, h, e) = absurd cc
 
-  no_contents_are_run : (jdf tiles : List ℕ) (a b : Option (List ℕ)) → ContentsDenote jdf tiles a b (verdicts.Ran P finding) → ⊥
-  no_contents_are_run jdf tiles None b e = absurd cc
-  no_contents_are_run jdf tiles (Some text) None (inl (job, h, e)) = absurd cc
-  no_contents_are_run jdf tiles (Some text) None (inr (J, h, e)) = absurd cc
-  no_contents_are_run jdf tiles (Some text) (Some data_text) h = no_texts_are_run text data_text h
+  no_contents_are_run : (jdf data_name : List ℕ) (a b : Option (List ℕ)) → ContentsDenote jdf data_name a b (verdicts.Ran P finding) → ⊥
+  no_contents_are_run jdf data_name None b e = absurd cc
+  no_contents_are_run jdf data_name (Some text) None (inl (job, h, e)) = absurd cc
+  no_contents_are_run jdf data_name (Some text) None (inr (J, h, e)) = absurd cc
+  no_contents_are_run jdf data_name (Some text) (Some data_text) h = no_texts_are_run text data_text h
 
   no_text_is_run : (name : List ℕ) (content : Option (List ℕ)) → ContentShows name content (verdicts.Ran P finding) → ⊥
   no_text_is_run name None e = absurd cc

@@ -46,16 +46,16 @@ module _ (contents : Option Entries) (old new : ℕ) (trace : List ℕ) (P : Pla
       → ReplayEndsWith contents old new trace P given (verdicts.Trace f)
   long_ends f row code long = inr (tt, λ files t. let at = long files t in (at.0, at.1, inl (f, too_long at.2 row code, refl)))
 
-module _ (contents : Option Entries) (jdf tiles trace : List ℕ) where
+module _ (contents : Option Entries) (jdf data_name trace : List ℕ) where
   module _ (old mid new : List ℕ → ℕ) (P : Plan) (given : Data) where
     -- the files denote the job that was found consistent
-    job_known : (checked : Denotation) → checked ≡ verdicts.Job (jobs.Consistent P given) → IsVerdictOnRequest contents old mid (Check jdf tiles) checked
-        → (files : Entries) → contents ≡ Some files → FilesDenote files jdf tiles (verdicts.Job (jobs.Consistent P given))
+    job_known : (checked : Denotation) → checked ≡ verdicts.Job (jobs.Consistent P given) → IsVerdictOnRequest contents old mid (Check jdf data_name) checked
+        → (files : Entries) → contents ≡ Some files → FilesDenote files jdf data_name (verdicts.Job (jobs.Consistent P given))
     job_known checked is (inl (name, rose, may, e)) files t = let d : verdicts.Job (jobs.Consistent P given) ≡ verdicts.Unread name = sym is ∙ e in absurd cc
-    job_known checked is (inr (of, known)) files t = subst (FilesDenote files jdf tiles) is (known files t)
+    job_known checked is (inr (of, known)) files t = subst (FilesDenote files jdf data_name) is (known files t)
 
-    trace_ends : (v : Denotation) → old trace ≤ mid trace → ((files : Entries) → contents ≡ Some files → FilesDenote files jdf tiles (verdicts.Job (jobs.Consistent P given)))
-        → ReplayEndsWith contents (mid trace) (new trace) trace P given v → IsVerdictOnRequest contents old new (Replay jdf tiles trace) v
+    trace_ends : (v : Denotation) → old trace ≤ mid trace → ((files : Entries) → contents ≡ Some files → FilesDenote files jdf data_name (verdicts.Job (jobs.Consistent P given)))
+        → ReplayEndsWith contents (mid trace) (new trace) trace P given v → IsVerdictOnRequest contents old new (Replay jdf data_name trace) v
     trace_ends v le job (inl (e, rose)) = inl (trace, rose_since (old trace) (mid trace) (new trace) le rose, inr (refl, λ files t. (P, given, job files t)), e)
     trace_ends v le job (inr (of, known)) =
         inr (
@@ -67,14 +67,14 @@ module _ (contents : Option Entries) (jdf tiles trace : List ℕ) where
 
     -- the verdict of `replay`, from that of `check` and that on the trace file
     pub replay_finds : (checked : Denotation) (r : Result Verdict OutOfMemory) → checked ≡ verdicts.Job (jobs.Consistent P given) → old trace ≤ mid trace
-        → IsVerdictOnRequest contents old mid (Check jdf tiles) checked → IfOk r (λ v. ReplayEndsWith contents (mid trace) (new trace) trace P given (denoted v))
-        → IfOk r (λ v. IsVerdictOnRequest contents old new (Replay jdf tiles trace) (denoted v))
+        → IsVerdictOnRequest contents old mid (Check jdf data_name) checked → IfOk r (λ v. ReplayEndsWith contents (mid trace) (new trace) trace P given (denoted v))
+        → IfOk r (λ v. IsVerdictOnRequest contents old new (Replay jdf data_name trace) (denoted v))
     replay_finds checked (Ok v) is le h ends = trace_ends (denoted v) le (job_known checked is h) ends
     replay_finds checked (Err x) is le h ends = tt
 
   -- a refusal of `check` stays
-  pub replay_refuses : (old new : List ℕ → ℕ) (checked : Denotation) → IsVerdictOnRequest contents old new (Check jdf tiles) checked → IsRefusal checked
-      → IsVerdictOnRequest contents old new (Replay jdf tiles trace) checked
+  pub replay_refuses : (old new : List ℕ → ℕ) (checked : Denotation) → IsVerdictOnRequest contents old new (Check jdf data_name) checked → IsRefusal checked
+      → IsVerdictOnRequest contents old new (Replay jdf data_name trace) checked
   replay_refuses old new checked (inl (name, rose, may, e)) refused = inl (name, rose, inl may, e)
   replay_refuses old new checked (inr (of, known)) refused =
       inr (of, λ files t. (checked, known files t, kept (IsReplayed trace (file_of files trace)) checked refused))

@@ -32,35 +32,35 @@ alike_on a b same (verdicts.Job (jobs.Consistent P given)) v h = h ∙ ap (λ (l
     answered large = if large then verdicts.Preload else verdicts.Ran P (Answer (answer P given))
 alike_on a b same checked v h = h
 
-module _ (one other : List (List ℕ)) (jdf tiles : List ℕ) (a b : Settings) (files : Entries) (v : Denotation) where
-  same_denoted : AreAlike a b → Requests one (Run jdf tiles a) → Requests other (Run jdf tiles b) → Denotes one files v → Denotes other files v
-  same_denoted same first second (inl (none, e)) = absurd (none (Run jdf tiles a) first)
+module _ (one other : List (List ℕ)) (jdf data_name : List ℕ) (a b : Settings) (files : Entries) (v : Denotation) where
+  same_denoted : AreAlike a b → Requests one (Run jdf data_name a) → Requests other (Run jdf data_name b) → Denotes one files v → Denotes other files v
+  same_denoted same first second (inl (none, e)) = absurd (none (Run jdf data_name a) first)
   same_denoted same first second (inr (request, asked, h)) =
-      let is : RequestDenotes files (Run jdf tiles a) v = subst (λ (r : Request). RequestDenotes files r v) (one_request one request (Run jdf tiles a) asked first) h in
-      inr (Run jdf tiles b, second, (is.0, is.1, alike_on a b same is.0 v is.2))
+      let is : RequestDenotes files (Run jdf data_name a) v = subst (λ (r : Request). RequestDenotes files r v) (one_request one request (Run jdf data_name a) asked first) h in
+      inr (Run jdf data_name b, second, (is.0, is.1, alike_on a b same is.0 v is.2))
 
-asked : (words : List (List ℕ)) (jdf tiles : List ℕ) (w s : ℕ) (p : Bool) → Orders words (order.Run jdf tiles w s p) → Requests words (Run jdf tiles (record { workers = w; shards = s; preload = p }))
-asked words jdf tiles w s p formed = record { order = order.Run jdf tiles w s p; formed = formed; asks = refl }
+asked : (words : List (List ℕ)) (jdf data_name : List ℕ) (w s : ℕ) (p : Bool) → Orders words (order.Run jdf data_name w s p) → Requests words (Run jdf data_name (record { workers = w; shards = s; preload = p }))
+asked words jdf data_name w s p formed = record { order = order.Run jdf data_name w s p; formed = formed; asks = refl }
 
 pub shards_change_nothing : ShardsChangeNothing
-shards_change_nothing one other jdf tiles w s t p files v first second h =
-    same_denoted one other jdf tiles (record { workers = w; shards = s; preload = p }) (record { workers = w; shards = t; preload = p }) files v
-    (λ P. refl) (asked one jdf tiles w s p first) (asked other jdf tiles w t p second) h
+shards_change_nothing one other jdf data_name w s t p files v first second h =
+    same_denoted one other jdf data_name (record { workers = w; shards = s; preload = p }) (record { workers = w; shards = t; preload = p }) files v
+    (λ P. refl) (asked one jdf data_name w s p first) (asked other jdf data_name w t p second) h
 
 pub workers_change_nothing : WorkersChangeNothing
-workers_change_nothing one other jdf tiles w u s t files v first second h =
-    same_denoted one other jdf tiles (record { workers = w; shards = s; preload = false }) (record { workers = u; shards = t; preload = false }) files v
-    (λ P. refl) (asked one jdf tiles w s false first) (asked other jdf tiles u t false second) h
+workers_change_nothing one other jdf data_name w u s t files v first second h =
+    same_denoted one other jdf data_name (record { workers = w; shards = s; preload = false }) (record { workers = u; shards = t; preload = false }) files v
+    (λ P. refl) (asked one jdf data_name w s false first) (asked other jdf data_name u t false second) h
 
-ranks_asked : (words : List (List ℕ)) (jdf tiles : List ℕ) (r seed : ℕ) → Orders words (order.Ranks jdf tiles r seed) → Requests words (Ranks jdf tiles (record { ranks = r; seed = seed }))
-ranks_asked words jdf tiles r seed formed = record { order = order.Ranks jdf tiles r seed; formed = formed; asks = refl }
+ranks_asked : (words : List (List ℕ)) (jdf data_name : List ℕ) (r seed : ℕ) → Orders words (order.Ranks jdf data_name r seed) → Requests words (Ranks jdf data_name (record { ranks = r; seed = seed }))
+ranks_asked words jdf data_name r seed formed = record { order = order.Ranks jdf data_name r seed; formed = formed; asks = refl }
 
 pub seeds_change_nothing : SeedsChangeNothing
-seeds_change_nothing one other jdf tiles r seed another files v first second (inl (none, e)) =
-    absurd (none (Ranks jdf tiles (record { ranks = r; seed = seed })) (ranks_asked one jdf tiles r seed first))
-seeds_change_nothing one other jdf tiles r seed another files v first second (inr (request, asked, h)) =
+seeds_change_nothing one other jdf data_name r seed another files v first second (inl (none, e)) =
+    absurd (none (Ranks jdf data_name (record { ranks = r; seed = seed })) (ranks_asked one jdf data_name r seed first))
+seeds_change_nothing one other jdf data_name r seed another files v first second (inr (request, asked, h)) =
     let here : RankSettings = record { ranks = r; seed = seed } in
     let there : RankSettings = record { ranks = r; seed = another } in
-    let same = one_request one request (Ranks jdf tiles here) asked (ranks_asked one jdf tiles r seed first) in
-    let is : RequestDenotes files (Ranks jdf tiles here) v = subst (λ (q : Request). RequestDenotes files q v) same h in
-    inr (Ranks jdf tiles there, ranks_asked other jdf tiles r another second, is)
+    let same = one_request one request (Ranks jdf data_name here) asked (ranks_asked one jdf data_name r seed first) in
+    let is : RequestDenotes files (Ranks jdf data_name here) v = subst (λ (q : Request). RequestDenotes files q v) same h in
+    inr (Ranks jdf data_name there, ranks_asked other jdf data_name r another second, is)

@@ -31,14 +31,14 @@ JobTextsDenote text data_text v = (job : JobVerdict) × TextsDenote text data_te
 -- else, where the data file is not there, the first fault of the JDF's text, or that the data file is not there; else
 -- what the two texts denote.
 abbrev pub ContentsDenote : List ℕ → List ℕ → Option (List ℕ) → Option (List ℕ) → Denotation → Type 0
-ContentsDenote jdf tiles None other v = v ≡ verdicts.Unread jdf
-ContentsDenote jdf tiles (Some text) None v =
-    RefusesText text v ⊎ ((J : Jdf) × IsJdf text J × (v ≡ verdicts.Unread tiles))
-ContentsDenote jdf tiles (Some text) (Some data_text) v = JobTextsDenote text data_text v
+ContentsDenote jdf data_name None other v = v ≡ verdicts.Unread jdf
+ContentsDenote jdf data_name (Some text) None v =
+    RefusesText text v ⊎ ((J : Jdf) × IsJdf text J × (v ≡ verdicts.Unread data_name))
+ContentsDenote jdf data_name (Some text) (Some data_text) v = JobTextsDenote text data_text v
 
 -- the files of these names denote this verdict
 abbrev pub FilesDenote : Entries → List ℕ → List ℕ → Denotation → Type 0
-FilesDenote files jdf tiles v = ContentsDenote jdf tiles (file_of files jdf) (file_of files tiles) v
+FilesDenote files jdf data_name v = ContentsDenote jdf data_name (file_of files jdf) (file_of files data_name) v
 
 -- The data of a consistent job fit its plan, and what is found of a job that was run is of its plan.
 abbrev pub HasFittingJob : Denotation → Type 0

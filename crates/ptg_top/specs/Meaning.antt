@@ -40,19 +40,19 @@ ContentShows name (Some text) v = Shows text v
 -- file, `certify` finds the certificate, and `ranks` counts the messages and answers the job, whatever the seed. `demo`
 -- reads no file.
 abbrev pub RequestDenotes : Entries → Request → Denotation → Type 0
-RequestDenotes files (Run jdf tiles settings) v =
-    (checked : Denotation) × FilesDenote files jdf tiles checked × OnConsistent (IsAnswer settings) checked v
+RequestDenotes files (Run jdf data_name settings) v =
+    (checked : Denotation) × FilesDenote files jdf data_name checked × OnConsistent (IsAnswer settings) checked v
 RequestDenotes files (Show jdf) v = ContentShows jdf (file_of files jdf) v
-RequestDenotes files (Check jdf tiles) v = FilesDenote files jdf tiles v
+RequestDenotes files (Check jdf data_name) v = FilesDenote files jdf data_name v
 RequestDenotes files (Demo rows) v = DemoDenotes rows v
-RequestDenotes files (Trace jdf tiles settings) v =
-    (checked : Denotation) × FilesDenote files jdf tiles checked × OnConsistent IsTraced checked v
-RequestDenotes files (Replay jdf tiles trace) v =
-    (checked : Denotation) × FilesDenote files jdf tiles checked × OnConsistent (IsReplayed trace (file_of files trace)) checked v
-RequestDenotes files (Certify jdf tiles) v =
-    (checked : Denotation) × FilesDenote files jdf tiles checked × OnConsistent IsCertified checked v
-RequestDenotes files (Ranks jdf tiles settings) v =
-    (checked : Denotation) × FilesDenote files jdf tiles checked × OnConsistent (IsRanked settings.ranks) checked v
+RequestDenotes files (Trace jdf data_name settings) v =
+    (checked : Denotation) × FilesDenote files jdf data_name checked × OnConsistent IsTraced checked v
+RequestDenotes files (Replay jdf data_name trace) v =
+    (checked : Denotation) × FilesDenote files jdf data_name checked × OnConsistent (IsReplayed trace (file_of files trace)) checked v
+RequestDenotes files (Certify jdf data_name) v =
+    (checked : Denotation) × FilesDenote files jdf data_name checked × OnConsistent IsCertified checked v
+RequestDenotes files (Ranks jdf data_name settings) v =
+    (checked : Denotation) × FilesDenote files jdf data_name checked × OnConsistent (IsRanked settings.ranks) checked v
 
 -- The arguments and the files denote this verdict: usage, if the arguments form no command; else what the files denote
 -- for what the arguments ask. Of a trace they may denote several.
@@ -62,7 +62,7 @@ Denotes words files v =
 
 -- what is asked is no trace
 abbrev pub IsNoTrace : Request → Type 0
-IsNoTrace (Trace jdf tiles settings) = ⊥
+IsNoTrace (Trace jdf data_name settings) = ⊥
 IsNoTrace request = Unit {0}
 
 -- the arguments ask for no trace
@@ -78,7 +78,7 @@ OneMeaning =
 -- two verdicts are texts of whole orders of one consistent job, which two of the files denote
 abbrev pub AreTracesOfOneJob : Entries → Denotation → Denotation → Type 0
 AreTracesOfOneJob files v w =
-    (jdf tiles : List ℕ) × (P : Plan) × (given : Data) × FilesDenote files jdf tiles (verdicts.Job (jobs.Consistent P given)) × IsTraced P given v × IsTraced P given w
+    (jdf data_name : List ℕ) × (P : Plan) × (given : Data) × FilesDenote files jdf data_name (verdicts.Job (jobs.Consistent P given)) × IsTraced P given v × IsTraced P given w
 
 -- two verdicts that any arguments and files denote are the same, or traces of one job
 abbrev pub OneJob : Type 0
@@ -92,26 +92,26 @@ SomeMeaning = (words : List (List ℕ)) (files : Entries) → (v : Denotation) �
 
 -- this is the JDF file, or it is the data file and the JDF is the text of a tree, where the contents are known
 abbrev pub IsUnreadOf : Option Entries → List ℕ → List ℕ → List ℕ → Type 0
-IsUnreadOf contents jdf tiles name =
-    (name ≡ jdf) ⊎ ((name ≡ tiles) × ((files : Entries) → contents ≡ Some files → (J : Jdf) × TreeAt files jdf J))
+IsUnreadOf contents jdf data_name name =
+    (name ≡ jdf) ⊎ ((name ≡ data_name) × ((files : Entries) → contents ≡ Some files → (J : Jdf) × TreeAt files jdf J))
 
 -- this is the trace file, and the other two are those of a consistent job, where the contents are known
 abbrev pub IsUnreadTrace : Option Entries → List ℕ → List ℕ → List ℕ → List ℕ → Type 0
-IsUnreadTrace contents jdf tiles trace name =
+IsUnreadTrace contents jdf data_name trace name =
     (name ≡ trace)
-    × ((files : Entries) → contents ≡ Some files → (P : Plan) × (given : Data) × FilesDenote files jdf tiles (verdicts.Job (jobs.Consistent P given)))
+    × ((files : Entries) → contents ≡ Some files → (P : Plan) × (given : Data) × FilesDenote files jdf data_name (verdicts.Job (jobs.Consistent P given)))
 
 -- the names that `unread` may have for what is asked
 abbrev pub MayBeUnreadFor : Option Entries → Request → List ℕ → Type 0
-MayBeUnreadFor contents (Run jdf tiles settings) name = IsUnreadOf contents jdf tiles name
+MayBeUnreadFor contents (Run jdf data_name settings) name = IsUnreadOf contents jdf data_name name
 MayBeUnreadFor contents (Show jdf) name = name ≡ jdf
-MayBeUnreadFor contents (Check jdf tiles) name = IsUnreadOf contents jdf tiles name
+MayBeUnreadFor contents (Check jdf data_name) name = IsUnreadOf contents jdf data_name name
 MayBeUnreadFor contents (Demo rows) name = ⊥
-MayBeUnreadFor contents (Trace jdf tiles settings) name = IsUnreadOf contents jdf tiles name
-MayBeUnreadFor contents (Replay jdf tiles trace) name =
-    IsUnreadOf contents jdf tiles name ⊎ IsUnreadTrace contents jdf tiles trace name
-MayBeUnreadFor contents (Certify jdf tiles) name = IsUnreadOf contents jdf tiles name
-MayBeUnreadFor contents (Ranks jdf tiles settings) name = IsUnreadOf contents jdf tiles name
+MayBeUnreadFor contents (Trace jdf data_name settings) name = IsUnreadOf contents jdf data_name name
+MayBeUnreadFor contents (Replay jdf data_name trace) name =
+    IsUnreadOf contents jdf data_name name ⊎ IsUnreadTrace contents jdf data_name trace name
+MayBeUnreadFor contents (Certify jdf data_name) name = IsUnreadOf contents jdf data_name name
+MayBeUnreadFor contents (Ranks jdf data_name settings) name = IsUnreadOf contents jdf data_name name
 
 -- the names that `unread` may have: the JDF file's; the data file's if the JDF is the text of a tree, or the trace
 -- file's if the other two are those of a consistent job, where the contents are known

@@ -26,21 +26,21 @@ use Rattle.ptg_top.specs.Tables.{IsRunWith, ShowsSettings, usual_settings}
 
 -- the command runs a job
 abbrev pub IsRun : Order → Type 0
-IsRun (order.Run jdf tiles workers shards preload) = Unit {0}
+IsRun (order.Run jdf data_name workers shards preload) = Unit {0}
 IsRun (order.Demo rows) = Unit {0}
-IsRun (order.Trace jdf tiles workers shards) = Unit {0}
-IsRun (order.Certify jdf tiles) = Unit {0}
+IsRun (order.Trace jdf data_name workers shards) = Unit {0}
+IsRun (order.Certify jdf data_name) = Unit {0}
 IsRun o = ⊥
 
 -- The receipt is of a table with the settings that the command says, or with the usual ones where it has no options for
 -- them.
 abbrev pub IsReceiptFor : Order → ReceiptView → Type 0
-IsReceiptFor (order.Run jdf tiles workers shards preload) r =
+IsReceiptFor (order.Run jdf data_name workers shards preload) r =
     ShowsSettings (record { workers = workers; shards = shards; preload = preload }) r
 IsReceiptFor (order.Demo rows) r = ShowsSettings usual_settings r
-IsReceiptFor (order.Trace jdf tiles workers shards) r =
+IsReceiptFor (order.Trace jdf data_name workers shards) r =
     ShowsSettings (record { workers = workers; shards = shards; preload = false }) r
-IsReceiptFor (order.Certify jdf tiles) r = ShowsSettings usual_settings r
+IsReceiptFor (order.Certify jdf data_name) r = ShowsSettings usual_settings r
 IsReceiptFor o r = ⊥
 
 -- the status of a job's answer
@@ -52,17 +52,17 @@ IsAnswerStatus s = ⊥
 
 -- the files that the command names, or the texts that it makes, denote a consistent job with this plan
 abbrev pub FindsPlan : Entries → Order → Plan → Type 0
-FindsPlan files (order.Run jdf tiles workers shards preload) P =
-    (given : Data) × FilesDenote files jdf tiles (verdicts.Job (jobs.Consistent P given))
+FindsPlan files (order.Run jdf data_name workers shards preload) P =
+    (given : Data) × FilesDenote files jdf data_name (verdicts.Job (jobs.Consistent P given))
 FindsPlan files (order.Demo rows) P = (given : Data) × MadeTextsDenote rows (verdicts.Job (jobs.Consistent P given))
-FindsPlan files (order.Trace jdf tiles workers shards) P =
-    (given : Data) × FilesDenote files jdf tiles (verdicts.Job (jobs.Consistent P given))
-FindsPlan files (order.Replay jdf tiles trace) P =
-    (given : Data) × FilesDenote files jdf tiles (verdicts.Job (jobs.Consistent P given))
-FindsPlan files (order.Certify jdf tiles) P =
-    (given : Data) × FilesDenote files jdf tiles (verdicts.Job (jobs.Consistent P given))
-FindsPlan files (order.Ranks jdf tiles ranks seed) P =
-    (given : Data) × FilesDenote files jdf tiles (verdicts.Job (jobs.Consistent P given))
+FindsPlan files (order.Trace jdf data_name workers shards) P =
+    (given : Data) × FilesDenote files jdf data_name (verdicts.Job (jobs.Consistent P given))
+FindsPlan files (order.Replay jdf data_name trace) P =
+    (given : Data) × FilesDenote files jdf data_name (verdicts.Job (jobs.Consistent P given))
+FindsPlan files (order.Certify jdf data_name) P =
+    (given : Data) × FilesDenote files jdf data_name (verdicts.Job (jobs.Consistent P given))
+FindsPlan files (order.Ranks jdf data_name ranks seed) P =
+    (given : Data) × FilesDenote files jdf data_name (verdicts.Job (jobs.Consistent P given))
 FindsPlan files o P = ⊥
 
 -- the arguments form a command, and its job is consistent and has this plan
@@ -84,10 +84,10 @@ IsOfRun settings v = IsAnswerStatus (status_of (denoted v)) → ⊥
 
 -- A verdict on what is asked: on a run with its settings, or without a receipt.
 abbrev pub IsRunAsAsked : Request → Verdict → Type 0
-IsRunAsAsked (Run jdf tiles settings) v = IsOfRun settings v
+IsRunAsAsked (Run jdf data_name settings) v = IsOfRun settings v
 IsRunAsAsked (Demo rows) v = IsOfRun usual_settings v
-IsRunAsAsked (Trace jdf tiles settings) v = IsOfRun settings v
-IsRunAsAsked (Certify jdf tiles) v = IsOfRun usual_settings v
+IsRunAsAsked (Trace jdf data_name settings) v = IsOfRun settings v
+IsRunAsAsked (Certify jdf data_name) v = IsOfRun usual_settings v
 IsRunAsAsked request v = receipt_of v ≡ None
 
 -- the same, of what the arguments ask

@@ -44,12 +44,12 @@ IsVerdictOnWords words contents old new v =
 
 -- the names in a request are UTF-8, and its numbers are in their ranges
 abbrev pub IsProper : Request → Type 0
-IsProper (Run jdf tiles settings) = IsUtf8 jdf × IsUtf8 tiles × AreCounts settings.workers settings.shards
+IsProper (Run jdf data_name settings) = IsUtf8 jdf × IsUtf8 data_name × AreCounts settings.workers settings.shards
 IsProper (Show jdf) = IsUtf8 jdf
-IsProper (Check jdf tiles) = IsUtf8 jdf × IsUtf8 tiles
+IsProper (Check jdf data_name) = IsUtf8 jdf × IsUtf8 data_name
 IsProper (Demo rows) = (1 ≤ rows) × (rows ≤ 96)
-IsProper (Trace jdf tiles settings) =
-    IsUtf8 jdf × IsUtf8 tiles × AreCounts settings.workers settings.shards × (settings.preload ≡ false)
-IsProper (Replay jdf tiles trace) = IsUtf8 jdf × IsUtf8 tiles × IsUtf8 trace
-IsProper (Certify jdf tiles) = IsUtf8 jdf × IsUtf8 tiles
-IsProper (Ranks jdf tiles settings) = IsUtf8 jdf × IsUtf8 tiles × AreRanks settings.ranks
+IsProper (Trace jdf data_name settings) =
+    IsUtf8 jdf × IsUtf8 data_name × AreCounts settings.workers settings.shards × (settings.preload ≡ false)
+IsProper (Replay jdf data_name trace) = IsUtf8 jdf × IsUtf8 data_name × IsUtf8 trace
+IsProper (Certify jdf data_name) = IsUtf8 jdf × IsUtf8 data_name
+IsProper (Ranks jdf data_name settings) = IsUtf8 jdf × IsUtf8 data_name × AreRanks settings.ranks

@@ -8,16 +8,16 @@ use Rattle.ptg_top.specs.declared.request.Request.TheVariants.{Run, Show, Check,
 
 -- what a command asks for
 abbrev pub request_of : Order → Request
-request_of (order.Run jdf tiles workers shards preload) =
-    Run jdf tiles (record { workers = workers; shards = shards; preload = preload })
+request_of (order.Run jdf data_name workers shards preload) =
+    Run jdf data_name (record { workers = workers; shards = shards; preload = preload })
 request_of (order.Show jdf) = Show jdf
-request_of (order.Check jdf tiles) = Check jdf tiles
+request_of (order.Check jdf data_name) = Check jdf data_name
 request_of (order.Demo rows) = Demo rows
-request_of (order.Trace jdf tiles workers shards) =
-    Trace jdf tiles (record { workers = workers; shards = shards; preload = false })
-request_of (order.Replay jdf tiles trace) = Replay jdf tiles trace
-request_of (order.Certify jdf tiles) = Certify jdf tiles
-request_of (order.Ranks jdf tiles ranks seed) = Ranks jdf tiles (record { ranks = ranks; seed = seed })
+request_of (order.Trace jdf data_name workers shards) =
+    Trace jdf data_name (record { workers = workers; shards = shards; preload = false })
+request_of (order.Replay jdf data_name trace) = Replay jdf data_name trace
+request_of (order.Certify jdf data_name) = Certify jdf data_name
+request_of (order.Ranks jdf data_name ranks seed) = Ranks jdf data_name (record { ranks = ranks; seed = seed })
 
 -- the arguments form a command that asks for this
 pub record Requests (words : List (List ℕ)) (request : Request) : Type 0 where

@@ -9,20 +9,20 @@ use Rattle.ptg_top.specs.Meaning.{Denotes}
 -- two runs of the same files denote the same where they differ in their shards alone
 abbrev pub ShardsChangeNothing : Type 0
 ShardsChangeNothing =
-    (one other : List (List ℕ)) (jdf tiles : List ℕ) (workers shards others : ℕ) (preload : Bool) (files : Entries) (v : Denotation)
-    → Orders one (Run jdf tiles workers shards preload) → Orders other (Run jdf tiles workers others preload)
+    (one other : List (List ℕ)) (jdf data_name : List ℕ) (workers shards others : ℕ) (preload : Bool) (files : Entries) (v : Denotation)
+    → Orders one (Run jdf data_name workers shards preload) → Orders other (Run jdf data_name workers others preload)
     → Denotes one files v → Denotes other files v
 
 -- and where they differ in their workers and their shards, without a preload
 abbrev pub WorkersChangeNothing : Type 0
 WorkersChangeNothing =
-    (one other : List (List ℕ)) (jdf tiles : List ℕ) (workers more shards others : ℕ) (files : Entries) (v : Denotation)
-    → Orders one (Run jdf tiles workers shards false) → Orders other (Run jdf tiles more others false)
+    (one other : List (List ℕ)) (jdf data_name : List ℕ) (workers more shards others : ℕ) (files : Entries) (v : Denotation)
+    → Orders one (Run jdf data_name workers shards false) → Orders other (Run jdf data_name more others false)
     → Denotes one files v → Denotes other files v
 
 -- and where they run the job by as many ranks and differ in the seed alone
 abbrev pub SeedsChangeNothing : Type 0
 SeedsChangeNothing =
-    (one other : List (List ℕ)) (jdf tiles : List ℕ) (ranks seed another : ℕ) (files : Entries) (v : Denotation)
-    → Orders one (Ranks jdf tiles ranks seed) → Orders other (Ranks jdf tiles ranks another)
+    (one other : List (List ℕ)) (jdf data_name : List ℕ) (ranks seed another : ℕ) (files : Entries) (v : Denotation)
+    → Orders one (Ranks jdf data_name ranks seed) → Orders other (Ranks jdf data_name ranks another)
     → Denotes one files v → Denotes other files v

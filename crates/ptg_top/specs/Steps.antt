@@ -18,16 +18,16 @@ use Rattle.ptg_top.specs.Reports.{IsOfTexts}
 -- The check of a JDF, read from this text, with the data file of this name ends so: a read of that file failed, or the
 -- two texts denote the verdict, where the contents are known.
 abbrev pub CheckOfDataEndsWith : Option Entries → ℕ → ℕ → List ℕ → List ℕ → Denotation → Type 0
-CheckOfDataEndsWith contents old new text tiles v =
-    ((v ≡ verdicts.Unread tiles) × Rose old new)
+CheckOfDataEndsWith contents old new text data_name v =
+    ((v ≡ verdicts.Unread data_name) × Rose old new)
     ⊎ ((job : JobVerdict) × (v ≡ verdicts.Job job)
-    × ((files : Entries) → contents ≡ Some files → (data_text : List ℕ) × (file_of files tiles ≡ Some data_text) × TextsDenote text data_text job))
+    × ((files : Entries) → contents ≡ Some files → (data_text : List ℕ) × (file_of files data_name ≡ Some data_text) × TextsDenote text data_text job))
 
 -- The check of a JDF's text with the data file of this name ends so: the text has a fault; or it is that of a tree, and
 -- the check of that ends so.
 abbrev pub CheckOfTextEndsWith : Option Entries → ℕ → ℕ → List ℕ → List ℕ → Denotation → Type 0
-CheckOfTextEndsWith contents old new text tiles v =
-    RefusesText text v ⊎ ((J : Jdf) × IsJdf text J × CheckOfDataEndsWith contents old new text tiles v)
+CheckOfTextEndsWith contents old new text data_name v =
+    RefusesText text v ⊎ ((J : Jdf) × IsJdf text J × CheckOfDataEndsWith contents old new text data_name v)
 
 -- The replay of a consistent job with the trace file of this name ends so: a read of that file failed, or the verdict
 -- is the one on its text, where the contents are known.

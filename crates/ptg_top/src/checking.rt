@@ -24,20 +24,20 @@ use std::alloc::Global;
 pub fn check<F: Files>(
     alloc: Global,
     jdf: &Text,
-    tiles: &Text,
+    data_name: &Text,
     files: &mut F,
 ) -> Result<Verdict, OutOfMemory>
     requires jdf_text { IsUtf8 jdf.now }
-    requires tiles_text { IsUtf8 tiles.now }
+    requires data_name_text { IsUtf8 data_name.now }
     ensures stays { F.contents files.new ≡ F.contents files.old }
     ensures grows { (other : List ℕ) → F.faults files.old other ≤ F.faults files.new other }
     ensures verdict { IfOk result (λ v.
         IsVerdictOnRequest (F.contents files.old) (F.faults files.old) (F.faults files.new)
-        (asked.Check jdf.now tiles.now) (denoted v)) }
+        (asked.Check jdf.now data_name.now) (denoted v)) }
     ensures fit { IfOk result (λ v. IsChecked (denoted v)) }
 {
     match load(alloc, files, name_of(jdf)) {
-        Ok(text) => check_text(alloc, text.as_slice(), tiles, files),
+        Ok(text) => check_text(alloc, text.as_slice(), data_name, files),
         Err(LoadFault::TooLong) => Ok(Verdict::Job(JobVerdict::Jdf(jdf_too_long()))),
         Err(LoadFault::Failed) => unread(alloc, jdf),
         Err(LoadFault::OutOfMemory) => Err(OutOfMemory),
@@ -48,19 +48,19 @@ pub fn check<F: Files>(
 fn check_text<F: Files>(
     alloc: Global,
     text: &[u8],
-    tiles: &Text,
+    data_name: &Text,
     files: &mut F,
 ) -> Result<Verdict, OutOfMemory>
-    requires { IsUtf8 tiles.now }
+    requires { IsUtf8 data_name.now }
     ensures stays { F.contents files.new ≡ F.contents files.old }
     ensures grows { (other : List ℕ) → F.faults files.old other ≤ F.faults files.new other }
     ensures verdict { IfOk result (λ v.
-        CheckOfTextEndsWith (F.contents files.old) (F.faults files.old tiles.now) (F.faults files.new tiles.now)
-        text.now tiles.now (denoted v)) }
+        CheckOfTextEndsWith (F.contents files.old) (F.faults files.old data_name.now) (F.faults files.new data_name.now)
+        text.now data_name.now (denoted v)) }
     ensures fit { IfOk result (λ v. IsChecked (denoted v)) }
 {
     match tree_of(alloc, text) {
-        Ok(tree) => check_data(alloc, &tree, tiles, files),
+        Ok(tree) => check_data(alloc, &tree, data_name, files),
         Err(JdfRefusal::Fault(fault)) => Ok(Verdict::Job(JobVerdict::Jdf(fault))),
         Err(JdfRefusal::OutOfMemory) => Err(OutOfMemory),
     }
@@ -70,24 +70,24 @@ fn check_text<F: Files>(
 fn check_data<F: Files>(
     alloc: Global,
     tree: &Jdf,
-    tiles: &Text,
+    data_name: &Text,
     files: &mut F,
 ) -> Result<Verdict, OutOfMemory>
-    requires name { IsUtf8 tiles.now }
+    requires name { IsUtf8 data_name.now }
     requires within { IsWithinLimits tree.now }
     ensures stays { F.contents files.new ≡ F.contents files.old }
     ensures grows { (other : List ℕ) → F.faults files.old other ≤ F.faults files.new other }
     ensures verdict { (text : List ℕ) → IsJdf text tree.now
-        → IfOk result (λ v. CheckOfDataEndsWith (F.contents files.old) (F.faults files.old tiles.now) (F.faults files.new tiles.now) text tiles.now (denoted v)) }
+        → IfOk result (λ v. CheckOfDataEndsWith (F.contents files.old) (F.faults files.old data_name.now) (F.faults files.new data_name.now) text data_name.now (denoted v)) }
     ensures fit { IfOk result (λ v. IsChecked (denoted v)) }
 {
-    match load(alloc, files, name_of(tiles)) {
+    match load(alloc, files, name_of(data_name)) {
         Ok(text) => {
             let job = judge_data(alloc, tree, text.as_slice())?;
             Ok(Verdict::Job(job))
         }
         Err(LoadFault::TooLong) => Ok(Verdict::Job(JobVerdict::Data(data_too_long()))),
-        Err(LoadFault::Failed) => unread(alloc, tiles),
+        Err(LoadFault::Failed) => unread(alloc, data_name),
         Err(LoadFault::OutOfMemory) => Err(OutOfMemory),
     }
 }

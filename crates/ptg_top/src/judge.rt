@@ -64,13 +64,15 @@ fn carry_out<R: Threads + Wait + Sync, F: Files, G: Gate>(
     ensures ran { IfOk result (λ v. IsRunAsAsked request.now v) }
 {
     match request {
-        Request::Run(jdf, tiles, settings) => run(host, jdf, tiles, files, *settings),
+        Request::Run(jdf, data_name, settings) => run(host, jdf, data_name, files, *settings),
         Request::Show(jdf) => show(host.alloc, jdf, files),
-        Request::Check(jdf, tiles) => check(host.alloc, jdf, tiles, files),
+        Request::Check(jdf, data_name) => check(host.alloc, jdf, data_name, files),
         Request::Demo(rows) => demo(host, *rows),
-        Request::Trace(jdf, tiles, settings) => trace(host, jdf, tiles, files, *settings),
-        Request::Replay(jdf, tiles, list) => replay(host.alloc, jdf, tiles, list, files),
-        Request::Certify(jdf, tiles) => certify(host, jdf, tiles, files),
-        Request::Ranks(jdf, tiles, settings) => ranks(host.alloc, jdf, tiles, files, *settings),
+        Request::Trace(jdf, data_name, settings) => trace(host, jdf, data_name, files, *settings),
+        Request::Replay(jdf, data_name, list) => replay(host.alloc, jdf, data_name, list, files),
+        Request::Certify(jdf, data_name) => certify(host, jdf, data_name, files),
+        Request::Ranks(jdf, data_name, settings) => ranks(
+            host.alloc, jdf, data_name, files, *settings,
+        ),
     }
 }

@@ -13,8 +13,8 @@ ghost use Rattle.ptg_words.specs.Words.{Orders};
 use crate::ended::Ended;
 use crate::host::Host;
 use crate::judge::judge;
+use crate::printing::{print_verdict, receipt, status};
 use crate::status::Status;
-use crate::telling::{receipt, status, tell};
 use ptg_base::{OutOfMemory, Text};
 use ptg_io::{Failed, Files, Sink};
 use std::alloc::Global;
@@ -87,7 +87,7 @@ pub fn ptg_main<R: Threads + Wait + Sync, F: Files, O: Sink, G: Gate>(
 {
     let host = Host { rt, alloc, gate };
     match judge(&host, words, files) {
-        Ok(verdict) => match tell(&verdict, out) {
+        Ok(verdict) => match print_verdict(&verdict, out) {
             Ok(()) => Ended {
                 status: status(&verdict),
                 receipt: receipt(verdict),

@@ -27,22 +27,22 @@ use std::alloc::Global;
 pub fn ranks<F: Files>(
     alloc: Global,
     jdf: &Text,
-    tiles: &Text,
+    data_name: &Text,
     files: &mut F,
     settings: RankSettings,
 ) -> Result<Verdict, OutOfMemory>
     requires jdf_text { IsUtf8 jdf.now }
-    requires tiles_text { IsUtf8 tiles.now }
+    requires data_name_text { IsUtf8 data_name.now }
     requires ranks { AreRanks settings.ranks }
     ensures stays { F.contents files.new ≡ F.contents files.old }
     ensures grows { (other : List ℕ) → F.faults files.old other ≤ F.faults files.new other }
     ensures verdict { IfOk result (λ v.
         IsVerdictOnRequest (F.contents files.old) (F.faults files.old) (F.faults files.new)
-        (asked.Ranks jdf.now tiles.now settings) (denoted v)) }
+        (asked.Ranks jdf.now data_name.now settings) (denoted v)) }
     ensures fit { IfOk result (λ v. HasFittingJob (denoted v)) }
     ensures not_run { IfOk result (λ v. receipt_of v ≡ None) }
 {
-    let checked = check(alloc, jdf, tiles, files)?;
+    let checked = check(alloc, jdf, data_name, files)?;
     match consistent_job(checked) {
         Ok((matched, given)) => ranked(alloc, matched, given, settings),
         Err(refused) => Ok(refused),

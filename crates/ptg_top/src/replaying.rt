@@ -29,22 +29,22 @@ use trace_replay::judge_trace;
 pub fn replay<F: Files>(
     alloc: Global,
     jdf: &Text,
-    tiles: &Text,
+    data_name: &Text,
     trace: &Text,
     files: &mut F,
 ) -> Result<Verdict, OutOfMemory>
     requires jdf_text { IsUtf8 jdf.now }
-    requires tiles_text { IsUtf8 tiles.now }
+    requires data_name_text { IsUtf8 data_name.now }
     requires trace_text { IsUtf8 trace.now }
     ensures stays { F.contents files.new ≡ F.contents files.old }
     ensures grows { (other : List ℕ) → F.faults files.old other ≤ F.faults files.new other }
     ensures verdict { IfOk result (λ v.
         IsVerdictOnRequest (F.contents files.old) (F.faults files.old) (F.faults files.new)
-        (asked.Replay jdf.now tiles.now trace.now) (denoted v)) }
+        (asked.Replay jdf.now data_name.now trace.now) (denoted v)) }
     ensures fit { IfOk result (λ v. HasFittingJob (denoted v)) }
     ensures not_run { IfOk result (λ v. receipt_of v ≡ None) }
 {
-    let checked = check(alloc, jdf, tiles, files)?;
+    let checked = check(alloc, jdf, data_name, files)?;
     match consistent_job(checked) {
         Ok((matched, given)) => replayed(alloc, matched, given, trace, files),
         Err(refused) => Ok(refused),

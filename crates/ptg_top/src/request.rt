@@ -42,30 +42,30 @@ pub fn request_of(order: Order) -> Request
     ensures { result ≡ request_of order }
 {
     match order {
-        Order::Run(jdf, tiles, workers, shards, preload) => {
+        Order::Run(jdf, data_name, workers, shards, preload) => {
             let settings = Settings {
                 workers,
                 shards,
                 preload,
             };
-            Request::Run(jdf, tiles, settings)
+            Request::Run(jdf, data_name, settings)
         }
         Order::Show(jdf) => Request::Show(jdf),
-        Order::Check(jdf, tiles) => Request::Check(jdf, tiles),
+        Order::Check(jdf, data_name) => Request::Check(jdf, data_name),
         Order::Demo(rows) => Request::Demo(rows),
-        Order::Trace(jdf, tiles, workers, shards) => {
+        Order::Trace(jdf, data_name, workers, shards) => {
             let settings = Settings {
                 workers,
                 shards,
                 preload: false,
             };
-            Request::Trace(jdf, tiles, settings)
+            Request::Trace(jdf, data_name, settings)
         }
-        Order::Replay(jdf, tiles, trace) => Request::Replay(jdf, tiles, trace),
-        Order::Certify(jdf, tiles) => Request::Certify(jdf, tiles),
-        Order::Ranks(jdf, tiles, ranks, seed) => {
+        Order::Replay(jdf, data_name, trace) => Request::Replay(jdf, data_name, trace),
+        Order::Certify(jdf, data_name) => Request::Certify(jdf, data_name),
+        Order::Ranks(jdf, data_name, ranks, seed) => {
             let settings = RankSettings { ranks, seed };
-            Request::Ranks(jdf, tiles, settings)
+            Request::Ranks(jdf, data_name, settings)
         }
     }
 }

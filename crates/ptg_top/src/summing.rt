@@ -48,8 +48,8 @@ fn check_made(alloc: Global, rows: u32) -> Result<Verdict, OutOfMemory>
     ensures denotes { IfOk result (λ v. MadeTextsDenote rows (denoted v)) }
     ensures fit { IfOk result (λ v. IsChecked (denoted v)) }
 {
-    let (jdf, tiles) = make(alloc, rows)?;
-    let job = judge_texts(alloc, jdf.bytes(), tiles.bytes())?;
+    let (jdf, data) = make(alloc, rows)?;
+    let job = judge_texts(alloc, jdf.bytes(), data.bytes())?;
     Ok(Verdict::Job(job))
 }
 

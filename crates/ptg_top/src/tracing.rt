@@ -34,23 +34,23 @@ use worker_core::Gate;
 pub fn trace<R: Threads + Wait + Sync, F: Files, G: Gate>(
     host: &Host<R, G>,
     jdf: &Text,
-    tiles: &Text,
+    data_name: &Text,
     files: &mut F,
     settings: Settings,
 ) -> Result<Verdict, OutOfMemory>
     requires jdf_text { IsUtf8 jdf.now }
-    requires tiles_text { IsUtf8 tiles.now }
+    requires data_name_text { IsUtf8 data_name.now }
     requires counts { AreCounts settings.workers settings.shards }
     requires no_preload { settings.preload ≡ false }
     ensures stays { F.contents files.new ≡ F.contents files.old }
     ensures grows { (other : List ℕ) → F.faults files.old other ≤ F.faults files.new other }
     ensures verdict { IfOk result (λ v.
         IsVerdictOnRequest (F.contents files.old) (F.faults files.old) (F.faults files.new)
-        (asked.Trace jdf.now tiles.now settings) (denoted v)) }
+        (asked.Trace jdf.now data_name.now settings) (denoted v)) }
     ensures fit { IfOk result (λ v. HasFittingJob (denoted v)) }
     ensures ran { IfOk result (λ v. IsOfRun settings v) }
 {
-    let checked = check(host.alloc, jdf, tiles, files)?;
+    let checked = check(host.alloc, jdf, data_name, files)?;
     match consistent_job(checked) {
         Ok((matched, given)) => traced(host, matched, given, settings),
         Err(refused) => Ok(refused),

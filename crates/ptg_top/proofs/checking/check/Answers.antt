@@ -11,12 +11,12 @@ use Rattle.ptg_top.proofs.checking.check.Goals as goal
 pub returns-in-Ok-clause-verdict : goal.returns-in-Ok-clause-verdict
 returns-in-Ok-clause-verdict g c =
     let jdf = c.args.jdf.now in
-    let tiles = c.args.tiles.now in
-    let mid = g.F.Files.faults c.load.new.files tiles in
+    let data_name = c.args.data_name.now in
+    let mid = g.F.Files.faults c.load.new.files data_name in
     let new = g.F.Files.faults c.check_text.new.files in
-    let Ends : Option Entries → Type 0 = λ t. IfOk c.check_text.result (λ v. CheckOfTextEndsWith t mid (new tiles) c.as_slice.result.now tiles (denoted v)) in
-    text_result_ends (g.F.Files.contents c.args.files.now) (g.F.Files.faults c.args.files.now) new jdf tiles mid c.as_slice.result.now c.check_text.result
-    (c.in-Ok.ensures.grows tiles)
+    let Ends : Option Entries → Type 0 = λ t. IfOk c.check_text.result (λ v. CheckOfTextEndsWith t mid (new data_name) c.as_slice.result.now data_name (denoted v)) in
+    text_result_ends (g.F.Files.contents c.args.files.now) (g.F.Files.faults c.args.files.now) new jdf data_name mid c.as_slice.result.now c.check_text.result
+    (c.in-Ok.ensures.grows data_name)
     (λ files e. ap (file_of files) (sym c.name_of.ensures) ∙ (c.in-Ok.ensures.given files e ∙ ap Some (sym c.as_slice.ensures)))
     (subst Ends c.in-Ok.ensures.stays c.check_text.ensures.verdict)
 
@@ -24,5 +24,5 @@ returns-in-Ok-clause-verdict g c =
 pub returns-in-Err-TooLong-clause-verdict : goal.returns-in-Err-TooLong-clause-verdict
 returns-in-Err-TooLong-clause-verdict g c =
     long_ends (g.F.Files.contents c.args.files.now) (g.F.Files.faults c.args.files.now) (g.F.Files.faults c.load.new.files)
-    c.args.jdf.now c.args.tiles.now c.jdf_too_long.result c.jdf_too_long.ensures
+    c.args.jdf.now c.args.data_name.now c.jdf_too_long.result c.jdf_too_long.ensures
     (λ files e. subst (λ (name : List ℕ). IsLonger files name 16777216) c.name_of.ensures (c.in-Err-TooLong.ensures.too_long (ap Err c.in-Err-TooLong.field-0-is) files e))

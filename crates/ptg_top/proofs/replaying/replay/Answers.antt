@@ -18,7 +18,7 @@ returns-in-Ok-clause-verdict g c =
     let new = g.F.Files.faults c.replayed.new.files in
     let trace = c.args.trace.now in
     let Ends : Option Entries → Type 0 = λ t. IfOk c.replayed.result (λ v. ReplayEndsWith t (mid trace) (new trace) trace c.in-Ok.matched c.in-Ok.given (denoted v)) in
-    replay_finds contents c.args.jdf.now c.args.tiles.now trace old mid new c.in-Ok.matched c.in-Ok.given
+    replay_finds contents c.args.jdf.now c.args.data_name.now trace old mid new c.in-Ok.matched c.in-Ok.given
     (denoted c.in_ok-checked.checked) c.replayed.result c.in-Ok.ensures.found (c.in_ok-checked.ensures.grows trace) c.in_ok-checked.ensures.verdict
     (subst Ends c.in_ok-checked.ensures.stays c.replayed.ensures.verdict)
 
@@ -29,6 +29,6 @@ returns-in-Err-clause-verdict g c =
     let old = g.F.Files.faults c.args.files.now in
     let new = g.F.Files.faults c.check.new.files in
     let jdf = c.args.jdf.now in
-    let tiles = c.args.tiles.now in
-    let Checked : Verdict → Type 0 = λ v. IsVerdictOnRequest contents old new (Check jdf tiles) (denoted v) in
-    replay_refuses contents jdf tiles c.args.trace.now old new (denoted c.in-Err.refused) (subst Checked (sym c.in-Err.ensures.refused.0) c.in_ok-checked.ensures.verdict) c.in-Err.ensures.refused.1
+    let data_name = c.args.data_name.now in
+    let Checked : Verdict → Type 0 = λ v. IsVerdictOnRequest contents old new (Check jdf data_name) (denoted v) in
+    replay_refuses contents jdf data_name c.args.trace.now old new (denoted c.in-Err.refused) (subst Checked (sym c.in-Err.ensures.refused.0) c.in_ok-checked.ensures.verdict) c.in-Err.ensures.refused.1

@@ -30,7 +30,7 @@ fn plan_of(by: &RanBy) -> &Plan
 }
 
 /// Prints what is found of a job that was run. On `Err` a prefix of its text was written.
-pub fn tell_finding<O: Sink>(by: &RanBy, finding: &Finding, out: &mut O) -> Result<(), Failed>
+pub fn print_finding<O: Sink>(by: &RanBy, finding: &Finding, out: &mut O) -> Result<(), Failed>
     requires { IsFindingOf (plan_of by.now) finding.now }
     ensures ok { OnOk result
         (O.bytes out.new ≡ appended (O.bytes out.old) (finding_text (plan_of by.now) finding.now)) }
@@ -40,17 +40,17 @@ pub fn tell_finding<O: Sink>(by: &RanBy, finding: &Finding, out: &mut O) -> Resu
     ensures failed { OnErr result (Rose (O.faults out.old) (O.faults out.new)) }
 {
     match finding {
-        Finding::Answer(outcome) => tell_answer(plan_of(by), outcome, out),
+        Finding::Answer(outcome) => print_answer(plan_of(by), outcome, out),
         Finding::Summary(found) => summary_line(found, out),
         Finding::Chain(found) => heaviest_chain(plan_of(by), found, out),
         Finding::Cycle(found) => found_cycle(plan_of(by), found, out),
         Finding::Order(text) => write_all(out, text.bytes()),
-        Finding::Ranked(found) => tell_ranked(plan_of(by), found, out),
+        Finding::Ranked(found) => print_ranked(plan_of(by), found, out),
     }
 }
 
 // Prints the answer of a job. On `Err` a prefix of its text was written.
-fn tell_answer<O: Sink>(plan: &Plan, outcome: &Outcome, out: &mut O) -> Result<(), Failed>
+fn print_answer<O: Sink>(plan: &Plan, outcome: &Outcome, out: &mut O) -> Result<(), Failed>
     requires { IsAnswered plan.now outcome.now }
     ensures ok { OnOk result (O.bytes out.new ≡ appended (O.bytes out.old) (outcome_text plan.now outcome.now)) }
     ensures prefix { OnErr result (HasPrefix (O.bytes out.old) (O.bytes out.new) (outcome_text plan.now outcome.now)) }
@@ -62,7 +62,7 @@ fn tell_answer<O: Sink>(plan: &Plan, outcome: &Outcome, out: &mut O) -> Result<(
 }
 
 // Prints the answer of a job that was run by ranks. On `Err` a prefix of its text was written.
-fn tell_ranked<O: Sink>(plan: &Plan, found: &RankedAnswer, out: &mut O) -> Result<(), Failed>
+fn print_ranked<O: Sink>(plan: &Plan, found: &RankedAnswer, out: &mut O) -> Result<(), Failed>
     requires { IsAnswered plan.now found.now.outcome }
     ensures ok { OnOk result (O.bytes out.new ≡ appended (O.bytes out.old) (ranked_text plan.now found.now)) }
     ensures prefix { OnErr result (HasPrefix (O.bytes out.old) (O.bytes out.new) (ranked_text plan.now found.now)) }

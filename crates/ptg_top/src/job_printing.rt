@@ -13,7 +13,7 @@ use ptg_io::{Failed, Sink};
 use report_text::{Line, consistent, refusal};
 
 /// Prints what the check of a job comes to. On `Err` a prefix of its text was written.
-pub fn tell_job<O: Sink>(job: &JobVerdict, out: &mut O) -> Result<(), Failed>
+pub fn print_job<O: Sink>(job: &JobVerdict, out: &mut O) -> Result<(), Failed>
     ensures ok { OnOk result (O.bytes out.new ≡ appended (O.bytes out.old) (job_text job.now)) }
     ensures prefix { OnErr result (HasPrefix (O.bytes out.old) (O.bytes out.new) (job_text job.now)) }
     ensures grows { O.faults out.old ≤ O.faults out.new }

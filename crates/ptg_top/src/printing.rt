@@ -9,8 +9,8 @@ ghost use Rattle.ptg_top.specs.JobFiles.{HasFittingJob};
 ghost use Rattle.ptg_top.specs.Headline.{text_of, status_of};
 ghost use Rattle.ptg_top.specs.Receipts.{receipt_of};
 
-use crate::finding_telling::{status_of_finding, tell_finding};
-use crate::job_telling::{status_of_job, tell_job};
+use crate::finding_printing::{print_finding, status_of_finding};
+use crate::job_printing::{print_job, status_of_job};
 use crate::status::Status;
 use crate::verdict::{RanBy, Verdict};
 use dep_table::receipt::Receipt;
@@ -19,7 +19,7 @@ use ptg_io::{Failed, Sink, write_all};
 use report_text::{Line, refusal};
 
 /// Prints a verdict. On `Err` a prefix of its text was written.
-pub fn tell<O: Sink>(verdict: &Verdict, out: &mut O) -> Result<(), Failed>
+pub fn print_verdict<O: Sink>(verdict: &Verdict, out: &mut O) -> Result<(), Failed>
     requires { HasFittingJob (denoted verdict.now) }
     ensures ok { OnOk result (O.bytes out.new ≡ appended (O.bytes out.old) (text_of (denoted verdict.now))) }
     ensures prefix { OnErr result (HasPrefix (O.bytes out.old) (O.bytes out.new) (text_of (denoted verdict.now))) }
@@ -29,8 +29,8 @@ pub fn tell<O: Sink>(verdict: &Verdict, out: &mut O) -> Result<(), Failed>
     match verdict {
         Verdict::Usage => refusal(&Line::Usage, out),
         Verdict::Unread(name) => refusal(&Line::Unread(name.bytes()), out),
-        Verdict::Job(job) => tell_job(job, out),
-        Verdict::Ran(by, finding) => tell_finding(by, finding, out),
+        Verdict::Job(job) => print_job(job, out),
+        Verdict::Ran(by, finding) => print_finding(by, finding, out),
         Verdict::Spelling(text) => spell(text, out),
         Verdict::Preload => refusal(&Line::Preload, out),
         Verdict::Trace(fault) => refusal(&Line::Trace(*fault), out),

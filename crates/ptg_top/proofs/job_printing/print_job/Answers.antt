@@ -2,7 +2,7 @@ use Rattle.std.proofs.Common.{◌≡◌, ℕ, List, subst}
 use Rattle.std.specs.Prelude.{OnOk}
 use Rattle.ptg_io.specs.Sink.{appended}
 use Rattle.ptg_top.proofs.JobTexts.{inconsistent_is, consistent_is}
-use Rattle.ptg_top.proofs.job_telling.tell_job.Goals as goal
+use Rattle.ptg_top.proofs.job_printing.print_job.Goals as goal
 
 -- the names are those of the plan's class and flow
 pub returns-in-Inconsistent-clause-ok : goal.returns-in-Inconsistent-clause-ok
