@@ -95,6 +95,11 @@ impl Given {
         self.colls.as_slice()
     }
 
+    /// A law: data are well made.
+    pub fn is_well_made(&self)
+        ensures { IsWellMade self.now }
+    {}
+
     /// The sum of all elements of all collections, exactly. It takes no memory.
     pub fn element_sum(&self) -> i128
         ensures { result ≡ sum_of (all_elements self.now.colls) }

@@ -51,6 +51,11 @@ impl Matched {
         &self.plan
     }
 
+    /// A law: a matched plan is consistent.
+    pub fn is_consistent(&self)
+        ensures { IsConsistent self.now }
+    {}
+
     /// How many tasks it has.
     pub fn tasks(&self) -> u64
         ensures { result ≡ length (all_tasks self.now) }

@@ -14,16 +14,6 @@ use ptg_base::TaskId;
 use range_space::{Numbers, a_task_has_one_list_of_locals, find_locals, in_space, params_at};
 use term_core::ClassSpace;
 
-// The space of a class.
-fn space_of(plan: &Plan, class: u32) -> &ClassSpace
-    requires { class < length plan.now.classes }
-    ensures space { slice_get plan.now.spaces class ≡ Some result.now }
-    ensures well { IsWellSpace result.now }
-{
-    let _ = plan.class(class);
-    plan.space(class)
-}
-
 // The space of a task's class, if the class exists and has as many parameters as the task has values; else the job has
 // no such task.
 fn space_for<'a>(plan: &'a Plan, t: &TaskId) -> Option<&'a ClassSpace>
@@ -34,7 +24,7 @@ fn space_for<'a>(plan: &'a Plan, t: &TaskId) -> Option<&'a ClassSpace>
     if t.class() as usize >= plan.classes.len() {
         return None;
     }
-    let space = space_of(plan, t.class());
+    let space = plan.space(t.class());
     if space.params.as_slice().len() == t.params().len() {
         Some(space)
     } else {
@@ -58,7 +48,7 @@ pub fn locals_of(plan: &Plan, t: &TaskId) -> Numbers<16>
     ensures { result ≡ tasks.locals_of plan.now t.now }
 {
     a_task_has_one_list_of_locals();
-    range_space::locals_of(space_of(plan, t.class()), t.params())
+    range_space::locals_of(plan.space(t.class()), t.params())
 }
 
 /// The locals of a task, or None where the job has no such task, in one pass over the definitions. All that the calls
@@ -82,7 +72,7 @@ pub fn task_with(plan: &Plan, class: u32, locals: &[i64]) -> TaskId
     ensures locals { locals.now ≡ tasks.locals_of plan.now result }
 {
     a_task_has_one_list_of_locals();
-    let params = params_at(space_of(plan, class), locals);
+    let params = params_at(plan.space(class), locals);
     TaskId::new(class, params.as_slice())
 }
 

@@ -236,7 +236,7 @@ pub(crate) fn open_table(
     ensures pass { IfOk result (λ r. IsPassOf (id_of r.0) r.1 × (r.1.me.0 ≡ first_pass)) }
     ensures job { IfOk result (λ r. job_of r.0 ≡ job) }
 {
-    let _ = job.matched.plan();
+    job.matched.is_consistent();
     let words = opening_words(alloc, job.shards, job.matched.roots())?;
     let closing = room_for(alloc, &job)?;
     lay(alloc, words, shards, job, closing)

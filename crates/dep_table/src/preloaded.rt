@@ -104,7 +104,7 @@ fn needs_of(alloc: Global, m: &Matched, shards: u32) -> Result<Vec<Needs>, OutOf
     ensures count { IfOk result (λ v. length v.items ≡ shards) }
     ensures needs { IfOk result (λ v. AreNeedsOf m.now (placing.shard_of m.now shards) (all_tasks m.now) v.items) }
 {
-    let _ = m.plan();
+    m.is_consistent();
     let mut needs = no_needs(alloc, m, shards)?;
     need_classes(&mut needs, m, 0);
     Ok(needs)

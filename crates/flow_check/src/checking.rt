@@ -2,7 +2,6 @@
 
 ghost use Rattle.std.specs.Prelude.{IfOk};
 ghost use Rattle.jdf_tree.specs.TreeLimits.{IsWithinLimits};
-ghost use Rattle.coll_data.specs.WellMade as data_made;
 ghost use Rattle.plan_data.specs.Fit.{DataFit};
 ghost use Rattle.check_names.specs.Contexts.{AreGlobals};
 ghost use Rattle.ptg_base.specs.Returns.{FindsOrRefuses};
@@ -18,20 +17,13 @@ use jdf_tree::Jdf;
 use plan_core::Plan;
 use std::alloc::Global;
 
-// A lemma: all data are well made.
-fn data_are_well_made(given: &Given)
-    ensures { data_made.IsWellMade given.now }
-{
-    let _ = given.colls();
-}
-
 // The plan of a JDF with its data, or the first fault of the whole text.
 fn answer(alloc: Global, jdf: &Jdf, given: &Given, globals: &Globals) -> Result<Plan, JdfRefusal>
     requires limits { IsWithinLimits jdf.now }
     requires globals { AreGlobals (record { jdf = jdf.now; given = given.now }) globals.now }
     ensures { ReturnsPlan (record { jdf = jdf.now; given = given.now }) result }
 {
-    data_are_well_made(given);
+    given.is_well_made();
     let context = Context {
         alloc,
         jdf,

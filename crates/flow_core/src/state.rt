@@ -147,7 +147,7 @@ impl State {
         ensures unclaimed { IsTrue result → mark_of self.now t.now ≡ None }
         ensures consistent { IsConsistent m.now }
     {
-        let _ = m.plan();
+        m.is_consistent();
         if self.claims.contains_key(t) {
             return false;
         }
@@ -162,7 +162,7 @@ impl State {
         ensures unclaimed { IsTrue result → mark_of self.now t.now ≡ None }
         ensures consistent { IsConsistent m.now }
     {
-        let _ = m.plan();
+        m.is_consistent();
         if self.claims.contains_key(t) {
             return false;
         }
@@ -176,7 +176,7 @@ impl State {
         requires goal { goal ≡ edges.goal m.now t.now }
         ensures { (G : Data) → Fits m.now G self.now → IsTrue result ↔ MayClaim m.now (machine self.now) t.now }
     {
-        let _ = m.plan();
+        m.is_consistent();
         number_at(&self.arrived, t) == goal
     }
 
@@ -275,7 +275,7 @@ impl State {
         ensures err { OnErr result (self.new ≡ self.old) }
         ensures fits { (G : Data) → Fits m.now G self.old → Fits m.now G self.new }
     {
-        let _ = m.plan();
+        m.is_consistent();
         if !self.is_unsent(m, item) {
             return Ok(false);
         }
@@ -299,7 +299,7 @@ impl State {
         requires due { IsDue m.now self.now item.now }
         ensures { IsTrue result ↔ IsUnsent self.now.sends item.now }
     {
-        let _ = m.plan();
+        m.is_consistent();
         if self.goes_to_claimed(item) {
             return false;
         }

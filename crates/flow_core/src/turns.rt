@@ -28,7 +28,7 @@ fn send_item(run: &mut State, m: &Matched, item: &Item) -> Result<(), OutOfMemor
     requires fits { (G : Data) × Fits m.now G run.old }
     ensures { OnOk result (HasSent m.now (item.now ∷ []) run.old run.new) }
 {
-    let _ = m.plan();
+    m.is_consistent();
     let _sent = run.send_due(m, item)?;
     Ok(())
 }
@@ -82,7 +82,7 @@ fn run_to_end(run: &mut State, m: &Matched, given: &Given, t: &TaskId) -> Result
     requires { RunsAlone m.now given.now t.now run.old }
     ensures { OnOk result (HasRun m.now given.now run.old run.new) }
 {
-    let _ = m.plan();
+    m.is_consistent();
     if run.finish(m, given, t)?.is_some() {
         return Ok(());
     }
@@ -115,7 +115,7 @@ impl State {
         ensures between { IfOk result (λ r. IsBetweenTurns m.now given.now r.0) }
     {
         let mut run = self;
-        let _ = m.plan();
+        m.is_consistent();
         let claimed = run.claim(m, t)?;
         if !claimed {
             return Ok((run, false));

@@ -2,6 +2,7 @@
 
 ghost use Rattle.std.specs.Prelude.{◌≡◌, ◌<◌, ◌↔◌, IsTrue, Some, length, slice_get};
 ghost use Rattle.term_core.specs.declared.space.ClassSpace.{ClassSpace};
+ghost use Rattle.term_core.specs.WellSpace.{IsWellSpace};
 ghost use Rattle.plan_core.specs.Place.{HasPlace};
 ghost use Rattle.plan_core.specs.WellMade.{is_tile_length, IsWellClass, IsWellMade};
 
@@ -71,7 +72,8 @@ impl Plan {
     /// The space of the class with this number.
     pub fn space(&self, n: u32) -> &ClassSpace
         requires { n < length self.now.classes }
-        ensures { slice_get self.now.spaces n ≡ Some result.now }
+        ensures space { slice_get self.now.spaces n ≡ Some result.now }
+        ensures well { IsWellSpace result.now }
     {
         self.spaces.get(n as usize)
     }

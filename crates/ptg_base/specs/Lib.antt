@@ -9,3 +9,4 @@ pub mod TaskOrder
 pub mod TaskComparing
 pub mod TaskLaws
 pub mod ItemComparing
+pub mod TextBytes

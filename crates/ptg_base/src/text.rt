@@ -14,10 +14,20 @@ use std::cmp::Ordering;
 use std::hash::{Hash, Hasher};
 use std::marker::Model;
 
+// The most bytes of a text that is held in place. With its count and the tag it takes as much room as a vector does.
+const MOST_SHORT: usize = 22;
+
+// The bytes of a text: in place where they are few, so that a short name takes no memory of its own.
+#[derive(Debug, Drop)]
+enum Bytes {
+    Short(u8, [u8; 22]),
+    Long(Box<Vec<u8>>),
+}
+
 /// An owned text. Contracts see it as the list of its bytes; texts are ordered by their bytes.
 #[derive(Debug)]
 pub struct Text {
-    bytes: Vec<u8>,
+    bytes: Bytes,
 }
 
 impl Drop for Text {
@@ -28,10 +38,13 @@ impl Drop for Text {
 
 impl Model for Text {
     ghost use Rattle.std.specs.Prelude.{List, ℕ};
+    ghost use Rattle.ptg_base.specs.TextBytes.{bytes_of, FitsInPlace};
 
     ghost Value = { List ℕ };
 
-    ghost view = { λ t. t.bytes.items };
+    ghost view = { λ t. bytes_of t.bytes };
+
+    ghost invariant = { λ t. FitsInPlace t.bytes };
 }
 
 impl Text {
@@ -39,8 +52,15 @@ impl Text {
     pub fn of(alloc: Global, bytes: &[u8]) -> Result<Text, OutOfMemory>
         ensures { IfOk result (λ text. text ≡ bytes.now) }
     {
+        if bytes.len() <= MOST_SHORT {
+            let mut place = [0; 22];
+            place[..bytes.len()].copy_from_slice(bytes);
+            return Ok(Text {
+                bytes: Bytes::Short(bytes.len() as u8, place),
+            });
+        }
         Ok(Text {
-            bytes: bytes.to_vec(alloc)?,
+            bytes: Bytes::Long(Box::new(alloc, bytes.to_vec(alloc)?)?),
         })
     }
 
@@ -48,7 +68,10 @@ impl Text {
     pub fn bytes(&self) -> &[u8]
         ensures { result.now ≡ self.now }
     {
-        self.bytes.as_slice()
+        match &self.bytes {
+            Bytes::Short(count, place) => &place[..*count as usize],
+            Bytes::Long(bytes) => bytes.as_slice(),
+        }
     }
 }
 

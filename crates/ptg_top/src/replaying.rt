@@ -93,7 +93,7 @@ fn replay_of(
     ensures fit { IfOk result (λ v. HasFittingJob (denoted v)) }
     ensures not_run { IfOk result (λ v. receipt_of v ≡ None) }
 {
-    let _ = matched.plan();
+    matched.is_consistent();
     let verdict = judge_trace(alloc, &matched, given, text)?;
     match verdict {
         Ok(outcome) => Ok(Verdict::Ran(RanBy::OneThread(matched), Finding::Answer(outcome))),

@@ -230,7 +230,7 @@ impl<'m> World<'m> {
         ensures err { OnErr result (self.new ≡ self.old) }
         ensures sound { IsSoundWorld self.new.plan self.new.given self.new.ranks self.new.state }
     {
-        let _ = self.given.colls();
+        self.given.is_well_made();
         let at = Visit {
             matched: self.matched,
             given: &self.given,

@@ -119,7 +119,7 @@ impl<'m> World<'m> {
     {
         let shards = opened_ranks(alloc, m, ranks)?;
         let bench = Bench::new(alloc, m)?;
-        let _ = m.plan();
+        m.is_consistent();
         Ok(World {
             alloc,
             matched: m,
@@ -212,7 +212,7 @@ impl<'m> World<'m> {
         ensures err { OnErr result (self.new ≡ self.old) }
         ensures sound { IsSoundWorld self.new.plan self.new.given self.new.ranks self.new.state }
     {
-        let _ = self.given.colls();
+        self.given.is_well_made();
         let Some(message) = self.mail.under_way.get(&n) else {
             return Ok(false);
         };

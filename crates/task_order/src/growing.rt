@@ -23,7 +23,7 @@ pub(crate) struct Growing {
 pub(crate) fn start(alloc: Global, m: &Matched) -> Result<Growing, OutOfMemory>
     ensures { IfOk result (λ growing. HasGrown m.now [] growing.order.items growing.lacking.entries) }
 {
-    let _ = m.plan();
+    m.is_consistent();
     let mut order = Vec::new(alloc);
     push_roots(&mut order, m, 0)?;
     Ok(Growing {
@@ -40,7 +40,7 @@ fn let_come(growing: &mut Growing, m: &Matched, edge: &Edge) -> Result<(), OutOf
         (GrowsBy m.now (edge.now ∷ []) growing.old.order.items growing.old.lacking.entries growing.new.order.items
         growing.new.lacking.entries) }
 {
-    let _ = m.plan();
+    m.is_consistent();
     let left = note_edge(&mut growing.lacking, m, &edge.to)?;
     if left == 0 {
         growing.order.push(edge.to.copy())?;

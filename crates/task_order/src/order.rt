@@ -13,7 +13,7 @@ use std::alloc::Global;
 pub fn order_of(alloc: Global, m: &Matched) -> Result<Seq<TaskId>, OutOfMemory>
     ensures { IfOk result (λ order. IsGreatestOrder m.now order) }
 {
-    let _ = m.plan();
+    m.is_consistent();
     let mut growing = start(alloc, m)?;
     let mut at: usize = 0;
     while at < growing.order.len() {

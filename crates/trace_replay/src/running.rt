@@ -20,8 +20,8 @@ use trace_core::TraceFault;
 fn opened(alloc: Global, m: &Matched, given: &Given) -> State
     ensures { HasRunInOrder m.now given.now [] result }
 {
-    let _ = m.plan();
-    let _ = given.colls();
+    m.is_consistent();
+    given.is_well_made();
     State::start(alloc)
 }
 
@@ -37,7 +37,7 @@ pub(crate) fn run_in_order(
         MatchOption r.1 (HasRunInOrder m.now given.now list.now r.0) (λ index.
         StopsAt m.now given.now list.now index)) }
 {
-    let _ = m.plan();
+    m.is_consistent();
     let mut run = opened(alloc, m, given);
     let mut index = 0;
     'tasks: for t in list {
@@ -65,7 +65,7 @@ pub(crate) fn judge_end(
     requires known { DataFit m.now.colls m.now.elems given }
     ensures { IfOk result (IsEndOf m.now given (keys_of run.claims) unfinished) }
 {
-    let _ = m.plan();
+    m.is_consistent();
     if !run.quiescent(m) {
         give_up(run);
         return Ok(Err(unfinished));

@@ -132,7 +132,7 @@ pub(crate) fn run_found<R: Threads + Wait + Sync, B: Board, G: Gate>(
         task: &task,
         locals: locals.as_slice(),
     };
-    let _ = post.board.matched().plan();
+    post.board.matched().is_consistent();
     post.gate.before_body(post.rt, post.worker, &task);
     let answer = match run_body(post, bench, &at, arrivals) {
         Ok(()) => send_and_end(post, pass, hands, bench, &at),

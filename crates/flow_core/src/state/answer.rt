@@ -78,7 +78,7 @@ impl State {
         ensures { IfOk result (λ outcome. outcome ≡ meaning.answer m.now given) }
     {
         a_quiescent_state_has_the_meaning();
-        let _ = m.plan();
+        m.is_consistent();
         let found = self.incomplete(m);
         self.complete_unless(m, given, found)
     }
@@ -255,8 +255,8 @@ impl State {
         requires known { DataFit m.now.colls m.now.elems given }
         ensures { IfOk result (λ end. end ≡ state_data given (machine self)) }
     {
-        let _ = m.plan();
-        let _ = given.colls();
+        m.is_consistent();
+        given.is_well_made();
         let written = self.into_writes()?;
         Ok(with_written(given, written))
     }

@@ -31,7 +31,7 @@ impl State {
         requires fits { (G : Data) × Fits m.now G self.now }
         ensures { (G : Data) → Fits m.now G self.now → IsTrue result ↔ IsQuiescent m.now G (machine self.now) }
     {
-        let _ = m.plan();
+        m.is_consistent();
         if self.has_ready(m, 0) {
             return false;
         }

@@ -1,0 +1,14 @@
+-- How a text holds its bytes. Source: this project's own choice.
+use Rattle.std.specs.Prelude.{◌≤◌, ℕ, List, take}
+use Rattle.ptg_base.specs.declared.text.Bytes.{Bytes}
+use Rattle.ptg_base.specs.declared.text.Bytes.TheVariants.{Short, Long}
+
+-- the bytes of a text: so many of those that are held in place, or those of a vector
+abbrev pub bytes_of : Bytes → List ℕ
+bytes_of (Short count place) = take count place
+bytes_of (Long bytes) = bytes.value.items
+
+-- a text held in place has no more bytes than fit there
+abbrev pub FitsInPlace : Bytes → Type 0
+FitsInPlace (Short count place) = count ≤ 22
+FitsInPlace (Long bytes) = Unit {0}
