@@ -7,6 +7,7 @@ mod counts;
 mod direction;
 mod edges;
 mod ends;
+mod every;
 mod guard;
 mod hints;
 mod laws;
@@ -32,6 +33,7 @@ pub use counts::Counts;
 pub use direction::Direction;
 pub use edges::{InEdges, OutEdges, in_edges, in_edges_under, out_edges, out_edges_under};
 pub use ends::far_locals;
+pub use every::{Tasks, all_tasks};
 pub use guard::held_target;
 pub use hints::{affinity, affinity_under, place_number, priority, priority_under};
 pub use laws::{

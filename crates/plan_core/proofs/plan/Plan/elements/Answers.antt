@@ -1,4 +1,3 @@
-use Rattle.std.proofs.Common.{sym}
 use Rattle.plan_core.specs.WellMade.{is_tile_length}
 use Rattle.plan_core.proofs.Lists.{all_at}
 use Rattle.plan_core.proofs.plan.Plan.elements.Goals as goal
