@@ -4,6 +4,7 @@ use Rattle.std.specs.Prelude.{ℕ, ◌+◌, Bool, List, [], ◌∷◌, ◌++◌,
 use Rattle.std.specs.Str.{bytes_eq}
 use Rattle.name_table.specs.Names.{index_named}
 use Rattle.std.specs.List.{list_any}
+use Rattle.ptg_base.specs.Limits.{most_variables}
 use Rattle.jdf_lex.specs.declared.fault.JdfCode.TheVariants.{NameTwice, TooManyVars}
 use Rattle.jdf_tree.specs.declared.expression.Word.{Word}
 use Rattle.body_names.specs.declared.variable.BindingTable.{BindingTable}
@@ -50,7 +51,7 @@ with_variable scope name is_loop_variable k =
 -- There is room for one more variable. In a body that was read there always is: its text was refused at the `int` or
 -- `for` of the 257th.
 abbrev pub require_room : Word → Bindings → Resolved (Unit {0})
-require_room w k = if nat_lt k.declared 256 then Ok tt else fault_at w TooManyVars
+require_room w k = if nat_lt k.declared most_variables then Ok tt else fault_at w TooManyVars
 
 -- the innermost block has no variable of this name
 abbrev pub require_fresh : Word → Bindings → Resolved (Unit {0})

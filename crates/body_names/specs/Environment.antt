@@ -1,5 +1,6 @@
 -- What the names in a body mean beside its own variables. The language of bodies is this project's own choice.
 use Rattle.std.specs.Prelude.{ℕ, ◌≤◌, ℤ, Bool, List, length, Option, is_some}
+use Rattle.ptg_base.specs.Limits.{most_flows, most_locals}
 use Rattle.name_table.specs.Names.{value_named}
 use Rattle.body_names.specs.declared.scope.Scope.{Scope}
 use Rattle.body_names.specs.declared.scope.FlowName.{FlowName}
@@ -13,8 +14,8 @@ pub record Environment : Type 0 where
   pub is_collection : List ℕ → Bool
   -- the flows of the class, in the text's order
   pub flows : List FlowName
-  pub locals_at_most : length locals ≤ 16
-  pub flows_at_most : length flows ≤ 8
+  pub locals_at_most : length locals ≤ most_locals
+  pub flows_at_most : length flows ≤ most_flows
 
 -- what names mean in a scope, which has the globals in tables
 abbrev pub environment_of : Scope → Environment

@@ -1,7 +1,7 @@
 -- The names at the front of a body that is broken further on. Such a body has no tree, so each name is judged by the
 -- tokens beside it.
 -- Source: this project's own choice.
-use Rattle.std.specs.Prelude.{ℕ, suc, zero, ◌-◌, Bool, true, false, ◌||◌, List, [], ◌∷◌, ◌++◌, length, take, Option, Some, None, Ok, if◌then◌else◌, slice_get}
+use Rattle.std.specs.Prelude.{ℕ, suc, zero, ◌-◌, Bool, true, false, ◌&&◌, ◌||◌, List, [], ◌∷◌, ◌++◌, length, take, Option, Some, None, Ok, if◌then◌else◌, slice_get}
 use Rattle.grammar_core.specs.declared.token.Token.{Token}
 use Rattle.jdf_alphabet.specs.declared.terminal.Terminal.{Terminal}
 use Rattle.jdf_alphabet.specs.declared.terminal.Terminal.TheVariants as terminal
@@ -96,14 +96,25 @@ abbrev pub begins_here : Option Terminal → Bool
 begins_here None = true
 begins_here (Some k) = is terminal.Semicolon k || is terminal.LeftBrace k || is terminal.RightBrace k
 
--- by the token before, and the tokens after
+-- What a name is, by the token before it and the tokens after it, as a table: the first line that holds says it, and a
+-- name for which none holds means a number.
+abbrev pub role_lines : Option Terminal → List Token → List (Bool × Role)
+role_lines last s =
+    (previous_is terminal.Int last, role.Declared)
+    ∷ (previous_is terminal.For last, role.NotLookedUp)
+    ∷ (previous_is terminal.Trap last, role.NotLookedUp)
+    ∷ (begins_here last && starts (is terminal.LeftBracket) s, role.ElementAssigned)
+    ∷ (begins_here last && starts (is terminal.Assign) s, role.Assigned)
+    ∷ (begins_here last, role.NotLookedUp)
+    ∷ (starts (is terminal.LeftBracket) s, role.Element)
+    ∷ []
+
+abbrev pub first_line : List (Bool × Role) → Role
+first_line [] = role.Value
+first_line ((holds, r) ∷ ls) = if holds then r else first_line ls
+
 abbrev pub role_of : Option Terminal → List Token → Role
-role_of last s =
-    if previous_is terminal.Int last then role.Declared
-    else (if previous_is terminal.For last || previous_is terminal.Trap last then role.NotLookedUp
-    else (if begins_here last
-    then (if starts (is terminal.LeftBracket) s then role.ElementAssigned else (if starts (is terminal.Assign) s then role.Assigned else role.NotLookedUp))
-    else (if starts (is terminal.LeftBracket) s then role.Element else role.Value)))
+role_of last s = first_line (role_lines last s)
 
 -- a fault, if there is one
 abbrev pub fault_of : {A : Type 0} → Resolved A → Resolved (Unit {0})

@@ -1,6 +1,7 @@
 -- What the checkers look at, one task or row after another.
 use Rattle.std.specs.Prelude.{◌≡◌, ◌≤◌, ◌+◌, ℕ, true, List, [], ◌∷◌, map}
 use Rattle.std.specs.List.{AllByRecursion}
+use Rattle.ptg_base.specs.Limits.{most_weight}
 use Rattle.ptg_base.specs.Lists.{IsIn}
 use Rattle.ptg_base.specs.Task.{Task}
 use Rattle.ptg_base.specs.TaskOrder.{task_before}
@@ -43,7 +44,7 @@ AreHighEnough P ws levels rows = (row : Task × ℕ) → IsIn row rows → IsHig
 
 -- weights that may be added up
 abbrev pub AreWeights : List ℕ → Type 0
-AreWeights ws = AllByRecursion (λ w. w ≤ 1000000) ws
+AreWeights ws = AllByRecursion (λ w. w ≤ most_weight) ws
 
 -- the first of these is a task of the job that is before the second in task order, if there is one
 abbrev pub IsBeforeFirst : Task → List Task → Type 0

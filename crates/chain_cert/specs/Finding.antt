@@ -1,6 +1,7 @@
 -- How a certificate is found: levels by a table of tasks, and the least of some tasks.
 use Rattle.std.specs.Prelude.{◌≡◌, ◌≤◌, ◌<◌, ◌+◌, ◌*◌, ◌↔◌, ◌==◌, ℕ, max, Bool, true, false, not, List, [], ◌∷◌, length, map, Option, Some, None, is_some, unwrap_or, IsSomeAnd}
 use Rattle.std.specs.Map.{lookup}
+use Rattle.ptg_base.specs.Limits.{most_tasks, most_weight}
 use Rattle.ptg_base.specs.Lists.{IsIn}
 use Rattle.ptg_base.specs.Task.{Task}
 use Rattle.ptg_base.specs.TaskOrder.{task_before}
@@ -20,7 +21,7 @@ use Rattle.chain_cert.specs.Levels.{IsLevel}
 -- what a table of levels has for a task: its level if it is one of these tasks, else nothing
 abbrev pub IsLevelAmong : Plan → List ℕ → List Task → Task → Option ℕ → Type 0
 IsLevelAmong P ws ts t None = IsIn t ts → ⊥
-IsLevelAmong P ws ts t (Some n) = IsIn t ts × IsLevel P ws t n × (n ≤ 1000000 * length ts)
+IsLevelAmong P ws ts t (Some n) = IsIn t ts × IsLevel P ws t n × (n ≤ most_weight * length ts)
 
 -- a table with the levels of these tasks, and of no others
 abbrev pub HasLevels : Plan → List ℕ → List Task → List (Task × ℕ) → Type 0
@@ -39,7 +40,7 @@ greatest_among table (t ∷ ts) = max (level_in table t) (greatest_among table t
 pub record IsNextTask (P : Plan) (ws : List ℕ) (before : List Task) (table : List (Task × ℕ)) (t : Task) : Type 0 where
   pub levels : HasLevels P ws before table
   pub follows : MayFollow P before t
-  pub few : length before < 1000000
+  pub few : length before < most_tasks
 
 -- a table with the level of each task of the job
 abbrev pub HasAllLevels : Plan → List ℕ → List (Task × ℕ) → Type 0

@@ -1,6 +1,7 @@
 -- The weights of classes, tasks and chains. Source: this project's own choice.
 use Rattle.std.specs.Prelude.{ℕ, min, ℤ, pos, negsuc, List, ◌++◌, map, slice_index, codes}
 use Rattle.std.specs.Option.{option_map_or}
+use Rattle.ptg_base.specs.Limits.{most_weight}
 use Rattle.ptg_base.specs.Task.{Task}
 use Rattle.name_table.specs.Names.{value_named}
 use Rattle.plan_core.specs.declared.class.ClassPlan.{ClassPlan}
@@ -10,7 +11,7 @@ use Rattle.list_lemmas.specs.Counting.{weigh}
 
 -- a number as a weight: below 0 it counts as 0, above 1,000,000 as 1,000,000
 abbrev pub clamped : ℤ → ℕ
-clamped (pos n) = min n 1000000
+clamped (pos n) = min n most_weight
 clamped (negsuc n) = 0
 
 -- the weight of a class: the integer `weight_CLASS` of the data, whether the JDF declares it or not; 1 where there is

@@ -1,5 +1,6 @@
 -- What names are resolved with: a JDF and its data, by the tables of their names, and the definitions that are seen.
 use Rattle.std.specs.Prelude.{◌≡◌, ◌≤◌, ℕ, List, length}
+use Rattle.ptg_base.specs.Limits.{most_locals, most_named_types}
 use Rattle.name_table.specs.Names.{value_named}
 use Rattle.check_names.specs.declared.context.Context.{Context}
 use Rattle.check_names.specs.declared.context.Globals.{Globals}
@@ -20,5 +21,5 @@ pub record AreGlobals (job : Job) (globals : Globals) : Type 0 where
 pub record IsContext (context : Context) : Type 0 where
   pub globals : AreGlobals (job_of context) context.globals.now
   pub bounded : IsBoundedJdf context.jdf.now
-  pub seen_at_most : length context.seen.now ≤ 16
-  pub types_at_most : length context.given.now.types ≤ 15
+  pub seen_at_most : length context.seen.now ≤ most_locals
+  pub types_at_most : length context.given.now.types ≤ most_named_types

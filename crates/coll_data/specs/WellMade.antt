@@ -1,13 +1,14 @@
 -- What holds of all data: their limits, and that each collection is whole. Source: this project's own choice.
 use Rattle.std.specs.Prelude.{◌≡◌, ℕ, ℤ, ◌≤◌, ◌<◌, ◌*◌, ◌^◌, ◌&&◌, nat_le, Bool, List, ◌∷◌, length, map, IsTrue, IfSome, slice_get, slice_index}
 use Rattle.std.specs.List.{AllByRecursion, list_all, sum_by}
+use Rattle.ptg_base.specs.Limits.{most_named_types, most_tile_elements, most_tiles}
 use Rattle.coll_data.specs.declared.coll.Coll.{Coll}
 use Rattle.coll_data.specs.Data.{Data}
 use Rattle.coll_data.specs.Tiles.{tile_count}
 
 -- whether a type may have so many elements
 abbrev pub is_element_count : ℕ → Bool
-is_element_count n = nat_le 1 n && nat_le n 4096
+is_element_count n = nat_le 1 n && nat_le n most_tile_elements
 
 -- how many elements each type has, by its number; type 0 is DEFAULT
 abbrev pub elements_by_type : Data → List ℕ
@@ -18,7 +19,7 @@ elements_by_type d = d.elems ∷ map (λ (type : List ℕ × ℕ). type.1) d.typ
 pub record IsWellColl (elements : List ℕ) (c : Coll) : Type 0 where
   pub datatype : c.datatype < length elements
   pub has_tiles : 1 ≤ tile_count c.shape.0 c.shape.1
-  pub tiles_at_most : tile_count c.shape.0 c.shape.1 ≤ 65536
+  pub tiles_at_most : tile_count c.shape.0 c.shape.1 ≤ most_tiles
   pub all_tiles : length c.tiles ≡ tile_count c.shape.0 c.shape.1
   pub tile_lengths : AllByRecursion (λ (tile : List ℤ). length tile ≡ slice_index elements c.datatype) c.tiles
 
@@ -29,7 +30,7 @@ element_total elements colls = sum_by (λ (c : Coll). length c.tiles * slice_ind
 -- at most 16 types, DEFAULT among them, each with 1 to 4,096 elements; collections of these, with at most 2 ^ 24
 -- elements in all
 pub record IsWellMade (d : Data) : Type 0 where
-  pub types_at_most : length d.types ≤ 15
+  pub types_at_most : length d.types ≤ most_named_types
   pub element_counts : IsTrue (list_all is_element_count (elements_by_type d))
   pub colls : AllByRecursion (IsWellColl (elements_by_type d)) d.colls
   pub elements_at_most : element_total (elements_by_type d) d.colls ≤ 2 ^ 24

@@ -1,6 +1,7 @@
 //! Collections of tiles.
 
 ghost use Rattle.std.specs.Prelude.{◌≡◌, ◌≤◌, length, option_copied, option_and_then, slice_get};
+ghost use Rattle.ptg_base.specs.Limits.{most_tiles};
 ghost use Rattle.coll_data.specs.Tiles.{tile_count, tile_index};
 ghost use Rattle.coll_data.specs.Replacing.{coll_with};
 
@@ -32,7 +33,7 @@ impl Drop for Coll {
 impl Coll {
     // The tile in this row and column, if there is one.
     pub(crate) fn tile(&self, i: i64, j: i64) -> Option<&Tile>
-        requires { tile_count self.now.shape.0 self.now.shape.1 ≤ 65536 }
+        requires { tile_count self.now.shape.0 self.now.shape.1 ≤ most_tiles }
         ensures { option_copied result
             ≡ option_and_then (slice_get self.now.tiles) (tile_index self.now.shape.0 self.now.shape.1 i j) }
     {
@@ -43,7 +44,7 @@ impl Coll {
 
     // Replaces the tile in this row and column, if there is one.
     pub(crate) fn put(&mut self, i: i64, j: i64, tile: Tile)
-        requires limit { tile_count self.old.shape.0 self.old.shape.1 ≤ 65536 }
+        requires limit { tile_count self.old.shape.0 self.old.shape.1 ≤ most_tiles }
         requires all_tiles { length self.old.tiles ≡ tile_count self.old.shape.0 self.old.shape.1 }
         ensures { self.new ≡ coll_with self.old i j tile }
     {

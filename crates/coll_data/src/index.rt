@@ -1,6 +1,7 @@
 //! Where the tiles of a collection are stored.
 
 ghost use Rattle.std.specs.Prelude.{◌≡◌, ◌≤◌};
+ghost use Rattle.ptg_base.specs.Limits.{most_tiles};
 ghost use Rattle.coll_data.specs.Tiles.{below, tile_count, tile_index};
 
 // The number as an index below the limit, if it is one.
@@ -16,7 +17,7 @@ fn below(limit: u32, n: i64) -> Option<usize>
 
 /// The number of tiles of a collection, by its rows and columns; there are no columns in one dimension.
 pub fn tile_count(rows: u32, cols: Option<u32>) -> u32
-    requires { tile_count rows cols ≤ 65536 }
+    requires { tile_count rows cols ≤ most_tiles }
     ensures { result ≡ tile_count rows cols }
 {
     match cols {

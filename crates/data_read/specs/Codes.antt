@@ -2,6 +2,7 @@
 -- project's own choice.
 use Rattle.std.specs.Prelude.{◌≡◌, ℕ, ◌+◌, ◌-◌, ◌*◌, Bool, false, not, ◌&&◌, ◌||◌, ◌==◌, nat_le, nat_lt, List, [], ◌∷◌, length, drop, codes, find, Option, Some, None, is_some, is_none, Result, Ok, Err, if◌then◌else◌}
 use Rattle.std.specs.Option.{option_map_or}
+use Rattle.ptg_base.specs.Limits.{most_elements, most_named_types}
 use Rattle.coll_data.specs.Tiles.{tile_count}
 use Rattle.coll_data.specs.declared.fault.DataCode.{DataCode}
 use Rattle.coll_data.specs.declared.fault.DataCode.TheVariants.{TooLong, NoElems, ElemsTwice, UnknownRow, FieldCount, BadElems, BadName, NameTwice, TypeTwice, TooManyTypes, UnknownType, UnknownColl, TileCount, BadNumber, TooManyTiles, TooManyElements, BadIndex, TileTwice, MissingName}
@@ -101,7 +102,7 @@ has_other_shape row =
 -- the tiles of all collections have more than 2^24 elements, where a tile of this one has so many
 abbrev pub is_over : Draft → ℕ → Option (ℕ × Option ℕ) → Bool
 is_over d elements shape =
-    option_map_or (λ (s : ℕ × Option ℕ). not (nat_le (d.elements + tile_count s.0 s.1 * elements) 16777216)) shape false
+    option_map_or (λ (s : ℕ × Option ℕ). not (nat_le (d.elements + tile_count s.0 s.1 * elements) most_elements)) shape false
 
 -- the tiles of all collections so far have too many elements
 abbrev pub has_no_room : Draft → Row → Bool
@@ -133,7 +134,7 @@ fits d row BadElems = is_type_with (is_none (element_count (field row 2))) row
 fits d row BadName = has_bad_name row
 fits d row NameTwice = has_taken_name d row
 fits d row TypeTwice = is_type_with (is_some (type_named d (field row 1))) row
-fits d row TooManyTypes = is_type_with (not (nat_lt (length d.types) 15)) row
+fits d row TooManyTypes = is_type_with (not (nat_lt (length d.types) most_named_types)) row
 fits d row UnknownType = is_coll_with (λ type at. is_none (type_named d type)) row
 fits d row UnknownColl = is_tile_with (is_none (coll_named d (field row 1))) row
 fits d row TileCount = is_of_coll_with (has_other_values row) d row

@@ -1,6 +1,7 @@
 -- What one record adds to the data, or the first code of its faults. Each record is judged test by test, in the order
 -- of the codes, and the first test that fails names its fault. Source: this project's own choice.
 use Rattle.std.specs.Prelude.{ℕ, ◌+◌, ◌-◌, ◌*◌, ℤ, pos, negsuc, Bool, not, ◌&&◌, ◌||◌, ◌==◌, nat_le, nat_lt, List, [], ◌∷◌, length, drop, codes, Option, Some, None, is_some, Result, Ok, Err, bytes_eq, option_map, option_and_then, if◌then◌else◌}
+use Rattle.ptg_base.specs.Limits.{most_elements, most_named_types, most_tiles}
 use Rattle.coll_data.specs.Tiles.{tile_count}
 use Rattle.coll_data.specs.WellMade.{is_element_count}
 use Rattle.coll_data.specs.declared.fault.DataCode.{DataCode}
@@ -48,7 +49,7 @@ type_record d fields =
     (demand (element_count (field fields 2)) BadElems (λ elements.
     require (is_name (field fields 1)) BadName
     (require (not (is_some (type_named d (field fields 1)))) TypeTwice
-    (require (nat_lt (length d.types) 15) TooManyTypes
+    (require (nat_lt (length d.types) most_named_types) TooManyTypes
     (Ok (with_type d (field fields 1) elements)))))))
 
 -- `int,NAME,V`: one integer more
@@ -66,14 +67,14 @@ columns fields at = if nat_lt at (length fields) then option_map (λ z. Some z) 
 
 -- a number from 1 to 65,536
 abbrev pub side : ℤ → Option ℕ
-side (pos n) = if nat_le 1 n && nat_le n 65536 then Some n else None
+side (pos n) = if nat_le 1 n && nat_le n most_tiles then Some n else None
 side (negsuc n) = None
 
 -- the shape of so many rows and columns, if it has from 1 to 65,536 tiles
 abbrev pub shape_of : ℤ → Option ℤ → Option (ℕ × Option ℕ)
 shape_of rows None = option_map (λ r. (r, None)) (side rows)
 shape_of rows (Some cols) =
-    option_and_then (λ r. option_and_then (λ c. if nat_le (r * c) 65536 then Some (r, Some c) else None) (side cols))
+    option_and_then (λ r. option_and_then (λ c. if nat_le (r * c) most_tiles then Some (r, Some c) else None) (side cols))
     (side rows)
 
 -- the shape, the type and the elements of a tile of a collection of the type of this name: its rows are the field of
@@ -85,7 +86,7 @@ asked_coll d type fields at =
     demand (whole (field fields at)) BadNumber (λ rows.
     demand (columns fields (at + 1)) BadNumber (λ cols.
     demand (shape_of rows cols) TooManyTiles (λ shape.
-    require (nat_le (d.elements + tile_count shape.0 shape.1 * known.1) 16777216) TooManyElements
+    require (nat_le (d.elements + tile_count shape.0 shape.1 * known.1) most_elements) TooManyElements
     (Ok (record { shape = shape; datatype = known.0; elements = known.1 }))))))
 
 -- a collection of the type of this name: its own name is the field of the number given, and its size follows

@@ -1,6 +1,7 @@
 //! Records of collections.
 
 ghost use Rattle.std.specs.Prelude.{◌≡◌, ◌≤◌, ◌+◌, ◌*◌, codes, replicate, None, Some, IfOk, IfSome, OnOk, IsTrue, IfNone, length};
+ghost use Rattle.ptg_base.specs.Limits.{most_elements, most_tiles};
 ghost use Rattle.csv.specs.Records.{fields_of};
 ghost use Rattle.coll_data.specs.Tiles.{tile_count};
 ghost use Rattle.data_read.specs.Draft.{is_new, with_coll};
@@ -37,7 +38,7 @@ fn columns(row: &ByteRecord, at: usize) -> Option<Option<i64>>
 // A number from 1 to 65,536.
 fn side(n: i64) -> Option<u32>
     ensures side { result ≡ side n }
-    ensures at_most { IfSome result (λ n. n ≤ 65536) }
+    ensures at_most { IfSome result (λ n. n ≤ most_tiles) }
 {
     if 1 <= n && n <= MOST_TILES {
         Some(n as u32)
@@ -49,7 +50,7 @@ fn side(n: i64) -> Option<u32>
 // The shape of so many rows and columns, if it has from 1 to 65,536 tiles.
 fn shape_of(rows: i64, cols: Option<i64>) -> Option<(u32, Option<u32>)>
     ensures shape { result ≡ shape_of rows cols }
-    ensures at_most { IfSome result (λ shape. tile_count shape.0 shape.1 ≤ 65536) }
+    ensures at_most { IfSome result (λ shape. tile_count shape.0 shape.1 ≤ most_tiles) }
 {
     let rows = side(rows)?;
     let Some(cols) = cols else {
@@ -71,9 +72,9 @@ fn asked_coll(
 ) -> Result<AskedColl, DataCode>
     requires { at ≤ 3 }
     ensures asked_coll { result ≡ asked_coll (draft_of all.now) datatype.now (fields_of row.now) at }
-    ensures tiles_at_most { IfOk result (λ size. tile_count size.shape.0 size.shape.1 ≤ 65536) }
+    ensures tiles_at_most { IfOk result (λ size. tile_count size.shape.0 size.shape.1 ≤ most_tiles) }
     ensures room { IfOk result (λ size.
-        all.now.elements + tile_count size.shape.0 size.shape.1 * size.elements ≤ 16777216) }
+        all.now.elements + tile_count size.shape.0 size.shape.1 * size.elements ≤ most_elements) }
 {
     let Some((datatype, elements)) = type_named(all, datatype) else {
         return Err(DataCode::UnknownType);
@@ -118,8 +119,8 @@ fn push_coll(
 ) -> Result<(), OutOfMemory>
     requires keyed { IsKeyed all.old }
     requires fresh { IsTrue (is_new (draft_of all.old) name) }
-    requires tiles_at_most { tile_count size.shape.0 size.shape.1 ≤ 65536 }
-    requires room { all.old.elements + tile_count size.shape.0 size.shape.1 * size.elements ≤ 16777216 }
+    requires tiles_at_most { tile_count size.shape.0 size.shape.1 ≤ most_tiles }
+    requires room { all.old.elements + tile_count size.shape.0 size.shape.1 * size.elements ≤ most_elements }
     ensures step { OnOk result
         (draft_of all.new ≡ with_coll (draft_of all.old) name size.shape size.datatype size.elements) }
     ensures keyed { OnOk result (IsKeyed all.new) }

@@ -1,6 +1,7 @@
 //! The data of the records so far.
 
 ghost use Rattle.std.specs.Prelude.{◌≤◌, length};
+ghost use Rattle.ptg_base.specs.Limits.{most_elements};
 
 use name_table::NameTable;
 use ptg_base::{Seq, Text, Tile};
@@ -44,6 +45,6 @@ pub(crate) struct Growing {
     pub(crate) elements: u64,
     /// What each name of an integer or a collection stands for.
     pub(crate) names: NameTable<Known>,
-    ghost elements_at_most: { elements ≤ 16777216 },
+    ghost elements_at_most: { elements ≤ most_elements },
     ghost types_at_most: { length types ≤ 15 },
 }

@@ -2,6 +2,7 @@
 
 ghost use Rattle.std.specs.Prelude.{◌≡◌, ◌≤◌, ◌+◌, ℕ, List, Ok, Err, length};
 ghost use Rattle.std.specs.Result.{MatchResult};
+ghost use Rattle.ptg_base.specs.Limits.{most_bytes};
 ghost use Rattle.ptg_base.specs.declared.refusal.Refusal.TheVariants.{Fault};
 ghost use Rattle.data_read.specs.Growing.{draft_of, IsKeyed, refusal_at};
 ghost use Rattle.ptg_base.specs.Returns.{FindsOrRefuses, Returns, ReturnsRefusal};
@@ -92,7 +93,7 @@ fn refused(row: u64, code: DataCode) -> DataRefusal
 /// The data that a text of at most 16 MiB spells. A text that spells none is refused with its first fault: that of the
 /// first record that has one, with the first code that fits it.
 pub fn read_data(alloc: Global, bytes: &[u8]) -> Result<Given, DataRefusal>
-    requires { length bytes.now ≤ 16777216 }
+    requires { length bytes.now ≤ most_bytes }
     ensures exact { FindsOrRefuses (λ given. data_of bytes.now ≡ Ok given) (λ fault. data_of bytes.now ≡ Err fault)
         result }
 {

@@ -2,6 +2,7 @@
 -- that no place is written twice, are this project's own choice.
 use Rattle.std.specs.Prelude.{◌≡◌, ◌≢◌, ◌≤◌, ◌↔◌, ◌==◌, ℕ, List, length, map, flat_map, filter, Bool, true, false, IsTrue, slice_get, Some}
 use Rattle.std.specs.List.{AllByRecursion}
+use Rattle.ptg_base.specs.Limits.{most_edges, most_prefixes, most_tasks}
 use Rattle.ptg_base.specs.Lists.{IsIn, HasNoRepeats}
 use Rattle.ptg_base.specs.Task.{Task}
 use Rattle.ptg_base.specs.declared.place.Place.{Place}
@@ -73,13 +74,13 @@ all_data P = filter (is_data_edge P) (all_in P)
 pub record IsConsistent (P : Plan) : Type 0 where
   -- each definition has a value under each prefix
   pub sound : AllByRecursion IsSound P.spaces
-  pub tasks_at_most : length (all_tasks P) ≤ 1000000
-  pub prefixes_at_most : prefix_total P.spaces ≤ 16000000
+  pub tasks_at_most : length (all_tasks P) ≤ most_tasks
+  pub prefixes_at_most : prefix_total P.spaces ≤ most_prefixes
   pub connected : (t : Task) → IsTask P t → IsWellConnected P t
   -- no place is written twice
   pub written_once : HasNoRepeats (map (λ (w : WriteBack). w.place) (all_writes P))
-  pub in_edges_at_most : length (all_in P) ≤ 4000000
-  pub items_at_most : length (all_items P) ≤ 4000000
+  pub in_edges_at_most : length (all_in P) ≤ most_edges
+  pub items_at_most : length (all_items P) ≤ most_edges
   -- no edge occurs twice, and each edge out of a task is one into a task and the other way round
   pub no_in_edge_twice : HasNoRepeats (all_in P)
   pub no_out_edge_twice : HasNoRepeats (all_out P)

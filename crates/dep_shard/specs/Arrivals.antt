@@ -2,6 +2,7 @@
 -- dependences until it runs; one tile a flow, in flow order, is this project's own choice.
 use Rattle.std.specs.Prelude.{ℕ, ◌+◌, ◌<◌, ◌≤◌, ℤ, not, nat_eq, nat_lt, if◌then◌else◌, List, [], ◌∷◌, filter, Option, Some, None}
 use Rattle.std.specs.Map.{lookup}
+use Rattle.ptg_base.specs.Limits.{most_flows}
 
 -- a tile, after the number of the flow that it came to
 abbrev pub FlowTile : Type 0
@@ -31,7 +32,7 @@ without_tile flow tiles = filter (λ (t : FlowTile). not (nat_eq flow t.0)) tile
 -- The flow numbers rise from `least` at the earliest, and are below 8.
 abbrev pub RiseFrom : ℕ → List FlowTile → Type 0
 RiseFrom least [] = Unit {0}
-RiseFrom least (t ∷ ts) = (least ≤ t.0) × (t.0 < 8) × RiseFrom (t.0 + 1) ts
+RiseFrom least (t ∷ ts) = (least ≤ t.0) × (t.0 < most_flows) × RiseFrom (t.0 + 1) ts
 
 -- The tiles are in order of flow number, no flow is there twice, and each is below 8.
 abbrev pub IsInFlowOrder : List FlowTile → Type 0

@@ -4,6 +4,7 @@ ghost use Rattle.std.specs.Option.{option_copied, option_map};
 ghost use Rattle.std.specs.Map.{keys_of};
 ghost use Rattle.std.specs.Map.Iter.{deref_pair};
 ghost use Rattle.std.specs.List.{IsDistinct};
+ghost use Rattle.ptg_base.specs.Limits.{most_tasks};
 ghost use Rattle.ptg_base.specs.Task.{Task};
 ghost use Rattle.ptg_base.specs.TaskComparing.{same_task};
 ghost use Rattle.dep_shard.specs.declared.shard.Arrived.TheVariants.{Fired};
@@ -343,7 +344,7 @@ impl Shard {
     /// Takes the ready entry of a task out, with the tiles that came to it. The task runs from then on. `None` exactly
     /// if it has no ready entry, and then the shard is as it was.
     pub fn take_ready(&mut self, t: &TaskId) -> Option<Arrivals>
-        requires { self.old.running < 1000000 }
+        requires { self.old.running < most_tasks }
         ensures none { IfNone result ((e : EntryContent) → entry_of self.old t.now ≡ Some e → IsReady e → ⊥) }
         ensures same { IfNone result (self.new ≡ self.old) }
         ensures some { IfSome result (λ tiles. Takes self.old self.new t.now tiles) }
@@ -371,7 +372,7 @@ impl Shard {
 
     // Takes the ready entry at this index out.
     fn take_at(&mut self, index: usize) -> Option<Arrivals>
-        requires running { self.old.running < 1000000 }
+        requires running { self.old.running < most_tasks }
         requires ready { HasReadyAt self.old index }
         ensures there { IsSome result }
         ensures some { IfSome result (λ tiles.
@@ -418,7 +419,7 @@ impl Shard {
     /// A running task ends.
     pub fn end(&mut self)
         requires running { 0 < self.old.running }
-        requires bound { self.old.ended < 1000000 }
+        requires bound { self.old.ended < most_tasks }
         ensures ends { Ends self.old self.new }
         ensures rest { KeepsEntriesAndWritten self.old self.new }
         ensures trapped { self.new.trapped ≡ self.old.trapped }
@@ -440,7 +441,7 @@ impl Shard {
     /// A running task traps: it ends, and is noted with its cause. It uses a spare trapped task.
     pub fn trap(&mut self, t: &TaskId, cause: Trap) -> Result<(), OutOfMemory>
         requires running { 0 < self.old.running }
-        requires bound { self.old.ended < 1000000 }
+        requires bound { self.old.ended < most_tasks }
         ensures ok { OnOk result (self.new.trapped ≡ self.old.trapped ++ (t.now, cause) ∷ []) }
         ensures ends { OnOk result (Ends self.old self.new) }
         ensures rest { KeepsEntriesAndWritten self.old self.new }

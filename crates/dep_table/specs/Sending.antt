@@ -2,6 +2,7 @@
 -- 2012), where a task that ends satisfies the dependences of its successors; that a write-back is kept in the shard of
 -- its task is this project's own choice.
 use Rattle.std.specs.Prelude.{◌++◌, ◌≡◌, ℕ, ◌+◌, ◌<◌, ℤ, List, [], ◌∷◌, Option, Some, None, IsSome, IsTrue, IfSome, is_some, if◌then◌else◌, slice_index}
+use Rattle.ptg_base.specs.Limits.{most_flows}
 use Rattle.ptg_base.specs.declared.edge.Edge.{Edge}
 use Rattle.ptg_base.specs.declared.edge.Item.{Item}
 use Rattle.ptg_base.specs.declared.edge.Item.TheVariants as item
@@ -33,7 +34,7 @@ pub record MayTakeEdge (P : Plan) (e : Edge) (tile : Option (List ℤ)) (y : Con
   pub task : IsTask P e.to
   pub flow : FlowPlan
   pub is_flow : flow_of P.classes e.to.class e.in_flow ≡ Some flow
-  pub flow_number : e.in_flow < 8
+  pub flow_number : e.in_flow < most_flows
   pub some_goal : 0 < goal P e.to
   pub same_goal : (entry_before y e.to (goal P e.to) (priority P e.to)).goal ≡ goal P e.to
   pub waits : IsWaiting (entry_before y e.to (goal P e.to) (priority P e.to))

@@ -1,6 +1,7 @@
 //! The steps of a pass on a turn word, one function a step.
 
 ghost use Rattle.std.specs.Prelude.{[], IfNone, IfSome, None, ◌≡◌, ◌≢◌, ◌<◌, ◌∷◌, Some};
+ghost use Rattle.ptg_base.specs.Limits.{most_tasks};
 ghost use Rattle.atomic_table.specs.Table.{rest};
 ghost use Rattle.dep_shard.specs.Content.{Content, Ends, Entry, KeepsEntriesAndWritten, Takes, Uses, entry_of};
 ghost use Rattle.table_rule.specs.Changes.{turn_left, with_look, with_own_claim, with_own_end, with_stamp, with_turn, without_credit};
@@ -63,7 +64,7 @@ impl DepTable {
 
 // Takes the ready entry of a task out of a shard whose numbers allow it where the task has an entry.
 pub(crate) fn take_ready(desk: &mut Shard, t: &TaskId) -> Option<Arrivals>
-    requires { (e : Entry) → entry_of desk.old t.now ≡ Some e → desk.old.running < 1000000 }
+    requires { (e : Entry) → entry_of desk.old t.now ≡ Some e → desk.old.running < most_tasks }
     ensures none { IfNone result (HasNoReadyOf desk.old t.now) }
     ensures same { IfNone result (desk.new ≡ desk.old) }
     ensures some { IfSome result (λ tiles. Takes desk.old desk.new t.now tiles) }
@@ -78,7 +79,7 @@ pub(crate) fn take_ready(desk: &mut Shard, t: &TaskId) -> Option<Arrivals>
 // A running task of a shard ends, and the tiles that came with it are kept.
 pub(crate) fn end_task(desk: &mut Shard, spent: &mut Arrivals)
     requires running { 0 < desk.old.running }
-    requires bound { desk.old.ended < 1000000 }
+    requires bound { desk.old.ended < most_tasks }
     ensures ends { Ends desk.old desk.new }
     ensures rest { KeepsEntriesAndWritten desk.old desk.new }
     ensures trapped { desk.new.trapped ≡ desk.old.trapped }

@@ -1,5 +1,6 @@
 -- What the walk has counted. Source: this project's own choice.
 use Rattle.std.specs.Prelude.{◌≡◌, ◌+◌, ◌≤◌, ◌==◌, ℕ, List, [], ◌∷◌, ◌++◌, length, map, flat_map, filter, filter_map}
+use Rattle.ptg_base.specs.Limits.{most_edges}
 use Rattle.ptg_base.specs.Lists.{HasNoRepeats, IsIn}
 use Rattle.ptg_base.specs.Task.{Task}
 use Rattle.ptg_base.specs.declared.place.Place.{Place}
@@ -18,7 +19,7 @@ use Rattle.edge_accept.specs.Flows.{AreTaken, AreTakenOnce, HasSoundSources, IsS
 
 -- k is the number n, but where k is over 4,000,000, the most edges that a job may have
 abbrev pub IsCount : ℕ → ℕ → Type 0
-IsCount k n = k ≤ 4000000 → k ≡ n
+IsCount k n = k ≤ most_edges → k ≡ n
 
 -- the counts are those of what is sent
 pub record AreSent (s : Sent) (items : List Item) : Type 0 where

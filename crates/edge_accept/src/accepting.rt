@@ -2,6 +2,7 @@
 
 ghost use Rattle.std.specs.Prelude.{◌≡◌, ◌≤◌, IfOk, IfSome, length};
 ghost use Rattle.std.specs.List.{AllByRecursion};
+ghost use Rattle.ptg_base.specs.Limits.{most_prefixes, most_tasks};
 ghost use Rattle.range_space.specs.Sound.{IsSound, prefix_total};
 ghost use Rattle.dep_iter.specs.Consistent.{HasCounts, IsConsistent};
 ghost use Rattle.dep_iter.specs.Tasks.{all_tasks};
@@ -24,8 +25,8 @@ use std::alloc::Global;
 pub fn accepts(alloc: Global, plan: &Plan, tasks: u64) -> Result<Option<Counts>, OutOfMemory>
     requires sound { AllByRecursion IsSound plan.now.spaces }
     requires tasks { tasks ≡ length (all_tasks plan.now) }
-    requires tasks_at_most { tasks ≤ 1000000 }
-    requires prefixes_at_most { prefix_total plan.now.spaces ≤ 16000000 }
+    requires tasks_at_most { tasks ≤ most_tasks }
+    requires prefixes_at_most { prefix_total plan.now.spaces ≤ most_prefixes }
     ensures { IfOk result (λ accepted. IfSome accepted (λ counts. IsConsistent plan.now × HasCounts plan.now counts)) }
 {
     let mut tally = Tally {

@@ -2,6 +2,7 @@
 
 ghost use Rattle.std.specs.Prelude.{◌≡◌, ◌≤◌, ◌+◌, if◌then◌else◌};
 ghost use Rattle.std.specs.Bool.{OnTrue};
+ghost use Rattle.ptg_base.specs.Limits.{most_edges};
 
 // The most edges into tasks, and the most items, that a job may have.
 pub(crate) const MOST_EDGES: u64 = 4_000_000;
@@ -11,7 +12,7 @@ pub(crate) const MOST_EDGES: u64 = 4_000_000;
 pub(crate) struct Ins {
     pub(crate) edges: u64,
     pub(crate) data_edges: u64,
-    pub(crate) ghost edges_at_most: { edges ≤ 4000000 },
+    pub(crate) ghost edges_at_most: { edges ≤ most_edges },
     pub(crate) ghost data_at_most: { data_edges ≤ edges },
 }
 

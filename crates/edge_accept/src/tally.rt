@@ -2,6 +2,7 @@
 
 ghost use Rattle.std.specs.Prelude.{◌≡◌, ◌+◌, ◌≤◌};
 ghost use Rattle.std.specs.Bool.{OnTrue};
+ghost use Rattle.ptg_base.specs.Limits.{most_edges};
 
 use crate::ins::{Ins, MOST_EDGES};
 use place_set::PlaceSet;
@@ -22,7 +23,7 @@ pub(crate) struct Tally {
     pub(crate) outs: u64,
     pub(crate) writes: u64,
     pub(crate) written: PlaceSet,
-    pub(crate) ghost items_at_most: { outs + writes ≤ 4000000 },
+    pub(crate) ghost items_at_most: { outs + writes ≤ most_edges },
 }
 
 impl Tally {
@@ -30,7 +31,7 @@ impl Tally {
     pub(crate) fn add_sent(&mut self, sent: Sent) -> bool
         ensures outs { OnTrue result (self.new.outs ≡ self.old.outs + sent.edges) }
         ensures writes { OnTrue result (self.new.writes ≡ self.old.writes + sent.writes) }
-        ensures at_most { OnTrue result (sent.edges + sent.writes ≤ 4000000) }
+        ensures at_most { OnTrue result (sent.edges + sent.writes ≤ most_edges) }
         ensures ins { self.new.ins ≡ self.old.ins }
         ensures roots { self.new.roots ≡ self.old.roots }
         ensures written { self.new.written ≡ self.old.written }

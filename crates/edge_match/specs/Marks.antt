@@ -3,6 +3,7 @@
 -- Source: PaRSEC (2013), in which each edge is written at both ends; the order is this project's own choice.
 use Rattle.std.specs.Prelude.{◌≡◌, ◌≢◌, ◌<◌, ℕ, suc, ℤ, List, [], ◌∷◌, ◌++◌, map, flat_map, length, IsTrue}
 use Rattle.std.specs.Prelude.{Option, Some, None, unwrap_or}
+use Rattle.ptg_base.specs.Limits.{most_edges}
 use Rattle.ptg_base.specs.Lists.{IsIn}
 use Rattle.ptg_base.specs.Task.{Task}
 use Rattle.ptg_base.specs.declared.place.Place.{Place}
@@ -171,8 +172,8 @@ Holds P (IsNewEdge earlier e) = IsIn e earlier → ⊥
 -- a check passes, after what came before
 abbrev pub Passes : Plan → Before → Check → Type 0
 Passes P b (Is f) = Holds P f
-Passes P b (CountsIn e) = length b.ins < 4000000
-Passes P b (CountsItem i) = length b.items < 4000000
+Passes P b (CountsIn e) = length b.ins < most_edges
+Passes P b (CountsItem i) = length b.items < most_edges
 Passes P b (IsNewPlace p) = IsIn p b.places → ⊥
 
 -- what came before the next one

@@ -1,6 +1,7 @@
 //! What was counted so far.
 
 ghost use Rattle.std.specs.Prelude.{◌≤◌};
+ghost use Rattle.ptg_base.specs.Limits.{most_edges};
 
 use place_set::PlaceSet;
 
@@ -13,8 +14,8 @@ pub(crate) struct Counted {
     pub(crate) items: u64,
     pub(crate) writes: u64,
     pub(crate) written: PlaceSet,
-    pub(crate) ghost ins_at_most: { ins ≤ 4000000 },
+    pub(crate) ghost ins_at_most: { ins ≤ most_edges },
     pub(crate) ghost data_at_most: { data_edges ≤ ins },
-    pub(crate) ghost items_at_most: { items ≤ 4000000 },
+    pub(crate) ghost items_at_most: { items ≤ most_edges },
     pub(crate) ghost writes_at_most: { writes ≤ items },
 }

@@ -2,6 +2,7 @@
 
 ghost use Rattle.std.specs.Prelude.{◌≡◌, ◌≤◌, length, map};
 ghost use Rattle.std.specs.List.{AllByRecursion};
+ghost use Rattle.ptg_base.specs.Limits.{most_prefixes, most_tasks};
 ghost use Rattle.ptg_base.specs.declared.edge.WriteBack.{WriteBack};
 ghost use Rattle.range_space.specs.Sound.{IsSound, prefix_total};
 ghost use Rattle.plan_core.specs.declared.plan.Plan.{Plan};
@@ -22,8 +23,8 @@ pub fn all_edges_and_items_are_counted()
 /// A law: a plan is consistent where its spaces are sound and within their limits and all its marks pass.
 #[tactic(auto, using(crate::proofs::Consistency::passes_consistent))]
 pub fn a_plan_that_passes_is_consistent()
-    ensures { (P : Plan) → AllByRecursion IsSound P.spaces → length (all_tasks P) ≤ 1000000
-        → prefix_total P.spaces ≤ 16000000 → AllPass P nothing (marks P) → IsConsistent P }
+    ensures { (P : Plan) → AllByRecursion IsSound P.spaces → length (all_tasks P) ≤ most_tasks
+        → prefix_total P.spaces ≤ most_prefixes → AllPass P nothing (marks P) → IsConsistent P }
 {}
 
 /// A law: a plan has one first fault at most.

@@ -1,5 +1,6 @@
 -- What the steps of a send find and need. Source: this project's own choice.
 use Rattle.std.specs.Prelude.{◌≡◌, ◌≤◌, Bool, false, is_some, IsTrue, Some, None, Ok}
+use Rattle.ptg_base.specs.Limits.{most_edges}
 use Rattle.ptg_base.specs.Lists.{IsIn}
 use Rattle.ptg_base.specs.Task.{Task}
 use Rattle.ptg_base.specs.declared.edge.Item.{Item}
@@ -19,7 +20,7 @@ pub record KeepsTilesFor (r : RunState) (i : Item) : Type 0 where
 
 -- the task that an item goes to, if it is an edge, is not claimed, and fewer edges have come to it than a job may have
 abbrev pub GoesToWaiting : RunState → Item → Type 0
-GoesToWaiting r i = (u : Task) → IsTrue (is_edge_to u i) → (mark_of r u ≡ None) × (edges_to u r.sends ≤ 4000000)
+GoesToWaiting r i = (u : Task) → IsTrue (is_edge_to u i) → (mark_of r u ≡ None) × (edges_to u r.sends ≤ most_edges)
 
 -- whether an item is an edge to a claimed task
 abbrev pub goes_to_claimed : RunState → Item → Bool

@@ -1,6 +1,7 @@
 //! How many edges have come to each task.
 
 ghost use Rattle.std.specs.Prelude.{◌≡◌, ◌+◌, ◌<◌, ◌≤◌, IsTrue};
+ghost use Rattle.ptg_base.specs.Limits.{most_edges};
 ghost use Rattle.indexmap.specs.IndexMap.{spare};
 ghost use Rattle.ptg_base.specs.Task.{Task};
 ghost use Rattle.ptg_base.specs.TaskComparing.{same_task};
@@ -24,7 +25,7 @@ pub(crate) fn number_at(table: &IndexMap<TaskId, u32>, t: &TaskId) -> u32
 // Adds one to the number of a task.
 fn add_one(table: &mut IndexMap<TaskId, u32>, t: &TaskId)
     requires room { 0 < spare table.old }
-    requires at_most { arrivals.number_at table.old.entries t.now ≤ 4000000 }
+    requires at_most { arrivals.number_at table.old.entries t.now ≤ most_edges }
     ensures { (u : Task)
         → arrivals.number_at table.new.entries u
         ≡ arrivals.number_at table.old.entries u + as_number (same_task u t.now) }
@@ -36,7 +37,7 @@ fn add_one(table: &mut IndexMap<TaskId, u32>, t: &TaskId)
 // Counts an item at the task that it goes to, if it is an edge.
 pub(crate) fn count_item(table: &mut IndexMap<TaskId, u32>, item: &Item)
     requires room { 0 < spare table.old }
-    requires at_most { (u : Task) → IsTrue (is_edge_to u item.now) → arrivals.number_at table.old.entries u ≤ 4000000 }
+    requires at_most { (u : Task) → IsTrue (is_edge_to u item.now) → arrivals.number_at table.old.entries u ≤ most_edges }
     ensures { (u : Task)
         → arrivals.number_at table.new.entries u
         ≡ arrivals.number_at table.old.entries u + as_number (is_edge_to u item.now) }

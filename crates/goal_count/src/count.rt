@@ -2,6 +2,7 @@
 
 ghost use Rattle.std.specs.Prelude.{◌≡◌, ◌≤◌, IsTrue, length};
 ghost use Rattle.std.specs.List.{list_all};
+ghost use Rattle.ptg_base.specs.Limits.{most_edges};
 ghost use Rattle.range_space.specs.Fault.{range_values};
 ghost use Rattle.range_space.specs.Tasks.{or_empty};
 ghost use Rattle.dep_iter.specs.Arguments.{arg_values, combinations};
@@ -45,7 +46,7 @@ fn arg_count(arg: &Arg, env: &[i64]) -> u128
 // factors may be large.
 fn combination_count(args: &[Arg], env: &[i64]) -> u128
     requires well { IsTrue (list_all (has_arg env.now) args.now) }
-    requires at_most { length (combinations args.now env.now) ≤ 4000000 }
+    requires at_most { length (combinations args.now env.now) ≤ most_edges }
     ensures { result ≡ length (combinations args.now env.now) }
 {
     let Some((arg, others)) = args.split_first() else {
@@ -61,7 +62,7 @@ fn combination_count(args: &[Arg], env: &[i64]) -> u128
 // How many edges a target stands for.
 fn target_count(target: &Target, env: &[i64]) -> u128
     requires well { IsTrue (has_arguments env.now target.now) }
-    requires at_most { counting.target_count env.now target.now ≤ 4000000 }
+    requires at_most { counting.target_count env.now target.now ≤ most_edges }
     ensures { result ≡ counting.target_count env.now target.now }
 {
     match target {
@@ -75,7 +76,7 @@ fn target_count(target: &Target, env: &[i64]) -> u128
 // How many edges these dependences give.
 fn held_count(first_only: bool, deps: &[DepPlan], env: &[i64]) -> u128
     requires well { IsTrue (are_well first_only env.now deps.now) }
-    requires at_most { counting.held_count first_only deps.now env.now ≤ 4000000 }
+    requires at_most { counting.held_count first_only deps.now env.now ≤ most_edges }
     ensures { result ≡ counting.held_count first_only deps.now env.now }
 {
     let Some((d, later)) = deps.split_first() else {
@@ -94,7 +95,7 @@ fn held_count(first_only: bool, deps: &[DepPlan], env: &[i64]) -> u128
 // How many edges go into these flows.
 fn flows_count(flows: &[FlowPlan], env: &[i64]) -> u128
     requires well { IsTrue (list_all (is_well_flow env.now) flows.now) }
-    requires at_most { counting.flows_count env.now flows.now ≤ 4000000 }
+    requires at_most { counting.flows_count env.now flows.now ≤ most_edges }
     ensures { result ≡ counting.flows_count env.now flows.now }
 {
     let Some((flow, others)) = flows.split_first() else {

@@ -2,6 +2,7 @@
 -- Lemmas in proofs/ tie them to the lexical units of a text.
 use Rattle.std.specs.Prelude.{◌≡◌, ℕ, ◌+◌, ◌≤◌, Bool, false, List, [], ◌∷◌, length, take, drop, if◌then◌else◌, Option, Some, None}
 use Rattle.std.specs.List.{prefix_len, slice_range}
+use Rattle.ptg_base.specs.Limits.{most_tokens}
 use Rattle.jdf_lex.specs.declared.lexical_unit.LexicalUnit.{LexicalUnit}
 use Rattle.jdf_lex.specs.declared.lexical_unit.LexicalUnit.TheVariants.{Blank, LineComment, BlockComment, TokenOf}
 use Rattle.jdf_alphabet.specs.declared.kind.TokenKind.{TokenKind}
@@ -73,5 +74,5 @@ pub record IsCursorIn (text : List ℕ) (here : Cursor) : Type 0 where
 -- The text up to the cursor is scanned: it has these tokens, no more of them than the most that a text may have.
 pub record IsScanned (text : List ℕ) (tokens : List Token) (here : Cursor) : Type 0 where
   pub cursor : IsCursorIn text here
-  pub at_most : length tokens ≤ 1000000
+  pub at_most : length tokens ≤ most_tokens
   pub lexed : IsLexedTo (take here.index text) (drop here.index text) [] text tokens

@@ -2,6 +2,7 @@
 -- That a text is refused with its first fault is this project's own choice.
 use Rattle.std.specs.Prelude.{◌≡◌, ℕ, ◌+◌, ◌≤◌, ◌⊎◌, Bool, true, false, not, ◌==◌, List, [], ◌∷◌, ◌++◌, length, count_by, Some, IsTrue, IsFalse}
 use Rattle.std.specs.List.{suffix_len}
+use Rattle.ptg_base.specs.Limits.{most_tokens}
 use Rattle.jdf_lex.specs.declared.fault.JdfCode.{JdfCode}
 use Rattle.jdf_lex.specs.declared.fault.JdfCode.TheVariants.{Unclosed, TooManyTokens}
 use Rattle.jdf_lex.specs.declared.fault.JdfFault.{JdfFault}
@@ -91,8 +92,8 @@ pub record HasToken (left : List ℕ) : Type 0 where
 -- 1,000,000.
 abbrev pub IsFaultAt : List Token → List ℕ → JdfCode → Type 0
 IsFaultAt tokens left code =
-    ((code ≡ Unclosed) × IsUnclosed left × (length tokens ≤ 1000000))
-    ⊎ ((code ≡ TooManyTokens) × HasToken left × (length tokens ≡ 1000000))
+    ((code ≡ Unclosed) × IsUnclosed left × (length tokens ≤ most_tokens))
+    ⊎ ((code ≡ TooManyTokens) × HasToken left × (length tokens ≡ most_tokens))
 
 -- The first token fault of a text: before its spot are only tokens, blanks and comments.
 pub record IsTokenFault (text : List ℕ) (fault : JdfFault) : Type 0 where
@@ -105,7 +106,7 @@ pub record IsTokenFault (text : List ℕ) (fault : JdfFault) : Type 0 where
 
 -- A text has tokens, at most 1,000,000.
 abbrev pub HasTokens : List ℕ → Type 0
-HasTokens text = (tokens : List Token) × (end : Spot) × IsLexed text tokens end × (length tokens ≤ 1000000)
+HasTokens text = (tokens : List Token) × (end : Spot) × IsLexed text tokens end × (length tokens ≤ most_tokens)
 
 -- A text has a first token fault.
 abbrev pub HasFault : List ℕ → Type 0

@@ -1,6 +1,7 @@
 //! Positions in a text.
 
 ghost use Rattle.std.specs.Prelude.{◌≡◌, ◌+◌, ◌<◌, ◌≤◌, length};
+ghost use Rattle.ptg_base.specs.Limits.{most_bytes};
 ghost use Rattle.jdf_lex.specs.Reading.{IsCursorIn};
 
 use grammar_core::Spot;
@@ -14,7 +15,7 @@ pub struct Cursor {
 
 // The cursor after the next byte.
 fn advance_byte(text: &[u8], here: Cursor) -> Cursor
-    requires small { length text.now ≤ 16777216 }
+    requires small { length text.now ≤ most_bytes }
     requires cursor { IsCursorIn text.now here }
     requires inside { here.index < length text.now }
     ensures cursor { IsCursorIn text.now result }
@@ -39,7 +40,7 @@ fn advance_byte(text: &[u8], here: Cursor) -> Cursor
 
 /// The cursor `len` bytes later.
 pub fn advance(text: &[u8], here: Cursor, len: usize) -> Cursor
-    requires small { length text.now ≤ 16777216 }
+    requires small { length text.now ≤ most_bytes }
     requires cursor { IsCursorIn text.now here }
     requires inside { here.index + len ≤ length text.now }
     ensures cursor { IsCursorIn text.now result }

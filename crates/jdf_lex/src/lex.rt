@@ -1,6 +1,7 @@
 //! The tokens of a text, or its first token fault.
 
 ghost use Rattle.std.specs.Prelude.{◌≡◌, ◌⊎◌, ◌+◌, ◌++◌, ◌<◌, ◌≤◌, List, [], ◌∷◌, length, drop, slice_range, Ok, Err, Some, IfOk};
+ghost use Rattle.ptg_base.specs.Limits.{most_bytes, most_tokens};
 ghost use Rattle.jdf_lex.specs.declared.fault.JdfCode.TheVariants.{Unclosed, TooManyTokens};
 ghost use Rattle.jdf_lex.specs.declared.fault.JdfFault.{JdfFault};
 ghost use Rattle.ptg_base.specs.declared.refusal.Refusal.TheVariants.{Fault, OutOfMemory};
@@ -45,12 +46,12 @@ fn add_token(
     front: FrontToken,
     tokens: &mut Seq<Token>,
 ) -> Result<(), JdfRefusal>
-    requires small { length text.now ≤ 16777216 }
+    requires small { length text.now ≤ most_bytes }
     requires inside { here.index + front.len ≤ length text.now }
-    ensures at_most { IfOk result (λ _. length tokens.old < 1000000) }
+    ensures at_most { IfOk result (λ _. length tokens.old < most_tokens) }
     ensures added { IfOk result (λ _. tokens.new ≡ tokens.old ++ token_here text.now here front.kind front.len ∷ []) }
     ensures refused { (f : JdfFault) → result ≡ Err (Fault f)
-        → (f ≡ record { spot = here.spot; code = TooManyTokens }) × (1000000 ≤ length tokens.old) }
+        → (f ≡ record { spot = here.spot; code = TooManyTokens }) × (most_tokens ≤ length tokens.old) }
 {
     if tokens.len() >= MOST_TOKENS {
         return Err(fault(here.spot, JdfCode::TooManyTokens));
@@ -74,7 +75,7 @@ fn read_unit(
     here: Cursor,
     tokens: &mut Seq<Token>,
 ) -> Result<Cursor, JdfRefusal>
-    requires small { length text.now ≤ 16777216 }
+    requires small { length text.now ≤ most_bytes }
     requires scanned { IsScanned text.now tokens.old here }
     requires inside { here.index < length text.now }
     ensures progress { IfOk result (λ next. here.index < next.index) }
@@ -94,8 +95,8 @@ fn read_unit(
 
 // The tokens of a text as bytes.
 fn lex(alloc: Global, text: &[u8]) -> Result<Lexed, JdfRefusal>
-    requires { length text.now ≤ 16777216 }
-    ensures found { IfOk result (λ lexed. IsLexed text.now lexed.tokens lexed.end × (length lexed.tokens ≤ 1000000)) }
+    requires { length text.now ≤ most_bytes }
+    ensures found { IfOk result (λ lexed. IsLexed text.now lexed.tokens lexed.end × (length lexed.tokens ≤ most_tokens)) }
     ensures fault { (f : JdfFault) → result ≡ Err (Fault f) → IsTokenFault text.now f }
 {
     let mut tokens = Seq::new(alloc);
@@ -116,11 +117,11 @@ fn lex(alloc: Global, text: &[u8]) -> Result<Lexed, JdfRefusal>
 ///
 /// Each byte is read a bounded number of times; no clause says so.
 pub fn tokens(alloc: Global, text: &str) -> Result<Lexed, JdfRefusal>
-    requires { length text.now ≤ 16777216 }
+    requires { length text.now ≤ most_bytes }
     // The result is the list of the text's tokens.
-    ensures found { IfOk result (λ lexed. IsLexed text.now lexed.tokens lexed.end × (length lexed.tokens ≤ 1000000)) }
+    ensures found { IfOk result (λ lexed. IsLexed text.now lexed.tokens lexed.end × (length lexed.tokens ≤ most_tokens)) }
     // If the text has tokens, they are the result, unless memory runs out.
-    ensures only { (tokens : List Token) (end : Spot) → IsLexed text.now tokens end → length tokens ≤ 1000000
+    ensures only { (tokens : List Token) (end : Spot) → IsLexed text.now tokens end → length tokens ≤ most_tokens
         → (result ≡ Ok (record { tokens = tokens; end = end })) ⊎ (result ≡ Err OutOfMemory) }
     // A fault that is returned is the first fault of the text.
     ensures fault { (f : JdfFault) → result ≡ Err (Fault f) → IsTokenFault text.now f }

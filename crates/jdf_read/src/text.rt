@@ -2,6 +2,7 @@
 
 ghost use Rattle.std.specs.Prelude.{◌≡◌, ◌⊎◌, ◌-◌, ◌≤◌, ◌==◌, not, count_by, Ok, Err, Some, None, IfOk, length, slice_get};
 ghost use Rattle.std.specs.List.{suffix_len};
+ghost use Rattle.ptg_base.specs.Limits.{most_bytes};
 ghost use Rattle.jdf_lex.specs.declared.fault.JdfCode.TheVariants.{Truncated};
 ghost use Rattle.jdf_lex.specs.declared.fault.JdfFault.{JdfFault};
 ghost use Rattle.ptg_base.specs.declared.refusal.Refusal.TheVariants.{Fault, OutOfMemory};
@@ -51,7 +52,7 @@ fn columns_in(front: &[u8]) -> usize
 
 // The spot after these bytes.
 fn spot_after(front: &[u8]) -> Spot
-    requires { length front.now ≤ 16777216 }
+    requires { length front.now ≤ most_bytes }
     ensures { result ≡ spot_after front.now }
 {
     Spot {
@@ -82,7 +83,7 @@ fn grammar_fault(lexed: &Lexed, left: usize, code: Code) -> JdfFault
 
 // The tree of a text that is UTF-8 and not too long, or its first fault.
 fn read_text(alloc: Global, text: &str) -> Result<Jdf, JdfRefusal>
-    requires { length text.now ≤ 16777216 }
+    requires { length text.now ≤ most_bytes }
     ensures found { IfOk result (λ jdf. IsJdf text.now jdf) }
     ensures fault { (f : JdfFault) → result ≡ Err (Fault f) → IsJdfFault text.now f }
 {

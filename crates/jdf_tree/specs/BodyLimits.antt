@@ -1,5 +1,6 @@
 -- How deep the blocks of a body may nest, and how many variables it may declare. Source: this project's own choice.
 use Rattle.std.specs.Prelude.{◌≡◌, ℕ, ◌-◌, Bool, true, false, nat_le, ◌&&◌, ◌||◌, List, [], if◌then◌else◌, count_by, refl}
+use Rattle.ptg_base.specs.Limits.{most_variables}
 use Rattle.grammar_core.specs.declared.token.Token.{Token}
 use Rattle.jdf_alphabet.specs.declared.terminal.Terminal.{Terminal}
 use Rattle.jdf_alphabet.specs.declared.terminal.Terminal.TheVariants as terminal
@@ -31,7 +32,7 @@ declares k = is terminal.Int k || is terminal.For k
 
 -- A declaration is too many if 256 are before it.
 unfoldable pub is_too_many : List Token → Token → Bool
-is_too_many front x = declares (terminal_of x) && nat_le 256 (how_many declares front)
+is_too_many front x = declares (terminal_of x) && nat_le most_variables (how_many declares front)
 
 never : (b : Bool) → (b && false) ≡ false
 never b = elim b as (λ v. (v && false) ≡ false) [ true ↦ refl | false ↦ refl ]

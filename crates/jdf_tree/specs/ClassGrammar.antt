@@ -2,6 +2,7 @@
 -- choice.
 use Rattle.std.proofs.Common.{arith}
 use Rattle.std.specs.Prelude.{ℕ, ◌≤◌, Bool, nat_le, not, List, ◌∷◌, Option, Some, None, option_map, ◌||◌, ◌&&◌, if◌then◌else◌}
+use Rattle.ptg_base.specs.Limits.{most_dependences, most_flows, most_locals}
 use Rattle.grammar_core.specs.declared.token.Spot.{Spot}
 use Rattle.grammar_core.specs.declared.token.Token.{Token}
 use Rattle.term_core.specs.declared.flow.FlowKind.{FlowKind}
@@ -113,7 +114,7 @@ dependence = map dependence_of (seq arrow (seq (pick may_follow_target_name ungu
 
 -- dependences = dependence*, at most 16
 unfoldable pub dependences : Grammar (List DepTree)
-dependences = star (full_at 16 TooManyDeps) dependence
+dependences = star (full_at most_dependences TooManyDeps) dependence
 
 -- ---- flows
 
@@ -139,7 +140,7 @@ flow = map flow_of (seq kind_of_flow (seq (name Class) dependences))
 
 -- flows = flow*, at most 8
 unfoldable pub flows : Grammar (List FlowTree)
-flows = star (full_at 8 TooManyFlows) flow
+flows = star (full_at most_flows TooManyFlows) flow
 
 -- ---- parameters, definitions, affinity, priority
 
@@ -167,7 +168,7 @@ definition = map definition_of (seq (name Class) (prefixed_by terminal.Assign ar
 
 -- definitions = definition*, at most 16
 unfoldable pub definitions : Grammar (List DefTree)
-definitions = star (full_at 16 TooManyLocals) definition
+definitions = star (full_at most_locals TooManyLocals) definition
 
 -- affinity = ":" name "(" arguments? ")"
 unfoldable pub affinity : Grammar (Word × List ArgTree)

@@ -1,6 +1,7 @@
 -- The first fault of a text. Its codes and their order are this project's own choice.
 use Rattle.std.specs.Prelude.{◌≡◌, ℕ, ◌<◌, ◌≤◌, List, length, take, Some, None, slice_get, ◌⊎◌}
 use Rattle.std.specs.Str.{IsUtf8}
+use Rattle.ptg_base.specs.Limits.{most_bytes, most_tokens}
 use Rattle.jdf_lex.specs.declared.fault.JdfCode.{JdfCode}
 use Rattle.jdf_lex.specs.declared.fault.JdfCode.TheVariants as jdf
 use Rattle.jdf_lex.specs.declared.fault.JdfFault.{JdfFault}
@@ -53,30 +54,30 @@ pub record IsGrammarFault (tokens : List Token) (end : Spot) (fault : JdfFault) 
 
 -- the text has more than 16 MiB
 pub record IsTooLong (bytes : List ℕ) (fault : JdfFault) : Type 0 where
-  pub long : 16777216 < length bytes
+  pub long : most_bytes < length bytes
   pub fault_is : fault ≡ record { spot = first_spot; code = jdf.TooLong }
 
 -- the text has at most 16 MiB, and is not UTF-8
 pub record IsNotUtf8 (bytes : List ℕ) (fault : JdfFault) : Type 0 where
-  pub bytes_at_most : length bytes ≤ 16777216
+  pub bytes_at_most : length bytes ≤ most_bytes
   pub at : ℕ
   pub stops : StopsBeingUtf8 bytes at
   pub fault_is : fault ≡ record { spot = spot_after (take at bytes); code = jdf.NotUtf8 }
 
 -- the text is UTF-8, and has a token fault
 pub record HasTokenFault (bytes : List ℕ) (fault : JdfFault) : Type 0 where
-  pub bytes_at_most : length bytes ≤ 16777216
+  pub bytes_at_most : length bytes ≤ most_bytes
   pub utf8 : IsUtf8 bytes
   pub fault_is : IsTokenFault bytes fault
 
 -- the text has tokens, at most 1000000, which are no text of the grammar
 pub record HasGrammarFault (bytes : List ℕ) (fault : JdfFault) : Type 0 where
-  pub bytes_at_most : length bytes ≤ 16777216
+  pub bytes_at_most : length bytes ≤ most_bytes
   pub utf8 : IsUtf8 bytes
   pub tokens : List Token
   pub end : Spot
   pub lexed : IsLexed bytes tokens end
-  pub tokens_at_most : length tokens ≤ 1000000
+  pub tokens_at_most : length tokens ≤ most_tokens
   pub fault_is : IsGrammarFault tokens end fault
 
 -- The first fault of the bytes: of their length, their encoding, their tokens or their grammar, in this order.

@@ -1,6 +1,7 @@
 -- The text of a JDF. Source: the JDF documentation; the limits are this project's own choice.
 use Rattle.std.specs.Prelude.{ℕ, ◌≤◌, List, length, None}
 use Rattle.std.specs.Str.{IsUtf8}
+use Rattle.ptg_base.specs.Limits.{most_bytes, most_tokens}
 use Rattle.grammar_core.specs.declared.token.Spot.{Spot}
 use Rattle.grammar_core.specs.declared.token.Token.{Token}
 use Rattle.jdf_lex.specs.Tokens.{IsLexed}
@@ -11,10 +12,10 @@ use Rattle.jdf_tree.specs.Grammar.{productions, file}
 -- The bytes are the text of this tree: at most 16 MiB of UTF-8, with at most 1000000 tokens, which are a text of the
 -- grammar without a fault.
 pub record IsJdf (bytes : List ℕ) (jdf : Jdf) : Type 0 where
-  pub bytes_at_most : length bytes ≤ 16777216
+  pub bytes_at_most : length bytes ≤ most_bytes
   pub utf8 : IsUtf8 bytes
   pub tokens : List Token
   pub end : Spot
   pub lexed : IsLexed bytes tokens end
-  pub tokens_at_most : length tokens ≤ 1000000
+  pub tokens_at_most : length tokens ≤ most_tokens
   pub text : IsText productions file tokens jdf None

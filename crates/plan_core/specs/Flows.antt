@@ -2,6 +2,7 @@
 -- NULL` is allowed on a flow with a tile is this project's own choice, and so are the limits.
 use Rattle.std.specs.Prelude.{ℕ, List, Option, Some, None, Bool, true, false, not, ◌&&◌, ◌==◌, ◌+◌, nat_le, nat_lt, length, is_some}
 use Rattle.std.specs.List.{list_all, list_any}
+use Rattle.ptg_base.specs.Limits.{most_dependences}
 use Rattle.term_core.specs.Term.{Term}
 use Rattle.term_core.specs.declared.flow.FlowKind.{FlowKind}
 use Rattle.term_core.specs.declared.flow.FlowKind.TheVariants.{Read, Write, Rw, Ctl}
@@ -89,6 +90,6 @@ is_destination classes spaces colls locals f t =
 abbrev pub is_flow : List ClassPlan → List ClassSpace → List Shape → ℕ → ℕ → FlowPlan → Bool
 is_flow classes spaces colls types locals f =
     is_datatype types f.kind f.datatype
-    && nat_le (length f.ins + length f.outs) 16
+    && nat_le (length f.ins + length f.outs) most_dependences
     && list_all (is_dependence locals (is_source classes spaces colls locals f)) f.ins
     && list_all (is_dependence locals (is_destination classes spaces colls locals f)) f.outs

@@ -2,6 +2,7 @@
 -- project's own choice.
 use Rattle.std.specs.Prelude.{◌≡◌, ℕ, List, Option, Some, None, Bool, ◌&&◌, ◌*◌, ◌≤◌, nat_le, nat_lt, length, map, IsTrue, slice_get}
 use Rattle.std.specs.List.{list_all}
+use Rattle.ptg_base.specs.Limits.{most_classes, most_types, most_tile_elements, most_tiles}
 use Rattle.term_core.specs.WellSpace.{IsWellSpace}
 use Rattle.term_core.specs.WellBody.{IsWellBody}
 use Rattle.term_core.specs.declared.space.ClassSpace.{ClassSpace}
@@ -35,21 +36,21 @@ tile_count rows (Some cols) = rows * cols
 -- whether a collection has 1 to 65,536 tiles, of one of so many datatypes
 abbrev pub is_shape : ℕ → Shape → Bool
 is_shape types s =
-    nat_le 1 (tile_count s.rows s.cols) && nat_le (tile_count s.rows s.cols) 65536 && nat_lt s.datatype types
+    nat_le 1 (tile_count s.rows s.cols) && nat_le (tile_count s.rows s.cols) most_tiles && nat_lt s.datatype types
 
 -- whether a tile may have so many numbers
 abbrev pub is_tile_length : ℕ → Bool
-is_tile_length n = nat_le 1 n && nat_le n 4096
+is_tile_length n = nat_le 1 n && nat_le n most_tile_elements
 
 -- at most 64 classes of different names, each with its space; 1 to 16 datatypes, given by the length of their tiles;
 -- collections of these
 pub record IsWellMade (classes : List ClassPlan) (spaces : List ClassSpace) (colls : List Shape) (elems : List ℕ) : Type 0 where
-  pub classes_at_most : length classes ≤ 64
+  pub classes_at_most : length classes ≤ most_classes
   pub one_space_each : length spaces ≡ length classes
   pub class_names : IsTrue (are_distinct (map (λ (c : ClassPlan). c.name) classes))
   pub fit : (n : ℕ) (c : ClassPlan) (s : ClassSpace) → slice_get classes n ≡ Some c → slice_get spaces n ≡ Some s
       → IsWellClass classes spaces colls (length elems) s c
   pub shapes : IsTrue (list_all (is_shape (length elems)) colls)
   pub has_default : 1 ≤ length elems
-  pub types_at_most : length elems ≤ 16
+  pub types_at_most : length elems ≤ most_types
   pub tile_lengths : IsTrue (list_all is_tile_length elems)

@@ -10,3 +10,4 @@ pub mod TaskComparing
 pub mod TaskLaws
 pub mod ItemComparing
 pub mod TextBytes
+pub mod Limits

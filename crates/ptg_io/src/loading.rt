@@ -1,6 +1,7 @@
 //! Reading a whole file.
 
 ghost use Rattle.std.specs.Prelude.{◌≡◌, ◌<◌, ◌≤◌, ◌+◌, List, ℕ, length, vec_len, IfOk, OnOk, IsErrOf, IsTrue, IsFalse};
+ghost use Rattle.ptg_base.specs.Limits.{most_bytes};
 ghost use Rattle.ptg_io.specs.Faults.{Rose};
 ghost use Rattle.ptg_io.specs.Files.{file_of, IsLonger};
 ghost use Rattle.ptg_io.specs.Load.{FailsWithin, IsReadSoFar, StopsPast};
@@ -54,7 +55,7 @@ pub fn load<F: Files>(alloc: Global, files: &mut F, name: &str) -> Result<Seq<u8
     ensures grows { (other : List ℕ) → F.faults files.old other ≤ F.faults files.new other }
     ensures given { (entries : List (List ℕ × List ℕ)) → F.contents files.old ≡ Some entries →
         IfOk result (λ bytes. file_of entries name.now ≡ Some bytes) }
-    ensures bounded { IfOk result (λ bytes. length bytes ≤ 16777216) }
+    ensures bounded { IfOk result (λ bytes. length bytes ≤ most_bytes) }
     ensures failed { IsErrOf result LoadFault.Failed →
         Rose (F.faults files.old name.now) (F.faults files.new name.now) }
     ensures too_long { IsErrOf result LoadFault.TooLong →
@@ -92,7 +93,7 @@ fn read_all<F: Files>(
     ensures grows { (other : List ℕ) → F.faults files.old other ≤ F.faults files.new other }
     ensures given { (entries : List (List ℕ × List ℕ)) → F.contents files.old ≡ Some entries →
         IfOk result (λ bytes. file_of entries name.now ≡ Some bytes.items) }
-    ensures bounded { IfOk result (λ bytes. vec_len bytes ≤ 16777216) }
+    ensures bounded { IfOk result (λ bytes. vec_len bytes ≤ most_bytes) }
     ensures failed { IsErrOf result LoadFault.Failed →
         Rose (F.faults files.old name.now) (F.faults files.new name.now) }
     ensures too_long { IsErrOf result LoadFault.TooLong →
@@ -121,11 +122,11 @@ fn read_piece<F: Files>(
     bytes: &mut Vec<u8>,
 ) -> Result<bool, LoadFault>
     requires room { 0 < length piece.old }
-    requires bounded { vec_len bytes.old ≤ 16777216 }
+    requires bounded { vec_len bytes.old ≤ most_bytes }
     requires so_far { IsReadSoFar (F.contents files.old) name.now bytes.old.items }
     ensures stays { F.contents files.new ≡ F.contents files.old }
     ensures grows { (other : List ℕ) → F.faults files.old other ≤ F.faults files.new other }
-    ensures still_bounded { OnOk result (vec_len bytes.new ≤ 16777216) }
+    ensures still_bounded { OnOk result (vec_len bytes.new ≤ most_bytes) }
     ensures still { OnOk result (IsReadSoFar (F.contents files.new) name.now bytes.new.items) }
     ensures more { IfOk result (λ more. IsTrue more → vec_len bytes.old < vec_len bytes.new) }
     ensures read { OnOk result ((n : ℕ) × F.read_gives files.old name.now (vec_len bytes.old) n files.new ×
@@ -144,7 +145,7 @@ fn read_piece<F: Files>(
         (other : List ℕ) → F.faults files.new other ≡ F.faults files.old other }
     ensures past { IsErrOf result LoadFault.TooLong →
         (n : ℕ) × F.read_gives files.old name.now (vec_len bytes.old) n files.new ×
-        (16777216 < vec_len bytes.old + n) }
+        (most_bytes < vec_len bytes.old + n) }
 {
     let n = files.read(name, bytes.len() as u64, piece)?;
     if n == 0 {

@@ -2,6 +2,7 @@
 -- the seed.
 -- Source: this project's own choice.
 use Rattle.std.specs.Prelude.{◌≡◌, ℕ, ◌≤◌}
+use Rattle.ptg_base.specs.Limits.{most_ranks}
 use Rattle.coll_data.specs.Data.{Data}
 use Rattle.plan_core.specs.declared.plan.Plan.{Plan}
 use Rattle.flow_meaning.specs.Answer.{answer}
@@ -12,7 +13,7 @@ use Rattle.ptg_top.specs.Denotation.{Denotation}
 
 -- 1 to 64 ranks
 abbrev pub AreRanks : ℕ → Type 0
-AreRanks r = (1 ≤ r) × (r ≤ 64)
+AreRanks r = (1 ≤ r) × (r ≤ most_ranks)
 
 -- the verdict of `ranks` on a consistent job: as many messages as there are edges between two ranks whose source has
 -- outputs, and the answer of the job

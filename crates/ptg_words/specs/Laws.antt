@@ -1,6 +1,7 @@
 -- What follows from the rules of the command line.
 use Rattle.std.specs.Prelude.{◌≡◌, ◌⊎◌, ℕ, ◌<◌, ◌≤◌, ◌^◌, List, [], ◌∷◌}
 use Rattle.std.specs.Str.{IsUtf8}
+use Rattle.ptg_base.specs.Limits.{most_shards, most_workers}
 use Rattle.ptg_words.specs.declared.order.Order.{Order}
 use Rattle.ptg_words.specs.declared.order.Order.TheVariants.{Run, Show, Check, Demo, Trace, Replay, Certify, Ranks}
 use Rattle.ptg_words.specs.Words.{IsUsage, Orders}
@@ -39,7 +40,7 @@ FilesAreText = (words : List (List ℕ)) (order : Order) → Orders words order 
 
 -- 1 to 64 workers, 1 to 256 shards
 abbrev pub AreCounts : ℕ → ℕ → Type 0
-AreCounts w s = (1 ≤ w) × (w ≤ 64) × (1 ≤ s) × (s ≤ 256)
+AreCounts w s = (1 ≤ w) × (w ≤ most_workers) × (1 ≤ s) × (s ≤ most_shards)
 
 -- The numbers of a command are in their ranges: 1 to 64 workers or ranks, 1 to 256 shards, 1 to 96 rows of tiles, a
 -- seed below 2^64.

@@ -3,6 +3,7 @@ use Rattle.std.specs.Prelude.{◌≡◌, ◌≢◌, ◌==◌, ◌&&◌, ◌||◌
 use Rattle.std.specs.List.{Any, list_any}
 use Rattle.std.specs.Option.{option_map_or}
 use Rattle.std.specs.Str.{IsUtf8, bytes_eq}
+use Rattle.ptg_base.specs.Limits.{most_ranks, most_shards, most_workers}
 use Rattle.ptg_base.specs.Decimal.{decimal, is_decimal}
 use Rattle.ptg_words.specs.declared.options.Options.{Options}
 use Rattle.ptg_words.specs.declared.options.Options.TheVariants.{NoOptions, Counts, CountsAndPreload}
@@ -59,7 +60,7 @@ operands_of demo = number 1 96 ∷ []
 operands_of trace = file ∷ file ∷ []
 operands_of replay = file ∷ file ∷ file ∷ []
 operands_of certify = file ∷ file ∷ []
-operands_of ranks = file ∷ file ∷ number 1 64 ∷ number 0 18446744073709551615 ∷ []
+operands_of ranks = file ∷ file ∷ number 1 most_ranks ∷ number 0 18446744073709551615 ∷ []
 
 -- the verb, and the parts of the words after it
 abbrev pub read : List (List ℕ) → Option (Verb × List Part)
@@ -87,7 +88,7 @@ has_bad_operand _ _ = false
 
 -- 1 to 64 workers and 1 to 256 shards
 abbrev pub has_bad_count : List Part → Bool
-has_bad_count ps = has_no_number 1 64 (texts_of workers ps) || has_no_number 1 256 (texts_of shards ps)
+has_bad_count ps = has_no_number 1 most_workers (texts_of workers ps) || has_no_number 1 most_shards (texts_of shards ps)
 
 abbrev pub has_bad_number : Verb → List Part → Bool
 has_bad_number verb ps = has_bad_count ps || has_bad_operand (operands_of verb) (operands ps)

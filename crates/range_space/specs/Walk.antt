@@ -2,6 +2,7 @@
 -- limits are this project's own choice.
 use Rattle.std.specs.Prelude.{◌≡◌, ℕ, suc, ◌+◌, ◌≤◌, ℤ, List, [], ◌∷◌, ◌++◌, length, Result, Ok, Err}
 use Rattle.std.specs.List.{flat_map}
+use Rattle.ptg_base.specs.Limits.{most_prefixes, most_tasks}
 use Rattle.term_core.specs.declared.space.Def.{Def}
 use Rattle.term_core.specs.declared.space.ClassSpace.{ClassSpace}
 use Rattle.range_space.specs.declared.fault.SpanFault.{SpanFault}
@@ -62,14 +63,14 @@ AllHaveValues (NoValue c vs ∷ ms) = ⊥
 -- those before it counted
 pub record IsUnstopped (tasks prefixes : ℕ) (ms : List Visit) : Type 0 where
   pub all_have_values : AllHaveValues ms
-  pub tasks_at_most : tasks + task_count ms ≤ 1000000
-  pub prefixes_at_most : prefixes + prefix_count ms ≤ 16000000
+  pub tasks_at_most : tasks + task_count ms ≤ most_tasks
+  pub prefixes_at_most : prefixes + prefix_count ms ≤ most_prefixes
 
 -- the fault that stops the walk at a visit, after so many tasks and prefixes
 abbrev pub StopsAt : ℕ → ℕ → Visit → SpaceFault → Type 0
 StopsAt tasks prefixes (NoValue c vs) fault = fault ≡ BadExpr c vs
-StopsAt tasks prefixes (Task c) fault = (tasks ≡ 1000000) × (fault ≡ TooManyTasks c)
-StopsAt tasks prefixes (Prefix c) fault = (prefixes ≡ 16000000) × (fault ≡ TooManyTasks c)
+StopsAt tasks prefixes (Task c) fault = (tasks ≡ most_tasks) × (fault ≡ TooManyTasks c)
+StopsAt tasks prefixes (Prefix c) fault = (prefixes ≡ most_prefixes) × (fault ≡ TooManyTasks c)
 
 -- the fault of the first visit that stops the walk: nothing before it does
 pub record IsFirstFault (tasks prefixes : ℕ) (ms : List Visit) (fault : SpaceFault) : Type 0 where

@@ -2,6 +2,7 @@
 
 ghost use Rattle.std.specs.Prelude.{◌≡◌, ◌+◌, ◌<◌, ◌≤◌, [], ◌∷◌, ◌++◌, length, All, OnOk, IfOk, IfErr, IsOk};
 ghost use Rattle.std.specs.List.{AllByRecursion};
+ghost use Rattle.ptg_base.specs.Limits.{most_prefixes, most_tasks};
 ghost use Rattle.range_space.specs.Values.{values};
 ghost use Rattle.range_space.specs.Sound.{prefix_total, IsSound};
 ghost use Rattle.range_space.specs.Walk.{Prefix, Task, walk, walk_among, walk_all, IsUnstopped, IsFirstFault, IsWalked, task_total};
@@ -21,8 +22,8 @@ const MOST_PREFIXES: u64 = 16_000_000;
 struct Counts {
     tasks: u64,
     prefixes: u64,
-    ghost tasks_at_most: { tasks ≤ 1000000 },
-    ghost prefixes_at_most: { prefixes ≤ 16000000 },
+    ghost tasks_at_most: { tasks ≤ most_tasks },
+    ghost prefixes_at_most: { prefixes ≤ most_prefixes },
 }
 
 // Counts a task of this class, or refuses the first one too many.
@@ -145,12 +146,12 @@ pub fn space_size(spaces: &[ClassSpace]) -> Result<u64, SpaceFault>
     requires classes { length spaces.now ≤ 64 }
     requires defs_at_most { All (λ s. length s.defs ≤ 16) spaces.now }
     ensures unstopped { IfOk result (λ _. IsUnstopped 0 0 (walk_all 0 spaces.now)) }
-    ensures tasks { IfOk result (λ n. (n ≡ task_total spaces.now) × (n ≤ 1000000)) }
-    ensures prefixes { IfOk result (λ _. prefix_total spaces.now ≤ 16000000) }
+    ensures tasks { IfOk result (λ n. (n ≡ task_total spaces.now) × (n ≤ most_tasks)) }
+    ensures prefixes { IfOk result (λ _. prefix_total spaces.now ≤ most_prefixes) }
     ensures sound { IfOk result (λ _. AllByRecursion IsSound spaces.now) }
     ensures fault { IfErr result (IsFirstFault 0 0 (walk_all 0 spaces.now)) }
-    ensures no_fault { AllByRecursion IsSound spaces.now → task_total spaces.now ≤ 1000000
-        → prefix_total spaces.now ≤ 16000000 → IsOk result }
+    ensures no_fault { AllByRecursion IsSound spaces.now → task_total spaces.now ≤ most_tasks
+        → prefix_total spaces.now ≤ most_prefixes → IsOk result }
 {
     let mut counts = Counts {
         tasks: 0,

@@ -2,6 +2,7 @@
 -- own choice.
 use Rattle.std.specs.Prelude.{◌≡◌, ◌<◌, ◌≤◌, nat_eq, ℕ, List, [], Option, Some, None, length, slice_get, if◌then◌else◌}
 use Rattle.std.specs.Map.{lookup}
+use Rattle.ptg_base.specs.Limits.{most_ranks}
 use Rattle.plan_core.specs.declared.plan.Plan.{Plan}
 use Rattle.coll_data.specs.Data.{Data}
 use Rattle.plan_data.specs.Fit.{DataFit}
@@ -44,7 +45,7 @@ pub record Keeps (P : Plan) (G : Data) (w : WorldState) (ys : List Content) (lai
   pub consistent : IsConsistent P
   pub fit : DataFit P.colls P.elems G
   pub some_ranks : 0 < length ys
-  pub few_ranks : length ys ≤ 64
+  pub few_ranks : length ys ≤ most_ranks
   pub sound : IsSoundWorld P G (length ys) w
   pub shares : HoldShares P G w ys
   pub bench : IsBenchOf P laid

@@ -2,6 +2,7 @@
 -- that ends satisfies the dependences of its successors; that a write-back is kept by the rank of its task is this
 -- project's own choice.
 use Rattle.std.specs.Prelude.{◌++◌, ◌≡◌, ◌<◌, ◌≤◌, ◌+◌, ℕ, ℤ, List, [], ◌∷◌, Option, Some, None, IsSome, IfSome, is_some, if◌then◌else◌, length, slice_index}
+use Rattle.ptg_base.specs.Limits.{most_flows}
 use Rattle.ptg_base.specs.declared.edge.Edge.{Edge}
 use Rattle.ptg_base.specs.declared.edge.WriteBack.{WriteBack}
 use Rattle.plan_core.specs.declared.flow.FlowPlan.{FlowPlan}
@@ -18,7 +19,7 @@ pub record MayTakeEdge (P : Plan) (e : Edge) (tile : Option (List ℤ)) (y : Con
   pub task : IsTask P e.to
   pub flow : FlowPlan
   pub is_flow : flow_of P.classes e.to.class e.in_flow ≡ Some flow
-  pub flow_number : e.in_flow < 8
+  pub flow_number : e.in_flow < most_flows
   pub some_goal : 0 < goal P e.to
   pub waits : IsWaiting (entry_before y e.to (goal P e.to) (priority P e.to))
   pub fits : IfSome tile (IsTileOf y.elems flow.datatype)

@@ -2,6 +2,7 @@
 -- it ends. Source: DAGuE (Parallel Computing, 2012), where a task that ends satisfies the dependences of its
 -- successors.
 use Rattle.std.specs.Prelude.{◌≡◌, ◌<◌, ◌≤◌, ◌++◌, ℤ, List, [], ◌∷◌, map, filter, length, not, option_map, slice_index, Option, Some, None, if◌then◌else◌}
+use Rattle.ptg_base.specs.Limits.{most_ranks}
 use Rattle.ptg_base.specs.declared.edge.Edge.{Edge}
 use Rattle.ptg_base.specs.declared.edge.Item.{Item}
 use Rattle.ptg_base.specs.declared.edge.Item.TheVariants as item
@@ -44,7 +45,7 @@ pub record IsVisit (v : Visit) : Type 0 where
   pub fit : DataFit (plan_of v).colls (plan_of v).elems (data_of v)
   pub well : IsWellMade (data_of v)
   pub some_ranks : 0 < v.ranks
-  pub few_ranks : v.ranks ≤ 64
+  pub few_ranks : v.ranks ≤ most_ranks
   pub sound : IsSoundWorld (plan_of v) (data_of v) v.ranks (before v)
   pub may : MayClaim (plan_of v) (before v).machine v.task.now
   pub locals_are : v.locals.now ≡ locals_of (plan_of v) v.task.now

@@ -3,6 +3,7 @@
 ghost use Rattle.std.specs.Prelude.{◌≡◌, ◌+◌, ◌<◌, ◌≤◌, ℕ, Ok, Some, cond, length, nat_eq, option_map};
 ghost use Rattle.std.specs.Map.{lookup};
 ghost use Rattle.std.specs.Option.{option_copied};
+ghost use Rattle.ptg_base.specs.Limits.{most_edges};
 ghost use Rattle.indexmap.specs.IndexMap.{spare};
 ghost use Rattle.dep_iter.specs.Items as items;
 ghost use Rattle.flow_meaning.specs.Backward.{ended};
@@ -35,7 +36,7 @@ fn filled(message: Message, tile: Option<&Tile>) -> Message
 // Posts a message with the tile that its task has left on the bench. There is room for it.
 fn post(mail: &mut Mail, bench: &Bench, message: Message)
     requires room { 0 < spare mail.old.under_way }
-    requires few { mail.old.sent < 4000000 }
+    requires few { mail.old.sent < most_edges }
     requires shape { option_map length message.tile
         ≡ option_map length (output_tile (Some (Ok bench.now.tiles)) message.edge.out_flow) }
     ensures table { (q : ℕ)

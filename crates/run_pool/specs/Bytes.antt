@@ -2,6 +2,7 @@
 -- worker. Source: this project's own choice.
 use Rattle.std.specs.Prelude.{ℕ, ◌+◌, ◌*◌, sum, Option, slice_index}
 use Rattle.std.specs.Option.{option_map_or}
+use Rattle.ptg_base.specs.Limits.{most_flows}
 use Rattle.ptg_base.specs.declared.edge.Edge.{Edge}
 use Rattle.ptg_base.specs.declared.edge.WriteBack.{WriteBack}
 use Rattle.plan_core.specs.declared.flow.FlowPlan.{FlowPlan}
@@ -28,4 +29,4 @@ sent_elements P = weigh (edge_elements P) (all_data P) + weigh (write_elements P
 
 -- the bytes of a preload for so many workers, at eight for each number
 unfoldable pub preload_bytes : Plan → ℕ → ℕ
-preload_bytes P workers = 8 * (sent_elements P + 8 * workers * sum P.elems)
+preload_bytes P workers = 8 * (sent_elements P + most_flows * workers * sum P.elems)

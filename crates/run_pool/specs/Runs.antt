@@ -1,5 +1,6 @@
 -- A run that is ready, as contracts see it, and when a preload is too large. Source: this project's own choice.
 use Rattle.std.specs.Prelude.{◌≡◌, ◌<◌, ◌≤◌, ◌^◌, ℕ, true}
+use Rattle.ptg_base.specs.Limits.{most_shards, most_workers}
 use Rattle.plan_core.specs.declared.plan.Plan.{Plan}
 use Rattle.coll_data.specs.Data.{Data}
 use Rattle.table_rule.specs.declared.job.Job.{Job}
@@ -19,9 +20,9 @@ run_of P G s =
 -- the settings are within their limits
 pub record AreSettings (s : Settings) : Type 0 where
   pub some_workers : 1 ≤ s.workers
-  pub few_workers : s.workers ≤ 64
+  pub few_workers : s.workers ≤ most_workers
   pub some_shards : 1 ≤ s.shards
-  pub few_shards : s.shards ≤ 256
+  pub few_shards : s.shards ≤ most_shards
 
 -- a preload is asked for, and takes so many bytes, which are too many
 pub record IsTooLarge (P : Plan) (s : Settings) (bytes : ℕ) : Type 0 where

@@ -1,5 +1,6 @@
 //! The rows of the tasks that trapped or wait, from the shards.
 ghost use Rattle.std.specs.Prelude.{◌≡◌, ◌+◌, ◌≤◌, ◌++◌, IsOk, OnOk, length, map, vec_capacity, vec_len};
+ghost use Rattle.ptg_base.specs.Limits.{most_tasks};
 ghost use Rattle.shard_answer.specs.Parts.{HaveDistinctEntries, all_ended, all_traps, all_waits, trap_row, waits_of};
 
 use dep_shard::Shard;
@@ -78,7 +79,7 @@ pub(crate) fn entries_are_distinct(shards: &[Shard])
 
 // How many tasks of these shards have ended.
 pub(crate) fn ended_of(shards: &[Shard]) -> u64
-    requires { all_ended shards.now ≤ 1000000 }
+    requires { all_ended shards.now ≤ most_tasks }
     ensures { result ≡ all_ended shards.now }
 {
     match shards.split_first() {

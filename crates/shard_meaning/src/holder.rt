@@ -2,6 +2,7 @@
 //! edge finds.
 
 ghost use Rattle.std.specs.Prelude.{◌≡◌, ◌<◌, ◌≤◌, ◌+◌, ◌↔◌, ℕ, ℤ, IsSome, List, None, Option, Some};
+ghost use Rattle.ptg_base.specs.Limits.{most_tasks};
 ghost use Rattle.ptg_base.specs.Lists.{IsIn};
 ghost use Rattle.ptg_base.specs.Task.{Task};
 ghost use Rattle.ptg_base.specs.declared.edge.Edge.{Edge};
@@ -43,16 +44,16 @@ pub fn a_claim_hands_out_the_inputs()
 /// task has an entry; where a task runs, the number of those that run is not 0 and fewer have ended.
 pub fn the_numbers_of_a_shard_are_bounded()
     ensures at_most { (P : Plan) (G : Data) (of : Placement) (k : ℕ) (R : Moment) (y : Content) → IsConsistent P
-        → IsSoundState P G R.state → IsShardOf P G of k R y → y.running + y.ended ≤ 1000000 }
+        → IsSoundState P G R.state → IsShardOf P G of k R y → y.running + y.ended ≤ most_tasks }
     ensures entry { (P : Plan) (G : Data) (of : Placement) (k : ℕ) (R : Moment) (y : Content) (t : Task) (e : Entry)
         → IsConsistent P → IsSoundState P G R.state → IsShardOf P G of k R y → entry_of y t ≡ Some e
-        → y.running + y.ended < 1000000 }
+        → y.running + y.ended < most_tasks }
     ensures unclaimed { (P : Plan) (G : Data) (of : Placement) (k : ℕ) (R : Moment) (y : Content) (t : Task)
         → IsConsistent P → IsSoundState P G R.state → IsShardOf P G of k R y → IsTask P t → claim_count R.state t ≡ 0
-        → y.running + y.ended < 1000000 }
+        → y.running + y.ended < most_tasks }
     ensures running { (P : Plan) (G : Data) (of : Placement) (k : ℕ) (R : Moment) (y : Content) (t : Task)
         → IsConsistent P → IsSoundState P G R.state → IsShardOf P G of k R y → of t ≡ k → 0 < run_count R t
-        → (0 < y.running) × (y.ended < 1000000) }
+        → (0 < y.running) × (y.ended < most_tasks) }
 {}
 
 /// A law: the target of an edge that may be sent is a task that waits for it. Its entry, if it has one, has the goal

@@ -1,5 +1,6 @@
 -- A table before its first step. Source: this project's own choice.
 use Rattle.std.specs.Prelude.{◌≡◌, ◌≢◌, ℕ, ◌<◌, ◌≤◌, true, List, length, slice_index}
+use Rattle.ptg_base.specs.Limits.{most_shards}
 use mathlib.Core.Option.{some}
 use lib.ListN.{get_elem?}
 use Rattle.dep_iter.specs.Consistent.{IsConsistent}
@@ -16,7 +17,7 @@ use Rattle.table_rule.specs.Words.{live_word, word_count}
 pub record IsOpening (j : Job) (words : List ℕ) (shards : List Content) : Type 0 where
   pub consistent : IsConsistent j.matched
   pub some_shards : 0 < j.shards
-  pub few_shards : j.shards ≤ 256
+  pub few_shards : j.shards ≤ most_shards
   pub shard_count : length shards ≡ j.shards
   pub long : length words ≡ word_count j.shards
   pub zero : (i : ℕ) → i ≢ live_word j.shards → slice_index words i ≡ 0

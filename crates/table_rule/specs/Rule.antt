@@ -1,5 +1,6 @@
 -- The rule of the table: it holds between any two steps of its passes. Source: this project's own choice.
 use Rattle.std.specs.Prelude.{◌≡◌, ℕ, ◌<◌, ◌≤◌, true, List, length, slice_index}
+use Rattle.ptg_base.specs.Limits.{most_shards}
 use mathlib.Core.Option.{Option}
 use Rattle.atomic_table.specs.Table.{State}
 use Rattle.dep_iter.specs.Consistent.{IsConsistent}
@@ -41,7 +42,7 @@ pub record Parts (j : Job) (s : Table) (R : Moment) : Type 0 where
   -- a consistent job, from 1 to 256 shards, and the words for them
   pub consistent : IsConsistent j.matched
   pub some_shards : 0 < j.shards
-  pub few_shards : j.shards ≤ 256
+  pub few_shards : j.shards ≤ most_shards
   pub slots : length s.homes ≡ j.shards
   pub words : length s.words ≡ word_count j.shards
   -- the moment is what all passes did together, and it is sound

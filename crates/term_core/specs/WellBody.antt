@@ -1,6 +1,7 @@
 -- Well made bodies: they name only slots and flows that there are, and set no local of the task. Source: this project's
 -- own choice; so are the limits.
 use Rattle.std.specs.Prelude.{ℕ, Bool, true, ◌&&◌, ◌+◌, ◌≤◌, nat_lt, nat_le, IsTrue}
+use Rattle.ptg_base.specs.Limits.{most_flows, most_locals, most_variables}
 use Rattle.term_core.specs.StatementList.{StatementList, Done, SetThen, PutThen, IfThen, ForThen, TrapThen}
 use Rattle.term_core.specs.Value.{is_closed_with}
 use Rattle.term_core.specs.declared.body.Body.{Body}
@@ -24,8 +25,8 @@ are_well_made locals slots flows (TrapThen w rest) = are_well_made locals slots 
 
 -- a body for so many locals (at most 16) and so many flows (at most 8), with at most 256 variables of its own
 pub record IsWellBody (locals flows : ℕ) (b : Body) : Type 0 where
-  pub locals_at_most : locals ≤ 16
-  pub flows_at_most : flows ≤ 8
+  pub locals_at_most : locals ≤ most_locals
+  pub flows_at_most : flows ≤ most_flows
   pub slots_hold_locals : locals ≤ b.slots
-  pub variables_at_most : b.slots ≤ locals + 256
+  pub variables_at_most : b.slots ≤ locals + most_variables
   pub statements : IsTrue (are_well_made locals b.slots flows b.statements)

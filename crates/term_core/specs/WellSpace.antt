@@ -2,6 +2,7 @@
 -- the JDF documentation; the limit is this project's own choice.
 use Rattle.std.specs.Prelude.{ℕ, suc, List, [], ◌∷◌, length, Option, Some, None, Bool, true, not, ◌&&◌, ◌==◌, ◌≤◌, nat_lt, IsTrue}
 use Rattle.std.specs.List.{list_all, list_any}
+use Rattle.ptg_base.specs.Limits.{most_locals}
 use Rattle.term_core.specs.Term.{Term}
 use Rattle.term_core.specs.Value.{is_closed}
 use Rattle.term_core.specs.declared.space.Def.{Def}
@@ -41,7 +42,7 @@ are_different (p ∷ ps) = not (is_among p ps) && are_different ps
 -- at most 16 definitions that name only those before them; the parameters are different definitions, each range among
 -- them
 pub record IsWellSpace (s : ClassSpace) : Type 0 where
-  pub definitions_at_most : length s.defs ≤ 16
+  pub definitions_at_most : length s.defs ≤ most_locals
   pub closed : IsTrue (are_closed 0 s.defs)
   pub within : IsTrue (list_all (λ p. nat_lt p (length s.defs)) s.params)
   pub different : IsTrue (are_different s.params)

@@ -1,6 +1,7 @@
 -- The first fault of a text as a trace of a job: of its length, else of how it is spelled, else of the first row whose
 -- task may not run then. Source: this project's own choice.
 use Rattle.std.specs.Prelude.{◌≡◌, ◌⊎◌, ◌+◌, ◌<◌, ◌≤◌, ℕ, List, [], ◌∷◌, ◌++◌, IsFalse, length, map}
+use Rattle.ptg_base.specs.Limits.{most_bytes}
 use Rattle.ptg_base.specs.Lists.{IsIn}
 use Rattle.ptg_base.specs.Task.{Task}
 use Rattle.ptg_base.specs.declared.edge.Edge.{Edge}
@@ -53,7 +54,7 @@ pub record IsUnfinished (P : Plan) (G : Data) (es : List Entry) (f : TraceFault)
 
 -- the first fault of a text
 pub data IsTraceFault (P : Plan) (G : Data) (text : List ℕ) (f : TraceFault) : Type 0 where
-  too_long : 16777216 < length text → f.row ≡ 0 → f.code ≡ TooLong → IsTraceFault P G text f
-  bad_trace : length text ≤ 16777216 → IsBadRow text f.row → f.code ≡ BadTrace → IsTraceFault P G text f
-  of_tasks : (es : List Entry) → length text ≤ 16777216 → IsWellSpelled text es
+  too_long : most_bytes < length text → f.row ≡ 0 → f.code ≡ TooLong → IsTraceFault P G text f
+  bad_trace : length text ≤ most_bytes → IsBadRow text f.row → f.code ≡ BadTrace → IsTraceFault P G text f
+  of_tasks : (es : List Entry) → length text ≤ most_bytes → IsWellSpelled text es
       → IsFaultOfRow P G es f ⊎ IsUnfinished P G es f → IsTraceFault P G text f

@@ -1,6 +1,7 @@
 -- What is read of a text as a trace of a job. Source: this project's own choice.
 use Rattle.std.specs.Prelude.{◌≡◌, ◌⊎◌, ◌+◌, ◌<◌, ◌≤◌, ℕ, List, Option, Some, None, length}
 use Rattle.std.specs.List.{AllByRecursion}
+use Rattle.ptg_base.specs.Limits.{most_bytes}
 use Rattle.ptg_base.specs.Lists.{HasNoRepeats}
 use Rattle.ptg_base.specs.Task.{Task}
 use Rattle.plan_core.specs.declared.plan.Plan.{Plan}
@@ -14,8 +15,8 @@ use Rattle.trace_core.specs.Text.{Entry, trace_text}
 
 -- a text is too long, or a row of it is not well spelled, and this is its fault
 pub data IsSpellingFault (text : List ℕ) (f : TraceFault) : Type 0 where
-  over_length : 16777216 < length text → f.row ≡ 0 → f.code ≡ TooLong → IsSpellingFault text f
-  of_a_row : length text ≤ 16777216 → IsBadRow text f.row → f.code ≡ BadTrace → IsSpellingFault text f
+  over_length : most_bytes < length text → f.row ≡ 0 → f.code ≡ TooLong → IsSpellingFault text f
+  of_a_row : length text ≤ most_bytes → IsBadRow text f.row → f.code ≡ BadTrace → IsSpellingFault text f
 
 -- the fault with this code of the row after those of these tasks
 abbrev pub fault_after : List Task → Option TraceCode → Option TraceFault
@@ -29,7 +30,7 @@ IsReadAs P es ts (Some f) = AreRowsBefore P es ts f.code × (f.row ≡ length ts
 
 -- what is read of a text that is well spelled
 pub record IsReading (P : Plan) (text : List ℕ) (ts : List Task) (fault : Option TraceFault) : Type 0 where
-  pub at_most : length text ≤ 16777216
+  pub at_most : length text ≤ most_bytes
   pub entries : List Entry
   pub spelled : IsWellSpelled text entries
   pub read : IsReadAs P entries ts fault
@@ -40,7 +41,7 @@ IsReadFault P text f = IsSpellingFault text f ⊎ ((ts : List Task) × IsReading
 
 -- a text within 16 MiB is that of these tasks of a job, which are different
 pub record IsListOf (P : Plan) (text : List ℕ) (ts : List Task) : Type 0 where
-  pub at_most : length text ≤ 16777216
+  pub at_most : length text ≤ most_bytes
   pub is_text : text ≡ trace_text P ts
   pub tasks : AllByRecursion (IsTask P) ts
   pub once : HasNoRepeats ts

@@ -2,6 +2,7 @@
 -- project's own choice.
 use Rattle.std.specs.Prelude.{◌≡◌, ◌≢◌, ◌+◌, ◌<◌, ◌≤◌, ℕ, ℤ, pos, negsuc, nat_lt, Bool, false, ◌&&◌, IsTrue, List, [], ◌∷◌, ◌++◌, length}
 use Rattle.std.specs.List.{AllByRecursion, list_all}
+use Rattle.ptg_base.specs.Limits.{most_tasks}
 pub use Rattle.ptg_base.specs.Names.{is_name}
 use Rattle.trace_core.specs.Text.{Entry, head_line, row_line, rows_text}
 
@@ -17,7 +18,7 @@ pub record IsSpelled (e : Entry) : Type 0 where
 
 -- a text begins with the head of a trace of n rows, and with these rows; `rest` follows them
 pub record BeginsWith (text : List ℕ) (n : ℕ) (es : List Entry) (rest : List ℕ) : Type 0 where
-  pub at_most : n ≤ 1000000
+  pub at_most : n ≤ most_tasks
   pub split : text ≡ head_line n ++ (rows_text es ++ rest)
   pub spelled : AllByRecursion IsSpelled es
 
@@ -27,7 +28,7 @@ IsWellSpelled text es = BeginsWith text (length es) es []
 
 -- a text does not begin with the head of a trace, or not with a row
 abbrev pub HasNoHead : List ℕ → Type 0
-HasNoHead text = (n : ℕ) (rest : List ℕ) → n ≤ 1000000 → text ≡ head_line n ++ rest → ⊥
+HasNoHead text = (n : ℕ) (rest : List ℕ) → n ≤ most_tasks → text ≡ head_line n ++ rest → ⊥
 
 abbrev pub HasNoRow : List ℕ → Type 0
 HasNoRow text = (e : Entry) (rest : List ℕ) → IsSpelled e → text ≡ row_line e ++ rest → ⊥

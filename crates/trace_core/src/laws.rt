@@ -2,6 +2,7 @@
 
 ghost use Rattle.std.specs.Prelude.{◌≡◌, ◌≤◌, List, ℕ, length, map};
 ghost use Rattle.std.specs.List.{AllByRecursion};
+ghost use Rattle.ptg_base.specs.Limits.{most_bytes, most_tasks};
 ghost use Rattle.ptg_base.specs.Task.{Task};
 ghost use Rattle.plan_core.specs.declared.plan.Plan.{Plan};
 ghost use Rattle.coll_data.specs.Data.{Data};
@@ -23,7 +24,7 @@ pub fn a_text_has_one_first_fault()
 /// job with the names of a JDF are.
 pub fn the_text_of_a_whole_order_has_no_fault()
     ensures { (P : Plan) (G : Data) (ts : List Task) (f : TraceFault) → IsConsistent P → IsWholeOrder P G ts
-        → AllByRecursion IsSpelled (map (entry_of P) ts) → length (trace_text P ts) ≤ 16777216
+        → AllByRecursion IsSpelled (map (entry_of P) ts) → length (trace_text P ts) ≤ most_bytes
         → IsTraceFault P G (trace_text P ts) f → ⊥ }
 {}
 
@@ -31,5 +32,5 @@ pub fn the_text_of_a_whole_order_has_no_fault()
 pub fn a_text_is_that_of_one_list()
     ensures { (P : Plan) (ts us : List Task) → AllByRecursion (IsTask P) ts → AllByRecursion (IsTask P) us
         → AllByRecursion IsSpelled (map (entry_of P) ts) → AllByRecursion IsSpelled (map (entry_of P) us)
-        → length ts ≤ 1000000 → length us ≤ 1000000 → trace_text P ts ≡ trace_text P us → ts ≡ us }
+        → length ts ≤ most_tasks → length us ≤ most_tasks → trace_text P ts ≡ trace_text P us → ts ≡ us }
 {}

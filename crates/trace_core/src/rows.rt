@@ -2,6 +2,7 @@
 
 ghost use Rattle.std.specs.Prelude.{◌≡◌, ◌≢◌, ◌≤◌, ◌++◌, List, ℕ, MatchOption};
 ghost use Rattle.std.specs.Fmt.{decimal};
+ghost use Rattle.ptg_base.specs.Limits.{most_tasks};
 ghost use Rattle.trace_core.specs.Rows.{BeginsWithRow, IsRowOf, row_content};
 ghost use Rattle.trace_core.specs.Spelling.{HasNoHead, HasNoRow, IsSpelled};
 ghost use Rattle.trace_core.specs.Text.{Entry, head_line};
@@ -52,8 +53,8 @@ pub(crate) fn next_row(text: &[u8]) -> Option<(Row<'_>, &[u8])>
 
 // The number of rows that a field says, if a text may have so many.
 fn row_count(field: &[u8]) -> Option<u64>
-    ensures { MatchOption result ((n : ℕ) → n ≤ 1000000 → field.now ≢ decimal n) (λ n.
-        (n ≤ 1000000) × (field.now ≡ decimal n)) }
+    ensures { MatchOption result ((n : ℕ) → n ≤ most_tasks → field.now ≢ decimal n) (λ n.
+        (n ≤ most_tasks) × (field.now ≡ decimal n)) }
 {
     let Some(n) = number(field) else {
         return None;
@@ -70,7 +71,7 @@ fn row_count(field: &[u8]) -> Option<u64>
 // The number of rows in the head with which a text begins, and the rest of the text.
 pub(crate) fn head(text: &[u8]) -> Option<(u64, &[u8])>
     ensures { MatchOption result (HasNoHead text.now) (λ found.
-        (found.0 ≤ 1000000) × (text.now ≡ head_line found.0 ++ found.1.now)) }
+        (found.0 ≤ most_tasks) × (text.now ≡ head_line found.0 ++ found.1.now)) }
 {
     let Some(fields) = after_word(text, b"trace,") else {
         return None;

@@ -1,6 +1,7 @@
 -- The rules of the command line over the words themselves. Source: this project's own choice.
 use Rattle.std.specs.Prelude.{◌≡◌, ◌≢◌, ℕ, true, false, List, ◌∷◌, length, map}
 use Rattle.std.specs.List.{Any, filter}
+use Rattle.ptg_base.specs.Limits.{most_shards, most_workers}
 use Rattle.ptg_base.specs.Lists.{IsIn}
 use Rattle.ptg_words.specs.Words.{IsProper, Verb, has_bad_operand, is_number, operand_count, operands_of}
 use Rattle.word_laws.specs.Forms.{HasForm, IsPreload, IsShards, IsTextOfShards, IsTextOfWorkers, IsWorkers, LacksValue, OccursTwice, is_other, with_previous}
@@ -20,8 +21,8 @@ pub data BreaksRule (verb : Verb) (first : List ℕ) (words : List (List ℕ)) :
   shards_twice : OccursTwice (IsShards verb) words → BreaksRule verb first words
   preload_twice : OccursTwice (IsPreload verb) words → BreaksRule verb first words
   wrong_count : length (other_words verb words) ≢ operand_count verb → BreaksRule verb first words
-  bad_workers : (text : List ℕ) → IsTextOfWorkers verb words text → is_number 1 64 text ≡ false
+  bad_workers : (text : List ℕ) → IsTextOfWorkers verb words text → is_number 1 most_workers text ≡ false
       → BreaksRule verb first words
-  bad_shards : (text : List ℕ) → IsTextOfShards verb words text → is_number 1 256 text ≡ false
+  bad_shards : (text : List ℕ) → IsTextOfShards verb words text → is_number 1 most_shards text ≡ false
       → BreaksRule verb first words
   bad_operand : has_bad_operand (operands_of verb) (other_words verb words) ≡ true → BreaksRule verb first words

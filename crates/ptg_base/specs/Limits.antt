@@ -1,0 +1,72 @@
+-- The limits that several crates speak of. Source: this project's own choice.
+use Rattle.std.specs.Prelude.{ℕ}
+
+-- how many bytes the text of a JDF, of data or of a trace may have: 16 MiB
+abbrev pub most_bytes : ℕ
+most_bytes = 16777216
+
+-- how many tokens a JDF may have
+abbrev pub most_tokens : ℕ
+most_tokens = 1000000
+
+-- how many classes a JDF may have; how many parameters, definitions and flows a class; how many dependences a flow; and
+-- how many variables a body may declare
+abbrev pub most_classes : ℕ
+most_classes = 64
+
+abbrev pub most_params : ℕ
+most_params = 8
+
+abbrev pub most_locals : ℕ
+most_locals = 16
+
+abbrev pub most_flows : ℕ
+most_flows = 8
+
+abbrev pub most_dependences : ℕ
+most_dependences = 16
+
+abbrev pub most_variables : ℕ
+most_variables = 256
+
+-- how many types of tiles there may be, DEFAULT among them, and how many the data may name beside it; how many tiles a
+-- collection may have, how many elements a tile, and how many the tiles of all collections
+abbrev pub most_types : ℕ
+most_types = 16
+
+abbrev pub most_named_types : ℕ
+most_named_types = 15
+
+abbrev pub most_tiles : ℕ
+most_tiles = 65536
+
+abbrev pub most_tile_elements : ℕ
+most_tile_elements = 4096
+
+abbrev pub most_elements : ℕ
+most_elements = 16777216
+
+-- how many tasks a job may have, and how many lists of the first locals of its tasks the walk may meet
+abbrev pub most_tasks : ℕ
+most_tasks = 1000000
+
+abbrev pub most_prefixes : ℕ
+most_prefixes = 16000000
+
+-- how many edges may go into tasks, and how many edges out of tasks and write-backs there may be
+abbrev pub most_edges : ℕ
+most_edges = 4000000
+
+-- the greatest weight of a task on a longest chain
+abbrev pub most_weight : ℕ
+most_weight = 1000000
+
+-- how many workers, shards and ranks a run may have
+abbrev pub most_workers : ℕ
+most_workers = 64
+
+abbrev pub most_shards : ℕ
+most_shards = 256
+
+abbrev pub most_ranks : ℕ
+most_ranks = 64
