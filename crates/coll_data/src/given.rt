@@ -99,7 +99,7 @@ impl Given {
     pub fn is_well_made(&self)
         ensures { IsWellMade self.now }
     {
-        let _ = self.colls();
+        let _ = &self.types;
     }
 
     /// The sum of all elements of all collections, exactly. It takes no memory.

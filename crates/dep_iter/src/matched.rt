@@ -55,7 +55,7 @@ impl Matched {
     pub fn is_consistent(&self)
         ensures { IsConsistent self.now }
     {
-        let _ = self.plan();
+        let _ = &self.plan;
     }
 
     /// How many tasks it has.
