@@ -12,7 +12,7 @@ use Rattle.dep_shard.specs.Queue.{Candidate, order, is_candidate, is_ready_at, H
 use Rattle.dep_shard.proofs.Candidates.{same_means, candidate_self}
 use Rattle.dep_shard.proofs.Waiting.{count_waiting-push, count_waiting-set_at, count_waiting-swap_remove_at, all_wait, count_all}
 use Rattle.std.proofs.lemmas.Bool.Decides.{nat_tests}
-use Rattle.std.specs.Map.{lookup, lookup_key, keys_of, values_of}
+use Rattle.std.specs.Map.{lookup_key, keys_of, values_of}
 use Rattle.std.specs.Ordering.{int_eq}
 use Rattle.std.specs.BinaryHeap.{KeepsHeap}
 use Rattle.std.specs.List.{IsDistinct}
@@ -85,12 +85,12 @@ pub gets_room : (es fs : Entries) (rs ss : List Candidate) (len capacity waiting
     → IsQueueOf fs ss len' capacity' waiting
 gets_room es fs rs ss len capacity waiting len' capacity' k same items count more =
     let held : IsQueueOf es rs len' capacity' waiting = record {
-        heap = k.heap;
-        has_ready = k.has_ready;
-        at_most_goal = k.at_most_goal;
-        counted = k.counted;
-        room = omega (arith, k.room);
-      } in
+      heap = k.heap;
+      has_ready = k.has_ready;
+      at_most_goal = k.at_most_goal;
+      counted = k.counted;
+      room = omega (arith, k.room);
+    } in
     subst (λ (xs : Entries). IsQueueOf xs ss len' capacity' waiting) (sym same) (subst (λ (cs : List Candidate). IsQueueOf es cs len' capacity' waiting) (sym items) held)
 
 -- after a ready entry came, and its candidate

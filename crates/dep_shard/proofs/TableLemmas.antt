@@ -1,14 +1,13 @@
 -- Entries that are moved into an empty map.
-use Rattle.std.specs.Prelude.{◌≡◌, List, [], ◌∷◌, ◌++◌}
+use Rattle.std.specs.Prelude.{◌≡◌, [], ◌∷◌, ◌++◌}
 use Rattle.std.proofs.Common.{sym, ap, ◌∙◌, subst}
 use Rattle.std.proofs.lemmas.List.{append_assoc, append-nil}
 use Rattle.std.specs.List.{IsDistinct}
 use Rattle.std.specs.Map.{keys_of}
 use Rattle.indexmap.specs.IndexMap.{insert_entry, insert_all}
 use Rattle.indexmap.proofs.MapLemmas.{absent_before, absent_from_lookup, insert_entry-absent}
-use Rattle.ptg_base.specs.Task.{Task}
 use Rattle.ptg_base.specs.TaskComparing.{same_task}
-use Rattle.dep_shard.specs.Content.{Entry, Entries}
+use Rattle.dep_shard.specs.Content.{Entries}
 use Rattle.dep_shard.proofs.QueueLemmas.{task_equivalence}
 
 -- where all tasks are distinct, what is inserted comes after what was there
