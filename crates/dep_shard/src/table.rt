@@ -26,8 +26,8 @@ const SMALL: usize = 64;
 // Of the entries that were promised, one in so many is expected at a time.
 const SHARE: usize = 16;
 
-// The entries of a shard by task: the map in use, and an empty one that is reserved and takes its place when it is full.
-// So the map in use stays small, and look-ups fast, while few entries of the many that were promised are there.
+// The entries of a shard by task: the map in use, and an empty one that is reserved and takes its place when it is
+// full. So the map in use stays small, and look-ups fast, while few of the entries that were promised are there.
 #[derive(Drop)]
 pub(crate) struct Table {
     used: TaskMap,
