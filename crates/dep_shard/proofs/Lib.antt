@@ -3,3 +3,4 @@ pub mod StockLemmas
 pub mod Candidates
 pub mod Waiting
 pub mod QueueLemmas
+pub mod TableLemmas

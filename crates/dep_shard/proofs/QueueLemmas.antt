@@ -10,15 +10,17 @@ use Rattle.ptg_base.specs.TaskComparing.{same_task}
 use Rattle.dep_shard.specs.Content.{Entry, Entries, Content, entry_in, IsReady, IsWaiting, HasNoReady, IsEntryAt, ArrivesAt, Updates, with_arrival}
 use Rattle.dep_shard.specs.Queue.{Candidate, order, is_candidate, is_ready_at, HasEveryReady, HaveAtMostGoal, one_if_waiting, count_waiting, IsQueueOf}
 use Rattle.dep_shard.proofs.Candidates.{same_means, candidate_self}
-use Rattle.dep_shard.proofs.Waiting.{count_waiting-insert, count_waiting-set_at, count_waiting-swap_remove_at, all_wait, count_all}
+use Rattle.dep_shard.proofs.Waiting.{count_waiting-push, count_waiting-set_at, count_waiting-swap_remove_at, all_wait, count_all}
 use Rattle.std.proofs.lemmas.Bool.Decides.{nat_tests}
-use Rattle.std.specs.Map.{lookup, lookup_key, keys_of, values_of}
+use Rattle.std.specs.Map.{lookup_key, keys_of, values_of}
 use Rattle.std.specs.Ordering.{int_eq}
 use Rattle.std.specs.BinaryHeap.{KeepsHeap}
 use Rattle.std.specs.List.{IsDistinct}
 use Rattle.std.specs.Cmp.{IsEquivalence, decided}
 use Rattle.ptg_base.specs.TaskLaws.{same_task-decides}
-use Rattle.indexmap.specs.IndexMap.{insert_entry, set_value_at}
+use Rattle.indexmap.specs.IndexMap.{set_value_at}
+use Rattle.indexmap.specs.Layout.{hash_map}
+use Rattle.indexmap.proofs.CallerLemmas.{updates-with_value_at}
 use Rattle.indexmap.proofs.MapLemmas.{Found-position, index-first}
 use Rattle.indexmap.proofs.RemoveLemmas.{own_first}
 
@@ -77,29 +79,43 @@ at_most_new f h e is = let one : f ≡ e = cc in subst (λ (x : Entry). x.arrive
 no_new : (e : Entry) → None ≡ Some e → e.arrived ≤ e.goal
 no_new e is = absurd cc
 
+-- The queue has more room, and nothing else differs.
+pub gets_room : (es fs : Entries) (rs ss : List Candidate) (len capacity waiting len' capacity' : ℕ)
+    → IsQueueOf es rs len capacity waiting → fs ≡ es → ss ≡ rs → len' ≡ len → capacity ≤ capacity'
+    → IsQueueOf fs ss len' capacity' waiting
+gets_room es fs rs ss len capacity waiting len' capacity' k same items count more =
+    let held : IsQueueOf es rs len' capacity' waiting = record {
+      heap = k.heap;
+      has_ready = k.has_ready;
+      at_most_goal = k.at_most_goal;
+      counted = k.counted;
+      room = omega (arith, k.room);
+    } in
+    subst (λ (xs : Entries). IsQueueOf xs ss len' capacity' waiting) (sym same) (subst (λ (cs : List Candidate). IsQueueOf es cs len' capacity' waiting) (sym items) held)
+
 -- after a ready entry came, and its candidate
-pub enters_ready : (eq : Task → Task → Bool) (es fs : Entries) (t : Task) (e : Entry) (x : Candidate) (rs ss : List Candidate) (len capacity waiting len' capacity' : ℕ)
-    → IsQueueOf es rs len capacity waiting → lookup (eq t) es ≡ None → fs ≡ insert_entry eq es t e → Updates es fs t (Some e) → IsReady e
+pub enters_ready : (es fs : Entries) (t : Task) (e : Entry) (x : Candidate) (rs ss : List Candidate) (len capacity waiting len' capacity' : ℕ)
+    → IsQueueOf es rs len capacity waiting → fs ≡ es ++ (t, e) ∷ [] → Updates es fs t (Some e) → IsReady e
     → IsPermutation (x ∷ rs) ss → KeepsHeap order rs ss → x.0 ≡ e.priority → x.1.0 ≡ t → len' + waiting ≤ capacity'
     → IsQueueOf fs ss len' capacity' waiting
-enters_ready eq es fs t e x rs ss len capacity waiting len' capacity' k absent is up ready moves heap prio same room = record {
+enters_ready es fs t e x rs ss len capacity waiting len' capacity' k is up ready moves heap prio same room = record {
   heap = heap k.heap;
   has_ready = changed es fs t (Some e) ss up (served t e x rs ss moves prio same) (pushed es x rs ss moves k.has_ready);
   at_most_goal = at_most_after es fs t (Some e) up (at_most_new e (omega (arith, ready))) k.at_most_goal;
-  counted = ap count_waiting is ∙ omega (arith, count_waiting-insert eq es t e absent, k.counted, none_waits e ready);
+  counted = ap count_waiting is ∙ omega (arith, count_waiting-push es t e, k.counted, none_waits e ready);
   room = room;
 }
 
 -- after a waiting entry came
-pub enters_waiting : (eq : Task → Task → Bool) (es fs : Entries) (t : Task) (e : Entry) (rs : List Candidate) (len capacity waiting : ℕ)
-    → IsQueueOf es rs len capacity waiting → lookup (eq t) es ≡ None → fs ≡ insert_entry eq es t e → Updates es fs t (Some e) → IsWaiting e
+pub enters_waiting : (es fs : Entries) (t : Task) (e : Entry) (rs : List Candidate) (len capacity waiting : ℕ)
+    → IsQueueOf es rs len capacity waiting → fs ≡ es ++ (t, e) ∷ [] → Updates es fs t (Some e) → IsWaiting e
     → len + waiting < capacity
     → IsQueueOf fs rs len capacity (waiting + 1)
-enters_waiting eq es fs t e rs len capacity waiting k absent is up waits_e room = record {
+enters_waiting es fs t e rs len capacity waiting k is up waits_e room = record {
   heap = k.heap;
   has_ready = changed es fs t (Some e) rs up (λ p h. absurd (not_ready e waits_e p h)) k.has_ready;
   at_most_goal = at_most_after es fs t (Some e) up (at_most_new e (omega (arith, waits_e))) k.at_most_goal;
-  counted = ap count_waiting is ∙ omega (arith, count_waiting-insert eq es t e absent, k.counted, one_waits e waits_e);
+  counted = ap count_waiting is ∙ omega (arith, count_waiting-push es t e, k.counted, one_waits e waits_e);
   room = omega arith;
 }
 
@@ -158,6 +174,10 @@ if_none (Some x) P p = tt
 
 pub task_equivalence : IsEquivalence same_task
 task_equivalence = decided same_task same_task-decides
+
+-- a write at an index gives its task the new entry
+pub updates_at : (es : Entries) (i : ℕ) (t : Task) (e f : Entry) → IsDistinct same_task (keys_of es) → slice_get es i ≡ Some (t, e) → Updates es (set_value_at es i f) t (Some f)
+updates_at es i t e f distinct at = (updates-with_value_at (hash_map es es 0) i f task_equivalence distinct t e at).0
 
 row_of : (es : Entries) (i : ℕ) (t : Task) → slice_get (keys_of es) i ≡ Some t → (e : Entry) → slice_get (values_of es) i ≡ Some e → slice_get es i ≡ Some (t, e)
 row_of [] i t key e value = absurd cc

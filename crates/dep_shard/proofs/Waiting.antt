@@ -1,26 +1,18 @@
 -- How many entries wait, as entries come, change and go.
-use Rattle.std.specs.Prelude.{◌≡◌, ℕ, ◌+◌, ◌<◌, ◌≤◌, Bool, true, false, cond, if◌then◌else◌, [], ◌∷◌, length, Some, None, swap_remove, slice_index_or, slice_get}
+use Rattle.std.specs.Prelude.{◌≡◌, ℕ, ◌+◌, ◌<◌, ◌≤◌, Bool, true, false, cond, [], ◌∷◌, ◌++◌, length, Some, swap_remove, slice_index_or, slice_get}
 use Rattle.std.proofs.Common.{zero, suc, refl, sym, ap, ◌∙◌, arith, subst}
 use Rattle.std.proofs.lemmas.Bool.Decides.{nat_tests}
 use Rattle.std.specs.Map.{lookup}
 use Rattle.std.specs.List.{sum_by}
 use Rattle.std.proofs.lemmas.List.Sums.{sum_by-cons, sum_by-swap_remove}
-use Rattle.indexmap.specs.IndexMap.{insert_entry, set_value_at}
+use Rattle.indexmap.specs.IndexMap.{set_value_at}
 use Rattle.ptg_base.specs.Task.{Task}
 use Rattle.dep_shard.specs.Content.{Entry, Entries, IsWaiting}
 use Rattle.dep_shard.specs.Queue.{count_waiting, one_if_waiting}
 
-pub count_waiting-insert : (eq : Task → Task → Bool) (es : Entries) (t : Task) (e : Entry) → lookup (eq t) es ≡ None → count_waiting (insert_entry eq es t e) ≡ count_waiting es + one_if_waiting e
-count_waiting-insert eq [] t e absent = omega arith
-count_waiting-insert eq (x ∷ xs) t e absent = by (count_waiting-insert eq xs t e) (eq t x.0) refl
-  where
-    by : (lookup (eq t) xs ≡ None → count_waiting (insert_entry eq xs t e) ≡ count_waiting xs + one_if_waiting e) → (b : Bool) → eq t x.0 ≡ b → count_waiting (insert_entry eq (x ∷ xs) t e) ≡ count_waiting (x ∷ xs) + one_if_waiting e
-    by rest true h =
-        let no : Some x.1 ≡ None = sym (ap (λ b. cond b (Some x.1) (lookup (eq t) xs)) h) ∙ absent in
-        cc
-    by rest false h =
-        let tail : lookup (eq t) xs ≡ None = sym (ap (λ b. cond b (Some x.1) (lookup (eq t) xs)) h) ∙ absent in
-        ap (λ b. count_waiting (if b then (x.0, e) ∷ xs else x ∷ insert_entry eq xs t e)) h ∙ omega (arith, rest tail)
+pub count_waiting-push : (es : Entries) (t : Task) (e : Entry) → count_waiting (es ++ (t, e) ∷ []) ≡ count_waiting es + one_if_waiting e
+count_waiting-push [] t e = omega arith
+count_waiting-push (x ∷ xs) t e = omega (arith, count_waiting-push xs t e)
 
 pub count_waiting-set_at : (es : Entries) (i : ℕ) (t : Task) (e f : Entry) → slice_get es i ≡ Some (t, e) → count_waiting (set_value_at es i f) + one_if_waiting e ≡ count_waiting es + one_if_waiting f
 count_waiting-set_at [] i t e f is = cc

@@ -2,4 +2,6 @@ pub mod Arrivals
 pub mod TileList
 pub mod Stock
 pub mod Content
+pub mod Table
+pub mod TableLends
 pub mod Queue

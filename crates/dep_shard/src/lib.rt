@@ -7,6 +7,7 @@ mod parts;
 mod queue;
 mod shard;
 mod stock;
+mod table;
 mod tile_list;
 
 pub use arrivals::Arrivals;

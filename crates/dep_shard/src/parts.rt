@@ -8,7 +8,7 @@ ghost use Rattle.ptg_base.specs.TaskComparing.{same_task};
 ghost use Rattle.dep_shard.specs.Content.{entry_in};
 
 use crate::entry::Entry;
-use crate::queue::Table;
+use crate::table::Table;
 use ptg_base::{TaskId, Tile, WriteBack};
 use std::marker::Model;
 use term_core::Trap;

@@ -3,13 +3,10 @@ ghost use Rattle.std.specs.Prelude.{◌≡◌, ◌≤◌};
 ghost use Rattle.std.specs.BinaryHeap.{IsHeap, heap_items, heap_len, heap_capacity};
 ghost use Rattle.dep_shard.specs.Queue.{HasEveryReady, HasLiveFront, order, is_live as is_live_at};
 
-use crate::entry::Entry;
-use indexmap::IndexMap;
+use crate::table::Table;
 use ptg_base::TaskId;
 use std::cmp::Reverse;
 use std::collections::BinaryHeap;
-
-pub(crate) type Table = IndexMap<TaskId, Entry>;
 
 // A task with its priority. It was ready when it came to the queue, and is stale once it was taken.
 pub(crate) type Candidate = (i64, Reverse<TaskId>);

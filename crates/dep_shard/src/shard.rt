@@ -13,10 +13,10 @@ ghost use Rattle.dep_shard.specs.Content.{Entry as EntryContent, HasSpares, Uses
 use crate::arrivals::Arrivals;
 use crate::entry::Entry;
 use crate::parts::{Entries, Parts};
-use crate::queue::{Queue, Table, drop_all_stale, drop_stale};
+use crate::queue::{Queue, drop_all_stale, drop_stale};
 use crate::stock::Stock;
+use crate::table::Table;
 use crate::tile_list::LinkedTile;
-use indexmap::IndexMap;
 use ptg_base::{Edge, OutOfMemory, TaskId, Tile, WriteBack};
 use std::alloc::Global;
 use std::cmp::Reverse;
@@ -56,7 +56,6 @@ pub struct Shard {
 impl Model for Shard {
     ghost use Rattle.std.specs.Prelude.{◌-◌, min, vec_len, vec_capacity};
     ghost use Rattle.std.specs.BinaryHeap.{heap_items, heap_len, heap_capacity};
-    ghost use Rattle.indexmap.specs.IndexMap.{spare};
     ghost use Rattle.dep_shard.specs.Content.{Content};
     ghost use Rattle.dep_shard.specs.Queue.{IsQueueOf};
 
@@ -71,7 +70,7 @@ impl Model for Shard {
           ended = s.ended;
           elems = s.stock.elems;
           spare = record {
-            entries = min (spare s.table) (heap_capacity s.queue - heap_len s.queue - s.waiting);
+            entries = min s.table.spare (heap_capacity s.queue - heap_len s.queue - s.waiting);
             tiles = s.stock.spare;
             writes = vec_capacity s.written - vec_len s.written;
             traps = vec_capacity s.trapped - vec_len s.trapped;
@@ -88,7 +87,7 @@ impl Shard {
         ensures { IfOk result (λ shard. IsNew shard elems.now) }
     {
         Ok(Shard {
-            table: IndexMap::new(alloc),
+            table: Table::new(alloc),
             queue: BinaryHeap::new(alloc),
             waiting: 0,
             stock: Stock::new(alloc, elems)?,
@@ -160,10 +159,7 @@ impl Shard {
         ensures rest { KeepsAllButEntries self.old self.new }
         ensures spare { Uses self.old.spare self.new.spare 1 None 0 0 }
     {
-        let _none = self
-            .table
-            .insert(t.copy(), Entry::new(0, priority))
-            .unwrap();
+        self.table.insert(t.copy(), Entry::new(0, priority));
         self.queue.push((priority, Reverse(t.copy()))).unwrap();
     }
 
@@ -178,10 +174,7 @@ impl Shard {
         ensures spare { Uses self.old.spare self.new.spare 1 None 0 0 }
     {
         let index = self.table.len();
-        let _none = self
-            .table
-            .insert(t.copy(), Entry::new(goal, priority))
-            .unwrap();
+        self.table.insert(t.copy(), Entry::new(goal, priority));
         self.waiting += 1;
         index
     }

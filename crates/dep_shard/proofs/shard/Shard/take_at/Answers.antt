@@ -14,7 +14,7 @@ invariant_of-self-2 c =
     let asked : slice_get es c.args.index ≡ Some (c.requires.ready.task, c.requires.ready.entry) = ap (λ (y : Content). slice_get y.entries c.args.index) c.self.view_is ∙ c.requires.ready.at in
     let ready : IsReady e = subst IsReady ((one_row es c.args.index _ _ _ _ asked at).1) c.requires.ready.ready in
     leaves es c.swap_remove_index.new.self.entries c.args.index t e (heap_items c.self.inside.queue) _ _ _
-    c.self.invariant at c.in_ok-_task.ensures.entries c.in_ok-_task.ensures.updates.0 ready
+    c.self.invariant at c.in_ok-_task.ensures.entries c.in_ok-_task.ensures.updates ready
 
 pub returns-clause-some : goal.returns-clause-some
 returns-clause-some c t k =
@@ -23,7 +23,7 @@ returns-clause-some c t k =
     let same : es ≡ c.args.self.now.entries = ap (λ (y : Content). y.entries) c.self.view_is in
     let view = ap (λ (fs : Entries). slice_get fs c.args.index) same in
     let here = one_row es c.args.index _ _ _ _ at (view ∙ k.at) in
-    let up : Updates es c.swap_remove_index.new.self.entries t None = subst (λ (u : Task). Updates es c.swap_remove_index.new.self.entries u None) here.0 c.in_ok-_task.ensures.updates.0 in
+    let up : Updates es c.swap_remove_index.new.self.entries t None = subst (λ (u : Task). Updates es c.swap_remove_index.new.self.entries u None) here.0 c.in_ok-_task.ensures.updates in
     record {
       entry = k.entry;
       is = k.is;
