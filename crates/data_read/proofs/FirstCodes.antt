@@ -1,7 +1,8 @@
 -- The fault of a record is the first code that fits it.
 use Rattle.std.specs.Prelude.{◌==◌, ◌&&◌, ◌||◌, ◌-◌, ◌*◌, nat_le, nat_lt, is_none, find}
-use Rattle.std.proofs.Common.{◌≡◌, ℕ, ◌+◌, Bool, true, false, not, List, length, drop, codes, Some, None, Result, Ok, Err, refl, sym, ◌∙◌, ap}
-use Rattle.std.specs.Option.{option_map_or}
+use Rattle.std.proofs.Common.{◌≡◌, ℕ, ◌+◌, Bool, true, false, not, List, length, drop, codes, Option, Some, None, Result, Ok, Err, refl, sym, ◌∙◌, ap}
+use Rattle.std.specs.Option.{option_and_then, option_map, option_map_or}
+use Rattle.ptg_base.specs.Limits.{most_elements}
 use Rattle.coll_data.specs.Tiles.{tile_count}
 use Rattle.coll_data.specs.declared.fault.DataCode.{DataCode}
 use Rattle.coll_data.specs.declared.fault.DataCode.TheVariants.{BadName, NameTwice, UnknownType, BadNumber, TooManyTiles, TooManyElements}
@@ -9,7 +10,7 @@ use Rattle.data_read.specs.Fields.{field, is_name, whole}
 use Rattle.data_read.specs.Draft.{Draft, coll_named, is_new, slot_at, type_named}
 use Rattle.data_read.specs.Records.{coll_of, coll_record, collof_record, column, columns, element_count, first_record, first_value, int_record, later_record, numbers, shape_of, tile_record, type_record}
 use Rattle.data_read.specs.WholeRecords.{Row, begins}
-use Rattle.data_read.specs.Codes.{all_codes, both_pass, code_of, first_code, first_code_at_start, is_over}
+use Rattle.data_read.specs.Codes.{all_codes, both_pass, code_of, first_code, first_code_at_start}
 use Rattle.data_read.proofs.Choices.{by_option}
 use Rattle.list_lemmas.proofs.Truth.{by_test}
 use Rattle.list_lemmas.proofs.Options.{by_result}
@@ -78,9 +79,13 @@ coll_fits d row type at UnknownType = is_none (type_named d type)
 coll_fits d row type at BadNumber = (is_none (whole (field row (at + 1))) || is_none (columns row (at + 1 + 1))) || false
 coll_fits d row type at TooManyTiles = both_pass (λ rows cols. is_none (shape_of rows cols)) (whole (field row (at + 1))) (columns row (at + 1 + 1))
 coll_fits d row type at TooManyElements =
-    option_map_or
-    (λ (known : ℕ × ℕ). both_pass (λ rows cols. is_over d known.1 (shape_of rows cols)) (whole (field row (at + 1))) (columns row (at + 1 + 1)))
-    (type_named d type) false
+    option_map_or (λ n. not (nat_le (d.elements + n) most_elements))
+    (option_and_then
+    (λ (known : ℕ × ℕ).
+    option_map (λ (s : ℕ × Option ℕ). tile_count s.0 s.1 * known.1)
+    (option_and_then (λ rows. option_and_then (shape_of rows) (columns row (at + 1 + 1))) (whole (field row (at + 1)))))
+    (type_named d type))
+    false
 coll_fits d row type at code = false
 
 coll_of_code : (d : Draft) (row : Row) (type : List ℕ) (at : ℕ) → code_of (coll_of d type row at) ≡ find (coll_fits d row type at) all_codes

@@ -1,7 +1,7 @@
 -- When each code of a fault fits a record, whatever the other codes do, and the order of the codes. Source: this
 -- project's own choice.
 use Rattle.std.specs.Prelude.{◌≡◌, ℕ, ◌+◌, ◌-◌, ◌*◌, Bool, false, not, ◌&&◌, ◌||◌, ◌==◌, nat_le, nat_lt, List, [], ◌∷◌, length, drop, codes, find, Option, Some, None, is_some, is_none, Result, Ok, Err, if◌then◌else◌}
-use Rattle.std.specs.Option.{option_map_or}
+use Rattle.std.specs.Option.{option_and_then, option_map, option_map_or}
 use Rattle.ptg_base.specs.Limits.{most_elements, most_named_types}
 use Rattle.coll_data.specs.Tiles.{tile_count}
 use Rattle.coll_data.specs.declared.fault.DataCode.{DataCode}
@@ -99,19 +99,23 @@ has_other_shape row =
     both_pass (λ rows cols. is_none (shape_of rows cols)) (whole (field row (at + 1))) (columns row (at + 2)))
     row
 
--- the tiles of all collections have more than 2^24 elements, where a tile of this one has so many
-abbrev pub is_over : Draft → ℕ → Option (ℕ × Option ℕ) → Bool
-is_over d elements shape =
-    option_map_or (λ (s : ℕ × Option ℕ). not (nat_le (d.elements + tile_count s.0 s.1 * elements) most_elements)) shape false
+-- the shape of the collection that a record asks for, whose own name is the field of this number
+abbrev pub asked_shape : Row → ℕ → Option (ℕ × Option ℕ)
+asked_shape row at =
+    option_and_then (λ rows. option_and_then (shape_of rows) (columns row (at + 2))) (whole (field row (at + 1)))
 
--- the tiles of all collections so far have too many elements
+-- how many elements its tiles have, of the type of this name
+abbrev pub asked_elements : Draft → Row → List ℕ → ℕ → Option ℕ
+asked_elements d row type at =
+    option_and_then
+    (λ (known : ℕ × ℕ). option_map (λ (s : ℕ × Option ℕ). tile_count s.0 s.1 * known.1) (asked_shape row at))
+    (type_named d type)
+
+-- with the collection that a record asks for the tiles of all collections have too many elements
 abbrev pub has_no_room : Draft → Row → Bool
 has_no_room d row =
     is_coll_with
-    (λ type at.
-    option_map_or
-    (λ (known : ℕ × ℕ). both_pass (λ rows cols. is_over d known.1 (shape_of rows cols)) (whole (field row (at + 1))) (columns row (at + 2)))
-    (type_named d type) false)
+    (λ type at. option_map_or (λ n. not (nat_le (d.elements + n) most_elements)) (asked_elements d row type at) false)
     row
 
 -- the tile's place is none of its collection

@@ -1,7 +1,6 @@
 -- The fields of a record of a data file: blanks around them, names, and whole numbers. Names are spelled as in the JDF
 -- documentation; the rest is this project's own choice.
-use Rattle.std.specs.Prelude.{ℕ, ◌+◌, Bool, false, ◌&&◌, ◌||◌, ◌==◌, nat_le, ℤ, pos, neg_ℤ, List, [], ◌∷◌, take, get_or, Option, Some, None, if◌then◌else◌}
-use Rattle.std.specs.List.{list_all}
+use Rattle.std.specs.Prelude.{ℕ, ◌+◌, Bool, ◌&&◌, ◌||◌, ◌==◌, ℤ, pos, neg_ℤ, List, [], ◌∷◌, take, get_or, Option, Some, None, if◌then◌else◌}
 use Rattle.ptg_base.specs.Decimal.{is_decimal, decimal}
 pub use Rattle.ptg_base.specs.Names.{is_name}
 
