@@ -7,6 +7,7 @@ use Rattle.jdf_lex.specs.declared.fault.JdfCode.{JdfCode}
 use Rattle.jdf_lex.specs.declared.fault.JdfCode.TheVariants.{Unclosed, TooManyTokens}
 use Rattle.jdf_lex.specs.declared.fault.JdfFault.{JdfFault}
 use Rattle.jdf_lex.specs.declared.lexical_unit.LexicalUnit.{LexicalUnit}
+use Rattle.jdf_lex.specs.declared.token.Lexed.{Lexed}
 use Rattle.jdf_lex.specs.declared.lexical_unit.LexicalUnit.TheVariants.{Blank, LineComment, BlockComment, TokenOf}
 use Rattle.grammar_core.specs.declared.token.Spot.{Spot}
 use Rattle.grammar_core.specs.declared.token.Token.{Token}
@@ -103,6 +104,10 @@ pub record IsTokenFault (text : List ℕ) (fault : JdfFault) : Type 0 where
   pub lexed : IsLexedTo front left [] text tokens
   pub spot : fault.spot ≡ spot_after front
   pub wrong : IsFaultAt tokens left fault.code
+
+-- The tokens of a text, at most 1,000,000, and the spot after its last byte.
+abbrev pub IsTokensOf : List ℕ → Lexed → Type 0
+IsTokensOf text lexed = IsLexed text lexed.tokens lexed.end × (length lexed.tokens ≤ most_tokens)
 
 -- A text has tokens, at most 1,000,000.
 abbrev pub HasTokens : List ℕ → Type 0

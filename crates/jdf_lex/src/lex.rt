@@ -4,11 +4,12 @@ ghost use Rattle.std.specs.Prelude.{◌≡◌, ◌⊎◌, ◌+◌, ◌++◌, ◌
 ghost use Rattle.ptg_base.specs.Limits.{most_bytes, most_tokens};
 ghost use Rattle.jdf_lex.specs.declared.fault.JdfCode.TheVariants.{Unclosed, TooManyTokens};
 ghost use Rattle.jdf_lex.specs.declared.fault.JdfFault.{JdfFault};
-ghost use Rattle.ptg_base.specs.declared.refusal.Refusal.TheVariants.{Fault, OutOfMemory};
+ghost use Rattle.ptg_base.specs.Returns.{FindsOrRefuses};
+ghost use Rattle.ptg_base.specs.declared.refusal.Refusal.TheVariants.{Fault};
 ghost use Rattle.jdf_lex.specs.declared.lexical_unit.LexicalUnit.TheVariants.{TokenOf};
 ghost use Rattle.grammar_core.specs.declared.token.Spot.{Spot};
 ghost use Rattle.grammar_core.specs.declared.token.Token.{Token};
-ghost use Rattle.jdf_lex.specs.Tokens.{IsLexed, IsTokenFault};
+ghost use Rattle.jdf_lex.specs.Tokens.{IsTokenFault, IsTokensOf};
 ghost use Rattle.jdf_lex.specs.Reading.{front_unit, token_here, IsCursorIn, IsScanned};
 
 use crate::cursor::{Cursor, advance};
@@ -96,7 +97,7 @@ fn read_unit(
 // The tokens of a text as bytes.
 fn lex(alloc: Global, text: &[u8]) -> Result<Lexed, JdfRefusal>
     requires { length text.now ≤ most_bytes }
-    ensures found { IfOk result (λ lexed. IsLexed text.now lexed.tokens lexed.end × (length lexed.tokens ≤ most_tokens)) }
+    ensures found { IfOk result (IsTokensOf text.now) }
     ensures fault { (f : JdfFault) → result ≡ Err (Fault f) → IsTokenFault text.now f }
 {
     let mut tokens = Seq::new(alloc);
@@ -118,15 +119,8 @@ fn lex(alloc: Global, text: &[u8]) -> Result<Lexed, JdfRefusal>
 /// Each byte is read a bounded number of times; no clause says so.
 pub fn tokens(alloc: Global, text: &str) -> Result<Lexed, JdfRefusal>
     requires { length text.now ≤ most_bytes }
-    // The result is the list of the text's tokens.
-    ensures found { IfOk result (λ lexed. IsLexed text.now lexed.tokens lexed.end × (length lexed.tokens ≤ most_tokens)) }
-    // If the text has tokens, they are the result, unless memory runs out.
-    ensures only { (tokens : List Token) (end : Spot) → IsLexed text.now tokens end → length tokens ≤ most_tokens
-        → (result ≡ Ok (record { tokens = tokens; end = end })) ⊎ (result ≡ Err OutOfMemory) }
-    // A fault that is returned is the first fault of the text.
-    ensures fault { (f : JdfFault) → result ≡ Err (Fault f) → IsTokenFault text.now f }
-    // If the text has a first fault, it is the result, unless memory runs out.
-    ensures refused { (f : JdfFault) → IsTokenFault text.now f → (result ≡ Err (Fault f)) ⊎ (result ≡ Err OutOfMemory) }
+    // What is found is the list of the text's tokens; the fault is the first one.
+    ensures exact { FindsOrRefuses (IsTokensOf text.now) (IsTokenFault text.now) result }
 {
     lex(alloc, text.as_bytes())
 }
