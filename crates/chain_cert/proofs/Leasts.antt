@@ -1,23 +1,22 @@
 -- The least of some tasks, and the heaviest row.
-use Rattle.std.proofs.Common.{◌≡◌, ℕ, ◌+◌, ◌<◌, ◌≤◌, Bool, true, false, List, [], ◌∷◌, ◌++◌, length, drop, map, slice_get, add-one, refl, ap, sym, ◌∙◌, subst, append_assoc, ◌⊎◌, inl, inr, Option, Some, None, arith}
+use Rattle.std.proofs.Common.{◌≡◌, ℕ, ◌<◌, Bool, true, false, List, [], ◌∷◌, ◌++◌, cond, refl, ap, sym, ◌∙◌, subst, append_assoc, ◌⊎◌, inl, inr, Option, Some, None, arith}
 use Rattle.std.specs.Prelude.{nat_le}
+use Rattle.std.specs.List.{filter, fold, reduce}
+use Rattle.std.specs.Ordering.{min_by_ordering}
+use Rattle.std.specs.declared.cmp.Ordering.{Ordering}
+use Rattle.std.specs.declared.cmp.Ordering.TheVariants.{Less, Equal, Greater}
 use Rattle.std.proofs.lemmas.Bool.{false≢true, false_from_ne_true, leb-false, leb-true}
-use Rattle.std.proofs.lemmas.List.{append-nil, drop_all}
+use Rattle.std.proofs.lemmas.List.{append-nil}
 use Rattle.ptg_base.specs.Lists.{IsIn}
 use Rattle.ptg_base.specs.Task.{Task}
+use Rattle.ptg_base.specs.TaskComparing.{task_cmp}
+use Rattle.ptg_base.specs.TaskLaws.{task_cmp-compares}
 use Rattle.ptg_base.specs.TaskOrder.{task_before}
-use Rattle.ptg_base.specs.declared.edge.Edge.{Edge}
-use Rattle.plan_core.specs.declared.plan.Plan.{Plan}
 use Rattle.list_lemmas.proofs.Truth.{by_test}
 use Rattle.list_lemmas.proofs.Members.{IsIn-append_left, IsIn-append_right, from_push}
-use Rattle.list_lemmas.proofs.Places.{slice_get_there, drop_from}
 use Rattle.list_lemmas.proofs.Tasks.{before_trans}
-use Rattle.term_core.specs.declared.space.ClassSpace.{ClassSpace}
-use Rattle.range_space.specs.Tasks.{tasks}
-use Rattle.dep_iter.specs.Tasks.{task, tasks_from}
-use Rattle.dep_iter.specs.Edges.{in_edges, sources}
 use Rattle.chain_cert.specs.Finding.{IsHeaviestRow, IsLeastWhere}
-use Rattle.chain_cert.proofs.TaskSorting.{not_itself}
+use Rattle.chain_cert.proofs.TaskSorting.{not_both, not_itself}
 
 module _ (test : Task → Bool) (ts : List Task) (t : Task) where
   -- one more task that does not pass the test
@@ -57,31 +56,46 @@ module _ (test : Task → Bool) (ts : List Task) (t : Task) where
     λ u i k. elim (from_push u ts t i) [ inl old ↦ h.2 u old k | inr e ↦ ap (λ v. task_before v b) e ∙ more ],
   )
 
--- of these edges some are left, and of the sources of those before them the least is known
-pub record LeastSoFar (test : Task → Bool) (all left : List Edge) (found : Option Task) : Type 0 where
-  pub passed : List Edge
-  pub split : all ≡ passed ++ left
-  pub least : IsLeastWhere test (map (λ (e : Edge). e.from) passed) found
+-- the lesser of two tasks, as `min` picks it
+abbrev pub lesser : Task → Task → Task
+lesser a b = min_by_ordering (task_cmp a b) a b
 
-map_push : (es : List Edge) (e : Edge) → map (λ (d : Edge). d.from) (es ++ e ∷ []) ≡ map (λ (d : Edge). d.from) es ++ e.from ∷ []
-map_push [] e = refl
-map_push (d ∷ ds) e = ap (λ l. d.from ∷ l) (map_push ds e)
+-- what it picks after one more task, and after others
+abbrev next : Option Task → Task → Option Task
+next None t = Some t
+next (Some a) t = Some (lesser a t)
 
-pub least_start : (test : Task → Bool) (all : List Edge) → LeastSoFar test all all None
-least_start test all = record { passed = []; split = refl; least = λ u i. absurd i }
+abbrev picks : Option Task → List Task → Option Task
+picks None us = reduce lesser us
+picks (Some a) us = Some (fold lesser a us)
 
-pub least_next : (test : Task → Bool) (all left : List Edge) (e : Edge) (old new : Option Task) (counts : Bool) → counts ≡ test e.from
-    → ((test : Task → Bool) (ts : List Task) → counts ≡ test e.from → IsLeastWhere test ts old → IsLeastWhere test (ts ++ e.from ∷ []) new) → LeastSoFar test all (e ∷ left) old → LeastSoFar test all left new
-least_next test all left e old new counts is step w = record {
-  passed = w.passed ++ e ∷ [];
-  split = w.split ∙ sym (append_assoc w.passed (e ∷ []) left);
-  least = subst (λ l. IsLeastWhere test l new) (sym (map_push w.passed e)) (step test (map (λ (d : Edge). d.from) w.passed) is w.least);
-}
+picks_next : (o : Option Task) (t : Task) (us : List Task) → picks (next o t) us ≡ picks o (t ∷ us)
+picks_next None t us = refl
+picks_next (Some a) t us = refl
 
-pub least_end : (test : Task → Bool) (P : Plan) (t : Task) (all : List Edge) (o : Option Task) → all ≡ in_edges P t → LeastSoFar test all [] o → IsLeastWhere test (sources P t) o
-least_end test P t all o is w =
-    let these : w.passed ≡ in_edges P t = sym (w.split ∙ append-nil w.passed) ∙ is in
-    subst (λ es. IsLeastWhere test (map (λ (e : Edge). e.from) es) o) these w.least
+-- of the tasks that pass a test it picks the least
+module _ (test : Task → Bool) where
+  least_next : (seen : List Task) (t : Task) (o : Option Task) → test t ≡ true → IsLeastWhere test seen o → IsLeastWhere test (seen ++ t ∷ []) (next o t)
+  least_next seen t None passes h = least_first test seen t passes h
+  least_next seen t (Some a) passes h = pick (task_cmp a t) refl
+    where
+      pick : (o : Ordering) → task_cmp a t ≡ o → IsLeastWhere test (seen ++ t ∷ []) (Some (min_by_ordering o a t))
+      pick Less e = least_old test seen t a (false_from_ne_true (task_before t a) (not_both a t ((task_cmp-compares a t).before.0 e))) h
+      pick Equal e = least_old test seen t a (false_from_ne_true (task_before t a) (λ b. not_itself a (subst (λ u. task_before u a ≡ true) (sym ((task_cmp-compares a t).same.0 e)) b))) h
+      pick Greater e = least_new test seen t a passes ((task_cmp-compares a t).after.0 e) h
+
+  least_after : (seen ts : List Task) (o : Option Task) → IsLeastWhere test seen o → IsLeastWhere test (seen ++ ts) (picks o (filter test ts))
+  least_after seen [] None h = subst (λ l. IsLeastWhere test l None) (sym (append-nil seen)) h
+  least_after seen [] (Some a) h = subst (λ l. IsLeastWhere test l (Some a)) (sym (append-nil seen)) h
+  least_after seen (t ∷ ts) o h =
+      let others = filter test ts in
+      subst (λ l. IsLeastWhere test l (picks o (filter test (t ∷ ts)))) (append_assoc seen (t ∷ []) ts)
+      (by_test (test t)
+      (λ k. subst (IsLeastWhere test ((seen ++ t ∷ []) ++ ts)) (picks_next o t others ∙ ap (λ b. picks o (cond b (t ∷ others) others)) (sym k)) (least_after (seen ++ t ∷ []) ts (next o t) (least_next seen t o k h)))
+      (λ k. subst (IsLeastWhere test ((seen ++ t ∷ []) ++ ts)) (ap (λ b. picks o (cond b (t ∷ others) others)) (sym k)) (least_after (seen ++ t ∷ []) ts o (least_skips test seen t o k h))))
+
+  pub least_where : (ts : List Task) (o : Option Task) → o ≡ reduce lesser (filter test ts) → IsLeastWhere test ts o
+  least_where ts o is = subst (IsLeastWhere test ts) (sym is) (least_after [] ts None (λ u i. absurd i))
 
 -- one more row
 module _ (rows : List (Task × ℕ)) (row : Task × ℕ) where
@@ -121,41 +135,3 @@ module _ (rows : List (Task × ℕ)) (row : Task × ℕ) where
           )
     ],
   )
-
--- of all these tasks some are left, and the least is known of those before them and any others
-pub record LeastListed (test : Task → Bool) (all left : List Task) (old new : Option Task) : Type 0 where
-  pub listed : List Task
-  pub split : all ≡ listed ++ left
-  pub least : (ts : List Task) → IsLeastWhere test ts old → IsLeastWhere test (ts ++ listed) new
-
-pub listed_start : (test : Task → Bool) (all : List Task) (o : Option Task) → LeastListed test all all o o
-listed_start test all o = record { listed = []; split = refl; least = λ ts h. subst (λ l. IsLeastWhere test l o) (sym (append-nil ts)) h }
-
-pub listed_next : (test : Task → Bool) (all left : List Task) (t : Task) (old mid new : Option Task) (counts : Bool) → counts ≡ test t
-    → ((test : Task → Bool) (ts : List Task) → counts ≡ test t → IsLeastWhere test ts mid → IsLeastWhere test (ts ++ t ∷ []) new) → LeastListed test all (t ∷ left) old mid → LeastListed test all left old new
-listed_next test all left t old mid new counts is step w = record {
-  listed = w.listed ++ t ∷ [];
-  split = w.split ∙ sym (append_assoc w.listed (t ∷ []) left);
-  least = λ ts h. subst (λ l. IsLeastWhere test l new) (append_assoc ts w.listed (t ∷ [])) (step test (ts ++ w.listed) is (w.least ts h));
-}
-
-pub listed_end : (test : Task → Bool) (all : List Task) (old new : Option Task) → LeastListed test all [] old new → (ts : List Task) → IsLeastWhere test ts old → IsLeastWhere test (ts ++ all) new
-listed_end test all old new w ts h = subst (λ l. IsLeastWhere test (ts ++ l) new) (sym (w.split ∙ append-nil w.listed)) (w.least ts h)
-
-module _ (P : Plan) (test : Task → Bool) (class : ℕ) (ss : List ClassSpace) (is : drop class P.spaces ≡ ss) where
-  -- after the tasks of a class come those of the classes after it
-  pub least_then : (a b c : Option Task) → class < length P.spaces
-      → ((s : ClassSpace) (ts : List Task) → slice_get P.spaces class ≡ Some s → IsLeastWhere test ts a → IsLeastWhere test (ts ++ map (task class) (tasks s)) b)
-      → ((rest : List ClassSpace) (ts : List Task) → drop (class + 1) P.spaces ≡ rest → IsLeastWhere test ts b → IsLeastWhere test (ts ++ tasks_from (class + 1) rest) c)
-      → (ts : List Task) → IsLeastWhere test ts a → IsLeastWhere test (ts ++ tasks_from class ss) c
-  least_then a b c lt first later ts h =
-      let found = slice_get_there P.spaces class lt in
-      let rest = drop (class + 1) P.spaces in
-      let here = map (task class) (tasks found.0) in
-      let split : found.0 ∷ rest ≡ ss = ap (λ k. found.0 ∷ drop k P.spaces) (add-one class) ∙ sym (drop_from P.spaces class found.0 found.1) ∙ is in
-      subst (λ l. IsLeastWhere test l c) (append_assoc ts here (tasks_from (class + 1) rest) ∙ ap (λ k. ts ++ (here ++ tasks_from k rest)) (add-one class) ∙ ap (λ l. ts ++ tasks_from class l) split)
-      (later rest (ts ++ here) refl (first found.0 ts found.1 h))
-
-  -- no class is left
-  pub least_done : (a : Option Task) → length P.spaces ≤ class → (ts : List Task) → IsLeastWhere test ts a → IsLeastWhere test (ts ++ tasks_from class ss) a
-  least_done a ge ts h = subst (λ l. IsLeastWhere test (ts ++ tasks_from class l) a) (sym (drop_all class P.spaces ge) ∙ is) (subst (λ l. IsLeastWhere test l a) (sym (append-nil ts)) h)

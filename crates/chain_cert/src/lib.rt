@@ -8,7 +8,6 @@ mod class_weights;
 mod cycles;
 mod heaviest;
 mod laws;
-mod least;
 mod leftover;
 mod leveling;
 mod levels;

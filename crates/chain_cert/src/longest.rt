@@ -7,12 +7,12 @@ ghost use Rattle.dep_iter.specs.Tasks.{IsTask, all_tasks};
 ghost use Rattle.dep_iter.specs.Edges.{sources};
 ghost use Rattle.chain_cert.specs.Certificates.{AreLevels};
 ghost use Rattle.chain_cert.specs.Chains.{HasNoCycle};
-ghost use Rattle.chain_cert.specs.Finding.{HasAllLevels, IsHeaviestRow, IsLeastWhere, is_heaviest_source};
+ghost use Rattle.chain_cert.specs.Finding as finding;
+ghost use Rattle.chain_cert.specs.Finding.{HasAllLevels, IsHeaviestRow, IsLeastWhere};
 ghost use Rattle.chain_cert.specs.Levels.{IsLevel};
 ghost use Rattle.chain_cert.specs.Printed.{HasGreatestLevel, IsHeaviestSource, IsLeast, IsPrintedChain};
 ghost use Rattle.chain_cert.specs.Weights as weighing;
 
-use crate::least::lesser;
 use crate::leveling::level_in;
 use crate::levels::{is_before, weight_of};
 use dep_iter::{Matched, in_edges};
@@ -65,6 +65,13 @@ fn last_task(m: &Matched, weights: &[u64], rows: &[(TaskId, u64)]) -> Option<Tas
     Some(last)
 }
 
+// Whether a heaviest chain with the level n comes to a task of the weight w by this source.
+fn is_heaviest_source(table: &IndexMap<TaskId, u64>, s: &TaskId, w: u64, n: u64) -> bool
+    ensures { result ≡ finding.is_heaviest_source table.now.entries w n s.now }
+{
+    u128::from(level_in(table, s)) + u128::from(w) == u128::from(n)
+}
+
 // The least source by which a heaviest chain with the level n comes to a task of the weight w, if there is one.
 fn least_heaviest_source(
     table: &IndexMap<TaskId, u64>,
@@ -74,18 +81,12 @@ fn least_heaviest_source(
     n: u64,
 ) -> Option<TaskId>
     requires { IsTask plan.now t.now }
-    ensures { IsLeastWhere (is_heaviest_source table.now.entries w n) (sources plan.now t.now) result }
+    ensures { IsLeastWhere (finding.is_heaviest_source table.now.entries w n) (sources plan.now t.now) result }
 {
-    let mut least = None;
-    for edge in in_edges(plan, t) {
-        let level = level_in(table, &edge.from);
-        least = lesser(
-            least,
-            &edge.from,
-            u128::from(level) + u128::from(w) == u128::from(n),
-        );
-    }
-    least
+    in_edges(plan, t)
+        .map(|edge| edge.from)
+        .filter(|s| is_heaviest_source(table, s, w, n))
+        .min()
 }
 
 // The task before one in the printed chain, if there is one.

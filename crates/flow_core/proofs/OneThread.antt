@@ -1,7 +1,7 @@
 -- What a thread does between two tasks, and where it ends.
-use Rattle.std.proofs.Common.{◌≡◌, ℕ, suc, drop, slice_get, ◌+◌, ◌<◌, ◌≤◌, ℤ, Bool, true, false, cond, is_some, List, [], ◌∷◌, ◌++◌, length, map, refl, ap, sym, ◌∙◌, subst, ◌⊎◌, Option, Some, None, Ok, Err, IsSomeAnd, IsTrue, ◌↔◌, ◌≢◌, inl, inr, arith, append_assoc, length-append, lt-ltb}
+use Rattle.std.proofs.Common.{◌≡◌, ◌+◌, ◌<◌, ℤ, Bool, true, false, cond, is_some, List, [], ◌∷◌, ◌++◌, length, map, refl, ap, sym, ◌∙◌, subst, ◌⊎◌, Option, Some, None, Ok, Err, IsTrue, ◌↔◌, ◌≢◌, inl, inr, arith, append_assoc, length-append, lt-ltb}
 use Rattle.std.proofs.lemmas.Bool.{false≢true}
-use Rattle.std.proofs.lemmas.List.{append-nil, drop_all, map-append}
+use Rattle.std.proofs.lemmas.List.{append-nil, map-append}
 use Rattle.std.specs.Prelude.{unwrap_or}
 use Rattle.std.specs.Map.{keys_of, lookup}
 use Rattle.ptg_base.specs.Lists.{IsIn}
@@ -18,10 +18,8 @@ use Rattle.coll_data.specs.Data.{Data}
 use Rattle.list_lemmas.proofs.Members.{IsIn-append_left, IsIn-append_right, IsIn-map, from_append, from_map}
 use Rattle.list_lemmas.proofs.Truth.{by_test}
 use Rattle.list_lemmas.proofs.Counts.{weigh-push}
-use Rattle.list_lemmas.proofs.Places.{slice_get_there, drop_from}
-use Rattle.term_core.specs.declared.space.ClassSpace.{ClassSpace}
 use Rattle.range_space.specs.Tasks.{tasks}
-use Rattle.dep_iter.specs.Tasks.{IsTask, all_tasks, task, tasks_from}
+use Rattle.dep_iter.specs.Tasks.{IsTask, all_tasks}
 use Rattle.dep_iter.specs.Items.{items, out_edges, write_backs}
 use Rattle.dep_iter.specs.Consistent.{IsConsistent}
 use Rattle.dep_iter.proofs.Listing.{listed}
@@ -300,21 +298,6 @@ rest_done P ts left a b w d =
     let none : w.sent ≡ [] = sym (append-nil w.sent) ∙ sym w.split_items in
     subst (λ l. HasDone P l [] a b) (sym w.split) (subst (λ l. HasDone P (w.tasks ++ left) (l ++ []) a b) none (done_then P w.tasks left w.sent [] a b b w.done d))
 
--- the tasks of a class, and those of the classes after it
-pub class_then : (P : Plan) (class : ℕ) (ss : List ClassSpace) (a b c : RunState) → class < length P.spaces → drop class P.spaces ≡ ss
-    → ((s : ClassSpace) → slice_get P.spaces class ≡ Some s → HasDone P (map (task class) (tasks s)) [] a b)
-    → ((rest : List ClassSpace) → drop (suc class) P.spaces ≡ rest → HasDone P (tasks_from (suc class) rest) [] b c) → HasDone P (tasks_from class ss) [] a c
-class_then P class ss a b c lt e first later =
-    let found = slice_get_there P.spaces class lt in
-    let split : found.0 ∷ drop (suc class) P.spaces ≡ ss = sym (drop_from P.spaces class found.0 found.1) ∙ e in
-    let rest = drop (suc class) P.spaces in
-    subst (λ l. HasDone P (tasks_from class l) [] a c) split
-    (done_then P (map (task class) (tasks found.0)) (tasks_from (suc class) rest) [] [] a b c (first found.0 found.1) (later rest refl))
-
--- no class is left
-pub no_class : (P : Plan) (class : ℕ) (ss : List ClassSpace) (r : RunState) → length P.spaces ≤ class → drop class P.spaces ≡ ss → HasDone P (tasks_from class ss) [] r r
-no_class P class ss r ge e = subst (λ l. HasDone P (tasks_from class l) [] r r) (sym (drop_all class P.spaces ge) ∙ e) (nothing_done P r)
-
 -- the task that was claimed last is one of the job
 pub last_task : (P : Plan) (G : Data) (r : RunState) (fits : Fits P G r) (t : Task) (running : List Task) → running ++ t ∷ [] ≡ running_tasks r → IsTask P t
 last_task P G r fits t running last = (fits.sound.claimed_have_all t (found_key t r.claims None (last_runs P G r fits t running last))).task
@@ -377,16 +360,9 @@ module _ (P : Plan) (t : Task) (a b : RunState) (outputs : has_outputs (end_of a
       let mine = (write_among (items P t) there.0).1 (subst (IsIn there.0) is there.1) in
       due (item.Write e) (subst (λ i. IsIn i (items P t)) (sym there.2) mine) w.done.ends
 
--- the tasks of a class are tasks of the job, and so are those of them that are left
-pub job_task : (P : Plan) (class : ℕ) (s : ClassSpace) → slice_get P.spaces class ≡ Some s → (all : List (List ℤ)) (params : List ℤ) → all ≡ tasks s → IsIn params all → IsTask P (task class params)
-job_task P class s here all params is i = subst (λ o. IsSomeAnd o (λ (x : ClassSpace). IsIn params (tasks x))) (sym here) (subst (IsIn params) is i)
-
-pub class_task : (P : Plan) (class : ℕ) (s : ClassSpace) → slice_get P.spaces class ≡ Some s → (all left : List (List ℤ)) (params : List ℤ) (a b : RunState) → all ≡ tasks s
-    → IsSoFar P (map (task class) all) (map (task class) (params ∷ left)) [] [] a b → IsTask P (task class params)
-class_task P class s here all left params a b is w =
-    let among : IsIn (task class params) (map (task class) all) = subst (IsIn (task class params)) (sym w.split) (IsIn-append_right (task class params) w.tasks (map (task class) (params ∷ left)) (inl refl)) in
-    let there = from_map (task class) all (task class params) among in
-    subst (IsTask P) (sym there.2) (job_task P class s here all there.0 is there.1)
+-- the next task of a walk over all tasks is one of the job
+pub next_task : (P : Plan) (t : Task) (left : List Task) (a b : RunState) → IsSoFar P (all_tasks P) (t ∷ left) [] [] a b → IsTask P t
+next_task P t left a b w = (listed P t).1 (subst (IsIn t) (sym w.split) (IsIn-append_right t w.tasks (t ∷ left) (inl refl)))
 
 -- an edge that is due goes to a task of the job
 pub due_target : (P : Plan) (G : Data) → IsConsistent P → (r : RunState) → Fits P G r → (e : Edge) → IsDue P r (item.Edge e) → IsTask P e.to

@@ -1,7 +1,6 @@
 -- Searches for what may happen next, and what follows where nothing is found.
-use Rattle.std.proofs.Common.{◌≡◌, ℕ, suc, ◌<◌, ◌≤◌, Bool, true, false, not, cond, List, [], ◌∷◌, ◌++◌, drop, length, map, slice_get, refl, ap, sym, ◌∙◌, subst, Option, Some, None, Ok, Err, IsTrue, ◌↔◌, inl, inr, arith}
+use Rattle.std.proofs.Common.{◌≡◌, ◌≤◌, Bool, true, false, not, cond, List, [], ◌∷◌, refl, ap, sym, ◌∙◌, subst, Option, Some, None, Ok, Err, IsTrue, ◌↔◌, inl, inr, arith}
 use Rattle.std.proofs.lemmas.Bool.{false≢true}
-use Rattle.std.proofs.lemmas.List.{drop_all}
 use Rattle.std.specs.Prelude.{unwrap_or}
 use Rattle.std.specs.Map.{keys_of, lookup}
 use Rattle.ptg_base.specs.Lists.{IsIn}
@@ -12,15 +11,11 @@ use Rattle.ptg_base.specs.declared.edge.Edge.{Edge}
 use Rattle.ptg_base.specs.declared.edge.WriteBack.{WriteBack}
 use Rattle.ptg_base.specs.declared.edge.Item.{Item}
 use Rattle.ptg_base.specs.declared.edge.Item.TheVariants as item
-use Rattle.term_core.specs.declared.space.ClassSpace.{ClassSpace}
 use Rattle.plan_core.specs.declared.plan.Plan.{Plan}
 use Rattle.coll_data.specs.Data.{Data}
-use Rattle.range_space.specs.Tasks.{tasks}
-use Rattle.list_lemmas.proofs.Members.{IsIn-append_left, IsIn-append_right, IsIn-map, from_append, from_map}
 use Rattle.list_lemmas.proofs.Truth.{by_test}
 use Rattle.list_lemmas.proofs.Counts.{count-some}
-use Rattle.list_lemmas.proofs.Places.{slice_get_there, drop_from}
-use Rattle.dep_iter.specs.Tasks.{IsTask, all_tasks, task, tasks_from}
+use Rattle.dep_iter.specs.Tasks.{IsTask, all_tasks}
 use Rattle.dep_iter.specs.Items.{items, out_edges, write_backs}
 use Rattle.dep_iter.specs.Consistent.{IsConsistent}
 use Rattle.dep_iter.proofs.Listing.{listed}
@@ -57,43 +52,6 @@ module _ {A : Type 0} (Q : A → Type 0) where
 
   pub search_ends : (all : List A) → IsSearched Q all [] → IsTrue false ↔ HasOne Q all
   search_ends all s = (λ h. absurd (false≢true h), λ h. absurd ((s.later h).1))
-
-  -- one of two lists
-  pub one_left : (xs ys : List A) → HasOne Q xs → IsTrue true ↔ HasOne Q (xs ++ ys)
-  one_left xs ys h = (λ k. (h.0, IsIn-append_left h.0 xs ys h.1, h.2), λ k. refl)
-
-  pub one_right : (xs ys : List A) (b : Bool) → (HasOne Q xs → ⊥) → IsTrue b ↔ HasOne Q ys → IsTrue b ↔ HasOne Q (xs ++ ys)
-  one_right xs ys b not exact = (
-    λ k. let p = exact.0 k in (p.0, IsIn-append_right p.0 xs ys p.1, p.2),
-    λ h. elim (from_append h.0 xs ys h.1) [ inl i ↦ absurd (not (h.0, i, h.2)) | inr i ↦ exact.1 (h.0, i, h.2) ],
-  )
-
-pub mapped : {A B : Type 0} (Q : B → Type 0) (f : A → B) (xs : List A) → HasOne (λ x. Q (f x)) xs ↔ HasOne Q (map f xs)
-mapped Q f xs = (
-  λ h. (f h.0, IsIn-map f xs h.0 h.1, h.2),
-  λ h. let p = from_map f xs h.0 h.1 in (p.0, p.1, subst Q p.2 h.2),
-)
-
--- the tasks of a class, and those of the classes after it
-module _ (P : Plan) (Q : Task → Type 0) (class : ℕ) (ss : List ClassSpace) (e : drop class P.spaces ≡ ss) where
-  pub class_found : class < length P.spaces → ((s : ClassSpace) → slice_get P.spaces class ≡ Some s → IsTrue true ↔ HasOne (λ params. Q (task class params)) (tasks s)) → IsTrue true ↔ HasOne Q (tasks_from class ss)
-  class_found lt here =
-      let found = slice_get_there P.spaces class lt in
-      let split : found.0 ∷ drop (suc class) P.spaces ≡ ss = sym (drop_from P.spaces class found.0 found.1) ∙ e in
-      let one = (mapped Q (task class) (tasks found.0)).0 ((here found.0 found.1).0 refl) in
-      subst (λ l. IsTrue true ↔ HasOne Q (tasks_from class l)) split (one_left Q (map (task class) (tasks found.0)) (tasks_from (suc class) (drop (suc class) P.spaces)) one)
-
-  pub class_passed : class < length P.spaces → ((s : ClassSpace) → slice_get P.spaces class ≡ Some s → IsTrue false ↔ HasOne (λ params. Q (task class params)) (tasks s)) →
-      (b : Bool) → ((rest : List ClassSpace) → drop (suc class) P.spaces ≡ rest → IsTrue b ↔ HasOne Q (tasks_from (suc class) rest)) → IsTrue b ↔ HasOne Q (tasks_from class ss)
-  class_passed lt here b later =
-      let found = slice_get_there P.spaces class lt in
-      let split : found.0 ∷ drop (suc class) P.spaces ≡ ss = sym (drop_from P.spaces class found.0 found.1) ∙ e in
-      let not : HasOne Q (map (task class) (tasks found.0)) → ⊥ = λ h. false≢true ((here found.0 found.1).1 ((mapped Q (task class) (tasks found.0)).1 h)) in
-      subst (λ l. IsTrue b ↔ HasOne Q (tasks_from class l)) split
-      (one_right Q (map (task class) (tasks found.0)) (tasks_from (suc class) (drop (suc class) P.spaces)) b not (later (drop (suc class) P.spaces) refl))
-
-  pub none_left : length P.spaces ≤ class → IsTrue false ↔ HasOne Q (tasks_from class ss)
-  none_left ge = subst (λ l. IsTrue false ↔ HasOne Q (tasks_from class l)) (sym (drop_all class P.spaces ge) ∙ e) (λ h. absurd (false≢true h), λ h. absurd (h.1))
 
 -- an item of a task is unsent exactly if an edge or a write-back is
 module _ (P : Plan) (sends : List Sent) (t : Task) (end : Option Ended) where

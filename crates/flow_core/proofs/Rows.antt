@@ -1,5 +1,5 @@
 -- The rows of a run: its trapped tasks and its waiting tasks are those of the event machine.
-use Rattle.std.proofs.Common.{◌≡◌, ℕ, suc, ◌<◌, ◌≤◌, true, false, ◌&&◌, ◌==◌, nat_lt, cond, is_some, List, [], ◌∷◌, ◌++◌, map, refl, ap, sym, ◌∙◌, append_assoc, Option, Some, None, Ok, Err, eq-eqb, ◌⊎◌, inl, inr, arith}
+use Rattle.std.proofs.Common.{◌≡◌, ℕ, ◌<◌, ◌≤◌, true, false, ◌&&◌, ◌==◌, nat_lt, cond, is_some, List, [], ◌∷◌, ◌++◌, map, refl, ap, sym, ◌∙◌, Option, Some, None, Ok, Err, eq-eqb, ◌⊎◌, inl, inr, arith}
 use Rattle.std.proofs.lemmas.Bool.{eqb-true, false≢true, le-ltb, lt-ltb}
 use Rattle.std.proofs.lemmas.List.{append-nil}
 use Rattle.std.specs.Prelude.{unwrap_or}
@@ -10,13 +10,11 @@ use Rattle.ptg_base.specs.Task.{Task}
 use Rattle.ptg_base.specs.TaskComparing.{same_task}
 use Rattle.ptg_base.specs.TaskLaws.{same_task-decides}
 use Rattle.ptg_base.specs.TaskOrder.{in_task_order}
-use Rattle.term_core.specs.declared.space.ClassSpace.{ClassSpace}
-use Rattle.range_space.specs.Tasks.{tasks}
 use Rattle.list_lemmas.proofs.Truth.{by_test, and-false}
 use Rattle.list_lemmas.proofs.Counts.{count-some, weigh-append, count-filter}
 use Rattle.plan_core.specs.declared.plan.Plan.{Plan}
 use Rattle.coll_data.specs.Data.{Data}
-use Rattle.dep_iter.specs.Tasks.{IsTask, all_tasks, task, tasks_from}
+use Rattle.dep_iter.specs.Tasks.{IsTask, all_tasks}
 use Rattle.dep_iter.specs.Edges.{goal}
 use Rattle.dep_iter.specs.Consistent.{IsConsistent}
 use Rattle.flow_meaning.specs.declared.outcome.TrapRow.{TrapRow}
@@ -38,27 +36,7 @@ use Rattle.flow_core.proofs.Lookups.{key_count}
 use Rattle.flow_core.proofs.Arriving.{arrived_are}
 use Rattle.flow_core.proofs.Fitting.{end_known}
 
--- the rows of a list of tasks, one task after another
-pub waits-cons : (P : Plan) (S : MachineState) (t : Task) (ts : List Task) → waits_among P S (t ∷ ts) ≡ waits_among P S (t ∷ []) ++ waits_among P S ts
-waits-cons P S t ts =
-    by_test (is_waiting P S t)
-    (λ k. ap (λ b. map (wait_row P S) (cond b (t ∷ filter (is_waiting P S) ts) (filter (is_waiting P S) ts))) k ∙ sym (ap (λ b. map (wait_row P S) (cond b (t ∷ []) []) ++ waits_among P S ts) k))
-    (λ k. ap (λ b. map (wait_row P S) (cond b (t ∷ filter (is_waiting P S) ts) (filter (is_waiting P S) ts))) k ∙ sym (ap (λ b. map (wait_row P S) (cond b (t ∷ []) []) ++ waits_among P S ts) k))
-
-pub waits-append : (P : Plan) (S : MachineState) (ts us : List Task) → waits_among P S (ts ++ us) ≡ waits_among P S ts ++ waits_among P S us
-waits-append P S [] us = refl
-waits-append P S (t ∷ ts) us =
-    waits-cons P S t (ts ++ us) ∙ ap (λ l. waits_among P S (t ∷ []) ++ l) (waits-append P S ts us)
-    ∙ sym (append_assoc (waits_among P S (t ∷ [])) (waits_among P S ts) (waits_among P S us)) ∙ ap (λ l. l ++ waits_among P S us) (sym (waits-cons P S t ts))
-
--- the rows of the classes from a number on, one class after another
-pub waits_class : (P : Plan) (S : MachineState) (rows mid new : List WaitRow) (class : ℕ) (s : ClassSpace) (rest : List ClassSpace) → mid ≡ rows ++ waits_among P S (map (task class) (tasks s))
-    → new ≡ mid ++ waits_among P S (tasks_from (suc class) rest) → new ≡ rows ++ waits_among P S (tasks_from class (s ∷ rest))
-waits_class P S rows mid new class s rest first then =
-    then ∙ ap (λ l. l ++ waits_among P S (tasks_from (suc class) rest)) first
-    ∙ append_assoc rows (waits_among P S (map (task class) (tasks s))) (waits_among P S (tasks_from (suc class) rest))
-    ∙ ap (λ l. rows ++ l) (sym (waits-append P S (map (task class) (tasks s)) (tasks_from (suc class) rest)))
-
+-- the rows of all tasks, in task order, are those of the machine
 pub waits_all : (P : Plan) (S : MachineState) (rows : List WaitRow) → rows ≡ waits_among P S (all_tasks P) → in_task_order (λ (r : WaitRow). r.task) rows ≡ waiting_rows P S
 unfolding waiting_tasks waiting_rows
 waits_all P S rows e = ap (in_task_order (λ (r : WaitRow). r.task)) e

@@ -1,20 +1,17 @@
 //! Claims of the tasks that may be claimed.
 
-ghost use Rattle.std.specs.Prelude.{◌≡◌, ◌∷◌, [], IsTrue, List, OnOk, Some, drop, map, slice_get, ◌<◌, length};
-ghost use Rattle.term_core.specs.declared.space.ClassSpace.{ClassSpace as ClassSpaceValue};
-ghost use Rattle.range_space.specs.Tasks as range;
+ghost use Rattle.std.specs.Prelude.{◌≡◌, ◌∷◌, [], IsTrue, OnOk};
 ghost use Rattle.coll_data.specs.Data.{Data};
-ghost use Rattle.dep_iter.specs.Tasks.{IsTask, task, tasks_from};
+ghost use Rattle.dep_iter.specs.Tasks as tasks;
+ghost use Rattle.dep_iter.specs.Tasks.{IsTask};
 ghost use Rattle.flow_core.specs.Fits.{Fits};
 ghost use Rattle.flow_core.specs.Goals.{AreGoals};
 ghost use Rattle.flow_core.specs.OneThread.{HasDone, IsOpening, MayClaimOnly, running_tasks};
 
 use crate::goals::{forget_goal, goal_by, keep_goal};
 use crate::runner::Runner;
-use crate::spaces::space_of;
-use dep_iter::Matched;
+use dep_iter::{Matched, all_tasks};
 use ptg_base::{OutOfMemory, TaskId};
-use range_space::Space;
 
 // Claims a task of the job if it may be claimed.
 pub(crate) fn claim_if_ready(
@@ -68,44 +65,20 @@ fn is_open(runner: &Runner, m: &Matched) -> bool
     runner.running.len() as u64 == m.roots()
 }
 
-// Claims the tasks of a class that may be claimed, in a run that only opens.
-fn claim_class(runner: &mut Runner, m: &Matched, class: u32) -> Result<(), OutOfMemory>
-    requires class { class < length m.now.classes }
+// Claims the tasks that may be claimed, in a run that only opens.
+pub(crate) fn claim_roots(runner: &mut Runner, m: &Matched) -> Result<(), OutOfMemory>
     requires fits { (G : Data) × Fits m.now G runner.old.run }
     requires running { runner.old.running.items ≡ running_tasks runner.old.run }
     requires opening { IsOpening runner.old.run }
-    ensures done { OnOk result
-        ((s : ClassSpaceValue) → slice_get m.now.spaces class ≡ Some s
-        → HasDone m.now (map (task class) (range.tasks s)) [] runner.old.run runner.new.run) }
+    ensures done { OnOk result (HasDone m.now (tasks.all_tasks m.now) [] runner.old.run runner.new.run) }
     ensures running { OnOk result (runner.new.running.items ≡ running_tasks runner.new.run) }
-    ensures opening { OnOk result (IsOpening runner.new.run) }
     ensures goals { runner.new.goals ≡ runner.old.goals }
 {
-    let space = space_of(m, class);
-    for params in Space::new(space) {
+    for t in all_tasks(m.plan()) {
         if is_open(runner, m) {
             return Ok(());
         }
-        let t = TaskId::new(class, params.as_slice());
         claim_if_ready(runner, m, &t)?;
     }
     Ok(())
-}
-
-// Claims the tasks of the classes from this number on that may be claimed, in a run that only opens.
-pub(crate) fn claim_classes(runner: &mut Runner, m: &Matched, class: u32) -> Result<(), OutOfMemory>
-    requires fits { (G : Data) × Fits m.now G runner.old.run }
-    requires running { runner.old.running.items ≡ running_tasks runner.old.run }
-    requires opening { IsOpening runner.old.run }
-    ensures done { OnOk result
-        ((ss : List ClassSpaceValue) → drop class m.now.spaces ≡ ss
-        → HasDone m.now (tasks_from class ss) [] runner.old.run runner.new.run) }
-    ensures running { OnOk result (runner.new.running.items ≡ running_tasks runner.new.run) }
-    ensures goals { runner.new.goals ≡ runner.old.goals }
-{
-    if class as usize >= m.plan().classes.len() {
-        return Ok(());
-    }
-    claim_class(runner, m, class)?;
-    claim_classes(runner, m, class + 1)
 }

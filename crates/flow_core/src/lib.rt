@@ -15,7 +15,6 @@ mod possible;
 mod runner;
 mod sending;
 mod sent_items;
-mod spaces;
 mod state;
 mod turns;
 

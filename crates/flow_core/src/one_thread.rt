@@ -7,7 +7,7 @@ ghost use Rattle.flow_core.specs.Fits.{Fits};
 ghost use Rattle.flow_core.specs.Goals.{AreGoals};
 ghost use Rattle.flow_core.specs.OneThread.{IsBetweenTasks, MayClaimOnly, OwesOnly, ended_count, running_tasks};
 
-use crate::claiming::claim_classes;
+use crate::claiming::claim_roots;
 use crate::runner::Runner;
 use crate::sending::send_items;
 use crate::state::State;
@@ -65,7 +65,7 @@ fn opened(alloc: Global, m: &Matched, given: &Given) -> Result<Runner, OutOfMemo
         running: Vec::new(alloc),
         goals: IndexMap::new(alloc),
     };
-    claim_classes(&mut runner, m, 0)?;
+    claim_roots(&mut runner, m)?;
     Ok(runner)
 }
 

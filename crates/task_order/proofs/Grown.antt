@@ -16,13 +16,13 @@ use Rattle.std.proofs.lemmas.List.Concat.{flat_map-append}
 use Rattle.dep_iter.specs.Tasks.{IsTask, all_tasks}
 use Rattle.dep_iter.specs.Edges.{goal, in_edges}
 use Rattle.dep_iter.specs.Items.{out_edges}
-use Rattle.dep_iter.specs.Consistent.{IsConsistent}
+use Rattle.dep_iter.specs.Consistent.{IsConsistent, roots}
 use Rattle.dep_iter.proofs.Listing.{listed}
 use Rattle.list_lemmas.specs.Counting.{as_number}
 use Rattle.flow_meaning.specs.Order.{IsLegalAfter, MayFollow}
 use Rattle.flow_meaning.proofs.Once.{tasks_once}
 use Rattle.task_order.specs.Greatest.{IsGreatestOrder}
-use Rattle.task_order.specs.Growing.{GrowsBy, HasGrown, HaveCome, IsNext, MayCome, edges_of, edges_to, lacking, without_sources}
+use Rattle.task_order.specs.Growing.{GrowsBy, HasGrown, HaveCome, IsNext, MayCome, edges_of, edges_to, lacking}
 use Rattle.task_order.proofs.Orders.{legal_once, legal_push, legal_tasks}
 use Rattle.task_order.proofs.Coming.{all_came, as_many, come_first, come_longer, come_next, comes_from, may_come, out_from, outs_once, to_at_most, to_push}
 
@@ -154,15 +154,15 @@ module _ (P : Plan) (con : IsConsistent P) where
             )),
       )
 
-  root_is : (t : Task) → IsIn t (without_sources P (all_tasks P)) ↔ (IsIn t (all_tasks P) × (goal P t ≡ 0))
+  root_is : (t : Task) → IsIn t (roots P) ↔ (IsIn t (all_tasks P) × (goal P t ≡ 0))
   root_is t =
       let f = IsIn-filter (λ u. goal P u == 0) (all_tasks P) t in
       (λ i. let p = f.0 i in (p.0, eqb-true (goal P t) 0 p.1), λ p. f.1 (p.0, eq-eqb (goal P t) 0 p.1))
 
   -- the order before an edge has come
-  pub opened : (order : List Task) → order ≡ without_sources P (all_tasks P) → HasGrown P [] order []
+  pub opened : (order : List Task) → order ≡ roots P → HasGrown P [] order []
   opened order is = subst (λ l. HasGrown P [] l []) (sym is) (record {
-    legal = legal_roots [] (without_sources P (all_tasks P)) (HasNoRepeats-filter (λ u. goal P u == 0) (all_tasks P) (distinct_once (all_tasks P) (tasks_once P)))
+    legal = legal_roots [] (roots P) (HasNoRepeats-filter (λ u. goal P u == 0) (all_tasks P) (distinct_once (all_tasks P) (tasks_once P)))
         (λ t i. let p = (root_is t).0 i in ((listed P t).1 p.0, p.1, λ j. j));
     edges = record { once = tt; from = λ e i. absurd i; out = λ e i. absurd i };
     counts = λ t job. omega arith;

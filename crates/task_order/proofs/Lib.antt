@@ -1,7 +1,6 @@
 pub mod Orders
 pub mod Coming
 pub mod Grown
-pub mod Listing
 pub mod Passing
 pub mod Running
 pub mod Tables

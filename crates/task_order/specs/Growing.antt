@@ -1,7 +1,7 @@
 -- An order that grows: the edges out of its tasks come to their targets one after another, and a task joins once all
 -- edges into it have come. Source: the usual way to sort a graph topologically, by counts of edges.
-use Rattle.std.specs.Prelude.{◌≡◌, ◌+◌, ◌↔◌, ℕ, ◌==◌, List, ◌++◌, unwrap_or}
-use Rattle.std.specs.List.{filter, flat_map}
+use Rattle.std.specs.Prelude.{◌≡◌, ◌+◌, ◌↔◌, ℕ, List, ◌++◌, unwrap_or}
+use Rattle.std.specs.List.{flat_map}
 use Rattle.std.specs.Map.{lookup}
 use Rattle.ptg_base.specs.Lists.{HasNoRepeats, IsIn}
 use Rattle.ptg_base.specs.Task.{Task}
@@ -25,10 +25,6 @@ edges_to t es = count (λ (e : Edge). same_task t e.to) es
 -- how many edges into a task are lacking: the number that the table has for it, else all
 abbrev pub lacking : Plan → List (Task × ℕ) → Task → ℕ
 lacking P table t = unwrap_or (lookup (same_task t) table) (goal P t)
-
--- those of these tasks that no edge goes into
-abbrev pub without_sources : Plan → List Task → List Task
-without_sources P ts = filter (λ t. goal P t == 0) ts
 
 -- edges out of tasks of an order, each once
 pub record HaveCome (P : Plan) (order : List Task) (came : List Edge) : Type 0 where

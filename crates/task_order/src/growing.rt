@@ -6,7 +6,7 @@ ghost use Rattle.dep_iter.specs.Items as items;
 ghost use Rattle.task_order.specs.Growing.{GrowsBy, HasGrown, IsNext, MayCome};
 
 use crate::lacking::note_edge;
-use crate::roots::push_roots;
+use crate::roots::roots_of;
 use dep_iter::{Matched, out_edges};
 use indexmap::IndexMap;
 use ptg_base::{Edge, OutOfMemory, TaskId};
@@ -24,8 +24,7 @@ pub(crate) fn start(alloc: Global, m: &Matched) -> Result<Growing, OutOfMemory>
     ensures { IfOk result (λ growing. HasGrown m.now [] growing.order.items growing.lacking.entries) }
 {
     m.is_consistent();
-    let mut order = Vec::new(alloc);
-    push_roots(&mut order, m, 0)?;
+    let order = roots_of(alloc, m)?;
     Ok(Growing {
         order,
         lacking: IndexMap::new(alloc),

@@ -1,15 +1,14 @@
 //! The answer of a run in which nothing more can happen.
 
-ghost use Rattle.std.specs.Prelude.{◌≡◌, ◌<◌, ◌≤◌, ◌++◌, [], ◌∷◌, drop, length, map, IfOk, OnOk, List, slice_get, Some, unwrap_or};
+ghost use Rattle.std.specs.Prelude.{◌≡◌, ◌≤◌, ◌++◌, [], ◌∷◌, length, IfOk, OnOk, Some, unwrap_or};
 ghost use Rattle.std.specs.Map.{keys_of};
 ghost use Rattle.ptg_base.specs.Task.{Task};
 ghost use Rattle.ptg_base.specs.TaskComparing.{same_task};
 ghost use Rattle.ptg_base.specs.TaskOrder.{in_task_order};
-ghost use Rattle.term_core.specs.declared.space.ClassSpace.{ClassSpace as ClassSpaceValue};
-ghost use Rattle.range_space.specs.Tasks as range;
 ghost use Rattle.coll_data.specs.Data.{Data};
 ghost use Rattle.plan_data.specs.Fit.{DataFit};
-ghost use Rattle.dep_iter.specs.Tasks.{IsTask, all_tasks, task, tasks_from};
+ghost use Rattle.dep_iter.specs.Tasks as tasks;
+ghost use Rattle.dep_iter.specs.Tasks.{IsTask};
 ghost use Rattle.dep_iter.specs.Consistent.{IsConsistent};
 ghost use Rattle.flow_meaning.specs.declared.outcome.TrapRow.{TrapRow as TrapRowValue};
 ghost use Rattle.flow_meaning.specs.declared.outcome.Outcome.{Outcome as OutcomeValue};
@@ -26,14 +25,12 @@ ghost use Rattle.flow_core.specs.Rows.{claim_traps, waits_among, writes_among};
 
 use crate::arrivals::number_at;
 use crate::end::End;
-use crate::spaces::space_of;
 use crate::state::State;
 use coll_data::Given;
-use dep_iter::Matched;
+use dep_iter::{Matched, all_tasks};
 use flow_meaning::{Outcome, TrapRow, WaitRow, a_quiescent_state_has_the_meaning};
 use goal_count::goal;
 use ptg_base::{OutOfMemory, Seq, TaskId, Tile, WriteBack};
-use range_space::Space;
 use run_answer::{traps_in_task_order, waits_in_task_order, with_written};
 use term_core::Trap;
 
@@ -105,7 +102,7 @@ impl State {
         requires known { DataFit m.now.colls m.now.elems given }
         ensures { (all : OutcomeValue)
             → IfOk found (λ o.
-            unwrap_or o (Complete (length (all_tasks m.now)) (state_data given (machine self))) ≡ all)
+            unwrap_or o (Complete (length (tasks.all_tasks m.now)) (state_data given (machine self))) ≡ all)
             → IfOk result (λ outcome. outcome ≡ all) }
     {
         match found {
@@ -122,7 +119,7 @@ impl State {
         requires consistent { IsConsistent m.now }
         ensures { IfOk result (λ found.
             (G : Data) → Fits m.now G self.now
-            → unwrap_or found (Complete (length (all_tasks m.now)) (state_data G (machine self.now)))
+            → unwrap_or found (Complete (length (tasks.all_tasks m.now)) (state_data G (machine self.now)))
             ≡ state_answer m.now G (machine self.now)) }
     {
         let traps = self.traps()?;
@@ -137,7 +134,7 @@ impl State {
         requires { (G : Data) × Fits m.now G self.now }
         ensures { IfOk result (λ found.
             (G : Data)
-            → unwrap_or found (Complete (length (all_tasks m.now)) (state_data G (machine self.now)))
+            → unwrap_or found (Complete (length (tasks.all_tasks m.now)) (state_data G (machine self.now)))
             ≡ state_answer_by m.now G (machine self.now) []) }
     {
         let ran = self.claims.len() as u64;
@@ -153,7 +150,7 @@ impl State {
         requires fits { Fits m.now given self }
         requires known { DataFit m.now.colls m.now.elems given }
         ensures { IfOk result (λ outcome.
-            outcome ≡ Complete (length (all_tasks m.now)) (state_data given (machine self))) }
+            outcome ≡ Complete (length (tasks.all_tasks m.now)) (state_data given (machine self))) }
     {
         let all = m.tasks();
         Ok(Outcome::Complete(all, self.final_data(m, given)?))
@@ -178,49 +175,10 @@ impl State {
         ensures { IfOk result (λ rows. rows ≡ waiting_rows m.now (machine self.now)) }
     {
         let mut rows = Vec::new(self.alloc);
-        self.push_waits(m, 0, &mut rows)?;
+        for t in all_tasks(m.plan()) {
+            self.push_wait(m, &t, &mut rows)?;
+        }
         Ok(waits_in_task_order(rows))
-    }
-
-    // Adds the rows of the tasks that wait, of the classes from this number on.
-    fn push_waits(
-        &self,
-        m: &Matched,
-        class: u32,
-        rows: &mut Vec<WaitRow>,
-    ) -> Result<(), OutOfMemory>
-        requires { (G : Data) × Fits m.now G self.now }
-        ensures { (ss : List ClassSpaceValue) → drop class m.now.spaces ≡ ss
-            → OnOk result
-            (rows.new.items ≡ rows.old.items ++ waits_among m.now (machine self.now) (tasks_from class ss)) }
-    {
-        if class as usize >= m.plan().classes.len() {
-            return Ok(());
-        }
-        self.push_waits_of(m, class, rows)?;
-        self.push_waits(m, class + 1, rows)
-    }
-
-    // Adds the rows of the tasks of a class that wait.
-    fn push_waits_of(
-        &self,
-        m: &Matched,
-        class: u32,
-        rows: &mut Vec<WaitRow>,
-    ) -> Result<(), OutOfMemory>
-        requires fits { (G : Data) × Fits m.now G self.now }
-        requires class { class < length m.now.classes }
-        requires consistent { IsConsistent m.now }
-        ensures { (s : ClassSpaceValue) → slice_get m.now.spaces class ≡ Some s
-            → OnOk result
-            (rows.new.items
-            ≡ rows.old.items ++ waits_among m.now (machine self.now) (map (task class) (range.tasks s))) }
-    {
-        for params in Space::new(space_of(m, class)) {
-            let t = TaskId::new(class, params.as_slice());
-            self.push_wait(m, &t, rows)?;
-        }
-        Ok(())
     }
 
     // Adds the row of a task if it waits.

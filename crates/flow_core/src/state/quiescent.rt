@@ -1,15 +1,14 @@
 //! Whether anything more can happen in a run.
 
-ghost use Rattle.std.specs.Prelude.{◌≡◌, ◌<◌, ◌≤◌, ◌↔◌, IsTrue, List, Some, drop, length, slice_get};
+ghost use Rattle.std.specs.Prelude.{◌≡◌, ◌↔◌, IsTrue};
 ghost use Rattle.ptg_base.specs.Task.{Task};
 ghost use Rattle.ptg_base.specs.declared.edge.Edge.{Edge as EdgeValue};
 ghost use Rattle.ptg_base.specs.declared.edge.WriteBack.{WriteBack as WriteBackValue};
 ghost use Rattle.ptg_base.specs.declared.edge.Item.TheVariants as item;
-ghost use Rattle.term_core.specs.declared.space.ClassSpace.{ClassSpace as ClassSpaceValue};
-ghost use Rattle.range_space.specs.Tasks as range;
 ghost use Rattle.coll_data.specs.Data.{Data};
 ghost use Rattle.dep_iter.specs.Items as items;
-ghost use Rattle.dep_iter.specs.Tasks.{IsTask, task, tasks_from};
+ghost use Rattle.dep_iter.specs.Tasks as tasks;
+ghost use Rattle.dep_iter.specs.Tasks.{IsTask};
 ghost use Rattle.flow_meaning.specs.Machine.{IsQuiescent, MayClaim};
 ghost use Rattle.flow_meaning.specs.Ending as ending;
 ghost use Rattle.flow_core.specs.RunState.{IsRunning, end_of, machine};
@@ -18,11 +17,9 @@ ghost use Rattle.flow_core.specs.Quiet.{HasOne, Owes};
 ghost use Rattle.flow_core.specs.SentItems.{IsUnsent};
 
 use crate::end::{End, has_outputs};
-use crate::spaces::space_of;
 use crate::state::State;
-use dep_iter::{Matched, out_edges, write_backs};
+use dep_iter::{Matched, all_tasks, out_edges, write_backs};
 use ptg_base::{Item, TaskId};
-use range_space::Space;
 
 impl State {
     /// Whether nothing more can happen in a run in which no task runs: no task may be claimed, and no item may be sent.
@@ -32,37 +29,18 @@ impl State {
         ensures { (G : Data) → Fits m.now G self.now → IsTrue result ↔ IsQuiescent m.now G (machine self.now) }
     {
         m.is_consistent();
-        if self.has_ready(m, 0) {
+        if self.has_ready(m) {
             return false;
         }
         !self.has_owing(m)
     }
 
-    // Whether a task may be claimed, of the classes from this number on.
-    fn has_ready(&self, m: &Matched, class: u32) -> bool
+    // Whether a task may be claimed.
+    fn has_ready(&self, m: &Matched) -> bool
         requires { (G : Data) × Fits m.now G self.now }
-        ensures { (ss : List ClassSpaceValue) → drop class m.now.spaces ≡ ss
-            → IsTrue result ↔ HasOne (MayClaim m.now (machine self.now)) (tasks_from class ss) }
+        ensures { IsTrue result ↔ HasOne (MayClaim m.now (machine self.now)) (tasks.all_tasks m.now) }
     {
-        if class as usize >= m.plan().classes.len() {
-            return false;
-        }
-        if self.has_ready_of(m, class) {
-            return true;
-        }
-        self.has_ready(m, class + 1)
-    }
-
-    // Whether a task of a class may be claimed.
-    fn has_ready_of(&self, m: &Matched, class: u32) -> bool
-        requires fits { (G : Data) × Fits m.now G self.now }
-        requires class { class < length m.now.classes }
-        ensures { (s : ClassSpaceValue) → slice_get m.now.spaces class ≡ Some s
-            → IsTrue result ↔ HasOne (λ params. MayClaim m.now (machine self.now) (task class params)) (range.tasks s) }
-    {
-        let space = space_of(m, class);
-        for params in Space::new(space) {
-            let t = TaskId::new(class, params.as_slice());
+        for t in all_tasks(m.plan()) {
             if self.is_ready(m, &t) {
                 return true;
             }

@@ -1,26 +1,19 @@
-use Rattle.std.proofs.Common.{◌+◌, nat_eq, ◌∙◌, subst}
+use Rattle.std.proofs.Common.{rules, tests, ◌∙◌}
+use Rattle.std.proofs.lemmas.Iterator.{YieldsList-from_map}
+use Rattle.std.proofs.lemmas.Iterator.Consumers.{YieldsList-at, YieldsList-from_filter, YieldsList-from_first, reduce_from_yields_List}
+use Rattle.ptg_base.specs.declared.edge.Edge.{Edge}
+use Rattle.dep_iter.specs.Edges.{in_edges, sources}
 use Rattle.chain_cert.specs.Finding.{is_heaviest_source}
-use Rattle.chain_cert.proofs.Leasts.{LeastSoFar, least_end, least_next, least_start}
+use Rattle.chain_cert.proofs.Leasts.{lesser, least_where}
 use Rattle.chain_cert.proofs.longest.least_heaviest_source.Goals as goal
-
-pub loop-edge-init : goal.loop-edge-init
-loop-edge-init c = record { can_next = tt; is_finite = tt; least = least_start (is_heaviest_source c.args.table.now.entries c.args.w c.args.n) c.into_iter-edge-iterator.result }
-
-pub loop-edge-preserved : goal.loop-edge-preserved
-loop-edge-preserved c =
-    let test = is_heaviest_source c.args.table.now.entries c.args.w c.args.n in
-    let all = c.into_iter-edge-iterator.result in
-    let a = subst (λ es. LeastSoFar test all es c.loop-edge.least) c.in-Some.ensures.steps c.loop-edge.invariant.least in
-    record {
-      can_next = tt;
-      is_finite = tt;
-      least = least_next test all c.next.new.self c.in-Some.edge c.loop-edge.least c.lesser-least.result _ (λ i. nat_eq ((c.from.ensures ∙ c.level_in-level.ensures) i + c.from-in-loop-edge.ensures i) (c.from-in-loop-edge-2.ensures i)) c.lesser-least.ensures a;
-    }
 
 pub returns : goal.returns
 returns c =
+    let edges = in_edges c.args.plan.now c.args.t.now in
     let test = is_heaviest_source c.args.table.now.entries c.args.w c.args.n in
-    let all = c.into_iter-edge-iterator.result in
-    let is = c.into_iter-edge-iterator.ensures.into_iter_gives ∙ c.in_edges-edge-items.ensures in
-    let a = subst (λ es. LeastSoFar test all es c.loop-edge.least) c.in-None.ensures.steps.0 c.loop-edge.invariant.least in
-    least_end test c.args.plan.now c.args.t.now all c.loop-edge.least is a
+    let is = c.map.ensures.source ∙ c.in_edges.ensures in
+    least_where test (sources c.args.plan.now c.args.t.now) c.min.result
+    (reduce_from_yields_List lesser c.filter.result c.min.result c.min.ensures.ran
+    (YieldsList-from_filter _ test
+    (YieldsList-at c.filter.ensures.source (YieldsList-from_map _ (λ (e : Edge). e.from) (YieldsList-from_first (λ e. e) (λ left. left) edges is) c.map.ensures.closure (λ x r q k. search rules)))
+    c.filter.ensures.closure (λ x b q k. search (rules, tests))))

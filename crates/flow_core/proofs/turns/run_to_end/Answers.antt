@@ -27,4 +27,4 @@ returns c =
     let sent = c.in_ok-send_its_items.ensures in
     let ran = ran_to_end c.args.m.now c.args.given.now c.args.t.now c.args.run.now c.finish.new.self c.send_its_items.new.run c.in_ok-finish.field-0 e c.in_ok-finish.ensures.fits sent in
     let outputs = ap has_outputs (ends_as c.finish.new.self c.send_its_items.new.run c.args.t.now sent.claims) ∙ e.outputs (sym c.if-is_some.ensures) in
-    let_go_run c.args.m.now c.args.given.now c.plan.ensures.consistent c.args.t.now c.args.run.now c.send_its_items.new.run c.let_go.new.self ran outputs c.let_go.ensures
+    let_go_run c.args.m.now c.args.given.now c.is_consistent.ensures c.args.t.now c.args.run.now c.send_its_items.new.run c.let_go.new.self ran outputs c.let_go.ensures

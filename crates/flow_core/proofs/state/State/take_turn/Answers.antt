@@ -25,7 +25,7 @@ run_to_end-requires c =
     let is : c.claim.new.self ≡ with_claim c.args.t.now c.args.self = c.in_ok-claimed.ensures.state ∙ ap (λ b. cond b (with_claim c.args.t.now c.args.self) c.args.self) c.if-not-claimed.false in
     let fits = c.in_ok-claimed.ensures.fits c.args.given.now c.requires.fits in
     subst (RunsAlone c.args.m.now c.args.given.now c.args.t.now) (sym is)
-    (claimed_alone c.args.m.now c.args.given.now c.plan.ensures.consistent c.args.self c.args.t.now c.requires (exact.0 c.if-not-claimed.false) (subst (Fits c.args.m.now c.args.given.now) is fits))
+    (claimed_alone c.args.m.now c.args.given.now c.is_consistent.ensures c.args.self c.args.t.now c.requires (exact.0 c.if-not-claimed.false) (subst (Fits c.args.m.now c.args.given.now) is fits))
 
 pub returns : goal.returns
 returns c =
