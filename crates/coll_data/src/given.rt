@@ -98,7 +98,9 @@ impl Given {
     /// A law: data are well made.
     pub fn is_well_made(&self)
         ensures { IsWellMade self.now }
-    {}
+    {
+        let _ = &self.types;
+    }
 
     /// The sum of all elements of all collections, exactly. It takes no memory.
     pub fn element_sum(&self) -> i128

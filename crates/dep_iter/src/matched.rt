@@ -54,7 +54,9 @@ impl Matched {
     /// A law: a matched plan is consistent.
     pub fn is_consistent(&self)
         ensures { IsConsistent self.now }
-    {}
+    {
+        let _ = &self.plan;
+    }
 
     /// How many tasks it has.
     pub fn tasks(&self) -> u64

@@ -6,7 +6,7 @@ pub returns : goal.returns
 returns c =
     let P = c.args.plan.now in
     let params = c.args.t.now.params in
-    let s = c.space_of.result.now in
-    let e : slice_get P.spaces c.args.t.now.class ≡ Some s = ap (slice_get P.spaces) (sym c.class.ensures) ∙ c.space_of.ensures.space in
+    let s = c.space.result.now in
+    let e : slice_get P.spaces c.args.t.now.class ≡ Some s = ap (slice_get P.spaces) (sym c.class.ensures) ∙ c.space.ensures.space in
     let w = rw c.params.ensures.same at c.locals_of.ensures in
-    rw e (sym (locals_with-only s params c.locals_of.result w (λ others u. c.a_task_has_one_list_of_locals.ensures.one s params c.locals_of.result others c.space_of.ensures.well w u)))
+    rw e (sym (locals_with-only s params c.locals_of.result w (λ others u. c.a_task_has_one_list_of_locals.ensures.one s params c.locals_of.result others c.space.ensures.well w u)))

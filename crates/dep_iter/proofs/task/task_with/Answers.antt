@@ -7,20 +7,20 @@ use Rattle.dep_iter.proofs.task.task_with.Goals as goal
 
 pub returns-clause-task : goal.returns-clause-task
 returns-clause-task c = λ s here.
-    let same : c.space_of.result.now ≡ s = let a = c.space_of.ensures.space in cc in
+    let same : c.space.result.now ≡ s = let a = c.space.ensures.space in cc in
     search rules
 
 pub returns-clause-of_job : goal.returns-clause-of_job
 returns-clause-of_job c =
-    let s = c.space_of.result.now in
-    let here = c.space_of.ensures.space in
+    let s = c.space.result.now in
+    let here = c.space.ensures.space in
     rw (c.new.ensures, c.as_slice.ensures.same, c.params_at-params.ensures, here) (IsIn-map (params_of s.params) (all_locals s) c.args.locals.now (c.requires.locals s here))
 
 pub returns-clause-locals : goal.returns-clause-locals
 returns-clause-locals c =
-    let s = c.space_of.result.now in
-    let here = c.space_of.ensures.space in
+    let s = c.space.result.now in
+    let here = c.space.ensures.space in
     let params = params_of s.params c.args.locals.now in
     let own : IsLocalsOf s params c.args.locals.now = record { full = c.requires.locals s here; same_params = refl } in
     rw (c.new.ensures, c.as_slice.ensures.same, c.params_at-params.ensures, here)
-    (sym (locals_with-only s params c.args.locals.now own (λ others u. c.a_task_has_one_list_of_locals.ensures.one s params c.args.locals.now others c.space_of.ensures.well own u)))
+    (sym (locals_with-only s params c.args.locals.now own (λ others u. c.a_task_has_one_list_of_locals.ensures.one s params c.args.locals.now others c.space.ensures.well own u)))
