@@ -15,27 +15,13 @@ use Rattle.dep_table.specs.Needs.{AddsNeeds, AddsTaskAt, AddsTiles, AreNeedsOf, 
 use Rattle.dep_table.specs.Opened.{AreOpeningShards, HaveOpeningReserve}
 use Rattle.dep_table.proofs.NeedsCounts.{need_other, need_own}
 use Rattle.dep_table.proofs.NeedsRoom.{room_task}
+use Rattle.dep_table.proofs.TaskWalks.{IsSoFar, one_more}
 use Rattle.list_lemmas.proofs.Places.{slice_get_push, slice_get_there}
 use Rattle.std.proofs.lemmas.Option.{slice_get_within}
-use Rattle.dep_table.proofs.TaskWalks.{IsStepwise}
 
 module _ (P : Plan) (of : Placement) where
-  needs_none : (a : List Needs) → AddsNeeds P of [] a a
-  needs_none a = record { count = refl; types = λ h. h; needs = λ done h. subst (λ l. AreNeedsOf P of l a) (sym (append-nil done)) h; room = λ others r. r }
-
-  needs_then : (ts us : List Task) (a b c : List Needs) → AddsNeeds P of ts a b → AddsNeeds P of us b c → AddsNeeds P of (ts ++ us) a c
-  needs_then ts us a b c d e = record {
-    count = e.count ∙ d.count;
-    types = λ h. e.types (d.types h);
-    needs = λ done h. subst (λ l. AreNeedsOf P of l c) (append_assoc done ts us) (e.needs (done ++ ts) (d.needs done h));
-    room = λ others r. e.room others (d.room (us ++ others) (subst (λ l. HaveRoomFor P l a) (append_assoc ts us others) r));
-  }
-
-  pub needs_steps : IsStepwise (AddsNeeds P of)
-  needs_steps = record { none = needs_none; then = needs_then }
-
   -- what one task needs goes to its shard alone
-  pub task_needs : (t : Task) (old new : List Needs) → of t < length old → AddsTaskAt P t (of t) old new → AddsNeeds P of (t ∷ []) old new
+  pub task_needs : (t : Task) (old new : List Needs) → of t < length old → AddsTaskAt P t (of t) old new → AddsNeeds P of t old new
   task_needs t old new near a =
       let m = slice_get_there old (of t) near in record {
         count = a.count;
@@ -114,9 +100,11 @@ pub all_reserved : (counter : ℕ) (ns : List Needs) (old new : List Content) �
 all_reserved counter ns old new past w = record { count = w.count; each = λ k n y z is from to. w.before k n y z (omega (arith, past, slice_get_within ns k n is)) is from to }
 
 module _ (P : Plan) (n : ℕ) where
-  -- what the shards need once all tasks were counted
-  pub all_needs : (first ns : List Needs) → AreNoNeeds n (length P.elems) first → AddsNeeds P (shard_of P (length first)) (all_tasks P) first ns → AreNeedsOf P (shard_of P n) (all_tasks P) ns
-  all_needs first ns none adds = subst (λ m. AreNeedsOf P (shard_of P m) (all_tasks P) ns) none.count (adds.needs [] (no_task P (shard_of P (length first)) n first none))
+  -- one task more is counted
+  pub needs_more : (t : Task) (rest : List Task) (old new : List Needs) → length old ≡ n → AddsNeeds P (shard_of P (length old)) t old new → IsSoFar P (λ ts. AreNeedsOf P (shard_of P n) ts old) (t ∷ rest) → IsSoFar P (λ ts. AreNeedsOf P (shard_of P n) ts new) rest
+  needs_more t rest old new count adds w =
+      let here = subst (λ m. AddsNeeds P (shard_of P m) t old new) count adds in
+      one_more P (λ ts. AreNeedsOf P (shard_of P n) ts old) (λ ts. AreNeedsOf P (shard_of P n) ts new) t rest here.needs w
 
   module _ (ns : List Needs) (ys zs : List Content) (count : length ns ≡ n) (shards : AreOpeningShards P n ys) (reserved : AreReserved ns ys zs) where
     -- what was a shard before it took its spares, and what it needed

@@ -69,13 +69,13 @@ pub record HasRoomFor (P : Plan) (ts : List Task) (n : Needs) : Type 0 where
 abbrev pub HaveRoomFor : Plan → List Task → List Needs → Type 0
 HaveRoomFor P ts ns = (k : ℕ) (n : Needs) → slice_get ns k ≡ Some n → HasRoomFor P ts n
 
--- Where old is what the shards need for some tasks, new is what they need for those and for these. Where there was room
--- for these tasks and others, there is room for the others.
-pub record AddsNeeds (P : Plan) (of : Placement) (ts : List Task) (old new : List Needs) : Type 0 where
+-- Where old is what the shards need for some tasks, new is what they need for those and for this one. Where there was
+-- room for this task and others, there is room for the others.
+pub record AddsNeeds (P : Plan) (of : Placement) (t : Task) (old new : List Needs) : Type 0 where
   pub count : length new ≡ length old
   pub types : HaveTypes (length P.elems) old → HaveTypes (length P.elems) new
-  pub needs : (done : List Task) → AreNeedsOf P of done old → AreNeedsOf P of (done ++ ts) new
-  pub room : (others : List Task) → HaveRoomFor P (ts ++ others) old → HaveRoomFor P others new
+  pub needs : (done : List Task) → AreNeedsOf P of done old → AreNeedsOf P of (done ++ t ∷ []) new
+  pub room : (others : List Task) → HaveRoomFor P (t ∷ others) old → HaveRoomFor P others new
 
 -- so many tiles of each type and so many write-backs more
 pub record AddsTiles (of_type : ℕ → ℕ) (places : ℕ) (old new : Needs) : Type 0 where

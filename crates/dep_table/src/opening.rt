@@ -1,11 +1,10 @@
 //! The opening of a table.
 
-ghost use Rattle.std.specs.Prelude.{◌≡◌, ◌<◌, ◌≤◌, [], ◌∷◌, false, true, List, Some, IfOk, OnOk, drop, length, map, slice_get};
-ghost use Rattle.term_core.specs.declared.space.ClassSpace.{ClassSpace as ClassSpaceValue};
-ghost use Rattle.range_space.specs.Tasks as range;
+ghost use Rattle.std.specs.Prelude.{◌≡◌, ◌<◌, ◌≤◌, ◌==◌, false, true, IfOk, OnOk, length};
 ghost use Rattle.plan_data.specs.Fit.{DataFit};
+ghost use Rattle.dep_iter.specs.Edges.{goal};
 ghost use Rattle.dep_iter.specs.Tasks as tasks;
-ghost use Rattle.dep_iter.specs.Tasks.{IsTask, task, tasks_from};
+ghost use Rattle.dep_iter.specs.Tasks.{IsTask};
 ghost use Rattle.table_rule.specs.Changes.{first_pass};
 ghost use Rattle.table_rule.specs.Opening.{IsOpening};
 ghost use Rattle.table_rule.specs.Placing as placing;
@@ -20,24 +19,15 @@ use crate::table::DepTable;
 use crate::words::{STRIDE, live_index};
 use atomic_table::{Refused, Table};
 use coll_data::Given;
-use dep_iter::{Matched, affinity_under, locals_of, place_number, priority_under};
+use dep_iter::{Matched, affinity_under, all_tasks, locals_of, place_number, priority_under};
 use dep_shard::Shard;
 use goal_count::goal_under;
 use ptg_base::{OutOfMemory, TaskId};
-use range_space::Space;
 use std::alloc::Global;
 use table_rule::job::Job;
 use table_rule::law::Law;
 use table_rule::rules::the_rule_holds_before_the_first_step;
-use term_core::ClassSpace;
 use work_board::PassRecord;
-
-// The shards of a table that is opened, and how many tasks without an edge into them are still to come.
-#[derive(Drop)]
-pub(crate) struct Opening {
-    pub(crate) shards: Vec<Shard>,
-    pub(crate) left: u64,
-}
 
 // Enters a ready task into its shard, unless it has an entry.
 fn enter_in(shard: &mut Shard, t: &TaskId, priority: i64) -> Result<(), OutOfMemory>
@@ -74,68 +64,22 @@ pub(crate) fn shard_under(m: &Matched, shards: usize, t: &TaskId, env: &[i64]) -
     ((coll + number) % count) as usize
 }
 
-// Enters a task if no edge goes into it.
-fn open_task(opening: &mut Opening, m: &Matched, t: &TaskId) -> Result<(), OutOfMemory>
+// Enters a task if no edge goes into it, and answers whether that is so.
+fn open_task(shards: &mut Vec<Shard>, m: &Matched, t: &TaskId) -> Result<bool, OutOfMemory>
     requires task { IsTask m.now t.now }
-    requires shards { (0 < length opening.old.shards.items) × (length opening.old.shards.items ≤ 256) }
-    ensures { OnOk result
-        (Opens m.now (placing.shard_of m.now (length opening.old.shards.items)) (t.now ∷ []) opening.old opening.new) }
+    requires shards { (0 < length shards.old.items) × (length shards.old.items ≤ 256) }
+    ensures root { IfOk result (λ root. root ≡ (goal m.now t.now == 0)) }
+    ensures opened { OnOk result
+        (Opens m.now (placing.shard_of m.now (length shards.old.items)) t.now shards.old.items shards.new.items) }
 {
-    if opening.left == 0 {
-        return Ok(());
-    }
     let env = locals_of(m.plan(), t);
     if goal_under(m, t, env.as_slice()) != 0 {
-        return Ok(());
+        return Ok(false);
     }
-    let k = shard_under(m, opening.shards.len(), t, env.as_slice());
+    let k = shard_under(m, shards.len(), t, env.as_slice());
     let urgency = priority_under(m.plan(), t, env.as_slice());
-    enter(&mut opening.shards, k, t, urgency)?;
-    opening.left -= 1;
-    Ok(())
-}
-
-// The space of a class.
-pub(crate) fn space_of(m: &Matched, class: u32) -> &ClassSpace
-    requires { class < length m.now.classes }
-    ensures space { slice_get m.now.spaces class ≡ Some result.now }
-    ensures at_most { length result.now.defs ≤ 16 }
-{
-    let plan = m.plan();
-    let _ = plan.class(class);
-    plan.space(class)
-}
-
-// Enters the tasks of a class that no edge goes into.
-fn open_class(opening: &mut Opening, m: &Matched, class: u32) -> Result<(), OutOfMemory>
-    requires class { class < length m.now.classes }
-    requires shards { (0 < length opening.old.shards.items) × (length opening.old.shards.items ≤ 256) }
-    ensures { OnOk result
-        ((s : ClassSpaceValue) → slice_get m.now.spaces class ≡ Some s
-        → Opens m.now (placing.shard_of m.now (length opening.old.shards.items)) (map (task class) (range.tasks s))
-        opening.old opening.new) }
-{
-    let space = space_of(m, class);
-    for params in Space::new(space) {
-        let t = TaskId::new(class, params.as_slice());
-        open_task(opening, m, &t)?;
-    }
-    Ok(())
-}
-
-// Enters the tasks of the classes from this number on that no edge goes into.
-fn open_classes(opening: &mut Opening, m: &Matched, class: u32) -> Result<(), OutOfMemory>
-    requires shards { (0 < length opening.old.shards.items) × (length opening.old.shards.items ≤ 256) }
-    ensures { OnOk result
-        ((ss : List ClassSpaceValue) → drop class m.now.spaces ≡ ss
-        → Opens m.now (placing.shard_of m.now (length opening.old.shards.items)) (tasks_from class ss) opening.old
-        opening.new) }
-{
-    if class as usize >= m.plan().classes.len() {
-        return Ok(());
-    }
-    open_class(opening, m, class)?;
-    open_classes(opening, m, class + 1)
+    enter(shards, k, t, urgency)?;
+    Ok(true)
 }
 
 // So many new shards.
@@ -169,15 +113,16 @@ pub(crate) fn opened_shards(
     requires { (0 < shards) × (shards ≤ 256) }
     ensures { IfOk result (λ v. AreOpeningShards m.now shards v.items) }
 {
-    let mut opening = Opening {
-        shards: new_shards(alloc, m, shards)?,
-        left: m.roots(),
-    };
-    open_classes(&mut opening, m, 0)?;
-    let Opening {
-        shards: opened,
-        left: _left,
-    } = opening;
+    let mut opened = new_shards(alloc, m, shards)?;
+    let mut left = m.roots();
+    for t in all_tasks(m.plan()) {
+        if left == 0 {
+            return Ok(opened);
+        }
+        if open_task(&mut opened, m, &t)? {
+            left -= 1;
+        }
+    }
     Ok(opened)
 }
 

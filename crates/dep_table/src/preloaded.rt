@@ -1,10 +1,8 @@
 //! The opening of a table that takes all memory before the first step.
 
-ghost use Rattle.std.specs.Prelude.{◌≡◌, ◌<◌, ◌≤◌, ◌∷◌, [], List, Some, IfOk, OnOk, drop, length, map, slice_get, true};
-ghost use Rattle.term_core.specs.declared.space.ClassSpace.{ClassSpace as ClassSpaceValue};
-ghost use Rattle.range_space.specs.Tasks as range;
+ghost use Rattle.std.specs.Prelude.{◌≡◌, ◌<◌, ◌≤◌, ◌∷◌, [], Some, IfOk, OnOk, length, slice_get, true};
 ghost use Rattle.dep_iter.specs.Tasks as tasks;
-ghost use Rattle.dep_iter.specs.Tasks.{IsTask, all_tasks, task, tasks_from};
+ghost use Rattle.dep_iter.specs.Tasks.{IsTask, all_tasks};
 ghost use Rattle.plan_data.specs.Fit.{DataFit};
 ghost use Rattle.dep_shard.specs.Content.{Content};
 ghost use Rattle.table_rule.specs.Changes.{first_pass};
@@ -15,14 +13,13 @@ ghost use Rattle.dep_table.specs.Passes.{IsPassOf};
 ghost use Rattle.dep_table.specs.Tables.{id_of, job_of};
 
 use crate::needs::Needs;
-use crate::opening::{open_table, opened_shards, shard_under, space_of};
+use crate::opening::{open_table, opened_shards, shard_under};
 use crate::pass::Pass;
 use crate::table::DepTable;
 use coll_data::Given;
-use dep_iter::{Matched, locals_of};
+use dep_iter::{Matched, all_tasks, locals_of};
 use dep_shard::Shard;
 use ptg_base::{OutOfMemory, TaskId};
-use range_space::Space;
 use std::alloc::Global;
 use table_rule::job::Job;
 
@@ -56,46 +53,11 @@ fn need_task(needs: &mut Vec<Needs>, m: &Matched, t: &TaskId)
     requires shards { (0 < length needs.old.items) × (length needs.old.items ≤ 256) }
     requires types { HaveTypes (length m.now.elems) needs.old.items }
     requires room { HaveRoomFor m.now (t.now ∷ []) needs.old.items }
-    ensures { AddsNeeds m.now (placing.shard_of m.now (length needs.old.items)) (t.now ∷ []) needs.old.items
-        needs.new.items }
+    ensures { AddsNeeds m.now (placing.shard_of m.now (length needs.old.items)) t.now needs.old.items needs.new.items }
 {
     let env = locals_of(m.plan(), t);
     let k = shard_under(m, needs.len(), t, env.as_slice());
     need_at(needs, k, m, t, env.as_slice());
-}
-
-// Adds what the tasks of a class need.
-fn need_class(needs: &mut Vec<Needs>, m: &Matched, class: u32)
-    requires class { class < length m.now.classes }
-    requires shards { (0 < length needs.old.items) × (length needs.old.items ≤ 256) }
-    requires types { HaveTypes (length m.now.elems) needs.old.items }
-    requires room { (s : ClassSpaceValue) → slice_get m.now.spaces class ≡ Some s
-        → HaveRoomFor m.now (map (task class) (range.tasks s)) needs.old.items }
-    ensures { (s : ClassSpaceValue) → slice_get m.now.spaces class ≡ Some s
-        → AddsNeeds m.now (placing.shard_of m.now (length needs.old.items)) (map (task class) (range.tasks s))
-        needs.old.items needs.new.items }
-{
-    let space = space_of(m, class);
-    for params in Space::new(space) {
-        let t = TaskId::new(class, params.as_slice());
-        need_task(needs, m, &t);
-    }
-}
-
-// Adds what the tasks of the classes from this number on need.
-fn need_classes(needs: &mut Vec<Needs>, m: &Matched, class: u32)
-    requires shards { (0 < length needs.old.items) × (length needs.old.items ≤ 256) }
-    requires types { HaveTypes (length m.now.elems) needs.old.items }
-    requires room { HaveRoomFor m.now (tasks_from class (drop class m.now.spaces)) needs.old.items }
-    ensures { (ss : List ClassSpaceValue) → drop class m.now.spaces ≡ ss
-        → AddsNeeds m.now (placing.shard_of m.now (length needs.old.items)) (tasks_from class ss) needs.old.items
-        needs.new.items }
-{
-    if class as usize >= m.plan().classes.len() {
-        return;
-    }
-    need_class(needs, m, class);
-    need_classes(needs, m, class + 1);
 }
 
 // What each of so many shards needs for all tasks.
@@ -106,7 +68,9 @@ fn needs_of(alloc: Global, m: &Matched, shards: u32) -> Result<Vec<Needs>, OutOf
 {
     m.is_consistent();
     let mut needs = no_needs(alloc, m, shards)?;
-    need_classes(&mut needs, m, 0);
+    for t in all_tasks(m.plan()) {
+        need_task(&mut needs, m, &t);
+    }
     Ok(needs)
 }
 

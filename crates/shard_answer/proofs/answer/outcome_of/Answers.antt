@@ -5,4 +5,4 @@ use Rattle.shard_answer.proofs.answer.outcome_of.Goals as goal
 pub final_data-requires : goal.final_data-requires
 final_data-requires c y i =
     let at = index_of y c.args.shards.items i in
-    writable c.args.m.now c.args.given c.plan.ensures.consistent c.requires.known c.colls.ensures.well_made c.args.shards.items c.requires.end at.0 y at.1
+    writable c.args.m.now c.args.given c.is_consistent.ensures c.requires.known c.is_well_made.ensures c.args.shards.items c.requires.end at.0 y at.1
