@@ -112,16 +112,8 @@ length-items [] = refl
 length-items (item.Edge e ∷ is) = let k = length-items is in omega arith
 length-items (item.Write w ∷ is) = let k = length-items is in omega arith
 
--- what is so of a flow and of those after it
-pub from_this : (Q : ℕ → FlowPlan → Type 0) (fs : List FlowPlan) (k : ℕ) (g : FlowPlan) → slice_get fs k ≡ Some g
-    → Q k g → ((i : ℕ) (f : FlowPlan) → k + 1 ≤ i → slice_get fs i ≡ Some f → Q i f)
-    → (i : ℕ) (f : FlowPlan) → k ≤ i → slice_get fs i ≡ Some f → Q i f
-from_this Q fs k g this here later i f least at = elim (cases_lt k i) [
-  | inl l ↦ later i f (omega arith) at
-  | inr l ↦ let e : i ≡ k = omega arith in let same : f ≡ g = let a = rw e at at in cc in rw (e, same) here
-]
-
 -- the source of a flow, by its in dependences
-pub source-is : (P : Plan) (t : Task) (n : ℕ) (f : FlowPlan) (env : List ℤ) (first : Bool) → env ≡ locals_of P t → slice_get (flows_of P t) n ≡ Some f → takes_first f.kind ≡ first → data_source P t n ≡ source_among t env n (held_targets first f.ins env)
+pub source-is : (P : Plan) (t : Task) (n : ℕ) (f : FlowPlan) (env : List ℤ) → env ≡ locals_of P t → slice_get (flows_of P t) n ≡ Some f
+    → data_source P t n ≡ source_among t env n (flow_ins env f)
 unfolding data_source
-source-is P t n f env first locals here is = rw (here, sym locals, sym is) refl
+source-is P t n f env locals here = rw (here, locals) refl
