@@ -106,10 +106,6 @@ held-next_some (c ∷ ds) (suc k) d env x e holds =
     ∙ held_then-append (held_target c env) (held_targets false (take k ds) env) (x ∷ [])
 
 -- the edges that the first dependences of a flow give
-pub before-none : (P : Plan) (t : Task) (n : ℕ) (f : FlowPlan) → slice_get (flows_of P t) n ≡ Some f → in_edges_before P t n 0 ≡ []
-unfolding in_edges_before
-before-none P t n f here = rw here refl
-
 module _ (at : FlowAt) where
   abbrev given : List DepPlan → List Edge
   given ds = flat_map (edges_into at.task.now at.env.now at.number) (held_targets (takes_first at.flow.now.kind) ds at.env.now)

@@ -29,9 +29,7 @@ pub fn root_count(plan: &Plan, tasks: u64) -> u64
     all_tasks_are_listed();
     let mut count = 0;
     for t in all_tasks(plan) {
-        if is_root(plan, &t) {
-            count += 1;
-        }
+        count += u64::from(is_root(plan, &t));
     }
     count
 }

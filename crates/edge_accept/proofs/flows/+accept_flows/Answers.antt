@@ -4,9 +4,10 @@ use Rattle.list_lemmas.proofs.Truth.{on_true_weaker}
 use Rattle.list_lemmas.proofs.Places.{slice_get_at, drop_from, passes_at}
 use Rattle.plan_core.specs.declared.flow.FlowPlan.{FlowPlan}
 use Rattle.dep_iter.specs.Links.{dependences_fit}
+use Rattle.dep_iter.specs.declared.direction.Direction.TheVariants.{In}
+use Rattle.dep_iter.proofs.Belonging.{before-no_dependences}
 use Rattle.edge_accept.specs.Flows.{HasSoundSource}
 use Rattle.edge_accept.proofs.SentItems.{sent_nothing}
-use Rattle.edge_accept.proofs.TakenEdges.{before-none}
 use Rattle.edge_accept.proofs.TaskFlows.{source-is}
 use Rattle.edge_accept.proofs.Walking.{accepts_more}
 use Rattle.edge_accept.proofs.flows.+accept_flows.Goals as goal
@@ -46,7 +47,7 @@ returns m c =
     let here = rw task.flows_are at this in
     let took = c.if-not-take_from.ensures in
     let source : HasSoundSource P t env n f = rw (source-is P t n f env task.locals here) took.source in
-    let taken = rw (before-none P t n f here) at took.taken in
+    let taken = rw (before-no_dependences In P t n) at took.taken in
     let sent = rw c.as_slice.ensures at (c.if-not-send_all.ensures t n) in
     rw (drop_from task.flows.now n f this)
     (on_true_weaker c.accept_flows.result
