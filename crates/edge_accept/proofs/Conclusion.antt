@@ -1,12 +1,13 @@
 -- A plan all of whose tasks were accepted is consistent, if as many edges go into its tasks as come out of them.
-use Rattle.std.proofs.Common.{◌≡◌, ◌+◌, ◌≤◌, ℕ, Some, slice_get, [], length, ap, sym, ◌∙◌, subst, arith}
-use Rattle.std.specs.List.{AllByRecursion}
+use Rattle.std.proofs.Common.{◌≡◌, ◌+◌, ◌≤◌, ℕ, Some, slice_get, [], length, map, ap, sym, ◌∙◌, subst, arith}
+use Rattle.std.specs.List.{AllByRecursion, filter_map}
 use Rattle.ptg_base.specs.Lists.{HasNoRepeats, IsIn}
 use Rattle.ptg_base.specs.Task.{Task}
 use Rattle.ptg_base.specs.declared.edge.Edge.{Edge}
+use Rattle.ptg_base.specs.declared.edge.WriteBack.{WriteBack}
 use Rattle.plan_core.specs.declared.plan.Plan.{Plan}
 use Rattle.range_space.specs.Sound.{IsSound, prefix_total}
-use Rattle.list_lemmas.proofs.Members.{IsIn-flat_map, from_flat_map}
+use Rattle.list_lemmas.proofs.Members.{IsIn-flat_map, IsIn-map, from_flat_map}
 use Rattle.list_lemmas.proofs.Joins.{filter_map-flat_map}
 use Rattle.list_lemmas.proofs.Distinct.{HasNoRepeats-flat_map}
 use Rattle.list_lemmas.proofs.Pigeonhole.{pigeonhole}
@@ -14,7 +15,7 @@ use Rattle.plan_core.specs.declared.flow.FlowPlan.{FlowPlan}
 use Rattle.dep_iter.specs.declared.source.Source.{Source}
 use Rattle.dep_iter.specs.declared.source.Source.TheVariants as source
 use Rattle.dep_iter.specs.Tasks.{IsTask, all_tasks, flows_of, locals_of}
-use Rattle.dep_iter.specs.Consistent.{IsConsistent, IsWellConnected, all_in, all_items, all_out}
+use Rattle.dep_iter.specs.Consistent.{IsConsistent, IsWellConnected, all_in, all_items, all_out, all_writes}
 use Rattle.dep_iter.specs.Edges.{data_source, in_edges}
 use Rattle.dep_iter.specs.Items.{edge_of, item_flow, items, out_edges, write_backs, write_of}
 use Rattle.dep_iter.proofs.Belonging.{in_edge_is}
@@ -26,8 +27,24 @@ use Rattle.edge_accept.specs.Tallies.{WentOver}
 use Rattle.edge_accept.proofs.TaskFlows.{item_flow-sends, length-items, source_flow}
 use Rattle.edge_accept.proofs.TaskLists.{once-all_tasks}
 
-module _ (P : Plan) (s c : Tally) (w : WentOver P s c (all_tasks P)) (edges : s.ins.edges ≡ 0) (outs : s.outs ≡ 0)
-    (writes : s.writes ≡ 0) (balanced : c.ins.edges ≡ c.outs) where
+module _ (P : Plan) (s c : Tally) (w : WentOver P s c (all_tasks P)) (edges : s.ins.edges ≡ 0) (outs : s.outs.edges ≡ 0)
+    (writes : s.outs.writes ≡ 0) (balanced : c.ins.edges ≡ c.outs.edges) where
+  -- how many edges come out of tasks, and how many places are written
+  sent_edges : c.outs.edges ≡ length (all_out P)
+  sent_edges =
+      let e = w.sent.edges in
+      let f = ap length (filter_map-flat_map edge_of (items P) (all_tasks P)) in
+      omega arith
+
+  writes-are : filter_map write_of (all_items P) ≡ all_writes P
+  writes-are = filter_map-flat_map write_of (items P) (all_tasks P)
+
+  pub sent_writes : c.outs.writes ≡ length (all_writes P)
+  sent_writes =
+      let e = w.sent.writes in
+      let f = ap length writes-are in
+      omega arith
+
   ins_once : HasNoRepeats (all_in P)
   ins_once = HasNoRepeats-flat_map (in_edges P) (all_tasks P) (once-all_tasks P) (λ t h. (w.sound t h).ins_once)
       (λ t u e h k. sym ((in_edge_is P t e).0 h).0 ∙ ((in_edge_is P u e).0 k).0)
@@ -40,7 +57,7 @@ module _ (P : Plan) (s c : Tally) (w : WentOver P s c (all_tasks P)) (edges : s.
   matched : HasNoRepeats (all_out P) × ((e : Edge) → IsIn e (all_out P) → IsIn e (all_in P))
   matched =
       let i = w.taken.edges in
-      let o = w.outs in
+      let o = sent_edges in
       pigeonhole (all_in P) (all_out P) ins_once among_outs (omega arith)
 
   -- an edge out of a task is one into a task of the job
@@ -62,7 +79,9 @@ module _ (P : Plan) (s c : Tally) (w : WentOver P s c (all_tasks P)) (edges : s.
         affinity_exists = a.affinity_exists;
         sources_exist = λ n p e. let q = source_flow P t n (source.Place p) e (λ k. absurd cc) in
             sound n q.0 (source.Place p) e q.1;
-        written_exist = λ x h. w.written.exist x (IsIn-flat_map (write_backs P) (all_tasks P) t x here h);
+        written_exist = λ x h.
+            let k = IsIn-flat_map (write_backs P) (all_tasks P) t x here h in
+            w.sent.exist x.place (IsIn-map (λ (y : WriteBack). y.place) (filter_map write_of (all_items P)) x (rw writes-are k));
         from_tasks = λ e h. (w.taken.sent e (IsIn-flat_map (in_edges P) (all_tasks P) t e here h)).0;
         to_tasks = to_task t of_job;
         absent_sends_nothing = λ n i null h k.
@@ -72,27 +91,20 @@ module _ (P : Plan) (s c : Tally) (w : WentOver P s c (all_tasks P)) (edges : s.
             subst (IsIn i) none p.1.1;
       }
 
-  length-all_items : length (all_items P) ≡ c.outs + c.writes
-  length-all_items =
-      let e = length-items (all_items P) in
-      let f = ap length (filter_map-flat_map edge_of (items P) (all_tasks P)) in
-      let g = ap length (filter_map-flat_map write_of (items P) (all_tasks P)) in
-      let h = w.outs in
-      let k = w.writes in
-      omega arith
-
-  pub consistent : IsSetOf P.colls s.written [] → AllByRecursion IsSound P.spaces → length (all_tasks P) ≤ 1000000
+  pub consistent : IsSetOf P.colls s.outs.written [] → AllByRecursion IsSound P.spaces → length (all_tasks P) ≤ 1000000
       → prefix_total P.spaces ≤ 16000000 → IsConsistent P
   consistent empty sound tasks_at_most prefixes_at_most =
-      let items = length-all_items in
-      let few = c.items_at_most in
+      let items = length-items (all_items P) in
+      let e = w.sent.edges in
+      let k = w.sent.writes in
+      let at_most = c.outs.items_at_most in
       let i = w.taken.edges in
       record {
         sound = sound;
         tasks_at_most = tasks_at_most;
         prefixes_at_most = prefixes_at_most;
         connected = connected;
-        written_once = (w.written.added [] (record { set = empty; once = tt })).once;
+        written_once = subst (λ ws. HasNoRepeats (map (λ (y : WriteBack). y.place) ws)) writes-are (w.sent.added [] (record { set = empty; once = tt })).once;
         in_edges_at_most = omega arith;
         items_at_most = omega arith;
         no_in_edge_twice = ins_once;

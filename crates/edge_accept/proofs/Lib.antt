@@ -1,6 +1,7 @@
-pub mod Counting
 pub mod TaskLists
+pub mod RootCount
 pub mod TaskFlows
-pub mod Taking
+pub mod TakenEdges
+pub mod SentItems
 pub mod Walking
 pub mod Conclusion

@@ -22,6 +22,9 @@ use Rattle.dep_iter.specs.Active.{by_flow, flow_ins, flow_outs, held_targets, ta
 use Rattle.dep_iter.specs.Arguments.{combinations}
 use Rattle.dep_iter.specs.Edges.{data_source, edge, edges_into, in_edges, source_among}
 use Rattle.dep_iter.specs.Items.{edge_of, item_flow, items, items_to, write_of}
+use Rattle.dep_iter.specs.Links.{links_to}
+use Rattle.dep_iter.proofs.Belonging.{from_edges_in, link_in, near_among}
+use Rattle.dep_iter.proofs.Joining.{edges_into-among}
 use Rattle.edge_accept.specs.Flows.{edges_into_flow, ins_of_flows, items_of_flow, items_of_flows}
 
 numbered : {X : Type 0} (g : ℕ → Target → List X) (n : ℕ) (xs : List Target) (rest : List (ℕ × Target)) → flat_map (λ (a : ℕ × Target). g a.0 a.1) (map (λ x. (n, x)) xs ++ rest) ≡ flat_map (g n) xs ++ flat_map (λ (a : ℕ × Target). g a.0 a.1) rest
@@ -45,14 +48,10 @@ unfolding items
 items-by_flow P t = items-flows t (locals_of P t) 0 (flows_of P t)
 
 -- which flow an edge goes into, and which flow sends an item
-into_is : (t : Task) (env : List ℤ) (n : ℕ) (x : Target) (e : Edge) → IsIn e (edges_into t env n x) → e.in_flow ≡ n
-into_is t env n (target.Task class flow args) e h = let p = from_map (λ params. edge (task class params) flow t n) (combinations args env) e h in ap (λ (e : Edge). e.in_flow) p.2
-into_is t env n (target.Element coll indices) e h = absurd h
-into_is t env n target.New e h = absurd h
-into_is t env n target.Null e h = absurd h
-
 pub into_flow_is : (t : Task) (env : List ℤ) (n : ℕ) (f : FlowPlan) (e : Edge) → IsIn e (edges_into_flow t env n f) → e.in_flow ≡ n
-into_flow_is t env n f e h = let p = from_flat_map (edges_into t env n) (flow_ins env f) e h in into_is t env n p.0 e p.2
+into_flow_is t env n f e h =
+    let xs = flow_ins env f in
+    near_among env n xs (link_in e) (from_edges_in t (flat_map (links_to env n) xs) e (rw edges_into-among at h)).1
 
 into_flows_from : (t : Task) (env : List ℤ) (n : ℕ) (fs : List FlowPlan) (e : Edge) → IsIn e (ins_of_flows t env n fs)
     → n ≤ e.in_flow
@@ -112,16 +111,8 @@ length-items [] = refl
 length-items (item.Edge e ∷ is) = let k = length-items is in omega arith
 length-items (item.Write w ∷ is) = let k = length-items is in omega arith
 
--- what is so of a flow and of those after it
-pub from_this : (Q : ℕ → FlowPlan → Type 0) (fs : List FlowPlan) (k : ℕ) (g : FlowPlan) → slice_get fs k ≡ Some g
-    → Q k g → ((i : ℕ) (f : FlowPlan) → k + 1 ≤ i → slice_get fs i ≡ Some f → Q i f)
-    → (i : ℕ) (f : FlowPlan) → k ≤ i → slice_get fs i ≡ Some f → Q i f
-from_this Q fs k g this here later i f least at = elim (cases_lt k i) [
-  | inl l ↦ later i f (omega arith) at
-  | inr l ↦ let e : i ≡ k = omega arith in let same : f ≡ g = let a = rw e at at in cc in rw (e, same) here
-]
-
 -- the source of a flow, by its in dependences
-pub source-is : (P : Plan) (t : Task) (n : ℕ) (f : FlowPlan) (env : List ℤ) (first : Bool) → env ≡ locals_of P t → slice_get (flows_of P t) n ≡ Some f → takes_first f.kind ≡ first → data_source P t n ≡ source_among t env n (held_targets first f.ins env)
+pub source-is : (P : Plan) (t : Task) (n : ℕ) (f : FlowPlan) (env : List ℤ) → env ≡ locals_of P t → slice_get (flows_of P t) n ≡ Some f
+    → data_source P t n ≡ source_among t env n (flow_ins env f)
 unfolding data_source
-source-is P t n f env first locals here is = rw (here, sym locals, sym is) refl
+source-is P t n f env locals here = rw (here, locals) refl

@@ -65,14 +65,9 @@ IsSoundSource P f sent source.Nothing = IsTrue (takes_tile f.kind) → ⊥
 abbrev pub HasSoundSource : Plan → Task → List ℤ → ℕ → FlowPlan → Type 0
 HasSoundSource P t env n f = IsSoundSource P f (items_of_flow t env n f) (data_source P t n)
 
--- each flow of a task has a sound source
-abbrev pub HasSoundSources : Plan → Task → Type 0
-HasSoundSources P t =
-    (n : ℕ) (f : FlowPlan) → slice_get (flows_of P t) n ≡ Some f → HasSoundSource P t (locals_of P t) n f
-
 -- what the walk shows of a task itself
 pub record IsSoundTask (P : Plan) (t : Task) : Type 0 where
   pub well : IsWellTask P t
   pub affinity_exists : HasPlace P.colls (affinity P t)
-  pub sources : HasSoundSources P t
+  pub sources : (n : ℕ) (f : FlowPlan) → slice_get (flows_of P t) n ≡ Some f → HasSoundSource P t (locals_of P t) n f
   pub ins_once : HasNoRepeats (in_edges P t)

@@ -1,66 +1,59 @@
 -- What the walk has counted. Source: this project's own choice.
-use Rattle.std.specs.Prelude.{◌≡◌, ◌+◌, ◌≤◌, ◌==◌, ℕ, List, [], ◌∷◌, ◌++◌, length, map, flat_map, filter, filter_map}
-use Rattle.ptg_base.specs.Limits.{most_edges}
+use Rattle.std.specs.Prelude.{◌≡◌, ◌+◌, ℕ, ℤ, List, [], ◌++◌, length, map, flat_map, filter_map, slice_get, Some}
 use Rattle.ptg_base.specs.Lists.{HasNoRepeats, IsIn}
 use Rattle.ptg_base.specs.Task.{Task}
 use Rattle.ptg_base.specs.declared.place.Place.{Place}
 use Rattle.ptg_base.specs.declared.edge.Item.{Item}
 use Rattle.ptg_base.specs.declared.edge.WriteBack.{WriteBack}
+use Rattle.plan_core.specs.declared.flow.FlowPlan.{FlowPlan}
 use Rattle.plan_core.specs.declared.plan.Plan.{Plan}
 use Rattle.plan_core.specs.declared.shape.Shape.{Shape}
+use Rattle.plan_core.specs.declared.target.Target.{Target}
 use Rattle.plan_core.specs.Place.{HasPlace}
-use Rattle.dep_iter.specs.Edges.{goal, in_edges}
-use Rattle.dep_iter.specs.Items.{edge_of, out_edges, write_backs, write_of}
+use Rattle.dep_iter.specs.Edges.{edges_into, in_edges, in_edges_before, source_among}
+use Rattle.dep_iter.specs.Items.{edge_of, items, write_of}
 use Rattle.place_set.specs.declared.PlaceSet.{PlaceSet}
 use Rattle.place_set.specs.Sets.{IsSetOf}
-use Rattle.edge_accept.specs.declared.tally.Sent.{Sent}
+use Rattle.edge_accept.specs.declared.at.FlowAt.{FlowAt}
+use Rattle.edge_accept.specs.declared.ins.Ins.{Ins}
+use Rattle.edge_accept.specs.declared.tally.Outs.{Outs}
 use Rattle.edge_accept.specs.declared.tally.Tally.{Tally}
-use Rattle.edge_accept.specs.Flows.{AreTaken, AreTakenOnce, HasSoundSources, IsSoundTask}
+use Rattle.edge_accept.specs.Flows.{AreTaken, AreTakenOnce, HasSoundSource, IsSoundSource, IsSoundTask, ins_of_flows, items_of_flow}
+use Rattle.edge_accept.specs.Flows.{items_of_flows}
 
--- k is the number n, but where k is over 4,000,000, the most edges that a job may have
-abbrev pub IsCount : ℕ → ℕ → Type 0
-IsCount k n = k ≤ most_edges → k ≡ n
-
--- the counts are those of what is sent
-pub record AreSent (s : Sent) (items : List Item) : Type 0 where
-  pub edges : IsCount s.edges (length (filter_map edge_of items))
-  pub writes : IsCount s.writes (length (filter_map write_of items))
-
-abbrev pub place_of : WriteBack → Place
-place_of w = w.place
+-- the flow may start from the first of these targets, which dependences from number k on give, and the edges that they
+-- stand for were counted
+pub record TakesFrom (at : FlowAt) (k : ℕ) (old new : Ins) (xs : List Target) : Type 0 where
+  pub source : IsSoundSource at.plan.now at.flow.now (items_of_flow at.task.now at.env.now at.number at.flow.now)
+      (source_among at.task.now at.env.now at.number xs)
+  pub taken : AreTakenOnce at.plan.now (in_edges_before at.plan.now at.task.now at.number k) old new
+      (flat_map (edges_into at.task.now at.env.now at.number) xs)
 
 -- the set has these places of the collections, and none of them was added twice
 pub record IsOnceIn (colls : List Shape) (w : PlaceSet) (ps : List Place) : Type 0 where
   pub set : IsSetOf colls w ps
   pub once : HasNoRepeats ps
 
--- each of these places exists, and was added
-pub record AreWritten (colls : List Shape) (old new : PlaceSet) (ws : List WriteBack) : Type 0 where
-  pub exist : (w : WriteBack) → IsIn w ws → HasPlace colls w.place
-  pub added : (ps : List Place) → IsOnceIn colls old ps → IsOnceIn colls new (ps ++ map place_of ws)
+-- the places that items write
+abbrev pub places_of : List Item → List Place
+places_of is = map (λ (w : WriteBack). w.place) (filter_map write_of is)
 
--- the edges into a task were counted, and the task where there are none; and its flows have sound sources
-pub record TakesIns (P : Plan) (t : Task) (old new : Tally) : Type 0 where
-  pub sources : HasSoundSources P t
-  pub taken : AreTakenOnce P [] old.ins new.ins (in_edges P t)
-  pub roots : new.roots ≡ old.roots + length (filter (λ u. goal P u == 0) (t ∷ []))
-  pub outs : new.outs ≡ old.outs
-  pub writes : new.writes ≡ old.writes
-  pub written : new.written ≡ old.written
+-- these items were counted, and each place that they write exists and was added
+pub record AreSent (colls : List Shape) (old new : Outs) (is : List Item) : Type 0 where
+  pub edges : new.edges ≡ old.edges + length (filter_map edge_of is)
+  pub writes : new.writes ≡ old.writes + length (filter_map write_of is)
+  pub exist : (p : Place) → IsIn p (places_of is) → HasPlace colls p
+  pub added : (ps : List Place) → IsOnceIn colls old.written ps → IsOnceIn colls new.written (ps ++ places_of is)
 
--- what a task sends was counted, and the places that it writes were added
-pub record Sends (P : Plan) (t : Task) (old new : Tally) : Type 0 where
-  pub ins : new.ins ≡ old.ins
-  pub roots : new.roots ≡ old.roots
-  pub outs : new.outs ≡ old.outs + length (out_edges P t)
-  pub writes : new.writes ≡ old.writes + length (write_backs P t)
-  pub written : AreWritten P.colls old.written new.written (write_backs P t)
+-- these flows of a task, which are numbered from n on, have sound sources; the edges into them and what they send was
+-- counted
+pub record Accepts (P : Plan) (t : Task) (env : List ℤ) (old new : Tally) (n : ℕ) (fs : List FlowPlan) : Type 0 where
+  pub sources : (i : ℕ) (f : FlowPlan) → slice_get fs i ≡ Some f → HasSoundSource P t env (n + i) f
+  pub taken : AreTakenOnce P [] old.ins new.ins (ins_of_flows t env n fs)
+  pub sent : AreSent P.colls old.outs new.outs (items_of_flows t env n fs)
 
 -- the walk went on over these tasks, each of which is sound; what they receive, send and write was counted
 pub record WentOver (P : Plan) (old new : Tally) (ts : List Task) : Type 0 where
   pub sound : (t : Task) → IsIn t ts → IsSoundTask P t
   pub taken : AreTaken P [] old.ins new.ins (flat_map (in_edges P) ts)
-  pub roots : new.roots ≡ old.roots + length (filter (λ t. goal P t == 0) ts)
-  pub outs : new.outs ≡ old.outs + length (flat_map (out_edges P) ts)
-  pub writes : new.writes ≡ old.writes + length (flat_map (write_backs P) ts)
-  pub written : AreWritten P.colls old.written new.written (flat_map (write_backs P) ts)
+  pub sent : AreSent P.colls old.outs new.outs (flat_map (items P) ts)

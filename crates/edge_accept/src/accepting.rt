@@ -8,7 +8,8 @@ ghost use Rattle.dep_iter.specs.Consistent.{HasCounts, IsConsistent};
 ghost use Rattle.dep_iter.specs.Tasks.{all_tasks};
 
 use crate::ins::Ins;
-use crate::tally::Tally;
+use crate::roots::root_count;
+use crate::tally::{Outs, Tally};
 use crate::tasks::accept_all;
 use dep_iter::Counts;
 use place_set::PlaceSet;
@@ -34,22 +35,23 @@ pub fn accepts(alloc: Global, plan: &Plan, tasks: u64) -> Result<Option<Counts>,
             edges: 0,
             data_edges: 0,
         },
-        roots: 0,
-        outs: 0,
-        writes: 0,
-        written: PlaceSet::new(alloc, plan.colls.as_slice())?,
+        outs: Outs {
+            edges: 0,
+            writes: 0,
+            written: PlaceSet::new(alloc, plan.colls.as_slice())?,
+        },
     };
     if !accept_all(plan, tasks, &mut tally) {
         return Ok(None);
     }
-    if tally.ins.edges != tally.outs {
+    if tally.ins.edges != tally.outs.edges {
         return Ok(None);
     }
     Ok(Some(Counts {
         tasks,
-        roots: tally.roots,
+        roots: root_count(plan, tasks),
         edges: tally.ins.edges,
         data_edges: tally.ins.data_edges,
-        writes: tally.writes,
+        writes: tally.outs.writes,
     }))
 }

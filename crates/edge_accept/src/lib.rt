@@ -3,13 +3,14 @@
 
 mod accepting;
 mod at;
-mod edges;
 mod flows;
 mod ins;
-mod named;
+mod outs;
+mod roots;
 mod sending;
-mod sources;
 mod tally;
+mod taking;
 mod tasks;
 
 pub use accepting::accepts;
+pub use roots::root_count;

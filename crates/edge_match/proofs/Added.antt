@@ -1,6 +1,6 @@
 -- What the marks of the first phase count: all edges into tasks, all items and all places that are written.
-use Rattle.std.proofs.Common.{◌≡◌, ℕ, ◌+◌, List, [], ◌∷◌, ◌++◌, length, length-append, map, refl, ap, sym, ◌∙◌, subst}
-use Rattle.std.proofs.Common.{append_assoc, Ok, arith}
+use Rattle.std.proofs.Common.{◌≡◌, ℕ, List, [], ◌∷◌, ◌++◌, map, refl, ap, sym, ◌∙◌, subst}
+use Rattle.std.proofs.Common.{append_assoc}
 use Rattle.std.proofs.lemmas.List.{append-nil, map-append}
 use Rattle.std.specs.List.{filter_map, flat_map}
 use Rattle.ptg_base.specs.Task.{Task}
@@ -15,15 +15,13 @@ use Rattle.dep_iter.specs.declared.source.Source.{Source}
 use Rattle.dep_iter.specs.declared.direction.Direction.TheVariants.{In, Out}
 use Rattle.dep_iter.specs.Tasks.{all_tasks}
 use Rattle.dep_iter.specs.Consistent.{all_in, all_items, all_writes}
-use Rattle.dep_iter.specs.Edges.{data_source, goal, in_edges}
+use Rattle.dep_iter.specs.Edges.{data_source, in_edges}
 use Rattle.dep_iter.specs.Items.{items, write_of}
 use Rattle.std.proofs.lemmas.List.Elements.{filter_map-append}
 use Rattle.list_lemmas.proofs.Joins.{filter_map-flat_map}
 use Rattle.edge_match.specs.declared.phase.Phase.TheVariants.{Connecting}
 use Rattle.edge_match.specs.Marks.{Before, Mark, add_all, flow_items, flow_marks, flow_start, item_marks, nothing, phase_marks}
 use Rattle.edge_match.specs.Marks.{task_marks, task_start}
-use Rattle.edge_match.specs.declared.counted.Counted.{Counted}
-use Rattle.edge_match.specs.Counted.{Checked, IsCounted}
 use Rattle.edge_match.proofs.Directed.{edges-numbered, flow_edges, flows_at, in_flow_items, items-numbered}
 use Rattle.edge_match.proofs.Parts.{add_all-append}
 
@@ -96,12 +94,3 @@ pub phase-adds : (P : Plan) → add_all nothing (phase_marks Connecting P) ≡ r
 phase-adds P =
     (adds_each (task_marks Connecting P) (in_edges P) (items P) (task_adds P) (all_tasks P)).after nothing
     ∙ one_before _ _ _ _ _ _ refl refl (ap (map (λ (w : WriteBack). w.place)) (filter_map-flat_map write_of (items P) (all_tasks P)))
-
--- a task whose marks pass has added the edges into it
-pub grown : (P : Plan) (s u : Counted) (b : Before) (t : Task) → IsCounted P s b → Checked P s u (Ok tt) (task_marks Connecting P t) → u.ins ≡ s.ins + goal P t
-grown P s u b t k h =
-    let e = (h.after b k).1.ins in
-    let a = ap (λ (c : Before). length c.ins) ((task_adds P t).after b) in
-    let l = length-append b.ins (in_edges P t) in
-    let i = k.ins in
-    omega arith

@@ -18,29 +18,30 @@ use Rattle.plan_core.specs.declared.target.Arg.{Arg}
 use Rattle.plan_core.specs.declared.target.Target.{Target}
 use Rattle.plan_core.specs.declared.target.Target.TheVariants as target
 use Rattle.list_lemmas.proofs.Members.{IsIn-append_left, from_append}
+use Rattle.list_lemmas.proofs.Places.{drop_from}
 use Rattle.std.proofs.lemmas.List.Elements.{filter_map-append}
 use Rattle.list_lemmas.proofs.Joins.{filter_map-flat_map, map-flat_map, map-map, flat_map_push}
 use Rattle.dep_iter.specs.declared.direction.Direction.{Direction}
 use Rattle.dep_iter.specs.declared.direction.Direction.TheVariants.{In, Out}
 use Rattle.dep_iter.specs.declared.source.Source.{Source}
-use Rattle.dep_iter.specs.Tasks.{flows_of, locals_of}
+use Rattle.dep_iter.specs.Tasks.{flows_of, locals_of, task}
 use Rattle.dep_iter.specs.Active.{flow_ins, held_target, held_targets, held_then, takes_first}
-use Rattle.dep_iter.specs.Directions.{dependences, edges_of, first_alone, near_flow}
+use Rattle.dep_iter.specs.Directions.{dependences, edge_at, edges_of, first_alone, near_flow}
 use Rattle.dep_iter.specs.Edges.{data_source, edges_into, in_edges_before}
 use Rattle.dep_iter.specs.Items.{edge_of, out_edges_before, write_of, items}
 use Rattle.dep_iter.specs.Arguments.{combinations}
 use Rattle.dep_iter.proofs.Belonging.{held-none}
 use Rattle.dep_iter.proofs.Distinctness.{distinct_in, distinct_out}
 use Rattle.edge_accept.specs.Flows.{edges_into_flow, ins_of_flows, items_of_flows}
+use Rattle.edge_accept.proofs.TakenEdges.{held-next_none, held-next_some}
 use Rattle.edge_accept.proofs.TaskFlows.{in_edges-flows, into_flow_is, items-by_flow, sent_flow_is}
 use Rattle.edge_match.specs.declared.counted.Counted.{Counted}
-use Rattle.edge_match.specs.declared.dependences.Named.{Named}
 use Rattle.edge_match.specs.declared.fault.MatchFault.{MatchFault}
 use Rattle.edge_match.specs.declared.phase.Phase.{Phase}
 use Rattle.edge_match.specs.declared.task_at.FlowAt.{FlowAt}
-use Rattle.edge_match.specs.FlowParts.{CheckedAt, FlowMarks, before_at, edge_named, held_at}
+use Rattle.edge_match.specs.FlowParts.{CheckedAt, FlowMarks, before_at, marks_from}
 use Rattle.edge_match.specs.Marks.{Mark, edge_marks, flow_items, held_items, item_marks, items_at, numbered, write_marks}
-use Rattle.edge_match.proofs.Parts.{stop, followed}
+use Rattle.edge_match.proofs.Parts.{stop, followed, unchecked}
 
 -- edges that are written as items
 pub edges_only : (es : List Edge) → filter_map edge_of (map item.Edge es) ≡ es
@@ -113,6 +114,9 @@ module _ (at : FlowAt) (d : Direction) (before : List Edge) where
   abbrev pub One : Counted → Counted → Result (Unit {0}) MatchFault → Edge → Type 0
   One s u r e = (earlier : List Edge) → IsIn e earlier ↔ IsIn e before → CheckedAt at.phase at s u r (edge_marks d earlier e)
 
+  pub no_more : (s : Counted) → Rest s s (Ok tt) []
+  no_more s earlier agree once = unchecked
+
   pub one_more : (s u v : Counted) (r : Result (Unit {0}) MatchFault) (e : Edge) (es : List Edge)
       → One s u (Ok tt) e → Rest u v r es → Rest s v r (e ∷ es)
   one_more s u v r e es one more earlier agree once =
@@ -125,44 +129,15 @@ module _ (at : FlowAt) (d : Direction) (before : List Edge) where
       ) in
       followed (one earlier (agree e (inl refl))) (more (earlier ++ e ∷ []) later once.1)
 
--- what is left of a list from a position on
-pub drop_cons : {A : Type 0} (xs : List A) (k : ℕ) (y : A) (ys : List A) → drop k xs ≡ y ∷ ys
-    → (slice_get xs k ≡ Some y) × (drop (suc k) xs ≡ ys) × (take (suc k) xs ≡ take k xs ++ y ∷ [])
-drop_cons [] zero y ys h = absurd cc
-drop_cons [] (suc k) y ys h = absurd cc
-drop_cons (x ∷ xs) zero y ys h =
-    let e : x ≡ y = cc in
-    let f : xs ≡ ys = cc in
-    (ap Some e, f, ap (λ z. z ∷ []) e)
-drop_cons (x ∷ xs) (suc k) y ys h = let p = drop_cons xs k y ys h in (p.0, p.1, ap (λ l. x ∷ l) p.2)
-
--- the targets of dependences that hold, with one more dependence at the end
-held-end_none : (first_only : Bool) (ds : List DepPlan) (d : DepPlan) (env : List ℤ) → held_target d env ≡ None
-    → held_targets first_only (ds ++ d ∷ []) env ≡ held_targets first_only ds env
-held-end_none first_only [] d env e = ap (λ o. held_then first_only o []) e
-held-end_none first_only (c ∷ ds) d env e =
-    ap (held_then first_only (held_target c env)) (held-end_none first_only ds d env e)
-
-held_then-end : (o : Option Target) (xs : List Target) (x : Target)
-    → held_then false o (xs ++ x ∷ []) ≡ held_then false o xs ++ x ∷ []
-held_then-end None xs x = refl
-held_then-end (Some y) xs x = refl
-
-held-end : (ds : List DepPlan) (d : DepPlan) (env : List ℤ) (x : Target) → held_target d env ≡ Some x
-    → held_targets false (ds ++ d ∷ []) env ≡ held_targets false ds env ++ x ∷ []
-held-end [] d env x e = ap (λ o. held_then false o []) e
-held-end (c ∷ ds) d env x e =
-    ap (held_then false (held_target c env)) (held-end ds d env x e)
-    ∙ held_then-end (held_target c env) (held_targets false ds env) x
-
 -- the targets after one that holds
 abbrev pub targets_after : Bool → List Target → List Target
 targets_after true later = []
 targets_after false later = later
 
-held_then-is : (b : Bool) (x : Target) (later : List Target) → held_then b (Some x) later ≡ x ∷ targets_after b later
-held_then-is true x later = refl
-held_then-is false x later = refl
+held-some : (b : Bool) (d : DepPlan) (ds : List DepPlan) (env : List ℤ) (x : Target) → held_target d env ≡ Some x
+    → held_targets b (d ∷ ds) env ≡ x ∷ targets_after b (held_targets b ds env)
+held-some true d ds env x e = rw e refl
+held-some false d ds env x e = rw e refl
 
 -- the edges that the first dependences of a flow give
 first_edges : (at : FlowAt) (d : Direction) (k : ℕ) → before_at d at k ≡ filter_map edge_of (held_items d at.task.now
@@ -178,86 +153,80 @@ module _ (at : FlowAt) (d : Direction) where
   abbrev pub alone : Bool
   alone = first_alone d at.flow.now.kind
 
+  abbrev pub held : List DepPlan → List Target
+  held ds = held_targets alone ds at.env.now
+
   abbrev pub given : List Target → List Item
   given xs = flat_map (items_at d at.task.now at.env.now at.number) xs
 
   abbrev pub all : FlowMarks → List Mark
   all ms = ms at.phase (data_source at.plan.now at.task.now at.number) at.task.now at.number
 
-  pub before-is : (k : ℕ) → before_at d at k ≡ filter_map edge_of (held_at d at (take k (dependences d at.flow.now)))
+  before-is : (k : ℕ) → before_at d at k ≡ filter_map edge_of (given (held (take k (dependences d at.flow.now))))
   before-is k = rw (sym at.locals) at (first_edges at d k)
 
   pub nothing_before : before_at d at 0 ≡ []
   nothing_before = before-is 0
 
-  -- the dependence at hand, and the later ones
-  module _ (k : ℕ) (dep : DepPlan) (later : List DepPlan) (rest : drop k (dependences d at.flow.now) ≡ dep ∷ later) where
-    abbrev pub first : List DepPlan
-    first = take k (dependences d at.flow.now)
-
-    abbrev pub from : ℕ → List DepPlan → FlowMarks
-    from i ds = item_marks d (before_at d at i) (held_at d at ds)
-
-    one_longer : before_at d at (k + 1) ≡ filter_map edge_of (given (held_targets alone (first ++ dep ∷ []) at.env.now))
-    one_longer =
-        let longer = (drop_cons (dependences d at.flow.now) k dep later rest).2 in
-        rw add-one (before-is (suc k) ∙ ap (λ ds. filter_map edge_of (held_at d at ds)) longer)
+  -- the dependence at hand
+  module _ (k : ℕ) (dep : DepPlan) (this : slice_get (dependences d at.flow.now) k ≡ Some dep) where
+    abbrev pub later : List DepPlan
+    later = drop (suc k) (dependences d at.flow.now)
 
     pub skip : {s v : Counted} {r : Result (Unit {0}) MatchFault} → held_target dep at.env.now ≡ None
-        → CheckedAt at.phase at s v r (from (k + 1) later) → CheckedAt at.phase at s v r (from k (dep ∷ later))
+        → CheckedAt at.phase at s v r (marks_from d at (suc k)) → CheckedAt at.phase at s v r (marks_from d at k)
     skip {s} {v} {r} none h =
-        let ends = ap (λ xs. filter_map edge_of (given xs)) (held-end_none alone first dep at.env.now none) in
-        let same : before_at d at (k + 1) ≡ before_at d at k = one_longer ∙ ends ∙ sym (before-is k) in
-        rw (held-none alone dep later at.env.now none)
-        (subst (λ es. CheckedAt at.phase at s v r (item_marks d es (held_at d at later))) same h)
+        let edges = λ (xs : List Target). filter_map edge_of (given xs) in
+        let same = before-is (suc k) ∙ ap edges (held-next_none alone (dependences d at.flow.now) k dep at.env.now this none) ∙ sym (before-is k) in
+        rw (drop_from (dependences d at.flow.now) k dep this, held-none alone dep later at.env.now none)
+        (subst (λ es. CheckedAt at.phase at s v r (item_marks d es (given (held later)))) same h)
 
     module _ (x : Target) (holds : held_target dep at.env.now ≡ Some x) where
       abbrev pub here : List Item
       here = items_at d at.task.now at.env.now at.number x
 
       abbrev pub others : Bool → List Mark
-      others b = all (item_marks d (before_at d at k ++ filter_map edge_of here) (given (targets_after b (held_targets alone later at.env.now))))
+      others b = all (item_marks d (before_at d at k ++ filter_map edge_of here) (given (targets_after b (held later))))
 
-      split : all (from k (dep ∷ later)) ≡ all (item_marks d (before_at d at k) here) ++ others alone
+      split : all (marks_from d at k) ≡ all (item_marks d (before_at d at k) here) ++ others alone
       split =
-          let more = held_targets alone later at.env.now in
           let marks = λ (xs : List Target). all (item_marks d (before_at d at k) (given xs)) in
-          ap (λ o. marks (held_then alone o more)) holds ∙ ap marks (held_then-is alone x more)
-          ∙ marks-append d at.phase _ at.task.now at.number (before_at d at k) here (given (targets_after alone more))
+          let deps = dependences d at.flow.now in
+          ap (λ (ds : List DepPlan). marks (held ds)) (drop_from deps k dep this)
+          ∙ ap marks (held-some alone dep later at.env.now x holds)
+          ∙ marks-append d at.phase _ at.task.now at.number (before_at d at k) here (given (targets_after alone (held later)))
 
       pub stop_at : {s u v : Counted} {r : Result (Unit {0}) MatchFault} {g : MatchFault} → IsErrAnd r (λ e. e ≡ g)
-          → CheckedAt at.phase at s u (Err g) (item_marks d (before_at d at k) here)
-          → CheckedAt at.phase at s v r (from k (dep ∷ later))
+          → CheckedAt at.phase at s u (Err g) (item_marks d (before_at d at k) here) → CheckedAt at.phase at s v r (marks_from d at k)
       stop_at e h = rw split (stop (others alone) e h)
 
       pub pass_at : {s u v : Counted} {r : Result (Unit {0}) MatchFault} → alone ≡ false
           → CheckedAt at.phase at s u (Ok tt) (item_marks d (before_at d at k) here)
-          → CheckedAt at.phase at u v r (from (k + 1) later) → CheckedAt at.phase at s v r (from k (dep ∷ later))
+          → CheckedAt at.phase at u v r (marks_from d at (suc k)) → CheckedAt at.phase at s v r (marks_from d at k)
       pass_at {s} {u} {v} {r} any h more =
-          let held = λ (b : Bool). held_targets b (first ++ dep ∷ []) at.env.now ≡ held_targets b first at.env.now ++ x ∷ [] in
-          let ends : held alone = subst held (sym any) (held-end first dep at.env.now x holds) in
-          let all_first = held_targets alone first at.env.now in
-          let same : before_at d at (k + 1) ≡ before_at d at k ++ filter_map edge_of here =
-          one_longer ∙ ap (λ xs. filter_map edge_of (given xs)) ends
-          ∙ ap (filter_map edge_of) (flat_map_push (items_at d at.task.now at.env.now at.number) all_first x)
-          ∙ filter_map-append edge_of (given all_first) here ∙ ap (λ l. l ++ filter_map edge_of here) (sym (before-is k)) in
-          let rest_is : others alone ≡ all (from (k + 1) later) =
-          ap others any ∙ ap (λ es. all (item_marks d es (held_at d at later))) (sym same) in
+          let deps = dependences d at.flow.now in
+          let longer = λ (b : Bool). held_targets b (take (suc k) deps) at.env.now ≡ held_targets b (take k deps) at.env.now ++ x ∷ [] in
+          let first = held (take k deps) in
+          let same : before_at d at (suc k) ≡ before_at d at k ++ filter_map edge_of here =
+          before-is (suc k) ∙ ap (λ xs. filter_map edge_of (given xs)) (subst longer (sym any) (held-next_some deps k dep at.env.now x this holds))
+          ∙ ap (filter_map edge_of) (flat_map_push (items_at d at.task.now at.env.now at.number) first x)
+          ∙ filter_map-append edge_of (given first) here ∙ ap (λ l. l ++ filter_map edge_of here) (sym (before-is k)) in
+          let rest_is : others alone ≡ all (marks_from d at (suc k)) = ap others any ∙ ap (λ es. all (item_marks d es (given (held later)))) (sym same) in
           rw split (followed h (rw rest_is more))
 
--- the edges that a target names in one dependence, and that no two of them are the same
-module _ (at : FlowAt) (k class flow : ℕ) (args : List Arg) where
-  abbrev named : Named
-  named = record { dependence = k; class = class; flow = flow }
+-- the edges of a flow with the tasks of a class that a dependence names, and that no two of them are the same
+module _ (at : FlowAt) (class flow : ℕ) where
+  abbrev pub edges_named : Direction → List (List ℤ) → List Edge
+  edges_named d ps = map (λ (p : List ℤ). edge_at d at.task.now at.number (task class p) flow) ps
 
-  pub named_items : (d : Direction) → items_at d at.task.now at.env.now at.number (target.Task class flow args)
-      ≡ map item.Edge (map (edge_named d at named) (combinations args at.env.now))
-  named_items In = refl
-  named_items Out = sym (map-map item.Edge (edge_named Out at named) (combinations args at.env.now))
+  pub named_items : (args : List Arg) (d : Direction) → items_at d at.task.now at.env.now at.number (target.Task class flow args)
+      ≡ map item.Edge (edges_named d (combinations args at.env.now))
+  named_items args In = refl
+  named_items args Out = sym (map-map item.Edge (λ (p : List ℤ). edge_at Out at.task.now at.number (task class p) flow) (combinations args at.env.now))
 
-  pub differ : (d : Direction) → HasNoRepeats (map (edge_named d at named) (combinations args at.env.now))
-  differ In = distinct_in at.task.now at.env.now at.number (target.Task class flow args)
-  differ Out = rw (named_items Out, edges_only _) at (distinct_out at.task.now at.env.now at.number (target.Task class flow args))
+  pub differ : (args : List Arg) (d : Direction) → HasNoRepeats (edges_named d (combinations args at.env.now))
+  differ args In = distinct_in at.task.now at.env.now at.number (target.Task class flow args)
+  differ args Out = rw (named_items args Out, edges_only _) at (distinct_out at.task.now at.env.now at.number (target.Task class flow args))
 
 -- flows with their numbers
 abbrev pub flows_at : Plan → Task → List (ℕ × FlowPlan)

@@ -2,7 +2,6 @@ pub mod Parts
 pub mod Tallies
 pub mod Directed
 pub mod Added
-pub mod Walks
 pub mod Holding
 pub mod Consistency
 pub mod OneFault

@@ -12,7 +12,7 @@ use Rattle.dep_iter.specs.declared.direction.Direction.{Direction}
 use Rattle.dep_iter.specs.declared.direction.Direction.TheVariants.{In, Out}
 use Rattle.dep_iter.specs.Directions.{near_flow, near_task}
 use Rattle.place_set.specs.Sets.{IsSetOf}
-use Rattle.edge_accept.proofs.Taking.{kind_of-here}
+use Rattle.edge_accept.proofs.TakenEdges.{kind_of-here}
 use Rattle.edge_match.specs.declared.counted.Counted.{Counted}
 use Rattle.edge_match.specs.declared.fault.MatchCode.TheVariants as code
 use Rattle.edge_match.specs.declared.task_at.FlowAt.{FlowAt}

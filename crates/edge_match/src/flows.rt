@@ -1,13 +1,11 @@
 //! Checks of the flows of a task.
 
-ghost use Rattle.std.specs.Prelude.{◌≡◌, ◌≢◌, ◌↔◌, ◌+◌, ◌≤◌, ◌&&◌, IsTrue, Some, drop, flat_map, length, slice_get};
+ghost use Rattle.std.specs.Prelude.{◌≡◌, ◌≢◌, ◌↔◌, IsTrue, drop, flat_map};
 ghost use Rattle.ptg_base.specs.declared.place.Place.{Place as PlaceValue};
 ghost use Rattle.plan_core.specs.Place.{HasPlace};
 ghost use Rattle.dep_iter.specs.declared.source.Source.TheVariants as source_variant;
 ghost use Rattle.dep_iter.specs.Consistent as consistent;
 ghost use Rattle.dep_iter.specs.Edges.{data_source as data_source_of};
-ghost use Rattle.dep_iter.specs.Links.{dependences_fit, flows_fit};
-ghost use Rattle.dep_iter.specs.Tasks as tasks;
 ghost use Rattle.dep_iter.specs.Tasks.{IsTask};
 ghost use Rattle.edge_match.specs.Counted.{Checked};
 ghost use Rattle.edge_match.specs.Marks.{flow_marks, flow_start, numbered, way_marks};
@@ -19,7 +17,7 @@ use crate::fault::{MatchCode, MatchFault};
 use crate::phase::Phase;
 use crate::task_at::{FlowAt, TaskAt};
 use dep_iter::{Direction, Source, data_source_under, takes_tile};
-use plan_core::{FlowPlan, Plan};
+use plan_core::Plan;
 use term_core::FlowKind;
 
 // Whether an in dependence of a flow of this kind with this source holds, if one must.
@@ -82,7 +80,7 @@ fn check_way(at: &FlowAt, way: Direction, counted: &mut Counted) -> Result<(), M
     ensures { Checked at.now.plan.now counted.old counted.new result
         (way_marks way at.now.phase at.now.plan.now at.now.task.now at.now.number at.now.flow.now) }
 {
-    check_dependences(at, way, 0, way.dependences(at.flow), counted)
+    check_dependences(at, way, 0, counted)
 }
 
 // Checks the flow, the edges into it and what it sends.
@@ -97,20 +95,20 @@ fn check_flow(at: &FlowAt, source: &Source, counted: &mut Counted) -> Result<(),
     check_way(at, Direction::Out, counted)
 }
 
-// Checks the flow with this number of a task.
-fn check_flow_of(
+// Checks the flows of a task from this number on.
+pub(crate) fn check_flows(
     task: &TaskAt,
     number: u8,
-    flow: &FlowPlan,
     counted: &mut Counted,
 ) -> Result<(), MatchFault>
-    requires of_job { IsTask task.now.plan.now task.now.task.now }
-    requires here { slice_get (tasks.flows_of task.now.plan.now task.now.task.now) number ≡ Some flow.now }
-    requires fit { IsTrue
-        (dependences_fit task.now.plan.now flow.now.ins && dependences_fit task.now.plan.now flow.now.outs) }
+    requires { IsTask task.now.plan.now task.now.task.now }
     ensures { Checked task.now.plan.now counted.old counted.new result
-        (flow_marks task.now.phase task.now.plan.now task.now.task.now (number, flow.now)) }
+        (flat_map (flow_marks task.now.phase task.now.plan.now task.now.task.now)
+        (numbered number (drop number task.now.flows.now))) }
 {
+    let Some(flow) = task.flows.get(number as usize) else {
+        return Ok(());
+    };
     let source = data_source_under(task.plan, task.task, task.env, number);
     let at = FlowAt {
         phase: task.phase,
@@ -121,26 +119,6 @@ fn check_flow_of(
         flow,
         has_tile: has_tile(&source),
     };
-    check_flow(&at, &source, counted)
-}
-
-// Checks these flows of a task; they are its last ones, numbered from `number` on.
-pub(crate) fn check_flows(
-    task: &TaskAt,
-    number: u8,
-    flows: &[FlowPlan],
-    counted: &mut Counted,
-) -> Result<(), MatchFault>
-    requires of_job { IsTask task.now.plan.now task.now.task.now }
-    requires last { drop number (tasks.flows_of task.now.plan.now task.now.task.now) ≡ flows.now }
-    requires fit { IsTrue (flows_fit task.now.plan.now flows.now) }
-    requires room { number + length flows.now ≤ 8 }
-    ensures { Checked task.now.plan.now counted.old counted.new result
-        (flat_map (flow_marks task.now.phase task.now.plan.now task.now.task.now) (numbered number flows.now)) }
-{
-    let Some((flow, others)) = flows.split_first() else {
-        return Ok(());
-    };
-    check_flow_of(task, number, flow, counted)?;
-    check_flows(task, number + 1, others, counted)
+    check_flow(&at, &source, counted)?;
+    check_flows(task, number + 1, counted)
 }

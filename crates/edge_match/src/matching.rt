@@ -1,10 +1,10 @@
 //! Whether a plan is consistent, or its first fault.
 
-ghost use Rattle.std.specs.Prelude.{◌≡◌, ◌+◌, ◌<◌, ◌^◌, ◌⊎◌, [], Err, IfErr, IfOk, MatchResult, length};
+ghost use Rattle.std.specs.Prelude.{◌≡◌, ◌⊎◌, [], Err, IfErr, IfOk, MatchResult, length};
 ghost use Rattle.plan_core.specs.declared.plan.Plan.{Plan as PlanValue};
 ghost use Rattle.dep_iter.specs.Consistent.{HasCounts, IsConsistent};
 ghost use Rattle.dep_iter.specs.Tasks.{all_tasks};
-ghost use Rattle.edge_match.specs.Counted.{AreCounts, IsCounted, IsRefusalOf, WentOver};
+ghost use Rattle.edge_match.specs.Counted.{IsCounted, IsRefusalOf};
 ghost use Rattle.edge_match.specs.Faults as faults;
 ghost use Rattle.edge_match.specs.FirstFault.{IsFirstFailure, IsFirstFault};
 ghost use Rattle.edge_match.specs.Marks.{AllPass, marks, nothing};
@@ -19,9 +19,9 @@ use crate::laws::{
     all_edges_and_items_are_counted,
 };
 use crate::phase::Phase;
-use crate::tasks::check_classes;
+use crate::tasks::check_all;
 use dep_iter::{Counts, Matched, all_tasks_are_listed};
-use edge_accept::accepts;
+use edge_accept::{accepts, root_count};
 use place_set::PlaceSet;
 use plan_core::Plan;
 use range_space::{Numbers, SpaceFault, space_size};
@@ -47,19 +47,6 @@ fn space_fault(fault: SpaceFault) -> MatchFault
     }
 }
 
-// Checks all tasks in one phase, and counts those for which it counted no edge into them.
-fn check_phase(
-    phase: Phase,
-    plan: &Plan,
-    counted: &mut Counted,
-    roots: &mut u64,
-) -> Result<(), MatchFault>
-    requires { roots.old + length (all_tasks plan.now) < 2 ^ 64 }
-    ensures { WentOver plan.now phase counted.old counted.new roots.old roots.new result (all_tasks plan.now) }
-{
-    check_classes(phase, plan, 0, counted, roots)
-}
-
 // Nothing is counted yet.
 fn nothing_counted(written: PlaceSet) -> Counted
     ensures { (P : PlanValue) → IsSetOf P.colls written [] → IsCounted P result nothing }
@@ -77,22 +64,20 @@ fn nothing_counted(written: PlaceSet) -> Counted
 fn check_tasks(plan: &Plan, tasks: u64, mut counted: Counted) -> Result<Counts, MatchFault>
     requires tasks { tasks ≡ length (all_tasks plan.now) }
     requires nothing { IsCounted plan.now counted nothing }
-    ensures { MatchResult result (λ c. AllPass plan.now nothing (marks plan.now) × AreCounts plan.now tasks c)
+    ensures { MatchResult result (λ c. AllPass plan.now nothing (marks plan.now) × HasCounts plan.now c)
         (IsFirstFailure plan.now nothing (marks plan.now)) }
 {
     all_edges_and_items_are_counted();
-    let mut roots = 0;
-    check_phase(Phase::Connecting, plan, &mut counted, &mut roots)?;
-    let counts = Counts {
+    check_all(Phase::Connecting, plan, &mut counted)?;
+    let (edges, data_edges, writes) = (counted.ins, counted.data_edges, counted.writes);
+    check_all(Phase::Matching, plan, &mut counted)?;
+    Ok(Counts {
         tasks,
-        roots,
-        edges: counted.ins,
-        data_edges: counted.data_edges,
-        writes: counted.writes,
-    };
-    let mut uncounted = 0;
-    check_phase(Phase::Matching, plan, &mut counted, &mut uncounted)?;
-    Ok(counts)
+        roots: root_count(plan, tasks),
+        edges,
+        data_edges,
+        writes,
+    })
 }
 
 // Checks a plan and gives its counts. Most consistent plans are accepted in one walk; of any other plan the phases find

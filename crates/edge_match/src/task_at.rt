@@ -1,9 +1,9 @@
 //! A task that is checked, and a flow of it.
 
-ghost use Rattle.std.specs.Prelude.{◌≡◌, ◌≢◌, ◌↔◌, ◌&&◌, ◌∷◌, [], IfOk, IsTrue, Some, slice_get};
+ghost use Rattle.std.specs.Prelude.{◌≡◌, ◌≢◌, ◌≤◌, ◌↔◌, ◌&&◌, ◌∷◌, [], IfOk, IsTrue, Some, length, slice_get};
 ghost use Rattle.dep_iter.specs.declared.source.Source.TheVariants as source_variant;
 ghost use Rattle.dep_iter.specs.Edges.{data_source};
-ghost use Rattle.dep_iter.specs.Links.{dependences_fit};
+ghost use Rattle.dep_iter.specs.Links.{dependences_fit, flows_fit};
 ghost use Rattle.dep_iter.specs.Tasks.{flows_of, locals_of};
 ghost use Rattle.edge_match.specs.Counted.{Checked, Decides};
 ghost use Rattle.edge_match.specs.FirstFault.{code_of, fact_code};
@@ -16,14 +16,18 @@ use crate::refusing::require;
 use plan_core::{FlowPlan, Plan};
 use ptg_base::TaskId;
 
-/// A task of a plan, with its locals.
+/// A task of a plan, with its locals and its flows.
 #[derive(Drop)]
 pub(crate) struct TaskAt<'a> {
     pub(crate) phase: Phase,
     pub(crate) plan: &'a Plan,
     pub(crate) task: &'a TaskId,
     pub(crate) env: &'a [i64],
+    pub(crate) flows: &'a [FlowPlan],
     pub(crate) ghost locals: { env.now ≡ locals_of plan.now task.now },
+    pub(crate) ghost flows_are: { flows.now ≡ flows_of plan.now task.now },
+    pub(crate) ghost at_most: { length flows.now ≤ 8 },
+    pub(crate) ghost fit: { IsTrue (flows_fit plan.now flows.now) },
 }
 
 /// A flow of a task of a plan, with the task's locals.

@@ -1,12 +1,9 @@
 //! Checks of all tasks.
 
-ghost use Rattle.std.specs.Prelude.{◌≡◌, ◌<◌, ◌+◌, ◌^◌, ◌∷◌, [], Some, drop, length, map, slice_get};
-ghost use Rattle.term_core.specs.declared.space.ClassSpace.{ClassSpace as ClassSpaceValue};
-ghost use Rattle.term_core.specs.WellSpace.{IsWellSpace};
-ghost use Rattle.range_space.specs.Tasks as range;
-ghost use Rattle.dep_iter.specs.Tasks.{IsTask, task, tasks_from};
-ghost use Rattle.edge_match.specs.Counted.{Checked, WentOver};
-ghost use Rattle.edge_match.specs.Marks.{HasValues, Is, ill_flow, mark, task_marks, task_start};
+ghost use Rattle.std.specs.Prelude.{◌∷◌, []};
+ghost use Rattle.dep_iter.specs.Tasks.{IsTask};
+ghost use Rattle.edge_match.specs.Counted.{Checked};
+ghost use Rattle.edge_match.specs.Marks.{HasValues, Is, ill_flow, mark, phase_marks, task_marks, task_start};
 ghost use Rattle.edge_match.specs.declared.counted.Counted.{Counted as CountedValue};
 
 use crate::counted::Counted;
@@ -15,11 +12,11 @@ use crate::flows::check_flows;
 use crate::phase::Phase;
 use crate::refusing::{fault_of, require};
 use crate::task_at::TaskAt;
-use dep_iter::{affinity_under, flows_of, locals_of, well_task_under};
+use dep_iter::{
+    affinity_under, all_tasks, all_tasks_are_listed, flows_of, locals_of, well_task_under,
+};
 use plan_core::Plan;
 use ptg_base::TaskId;
-use range_space::Space;
-use term_core::ClassSpace;
 
 // Whether each expression that the task needs has a value.
 fn check_values(task: &TaskAt) -> Result<(), MatchFault>
@@ -67,79 +64,23 @@ fn check_task(
         plan,
         task: t,
         env: env.as_slice(),
+        flows: flows_of(plan, t),
     };
     start_task(&task)?;
-    check_flows(&task, 0, flows_of(plan, t), counted)
+    check_flows(&task, 0, counted)
 }
 
-// The space of a class.
-fn space_of(plan: &Plan, class: u32) -> &ClassSpace
-    requires { class < length plan.now.classes }
-    ensures space { slice_get plan.now.spaces class ≡ Some result.now }
-    ensures well { IsWellSpace result.now }
-{
-    let _ = plan.class(class);
-    plan.space(class)
-}
-
-// Checks the task and its flows, and counts it where no edge into it was counted with them.
-fn check_next(
+// Checks all tasks, in walk order.
+pub(crate) fn check_all(
     phase: Phase,
     plan: &Plan,
-    t: &TaskId,
     counted: &mut Counted,
-    roots: &mut u64,
 ) -> Result<(), MatchFault>
-    requires task { IsTask plan.now t.now }
-    requires room { roots.old + 1 < 2 ^ 64 }
-    ensures { WentOver plan.now phase counted.old counted.new roots.old roots.new result (t.now ∷ []) }
+    ensures { Checked plan.now counted.old counted.new result (phase_marks phase plan.now) }
 {
-    let before = counted.ins;
-    check_task(phase, plan, t, counted)?;
-    if counted.ins == before {
-        *roots += 1;
+    all_tasks_are_listed();
+    for t in all_tasks(plan) {
+        check_task(phase, plan, &t, counted)?;
     }
     Ok(())
-}
-
-// Checks the tasks of a class, in walk order, and counts those without an edge into them.
-fn check_class(
-    phase: Phase,
-    plan: &Plan,
-    class: u32,
-    counted: &mut Counted,
-    roots: &mut u64,
-) -> Result<(), MatchFault>
-    requires class { class < length plan.now.classes }
-    requires room { (s : ClassSpaceValue) → slice_get plan.now.spaces class ≡ Some s
-        → roots.old + length (range.tasks s) < 2 ^ 64 }
-    ensures { (s : ClassSpaceValue) → slice_get plan.now.spaces class ≡ Some s
-        → WentOver plan.now phase counted.old counted.new roots.old roots.new result
-        (map (task class) (range.tasks s)) }
-{
-    let space = space_of(plan, class);
-    for params in Space::new(space) {
-        let t = TaskId::new(class, params.as_slice());
-        check_next(phase, plan, &t, counted, roots)?;
-    }
-    Ok(())
-}
-
-// Checks the tasks of the classes from this number on, in walk order, and counts those without an edge into them.
-pub(crate) fn check_classes(
-    phase: Phase,
-    plan: &Plan,
-    class: u32,
-    counted: &mut Counted,
-    roots: &mut u64,
-) -> Result<(), MatchFault>
-    requires { roots.old + length (tasks_from class (drop class plan.now.spaces)) < 2 ^ 64 }
-    ensures { WentOver plan.now phase counted.old counted.new roots.old roots.new result
-        (tasks_from class (drop class plan.now.spaces)) }
-{
-    if class as usize >= plan.classes.len() {
-        return Ok(());
-    }
-    check_class(phase, plan, class, counted, roots)?;
-    check_classes(phase, plan, class + 1, counted, roots)
 }

@@ -1,6 +1,6 @@
 -- Lengths of joined lists as sums, and of combinations as products.
-use Rattle.std.proofs.Common.{◌≡◌, ℕ, suc, ◌+◌, zero, ◌*◌, ◌<◌, ◌≤◌, ℤ, true, List, [], ◌∷◌, ◌++◌, length, map, refl, ap, sym, ◌∙◌, length-append, arith}
-use Rattle.std.proofs.Math.Nat.{suc-mul, zero-mul}
+use Rattle.std.proofs.Common.{◌≡◌, ℕ, suc, ◌+◌, zero, ◌*◌, ◌≤◌, ℤ, true, List, [], ◌∷◌, ◌++◌, length, map, refl, ap, sym, ◌∙◌, subst, length-append, arith}
+use Rattle.std.proofs.Math.Nat.{mul_comm, suc-mul, zero-mul}
 use Rattle.std.proofs.lemmas.List.{length-map}
 use Rattle.std.proofs.lemmas.List.Sums.{sum_by-cons}
 use Rattle.std.specs.List.{flat_map, sum_by}
@@ -14,7 +14,7 @@ use Rattle.dep_iter.specs.Active.{by_flow, flow_ins, takes_first}
 use Rattle.dep_iter.specs.Edges.{in_edges}
 use Rattle.dep_iter.specs.Arguments.{combinations, product}
 use Rattle.dep_iter.specs.Links.{all_links, edge_in, flow_targets, link, links_to, task_links}
-use Rattle.goal_count.specs.Counting.{flows_count, held_count, target_count}
+use Rattle.goal_count.specs.Counting.{IsCount, flows_count, held_count, target_count}
 
 over : List (List ℤ) → List ℤ → List (List ℤ)
 over cs vs = flat_map (λ v. map (λ ws. v ∷ ws) cs) vs
@@ -60,10 +60,29 @@ length-by_flow env n (f ∷ fs) =
 pub length-task_links : (P : Plan) (t : Task) → length (task_links P t true) ≡ flows_count (locals_of P t) (flows_of P t)
 length-task_links P t = length-by_flow (locals_of P t) 0 (flows_of P t)
 
--- a factor is at most the product where the other factor is not 0
-pub factor-le : (a b m : ℕ) → 0 < a → a * b ≤ m → b ≤ m
-factor-le zero b m p h = absurd (omega arith)
-factor-le (suc a) b m p h = let e = suc-mul a b in omega arith
+-- a product, one factor of which may be too large where the other is 0
+product_is : (a b m n r : ℕ) → (r ≤ 4000000 → r ≡ a * b) → (a ≤ 4000000 → a ≡ m) → (b ≤ 4000000 → b ≡ n) → r ≤ 4000000
+    → r ≡ m * n
+product_is zero b m n r e h k small = rw (sym (h (omega arith))) (e small ∙ zero-mul b ∙ sym (zero-mul n))
+product_is (suc a) zero m n r e h k small =
+    rw (sym (k (omega arith))) (e small ∙ mul_comm (suc a) 0 ∙ zero-mul (suc a) ∙ sym (mul_comm m 0 ∙ zero-mul m))
+product_is (suc a) (suc b) m n r e h k small =
+    let p = suc-mul a (suc b) in
+    let q = suc-mul b (suc a) in
+    let c = mul_comm (suc a) (suc b) in
+    let t = e small in
+    let u = h (omega arith) in
+    let v = k (omega arith) in
+    t ∙ ap (λ x. x * suc b) u ∙ ap (λ x. m * x) v
+
+pub times : (a b m n r : ℕ) → (r ≤ 4000000 → r ≡ a * b) → (a * b ≤ 4000000 → r ≡ a * b) → IsCount a m → IsCount b n
+    → IsCount r (m * n)
+times a b m n r e f h k = (
+  product_is a b m n r e h.0 k.0,
+  λ small.
+      let p = product_is m n a b (m * n) (λ s. refl) (λ s. sym (h.1 s)) (λ s. sym (k.1 s)) small in
+      f (subst (λ x. x ≤ 4000000) p small) ∙ sym p,
+)
 
 -- the number of edges into a task, whose links they are
 pub length-in_edges : (P : Plan) (t : Task) → map (edge_in t) (task_links P t true) ≡ in_edges P t → flows_count (locals_of P t) (flows_of P t) ≡ length (in_edges P t)

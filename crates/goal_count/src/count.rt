@@ -1,8 +1,8 @@
 //! The number of edges into a task: 1 for each plain edge, and for a gather the product of the counts of its ranges.
+//! Counts stop at the greatest number of their type.
 
-ghost use Rattle.std.specs.Prelude.{◌≡◌, ◌≤◌, IsTrue, length};
+ghost use Rattle.std.specs.Prelude.{◌≡◌, IsTrue, length};
 ghost use Rattle.std.specs.List.{list_all};
-ghost use Rattle.ptg_base.specs.Limits.{most_edges};
 ghost use Rattle.range_space.specs.Fault.{range_values};
 ghost use Rattle.range_space.specs.Tasks.{or_empty};
 ghost use Rattle.dep_iter.specs.Arguments.{arg_values, combinations};
@@ -11,6 +11,7 @@ ghost use Rattle.dep_iter.specs.Tasks as tasks;
 ghost use Rattle.dep_iter.specs.Tasks.{IsTask};
 ghost use Rattle.dep_iter.specs.Well.{are_well, has_arg, has_arguments, is_well_flow};
 ghost use Rattle.goal_count.specs.Counting as counting;
+ghost use Rattle.goal_count.specs.Counting.{IsCount};
 
 use dep_iter::{
     Matched, a_task_has_no_more_edges_than_the_job, edges_are_links, flows_of, held_target,
@@ -22,19 +23,19 @@ use range_space::steps_of;
 use term_core::Range;
 
 // How many values a range has.
-fn value_count(range: &Range, env: &[i64]) -> u128
-    ensures { result ≡ length (or_empty (range_values range.now env.now)) }
+fn value_count(range: &Range, env: &[i64]) -> u64
+    ensures { IsCount result (length (or_empty (range_values range.now env.now))) }
 {
     match steps_of(range, env) {
-        Ok(steps) => steps.count(),
+        Ok(steps) => steps.count().min(u128::from(u64::MAX)) as u64,
         Err(_) => 0,
     }
 }
 
 // How many values an argument has that has its values. What is no range has one, which is not evaluated.
-fn arg_count(arg: &Arg, env: &[i64]) -> u128
+fn arg_count(arg: &Arg, env: &[i64]) -> u64
     requires { IsTrue (has_arg env.now arg.now) }
-    ensures { result ≡ length (or_empty (arg_values arg.now env.now)) }
+    ensures { IsCount result (length (or_empty (arg_values arg.now env.now))) }
 {
     match arg {
         Arg::One(_) => 1,
@@ -42,28 +43,23 @@ fn arg_count(arg: &Arg, env: &[i64]) -> u128
     }
 }
 
-// How many combinations the values of these arguments have: their product, which is known to be small though its
-// factors may be large.
-fn combination_count(args: &[Arg], env: &[i64]) -> u128
-    requires well { IsTrue (list_all (has_arg env.now) args.now) }
-    requires at_most { length (combinations args.now env.now) ≤ most_edges }
-    ensures { result ≡ length (combinations args.now env.now) }
+/// How many combinations the values of these arguments have: the product of their counts. An argument without a value
+/// makes it 0, however many values the others have. A number over 4,000,000 says only that they are too many.
+pub fn combination_count(args: &[Arg], env: &[i64]) -> u64
+    requires { IsTrue (list_all (has_arg env.now) args.now) }
+    ensures { IsCount result (length (combinations args.now env.now)) }
 {
     let Some((arg, others)) = args.split_first() else {
         return 1;
     };
-    let count = arg_count(arg, env);
-    if count == 0 {
-        return 0;
-    }
-    count * combination_count(others, env)
+    let here = arg_count(arg, env);
+    here.saturating_mul(combination_count(others, env))
 }
 
 // How many edges a target stands for.
-fn target_count(target: &Target, env: &[i64]) -> u128
-    requires well { IsTrue (has_arguments env.now target.now) }
-    requires at_most { counting.target_count env.now target.now ≤ most_edges }
-    ensures { result ≡ counting.target_count env.now target.now }
+fn target_count(target: &Target, env: &[i64]) -> u64
+    requires { IsTrue (has_arguments env.now target.now) }
+    ensures { IsCount result (counting.target_count env.now target.now) }
 {
     match target {
         Target::Task(_, _, args) => combination_count(args.as_slice(), env),
@@ -74,10 +70,9 @@ fn target_count(target: &Target, env: &[i64]) -> u128
 }
 
 // How many edges these dependences give.
-fn held_count(first_only: bool, deps: &[DepPlan], env: &[i64]) -> u128
-    requires well { IsTrue (are_well first_only env.now deps.now) }
-    requires at_most { counting.held_count first_only deps.now env.now ≤ most_edges }
-    ensures { result ≡ counting.held_count first_only deps.now env.now }
+fn held_count(first_only: bool, deps: &[DepPlan], env: &[i64]) -> u64
+    requires { IsTrue (are_well first_only env.now deps.now) }
+    ensures { IsCount result (counting.held_count first_only deps.now env.now) }
 {
     let Some((d, later)) = deps.split_first() else {
         return 0;
@@ -89,20 +84,19 @@ fn held_count(first_only: bool, deps: &[DepPlan], env: &[i64]) -> u128
     if first_only {
         return here;
     }
-    here + held_count(first_only, later, env)
+    here.saturating_add(held_count(first_only, later, env))
 }
 
 // How many edges go into these flows.
-fn flows_count(flows: &[FlowPlan], env: &[i64]) -> u128
-    requires well { IsTrue (list_all (is_well_flow env.now) flows.now) }
-    requires at_most { counting.flows_count env.now flows.now ≤ most_edges }
-    ensures { result ≡ counting.flows_count env.now flows.now }
+fn flows_count(flows: &[FlowPlan], env: &[i64]) -> u64
+    requires { IsTrue (list_all (is_well_flow env.now) flows.now) }
+    ensures { IsCount result (counting.flows_count env.now flows.now) }
 {
     let Some((flow, others)) = flows.split_first() else {
         return 0;
     };
     let here = held_count(takes_first(flow.kind), flow.ins.as_slice(), env);
-    here + flows_count(others, env)
+    here.saturating_add(flows_count(others, env))
 }
 
 /// How many edges go into a task of a consistent plan. No edge is walked.

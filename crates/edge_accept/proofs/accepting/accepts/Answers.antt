@@ -1,18 +1,24 @@
 use Rattle.std.proofs.Common.{refl, arith}
-use Rattle.edge_accept.proofs.Conclusion.{consistent}
+use Rattle.edge_accept.proofs.Conclusion.{consistent, sent_writes}
 use Rattle.edge_accept.proofs.accepting.accepts.Goals as goal
 
 pub returns : goal.returns
 returns c =
     let P = c.args.plan.now in
+    let u = c.accept_all.new.tally in
     let w = c.if-not-accept_all.ensures in
-    let t = c.requires.tasks in
-    let r = w.roots in
+    let same = c.if-tally.false in
     let e = w.taken.edges in
     let d = w.taken.data_edges in
-    let b = w.writes in
     let m = c.requires.tasks_at_most in
+    let t = c.requires.tasks in
     let empty = rw c.as_slice.ensures at c.in_ok-new.ensures in (
-      consistent P _ c.accept_all.new.tally w refl refl refl c.if-tally.false empty c.requires.sound (omega arith) c.requires.prefixes_at_most,
-      record { all_tasks = t; all_roots = omega arith; all_edges = omega arith; all_data_edges = omega arith; all_writes = omega arith },
+      consistent P _ u w refl refl refl same empty c.requires.sound (omega arith) c.requires.prefixes_at_most,
+      record {
+        all_tasks = t;
+        all_roots = c.root_count.ensures;
+        all_edges = omega arith;
+        all_data_edges = omega arith;
+        all_writes = sent_writes P _ u w refl refl refl same;
+      },
     )

@@ -1,5 +1,6 @@
-use Rattle.std.proofs.Common.{length}
+use Rattle.std.proofs.Common.{◌-◌, length}
+use Rattle.dep_iter.specs.Directions.{dependences}
 use Rattle.edge_match.proofs.dependences.+check_dependences.Given as goal
 
 abbrev pub decreases-check_dependences : goal.decreases-check_dependences
-decreases-check_dependences l = length l.deps.now
+decreases-check_dependences l = length (dependences l.way l.at.now.flow.now) - l.k

@@ -1,24 +1,33 @@
-use Rattle.std.proofs.Common.{ap, ◌∙◌, length, add-one, arith}
-use Rattle.std.specs.Cmp.{second_so}
-use Rattle.dep_iter.specs.Tasks.{flows_of}
-use Rattle.edge_match.proofs.Directed.{drop_cons}
-use Rattle.edge_match.proofs.Parts.{followed}
+use Rattle.std.proofs.Common.{add-one, sym, ◌&&◌}
+use Rattle.list_lemmas.proofs.Places.{slice_get_at, drop_from, passes_at}
+use Rattle.plan_core.specs.declared.flow.FlowPlan.{FlowPlan}
+use Rattle.dep_iter.specs.Links.{dependences_fit}
+use Rattle.edge_match.proofs.Parts.{followed, stop}
 use Rattle.edge_match.proofs.flows.+check_flows.Goals as goal
 
-pub check_flow_of-requires-clause-here : goal.check_flow_of-requires-clause-here
-check_flow_of-requires-clause-here m c =
+pub invariant_of-at-clause-here : goal.invariant_of-at-clause-here
+invariant_of-at-clause-here m c =
     let task = c.args.task.now in
-    (drop_cons (flows_of task.plan.now task.task.now) c.args.number c.in-Some.flow.now c.in-Some.others.now (c.requires.last ∙ c.in-Some.ensures.cases.0)).0
+    let l = c.in-Some.ensures.lookup in
+    rw (sym task.flows_are) (slice_get_at task.flows.now c.args.number c.in-Some.flow.now l.3.0 l.1)
 
-pub check_flows-requires : goal.check_flows-requires
-check_flows-requires m c =
+pub invariant_of-at-clause-fit : goal.invariant_of-at-clause-fit
+invariant_of-at-clause-fit m c =
     let task = c.args.task.now in
-    let shorter = ap length c.in-Some.ensures.cases.0 in
-    let room = c.requires.room in
-    let last = (drop_cons (flows_of task.plan.now task.task.now) c.args.number c.in-Some.flow.now c.in-Some.others.now (c.requires.last ∙ c.in-Some.ensures.cases.0)).1 in (
-      omega (arith, shorter, c.decreases),
-      (c.requires.of_job, (rw add-one last, (second_so _ _ (rw c.in-Some.ensures.cases.0 at c.requires.fit), omega arith))),
-    )
+    let l = c.in-Some.ensures.lookup in
+    let fits = λ (f : FlowPlan). dependences_fit task.plan.now f.ins && dependences_fit task.plan.now f.outs in
+    passes_at fits task.flows.now c.args.number c.in-Some.flow.now task.fit (slice_get_at task.flows.now c.args.number c.in-Some.flow.now l.3.0 l.1)
+
+pub returns-in_err-check_flow : goal.returns-in_err-check_flow
+returns-in_err-check_flow m c =
+    let task = c.args.task.now in
+    let l = c.in-Some.ensures.lookup in
+    let this = slice_get_at task.flows.now c.args.number c.in-Some.flow.now l.3.0 l.1 in
+    rw (drop_from task.flows.now c.args.number c.in-Some.flow.now this) (stop _ c.from_residual.ensures.1 c.in_err-check_flow.ensures)
 
 pub returns : goal.returns
-returns m c = rw c.in-Some.ensures.cases.0 (followed c.in_ok-check_flow_of.ensures (rw add-one at c.check_flows.ensures))
+returns m c =
+    let task = c.args.task.now in
+    let l = c.in-Some.ensures.lookup in
+    let this = slice_get_at task.flows.now c.args.number c.in-Some.flow.now l.3.0 l.1 in
+    rw (drop_from task.flows.now c.args.number c.in-Some.flow.now this) (followed c.in_ok-check_flow.ensures (rw add-one at c.check_flows.ensures))

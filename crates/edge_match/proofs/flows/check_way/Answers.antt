@@ -4,4 +4,4 @@ use Rattle.edge_match.proofs.flows.check_way.Goals as goal
 pub returns : goal.returns
 returns c =
     let at = c.args.at.now in
-    rw (nothing_before at c.args.way, at.locals, c.dependences.ensures) at c.check_dependences.ensures
+    rw (nothing_before at c.args.way, at.locals) at c.check_dependences.ensures

@@ -1,0 +1,143 @@
+-- The edges into a flow, one dependence after another.
+use Rattle.std.proofs.Common.{◌≡◌, ◌+◌, ℕ, zero, suc, ℤ, Bool, true, false, List, [], ◌∷◌, ◌++◌, length, length-append, take, refl, ap}
+use Rattle.std.proofs.Common.{sym, ◌∙◌, subst, Option, Some, None, slice_get, if◌then◌else◌, inl, inr, arith}
+use Rattle.std.proofs.lemmas.List.{append-nil}
+use Rattle.std.proofs.lemmas.List.Elements.{filter-append}
+use Rattle.std.proofs.lemmas.List.Concat.{flat_map-append}
+use Rattle.std.specs.List.{filter, flat_map}
+use Rattle.std.specs.Option.{option_map, option_map_or, option_and_then}
+use Rattle.ptg_base.specs.Lists.{IsIn}
+use Rattle.ptg_base.specs.Task.{Task}
+use Rattle.ptg_base.specs.declared.edge.Edge.{Edge}
+use Rattle.plan_core.specs.declared.class.ClassPlan.{ClassPlan}
+use Rattle.plan_core.specs.declared.flow.DepPlan.{DepPlan}
+use Rattle.plan_core.specs.declared.flow.FlowPlan.{FlowPlan}
+use Rattle.plan_core.specs.declared.plan.Plan.{Plan}
+use Rattle.plan_core.specs.declared.target.Target.{Target}
+use Rattle.plan_core.specs.Kinds.{kind_of}
+use Rattle.list_lemmas.proofs.Members.{IsIn-append_left, IsIn-append_right, from_append}
+use Rattle.list_lemmas.proofs.Distinct.{HasNoRepeats-append}
+use Rattle.dep_iter.specs.Tasks.{flows_of, locals_of}
+use Rattle.dep_iter.specs.Active.{held_target, held_targets, held_then, takes_first}
+use Rattle.dep_iter.specs.Consistent.{is_data_edge}
+use Rattle.dep_iter.specs.Edges.{edges_into, in_edges_before}
+use Rattle.edge_accept.specs.declared.at.FlowAt.{FlowAt}
+use Rattle.edge_accept.specs.declared.ins.Ins.{Ins}
+use Rattle.edge_accept.specs.Flows.{AreTaken, AreTakenOnce, IsSent}
+use Rattle.edge_accept.specs.Tallies.{TakesFrom}
+
+-- whether an edge carries a tile is said by the kind of the flow that it goes into
+kind_here : (o : Option ClassPlan) (n : ℕ) (f : FlowPlan) → slice_get (option_map_or (λ (c : ClassPlan). c.flows) o []) n ≡ Some f → option_map (λ (f : FlowPlan). f.kind) (option_and_then (λ (c : ClassPlan). slice_get c.flows n) o) ≡ Some f.kind
+kind_here None n f h = cc
+kind_here (Some c) n f h = ap (option_map (λ (f : FlowPlan). f.kind)) h
+
+pub kind_of-here : (P : Plan) (t : Task) (n : ℕ) (f : FlowPlan) → slice_get (flows_of P t) n ≡ Some f → kind_of P.classes t.class n ≡ Some f.kind
+kind_of-here P t n f h = kind_here (slice_get P.classes t.class) n f h
+
+data_end : (p : Edge → Bool) (e : Edge) (b : Bool) → p e ≡ b → (n : ℕ) → n + length (filter p (e ∷ [])) ≡ (if b then n + 1 else n)
+data_end p e true h n = rw h refl
+data_end p e false h n = rw h (omega arith)
+
+module _ (P : Plan) (earlier : List Edge) where
+  pub taken_nil : (s : Ins) → AreTaken P earlier s s []
+  taken_nil s = record { sent = λ e h. absurd h; fresh = λ e h k. h; edges = omega arith; data_edges = omega arith }
+
+  pub taken_one : (s u : Ins) (e : Edge) (d : Bool) → IsSent P e → (IsIn e earlier → ⊥) → is_data_edge P e ≡ d
+      → u.edges ≡ s.edges + 1 → u.data_edges ≡ (if d then s.data_edges + 1 else s.data_edges)
+      → AreTaken P earlier s u (e ∷ [])
+  taken_one s u e d sent new is edges tiles = record {
+    sent = λ x h. elim h [ inl k ↦ subst (IsSent P) (sym k) sent | inr none ↦ absurd none ];
+    fresh = λ x h i. elim h [ inl k ↦ new (subst (λ (z : Edge). IsIn z earlier) k i) | inr none ↦ none ];
+    edges = edges;
+    data_edges = tiles ∙ sym (data_end (is_data_edge P) e d is s.data_edges);
+  }
+
+  pub taken_append : (s u v : Ins) (xs ys : List Edge) → AreTaken P earlier s u xs → AreTaken P earlier u v ys → AreTaken P earlier s v (xs ++ ys)
+  taken_append s u v xs ys a b =
+      let l = length-append xs ys in
+      let m = ap length (filter-append (is_data_edge P) xs ys) ∙ length-append (filter (is_data_edge P) xs) (filter (is_data_edge P) ys) in
+      let e = a.edges in
+      let f = b.edges in
+      let g = a.data_edges in
+      let h = b.data_edges in
+      record {
+        sent = λ x k. elim (from_append x xs ys k) [ inl i ↦ a.sent x i | inr i ↦ b.sent x i ];
+        fresh = λ x k n. elim (from_append x xs ys k) [ inl i ↦ a.fresh x i n | inr i ↦ b.fresh x i n ];
+        edges = omega arith;
+        data_edges = omega arith;
+      }
+
+  pub once_nil : (s : Ins) → AreTakenOnce P earlier s s []
+  once_nil s = record { taken = taken_nil s; once = tt }
+
+  -- edges, and others
+  pub once_both : (s u v : Ins) (xs ys : List Edge) → AreTakenOnce P earlier s u xs → AreTakenOnce P earlier u v ys → ((e : Edge) → IsIn e xs → IsIn e ys → ⊥) → AreTakenOnce P earlier s v (xs ++ ys)
+  once_both s u v xs ys a b apart = record { taken = taken_append s u v xs ys a.taken b.taken; once = HasNoRepeats-append xs ys a.once b.once apart }
+
+  -- edges, and those after them, which are looked up among them too
+  pub once_after : (s u v : Ins) (xs ys : List Edge) → AreTakenOnce P earlier s u xs → AreTakenOnce P (earlier ++ xs) u v ys → AreTakenOnce P earlier s v (xs ++ ys)
+  once_after s u v xs ys a b =
+      let later : AreTaken P earlier u v ys = record {
+        sent = b.taken.sent;
+        fresh = λ e h k. b.taken.fresh e h (IsIn-append_left e earlier xs k);
+        edges = b.taken.edges;
+        data_edges = b.taken.data_edges;
+      } in
+      once_both s u v xs ys a (record { taken = later; once = b.once }) (λ e h k. b.taken.fresh e k (IsIn-append_right e earlier xs h))
+
+-- the targets of the first dependences that hold, with one more dependence, which does not hold or does
+pub held-next_none : (first_only : Bool) (ds : List DepPlan) (k : ℕ) (d : DepPlan) (env : List ℤ) → slice_get ds k ≡ Some d
+    → held_target d env ≡ None → held_targets first_only (take (suc k) ds) env ≡ held_targets first_only (take k ds) env
+held-next_none first_only [] k d env e none = absurd cc
+held-next_none first_only (c ∷ ds) zero d env e none = let same : c ≡ d = cc in rw (same, none) refl
+held-next_none first_only (c ∷ ds) (suc k) d env e none =
+    ap (held_then first_only (held_target c env)) (held-next_none first_only ds k d env e none)
+
+held_then-append : (o : Option Target) (xs ys : List Target) → held_then false o (xs ++ ys) ≡ held_then false o xs ++ ys
+held_then-append None xs ys = refl
+held_then-append (Some x) xs ys = refl
+
+pub held-next_some : (ds : List DepPlan) (k : ℕ) (d : DepPlan) (env : List ℤ) (x : Target) → slice_get ds k ≡ Some d
+    → held_target d env ≡ Some x → held_targets false (take (suc k) ds) env ≡ held_targets false (take k ds) env ++ x ∷ []
+held-next_some [] k d env x e holds = absurd cc
+held-next_some (c ∷ ds) zero d env x e holds = let same : c ≡ d = cc in rw (same, holds) refl
+held-next_some (c ∷ ds) (suc k) d env x e holds =
+    ap (held_then false (held_target c env)) (held-next_some ds k d env x e holds)
+    ∙ held_then-append (held_target c env) (held_targets false (take k ds) env) (x ∷ [])
+
+-- the edges that the first dependences of a flow give
+module _ (at : FlowAt) where
+  abbrev given : List DepPlan → List Edge
+  given ds = flat_map (edges_into at.task.now at.env.now at.number) (held_targets (takes_first at.flow.now.kind) ds at.env.now)
+
+  before-is : (k : ℕ) → in_edges_before at.plan.now at.task.now at.number k ≡ given (take k at.flow.now.ins)
+  unfolding in_edges_before
+  before-is k = rw (at.here, at.locals) refl
+
+  module _ (k : ℕ) (d : DepPlan) (this : slice_get at.flow.now.ins k ≡ Some d) where
+    -- a dependence that does not hold, and those after it
+    pub takes_none : (s u : Ins) (xs : List Target) → held_target d at.env.now ≡ None → TakesFrom at (suc k) s u xs → TakesFrom at k s u xs
+    takes_none s u xs none h =
+        let E = edges_into at.task.now at.env.now at.number in
+        let first_only = takes_first at.flow.now.kind in
+        let same = before-is (suc k) ∙ ap (flat_map E) (held-next_none first_only at.flow.now.ins k d at.env.now this none) ∙ sym (before-is k) in
+        record { source = h.source; taken = subst (λ es. AreTakenOnce at.plan.now es s u (flat_map E xs)) same h.taken }
+
+    -- one that holds, and those after it, where all that hold count
+    pub takes_more : (s u v : Ins) (x : Target) (xs : List Target) → takes_first at.flow.now.kind ≡ false → held_target d at.env.now ≡ Some x
+        → TakesFrom at k s u (x ∷ []) → TakesFrom at (suc k) u v xs → TakesFrom at k s v (x ∷ xs)
+    takes_more s u v x xs all holds first rest =
+        let E = edges_into at.task.now at.env.now at.number in
+        let before = in_edges_before at.plan.now at.task.now at.number k in
+        let targets = λ (b : Bool). held_targets b (take (suc k) at.flow.now.ins) at.env.now ≡ held_targets b (take k at.flow.now.ins) at.env.now ++ x ∷ [] in
+        let longer = subst targets (sym all) (held-next_some at.flow.now.ins k d at.env.now x this holds) in
+        let earlier = held_targets (takes_first at.flow.now.kind) (take k at.flow.now.ins) at.env.now in
+        let same : in_edges_before at.plan.now at.task.now at.number (suc k) ≡ before ++ E x =
+        before-is (suc k) ∙ ap (flat_map E) longer ∙ flat_map-append E earlier (x ∷ [])
+        ∙ ap (λ l. l ++ flat_map E (x ∷ [])) (sym (before-is k)) ∙ ap (λ l. before ++ l) (append-nil (E x)) in
+        record {
+          source = first.source;
+          taken =
+              once_after at.plan.now before s u v (E x) (flat_map E xs) (rw append-nil at first.taken)
+              (subst (λ es. AreTakenOnce at.plan.now es u v (flat_map E xs)) same rest.taken);
+        }

@@ -1,0 +1,18 @@
+use Rattle.std.proofs.Common.{ℤ, List, length, map}
+use Rattle.dep_iter.specs.Edges.{edge, in_edges_before}
+use Rattle.dep_iter.specs.Tasks.{task}
+use Rattle.edge_accept.specs.declared.ins.Ins.{Ins}
+use Rattle.edge_accept.specs.Flows.{AreTaken}
+use Rattle.edge_accept.proofs.taking.take_target.Given as goal
+
+abbrev pub invariant-loop-values : goal.invariant-loop-values
+invariant-loop-values l =
+    let before = in_edges_before l.at.plan.now l.at.task.now l.at.number l.k in
+    let mk = λ (ps : List ℤ). edge (task l.class ps) l.flow l.at.task.now l.at.number in
+    record {
+      then : (u : Ins) → AreTaken l.at.plan.now before l.ins u (map mk l.params)
+          → AreTaken l.at.plan.now before l.initial.ins u (map mk l.initial.params);
+    }
+
+abbrev pub decreases-loop-values : goal.decreases-loop-values
+decreases-loop-values l = length l.params

@@ -1,0 +1,91 @@
+//! The edges into a flow, by its dependences: each is looked up among the edges out of its sender, and among the earlier
+//! ones of its flow.
+
+ghost use Rattle.std.specs.Prelude.{◌≡◌, ◌∷◌, [], IsTrue, drop};
+ghost use Rattle.std.specs.Bool.{OnTrue};
+ghost use Rattle.dep_iter.specs.Active as active;
+ghost use Rattle.dep_iter.specs.Active.{held_targets};
+ghost use Rattle.dep_iter.specs.Edges.{in_edges_before};
+ghost use Rattle.dep_iter.specs.Links.{fits};
+ghost use Rattle.dep_iter.specs.Tasks.{IsTask};
+ghost use Rattle.edge_accept.specs.Flows.{AreTaken};
+ghost use Rattle.edge_accept.specs.Tallies.{TakesFrom};
+
+use crate::at::FlowAt;
+use crate::ins::Ins;
+use dep_iter::{
+    Combinations, Direction, LentEdge, arguments_at_most, edges_of_a_dependence_differ, far_locals,
+    has_edge_before, held_target, place_of, takes_first, takes_tile,
+};
+use plan_core::{Target, is_data};
+use ptg_base::TaskId;
+
+// Counts an edge into the flow, which dependence `k` gives, if it is one out of the task that it comes from and no
+// earlier dependence gives it.
+fn take_edge(at: &FlowAt, k: usize, edge: &LentEdge, ins: &mut Ins) -> bool
+    requires of_job { IsTask at.now.plan.now at.now.task.now }
+    requires task { edge.now.to ≡ at.now.task.now }
+    requires flow { edge.now.in_flow ≡ at.now.number }
+    ensures { OnTrue result
+        (AreTaken at.now.plan.now (in_edges_before at.now.plan.now at.now.task.now at.now.number k) ins.old ins.new
+        (edge.now ∷ [])) }
+{
+    let Some(_) = far_locals(at.plan, Direction::In, edge) else {
+        return false;
+    };
+    if has_edge_before(at.plan, Direction::In, at.task, at.env, edge, k) {
+        return false;
+    }
+    ins.add(is_data(at.flow.kind))
+}
+
+// Whether the flow may start from a target of dependence `k`; the edges that the target stands for are counted.
+fn take_target(at: &FlowAt, k: usize, target: &Target, ins: &mut Ins) -> bool
+    requires of_job { IsTask at.now.plan.now at.now.task.now }
+    requires fit { IsTrue (fits at.now.plan.now target.now) }
+    ensures { OnTrue result (TakesFrom at.now k ins.old ins.new (target.now ∷ [])) }
+{
+    match target {
+        Target::Task(class, flow, args) => {
+            edges_of_a_dependence_differ();
+            let args = args.as_slice();
+            arguments_at_most(at.plan, *class, *flow, args);
+            let mut params = Combinations::new(args, at.env);
+            while let Some(values) = params.next() {
+                let from = TaskId::new(*class, values.as_slice());
+                let edge = LentEdge::between(Direction::In, at.task, at.number, &from, *flow);
+                if !take_edge(at, k, &edge, ins) {
+                    return false;
+                }
+            }
+            true
+        }
+        Target::Element(coll, indices) => {
+            at.plan.has_place(&place_of(*coll, indices.as_slice(), at.env))
+        }
+        Target::New => true,
+        Target::Null => at.sends_nothing,
+    }
+}
+
+// Whether the flow may start from its in dependences from number `k` on, if those before them do not hold or it takes
+// all that hold; the edges that they give are counted.
+pub(crate) fn take_from(at: &FlowAt, k: usize, ins: &mut Ins) -> bool
+    requires { IsTask at.now.plan.now at.now.task.now }
+    ensures { OnTrue result (TakesFrom at.now k ins.old ins.new
+        (held_targets (active.takes_first at.now.flow.now.kind) (drop k at.now.flow.now.ins) at.now.env.now)) }
+{
+    let Some(d) = at.flow.ins.as_slice().get(k) else {
+        return !takes_tile(at.flow.kind);
+    };
+    let Some(target) = held_target(d, at.env) else {
+        return take_from(at, k + 1, ins);
+    };
+    if !take_target(at, k, target, ins) {
+        return false;
+    }
+    if takes_first(at.flow.kind) {
+        return true;
+    }
+    take_from(at, k + 1, ins)
+}
