@@ -1,6 +1,7 @@
 //! What the walk over the tasks has counted.
 
 ghost use Rattle.std.specs.Prelude.{◌+◌, ◌≤◌};
+ghost use Rattle.ptg_base.specs.Limits.{most_edges};
 
 use crate::ins::Ins;
 use place_set::PlaceSet;
@@ -11,7 +12,7 @@ pub(crate) struct Outs {
     pub(crate) edges: u64,
     pub(crate) writes: u64,
     pub(crate) written: PlaceSet,
-    pub(crate) ghost items_at_most: { edges + writes ≤ 4000000 },
+    pub(crate) ghost items_at_most: { edges + writes ≤ most_edges },
 }
 
 /// What was counted of the edges into tasks, and of what tasks send.

@@ -1,6 +1,7 @@
 -- How many edges go into a task, by its dependences: the product of the counts of the arguments for each target of a
 -- task.
 use Rattle.std.specs.Prelude.{◌≡◌, ◌≤◌, ℕ, ℤ, List, Bool, length, sum_by}
+use Rattle.ptg_base.specs.Limits.{most_edges}
 use Rattle.plan_core.specs.declared.flow.DepPlan.{DepPlan}
 use Rattle.plan_core.specs.declared.flow.FlowPlan.{FlowPlan}
 use Rattle.plan_core.specs.declared.target.Target.{Target}
@@ -10,7 +11,7 @@ use Rattle.dep_iter.specs.Arguments.{combinations}
 
 -- k is the number n, or both are over 4,000,000, the most edges that a job may have
 abbrev pub IsCount : ℕ → ℕ → Type 0
-IsCount k n = (k ≤ 4000000 → k ≡ n) × (n ≤ 4000000 → k ≡ n)
+IsCount k n = (k ≤ most_edges → k ≡ n) × (n ≤ most_edges → k ≡ n)
 
 -- how many edges a target stands for
 abbrev pub target_count : List ℤ → Target → ℕ
