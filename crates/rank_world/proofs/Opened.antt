@@ -1,17 +1,21 @@
--- A table that was opened.
-use Rattle.std.proofs.Common.{◌≡◌, ℕ, ◌+◌, List, [], ◌∷◌, ◌++◌, length, ap, sym, ◌∙◌, subst, None, inl, inr, arith, length-append}
-use Rattle.std.proofs.lemmas.List.{append-nil}
+-- A world that was opened.
+use Rattle.std.proofs.Common.{◌≡◌, ℕ, ◌+◌, ◌==◌, Bool, true, false, cond, List, [], ◌∷◌, ◌++◌, length, ap, sym, subst, inl, inr, arith, length-append}
+use Rattle.ptg_base.specs.Lists.{IsIn}
+use Rattle.ptg_base.specs.Task.{Task}
 use Rattle.plan_core.specs.declared.plan.Plan.{Plan}
-use Rattle.dep_iter.specs.Consistent.{roots}
+use Rattle.dep_iter.specs.Edges.{goal}
 use Rattle.dep_iter.specs.Tasks.{all_tasks}
 use Rattle.dep_iter.proofs.Listing.{listed}
-use Rattle.dep_shard.specs.Content.{Content, Entries, IsNew, entry_in, entry_of}
+use Rattle.dep_shard.specs.Content.{Content, IsNew}
 use Rattle.shard_meaning.specs.Opening.{IsOpeningShard}
 use Rattle.shard_meaning.specs.Share.{Placement}
 use Rattle.rank_core.specs.World.{rank_of}
-use Rattle.rank_world.specs.declared.opening.Opening.{Opening}
-use Rattle.rank_world.specs.Opened.{AreNew, AreOpened, AreOpeningRanks, IsOpenedFor, Opens}
+use Rattle.list_lemmas.proofs.Members.{IsIn-filter}
 use Rattle.list_lemmas.proofs.Places.{slice_get_push}
+use Rattle.list_lemmas.proofs.Truth.{by_test}
+use Rattle.rank_world.specs.Opened.{AreNew, AreOpened, AreOpeningRanks, IsOpenedFor, Opens, roots_among}
+use Rattle.rank_world.proofs.OpeningSteps.{entry_now, more_kept}
+use Rattle.rank_world.proofs.TaskWalks.{IsSoFar, one_more}
 
 -- one new shard more
 pub new_more : (n : ℕ) (lengths : List ℕ) (ys : List Content) (y : Content) (zs : List Content) → AreNew n lengths ys → IsNew y lengths → zs ≡ ys ++ y ∷ [] → AreNew (n + 1) lengths zs
@@ -20,20 +24,11 @@ new_more n lengths ys y zs w new is = subst (AreNew (n + 1) lengths) (sym is) (r
   each = λ k z at. elim (slice_get_push ys y k z at) [ inl before ↦ w.each k z before | inr same ↦ subst (λ x. IsNew x lengths) same new ];
 })
 
--- of no task nothing is opened
-opened_none : (P : Plan) (of : Placement) (a : Opening) (n : ℕ) → AreNew n P.elems a.ranks.items → a.left ≡ length (roots P) → AreOpened P of [] a
-opened_none P of a n new left = record {
-  each = λ k y at. let w = new.each k y at in record {
-    there = λ t i own. absurd i;
-    only = λ t e is. let none : entry_of y t ≡ None = ap (λ (l : Entries). entry_in l t) w.entries in absurd cc;
-    written = w.written;
-    trapped = w.trapped;
-    running = w.running;
-    ended = w.ended;
-    elems = w.elems;
-  };
-  left = omega (arith, left);
-}
+-- one task more is opened
+pub opened_more : (P : Plan) (n : ℕ) (t : Task) (rest : List Task) (old new : List Content) → length old ≡ n → Opens P (rank_of P (length old)) t old new → IsSoFar P (λ ts. AreOpened P (rank_of P n) ts old) (t ∷ rest) → IsSoFar P (λ ts. AreOpened P (rank_of P n) ts new) rest
+opened_more P n t rest old new count opens w =
+    let here = subst (λ m. Opens P (rank_of P m) t old new) count opens in
+    one_more P (λ ts. AreOpened P (rank_of P n) ts old) (λ ts. AreOpened P (rank_of P n) ts new) t rest here.opened w
 
 -- a shard that was opened for all tasks
 opening_shard : (P : Plan) (of : Placement) (k : ℕ) (y : Content) → IsOpenedFor P of k (all_tasks P) y → IsOpeningShard P of k y
@@ -47,9 +42,28 @@ opening_shard P of k y w = record {
   elems = w.elems;
 }
 
--- the shards after all tasks were opened
-pub opening_ranks : (P : Plan) (n : ℕ) (a b : Opening) → AreNew n P.elems a.ranks.items → a.left ≡ length (roots P) → Opens P (rank_of P (length a.ranks.items)) (all_tasks P) a b → AreOpeningRanks P n b.ranks.items
-opening_ranks P n a b new left opens =
-    let of = rank_of P (length a.ranks.items) in
-    let all : AreOpened P of (all_tasks P) b = opens.opened [] [] (sym (append-nil (all_tasks P))) (opened_none P of a n new left) in
-    record { count = opens.count ∙ new.count; each = λ k y at. subst (λ m. IsOpeningShard P (rank_of P m) k y) new.count (opening_shard P of k y (all.each k y at)) }
+-- how many of some tasks no edge goes into, by whether one goes into the first
+pub one_root : (P : Plan) (t : Task) (ts : List Task) → (goal P t == 0) ≡ true → length (roots_among P (t ∷ ts)) ≡ length (roots_among P ts) + 1
+one_root P t ts k = omega (arith, ap (λ (b : Bool). length (cond b (t ∷ roots_among P ts) (roots_among P ts))) k)
+
+pub no_root : (P : Plan) (t : Task) (ts : List Task) → (goal P t == 0) ≡ false → length (roots_among P (t ∷ ts)) ≡ length (roots_among P ts)
+no_root P t ts k = ap (λ b. length (cond b (t ∷ roots_among P ts) (roots_among P ts))) k
+
+-- where none of these tasks is without an edge into it, each has one
+none_is_root : (P : Plan) (ts : List Task) → length (roots_among P ts) ≡ 0 → (t : Task) → IsIn t ts → (goal P t == 0) ≡ false
+none_is_root P ts none t i = by_test (goal P t == 0) (λ root. absurd (has_none (roots_among P ts) none ((IsIn-filter (λ u. goal P u == 0) ts t).1 (i, root)))) (λ not. not)
+  where
+    has_none : (us : List Task) → length us ≡ 0 → IsIn t us → ⊥
+    has_none [] z j = absurd j
+    has_none (u ∷ us) z j = absurd (omega (arith, z))
+
+-- the ranks once no task without an edge into it is to come
+pub opening_ranks : (P : Plan) (n : ℕ) (rest : List Task) (ys : List Content) → length ys ≡ n → length (roots_among P rest) ≡ 0 → IsSoFar P (λ ts. AreOpened P (rank_of P n) ts ys) rest → AreOpeningRanks P n ys
+opening_ranks P n rest ys count none w = record {
+  count = count;
+  each = λ k y at.
+      let of = rank_of P n in
+      let here = w.holds k y at in
+      let all = more_kept P of k w.passed y here rest (λ t i own. entry_now P of k w.passed y here t own (none_is_root P rest none t i)) in
+      opening_shard P of k y (subst (λ ts. IsOpenedFor P of k ts y) (sym w.split) all);
+}

@@ -1,17 +1,14 @@
 -- How a world is opened: its ranks, which are shards, get a ready entry of each task that no edge goes into. Source:
 -- DAGuE (Parallel Computing, 2012): a task without dependences may run at once.
-use Rattle.std.specs.Prelude.{◌≡◌, ◌≢◌, ℕ, ◌+◌, ◌==◌, ℤ, List, [], ◌++◌, length, filter, slice_get, Some, None}
+use Rattle.std.specs.Prelude.{◌≡◌, ◌≢◌, ℕ, ◌==◌, ℤ, List, [], ◌∷◌, ◌++◌, length, filter, slice_get, Some, None}
 use Rattle.ptg_base.specs.Lists.{IsIn}
 use Rattle.ptg_base.specs.Task.{Task}
 use Rattle.plan_core.specs.declared.plan.Plan.{Plan}
 use Rattle.dep_iter.specs.Edges.{goal}
-use Rattle.dep_iter.specs.Consistent.{roots}
-use Rattle.dep_iter.specs.Tasks.{all_tasks}
 use Rattle.dep_shard.specs.Content.{Content, Entry, IsNew, KeepsAllButEntries, Updates, entry_of, fresh}
 use Rattle.shard_meaning.specs.Opening.{IsOpeningShard, opening_entry}
 use Rattle.shard_meaning.specs.Share.{Placement}
 use Rattle.rank_core.specs.World.{rank_of}
-use Rattle.rank_world.specs.declared.opening.Opening.{Opening}
 
 -- the tasks of a list that no edge goes into
 abbrev pub roots_among : Plan → List Task → List Task
@@ -27,16 +24,15 @@ pub record IsOpenedFor (P : Plan) (of : Placement) (k : ℕ) (ts : List Task) (y
   pub ended : y.ended ≡ 0
   pub elems : y.elems ≡ P.elems
 
--- The ranks have the entries of these tasks, and so many tasks that no edge goes into are still to come.
-pub record AreOpened (P : Plan) (of : Placement) (ts : List Task) (o : Opening) : Type 0 where
-  pub each : (k : ℕ) (y : Content) → slice_get o.ranks.items k ≡ Some y → IsOpenedFor P of k ts y
-  pub left : o.left + length (roots_among P ts) ≡ length (roots P)
+-- each rank has, of these tasks, the entries of its own that no edge goes into, and nothing else
+abbrev pub AreOpened : Plan → Placement → List Task → List Content → Type 0
+AreOpened P of ts ys = (k : ℕ) (y : Content) → slice_get ys k ≡ Some y → IsOpenedFor P of k ts y
 
--- From old to new the ranks got the entries of these tasks, where they had those of the tasks before them.
-pub record Opens (P : Plan) (of : Placement) (ts : List Task) (old new : Opening) : Type 0 where
-  pub count : length new.ranks.items ≡ length old.ranks.items
-  pub opened : (done rest : List Task) → all_tasks P ≡ (done ++ ts) ++ rest → AreOpened P of done old
-      → AreOpened P of (done ++ ts) new
+-- From old to new the rank of a task got its entry, if no edge goes into it, where the ranks had the entries of the tasks
+-- before it.
+pub record Opens (P : Plan) (of : Placement) (t : Task) (old new : List Content) : Type 0 where
+  pub count : length new ≡ length old
+  pub opened : (done : List Task) → AreOpened P of done old → AreOpened P of (done ++ t ∷ []) new
 
 -- A ready entry of the task is entered. If the task has an entry, that one stays.
 pub record EntersIn (t : Task) (priority : ℤ) (old new : Content) : Type 0 where

@@ -1,30 +1,28 @@
-use Rattle.std.proofs.Common.{◌≡◌, ◌∙◌, ◌<◌, ap, sym, subst, arith, length, rules, FitsSigned, w64}
+use Rattle.std.proofs.Common.{◌≡◌, ◌∙◌, ◌<◌, ap, sym, subst, length, rules, FitsSigned, w64}
 use Rattle.std.proofs.lemmas.Int.{to_z-of_z}
 use Rattle.plan_core.specs.declared.plan.Plan.{Plan}
 use Rattle.dep_iter.specs.Hints as hints
 use Rattle.rank_core.specs.World.{rank_of}
 use Rattle.rank_world.specs.Opened.{Enters}
-use Rattle.rank_world.proofs.OpeningSteps.{opens_late, opens_other, opens_root}
+use Rattle.rank_world.proofs.OpeningSteps.{opens_other, opens_root}
 use Rattle.rank_world.proofs.opening.open_task.Goals as goal
 
-pub returns-then-opening-eq0 : goal.returns-then-opening-eq0
-returns-then-opening-eq0 c = opens_late c.args.m.now (rank_of c.args.m.now (length c.args.opening.now.ranks.items)) c.args.t.now c.args.opening.now c.if-opening-eq0.true
+pub returns-then-goal_under-ne0-clause-opened : goal.returns-then-goal_under-ne0-clause-opened
+returns-then-goal_under-ne0-clause-opened c =
+    opens_other c.args.m.now (rank_of c.args.m.now (length c.args.ranks.now.items)) c.args.t.now c.args.ranks.now.items (λ z. c.if-goal_under-ne0.true (c.goal_under.ensures ∙ z))
 
-pub returns-then-goal_under-ne0 : goal.returns-then-goal_under-ne0
-returns-then-goal_under-ne0 c =
-    opens_other c.args.m.now (rank_of c.args.m.now (length c.args.opening.now.ranks.items)) c.args.t.now c.args.opening.now (λ z. c.if-goal_under-ne0.true (c.goal_under.ensures ∙ z))
-
-pub returns : goal.returns
-returns c =
+pub returns-clause-opened : goal.returns-clause-opened
+returns-clause-opened c =
     let P = c.args.m.now in
     let t = c.args.t.now in
-    let o = c.args.opening.now in
-    let of = rank_of P (length o.ranks.items) in
-    let count : c.len.result ≡ length o.ranks.items = c.len.ensures ∙ o.ranks.ok.0 in
+    let old = c.args.ranks.now.items in
+    let new = c.enter.new.ranks.items in
+    let of = rank_of P (length old) in
+    let count : c.len.result ≡ length old = c.len.ensures ∙ c.args.ranks.now.ok.0 in
     let here : c.rank_under-k.result ≡ of t = c.rank_under-k.ensures.number ∙ ap (λ n. rank_of P n t) count in
     let urgency : c.priority_under-urgency.result ≡ hints.priority P t = c.priority_under-urgency.ensures ∙ ap (λ (Q : Plan). hints.priority Q t) c.plan-2.ensures.same in
-    let near : of t < length o.ranks.items = subst (λ k. k < length o.ranks.items) here (subst (λ n. c.rank_under-k.result < n) count c.rank_under-k.ensures.within) in
+    let near : of t < length old = subst (λ k. k < length old) here (subst (λ n. c.rank_under-k.result < n) count c.rank_under-k.ensures.within) in
     let fits : FitsSigned w64 c.priority_under-urgency.result = search rules in
     let entered = simp to_z-of_z at c.in_ok-enter.ensures in
-    let e = subst (λ p. Enters (of t) t p o.ranks.items c.enter.new.ranks.items) urgency (subst (λ k. Enters k t c.priority_under-urgency.result o.ranks.items c.enter.new.ranks.items) here entered) in
-    opens_root P of t o _ (sym c.goal_under.ensures ∙ c.if-goal_under-ne0.false) c.if-opening-eq0.false near e (omega (arith, c.if-opening-eq0.false))
+    let e = subst (λ p. Enters (of t) t p old new) urgency (subst (λ k. Enters k t c.priority_under-urgency.result old new) here entered) in
+    opens_root P of t old new (sym c.goal_under.ensures ∙ c.if-goal_under-ne0.false) near e

@@ -38,7 +38,7 @@ invariant_of-self c =
     let h : IsVisit (record { matched = i.matched; given = record { ref_ptr = c.args.t.ref_ptr; now = i.given }; history = record { ref_ptr = c.args.t.ref_ptr; now = i.history }; ranks = c.len.result; task = c.args.t; locals = c.args.locals; rank = c.args.rank }) = record {
       consistent = k.consistent;
       fit = k.fit;
-      well = c.colls.ensures.well_made;
+      well = c.is_well_made.ensures;
       some_ranks = omega (arith, count, k.some_ranks);
       few_ranks = omega (arith, count, k.few_ranks);
       sound = subst (λ r. IsSoundWorld i.matched.now i.given r i.history.state) (sym count) k.sound;
@@ -59,7 +59,7 @@ invariant_of-self-2 c =
     let h : IsVisit (record { matched = i.matched; given = record { ref_ptr = c.args.t.ref_ptr; now = i.given }; history = record { ref_ptr = c.args.t.ref_ptr; now = i.history }; ranks = c.len.result; task = c.args.t; locals = c.args.locals; rank = c.args.rank }) = record {
       consistent = k.consistent;
       fit = k.fit;
-      well = c.colls.ensures.well_made;
+      well = c.is_well_made.ensures;
       some_ranks = omega (arith, count, k.some_ranks);
       few_ranks = omega (arith, count, k.few_ranks);
       sound = subst (λ r. IsSoundWorld i.matched.now i.given r i.history.state) (sym count) k.sound;
@@ -82,7 +82,7 @@ returns-clause-sound c =
     let h : IsVisit (record { matched = i.matched; given = record { ref_ptr = c.args.t.ref_ptr; now = i.given }; history = record { ref_ptr = c.args.t.ref_ptr; now = i.history }; ranks = c.len.result; task = c.args.t; locals = c.args.locals; rank = c.args.rank }) = record {
       consistent = k.consistent;
       fit = k.fit;
-      well = c.colls.ensures.well_made;
+      well = c.is_well_made.ensures;
       some_ranks = omega (arith, count, k.some_ranks);
       few_ranks = omega (arith, count, k.few_ranks);
       sound = subst (λ r. IsSoundWorld i.matched.now i.given r i.history.state) (sym count) k.sound;
