@@ -1,5 +1,5 @@
 -- The edges into a task and what it sends, flow by flow.
-use Rattle.std.proofs.Common.{◌≡◌, ◌≢◌, ◌≤◌, ℕ, suc, ◌+◌, ℤ, List, [], ◌∷◌, ◌++◌, length, map, refl, ap, sym, ◌∙◌}
+use Rattle.std.proofs.Common.{◌≡◌, ◌≢◌, ◌≤◌, ℕ, zero, suc, ◌+◌, ℤ, List, [], ◌∷◌, ◌++◌, length, map, refl, ap, sym, ◌∙◌}
 use Rattle.std.proofs.Common.{subst, append_assoc, add-zero, Option, Some, None, Bool, slice_get, inl, inr}
 use Rattle.std.proofs.Common.{arith}
 use Rattle.std.proofs.lemmas.Bool.{cases_lt}
@@ -45,6 +45,13 @@ in_edges-flows P t = by_flow-is (edges_into t (locals_of P t)) (flow_ins (locals
 pub items-flows : (P : Plan) (t : Task) → items P t ≡ by_number (items_of_flow t (locals_of P t)) 0 (flows_of P t)
 unfolding items
 items-flows P t = by_flow-is (items_to t (locals_of P t)) (flow_outs (locals_of P t)) 0 (flows_of P t)
+
+-- what is so of a flow and of those after it
+pub each_more : (Q : ℕ → FlowPlan → Type 0) (n : ℕ) (f : FlowPlan) (fs : List FlowPlan) → Q n f
+    → ((i : ℕ) (g : FlowPlan) → slice_get fs i ≡ Some g → Q (suc n + i) g)
+    → (i : ℕ) (g : FlowPlan) → slice_get (f ∷ fs) i ≡ Some g → Q (n + i) g
+each_more Q n f fs here later zero g h = let same : f ≡ g = cc in rw (add-zero, sym same) here
+each_more Q n f fs here later (suc i) g h = let e : suc n + i ≡ n + suc i = omega arith in subst (λ m. Q m g) e (later i g h)
 
 -- what one of the flows gives
 module _ {X : Type 0} (g : ℕ → FlowPlan → List X) where

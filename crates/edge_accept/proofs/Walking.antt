@@ -1,6 +1,6 @@
 -- The walk over tasks, one task after another.
-use Rattle.std.proofs.Common.{◌≡◌, ◌+◌, ℕ, zero, suc, ℤ, List, [], ◌∷◌, ◌++◌, ap, sym, ◌∙◌, subst, add-zero, zero-add, Some, slice_get}
-use Rattle.std.proofs.Common.{inl, inr, arith}
+use Rattle.std.proofs.Common.{◌≡◌, ◌+◌, ℕ, suc, ℤ, List, [], ◌∷◌, ◌++◌, sym, subst, zero-add, Some, slice_get}
+use Rattle.std.proofs.Common.{inl, inr}
 use Rattle.std.proofs.lemmas.List.{append-nil}
 use Rattle.std.proofs.lemmas.List.Concat.{flat_map-append}
 use Rattle.std.specs.List.{flat_map}
@@ -20,14 +20,7 @@ use Rattle.edge_accept.specs.Flows.{items_of_flow}
 use Rattle.edge_accept.specs.Tallies.{Accepts, AreSent, WentOver}
 use Rattle.edge_accept.proofs.SentItems.{sent_append, sent_nil}
 use Rattle.edge_accept.proofs.TakenEdges.{taken_append, taken_nil}
-use Rattle.edge_accept.proofs.TaskFlows.{in_edges-flows, items-flows}
-
--- what is so of a flow and of those after it
-each_more : (Q : ℕ → FlowPlan → Type 0) (n : ℕ) (f : FlowPlan) (fs : List FlowPlan) → Q n f
-    → ((i : ℕ) (g : FlowPlan) → slice_get fs i ≡ Some g → Q (suc n + i) g)
-    → (i : ℕ) (g : FlowPlan) → slice_get (f ∷ fs) i ≡ Some g → Q (n + i) g
-each_more Q n f fs here later zero g h = let same : f ≡ g = cc in rw (add-zero, sym same) here
-each_more Q n f fs here later (suc i) g h = let e : suc n + i ≡ n + suc i = omega arith in subst (λ m. Q m g) e (later i g h)
+use Rattle.edge_accept.proofs.TaskFlows.{each_more, in_edges-flows, items-flows}
 
 module _ (P : Plan) (t : Task) (env : List ℤ) where
   pub accepts_nil : (s : Tally) (n : ℕ) → Accepts P t env s s n []
