@@ -1,5 +1,5 @@
 -- A plan all of whose tasks were accepted is consistent, if as many edges go into its tasks as come out of them.
-use Rattle.std.proofs.Common.{◌≡◌, ◌+◌, ◌≤◌, ℕ, Some, slice_get, [], length, map, ap, sym, ◌∙◌, subst, arith}
+use Rattle.std.proofs.Common.{◌≡◌, ◌+◌, ◌≤◌, ℕ, Some, slice_get, [], length, map, ap, sym, ◌∙◌, subst, zero-add, arith}
 use Rattle.std.specs.List.{AllByRecursion, filter_map}
 use Rattle.ptg_base.specs.Lists.{HasNoRepeats, IsIn}
 use Rattle.ptg_base.specs.Task.{Task}
@@ -22,9 +22,9 @@ use Rattle.dep_iter.proofs.Belonging.{in_edge_is}
 use Rattle.dep_iter.proofs.Listing.{listed}
 use Rattle.edge_accept.specs.declared.tally.Tally.{Tally}
 use Rattle.place_set.specs.Sets.{IsSetOf}
-use Rattle.edge_accept.specs.Flows.{IsSoundSource, items_of_flow}
+use Rattle.edge_accept.specs.Flows.{IsSoundSource, IsSoundTask, edges_into_flow, items_of_flow}
 use Rattle.edge_accept.specs.Tallies.{WentOver}
-use Rattle.edge_accept.proofs.TaskFlows.{item_flow-sends, length-items, source_flow}
+use Rattle.edge_accept.proofs.TaskFlows.{in_edges-flows, into_flow_is, item_flow-sends, length-items, once_by_number, source_flow}
 use Rattle.edge_accept.proofs.TaskLists.{once-all_tasks}
 
 module _ (P : Plan) (s c : Tally) (w : WentOver P s c (all_tasks P)) (edges : s.ins.edges ≡ 0) (outs : s.outs.edges ≡ 0)
@@ -45,8 +45,13 @@ module _ (P : Plan) (s c : Tally) (w : WentOver P s c (all_tasks P)) (edges : s.
       let f = ap length writes-are in
       omega arith
 
+  task_once : (t : Task) → IsSoundTask P t → HasNoRepeats (in_edges P t)
+  task_once t a =
+      let env = locals_of P t in
+      rw in_edges-flows (once_by_number (edges_into_flow t env) (λ e. e.in_flow) (into_flow_is t env) 0 (flows_of P t) (λ i f h. rw zero-add (a.flows i f h).once))
+
   ins_once : HasNoRepeats (all_in P)
-  ins_once = HasNoRepeats-flat_map (in_edges P) (all_tasks P) (once-all_tasks P) (λ t h. (w.sound t h).ins_once)
+  ins_once = HasNoRepeats-flat_map (in_edges P) (all_tasks P) (once-all_tasks P) (λ t h. task_once t (w.sound t h))
       (λ t u e h k. sym ((in_edge_is P t e).0 h).0 ∙ ((in_edge_is P u e).0 k).0)
 
   among_outs : (e : Edge) → IsIn e (all_in P) → IsIn e (all_out P)
@@ -72,7 +77,7 @@ module _ (P : Plan) (s c : Tally) (w : WentOver P s c (all_tasks P)) (edges : s.
       let here = (listed P t).0 of_job in
       let a = w.sound t here in
       let sound = λ (n : ℕ) (f : FlowPlan) (o : Source) (is : data_source P t n ≡ o) (h : slice_get (flows_of P t) n ≡ Some f).
-      subst (IsSoundSource P f (items_of_flow t (locals_of P t) n f)) is (a.sources n f h) in
+      subst (IsSoundSource P f (items_of_flow t (locals_of P t) n f)) is (a.flows n f h).source in
       record {
         well = a.well;
         inputs = λ n f h takes none. sound n f source.Nothing none h takes;

@@ -1,6 +1,7 @@
 -- The edges into a flow, one dependence after another.
-use Rattle.std.proofs.Common.{◌≡◌, ◌+◌, ℕ, zero, suc, ℤ, Bool, true, false, List, [], ◌∷◌, ◌++◌, length, length-append, take, refl, ap}
-use Rattle.std.proofs.Common.{sym, ◌∙◌, subst, Option, Some, None, slice_get, if◌then◌else◌, inl, inr, arith}
+use Rattle.std.proofs.Common.{◌≡◌, ◌+◌, ℕ, zero, suc, ℤ, Bool, true, false, List, [], ◌∷◌, ◌++◌, length, length-append, drop, take, refl, ap}
+use Rattle.std.proofs.Common.{sym, ◌∙◌, ◌≤◌, subst, Option, Some, None, IsTrue, slice_get, if◌then◌else◌, inl, inr, arith}
+use Rattle.std.proofs.Math.ListN.{drop_of_length-le}
 use Rattle.std.proofs.lemmas.List.{append-nil}
 use Rattle.std.proofs.lemmas.List.Elements.{filter-append}
 use Rattle.std.proofs.lemmas.List.Concat.{flat_map-append}
@@ -17,14 +18,16 @@ use Rattle.plan_core.specs.declared.target.Target.{Target}
 use Rattle.plan_core.specs.Kinds.{kind_of}
 use Rattle.list_lemmas.proofs.Members.{IsIn-append_left, IsIn-append_right, from_append}
 use Rattle.list_lemmas.proofs.Distinct.{HasNoRepeats-append}
+use Rattle.list_lemmas.proofs.Places.{drop_from}
+use Rattle.dep_iter.proofs.Belonging.{held-more}
 use Rattle.dep_iter.specs.Tasks.{flows_of, locals_of}
 use Rattle.dep_iter.specs.Active.{held_target, held_targets, held_then, takes_first}
-use Rattle.dep_iter.specs.Consistent.{is_data_edge}
+use Rattle.dep_iter.specs.Consistent.{is_data_edge, takes_tile}
 use Rattle.dep_iter.specs.Edges.{edges_into, in_edges_before}
 use Rattle.edge_accept.specs.declared.at.FlowAt.{FlowAt}
 use Rattle.edge_accept.specs.declared.ins.Ins.{Ins}
 use Rattle.edge_accept.specs.Flows.{AreTaken, AreTakenOnce, IsSent}
-use Rattle.edge_accept.specs.Tallies.{TakesFrom}
+use Rattle.edge_accept.specs.Tallies.{Takes, TakesFrom}
 
 -- whether an edge carries a tile is said by the kind of the flow that it goes into
 kind_here : (o : Option ClassPlan) (n : ℕ) (f : FlowPlan) → slice_get (option_map_or (λ (c : ClassPlan). c.flows) o []) n ≡ Some f → option_map (λ (f : FlowPlan). f.kind) (option_and_then (λ (c : ClassPlan). slice_get c.flows n) o) ≡ Some f.kind
@@ -70,10 +73,6 @@ module _ (P : Plan) (earlier : List Edge) where
   pub once_nil : (s : Ins) → AreTakenOnce P earlier s s []
   once_nil s = record { taken = taken_nil s; once = tt }
 
-  -- edges, and others
-  pub once_both : (s u v : Ins) (xs ys : List Edge) → AreTakenOnce P earlier s u xs → AreTakenOnce P earlier u v ys → ((e : Edge) → IsIn e xs → IsIn e ys → ⊥) → AreTakenOnce P earlier s v (xs ++ ys)
-  once_both s u v xs ys a b apart = record { taken = taken_append s u v xs ys a.taken b.taken; once = HasNoRepeats-append xs ys a.once b.once apart }
-
   -- edges, and those after them, which are looked up among them too
   pub once_after : (s u v : Ins) (xs ys : List Edge) → AreTakenOnce P earlier s u xs → AreTakenOnce P (earlier ++ xs) u v ys → AreTakenOnce P earlier s v (xs ++ ys)
   once_after s u v xs ys a b =
@@ -83,7 +82,10 @@ module _ (P : Plan) (earlier : List Edge) where
         edges = b.taken.edges;
         data_edges = b.taken.data_edges;
       } in
-      once_both s u v xs ys a (record { taken = later; once = b.once }) (λ e h k. b.taken.fresh e k (IsIn-append_right e earlier xs h))
+      record {
+        taken = taken_append s u v xs ys a.taken later;
+        once = HasNoRepeats-append xs ys a.once b.once (λ e h k. b.taken.fresh e k (IsIn-append_right e earlier xs h));
+      }
 
 -- the targets of the first dependences that hold, with one more dependence, which does not hold or does
 pub held-next_none : (first_only : Bool) (ds : List DepPlan) (k : ℕ) (d : DepPlan) (env : List ℤ) → slice_get ds k ≡ Some d
@@ -114,30 +116,48 @@ module _ (at : FlowAt) where
   unfolding in_edges_before
   before-is k = rw (at.here, at.locals) refl
 
+  -- where none is left
+  pub takes_nothing : (k : ℕ) (s : Ins) → length at.flow.now.ins ≤ k → (IsTrue (takes_tile at.flow.now.kind) → ⊥) → TakesFrom at k s s
+  takes_nothing k s past none =
+      rw (drop_of_length-le at.flow.now.ins past)
+      (record { source = none; taken = once_nil at.plan.now (in_edges_before at.plan.now at.task.now at.number k) s })
+
+  -- the dependence at hand, by whether it holds
   module _ (k : ℕ) (d : DepPlan) (this : slice_get at.flow.now.ins k ≡ Some d) where
-    -- a dependence that does not hold, and those after it
-    pub takes_none : (s u : Ins) (xs : List Target) → held_target d at.env.now ≡ None → TakesFrom at (suc k) s u xs → TakesFrom at k s u xs
-    takes_none s u xs none h =
-        let E = edges_into at.task.now at.env.now at.number in
+    abbrev later : Bool → List Target
+    later first_only = held_targets first_only (drop (suc k) at.flow.now.ins) at.env.now
+
+    abbrev E : Target → List Edge
+    E = edges_into at.task.now at.env.now at.number
+
+    pub takes_none : (s u : Ins) → held_target d at.env.now ≡ None → TakesFrom at (suc k) s u → TakesFrom at k s u
+    takes_none s u none h =
         let first_only = takes_first at.flow.now.kind in
         let same = before-is (suc k) ∙ ap (flat_map E) (held-next_none first_only at.flow.now.ins k d at.env.now this none) ∙ sym (before-is k) in
-        record { source = h.source; taken = subst (λ es. AreTakenOnce at.plan.now es s u (flat_map E xs)) same h.taken }
+        rw (drop_from at.flow.now.ins k d this, none)
+        (record { source = h.source; taken = subst (λ es. AreTakenOnce at.plan.now es s u (flat_map E (later first_only))) same h.taken })
 
-    -- one that holds, and those after it, where all that hold count
-    pub takes_more : (s u v : Ins) (x : Target) (xs : List Target) → takes_first at.flow.now.kind ≡ false → held_target d at.env.now ≡ Some x
-        → TakesFrom at k s u (x ∷ []) → TakesFrom at (suc k) u v xs → TakesFrom at k s v (x ∷ xs)
-    takes_more s u v x xs all holds first rest =
-        let E = edges_into at.task.now at.env.now at.number in
-        let before = in_edges_before at.plan.now at.task.now at.number k in
-        let targets = λ (b : Bool). held_targets b (take (suc k) at.flow.now.ins) at.env.now ≡ held_targets b (take k at.flow.now.ins) at.env.now ++ x ∷ [] in
-        let longer = subst targets (sym all) (held-next_some at.flow.now.ins k d at.env.now x this holds) in
-        let earlier = held_targets (takes_first at.flow.now.kind) (take k at.flow.now.ins) at.env.now in
-        let same : in_edges_before at.plan.now at.task.now at.number (suc k) ≡ before ++ E x =
-        before-is (suc k) ∙ ap (flat_map E) longer ∙ flat_map-append E earlier (x ∷ [])
-        ∙ ap (λ l. l ++ flat_map E (x ∷ [])) (sym (before-is k)) ∙ ap (λ l. before ++ l) (append-nil (E x)) in
-        record {
-          source = first.source;
-          taken =
-              once_after at.plan.now before s u v (E x) (flat_map E xs) (rw append-nil at first.taken)
-              (subst (λ es. AreTakenOnce at.plan.now es u v (flat_map E xs)) same rest.taken);
-        }
+    module _ (x : Target) (holds : held_target d at.env.now ≡ Some x) where
+      -- the first that holds counts alone
+      pub takes_alone : (s u : Ins) → takes_first at.flow.now.kind ≡ true → Takes at k s u (x ∷ []) → TakesFrom at k s u
+      takes_alone s u alone first = rw (drop_from at.flow.now.ins k d this, alone, holds) first
+
+      -- all that hold count
+      pub takes_more : (s u v : Ins) → takes_first at.flow.now.kind ≡ false → Takes at k s u (x ∷ []) → TakesFrom at (suc k) u v → TakesFrom at k s v
+      takes_more s u v all first rest =
+          let before = in_edges_before at.plan.now at.task.now at.number k in
+          let ins = at.flow.now.ins in
+          let targets = λ (b : Bool). held_targets b (take (suc k) ins) at.env.now ≡ held_targets b (take k ins) at.env.now ++ x ∷ [] in
+          let longer = subst targets (sym all) (held-next_some ins k d at.env.now x this holds) in
+          let earlier = held_targets (takes_first at.flow.now.kind) (take k ins) at.env.now in
+          let same : in_edges_before at.plan.now at.task.now at.number (suc k) ≡ before ++ E x =
+          before-is (suc k) ∙ ap (flat_map E) longer ∙ flat_map-append E earlier (x ∷ [])
+          ∙ ap (λ l. l ++ flat_map E (x ∷ [])) (sym (before-is k)) ∙ ap (λ l. before ++ l) (append-nil (E x)) in
+          let after = subst (λ b. Takes at (suc k) u v (later b)) all rest in
+          let both : Takes at k s v (x ∷ later false) = record {
+            source = first.source;
+            taken =
+                once_after at.plan.now before s u v (E x) (flat_map E (later false)) (rw append-nil at first.taken)
+                (subst (λ es. AreTakenOnce at.plan.now es u v (flat_map E (later false))) same after.taken);
+          } in
+          subst (λ b. Takes at k s v (held_targets b (drop k ins) at.env.now)) (sym all) (rw (drop_from ins k d this, held-more d _ at.env.now x holds) both)

@@ -14,7 +14,7 @@ use Rattle.dep_iter.specs.declared.source.Source.TheVariants as source
 use Rattle.dep_iter.specs.Tasks.{IsTask, flows_of, locals_of}
 use Rattle.dep_iter.specs.Active.{flow_ins, flow_outs}
 use Rattle.dep_iter.specs.Consistent.{is_data_edge, takes_tile}
-use Rattle.dep_iter.specs.Edges.{data_source, edges_into, in_edges}
+use Rattle.dep_iter.specs.Edges.{data_source, edges_into}
 use Rattle.dep_iter.specs.Hints.{affinity}
 use Rattle.dep_iter.specs.Items.{items_to, out_edges}
 use Rattle.dep_iter.specs.Well.{IsWellTask}
@@ -27,14 +27,10 @@ edges_into_flow t env n f = flat_map (edges_into t env n) (flow_ins env f)
 abbrev pub items_of_flow : Task → List ℤ → ℕ → FlowPlan → List Item
 items_of_flow t env n f = flat_map (items_to t env n) (flow_outs env f)
 
--- the same of these flows, which are numbered from n on
-abbrev pub ins_of_flows : Task → List ℤ → ℕ → List FlowPlan → List Edge
-ins_of_flows t env n [] = []
-ins_of_flows t env n (f ∷ fs) = edges_into_flow t env n f ++ ins_of_flows t env (suc n) fs
-
-abbrev pub items_of_flows : Task → List ℤ → ℕ → List FlowPlan → List Item
-items_of_flows t env n [] = []
-items_of_flows t env n (f ∷ fs) = items_of_flow t env n f ++ items_of_flows t env (suc n) fs
+-- what each of these flows gives, which are numbered from n on
+abbrev pub by_number : {X : Type 0} → (ℕ → FlowPlan → List X) → ℕ → List FlowPlan → List X
+by_number g n [] = []
+by_number g n (f ∷ fs) = g n f ++ by_number g (suc n) fs
 
 -- an edge comes from a task of the job, and is one out of it
 abbrev pub IsSent : Plan → Edge → Type 0
@@ -65,9 +61,12 @@ IsSoundSource P f sent source.Nothing = IsTrue (takes_tile f.kind) → ⊥
 abbrev pub HasSoundSource : Plan → Task → List ℤ → ℕ → FlowPlan → Type 0
 HasSoundSource P t env n f = IsSoundSource P f (items_of_flow t env n f) (data_source P t n)
 
--- what the walk shows of a task itself
+-- what the walk shows of a flow, and of a task itself
+pub record IsSoundFlow (P : Plan) (t : Task) (env : List ℤ) (n : ℕ) (f : FlowPlan) : Type 0 where
+  pub source : HasSoundSource P t env n f
+  pub once : HasNoRepeats (edges_into_flow t env n f)
+
 pub record IsSoundTask (P : Plan) (t : Task) : Type 0 where
   pub well : IsWellTask P t
   pub affinity_exists : HasPlace P.colls (affinity P t)
-  pub sources : (n : ℕ) (f : FlowPlan) → slice_get (flows_of P t) n ≡ Some f → HasSoundSource P t (locals_of P t) n f
-  pub ins_once : HasNoRepeats (in_edges P t)
+  pub flows : (n : ℕ) (f : FlowPlan) → slice_get (flows_of P t) n ≡ Some f → IsSoundFlow P t (locals_of P t) n f

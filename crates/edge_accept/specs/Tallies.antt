@@ -1,5 +1,5 @@
 -- What the walk has counted. Source: this project's own choice.
-use Rattle.std.specs.Prelude.{◌≡◌, ◌+◌, ℕ, ℤ, List, [], ◌++◌, length, map, flat_map, filter_map, slice_get, Some}
+use Rattle.std.specs.Prelude.{◌≡◌, ◌+◌, ℕ, ℤ, List, [], ◌++◌, drop, length, map, flat_map, filter_map, slice_get, Some}
 use Rattle.ptg_base.specs.Lists.{HasNoRepeats, IsIn}
 use Rattle.ptg_base.specs.Task.{Task}
 use Rattle.ptg_base.specs.declared.place.Place.{Place}
@@ -10,6 +10,7 @@ use Rattle.plan_core.specs.declared.plan.Plan.{Plan}
 use Rattle.plan_core.specs.declared.shape.Shape.{Shape}
 use Rattle.plan_core.specs.declared.target.Target.{Target}
 use Rattle.plan_core.specs.Place.{HasPlace}
+use Rattle.dep_iter.specs.Active.{held_targets, takes_first}
 use Rattle.dep_iter.specs.Edges.{edges_into, in_edges, in_edges_before, source_among}
 use Rattle.dep_iter.specs.Items.{edge_of, items, write_of}
 use Rattle.place_set.specs.declared.PlaceSet.{PlaceSet}
@@ -18,16 +19,21 @@ use Rattle.edge_accept.specs.declared.at.FlowAt.{FlowAt}
 use Rattle.edge_accept.specs.declared.ins.Ins.{Ins}
 use Rattle.edge_accept.specs.declared.tally.Outs.{Outs}
 use Rattle.edge_accept.specs.declared.tally.Tally.{Tally}
-use Rattle.edge_accept.specs.Flows.{AreTaken, AreTakenOnce, HasSoundSource, IsSoundSource, IsSoundTask, ins_of_flows, items_of_flow}
-use Rattle.edge_accept.specs.Flows.{items_of_flows}
+use Rattle.edge_accept.specs.Flows.{AreTaken, AreTakenOnce, IsSoundFlow, IsSoundSource, IsSoundTask, by_number}
+use Rattle.edge_accept.specs.Flows.{edges_into_flow, items_of_flow}
 
 -- the flow may start from the first of these targets, which dependences from number k on give, and the edges that they
 -- stand for were counted
-pub record TakesFrom (at : FlowAt) (k : ℕ) (old new : Ins) (xs : List Target) : Type 0 where
+pub record Takes (at : FlowAt) (k : ℕ) (old new : Ins) (xs : List Target) : Type 0 where
   pub source : IsSoundSource at.plan.now at.flow.now (items_of_flow at.task.now at.env.now at.number at.flow.now)
       (source_among at.task.now at.env.now at.number xs)
   pub taken : AreTakenOnce at.plan.now (in_edges_before at.plan.now at.task.now at.number k) old new
       (flat_map (edges_into at.task.now at.env.now at.number) xs)
+
+-- the same of all targets that count of the in dependences from number k on
+abbrev pub TakesFrom : FlowAt → ℕ → Ins → Ins → Type 0
+TakesFrom at k old new =
+    Takes at k old new (held_targets (takes_first at.flow.now.kind) (drop k at.flow.now.ins) at.env.now)
 
 -- the set has these places of the collections, and none of them was added twice
 pub record IsOnceIn (colls : List Shape) (w : PlaceSet) (ps : List Place) : Type 0 where
@@ -45,12 +51,11 @@ pub record AreSent (colls : List Shape) (old new : Outs) (is : List Item) : Type
   pub exist : (p : Place) → IsIn p (places_of is) → HasPlace colls p
   pub added : (ps : List Place) → IsOnceIn colls old.written ps → IsOnceIn colls new.written (ps ++ places_of is)
 
--- these flows of a task, which are numbered from n on, have sound sources; the edges into them and what they send was
--- counted
+-- these flows of a task, which are numbered from n on, are sound; the edges into them and what they send was counted
 pub record Accepts (P : Plan) (t : Task) (env : List ℤ) (old new : Tally) (n : ℕ) (fs : List FlowPlan) : Type 0 where
-  pub sources : (i : ℕ) (f : FlowPlan) → slice_get fs i ≡ Some f → HasSoundSource P t env (n + i) f
-  pub taken : AreTakenOnce P [] old.ins new.ins (ins_of_flows t env n fs)
-  pub sent : AreSent P.colls old.outs new.outs (items_of_flows t env n fs)
+  pub sound : (i : ℕ) (f : FlowPlan) → slice_get fs i ≡ Some f → IsSoundFlow P t env (n + i) f
+  pub taken : AreTaken P [] old.ins new.ins (by_number (edges_into_flow t env) n fs)
+  pub sent : AreSent P.colls old.outs new.outs (by_number (items_of_flow t env) n fs)
 
 -- the walk went on over these tasks, each of which is sound; what they receive, send and write was counted
 pub record WentOver (P : Plan) (old new : Tally) (ts : List Task) : Type 0 where

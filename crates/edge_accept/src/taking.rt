@@ -1,15 +1,13 @@
 //! The edges into a flow, by its dependences: each is looked up among the edges out of its sender, and among the earlier
 //! ones of its flow.
 
-ghost use Rattle.std.specs.Prelude.{◌≡◌, ◌∷◌, [], IsTrue, drop};
+ghost use Rattle.std.specs.Prelude.{◌≡◌, ◌∷◌, [], IsTrue};
 ghost use Rattle.std.specs.Bool.{OnTrue};
-ghost use Rattle.dep_iter.specs.Active as active;
-ghost use Rattle.dep_iter.specs.Active.{held_targets};
 ghost use Rattle.dep_iter.specs.Edges.{in_edges_before};
 ghost use Rattle.dep_iter.specs.Links.{fits};
 ghost use Rattle.dep_iter.specs.Tasks.{IsTask};
 ghost use Rattle.edge_accept.specs.Flows.{AreTaken};
-ghost use Rattle.edge_accept.specs.Tallies.{TakesFrom};
+ghost use Rattle.edge_accept.specs.Tallies.{Takes, TakesFrom};
 
 use crate::at::FlowAt;
 use crate::ins::Ins;
@@ -43,7 +41,7 @@ fn take_edge(at: &FlowAt, k: usize, edge: &LentEdge, ins: &mut Ins) -> bool
 fn take_target(at: &FlowAt, k: usize, target: &Target, ins: &mut Ins) -> bool
     requires of_job { IsTask at.now.plan.now at.now.task.now }
     requires fit { IsTrue (fits at.now.plan.now target.now) }
-    ensures { OnTrue result (TakesFrom at.now k ins.old ins.new (target.now ∷ [])) }
+    ensures { OnTrue result (Takes at.now k ins.old ins.new (target.now ∷ [])) }
 {
     match target {
         Target::Task(class, flow, args) => {
@@ -72,8 +70,7 @@ fn take_target(at: &FlowAt, k: usize, target: &Target, ins: &mut Ins) -> bool
 // all that hold; the edges that they give are counted.
 pub(crate) fn take_from(at: &FlowAt, k: usize, ins: &mut Ins) -> bool
     requires { IsTask at.now.plan.now at.now.task.now }
-    ensures { OnTrue result (TakesFrom at.now k ins.old ins.new
-        (held_targets (active.takes_first at.now.flow.now.kind) (drop k at.now.flow.now.ins) at.now.env.now)) }
+    ensures { OnTrue result (TakesFrom at.now k ins.old ins.new) }
 {
     let Some(d) = at.flow.ins.as_slice().get(k) else {
         return !takes_tile(at.flow.kind);

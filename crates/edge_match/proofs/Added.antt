@@ -13,7 +13,8 @@ use Rattle.plan_core.specs.declared.flow.FlowPlan.{FlowPlan}
 use Rattle.plan_core.specs.declared.plan.Plan.{Plan}
 use Rattle.dep_iter.specs.declared.source.Source.{Source}
 use Rattle.dep_iter.specs.declared.direction.Direction.TheVariants.{In, Out}
-use Rattle.dep_iter.specs.Tasks.{all_tasks}
+use Rattle.dep_iter.specs.Tasks.{all_tasks, flows_of}
+use Rattle.edge_accept.proofs.TaskFlows.{items-flows}
 use Rattle.dep_iter.specs.Consistent.{all_in, all_items, all_writes}
 use Rattle.dep_iter.specs.Edges.{data_source, in_edges}
 use Rattle.dep_iter.specs.Items.{items, write_of}
@@ -21,8 +22,8 @@ use Rattle.std.proofs.lemmas.List.Elements.{filter_map-append}
 use Rattle.list_lemmas.proofs.Joins.{filter_map-flat_map}
 use Rattle.edge_match.specs.declared.phase.Phase.TheVariants.{Connecting}
 use Rattle.edge_match.specs.Marks.{Before, Mark, add_all, flow_items, flow_marks, flow_start, item_marks, nothing, phase_marks}
-use Rattle.edge_match.specs.Marks.{task_marks, task_start}
-use Rattle.edge_match.proofs.Directed.{edges-numbered, flow_edges, flows_at, in_flow_items, items-numbered}
+use Rattle.edge_match.specs.Marks.{numbered, task_marks, task_start}
+use Rattle.edge_match.proofs.Directed.{edges-numbered, flow_edges, in_flow_items, numbered-is}
 use Rattle.edge_match.proofs.Parts.{add_all-append}
 
 abbrev places_of : List Item → List Place
@@ -85,8 +86,9 @@ flow_adds P t a =
 
 task_adds : (P : Plan) (t : Task) → Adds (task_marks Connecting P t) (in_edges P t) (items P t)
 task_adds P t =
-    let each = adds_each (flow_marks Connecting P t) (λ a. flow_edges In P t a.0 a.1) (λ a. flow_items Out P t a.0 a.1) (flow_adds P t) (flows_at P t) in
-    let flows = rw (sym (edges-numbered P t In), sym (items-numbered P t)) at each in
+    let fs = flows_of P t in
+    let each = adds_each (flow_marks Connecting P t) (λ a. flow_edges In P t a.0 a.1) (λ a. flow_items Out P t a.0 a.1) (flow_adds P t) (numbered 0 fs) in
+    let flows = rw (numbered-is (flow_edges In P t) 0 fs, numbered-is (flow_items Out P t) 0 fs, ← edges-numbered P t In, ← items-flows P t) at each in
     adds_both _ _ [] (in_edges P t) [] (items P t) (adds_nothing (task_start Connecting P t) (λ b. refl)) flows
 
 -- what the first phase counts

@@ -1,5 +1,5 @@
 -- A plan is consistent exactly where its spaces are sound and within their limits and all its marks pass.
-use Rattle.std.proofs.Common.{◌≡◌, ◌≢◌, ◌↔◌, ℕ, ◌≤◌, List, [], length, refl, sym, ◌∙◌, subst, Some, slice_get, arith}
+use Rattle.std.proofs.Common.{◌≡◌, ◌≢◌, ◌↔◌, ℕ, ◌≤◌, List, [], length, refl, sym, ◌∙◌, subst, zero-add, Some, slice_get, arith}
 use Rattle.std.specs.List.{AllByRecursion, flat_map}
 use Rattle.ptg_base.specs.Lists.{HasNoRepeats, IsIn}
 use Rattle.ptg_base.specs.Task.{Task}
@@ -16,51 +16,41 @@ use Rattle.dep_iter.specs.declared.direction.Direction.TheVariants.{In, Out}
 use Rattle.dep_iter.specs.declared.source.Source.{Source}
 use Rattle.dep_iter.specs.declared.source.Source.TheVariants as source
 use Rattle.dep_iter.specs.Consistent.{IsConsistent, IsWellConnected}
-use Rattle.dep_iter.specs.Directions.{HasOtherEnd, edges_of, far_task, near_task, opposite}
+use Rattle.dep_iter.specs.Directions.{HasOtherEnd, edges_of, far_task, near_flow, near_task, opposite}
 use Rattle.dep_iter.specs.Edges.{data_source}
 use Rattle.dep_iter.specs.Items.{item_flow, items}
 use Rattle.dep_iter.specs.Tasks.{IsTask, all_tasks, flows_of, locals_of}
 use Rattle.dep_iter.proofs.Belonging.{in_edge_is, out_edge_is}
 use Rattle.dep_iter.proofs.Listing.{listed}
-use Rattle.edge_accept.proofs.TaskFlows.{item_flow-sends, sent_flow_is, source_flow}
+use Rattle.edge_accept.proofs.TaskFlows.{from_by_number, item_flow-sends, items-flows, once_by_number, sent_flow_is, source_flow}
 use Rattle.edge_accept.proofs.TaskLists.{once-all_tasks}
 use Rattle.edge_match.specs.declared.phase.Phase.{Phase}
 use Rattle.edge_match.specs.declared.phase.Phase.TheVariants.{Connecting, Matching}
 use Rattle.edge_match.specs.Marks.{AllPass, Before, add_all, flow_items, marks, nothing, phase_marks}
 use Rattle.edge_match.proofs.Added.{phase-adds}
-use Rattle.edge_match.proofs.Directed.{at_flow, edge_among, edges-numbered, flow_at_number, flow_edges, flows_at, in_flow_items}
-use Rattle.edge_match.proofs.Directed.{items-numbered, near_is, once_numbered, pair_is, write_among}
+use Rattle.edge_match.proofs.Directed.{edge_among, edges-numbered, flow_edges, in_flow_items, near_is, part_by_number, to_by_number}
+use Rattle.edge_match.proofs.Directed.{write_among}
 use Rattle.edge_match.proofs.Holding.{AllHold, AtTask, HoldsAt, IsConnected, IsQuiet, IsWithinLimits, all_pass_and, all_quiet}
-use Rattle.edge_match.proofs.Holding.{connected, matched, matching, of_phase, once-each, quiet_items}
+use Rattle.edge_match.proofs.Holding.{connected, matched, matching, of_phase, quiet_items}
 use Rattle.edge_match.proofs.Parts.{AllPass-append, AllPass-parts}
-
-same_flow : (fs : List FlowPlan) (a b : ℕ × FlowPlan) → slice_get fs a.0 ≡ Some a.1 → slice_get fs b.0 ≡ Some b.1 → a.0 ≡ b.0 → a ≡ b
-same_flow fs a b h k e =
-    let q : slice_get fs b.0 ≡ Some a.1 = subst (λ m. slice_get fs m ≡ Some a.1) e h in
-    pair_is a.0 b.0 a.1 b.1 e cc
 
 -- the edges of a task in one direction and those of its flows: the same ones, and none twice where none of a flow is
 -- twice
 module _ (P : Plan) (t : Task) (d : Direction) where
-  abbrev edges_at : ℕ × FlowPlan → List Edge
-  edges_at a = flow_edges d P t a.0 a.1
-
   pub of_flow : (n : ℕ) (f : FlowPlan) (e : Edge) → slice_get (flows_of P t) n ≡ Some f → IsIn e (flow_edges d P t n f) → IsIn e (edges_of d P t)
-  of_flow n f e here h = rw (edges-numbered P t d) (IsIn-flat_map edges_at (flows_at P t) (n, f) e (at_flow P t n f here) h)
+  of_flow n f e here h = rw (edges-numbered P t d) (to_by_number (flow_edges d P t) 0 (flows_of P t) n f e here (rw zero-add h))
 
-  pub from_flow : (e : Edge) → IsIn e (edges_of d P t) → (a : ℕ × FlowPlan) × ((slice_get (flows_of P t) a.0 ≡ Some a.1) × IsIn e (flow_edges d P t a.0 a.1))
+  pub from_flow : (e : Edge) → IsIn e (edges_of d P t) → (n : ℕ) × (f : FlowPlan) × ((slice_get (flows_of P t) n ≡ Some f) × IsIn e (flow_edges d P t n f))
   from_flow e h =
-      let p = from_flat_map edges_at (flows_at P t) e (rw (edges-numbered P t d) at h) in
-      (p.0, (flow_at_number P t p.0 p.1, p.2))
+      let p = from_by_number (flow_edges d P t) 0 (flows_of P t) e (rw (edges-numbered P t d) at h) in
+      (p.0, p.1, (p.2.0, rw zero-add at p.2.1))
 
   pub flow_once : HasNoRepeats (edges_of d P t) → (n : ℕ) (f : FlowPlan) → slice_get (flows_of P t) n ≡ Some f → HasNoRepeats (flow_edges d P t n f)
-  flow_once h n f here = HasNoRepeats-part edges_at (flows_at P t) (rw (edges-numbered P t d) at h) (n, f) (at_flow P t n f here)
+  flow_once h n f here = rw zero-add at (part_by_number (flow_edges d P t) 0 (flows_of P t) (rw (edges-numbered P t d) at h) n f here)
 
   pub task_once : ((n : ℕ) (f : FlowPlan) → slice_get (flows_of P t) n ≡ Some f → HasNoRepeats (flow_edges d P t n f)) → HasNoRepeats (edges_of d P t)
   task_once h =
-      let same = flow_at_number P t in
-      rw (edges-numbered P t d) (once-each edges_at (flows_at P t) (once_numbered 0 (flows_of P t)) (λ a k. h a.0 a.1 (same a k)) (λ a b e k l x y.
-      same_flow (flows_of P t) a b (same a k) (same b l) (sym (near_is P t a.0 a.1 d e x) ∙ near_is P t b.0 b.1 d e y)))
+      rw (edges-numbered P t d) (once_by_number (flow_edges d P t) (near_flow d) (λ n f e k. near_is P t n f d e k) 0 (flows_of P t) (λ i f here. rw zero-add (h i f here)))
 
 -- an edge is one of the task near it
 near : (d : Direction) (P : Plan) (t : Task) (e : Edge) → IsIn e (edges_of d P t) → near_task d e ≡ t
@@ -97,7 +87,7 @@ module _ (P : Plan) where
         written_exist = λ w h. (sent (item.Write w) ((write_among (items P t) w).0 h)).1;
         from_tasks = λ e h.
             let p = from_flow P t In e h in
-            (exists In p.0.0 p.0.1 p.1.0 (item.Edge e) ((edge_among (flow_items In P t p.0.0 p.0.1) e).0 p.1.1)).1;
+            (exists In p.0 p.1 p.2.0 (item.Edge e) ((edge_among (flow_items In P t p.0 p.1) e).0 p.2.1)).1;
         to_tasks = λ e h. (sent (item.Edge e) ((edge_among (items P t) e).0 h)).1;
         absent_sends_nothing = λ n i null h k. has_tile i (sent i h) (subst (λ m. data_source P t m ≡ source.Null) (sym k) null);
       }
@@ -108,7 +98,7 @@ module _ (P : Plan) where
 
   module _ (t : Task) (c : IsWellConnected P t) (n : ℕ) (f : FlowPlan) (here : slice_get (flows_of P t) n ≡ Some f) where
     item_of : (i : Item) → IsIn i (flow_items Out P t n f) → IsIn i (items P t)
-    item_of i h = rw (items-numbered P t) (IsIn-flat_map (λ (a : ℕ × FlowPlan). flow_items Out P t a.0 a.1) (flows_at P t) (n, f) i (at_flow P t n f here) h)
+    item_of i h = rw (items-flows P t) (to_by_number (flow_items Out P t) 0 (flows_of P t) n f i here (rw zero-add h))
 
     has_tile : (i : Item) → IsIn i (flow_items Out P t n f) → data_source P t n ≢ source.Null
     has_tile i h null = c.absent_sends_nothing n i null (item_of i h) (sent_flow_is t (locals_of P t) n f i h)
@@ -142,7 +132,7 @@ module _ (P : Plan) where
         let a = (tasks Matching).0 all t of_job in
         let m = λ (n : ℕ) (f : FlowPlan) (here : slice_get (flows_of P t) n ≡ Some f).
         matching P d (data_source P t n) t n [] (flow_items d P t n f) ((a.flows n f here).directed d) tt in
-        (λ e h. let p = from_flow P t d e h in (m p.0.0 p.0.1 p.1.0).0 e p.1.1, task_once P t d (λ n f here. (m n f here).1)),
+        (λ e h. let p = from_flow P t d e h in (m p.0 p.1 p.2.0).0 e p.2.1, task_once P t d (λ n f here. (m n f here).1)),
     λ w. (tasks Matching).1 (λ t of_job. record {
       start = tt;
       flows = λ n f here. record {

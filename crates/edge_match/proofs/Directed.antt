@@ -17,10 +17,11 @@ use Rattle.plan_core.specs.declared.plan.Plan.{Plan}
 use Rattle.plan_core.specs.declared.target.Arg.{Arg}
 use Rattle.plan_core.specs.declared.target.Target.{Target}
 use Rattle.plan_core.specs.declared.target.Target.TheVariants as target
-use Rattle.list_lemmas.proofs.Members.{IsIn-append_left, from_append}
+use Rattle.list_lemmas.proofs.Members.{IsIn-append_left, IsIn-append_right, from_append}
+use Rattle.list_lemmas.proofs.Distinct.{HasNoRepeats-parts}
 use Rattle.list_lemmas.proofs.Places.{drop_from}
 use Rattle.std.proofs.lemmas.List.Elements.{filter_map-append}
-use Rattle.list_lemmas.proofs.Joins.{filter_map-flat_map, map-flat_map, map-map, flat_map_push}
+use Rattle.list_lemmas.proofs.Joins.{map-flat_map, map-map, flat_map_push}
 use Rattle.dep_iter.specs.declared.direction.Direction.{Direction}
 use Rattle.dep_iter.specs.declared.direction.Direction.TheVariants.{In, Out}
 use Rattle.dep_iter.specs.declared.source.Source.{Source}
@@ -28,13 +29,13 @@ use Rattle.dep_iter.specs.Tasks.{flows_of, locals_of, task}
 use Rattle.dep_iter.specs.Active.{flow_ins, held_target, held_targets, held_then, takes_first}
 use Rattle.dep_iter.specs.Directions.{dependences, edge_at, edges_of, first_alone, near_flow}
 use Rattle.dep_iter.specs.Edges.{data_source, edges_into, in_edges_before}
-use Rattle.dep_iter.specs.Items.{edge_of, out_edges_before, write_of, items}
+use Rattle.dep_iter.specs.Items.{edge_of, out_edges_before, write_of}
 use Rattle.dep_iter.specs.Arguments.{combinations}
 use Rattle.dep_iter.proofs.Belonging.{held-none}
 use Rattle.dep_iter.proofs.Distinctness.{distinct_in, distinct_out}
-use Rattle.edge_accept.specs.Flows.{edges_into_flow, ins_of_flows, items_of_flows}
+use Rattle.edge_accept.specs.Flows.{by_number, edges_into_flow}
 use Rattle.edge_accept.proofs.TakenEdges.{held-next_none, held-next_some}
-use Rattle.edge_accept.proofs.TaskFlows.{in_edges-flows, into_flow_is, items-by_flow, sent_flow_is}
+use Rattle.edge_accept.proofs.TaskFlows.{each_more, in_edges-flows, into_flow_is, items-flows, sent_flow_is}
 use Rattle.edge_match.specs.declared.counted.Counted.{Counted}
 use Rattle.edge_match.specs.declared.fault.MatchFault.{MatchFault}
 use Rattle.edge_match.specs.declared.phase.Phase.{Phase}
@@ -228,62 +229,41 @@ module _ (at : FlowAt) (class flow : ℕ) where
   differ args In = distinct_in at.task.now at.env.now at.number (target.Task class flow args)
   differ args Out = rw (named_items args Out, edges_only _) at (distinct_out at.task.now at.env.now at.number (target.Task class flow args))
 
--- flows with their numbers
-abbrev pub flows_at : Plan → Task → List (ℕ × FlowPlan)
-flows_at P t = numbered 0 (flows_of P t)
+-- what each flow gives, which is numbered
+pub numbered-is : {X : Type 0} (g : ℕ → FlowPlan → List X) (n : ℕ) (fs : List FlowPlan)
+    → flat_map (λ (a : ℕ × FlowPlan). g a.0 a.1) (numbered n fs) ≡ by_number g n fs
+numbered-is g n [] = refl
+numbered-is g n (f ∷ fs) = ap (λ l. g n f ++ l) (numbered-is g (suc n) fs)
 
-pub pair_is : (m n : ℕ) (f g : FlowPlan) → m ≡ n → f ≡ g → (let x : ℕ × FlowPlan = (m, f) in x) ≡ (n, g)
-pair_is m n f g h k = cc
+by_number-same : {X : Type 0} (g h : ℕ → FlowPlan → List X) → ((n : ℕ) (f : FlowPlan) → g n f ≡ h n f) → (n : ℕ) (fs : List FlowPlan)
+    → by_number g n fs ≡ by_number h n fs
+by_number-same g h e n [] = refl
+by_number-same g h e n (f ∷ fs) = ap (λ l. l ++ by_number g (suc n) fs) (e n f) ∙ ap (λ l. h n f ++ l) (by_number-same g h e (suc n) fs)
 
-is_numbered : (n : ℕ) (fs : List FlowPlan) (i : ℕ) (f : FlowPlan) → slice_get fs i ≡ Some f → IsIn (n + i, f) (numbered n fs)
-is_numbered n [] i f h = cc
-is_numbered n (g ∷ fs) zero f h = let e : f ≡ g = cc in inl (pair_is (n + 0) n f g (add-zero n) e)
-is_numbered n (g ∷ fs) (suc i) f h =
-    let e : n + suc i ≡ suc n + i = omega arith in
-    inr (subst (λ m. IsIn (m, f) (numbered (suc n) fs)) (sym e) (is_numbered (suc n) fs i f h))
+filter_map-by_number : {X Y : Type 0} (h : X → Option Y) (g : ℕ → FlowPlan → List X) (n : ℕ) (fs : List FlowPlan)
+    → filter_map h (by_number g n fs) ≡ by_number (λ m f. filter_map h (g m f)) n fs
+filter_map-by_number h g n [] = refl
+filter_map-by_number h g n (f ∷ fs) =
+    filter_map-append h (g n f) (by_number g (suc n) fs) ∙ ap (λ l. filter_map h (g n f) ++ l) (filter_map-by_number h g (suc n) fs)
 
-has_number : (n : ℕ) (fs : List FlowPlan) (a : ℕ × FlowPlan) → IsIn a (numbered n fs)
-    → (i : ℕ) × (a.0 ≡ n + i) × (slice_get fs i ≡ Some a.1)
-has_number n [] a h = absurd h
-has_number n (g ∷ fs) a h = elim h [
-  | inl e ↦ (0, ap (λ (x : ℕ × FlowPlan). x.0) e ∙ sym (add-zero n), ap (λ (x : ℕ × FlowPlan). Some x.1) (sym e))
-  | inr k ↦ let p = has_number (suc n) fs a k in (suc p.0, (let q = p.1 in omega arith), p.2)
-]
+module _ {X : Type 0} (g : ℕ → FlowPlan → List X) where
+  pub to_by_number : (n : ℕ) (fs : List FlowPlan) (i : ℕ) (f : FlowPlan) (x : X) → slice_get fs i ≡ Some f → IsIn x (g (n + i) f)
+      → IsIn x (by_number g n fs)
+  to_by_number n [] i f x here h = cc
+  to_by_number n (e ∷ fs) zero f x here h =
+      let same : f ≡ e = cc in IsIn-append_left x (g n e) (by_number g (suc n) fs) (rw (add-zero, same) at h)
+  to_by_number n (e ∷ fs) (suc i) f x here h =
+      let q : n + suc i ≡ suc n + i = omega arith in
+      IsIn-append_right x (g n e) (by_number g (suc n) fs) (to_by_number (suc n) fs i f x here (subst (λ m. IsIn x (g m f)) q h))
 
-pub once_numbered : (n : ℕ) (fs : List FlowPlan) → HasNoRepeats (numbered n fs)
-once_numbered n [] = tt
-once_numbered n (f ∷ fs) =
-    (λ h. let p = has_number (suc n) fs (n, f) h in let q = p.1 in omega arith, once_numbered (suc n) fs)
+  pub part_by_number : (n : ℕ) (fs : List FlowPlan) → HasNoRepeats (by_number g n fs) → (i : ℕ) (f : FlowPlan) → slice_get fs i ≡ Some f
+      → HasNoRepeats (g (n + i) f)
+  part_by_number n [] once = λ i f here. cc
+  part_by_number n (e ∷ fs) once =
+      let p = HasNoRepeats-parts (g n e) (by_number g (suc n) fs) once in
+      each_more (λ m f. HasNoRepeats (g m f)) n e fs p.0 (part_by_number (suc n) fs p.1)
 
 module _ (P : Plan) (t : Task) where
-  pub at_flow : (n : ℕ) (f : FlowPlan) → slice_get (flows_of P t) n ≡ Some f → IsIn (n, f) (flows_at P t)
-  at_flow n f h =
-      let e : 0 + n ≡ n = omega arith in
-      subst (λ m. IsIn (m, f) (flows_at P t)) e (is_numbered 0 (flows_of P t) n f h)
-
-  pub flow_at_number : (a : ℕ × FlowPlan) → IsIn a (flows_at P t) → slice_get (flows_of P t) a.0 ≡ Some a.1
-  flow_at_number a h =
-      let p = has_number 0 (flows_of P t) a h in
-      let e : p.0 ≡ a.0 = (let q = p.1 in omega arith) in
-      subst (λ m. slice_get (flows_of P t) m ≡ Some a.1) e p.2
-
-  ins_from : (n : ℕ) (fs : List FlowPlan)
-      → ins_of_flows t (locals_of P t) n fs ≡ flat_map (λ (a : ℕ × FlowPlan). flow_edges In P t a.0 a.1) (numbered n fs)
-  ins_from n [] = refl
-  ins_from n (f ∷ fs) =
-      ap (λ l. l ++ ins_of_flows t (locals_of P t) (suc n) fs) (sym (in_flow_edges P t n f))
-      ∙ ap (λ l. flow_edges In P t n f ++ l) (ins_from (suc n) fs)
-
-  items_from : (n : ℕ) (fs : List FlowPlan)
-      → items_of_flows t (locals_of P t) n fs ≡ flat_map (λ (a : ℕ × FlowPlan). flow_items Out P t a.0 a.1) (numbered n fs)
-  items_from n [] = refl
-  items_from n (f ∷ fs) = ap (λ l. flow_items Out P t n f ++ l) (items_from (suc n) fs)
-
-  pub items-numbered : items P t ≡ flat_map (λ (a : ℕ × FlowPlan). flow_items Out P t a.0 a.1) (flows_at P t)
-  items-numbered = items-by_flow P t ∙ items_from 0 (flows_of P t)
-
-  pub edges-numbered : (d : Direction) → edges_of d P t ≡ flat_map (λ (a : ℕ × FlowPlan). flow_edges d P t a.0 a.1) (flows_at P t)
-  edges-numbered In = in_edges-flows P t ∙ ins_from 0 (flows_of P t)
-  edges-numbered Out =
-      ap (filter_map edge_of) items-numbered
-      ∙ filter_map-flat_map edge_of (λ (a : ℕ × FlowPlan). flow_items Out P t a.0 a.1) (flows_at P t)
+  pub edges-numbered : (d : Direction) → edges_of d P t ≡ by_number (flow_edges d P t) 0 (flows_of P t)
+  edges-numbered In = in_edges-flows P t ∙ by_number-same (edges_into_flow t (locals_of P t)) (flow_edges In P t) (λ n f. sym (in_flow_edges P t n f)) 0 (flows_of P t)
+  edges-numbered Out = ap (filter_map edge_of) (items-flows P t) ∙ filter_map-by_number edge_of (flow_items Out P t) 0 (flows_of P t)

@@ -1,7 +1,7 @@
 -- What holds of all marks, by tasks, flows and directions; and that all pass where each fact holds and the limits are
 -- kept.
-use Rattle.std.proofs.Common.{◌≡◌, ◌↔◌, ◌≢◌, ℕ, ◌≤◌, List, [], ◌∷◌, ◌++◌, length, length-append, refl, ap, sym, ◌∙◌, subst}
-use Rattle.std.proofs.Common.{append_assoc, Some, slice_get, inl, inr, arith}
+use Rattle.std.proofs.Common.{◌≡◌, ◌↔◌, ◌≢◌, ℕ, suc, ◌+◌, ◌≤◌, List, [], ◌∷◌, ◌++◌, length, length-append, refl, ap, sym, ◌∙◌, subst}
+use Rattle.std.proofs.Common.{append_assoc, add-zero, zero-add, Some, slice_get, inl, inr, arith}
 use Rattle.std.proofs.lemmas.List.{append-nil}
 use Rattle.std.specs.List.{AllByRecursion, flat_map, filter_map}
 use Rattle.ptg_base.specs.Lists.{HasNoRepeats, IsIn}
@@ -12,8 +12,7 @@ use Rattle.ptg_base.specs.declared.edge.Item.TheVariants as item
 use Rattle.plan_core.specs.Place.{HasPlace}
 use Rattle.plan_core.specs.declared.flow.FlowPlan.{FlowPlan}
 use Rattle.plan_core.specs.declared.plan.Plan.{Plan}
-use Rattle.list_lemmas.proofs.Members.{IsIn-append_right, from_flat_map}
-use Rattle.list_lemmas.proofs.Distinct.{HasNoRepeats-append, HasNoRepeats-push, HasNoRepeats-parts}
+use Rattle.list_lemmas.proofs.Distinct.{HasNoRepeats-apart, HasNoRepeats-push, HasNoRepeats-parts}
 use Rattle.dep_iter.specs.declared.direction.Direction.{Direction}
 use Rattle.dep_iter.specs.declared.direction.Direction.TheVariants.{In, Out}
 use Rattle.dep_iter.specs.declared.source.Source.{Source}
@@ -26,27 +25,14 @@ use Rattle.edge_match.specs.declared.phase.Phase.{Phase}
 use Rattle.edge_match.specs.declared.phase.Phase.TheVariants.{Connecting, Matching}
 use Rattle.edge_match.specs.Marks.{AllPass, Before, Check, CountsIn, CountsItem, Holds, Is, IsNewPlace, Mark, Passes, add, add_all}
 use Rattle.edge_match.specs.Marks.{edge_marks, flow_marks, flow_start, item_marks, phase_marks, task_marks, task_start}
-use Rattle.edge_match.specs.Marks.{way_marks, write_marks}
-use Rattle.edge_match.proofs.Directed.{at_flow, flow_at_number, flows_at}
+use Rattle.edge_match.specs.Marks.{numbered, way_marks, write_marks}
+use Rattle.edge_accept.proofs.TaskFlows.{each_more}
 
 -- ---- lists
 
 -- an element is not among those before it
-pub not_before : {A : Type 0} (done : List A) (x : A) (rest : List A) → HasNoRepeats (done ++ x ∷ rest) → IsIn x done → ⊥
-not_before [] x rest w h = h
-not_before (y ∷ done) x rest w h = elim h [
-  | inl e ↦ w.0 (subst (λ z. IsIn z (done ++ x ∷ rest)) e (IsIn-append_right x done (x ∷ rest) (inl refl)))
-  | inr k ↦ not_before done x rest w.1 k
-]
-
-pub once-each : {A B : Type 0} (f : A → List B) (vs : List A) → HasNoRepeats vs → ((v : A) → IsIn v vs → HasNoRepeats (f v))
-    → ((v w : A) (x : B) → IsIn v vs → IsIn w vs → IsIn x (f v) → IsIn x (f w) → v ≡ w) → HasNoRepeats (flat_map f vs)
-once-each f [] w each apart = tt
-once-each f (v ∷ vs) w each apart =
-    let later = once-each f vs w.1 (λ z h. each z (inr h)) (λ a b x h k. apart a b x (inr h) (inr k)) in
-    HasNoRepeats-append (f v) (flat_map f vs) (each v (inl refl)) later (λ x h k.
-    let p = from_flat_map f vs x k in
-    w.0 (subst (λ z. IsIn z vs) (sym (apart v p.0 x (inl refl) (inr p.1) h p.2)) p.1))
+not_before : {A : Type 0} (done : List A) (x : A) (rest : List A) → HasNoRepeats (done ++ x ∷ rest) → IsIn x done → ⊥
+not_before done x rest w h = HasNoRepeats-apart done (x ∷ rest) w x h (inl refl)
 
 -- ---- a property of marks
 
@@ -96,17 +82,27 @@ module _ (Q : Mark → Type 0) where
       pub start : All (task_start phase P t)
       pub flows : (n : ℕ) (f : FlowPlan) → slice_get (flows_of P t) n ≡ Some f → AtFlow t n f
 
+    each_flow : (t : Task) (n : ℕ) (fs : List FlowPlan) → All (flat_map (flow_marks phase P t) (numbered n fs))
+        ↔ ((i : ℕ) (f : FlowPlan) → slice_get fs i ≡ Some f → AtFlow t (n + i) f)
+    each_flow t n [] = (λ h i f here. cc, λ h. tt)
+    each_flow t n (e ∷ fs) =
+        let one = at_each_flow t (n, e) in
+        let others = each_flow t (suc n) fs in
+        let later = flat_map (flow_marks phase P t) (numbered (suc n) fs) in (
+          λ h. let p = parts (flow_marks phase P t (n, e)) later h in each_more (AtFlow t) n e fs (one.0 p.0) (others.0 p.1),
+          λ h. join (flow_marks phase P t (n, e)) later (one.1 (rw add-zero at (h 0 e refl)))
+              (others.1 (λ i f here. let q : n + suc i ≡ suc n + i = omega arith in subst (λ m. AtFlow t m f) q (h (suc i) f here))),
+        )
+
     pub of_phase : All (phase_marks phase P) ↔ ((t : Task) → IsTask P t → AtTask t)
     of_phase =
-        let flows = λ (t : Task). flat_map (flow_marks phase P t) (flows_at P t) in (
+        let flows = λ (t : Task). flat_map (flow_marks phase P t) (numbered 0 (flows_of P t)) in (
           λ h t of_job.
               let p = parts (task_start phase P t) (flows t) ((each (task_marks phase P) (all_tasks P)).0 h t ((listed P t).0 of_job)) in
-              let q = (each (flow_marks phase P t) (flows_at P t)).0 p.1 in
-              record { start = p.0; flows = λ n f here. (at_each_flow t (n, f)).0 (q (n, f) (at_flow P t n f here)) },
+              record { start = p.0; flows = λ n f here. subst (λ m. AtFlow t m f) (zero-add n) ((each_flow t 0 (flows_of P t)).0 p.1 n f here) },
           λ w. (each (task_marks phase P) (all_tasks P)).1 (λ t h.
               let a = w t ((listed P t).1 h) in
-              let each_flow = λ (x : ℕ × FlowPlan) (k : IsIn x (flows_at P t)). (at_each_flow t x).1 (a.flows x.0 x.1 (flow_at_number P t x k)) in
-              join (task_start phase P t) (flows t) a.start ((each (flow_marks phase P t) (flows_at P t)).1 each_flow)),
+              join (task_start phase P t) (flows t) a.start ((each_flow t 0 (flows_of P t)).1 (λ n f here. rw zero-add (a.flows n f here)))),
         )
 
 -- ---- checks that pass

@@ -7,9 +7,9 @@ use Rattle.std.proofs.lemmas.Result.{err_from_is_err_and}
 use Rattle.plan_core.specs.declared.plan.Plan.{Plan}
 use Rattle.edge_match.specs.declared.counted.Counted.{Counted}
 use Rattle.edge_match.specs.declared.fault.MatchFault.{MatchFault}
-use Rattle.edge_match.specs.Marks.{AllPass, Before, Mark, add, add_all}
+use Rattle.edge_match.specs.Marks.{AllPass, Before, Fact, Holds, Is, Mark, add, add_all}
 use Rattle.edge_match.specs.FirstFault.{FailsWith, IsFirstFailure}
-use Rattle.edge_match.specs.Counted.{Checked}
+use Rattle.edge_match.specs.Counted.{Checked, Decides}
 
 pub add_all-append : (b : Before) (xs ys : List Mark) → add_all b (xs ++ ys) ≡ add_all (add_all b xs) ys
 add_all-append b [] ys = refl
@@ -50,6 +50,10 @@ module _ (P : Plan) where
   -- one mark that does not pass, with its fault
   pub fails_at_once : (b : Before) (m : Mark) (f : MatchFault) → FailsWith P b m f → IsFirstFailure P b (m ∷ []) f
   fails_at_once b m f h = record { passed = []; failed = m; rest = []; split = refl; all_pass = tt; fails = h }
+
+-- a test of a fact
+pub decides : {P : Plan} {s : Counted} {holds : Bool} (f : Fact) → IsTrue holds ↔ Holds P f → Decides P s s holds (Is f)
+decides f h = record { passes = λ b k. h; counted = λ t b k. k }
 
 pub unchecked : {P : Plan} {s : Counted} {x : Unit {0}} → Checked P s s (Ok x) []
 unchecked = record { after = λ b k. (tt, k) }

@@ -25,11 +25,8 @@ fn has_input(kind: FlowKind, source: &Source) -> bool
     ensures { IsTrue result ↔ (IsTrue (consistent.takes_tile kind) → source.now ≢ source_variant.Nothing) }
 {
     match source {
-        Source::Task(_) => true,
-        Source::Place(_) => true,
-        Source::New => true,
-        Source::Null => true,
         Source::Nothing => !takes_tile(kind),
+        _ => true,
     }
 }
 
@@ -37,13 +34,7 @@ fn has_input(kind: FlowKind, source: &Source) -> bool
 fn has_tile(source: &Source) -> bool
     ensures { IsTrue result ↔ (source.now ≢ source_variant.Null) }
 {
-    match source {
-        Source::Task(_) => true,
-        Source::Place(_) => true,
-        Source::New => true,
-        Source::Null => false,
-        Source::Nothing => true,
-    }
+    !matches!(source, Source::Null)
 }
 
 // Whether the place of the source exists, if it is one.
@@ -51,11 +42,8 @@ fn has_place(plan: &Plan, source: &Source) -> bool
     ensures { IsTrue result ↔ ((p : PlaceValue) → source.now ≡ source_variant.Place p → HasPlace plan.now.colls p) }
 {
     match source {
-        Source::Task(_) => true,
         Source::Place(p) => plan.has_place(p),
-        Source::New => true,
-        Source::Null => true,
-        Source::Nothing => true,
+        _ => true,
     }
 }
 

@@ -27,11 +27,6 @@ pub fn a_plan_that_passes_is_consistent()
         → prefix_total P.spaces ≤ most_prefixes → AllPass P nothing (marks P) → IsConsistent P }
 {}
 
-/// A law: a plan has one first fault at most.
-pub fn a_plan_has_one_first_fault()
-    ensures { (P : Plan) (f g : MatchFault) → IsFirstFault P f → IsFirstFault P g → f ≡ g }
-{}
-
 /// A law: a consistent plan has no fault.
 pub fn a_consistent_plan_has_no_fault()
     ensures { (P : Plan) (f : MatchFault) → IsConsistent P → IsFirstFault P f → ⊥ }

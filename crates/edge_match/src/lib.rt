@@ -17,7 +17,7 @@ mod tasks;
 
 pub use fault::{MatchCode, MatchFault, MatchRefusal};
 pub use laws::{
-    a_consistent_plan_has_no_fault, a_plan_has_one_first_fault, a_plan_that_passes_is_consistent,
+    a_consistent_plan_has_no_fault, a_plan_that_passes_is_consistent,
     all_edges_and_items_are_counted,
 };
 pub use matching::match_edges;

@@ -1,11 +1,11 @@
 //! Faults of tasks.
 
-ghost use Rattle.std.specs.Prelude.{◌≡◌, ◌↔◌, ◌+◌, ◌≤◌, ◌++◌, ◌∷◌, [], IfOk, IsTrue, length};
+ghost use Rattle.std.specs.Prelude.{◌≡◌, ◌+◌, ◌≤◌, ◌++◌, ◌∷◌, [], IfOk, IsTrue, length};
 ghost use Rattle.plan_core.specs.declared.plan.Plan.{Plan as PlanValue};
 ghost use Rattle.edge_match.specs.Counted.{Checked, Decides};
 ghost use Rattle.edge_match.specs.Faults.{fault_at};
-ghost use Rattle.edge_match.specs.FirstFault.{code_of, fact_code};
-ghost use Rattle.edge_match.specs.Marks.{Check, Fact, Holds, Is, mark};
+ghost use Rattle.edge_match.specs.FirstFault.{code_of};
+ghost use Rattle.edge_match.specs.Marks.{Check, mark};
 ghost use Rattle.edge_match.specs.declared.counted.Counted.{Counted as CountedValue};
 
 use crate::fault::{MatchCode, MatchFault};
@@ -48,8 +48,6 @@ pub(crate) fn require(
     ensures holds { IfOk result (λ _. IsTrue holds) }
     ensures checked { (P : PlanValue) (c : Check) (s u : CountedValue) → Decides P s u holds c → code_of c ≡ code
         → Checked P s u result (mark t.now flow c ∷ []) }
-    ensures fact { (P : PlanValue) (f : Fact) (s : CountedValue) → IsTrue holds ↔ Holds P f → fact_code f ≡ code
-        → Checked P s s result (mark t.now flow (Is f) ∷ []) }
 {
     if holds {
         Ok(())

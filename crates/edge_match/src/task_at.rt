@@ -6,8 +6,8 @@ ghost use Rattle.dep_iter.specs.Edges.{data_source};
 ghost use Rattle.dep_iter.specs.Links.{dependences_fit, flows_fit};
 ghost use Rattle.dep_iter.specs.Tasks.{flows_of, locals_of};
 ghost use Rattle.edge_match.specs.Counted.{Checked, Decides};
-ghost use Rattle.edge_match.specs.FirstFault.{code_of, fact_code};
-ghost use Rattle.edge_match.specs.Marks.{Check, Fact, Holds, Is, mark};
+ghost use Rattle.edge_match.specs.FirstFault.{code_of};
+ghost use Rattle.edge_match.specs.Marks.{Check, mark};
 ghost use Rattle.edge_match.specs.declared.counted.Counted.{Counted as CountedValue};
 
 use crate::fault::{MatchCode, MatchFault};
@@ -53,8 +53,6 @@ impl<'a> FlowAt<'a> {
         ensures holds { IfOk result (λ _. IsTrue holds) }
         ensures checked { (c : Check) (s u : CountedValue) → Decides self.now.plan.now s u holds c → code_of c ≡ code
             → Checked self.now.plan.now s u result (mark self.now.task.now (Some self.now.number) c ∷ []) }
-        ensures fact { (f : Fact) (s : CountedValue) → IsTrue holds ↔ Holds self.now.plan.now f → fact_code f ≡ code
-            → Checked self.now.plan.now s s result (mark self.now.task.now (Some self.now.number) (Is f) ∷ []) }
     {
         require(holds, code, self.task, Some(self.number))
     }

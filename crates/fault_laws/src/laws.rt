@@ -17,6 +17,11 @@ pub fn a_plan_is_consistent_or_has_a_first_fault()
     ensures { (P : Plan) → IsConsistent P ⊎ ((f : MatchFault) × IsFirstFault P f) }
 {}
 
+/// A law: a plan has one first fault at most.
+pub fn a_plan_has_one_first_fault()
+    ensures { (P : Plan) (f g : MatchFault) → IsFirstFault P f → IsFirstFault P g → f ≡ g }
+{}
+
 /// A law: the class of a first fault exists, and so does its flow, if it has one. After the walk through the spaces its
 /// numbers name a task of the job; where a definition has no value they are fewer than the definitions of the class.
 pub fn a_first_fault_names_what_exists()
