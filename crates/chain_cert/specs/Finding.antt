@@ -40,7 +40,7 @@ greatest_among table (t ∷ ts) = max (level_in table t) (greatest_among table t
 pub record IsNextTask (P : Plan) (ws : List ℕ) (before : List Task) (table : List (Task × ℕ)) (t : Task) : Type 0 where
   pub levels : HasLevels P ws before table
   pub follows : MayFollow P before t
-  pub few : length before < most_tasks
+  pub at_most : length before < most_tasks
 
 -- a table with the level of each task of the job
 abbrev pub HasAllLevels : Plan → List ℕ → List (Task × ℕ) → Type 0

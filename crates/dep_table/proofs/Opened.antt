@@ -116,7 +116,7 @@ pub opened : (j : Job) (words : List ℕ) (ys : List Content) → IsConsistent j
 opened j words ys consistent least few w shards spares = record {
   consistent = consistent;
   some_shards = least;
-  few_shards = few;
+  shards_at_most = few;
   shard_count = shards.count;
   long = w.long;
   zero = w.zero;

@@ -132,7 +132,7 @@ impl DepTable {
     ) -> Result<(DepTable, Pass), OutOfMemory>
         requires fit { DataFit matched.colls matched.elems given }
         requires some_shards { 0 < shards }
-        requires few_shards { shards ≤ 256 }
+        requires shards_at_most { shards ≤ 256 }
         ensures pass { IfOk result (λ r. IsPassOf (id_of r.0) r.1 × (r.1.me.0 ≡ first_pass)) }
         ensures job { IfOk result (λ r.
             job_of r.0 ≡ record { matched = matched; given = given; shards = shards; preloaded = true }) }

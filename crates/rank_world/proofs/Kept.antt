@@ -44,7 +44,7 @@ new_keeps P G n ys w laid mail con fit some few ranks is bench none zero_sent = 
   consistent = con;
   fit = fit;
   some_ranks = omega (arith, ranks.count, some);
-  few_ranks = omega (arith, ranks.count, few);
+  ranks_at_most = omega (arith, ranks.count, few);
   sound = opening_sound_world P G (length ys);
   shares = opening_shares P G n ys ranks;
   bench = bench;
@@ -62,7 +62,7 @@ module _ (P : Plan) (G : Data) (w : WorldState) (old : List Content) (laid : Lai
     consistent = k.consistent;
     fit = k.fit;
     some_ranks = omega (arith, s.count, k.some_ranks);
-    few_ranks = omega (arith, s.count, k.few_ranks);
+    ranks_at_most = omega (arith, s.count, k.ranks_at_most);
     sound = subst (λ r. IsSoundWorld P G r w) (sym s.count) k.sound;
     shares = λ j z at. subst (λ r. IsShardOf P G (rank_of P r) j (at_rest w.machine) z) (sym s.count) (share j z at);
     bench = k.bench;
@@ -110,7 +110,7 @@ module _ (P : Plan) (G : Data) (w : WorldState) (old : List Content) (laid : Lai
       consistent = k.consistent;
       fit = k.fit;
       some_ranks = omega (arith, t.count, k.some_ranks);
-      few_ranks = omega (arith, t.count, k.few_ranks);
+      ranks_at_most = omega (arith, t.count, k.ranks_at_most);
       sound = subst (λ r. IsSoundWorld P G r (after_delivery w n)) (sym t.count) (event_sound P G k.consistent (length old) w k.sound (Deliver n) few);
       shares = λ j z at. subst (λ r. IsShardOf P G (rank_of P r) j (at_rest (after_delivery w n).machine) z) (sym t.count) (share j z at);
       bench = k.bench;

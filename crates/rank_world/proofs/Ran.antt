@@ -38,7 +38,7 @@ module _ (v : Visit) (h : IsVisit v) where
         consistent = k.consistent;
         fit = k.fit;
         some_ranks = omega (arith, count, k.some_ranks);
-        few_ranks = omega (arith, count, k.few_ranks);
+        ranks_at_most = omega (arith, count, k.ranks_at_most);
         sound = subst (λ r. IsSoundWorld (plan_of v) (data_of v) r (after v)) (same ∙ sym count) (event_sound (plan_of v) (data_of v) h.consistent v.ranks (before v) h.sound (Run v.task.now) h.may);
         shares = λ j z at. subst (λ r. IsShardOf (plan_of v) (data_of v) (rank_of (plan_of v) r) j (at_rest (after v).machine) z) (same ∙ sym count) (share j z at);
         bench = laid_is;
@@ -59,7 +59,7 @@ module _ (v : Visit) (h : IsVisit v) where
         consistent = k.consistent;
         fit = k.fit;
         some_ranks = omega (arith, count, k.some_ranks);
-        few_ranks = omega (arith, count, k.few_ranks);
+        ranks_at_most = omega (arith, count, k.ranks_at_most);
         sound = subst (λ r. IsSoundWorld (plan_of v) (data_of v) r (before v)) (same ∙ sym count) h.sound;
         shares = λ j z at. subst (λ r. IsShardOf (plan_of v) (data_of v) (rank_of (plan_of v) r) j (at_rest (before v).machine) z) (sym count) (share j z at);
         bench = laid_is;

@@ -45,7 +45,7 @@ pub record Keeps (P : Plan) (G : Data) (w : WorldState) (ys : List Content) (lai
   pub consistent : IsConsistent P
   pub fit : DataFit P.colls P.elems G
   pub some_ranks : 0 < length ys
-  pub few_ranks : length ys ≤ most_ranks
+  pub ranks_at_most : length ys ≤ most_ranks
   pub sound : IsSoundWorld P G (length ys) w
   pub shares : HoldShares P G w ys
   pub bench : IsBenchOf P laid

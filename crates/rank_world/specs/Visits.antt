@@ -45,7 +45,7 @@ pub record IsVisit (v : Visit) : Type 0 where
   pub fit : DataFit (plan_of v).colls (plan_of v).elems (data_of v)
   pub well : IsWellMade (data_of v)
   pub some_ranks : 0 < v.ranks
-  pub few_ranks : v.ranks ≤ most_ranks
+  pub ranks_at_most : v.ranks ≤ most_ranks
   pub sound : IsSoundWorld (plan_of v) (data_of v) v.ranks (before v)
   pub may : MayClaim (plan_of v) (before v).machine v.task.now
   pub locals_are : v.locals.now ≡ locals_of (plan_of v) v.task.now

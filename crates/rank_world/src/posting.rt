@@ -36,7 +36,7 @@ fn filled(message: Message, tile: Option<&Tile>) -> Message
 // Posts a message with the tile that its task has left on the bench. There is room for it.
 fn post(mail: &mut Mail, bench: &Bench, message: Message)
     requires room { 0 < spare mail.old.under_way }
-    requires few { mail.old.sent < most_edges }
+    requires at_most { mail.old.sent < most_edges }
     requires shape { option_map length message.tile
         ≡ option_map length (output_tile (Some (Ok bench.now.tiles)) message.edge.out_flow) }
     ensures table { (q : ℕ)

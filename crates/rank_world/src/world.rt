@@ -147,7 +147,7 @@ impl<'m> World<'m> {
     pub fn ranks(&self) -> u32
         ensures number { result ≡ self.now.ranks }
         ensures some { 0 < result }
-        ensures few { result ≤ 64 }
+        ensures at_most { result ≤ 64 }
     {
         self.ranks.len() as u32
     }

@@ -20,9 +20,9 @@ run_of P G s =
 -- the settings are within their limits
 pub record AreSettings (s : Settings) : Type 0 where
   pub some_workers : 1 ≤ s.workers
-  pub few_workers : s.workers ≤ most_workers
+  pub workers_at_most : s.workers ≤ most_workers
   pub some_shards : 1 ≤ s.shards
-  pub few_shards : s.shards ≤ most_shards
+  pub shards_at_most : s.shards ≤ most_shards
 
 -- a preload is asked for, and takes so many bytes, which are too many
 pub record IsTooLarge (P : Plan) (s : Settings) (bytes : ℕ) : Type 0 where

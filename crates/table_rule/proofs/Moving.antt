@@ -63,7 +63,7 @@ module _ (j : Job) (s : Table) (id : ℕ) (v w : PassRecord) (k new : ℕ) (slot
       record {
         consistent = r.consistent;
         some_shards = r.some_shards;
-        few_shards = r.few_shards;
+        shards_at_most = r.shards_at_most;
         slots = length-set s.homes k slot ∙ r.slots;
         words = length-set s.words (turn_word k) new ∙ r.words;
         records = g.records;
@@ -146,7 +146,7 @@ beside j s words vs R r keeps b =
     record {
       consistent = r.consistent;
       some_shards = r.some_shards;
-      few_shards = r.few_shards;
+      shards_at_most = r.shards_at_most;
       slots = r.slots;
       words = b.long ∙ r.words;
       records = b.records;

@@ -43,7 +43,7 @@ opens j words shards o =
       record {
         consistent = o.consistent;
         some_shards = o.some_shards;
-        few_shards = o.few_shards;
+        shards_at_most = o.shards_at_most;
         slots = long;
         words = o.long;
         records = record { claims = λ f. refl; sends = λ f. refl; running = λ f. refl };

@@ -64,7 +64,7 @@ module _ (j : Job) (s : Table) (R T : Moment) (r : Parts j s R) (same : IsReorde
       record {
         consistent = r.consistent;
         some_shards = r.some_shards;
-        few_shards = r.few_shards;
+        shards_at_most = r.shards_at_most;
         slots = r.slots;
         words = r.words;
         records = record {

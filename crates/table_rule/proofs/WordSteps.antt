@@ -83,7 +83,7 @@ pub stamp_at_most : (j : Job) (s : Table) (R : Moment) → Parts j s R → get_o
 stamp_at_most j s R r = stamps_few j.matched j.given R (get_or s.words (live_word j.shards) 0) (get_or s.words (stamp_word j.shards) 0) s.words s.homes s.views r.sound r.records r.live
 
 live_small : (j : Job) (s : Table) (R : Moment) → Parts j s R → get_or s.words (live_word j.shards) 0 ≤ 1000256
-live_small j s R r = omega (arith, live_at_most j s R r, r.consistent.tasks_at_most, r.few_shards)
+live_small j s R r = omega (arith, live_at_most j s R r, r.consistent.tasks_at_most, r.shards_at_most)
 
 -- a step on the live word: the credit of the pass changes as the word does
 module _ (j : Job) (s : Table) (id : ℕ) (v w : PassRecord) (new : ℕ) (R : Moment) (r : Parts j s R) (me : get_elem? s.views id ≡ some v) where

@@ -17,7 +17,7 @@ use Rattle.table_rule.specs.Words.{live_word, word_count}
 pub record IsOpening (j : Job) (words : List ℕ) (shards : List Content) : Type 0 where
   pub consistent : IsConsistent j.matched
   pub some_shards : 0 < j.shards
-  pub few_shards : j.shards ≤ most_shards
+  pub shards_at_most : j.shards ≤ most_shards
   pub shard_count : length shards ≡ j.shards
   pub long : length words ≡ word_count j.shards
   pub zero : (i : ℕ) → i ≢ live_word j.shards → slice_index words i ≡ 0

@@ -42,7 +42,7 @@ pub record Parts (j : Job) (s : Table) (R : Moment) : Type 0 where
   -- a consistent job, from 1 to 256 shards, and the words for them
   pub consistent : IsConsistent j.matched
   pub some_shards : 0 < j.shards
-  pub few_shards : j.shards ≤ most_shards
+  pub shards_at_most : j.shards ≤ most_shards
   pub slots : length s.homes ≡ j.shards
   pub words : length s.words ≡ word_count j.shards
   -- the moment is what all passes did together, and it is sound

@@ -13,7 +13,7 @@ overflow_add-level c =
     let next = c.requires.next.1 in
     let before : c.greatest_before.result ≤ 1000000 * length c.requires.next.0 =
     subst (λ (n : ℕ). n ≤ 1000000 * length c.requires.next.0) (sym c.greatest_before.ensures) (among_bounded table (1000000 * length c.requires.next.0) (bounded c.args.m.now ws c.requires.next.0 table next.levels) (sources c.plan.result.now c.args.t.now)) in
-    omega (arith, c.weight_of.ensures, light ws c.args.t.now c.requires.weights, before, next.few)
+    omega (arith, c.weight_of.ensures, light ws c.args.t.now c.requires.weights, before, next.at_most)
 
 pub returns : goal.returns
 returns c =
