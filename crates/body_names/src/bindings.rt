@@ -3,6 +3,7 @@
 ghost use Rattle.std.specs.Prelude.{◌≡◌, ◌<◌, length, take, OnOk, IfOk, drop};
 ghost use Rattle.std.specs.List.{list_any};
 ghost use Rattle.std.specs.Str.{bytes_eq};
+ghost use Rattle.ptg_base.specs.Limits.{most_variables};
 ghost use Rattle.body_names.specs.Environment.{environment_of};
 ghost use Rattle.ptg_base.specs.Returns.{Returns};
 ghost use Rattle.body_names.specs.Bindings.{bindings_of, no_bindings, next_slot, with_variable, require_room, require_fresh, word_number};
@@ -32,7 +33,7 @@ impl BindingTable {
 
 /// Is there room for one more variable? If not, that is a fault of its name.
 pub(crate) fn require_room(word: &Word, bindings: &BindingTable) -> Result<(), JdfRefusal>
-    ensures room { OnOk result (bindings.now.declared < 256) }
+    ensures room { OnOk result (bindings.now.declared < most_variables) }
     ensures answer { Returns (λ _. tt) result (require_room word.now (bindings_of bindings.now)) }
 {
     if usize::from(bindings.declared) < MOST_VARIABLES {
@@ -77,7 +78,7 @@ pub(crate) fn require_fresh(word: &Word, bindings: &BindingTable) -> Result<(), 
 
 /// The slot of the next variable.
 pub(crate) fn next_slot(scope: &Scope, bindings: &BindingTable) -> u16
-    requires { bindings.now.declared < 256 }
+    requires { bindings.now.declared < most_variables }
     ensures { result ≡ next_slot (environment_of scope.now) (bindings_of bindings.now) }
 {
     scope.locals.len() as u16 + bindings.declared
@@ -90,7 +91,7 @@ pub(crate) fn add_variable(
     word: &Word,
     is_loop_variable: bool,
 ) -> Result<(), OutOfMemory>
-    requires { bindings.old.declared < 256 }
+    requires { bindings.old.declared < most_variables }
     ensures { OnOk result
         (bindings_of bindings.new
         ≡ with_variable (environment_of context.now.scope.now) word.now.text is_loop_variable

@@ -1,6 +1,7 @@
 //! What the names in a body may mean beside its own variables.
 
 ghost use Rattle.std.specs.Prelude.{◌≤◌, length};
+ghost use Rattle.ptg_base.specs.Limits.{most_flows, most_locals};
 
 use name_table::NameTable;
 use ptg_base::{Seq, Text};
@@ -26,8 +27,8 @@ pub struct Scope<'a> {
     pub colls: &'a NameTable<u32>,
     /// The flows of the class, in the text's order: at most 8.
     pub flows: Seq<FlowName>,
-    pub ghost locals_at_most: { length locals ≤ 16 },
-    pub ghost flows_at_most: { length flows ≤ 8 },
+    pub ghost locals_at_most: { length locals ≤ most_locals },
+    pub ghost flows_at_most: { length flows ≤ most_flows },
 }
 
 /// What a body is resolved with: where it gets memory, and what names mean beside its variables.

@@ -70,7 +70,7 @@ module _ (P : Plan) (order : List Task) (legal : IsLegalOrder P order) where
   next_task con ws i t table lt is h = record {
     levels = h;
     follows = follows_at P [] order legal i t lt is;
-    few = omega (arith, length-take i order, lt, order_at_most, con.tasks_at_most);
+    at_most = omega (arith, length-take i order, lt, order_at_most, con.tasks_at_most);
   }
 
   module _ (all : length (all_tasks P) ≤ length order) where

@@ -2,6 +2,7 @@
 
 ghost use Rattle.std.specs.Prelude.{◌≡◌, ◌<◌, ◌≤◌, IfSome, length, position};
 ghost use Rattle.std.specs.Str.{bytes_eq};
+ghost use Rattle.ptg_base.specs.Limits.{most_named_types};
 ghost use Rattle.check_names.specs.Returns.{ReturnsChecked};
 ghost use Rattle.check_flows.specs.Datatypes.{default_name, type_is, type_number, allowed_type, type_of_written, written_faults, first_written, type_of_flow, flow_type};
 
@@ -30,7 +31,7 @@ fn type_named(types: &[(Text, u32)], name: &[u8]) -> Option<usize>
 
 /// The number of a type of the data.
 pub(crate) fn type_number(given: &Given, name: &[u8]) -> Option<u32>
-    requires { length given.now.types ≤ 15 }
+    requires { length given.now.types ≤ most_named_types }
     ensures { result ≡ type_number given.now name.now }
 {
     if is_default(name) {
@@ -42,7 +43,7 @@ pub(crate) fn type_number(given: &Given, name: &[u8]) -> Option<u32>
 
 // The number of the datatype of this name, if a flow of this kind may have it.
 fn allowed_type(given: &Given, kind: FlowKind, name: &[u8]) -> Option<u32>
-    requires { length given.now.types ≤ 15 }
+    requires { length given.now.types ≤ most_named_types }
     ensures { result ≡ allowed_type given.now kind name.now }
 {
     if is_control(kind) && !is_default(name) {
@@ -67,7 +68,7 @@ pub(crate) fn written_type(
     kind: FlowKind,
     written: &Option<Word>,
 ) -> Result<u32, JdfRefusal>
-    requires { length given.now.types ≤ 15 }
+    requires { length given.now.types ≤ most_named_types }
     ensures { ReturnsChecked result (allowed_type given.now kind (type_of_written written.now))
         (written_faults given.now kind written.now) }
 {
@@ -92,7 +93,7 @@ pub(crate) fn type_of_flow(flow: &FlowTree) -> &[u8]
 
 /// The number of the type of a flow.
 pub(crate) fn flow_type(given: &Given, flow: &FlowTree) -> Result<u32, JdfRefusal>
-    requires { length given.now.types ≤ 15 }
+    requires { length given.now.types ≤ most_named_types }
     ensures { ReturnsChecked result (flow_type given.now flow.now)
         (written_faults given.now flow.now.kind (first_written flow.now.deps)) }
 {

@@ -1,6 +1,7 @@
 //! Dependences and flows.
 
 ghost use Rattle.std.specs.Prelude.{◌≡◌, ◌≤◌, IfOk, List, Some, length};
+ghost use Rattle.ptg_base.specs.Limits.{most_named_types};
 ghost use Rattle.plan_core.specs.declared.flow.DepPlan.{DepPlan};
 ghost use Rattle.check_names.specs.Contexts.{IsContext, job_of};
 ghost use Rattle.check_names.specs.Returns.{ReturnsChecked, each_option};
@@ -64,7 +65,7 @@ fn type_spot(yes: &TargetTree, written: &Option<Word>) -> Spot
 
 // The rules of the datatype of a dependence.
 fn type_rules(given: &Given, flow: &FlowTree, dependence: &DepTree) -> Result<(), JdfRefusal>
-    requires { length given.now.types ≤ 15 }
+    requires { length given.now.types ≤ most_named_types }
     ensures { ReturnsChecked result (Some tt) (type_faults given.now flow.now dependence.now) }
 {
     let differs = !is_control(flow.kind)

@@ -1,6 +1,7 @@
 //! Which targets a flow may have, by its kind and its datatype.
 
 ghost use Rattle.std.specs.Prelude.{◌≡◌, ◌≤◌, Some, length, option_copied};
+ghost use Rattle.ptg_base.specs.Limits.{most_named_types};
 ghost use Rattle.check_names.specs.Contexts.{IsContext, job_of};
 ghost use Rattle.check_names.specs.Returns.{ReturnsChecked};
 ghost use Rattle.check_flows.specs.Rules.{flow_of_target, mixes_flows, is_mixed, is_no_start, is_new, task_ranges, in_faults, out_faults, has_other_type, is_other_flow, type_differs, rule_faults};
@@ -119,7 +120,7 @@ fn out_rules(target: &TargetTree) -> Result<(), JdfRefusal>
 
 // Do the tiles of the collection with this number have another type than this one?
 fn has_other_type(given: &Given, name: &[u8], number: u32) -> bool
-    requires { length given.now.types ≤ 15 }
+    requires { length given.now.types ≤ most_named_types }
     ensures { result ≡ has_other_type given.now name.now number }
 {
     let Some(coll) = given.colls().get(number as usize) else {

@@ -5,6 +5,7 @@ ghost use Rattle.check_names.specs.Contexts.{IsContext, job_of};
 ghost use Rattle.check_names.specs.Limits.{IsBoundedClass};
 ghost use Rattle.check_names.specs.Returns.{ReturnsChecked, each};
 ghost use Rattle.std.specs.List.{list_any};
+ghost use Rattle.ptg_base.specs.Limits.{most_locals, most_params};
 ghost use Rattle.check_names.specs.Names.{word_is};
 ghost use Rattle.check_names.specs.Arguments.{argument_faults};
 ghost use Rattle.check_names.specs.Definitions.{is_ranged_local, definition_faults, definition_of, definitions_faults, definitions_of, parameter_faults, parameter_of, space_faults, space_of};
@@ -70,7 +71,7 @@ fn definitions(
     definitions: &[DefTree],
 ) -> Result<Seq<Def>, JdfRefusal>
     requires context { IsContext context.now }
-    requires at_most { length definitions.now ≤ 16 }
+    requires at_most { length definitions.now ≤ most_locals }
     ensures { ReturnsChecked result (definitions_of (job_of context.now) [] definitions.now)
         (definitions_faults (job_of context.now) params.now [] definitions.now) }
 {
@@ -88,7 +89,7 @@ fn definitions(
 
 // The number of the definition of a parameter.
 fn parameter(definitions: &[DefTree], param: &Word) -> Result<u8, JdfRefusal>
-    requires { length definitions.now ≤ 16 }
+    requires { length definitions.now ≤ most_locals }
     ensures { ReturnsChecked result (parameter_of definitions.now param.now)
         (parameter_faults definitions.now param.now) }
 {
@@ -104,7 +105,7 @@ fn parameters(
     definitions: &[DefTree],
     params: &[Word],
 ) -> Result<Seq<u8>, JdfRefusal>
-    requires { length definitions.now ≤ 16 }
+    requires { length definitions.now ≤ most_locals }
     ensures { ReturnsChecked result (each (parameter_of definitions.now) params.now)
         (flat_map (parameter_faults definitions.now) params.now) }
 {
@@ -117,8 +118,8 @@ fn parameters(
 
 // The parameters of a class, by the numbers of their definitions.
 fn params_of(alloc: Global, definitions: &[DefTree], params: &[Word]) -> Result<Params, JdfRefusal>
-    requires definitions { length definitions.now ≤ 16 }
-    requires params { length params.now ≤ 8 }
+    requires definitions { length definitions.now ≤ most_locals }
+    requires params { length params.now ≤ most_params }
     ensures { ReturnsChecked {A = List ℕ} result (each (parameter_of definitions.now) params.now)
         (flat_map (parameter_faults definitions.now) params.now) }
 {
@@ -131,8 +132,8 @@ fn params_of(alloc: Global, definitions: &[DefTree], params: &[Word]) -> Result<
 // The space of these definitions and parameters.
 fn space_by(context: &Context, params: &[Word], defs: &[DefTree]) -> Result<ClassSpace, JdfRefusal>
     requires context { IsContext context.now }
-    requires params { length params.now ≤ 8 }
-    requires definitions { length defs.now ≤ 16 }
+    requires params { length params.now ≤ most_params }
+    requires definitions { length defs.now ≤ most_locals }
     ensures { ReturnsChecked result (space_of (job_of context.now) params.now defs.now)
         (space_faults (job_of context.now) params.now defs.now) }
 {

@@ -1,6 +1,7 @@
 //! Laws about the first fault, and about what is resolved.
 
 ghost use Rattle.std.specs.Prelude.{◌≡◌, ◌≤◌, ◌++◌, List, [], Some, None, false, length};
+ghost use Rattle.ptg_base.specs.Limits.{most_locals};
 ghost use Rattle.jdf_lex.specs.declared.fault.JdfFault.{JdfFault};
 ghost use Rattle.ptg_base.specs.Lists.{IsIn};
 ghost use Rattle.term_core.specs.WellSpace.{IsWellSpace};
@@ -26,7 +27,7 @@ pub fn the_first_fault_is_the_least()
 /// A law: where at most 16 definitions and the parameters of a class break no rule, the space that they are is well
 /// made.
 pub fn a_resolved_space_is_well_made()
-    ensures { (job : Job) (params : List Word) (defs : List DefTree) (s : ClassSpace) → length defs ≤ 16
+    ensures { (job : Job) (params : List Word) (defs : List DefTree) (s : ClassSpace) → length defs ≤ most_locals
         → space_faults job params defs ≡ [] → space_of job params defs ≡ Some s → IsWellSpace s }
 {}
 

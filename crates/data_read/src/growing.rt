@@ -1,7 +1,7 @@
 //! The data of the records so far.
 
 ghost use Rattle.std.specs.Prelude.{◌≤◌, length};
-ghost use Rattle.ptg_base.specs.Limits.{most_elements};
+ghost use Rattle.ptg_base.specs.Limits.{most_elements, most_named_types};
 
 use name_table::NameTable;
 use ptg_base::{Seq, Text, Tile};
@@ -46,5 +46,5 @@ pub(crate) struct Growing {
     /// What each name of an integer or a collection stands for.
     pub(crate) names: NameTable<Known>,
     ghost elements_at_most: { elements ≤ most_elements },
-    ghost types_at_most: { length types ≤ 15 },
+    ghost types_at_most: { length types ≤ most_named_types },
 }

@@ -2,6 +2,7 @@
 
 ghost use Rattle.std.specs.Prelude.{◌≡◌, ◌≤◌, Ok, Err, OnOk, length};
 ghost use Rattle.std.specs.Result.{MatchResult};
+ghost use Rattle.ptg_base.specs.Limits.{most_named_types};
 ghost use Rattle.csv.specs.Records.{fields_of};
 ghost use Rattle.data_read.specs.Draft.{type_among, type_named, with_type};
 ghost use Rattle.data_read.specs.Growing.{draft_of, IsKeyed, ReturnsDraft};
@@ -16,7 +17,7 @@ use std::alloc::Global;
 
 // The number and the elements of the type of this name among those past DEFAULT.
 fn later_type(types: &[(Text, u32)], name: &[u8]) -> Option<(u32, u32)>
-    requires { length types.now ≤ 15 }
+    requires { length types.now ≤ most_named_types }
     ensures { result ≡ type_among name.now 1 types.now }
 {
     let mut number: u32 = 1;

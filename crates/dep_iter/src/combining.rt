@@ -4,6 +4,7 @@ ghost use Rattle.std.specs.Prelude.{◌≡◌, ◌+◌, ◌≤◌, [], ◌++◌,
 ghost use Rattle.std.specs.Bool.{OnTrue, OnFalse};
 ghost use Rattle.std.specs.Iterator.{YieldsFirst};
 ghost use Rattle.std.specs.Option.{option_copied};
+ghost use Rattle.ptg_base.specs.Limits.{most_params};
 ghost use Rattle.range_space.specs.Tasks.{or_empty};
 ghost use Rattle.range_space.specs.Values.{is_within};
 ghost use Rattle.dep_iter.specs.Arguments.{arg_values, combinations};
@@ -28,6 +29,7 @@ pub struct Combinations {
 
 impl Model for Combinations {
     ghost use Rattle.std.specs.Prelude.{◌≡◌, ◌≤◌, true, List, ℤ, length};
+    ghost use Rattle.ptg_base.specs.Limits.{most_params};
     ghost use Rattle.dep_iter.specs.Combining.{combinations_left, HasOneEach, HaveFirst};
 
     ghost Value = { List (List ℤ) };
@@ -35,12 +37,12 @@ impl Model for Combinations {
     ghost view = { λ c. combinations_left c.live c.spans.items c.at };
 
     ghost invariant = { λ c.
-        c.live ≡ true → (length c.at ≤ 8) × HasOneEach c.spans.items c.at × HaveFirst c.spans.items };
+        c.live ≡ true → (length c.at ≤ most_params) × HasOneEach c.spans.items c.at × HaveFirst c.spans.items };
 }
 
 // Adds the first value of each progression.
 fn push_first(spans: &[Progression], values: &mut Numbers<8>)
-    requires { length values.old + length spans.now ≤ 8 }
+    requires { length values.old + length spans.now ≤ most_params }
     ensures { values.new ≡ values.old ++ first_values spans.now }
 {
     let Some((steps, inner)) = spans.split_first() else {
@@ -62,7 +64,7 @@ fn clear(values: &mut Numbers<8>)
 // Goes on to the combination after this one: the last value that can goes on, and those after it begin anew. Where
 // there is none all begin anew.
 fn advance(spans: &[Progression], at: &mut Numbers<8>) -> bool
-    requires at_most { length at.old ≤ 8 }
+    requires at_most { length at.old ≤ most_params }
     requires each { HasOneEach spans.now at.old }
     ensures next { result ≡ combining.has_next spans.now at.old }
     ensures values { at.new ≡ (if result then combining.next_of spans.now at.old else first_values spans.now) }
@@ -84,7 +86,7 @@ fn advance(spans: &[Progression], at: &mut Numbers<8>) -> bool
 
 // Adds the progression of each argument, unless one has no values.
 fn push_spans(args: &[Arg], env: &[i64], spans: &mut ArrayVec<Progression, 8>) -> bool
-    requires { length spans.old.items + length args.now ≤ 8 }
+    requires { length spans.old.items + length args.now ≤ most_params }
     ensures found { OnTrue result
         (AddsSteps (map (λ a. or_empty (arg_values a env.now)) args.now) spans.old.items spans.new.items) }
     ensures none { OnFalse result (combinations args.now env.now ≡ []) }
@@ -116,7 +118,7 @@ impl Combinations {
     /// The combinations of the values of these arguments under these locals. There are none where an argument has a
     /// fault.
     pub fn new(args: &[Arg], env: &[i64]) -> Combinations
-        requires { length args.now ≤ 8 }
+        requires { length args.now ≤ most_params }
         ensures { result ≡ combinations args.now env.now }
     {
         let mut all = Combinations::none();
@@ -126,7 +128,7 @@ impl Combinations {
 
     /// Replaces the combinations by those of the values of these arguments under these locals.
     pub fn restart(&mut self, args: &[Arg], env: &[i64])
-        requires { length args.now ≤ 8 }
+        requires { length args.now ≤ most_params }
         ensures { self.new ≡ combinations args.now env.now }
     {
         self.spans.clear();
@@ -147,7 +149,7 @@ impl Combinations {
     /// The next combination, if there is one.
     pub fn first(&self) -> Option<&[i64]>
         ensures first { option_copied result ≡ slice_get self.now 0 }
-        ensures at_most { IfSome result (λ values. length values.now ≤ 8) }
+        ensures at_most { IfSome result (λ values. length values.now ≤ most_params) }
     {
         if self.live {
             Some(self.at.as_slice())

@@ -2,6 +2,7 @@
 
 ghost use Rattle.std.specs.Prelude.{◌≡◌, ◌+◌, ◌≤◌, [], ◌++◌, length, IsTrue, List, slice_get};
 ghost use Rattle.std.specs.Iterator.{YieldsFirst};
+ghost use Rattle.ptg_base.specs.Limits.{most_flows, most_params};
 ghost use Rattle.dep_iter.specs.Links.{all_links, fits, links_to, task_links};
 ghost use Rattle.dep_iter.specs.Given.{given_locals};
 ghost use Rattle.dep_iter.specs.Tasks.{IsTask, locals_of};
@@ -41,7 +42,7 @@ impl Model for TargetLinks {
 /// The arguments of a target that fits the plan are at most eight: as many as its class has parameters.
 pub fn arguments_at_most(plan: &Plan, class: u32, flow: u8, args: &[Arg])
     requires { IsTrue (fits plan.now (Task class flow args.now)) }
-    ensures { length args.now ≤ 8 }
+    ensures { length args.now ≤ most_params }
 {
     let _ = plan.space(class).params.as_slice();
 }
@@ -106,12 +107,12 @@ fn next_link<'a>(
     p: &mut Position<'a>,
     at_hand: &mut TargetLinks,
 ) -> Option<Link>
-    requires room { p.old.next_flow + length p.old.flows.now ≤ 8 }
+    requires room { p.old.next_flow + length p.old.flows.now ≤ most_flows }
     requires fit { IsTrue (position_fits plan.now p.old) }
     ensures found { YieldsFirst (λ (left : List LinkValue). left)
         (at_hand.old ++ all_links env.now (targets_left inward env.now p.old)) result
         (at_hand.new ++ all_links env.now (targets_left inward env.now p.new)) }
-    ensures room { p.new.next_flow + length p.new.flows.now ≤ 8 }
+    ensures room { p.new.next_flow + length p.new.flows.now ≤ most_flows }
     ensures fit { IsTrue (position_fits plan.now p.new) }
 {
     if let Some(link) = at_hand.next() {
@@ -135,6 +136,7 @@ pub(crate) struct Links<'a> {
 
 impl<'a> Model for Links<'a> {
     ghost use Rattle.std.specs.Prelude.{◌+◌, ◌≤◌, ◌++◌, IsTrue, List, length};
+    ghost use Rattle.ptg_base.specs.Limits.{most_flows};
     ghost use Rattle.dep_iter.specs.declared.link.Link.{Link};
     ghost use Rattle.dep_iter.specs.Links.{all_links};
     ghost use Rattle.dep_iter.specs.Walking.{position_fits, targets_left};
@@ -146,7 +148,7 @@ impl<'a> Model for Links<'a> {
         l.at_hand ++ all_links (given_locals l.env) (targets_left l.inward (given_locals l.env) l.position) };
 
     ghost invariant = { λ l.
-        (l.position.next_flow + length l.position.flows.now ≤ 8) × IsTrue (position_fits l.plan.now l.position) };
+        (l.position.next_flow + length l.position.flows.now ≤ most_flows) × IsTrue (position_fits l.plan.now l.position) };
 }
 
 impl<'a> Links<'a> {

@@ -1,6 +1,7 @@
 //! A walk over the active targets of a task, from one to the next.
 
 ghost use Rattle.std.specs.Prelude.{Bool, ◌≡◌, ◌+◌, ◌<◌, ◌≤◌, [], ◌∷◌, ℤ, List, length, IfSome, IsTrue, MatchOption, ◌&&◌};
+ghost use Rattle.ptg_base.specs.Limits.{most_flows};
 ghost use Rattle.plan_core.specs.declared.plan.Plan.{Plan};
 ghost use Rattle.dep_iter.specs.Active as active;
 ghost use Rattle.dep_iter.specs.Active.{by_flow, held_targets};
@@ -28,10 +29,10 @@ pub struct Position<'a> {
 
 // The start of a walk over these flows.
 pub(crate) fn start<'a>(flows: &'a [FlowPlan]) -> Position<'a>
-    requires { length flows.now ≤ 8 }
+    requires { length flows.now ≤ most_flows }
     ensures targets { (inward : Bool) (env : List ℤ)
         → targets_left inward env result ≡ by_flow (flow_targets inward env) 0 flows.now }
-    ensures room { result.next_flow + length result.flows.now ≤ 8 }
+    ensures room { result.next_flow + length result.flows.now ≤ most_flows }
     ensures fits { (P : Plan) → IsTrue (flows_fit P flows.now) → IsTrue (position_fits P result) }
 {
     Position {
@@ -75,7 +76,7 @@ pub(crate) fn next_held<'a>(
 
 // The walk where it enters a flow, with the flows after it.
 fn enter<'a>(inward: bool, flow: &'a FlowPlan, number: u8, others: &'a [FlowPlan]) -> Position<'a>
-    requires { number < 8 }
+    requires { number < most_flows }
     ensures flow { result.flow ≡ number }
     ensures next { result.next_flow ≡ number + 1 }
     ensures flows { result.flows.now ≡ others.now }
@@ -104,10 +105,10 @@ pub(crate) fn next_target<'a>(
     env: &[i64],
     p: Position<'a>,
 ) -> Option<(&'a Target, Position<'a>)>
-    requires { p.next_flow + length p.flows.now ≤ 8 }
+    requires { p.next_flow + length p.flows.now ≤ most_flows }
     ensures found { MatchOption result (targets_left inward env.now p.entry ≡ []) (λ r.
         targets_left inward env.now p.entry ≡ (r.1.flow, r.0.now) ∷ targets_left inward env.now r.1) }
-    ensures room { IfSome result (λ r. r.1.next_flow + length r.1.flows.now ≤ 8) }
+    ensures room { IfSome result (λ r. r.1.next_flow + length r.1.flows.now ≤ most_flows) }
     ensures fits { (P : Plan) → IsTrue (position_fits P p.entry)
         → IfSome result (λ r. IsTrue (fits P r.0.now) × IsTrue (position_fits P r.1)) }
 {

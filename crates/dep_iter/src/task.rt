@@ -1,6 +1,7 @@
 //! Tasks of a plan, their locals and their flows.
 
 ghost use Rattle.std.specs.Prelude.{◌≡◌, ◌↔◌, ◌<◌, ◌≤◌, length, slice_get, Some, IsTrue, MatchOption};
+ghost use Rattle.ptg_base.specs.Limits.{most_flows};
 ghost use Rattle.ptg_base.specs.Lists.{IsIn};
 ghost use Rattle.term_core.specs.WellSpace.{IsWellSpace};
 ghost use Rattle.term_core.specs.declared.space.ClassSpace.{ClassSpace as ClassSpaceValue};
@@ -80,7 +81,7 @@ pub fn task_with(plan: &Plan, class: u32, locals: &[i64]) -> TaskId
 pub fn flows_of<'a>(plan: &'a Plan, t: &TaskId) -> &'a [FlowPlan]
     requires { IsTask plan.now t.now }
     ensures flows { result.now ≡ tasks.flows_of plan.now t.now }
-    ensures at_most { length result.now ≤ 8 }
+    ensures at_most { length result.now ≤ most_flows }
     ensures fit { IsTrue (flows_fit plan.now result.now) }
 {
     let _ = plan.space(t.class());

@@ -1,6 +1,7 @@
 //! Where the tile of a data flow comes from.
 
 ghost use Rattle.std.specs.Prelude.{◌≡◌, ◌+◌, ◌≤◌, ◌++◌, length, map, IsTrue};
+ghost use Rattle.ptg_base.specs.Limits.{most_params};
 ghost use Rattle.plan_core.specs.declared.target.Target.TheVariants.{Task};
 ghost use Rattle.dep_iter.specs.Active.{flow_ins};
 ghost use Rattle.dep_iter.specs.Arguments as arguments;
@@ -44,7 +45,7 @@ fn single_value(env: &[i64], arg: &Arg) -> i64
 
 // Adds the value of each of these arguments.
 fn push_single(args: &[Arg], env: &[i64], values: &mut Numbers<8>)
-    requires { length values.old + length args.now ≤ 8 }
+    requires { length values.old + length args.now ≤ most_params }
     ensures { values.new ≡ values.old ++ map (arguments.single_value env.now) args.now }
 {
     let Some((arg, others)) = args.split_first() else {
@@ -56,7 +57,7 @@ fn push_single(args: &[Arg], env: &[i64], values: &mut Numbers<8>)
 
 // The task that these arguments name, none of which is a range.
 fn single_task(class: u32, args: &[Arg], env: &[i64]) -> TaskId
-    requires { length args.now ≤ 8 }
+    requires { length args.now ≤ most_params }
     ensures { result ≡ record { class = class; params = map (arguments.single_value env.now) args.now } }
 {
     let mut values = Numbers::new();

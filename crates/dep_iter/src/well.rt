@@ -2,6 +2,7 @@
 
 ghost use Rattle.std.specs.Prelude.{◌≡◌, ◌+◌, ◌≤◌, length, Some, None, IfErr, IfOk};
 ghost use Rattle.std.specs.List.{list_all};
+ghost use Rattle.ptg_base.specs.Limits.{most_flows};
 ghost use Rattle.dep_iter.specs.Tasks as tasks;
 ghost use Rattle.dep_iter.specs.Tasks.{IsTask};
 ghost use Rattle.dep_iter.specs.Well as well;
@@ -92,7 +93,7 @@ fn is_well_flow(env: &[i64], flow: &FlowPlan) -> bool
 
 // The number of the first of these flows that is ill, if there is one.
 fn first_ill_flow(env: &[i64], number: u8, flows: &[FlowPlan]) -> Option<u8>
-    requires { number + length flows.now ≤ 8 }
+    requires { number + length flows.now ≤ most_flows }
     ensures { result ≡ well.first_ill_flow env.now number flows.now }
 {
     let (flow, others) = flows.split_first()?;

@@ -2,6 +2,7 @@
 
 ghost use Rattle.std.specs.Prelude.{◌≡◌, ◌+◌, ◌≤◌, length, List, false};
 ghost use Rattle.std.specs.Iterator.{YieldsFirst, item_count};
+ghost use Rattle.ptg_base.specs.Limits.{most_flows};
 ghost use Rattle.ptg_base.specs.declared.edge.WriteBack.{WriteBack as WriteBackValue};
 ghost use Rattle.dep_iter.specs.Tasks as tasks;
 ghost use Rattle.dep_iter.specs.Tasks.{IsTask};
@@ -26,6 +27,7 @@ pub struct WriteBacks<'a> {
 
 impl<'a> Model for WriteBacks<'a> {
     ghost use Rattle.std.specs.Prelude.{◌+◌, ◌≤◌, List, length, false};
+    ghost use Rattle.ptg_base.specs.Limits.{most_flows};
     ghost use Rattle.ptg_base.specs.declared.edge.WriteBack.{WriteBack};
     ghost use Rattle.dep_iter.specs.Walking.{all_writes_to, targets_left};
     ghost use Rattle.dep_iter.specs.Given.{given_locals};
@@ -35,16 +37,16 @@ impl<'a> Model for WriteBacks<'a> {
     ghost view = { λ w.
         all_writes_to w.task (given_locals w.env) (targets_left false (given_locals w.env) w.position) };
 
-    ghost invariant = { λ w. w.position.next_flow + length w.position.flows.now ≤ 8 };
+    ghost invariant = { λ w. w.position.next_flow + length w.position.flows.now ≤ most_flows };
 }
 
 // The next write-back of a walk over the active out targets of a task, under its locals.
 fn next_write<'a>(t: &TaskId, env: &[i64], p: &mut Position<'a>) -> Option<WriteBack>
-    requires { p.old.next_flow + length p.old.flows.now ≤ 8 }
+    requires { p.old.next_flow + length p.old.flows.now ≤ most_flows }
     ensures found { YieldsFirst (λ (left : List WriteBackValue). left)
         (all_writes_to t.now env.now (targets_left false env.now p.old)) result
         (all_writes_to t.now env.now (targets_left false env.now p.new)) }
-    ensures room { p.new.next_flow + length p.new.flows.now ≤ 8 }
+    ensures room { p.new.next_flow + length p.new.flows.now ≤ most_flows }
 {
     let (target, later) = next_target(false, env, *p)?;
     *p = later;

@@ -1,6 +1,7 @@
 //! The tiles that came to a task by edges.
 ghost use Rattle.std.specs.Prelude.{◌≡◌, ◌<◌, []};
 ghost use Rattle.std.specs.Option.{option_copied};
+ghost use Rattle.ptg_base.specs.Limits.{most_flows};
 ghost use Rattle.dep_shard.specs.Arrivals.{with_tile, without_tile, tile_of, IsInFlowOrder};
 
 use ptg_base::Tile;
@@ -35,7 +36,7 @@ impl Arrivals {
 
     /// The tile of a flow, if one came.
     pub fn tile(&self, flow: u8) -> Option<&Tile>
-        requires { flow < 8 }
+        requires { flow < most_flows }
         ensures tile { option_copied result ≡ tile_of self.now flow }
         ensures order { IsInFlowOrder self.now }
     {
@@ -44,7 +45,7 @@ impl Arrivals {
 
     /// Takes the tile of a flow out, if one came.
     pub fn take(&mut self, flow: u8) -> Option<Tile>
-        requires { flow < 8 }
+        requires { flow < most_flows }
         ensures tile { result ≡ tile_of self.old flow }
         ensures rest { self.new ≡ without_tile flow self.old }
     {
@@ -53,7 +54,7 @@ impl Arrivals {
 
     /// Adds the tile of a flow. It replaces one that is there.
     pub fn put(&mut self, flow: u8, tile: Tile)
-        requires { flow < 8 }
+        requires { flow < most_flows }
         ensures { self.new ≡ with_tile flow tile self.old }
     {
         self.tiles[flow as usize] = Some(tile);

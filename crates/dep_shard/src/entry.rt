@@ -1,6 +1,7 @@
 //! What a shard has of a task that is not claimed.
 ghost use Rattle.std.specs.Prelude.{◌≡◌, ◌<◌};
 ghost use Rattle.std.specs.Option.{option_map};
+ghost use Rattle.ptg_base.specs.Limits.{most_flows};
 ghost use Rattle.dep_shard.specs.Content.{fresh, with_arrival, IsWaiting};
 
 use crate::arrivals::Arrivals;
@@ -46,7 +47,7 @@ impl Entry {
 
     // Notes that an edge into this flow has come, with this tile.
     pub(crate) fn add(&mut self, flow: u8, tile: Option<LinkedTile>)
-        requires flow { flow < 8 }
+        requires flow { flow < most_flows }
         requires waits { IsWaiting self.old }
         ensures { self.new ≡ with_arrival self.old flow (option_map (λ t. t.0) tile) }
     {

@@ -4,7 +4,7 @@ ghost use Rattle.std.specs.Option.{option_copied, option_map};
 ghost use Rattle.std.specs.Map.{keys_of};
 ghost use Rattle.std.specs.Map.Iter.{deref_pair};
 ghost use Rattle.std.specs.List.{IsDistinct};
-ghost use Rattle.ptg_base.specs.Limits.{most_tasks};
+ghost use Rattle.ptg_base.specs.Limits.{most_flows, most_tasks};
 ghost use Rattle.ptg_base.specs.Task.{Task};
 ghost use Rattle.ptg_base.specs.TaskComparing.{same_task};
 ghost use Rattle.dep_shard.specs.declared.shard.Arrived.TheVariants.{Fired};
@@ -211,7 +211,7 @@ impl Shard {
         datatype: u32,
         tile: Option<&Tile>,
     ) -> Result<Arrived, OutOfMemory>
-        requires flow { edge.now.in_flow < 8 }
+        requires flow { edge.now.in_flow < most_flows }
         requires goal { 0 < goal }
         requires waits { IsWaiting (entry_before self.old edge.now.to goal priority) }
         requires tile { IfSome (option_copied tile) (λ t. IsTileOf self.old.elems datatype t) }
@@ -248,7 +248,7 @@ impl Shard {
         datatype: u32,
         tile: Option<&Tile>,
     ) -> Result<Arrived, OutOfMemory>
-        requires flow { flow < 8 }
+        requires flow { flow < most_flows }
         requires waits { HasWaitingAt self.old index }
         requires tile { IfSome (option_copied tile) (λ t. IsTileOf self.old.elems datatype t) }
         ensures ok { OnOk result (ArrivesAt self.old.entries self.new.entries index flow (option_copied tile.entry)) }
@@ -275,7 +275,7 @@ impl Shard {
         datatype: u32,
         tile: Option<&Tile>,
     ) -> Result<Arrived, OutOfMemory>
-        requires flow { edge.now.in_flow < 8 }
+        requires flow { edge.now.in_flow < most_flows }
         requires goal { 0 < goal }
         requires new { entry_of self.old edge.now.to ≡ None }
         requires tile { IfSome (option_copied tile) (λ t. IsTileOf self.old.elems datatype t) }
@@ -315,7 +315,7 @@ impl Shard {
 
     // An edge comes to an entry that waits. The queue has room for its candidate.
     fn land(&mut self, index: usize, flow: u8, tile: Option<LinkedTile>) -> Arrived
-        requires flow { flow < 8 }
+        requires flow { flow < most_flows }
         requires waits { HasWaitingAt self.old index }
         ensures entries { ArrivesAt self.old.entries self.new.entries index flow (option_map (λ m. m.0) tile) }
         ensures fired { (t : Task) (e : EntryContent) → slice_get self.old.entries index ≡ Some (t, e)

@@ -1,5 +1,6 @@
 //! The tiles of an entry, in links that are reserved with the tiles.
 ghost use Rattle.std.specs.Prelude.{◌≡◌, ◌<◌, [], ◌∷◌};
+ghost use Rattle.ptg_base.specs.Limits.{most_flows};
 ghost use Rattle.dep_shard.specs.Arrivals.{in_flow_order};
 
 use crate::arrivals::Arrivals;
@@ -63,7 +64,7 @@ impl TileList {
 
     // The list with one more tile, which the link holds from now on.
     pub(crate) fn with(self, mut link: Box<Link>, flow: u8, tile: Tile) -> TileList
-        requires { flow < 8 }
+        requires { flow < most_flows }
         ensures { result ≡ (flow, tile) ∷ self }
     {
         *link = Link::Held(flow, tile, self);

@@ -2,6 +2,7 @@
 
 ghost use Rattle.std.specs.Prelude.{◌≡◌, ◌<◌, ◌↔◌, None, Some, IfOk, IfSome, IsOk, IsSome, OnErr, OnOk, if◌then◌else◌, is_some, slice_index};
 ghost use Rattle.std.specs.Option.{option_copied};
+ghost use Rattle.ptg_base.specs.Limits.{most_flows};
 ghost use Rattle.ptg_base.specs.declared.edge.Item.TheVariants as item;
 ghost use Rattle.plan_core.specs.declared.flow.FlowPlan.{FlowPlan as FlowPlanValue};
 ghost use Rattle.plan_core.specs.Kinds.{flow_of};
@@ -39,7 +40,7 @@ fn arrive_first(
     tile: Option<&Tile>,
 ) -> Result<Arrived, OutOfMemory>
     requires task { IsTask m.now edge.now.to }
-    requires flow { edge.now.in_flow < 8 }
+    requires flow { edge.now.in_flow < most_flows }
     requires goal { 0 < edges.goal m.now edge.now.to }
     requires new { entry_of desk.old edge.now.to ≡ None }
     requires tile { IfSome (option_copied tile) (λ t. IsTileOf desk.old.elems datatype t) }
@@ -79,7 +80,7 @@ fn arrive(
     tile: Option<&Tile>,
 ) -> Result<Arrived, OutOfMemory>
     requires task { IsTask m.now edge.now.to }
-    requires flow { edge.now.in_flow < 8 }
+    requires flow { edge.now.in_flow < most_flows }
     requires goal { 0 < edges.goal m.now edge.now.to }
     requires waits { IsWaiting
         (entry_before desk.old edge.now.to (edges.goal m.now edge.now.to) (hints.priority m.now edge.now.to)) }

@@ -1,6 +1,7 @@
 //! The opening of a table.
 
 ghost use Rattle.std.specs.Prelude.{◌≡◌, ◌<◌, ◌≤◌, ◌==◌, false, true, IfOk, OnOk, length};
+ghost use Rattle.ptg_base.specs.Limits.{most_shards};
 ghost use Rattle.plan_data.specs.Fit.{DataFit};
 ghost use Rattle.dep_iter.specs.Edges.{goal};
 ghost use Rattle.dep_iter.specs.Tasks as tasks;
@@ -52,7 +53,7 @@ fn enter(shards: &mut Vec<Shard>, k: usize, t: &TaskId, priority: i64) -> Result
 pub(crate) fn shard_under(m: &Matched, shards: usize, t: &TaskId, env: &[i64]) -> usize
     requires task { IsTask m.now t.now }
     requires locals { env.now ≡ tasks.locals_of m.now t.now }
-    requires shards { (0 < shards) × (shards ≤ 256) }
+    requires shards { (0 < shards) × (shards ≤ most_shards) }
     ensures number { result ≡ placing.shard_of m.now shards t.now }
     ensures within { result < shards }
 {
@@ -67,7 +68,7 @@ pub(crate) fn shard_under(m: &Matched, shards: usize, t: &TaskId, env: &[i64]) -
 // Enters a task if no edge goes into it, and answers whether that is so.
 fn open_task(shards: &mut Vec<Shard>, m: &Matched, t: &TaskId) -> Result<bool, OutOfMemory>
     requires task { IsTask m.now t.now }
-    requires shards { (0 < length shards.old.items) × (length shards.old.items ≤ 256) }
+    requires shards { (0 < length shards.old.items) × (length shards.old.items ≤ most_shards) }
     ensures root { IfOk result (λ root. root ≡ (goal m.now t.now == 0)) }
     ensures opened { OnOk result
         (Opens m.now (placing.shard_of m.now (length shards.old.items)) t.now shards.old.items shards.new.items) }
@@ -96,7 +97,7 @@ fn new_shards(alloc: Global, m: &Matched, count: u32) -> Result<Vec<Shard>, OutO
 
 // The words of a table with so many shards and ready tasks.
 fn opening_words(alloc: Global, shards: u32, live: u64) -> Result<Vec<u64>, OutOfMemory>
-    requires { shards ≤ 256 }
+    requires { shards ≤ most_shards }
     ensures { IfOk result (λ v. AreOpeningWords shards live v.items) }
 {
     let mut words = vec![in alloc; 0; STRIDE * (shards as usize + 3)]?;
@@ -110,7 +111,7 @@ pub(crate) fn opened_shards(
     m: &Matched,
     shards: u32,
 ) -> Result<Vec<Shard>, OutOfMemory>
-    requires { (0 < shards) × (shards ≤ 256) }
+    requires { (0 < shards) × (shards ≤ most_shards) }
     ensures { IfOk result (λ v. AreOpeningShards m.now shards v.items) }
 {
     let mut opened = new_shards(alloc, m, shards)?;
@@ -174,7 +175,7 @@ pub(crate) fn open_table(
     shards: Vec<Shard>,
     job: Job,
 ) -> Result<(DepTable, Pass), OutOfMemory>
-    requires count { (0 < job.shards) × (job.shards ≤ 256) }
+    requires count { (0 < job.shards) × (job.shards ≤ most_shards) }
     requires shards { AreOpeningShards job.matched job.shards shards.items }
     requires spares { job.preloaded ≡ true → HaveOpeningReserve job.matched job.shards shards.items }
     requires fit { DataFit job.matched.colls job.matched.elems job.given }
@@ -197,7 +198,7 @@ impl DepTable {
     ) -> Result<(DepTable, Pass), OutOfMemory>
         requires fit { DataFit matched.colls matched.elems given }
         requires some_shards { 0 < shards }
-        requires shards_at_most { shards ≤ 256 }
+        requires shards_at_most { shards ≤ most_shards }
         ensures pass { IfOk result (λ r. IsPassOf (id_of r.0) r.1 × (r.1.me.0 ≡ first_pass)) }
         ensures job { IfOk result (λ r.
             job_of r.0 ≡ record { matched = matched; given = given; shards = shards; preloaded = false }) }

@@ -1,6 +1,7 @@
 //! The opening of a table that takes all memory before the first step.
 
 ghost use Rattle.std.specs.Prelude.{◌≡◌, ◌<◌, ◌≤◌, ◌∷◌, [], Some, IfOk, OnOk, length, slice_get, true};
+ghost use Rattle.ptg_base.specs.Limits.{most_shards};
 ghost use Rattle.dep_iter.specs.Tasks as tasks;
 ghost use Rattle.dep_iter.specs.Tasks.{IsTask, all_tasks};
 ghost use Rattle.plan_data.specs.Fit.{DataFit};
@@ -50,7 +51,7 @@ fn need_at(needs: &mut Vec<Needs>, k: usize, m: &Matched, t: &TaskId, env: &[i64
 // Adds what a task needs to the needs of its shard.
 fn need_task(needs: &mut Vec<Needs>, m: &Matched, t: &TaskId)
     requires task { IsTask m.now t.now }
-    requires shards { (0 < length needs.old.items) × (length needs.old.items ≤ 256) }
+    requires shards { (0 < length needs.old.items) × (length needs.old.items ≤ most_shards) }
     requires types { HaveTypes (length m.now.elems) needs.old.items }
     requires room { HaveRoomFor m.now (t.now ∷ []) needs.old.items }
     ensures { AddsNeeds m.now (placing.shard_of m.now (length needs.old.items)) t.now needs.old.items needs.new.items }
@@ -62,7 +63,7 @@ fn need_task(needs: &mut Vec<Needs>, m: &Matched, t: &TaskId)
 
 // What each of so many shards needs for all tasks.
 fn needs_of(alloc: Global, m: &Matched, shards: u32) -> Result<Vec<Needs>, OutOfMemory>
-    requires { (0 < shards) × (shards ≤ 256) }
+    requires { (0 < shards) × (shards ≤ most_shards) }
     ensures count { IfOk result (λ v. length v.items ≡ shards) }
     ensures needs { IfOk result (λ v. AreNeedsOf m.now (placing.shard_of m.now shards) (all_tasks m.now) v.items) }
 {
@@ -111,7 +112,7 @@ fn reserve_all(shards: &mut Vec<Shard>, needs: &[Needs]) -> Result<(), OutOfMemo
 
 // The shards of a new table, each with spares for all that will come to it.
 fn preloaded_shards(alloc: Global, m: &Matched, shards: u32) -> Result<Vec<Shard>, OutOfMemory>
-    requires { (0 < shards) × (shards ≤ 256) }
+    requires { (0 < shards) × (shards ≤ most_shards) }
     ensures shards { IfOk result (λ v. AreOpeningShards m.now shards v.items) }
     ensures spares { IfOk result (λ v. HaveOpeningReserve m.now shards v.items) }
 {
@@ -132,7 +133,7 @@ impl DepTable {
     ) -> Result<(DepTable, Pass), OutOfMemory>
         requires fit { DataFit matched.colls matched.elems given }
         requires some_shards { 0 < shards }
-        requires shards_at_most { shards ≤ 256 }
+        requires shards_at_most { shards ≤ most_shards }
         ensures pass { IfOk result (λ r. IsPassOf (id_of r.0) r.1 × (r.1.me.0 ≡ first_pass)) }
         ensures job { IfOk result (λ r.
             job_of r.0 ≡ record { matched = matched; given = given; shards = shards; preloaded = true }) }

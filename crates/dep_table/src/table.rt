@@ -2,6 +2,7 @@
 
 ghost use Rattle.std.specs.Prelude.{◌≡◌, ◌<◌, ◌≤◌};
 ghost use Rattle.std.proofs.Props.{props};
+ghost use Rattle.ptg_base.specs.Limits.{most_shards};
 ghost use Rattle.coll_data.specs.WellMade.{IsWellMade};
 ghost use Rattle.plan_data.specs.Fit.{DataFit};
 ghost use Rattle.table_rule.specs.Words.{word_count};
@@ -23,7 +24,7 @@ pub struct DepTable {
     pub(crate) closing: ClosingRoom,
     ghost of_job: { job ≡ table.shared.key },
     ghost sized: { (table.shared.table_id.words ≡ word_count job.shards) × (table.shared.table_id.slots ≡ job.shards)
-        × (0 < job.shards) × (job.shards ≤ 256) },
+        × (0 < job.shards) × (job.shards ≤ most_shards) },
     ghost fit: { DataFit job.matched.colls job.matched.elems job.given },
     ghost well_made: { IsWellMade job.given } by { Prim.hlevel props },
     ghost room: { IsRoomFor job closing },

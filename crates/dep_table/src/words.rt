@@ -1,6 +1,7 @@
 //! Where the words of a table are.
 
 ghost use Rattle.std.specs.Prelude.{◌≡◌, ◌≤◌, ◌<◌};
+ghost use Rattle.ptg_base.specs.Limits.{most_shards};
 ghost use Rattle.table_rule.specs.Words.{halt_word, live_word, turn_word};
 ghost use Rattle.table_rule.specs.Words as words;
 
@@ -9,7 +10,7 @@ pub(crate) const STRIDE: usize = 16;
 
 // The turn word of a shard.
 pub(crate) fn turn_index(shard: u32) -> usize
-    requires { shard < 256 }
+    requires { shard < most_shards }
     ensures { result ≡ turn_word shard }
 {
     STRIDE * shard as usize
@@ -17,7 +18,7 @@ pub(crate) fn turn_index(shard: u32) -> usize
 
 // The halt word, where there are so many shards.
 pub(crate) fn halt_index(shards: u32) -> usize
-    requires { shards ≤ 256 }
+    requires { shards ≤ most_shards }
     ensures { result ≡ halt_word shards }
 {
     STRIDE * shards as usize
@@ -25,7 +26,7 @@ pub(crate) fn halt_index(shards: u32) -> usize
 
 // The live word.
 pub(crate) fn live_index(shards: u32) -> usize
-    requires { shards ≤ 256 }
+    requires { shards ≤ most_shards }
     ensures { result ≡ live_word shards }
 {
     STRIDE * (shards as usize + 1)
@@ -33,7 +34,7 @@ pub(crate) fn live_index(shards: u32) -> usize
 
 // The stamp word.
 pub(crate) fn stamp_index(shards: u32) -> usize
-    requires { shards ≤ 256 }
+    requires { shards ≤ most_shards }
     ensures { result ≡ words.stamp_word shards }
 {
     STRIDE * (shards as usize + 2)

@@ -2,6 +2,7 @@
 
 ghost use Rattle.std.specs.Prelude.{◌≡◌, ◌≤◌, ◌&&◌, [], IsTrue, Some, length, slice_get};
 ghost use Rattle.std.specs.List.{list_all};
+ghost use Rattle.ptg_base.specs.Limits.{most_flows};
 ghost use Rattle.dep_iter.specs.Tasks.{flows_of, locals_of};
 ghost use Rattle.dep_iter.specs.Links.{dependences_fit, flows_fit};
 ghost use Rattle.dep_iter.specs.Well.{is_well_flow};
@@ -19,7 +20,7 @@ pub(crate) struct TaskAt<'a> {
     pub(crate) flows: &'a [FlowPlan],
     pub(crate) ghost locals: { env.now ≡ locals_of plan.now task.now },
     pub(crate) ghost flows_are: { flows.now ≡ flows_of plan.now task.now },
-    pub(crate) ghost at_most: { length flows.now ≤ 8 },
+    pub(crate) ghost at_most: { length flows.now ≤ most_flows },
     pub(crate) ghost fit: { IsTrue (flows_fit plan.now flows.now) },
     pub(crate) ghost well: { IsTrue (list_all (is_well_flow env.now) flows.now) },
 }

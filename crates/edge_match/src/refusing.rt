@@ -1,6 +1,7 @@
 //! Faults of tasks.
 
 ghost use Rattle.std.specs.Prelude.{◌≡◌, ◌+◌, ◌≤◌, ◌++◌, ◌∷◌, [], IfOk, IsTrue, length};
+ghost use Rattle.ptg_base.specs.Limits.{most_locals};
 ghost use Rattle.plan_core.specs.declared.plan.Plan.{Plan as PlanValue};
 ghost use Rattle.edge_match.specs.Counted.{Checked, Decides};
 ghost use Rattle.edge_match.specs.Faults.{fault_at};
@@ -14,7 +15,7 @@ use range_space::Numbers;
 
 // Adds these values.
 fn push_all(values: &[i64], numbers: &mut Numbers<16>)
-    requires { length numbers.old + length values.now ≤ 16 }
+    requires { length numbers.old + length values.now ≤ most_locals }
     ensures { numbers.new ≡ numbers.old ++ values.now }
 {
     let Some((v, others)) = values.split_first() else {

@@ -1,6 +1,7 @@
 //! A task that is checked, and a flow of it.
 
 ghost use Rattle.std.specs.Prelude.{◌≡◌, ◌≢◌, ◌≤◌, ◌↔◌, ◌&&◌, ◌∷◌, [], IfOk, IsTrue, Some, length, slice_get};
+ghost use Rattle.ptg_base.specs.Limits.{most_flows};
 ghost use Rattle.dep_iter.specs.declared.source.Source.TheVariants as source_variant;
 ghost use Rattle.dep_iter.specs.Edges.{data_source};
 ghost use Rattle.dep_iter.specs.Links.{dependences_fit, flows_fit};
@@ -26,7 +27,7 @@ pub(crate) struct TaskAt<'a> {
     pub(crate) flows: &'a [FlowPlan],
     pub(crate) ghost locals: { env.now ≡ locals_of plan.now task.now },
     pub(crate) ghost flows_are: { flows.now ≡ flows_of plan.now task.now },
-    pub(crate) ghost at_most: { length flows.now ≤ 8 },
+    pub(crate) ghost at_most: { length flows.now ≤ most_flows },
     pub(crate) ghost fit: { IsTrue (flows_fit plan.now flows.now) },
 }
 

@@ -2,6 +2,7 @@
 
 ghost use Rattle.std.specs.Prelude.{Bool, ℤ, List, [], ◌∷◌, length, ◌≡◌, ◌+◌, ◌<◌, ◌≤◌, ◌^◌, ◌&&◌};
 ghost use Rattle.std.specs.Prelude.{IfSome, IsTrue, MatchOption};
+ghost use Rattle.ptg_base.specs.Limits.{most_flows};
 ghost use Rattle.plan_core.specs.declared.plan.Plan.{Plan};
 ghost use Rattle.dep_iter.specs.Links.{dependences_fit, fits, flows_fit};
 ghost use Rattle.edge_walk.specs.Ties.{active_from, numbered_flow, numbered_targets};
@@ -48,10 +49,10 @@ pub struct Held<'a> {
 
 // The start of a walk over these flows.
 pub(crate) fn start<'a>(flows: &'a [FlowPlan]) -> Position<'a>
-    requires { length flows.now ≤ 8 }
+    requires { length flows.now ≤ most_flows }
     ensures targets { (inward : Bool) (env : List ℤ)
         → left inward env result ≡ active_from inward env 0 flows.now }
-    ensures room { result.next_flow + length result.flows.now ≤ 8 }
+    ensures room { result.next_flow + length result.flows.now ≤ most_flows }
     ensures count { result.dependence + length result.deps.now < 2 ^ 64 }
     ensures fits { (P : Plan) → IsTrue (flows_fit P flows.now) → IsTrue (position_fits P result) }
 {
@@ -88,7 +89,7 @@ fn next_held<'a>(first_only: bool, k: usize, deps: &'a [DepPlan], env: &[i64]) -
 
 // The walk where it enters a flow, with the flows after it.
 fn enter<'a>(inward: bool, flow: &'a FlowPlan, number: u8, others: &'a [FlowPlan]) -> Position<'a>
-    requires { number < 8 }
+    requires { number < most_flows }
     ensures flow { result.flow ≡ number }
     ensures next { result.next_flow ≡ number + 1 }
     ensures flows { result.flows.now ≡ others.now }
@@ -117,12 +118,12 @@ fn enter<'a>(inward: bool, flow: &'a FlowPlan, number: u8, others: &'a [FlowPlan
 
 // The next active dependence of a walk, inward or outward, under these locals, and where the walk stands after it.
 pub(crate) fn next_active<'a>(inward: bool, env: &[i64], p: Position<'a>) -> Option<Active<'a>>
-    requires room { p.next_flow + length p.flows.now ≤ 8 }
+    requires room { p.next_flow + length p.flows.now ≤ most_flows }
     requires count { p.dependence + length p.deps.now < 2 ^ 64 }
     ensures found { MatchOption result (left inward env.now p.entry ≡ [])
         (λ r. left inward env.now p.entry
         ≡ record { flow = r.after.flow; dependence = r.dependence; target = r.target.now } ∷ left inward env.now r.after) }
-    ensures room { IfSome result (λ r. r.after.next_flow + length r.after.flows.now ≤ 8) }
+    ensures room { IfSome result (λ r. r.after.next_flow + length r.after.flows.now ≤ most_flows) }
     ensures count { IfSome result (λ r. r.after.dependence + length r.after.deps.now < 2 ^ 64) }
     ensures fits { (P : Plan) → IsTrue (position_fits P p.entry)
         → IfSome result (λ r. IsTrue (fits P r.target.now) × IsTrue (position_fits P r.after)) }

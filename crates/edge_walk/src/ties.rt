@@ -2,6 +2,7 @@
 
 ghost use Rattle.std.specs.Prelude.{◌≡◌, ◌+◌, ◌<◌, ◌≤◌, ◌^◌, ◌++◌, length, IsTrue, List};
 ghost use Rattle.std.specs.Iterator.{YieldsFirst, item_count};
+ghost use Rattle.ptg_base.specs.Limits.{most_flows};
 ghost use Rattle.dep_iter.specs.Tasks.{IsTask};
 ghost use Rattle.edge_walk.specs.declared.tie.Tie.{Tie as TieValue};
 ghost use Rattle.edge_walk.specs.Ties as specs;
@@ -29,6 +30,7 @@ pub struct Ties<'a> {
 
 impl<'a> Model for Ties<'a> {
     ghost use Rattle.std.specs.Prelude.{◌+◌, ◌<◌, ◌≤◌, ◌^◌, ◌++◌, IsTrue, List, length};
+    ghost use Rattle.ptg_base.specs.Limits.{most_flows};
     ghost use Rattle.edge_walk.specs.declared.tie.Tie.{Tie};
     ghost use Rattle.edge_walk.specs.Ties.{all_ties};
     ghost use Rattle.edge_walk.specs.Walking.{left, position_fits};
@@ -37,7 +39,7 @@ impl<'a> Model for Ties<'a> {
 
     ghost view = { λ t. t.at_hand ++ all_ties t.env (left t.inward t.env t.position) };
 
-    ghost invariant = { λ t. (t.position.next_flow + length t.position.flows.now ≤ 8)
+    ghost invariant = { λ t. (t.position.next_flow + length t.position.flows.now ≤ most_flows)
         × (t.position.dependence + length t.position.deps.now < 2 ^ 64)
         × IsTrue (position_fits t.plan.now t.position) };
 }
@@ -50,13 +52,13 @@ fn next_tie<'a>(
     p: &mut Position<'a>,
     at_hand: &mut TargetTies,
 ) -> Option<Tie>
-    requires room { p.old.next_flow + length p.old.flows.now ≤ 8 }
+    requires room { p.old.next_flow + length p.old.flows.now ≤ most_flows }
     requires count { p.old.dependence + length p.old.deps.now < 2 ^ 64 }
     requires fit { IsTrue (position_fits plan.now p.old) }
     ensures found { YieldsFirst (λ (ts : List TieValue). ts)
         (at_hand.old ++ all_ties env.now (left inward env.now p.old)) result
         (at_hand.new ++ all_ties env.now (left inward env.now p.new)) }
-    ensures room { p.new.next_flow + length p.new.flows.now ≤ 8 }
+    ensures room { p.new.next_flow + length p.new.flows.now ≤ most_flows }
     ensures count { p.new.dependence + length p.new.deps.now < 2 ^ 64 }
     ensures fit { IsTrue (position_fits plan.now p.new) }
 {

@@ -2,6 +2,7 @@
 
 ghost use Rattle.std.specs.Prelude.{◌≡◌, ◌≢◌, ℤ, ◌+◌, ◌<◌, ◌≤◌, [], ◌∷◌, ◌++◌, length, option_map, slice_set, IfOk, OnOk, IsTrue, List, Option, Some};
 ghost use Rattle.std.specs.Option.{option_copied};
+ghost use Rattle.ptg_base.specs.Limits.{most_flows};
 ghost use Rattle.dep_iter.specs.Tasks.{IsTask};
 ghost use Rattle.flow_meaning.specs.Starting as starting;
 ghost use Rattle.flow_core.specs.Inputs as inputs;
@@ -125,7 +126,7 @@ fn push_inputs(
     inputs: &mut Inputs,
 ) -> Result<(), OutOfMemory>
     requires task { IsTask start.now.plan.now start.now.task.now }
-    requires at_most { number + length flows.now ≤ 8 }
+    requires at_most { number + length flows.now ≤ most_flows }
     requires datatypes { IsTrue (have_datatypes start.now.plan.now flows.now) }
     ensures tiles { OnOk result
         (inputs.new.tiles.items
@@ -155,7 +156,7 @@ pub(crate) fn inputs_of(alloc: Global, start: &Start) -> Result<Inputs, OutOfMem
     ensures edges { IfOk result (λ found.
         found.edges.items
         ≡ edges_from start.now.plan.now start.now.task.now 0 (tasks.flows_of start.now.plan.now start.now.task.now)) }
-    ensures at_most { IfOk result (λ found. length found.edges.items ≤ 8) }
+    ensures at_most { IfOk result (λ found. length found.edges.items ≤ most_flows) }
 {
     let mut found = Inputs {
         tiles: Vec::new(alloc),
@@ -208,7 +209,7 @@ pub(crate) fn take_tiles(
     sent: &mut SentItems,
     tiles: &mut Vec<Option<Tile>>,
 )
-    requires at_most { number + length edges.now ≤ 8 }
+    requires at_most { number + length edges.now ≤ most_flows }
     requires places { number + length edges.now ≤ length tiles.old.items }
     ensures tiles { (P : PlanValue) (G : Data) (t : Task) (before : List (Option (List ℤ))) (fs : List FlowValue)
         → edges.now ≡ edges_from P t number fs → length before ≡ number

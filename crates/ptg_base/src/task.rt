@@ -5,6 +5,7 @@ ghost use Rattle.std.proofs.Common.{rules};
 ghost use Rattle.std.specs.Cmp.{po};
 ghost use Rattle.std.specs.Cmp.Rules.{comparing, hashing};
 ghost use Rattle.std.specs.Ordering.{as_partial_cmp};
+ghost use Rattle.ptg_base.specs.Limits.{most_params};
 ghost use Rattle.ptg_base.specs.TaskComparing.{same_task, task_cmp, task_hash, ComparesInTaskOrder};
 ghost use Rattle.ptg_base.specs.TaskLaws.{same_task-ties, task_cmp-total};
 
@@ -33,7 +34,7 @@ impl Model for TaskId {
 impl TaskId {
     /// The task of this class with these parameters.
     pub fn new(class: u32, params: &[i64]) -> TaskId
-        requires { length params.now ≤ 8 }
+        requires { length params.now ≤ most_params }
         ensures { result ≡ record { class = class; params = params.now } }
     {
         let mut values = ArrayVec::new();
@@ -53,7 +54,7 @@ impl TaskId {
 
     /// The values of the parameters, in order.
     pub fn params(&self) -> &[i64]
-        ensures within { length result.now ≤ 8 }
+        ensures within { length result.now ≤ most_params }
         ensures same { result.now ≡ self.now.params }
     {
         self.values.as_slice()

@@ -2,6 +2,7 @@
 
 ghost use Rattle.std.specs.Prelude.{◌≡◌, ◌≤◌, length};
 ghost use Rattle.std.specs.Iterator.{YieldsFirst, item_count};
+ghost use Rattle.ptg_base.specs.Limits.{most_locals};
 ghost use Rattle.range_space.specs.Tasks.{all_locals};
 
 use crate::numbers::Numbers;
@@ -21,6 +22,7 @@ pub struct AllLocals<'a> {
 
 impl<'a> Model for AllLocals<'a> {
     ghost use Rattle.std.specs.Prelude.{◌≡◌, ◌≤◌, true, List, ℤ, length};
+    ghost use Rattle.ptg_base.specs.Limits.{most_locals};
     ghost use Rattle.range_space.specs.RemainingLocals.{remaining_locals};
 
     ghost Value = { List (List ℤ) };
@@ -28,13 +30,13 @@ impl<'a> Model for AllLocals<'a> {
     ghost view = { λ s. remaining_locals s.live s.space.now s.locals };
 
     ghost invariant = { λ s.
-        (length s.space.now.defs ≤ 16) × (s.live ≡ true → length s.locals ≡ length s.space.now.defs) };
+        (length s.space.now.defs ≤ most_locals) × (s.live ≡ true → length s.locals ≡ length s.space.now.defs) };
 }
 
 impl<'a> AllLocals<'a> {
     /// The locals of all tasks of a class.
     pub fn new(space: &'a ClassSpace) -> AllLocals<'a>
-        requires { length space.now.defs ≤ 16 }
+        requires { length space.now.defs ≤ most_locals }
         ensures { result ≡ all_locals space.now }
     {
         let mut locals = Numbers::new();

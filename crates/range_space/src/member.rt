@@ -2,6 +2,7 @@
 
 ghost use Rattle.std.specs.Prelude.{◌≡◌, ◌+◌, ◌≤◌, ◌↔◌, ℤ, List, [], ◌∷◌, Some, None, Ok, length, IsTrue, MatchOption};
 ghost use Rattle.std.specs.Bool.{OnTrue, OnFalse};
+ghost use Rattle.ptg_base.specs.Limits.{most_locals};
 ghost use Rattle.ptg_base.specs.Lists.{IsIn};
 ghost use Rattle.term_core.specs.WellSpace.{IsWellSpace, spans_are_params};
 ghost use Rattle.range_space.specs.Tasks.{tasks, def_values, or_empty};
@@ -63,7 +64,7 @@ fn local_of(def: &Def, given: Option<i64>, env: &[i64]) -> Option<i64>
 
 // Extends these locals to a full list in which the parameters have these values, if there is one.
 fn complete(defs: &[Def], params: &[u8], values: &[i64], locals: &mut Numbers<16>) -> bool
-    requires defs_at_most { length locals.old + length defs.now ≤ 16 }
+    requires defs_at_most { length locals.old + length defs.now ≤ most_locals }
     requires arity { length params.now ≡ length values.now }
     requires spans { IsTrue (spans_are_params (length locals.old) defs.now params.now) }
     ensures found { OnTrue result
@@ -108,7 +109,7 @@ fn known_local(def: &Def, given: Option<i64>, env: &[i64]) -> i64
 
 // Extends these locals to the full list in which the parameters have these values, if there is one.
 fn fill(defs: &[Def], params: &[u8], values: &[i64], locals: &mut Numbers<16>)
-    requires defs_at_most { length locals.old + length defs.now ≤ 16 }
+    requires defs_at_most { length locals.old + length defs.now ≤ most_locals }
     requires arity { length params.now ≡ length values.now }
     requires spans { IsTrue (spans_are_params (length locals.old) defs.now params.now) }
     ensures { (full : List ℤ) → IsCompletion defs.now params.now values.now (length locals.old) locals.old full

@@ -2,7 +2,7 @@
 
 ghost use Rattle.std.specs.Prelude.{◌≡◌, ◌+◌, ◌<◌, ◌≤◌, [], ◌∷◌, ◌++◌, length, All, OnOk, IfOk, IfErr, IsOk};
 ghost use Rattle.std.specs.List.{AllByRecursion};
-ghost use Rattle.ptg_base.specs.Limits.{most_prefixes, most_tasks};
+ghost use Rattle.ptg_base.specs.Limits.{most_classes, most_locals, most_prefixes, most_tasks};
 ghost use Rattle.range_space.specs.Values.{values};
 ghost use Rattle.range_space.specs.Sound.{prefix_total, IsSound};
 ghost use Rattle.range_space.specs.Walk.{Prefix, Task, walk, walk_among, walk_all, IsUnstopped, IsFirstFault, IsWalked, task_total};
@@ -79,7 +79,7 @@ fn count_from(
     outer: &mut Numbers<16>,
     counts: &mut Counts,
 ) -> Result<(), SpaceFault>
-    requires { length outer.old + length defs.now ≤ 16 }
+    requires { length outer.old + length defs.now ≤ most_locals }
     ensures ok { OnOk result
         (IsWalked counts.old.tasks counts.old.prefixes counts.new.tasks counts.new.prefixes
         (walk class defs.now outer.old)) }
@@ -105,7 +105,7 @@ fn count_among(
     outer: &mut Numbers<16>,
     counts: &mut Counts,
 ) -> Result<(), SpaceFault>
-    requires { length outer.old + length inner.now < 16 }
+    requires { length outer.old + length inner.now < most_locals }
     ensures ok { OnOk result
         (IsWalked counts.old.tasks counts.old.prefixes counts.new.tasks counts.new.prefixes
         (walk_among class inner.now outer.old (values steps.now.lo steps.now.hi steps.now.step))) }
@@ -125,8 +125,8 @@ fn count_among(
 
 // Counts what the walk through these classes visits; they are numbered from `class` on.
 fn count_all(class: u32, spaces: &[ClassSpace], counts: &mut Counts) -> Result<(), SpaceFault>
-    requires classes { class + length spaces.now ≤ 64 }
-    requires defs_at_most { All (λ s. length s.defs ≤ 16) spaces.now }
+    requires classes { class + length spaces.now ≤ most_classes }
+    requires defs_at_most { All (λ s. length s.defs ≤ most_locals) spaces.now }
     ensures ok { OnOk result
         (IsWalked counts.old.tasks counts.old.prefixes counts.new.tasks counts.new.prefixes
         (walk_all class spaces.now)) }
@@ -143,8 +143,8 @@ fn count_all(class: u32, spaces: &[ClassSpace], counts: &mut Counts) -> Result<(
 /// How many tasks the classes have, or the first fault in walk order. The values of a last definition are counted at
 /// once.
 pub fn space_size(spaces: &[ClassSpace]) -> Result<u64, SpaceFault>
-    requires classes { length spaces.now ≤ 64 }
-    requires defs_at_most { All (λ s. length s.defs ≤ 16) spaces.now }
+    requires classes { length spaces.now ≤ most_classes }
+    requires defs_at_most { All (λ s. length s.defs ≤ most_locals) spaces.now }
     ensures unstopped { IfOk result (λ _. IsUnstopped 0 0 (walk_all 0 spaces.now)) }
     ensures tasks { IfOk result (λ n. (n ≡ task_total spaces.now) × (n ≤ most_tasks)) }
     ensures prefixes { IfOk result (λ _. prefix_total spaces.now ≤ most_prefixes) }

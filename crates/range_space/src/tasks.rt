@@ -2,6 +2,7 @@
 
 ghost use Rattle.std.specs.Prelude.{◌≡◌, ◌≤◌, length};
 ghost use Rattle.std.specs.Iterator.{YieldsFirst, item_count};
+ghost use Rattle.ptg_base.specs.Limits.{most_locals};
 ghost use Rattle.range_space.specs.Tasks.{params_of, tasks};
 
 use crate::all_locals::AllLocals;
@@ -41,7 +42,7 @@ pub fn params_at(space: &ClassSpace, locals: &[i64]) -> Numbers<8>
 impl<'a> Space<'a> {
     /// All tasks of a class.
     pub fn new(space: &'a ClassSpace) -> Space<'a>
-        requires { length space.now.defs ≤ 16 }
+        requires { length space.now.defs ≤ most_locals }
         ensures { result ≡ tasks space.now }
     {
         Space {

@@ -2,6 +2,7 @@
 
 ghost use Rattle.std.specs.Prelude.{◌≡◌, ◌+◌, ◌<◌, ◌≤◌, [], ◌∷◌, ◌++◌, length, take, drop, Ok, Err, IfOk, IfErr};
 ghost use Rattle.std.specs.Bool.{OnTrue, OnFalse};
+ghost use Rattle.ptg_base.specs.Limits.{most_locals};
 ghost use Rattle.range_space.specs.Values.{values};
 ghost use Rattle.range_space.specs.Tasks.{full_lists};
 ghost use Rattle.range_space.specs.Fault.{bounds};
@@ -34,7 +35,7 @@ pub(crate) fn def_steps(def: &Def, env: &[i64]) -> Result<Steps, SpanFault>
 // Extends these locals to the first full list, if there is one.
 #[cycle(nesting)]
 pub(crate) fn first(defs: &[Def], locals: &mut Numbers<16>) -> bool
-    requires { length locals.old + length defs.now ≤ 16 }
+    requires { length locals.old + length defs.now ≤ most_locals }
     ensures found { OnTrue result (IsFirstOf defs.now locals.old locals.new (full_lists defs.now locals.old)) }
     ensures none { OnFalse result (full_lists defs.now locals.old ≡ []) }
     ensures same { OnFalse result (locals.new ≡ locals.old) }
@@ -61,7 +62,7 @@ pub(crate) fn first(defs: &[Def], locals: &mut Numbers<16>) -> bool
 // Extends these locals to the first full list whose next value is this one, if there is one.
 #[cycle(nesting)]
 fn first_with(v: i64, inner: &[Def], locals: &mut Numbers<16>) -> bool
-    requires { length locals.old + length inner.now < 16 }
+    requires { length locals.old + length inner.now < most_locals }
     ensures found { OnTrue result
         (IsFirstOf inner.now (locals.old ++ v ∷ []) locals.new (full_lists inner.now (locals.old ++ v ∷ []))) }
     ensures none { OnFalse result (full_lists inner.now (locals.old ++ v ∷ []) ≡ []) }
@@ -78,7 +79,7 @@ fn first_with(v: i64, inner: &[Def], locals: &mut Numbers<16>) -> bool
 // Extends these locals to the first full list whose next value is one of these, if there is one.
 #[cycle(nesting)]
 fn first_among(steps: &Steps, inner: &[Def], locals: &mut Numbers<16>) -> bool
-    requires { length locals.old + length inner.now < 16 }
+    requires { length locals.old + length inner.now < most_locals }
     ensures found { OnTrue result
         (IsFirstOver (Ok (record { lo = steps.now.lo; hi = steps.now.hi; step = steps.now.step })) inner.now locals.old
         locals.new (lists_over inner.now locals.old (values steps.now.lo steps.now.hi steps.now.step))) }
@@ -96,7 +97,7 @@ fn first_among(steps: &Steps, inner: &[Def], locals: &mut Numbers<16>) -> bool
 
 // Extends these locals to the first full list whose next value is one of this range after `v`, if there is one.
 fn first_in_range_past(range: &Range, v: i64, inner: &[Def], locals: &mut Numbers<16>) -> bool
-    requires { length locals.old + length inner.now < 16 }
+    requires { length locals.old + length inner.now < most_locals }
     ensures found { OnTrue result
         (IsFirstOver (bounds range.now locals.old) inner.now locals.old locals.new
         (lists_over_rest inner.now locals.old (bounds range.now locals.old) v)) }
@@ -122,7 +123,7 @@ fn first_in_range_past(range: &Range, v: i64, inner: &[Def], locals: &mut Number
 // Extends these locals to the first full list whose next value is another one of this definition, after `v`, if there
 // is one. An expression has no other, and is not evaluated.
 fn first_past(def: &Def, v: i64, inner: &[Def], locals: &mut Numbers<16>) -> bool
-    requires { length locals.old + length inner.now < 16 }
+    requires { length locals.old + length inner.now < most_locals }
     ensures found { OnTrue result
         (IsFirstPast def.now inner.now locals.old locals.new (lists_past def.now inner.now locals.old v)) }
     ensures none { OnFalse result (lists_past def.now inner.now locals.old v ≡ []) }
@@ -138,7 +139,7 @@ fn first_past(def: &Def, v: i64, inner: &[Def], locals: &mut Numbers<16>) -> boo
 // there is none.
 pub(crate) fn advance(defs: &[Def], depth: usize, locals: &mut Numbers<16>) -> bool
     requires full { length locals.old ≡ depth + length defs.now }
-    requires locals_at_most { length locals.old ≤ 16 }
+    requires locals_at_most { length locals.old ≤ most_locals }
     ensures found { OnTrue result
         (IsFirstOf defs.now (take depth locals.old) locals.new
         (lists_after defs.now (take depth locals.old) (drop depth locals.old))) }

@@ -1,6 +1,7 @@
 //! A broadcast between ranks, whose messages come in several orders.
 
 ghost use Rattle.std.specs.Prelude.{◌<◌, ◌≤◌};
+ghost use Rattle.ptg_base.specs.Limits.{most_ranks};
 
 use crate::steps::{Step, first_other};
 use flow_meaning::Outcome;
@@ -214,7 +215,7 @@ fn ending(world: World<'_>) -> Result<End, OutOfMemory> {
 
 /// The broadcast in so many ranks, in one order of steps.
 pub fn end_of(alloc: Global, ranks: u32, steps: &[(Step, bool)]) -> Result<End, OutOfMemory>
-    requires { (0 < ranks) × (ranks ≤ 64) }
+    requires { (0 < ranks) × (ranks ≤ most_ranks) }
 {
     let JobVerdict::Consistent(job, given) = judge_texts(alloc, JDF, DATA)? else {
         return Ok(End::NoJob);

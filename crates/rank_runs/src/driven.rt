@@ -1,6 +1,7 @@
 //! Jobs that are driven in the orders of several seeds.
 
 ghost use Rattle.std.specs.Prelude.{◌<◌, ◌≤◌};
+ghost use Rattle.ptg_base.specs.Limits.{most_ranks};
 
 use crate::comparing::same;
 use crate::jobs::Job;
@@ -76,7 +77,7 @@ fn driven(
     ranks: u32,
     seed: u64,
 ) -> Result<Option<(u64, Outcome)>, OutOfMemory>
-    requires { (0 < ranks) × (ranks ≤ 64) }
+    requires { (0 < ranks) × (ranks ≤ most_ranks) }
 {
     match judge_texts(alloc, job.jdf, job.data)? {
         JobVerdict::Consistent(matched, given) => {
@@ -88,7 +89,7 @@ fn driven(
 
 /// What the seeds have in common for a job in so many ranks.
 pub fn agreed(alloc: Global, job: &Job, ranks: u32) -> Result<Finding, OutOfMemory>
-    requires { (0 < ranks) × (ranks ≤ 64) }
+    requires { (0 < ranks) × (ranks ≤ most_ranks) }
 {
     let Some(answer) = alone(alloc, job)? else {
         return Ok(Finding::NoJob);

@@ -9,6 +9,7 @@ mod jobs;
 mod steps;
 
 ghost use Rattle.std.specs.Prelude.{◌<◌, ◌≤◌};
+ghost use Rattle.ptg_base.specs.Limits.{most_ranks};
 
 use crate::broadcast::{EARLY, LATE, LEFT, REFUSED, THRICE, end_of};
 use crate::driven::agreed;
@@ -25,7 +26,7 @@ fn print_order<R: Print>(
     ranks: u32,
     steps: &[(Step, bool)],
 ) -> io::Result<()>
-    requires { (0 < ranks) × (ranks ≤ 64) }
+    requires { (0 < ranks) × (ranks ≤ most_ranks) }
 {
     match end_of(alloc, ranks, steps) {
         Ok(end) => println!(rt; "{name},{ranks},{end}"),
@@ -35,7 +36,7 @@ fn print_order<R: Print>(
 
 // Prints what several seeds have in common for a job in so many ranks.
 fn print_agreed<R: Print>(rt: &R, alloc: Global, job: &Job, ranks: u32) -> io::Result<()>
-    requires { (0 < ranks) × (ranks ≤ 64) }
+    requires { (0 < ranks) × (ranks ≤ most_ranks) }
 {
     match agreed(alloc, job, ranks) {
         Ok(finding) => println!(rt; "{},{ranks},{finding}", job.name),

@@ -1,6 +1,7 @@
 //! The opening of a world.
 
 ghost use Rattle.std.specs.Prelude.{◌≡◌, ◌<◌, ◌≤◌, ◌==◌, IfOk, OnOk, length};
+ghost use Rattle.ptg_base.specs.Limits.{most_ranks};
 ghost use Rattle.dep_iter.specs.Edges.{goal};
 ghost use Rattle.dep_iter.specs.Tasks.{IsTask};
 ghost use Rattle.rank_core.specs.World.{rank_of};
@@ -34,7 +35,7 @@ fn enter(ranks: &mut Vec<Shard>, k: usize, t: &TaskId, priority: i64) -> Result<
 // Enters a task if no edge goes into it, and answers whether that is so.
 fn open_task(ranks: &mut Vec<Shard>, m: &Matched, t: &TaskId) -> Result<bool, OutOfMemory>
     requires task { IsTask m.now t.now }
-    requires ranks { (0 < length ranks.old.items) × (length ranks.old.items ≤ 64) }
+    requires ranks { (0 < length ranks.old.items) × (length ranks.old.items ≤ most_ranks) }
     ensures root { IfOk result (λ root. root ≡ (goal m.now t.now == 0)) }
     ensures opened { OnOk result
         (Opens m.now (rank_of m.now (length ranks.old.items)) t.now ranks.old.items ranks.new.items) }
@@ -68,7 +69,7 @@ pub(crate) fn opened_ranks(
     m: &Matched,
     count: u32,
 ) -> Result<Vec<Shard>, OutOfMemory>
-    requires { (0 < count) × (count ≤ 64) }
+    requires { (0 < count) × (count ≤ most_ranks) }
     ensures { IfOk result (λ v. AreOpeningRanks m.now count v.items) }
 {
     let mut opened = new_ranks(alloc, m, count)?;

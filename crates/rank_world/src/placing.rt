@@ -1,6 +1,7 @@
 //! The rank of a task.
 
 ghost use Rattle.std.specs.Prelude.{◌≡◌, ◌<◌, ◌≤◌};
+ghost use Rattle.ptg_base.specs.Limits.{most_ranks};
 ghost use Rattle.dep_iter.specs.Tasks as tasks;
 ghost use Rattle.dep_iter.specs.Tasks.{IsTask};
 ghost use Rattle.rank_core.specs.World.{rank_of};
@@ -13,7 +14,7 @@ use ptg_base::TaskId;
 pub(crate) fn rank_under(m: &Matched, ranks: usize, t: &TaskId, env: &[i64]) -> usize
     requires task { IsTask m.now t.now }
     requires locals { env.now ≡ tasks.locals_of m.now t.now }
-    requires ranks { (0 < ranks) × (ranks ≤ 64) }
+    requires ranks { (0 < ranks) × (ranks ≤ most_ranks) }
     ensures number { result ≡ rank_of m.now ranks t.now }
     ensures within { result < ranks }
 {
@@ -28,7 +29,7 @@ pub(crate) fn rank_under(m: &Matched, ranks: usize, t: &TaskId, env: &[i64]) -> 
 // The rank of a task, where there are so many ranks.
 pub(crate) fn rank_at(m: &Matched, ranks: usize, t: &TaskId) -> usize
     requires task { IsTask m.now t.now }
-    requires ranks { (0 < ranks) × (ranks ≤ 64) }
+    requires ranks { (0 < ranks) × (ranks ≤ most_ranks) }
     ensures number { result ≡ rank_of m.now ranks t.now }
     ensures within { result < ranks }
 {

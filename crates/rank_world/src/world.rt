@@ -1,6 +1,7 @@
 //! A world of ranks.
 
 ghost use Rattle.std.specs.Prelude.{◌≡◌, ◌<◌, ◌≤◌, ◌↔◌, ℕ, IfOk, IfNone, IfSome, IsTrue, IsFalse, OnErr, OnOk, Some, length, slice_get};
+ghost use Rattle.ptg_base.specs.Limits.{most_ranks};
 ghost use Rattle.ptg_base.specs.Lists.{IsIn};
 ghost use Rattle.ptg_base.specs.Task.{Task};
 ghost use Rattle.plan_data.specs.Fit.{DataFit};
@@ -113,7 +114,7 @@ impl<'m> World<'m> {
         ranks: u32,
     ) -> Result<World<'m>, OutOfMemory>
         requires fit { DataFit m.now.colls m.now.elems given }
-        requires ranks { (0 < ranks) × (ranks ≤ 64) }
+        requires ranks { (0 < ranks) × (ranks ≤ most_ranks) }
         ensures opened { IfOk result (λ w. w ≡ opened m.now given ranks) }
         ensures sound { IfOk result (λ w. IsSoundWorld w.plan w.given w.ranks w.state) }
     {
@@ -147,7 +148,7 @@ impl<'m> World<'m> {
     pub fn ranks(&self) -> u32
         ensures number { result ≡ self.now.ranks }
         ensures some { 0 < result }
-        ensures at_most { result ≤ 64 }
+        ensures at_most { result ≤ most_ranks }
     {
         self.ranks.len() as u32
     }

@@ -3,6 +3,7 @@ ghost use Rattle.std.specs.Prelude.{◌≡◌, ◌+◌, ◌<◌, ◌≤◌, All,
 ghost use Rattle.ready_deques.specs.Ends.{DequeId, IsNew, less, new_thief};
 ghost use Rattle.ready_deques.specs.Hands.{AreFresh};
 ghost use Rattle.std.specs.Prelude.{List};
+ghost use Rattle.ptg_base.specs.Limits.{most_workers};
 
 use crate::ends::{OwnerEnd, ThiefEnd};
 use crate::hands::Hands;
@@ -11,7 +12,7 @@ use std::alloc::Global;
 
 /// An empty deque for each of these workers, and their hands in order of the workers' numbers from 0.
 pub fn make(alloc: Global, workers: u32) -> Result<Vec<Hands>, OutOfMemory>
-    requires { (1 ≤ workers) × (workers ≤ 64) }
+    requires { (1 ≤ workers) × (workers ≤ most_workers) }
     ensures { IfOk result (λ hands. (deques : List DequeId) × AreFresh workers deques hands.items) }
 {
     let mut owners = new_owners(alloc, workers)?;
@@ -62,7 +63,7 @@ fn assemble(
     owners: Vec<OwnerEnd>,
     rows: Vec<Vec<ThiefEnd>>,
 ) -> Result<Vec<Hands>, OutOfMemory>
-    requires workers_at_most { length owners.items ≤ 64 }
+    requires workers_at_most { length owners.items ≤ most_workers }
     requires new { All (IsNew (length owners.items)) owners.items }
     requires rows { (length rows.items ≡ length owners.items)
         × All (λ row. row.items ≡ map new_thief owners.items) rows.items }

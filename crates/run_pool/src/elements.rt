@@ -1,6 +1,7 @@
 //! How many numbers go over the edges and the write-backs of a job.
 
 ghost use Rattle.std.specs.Prelude.{◌≡◌, ◌≤◌, ◌<◌, ◌^◌, Some, drop, length, map, slice_get, if◌then◌else◌};
+ghost use Rattle.ptg_base.specs.Limits.{most_locals};
 ghost use Rattle.range_space.specs.Tasks as range;
 ghost use Rattle.plan_core.specs.Kinds as kinds;
 ghost use Rattle.dep_iter.specs.Edges as edges;
@@ -96,7 +97,7 @@ fn task_elements(plan: &Plan, t: &TaskId) -> u64
 fn space_of(plan: &Plan, class: u32) -> &ClassSpace
     requires { class < length plan.now.classes }
     ensures space { slice_get plan.now.spaces class ≡ Some result.now }
-    ensures at_most { length result.now.defs ≤ 16 }
+    ensures at_most { length result.now.defs ≤ most_locals }
 {
     let _ = plan.class(class);
     plan.space(class)
@@ -105,7 +106,7 @@ fn space_of(plan: &Plan, class: u32) -> &ClassSpace
 // How many numbers go over the edges into the tasks of a class and over their write-backs.
 fn class_elements(plan: &Plan, class: u32, space: &ClassSpace) -> u64
     requires class { slice_get plan.now.spaces class ≡ Some space.now }
-    requires defs { length space.now.defs ≤ 16 }
+    requires defs { length space.now.defs ≤ most_locals }
     requires at_most { weigh (elements.task_elements plan.now) (map (task class) (range.tasks space.now)) < 2 ^ 64 }
     ensures { result ≡ weigh (elements.task_elements plan.now) (map (task class) (range.tasks space.now)) }
 {

@@ -2,7 +2,7 @@
 //! edge finds.
 
 ghost use Rattle.std.specs.Prelude.{◌≡◌, ◌<◌, ◌≤◌, ◌+◌, ◌↔◌, ℕ, ℤ, IsSome, List, None, Option, Some};
-ghost use Rattle.ptg_base.specs.Limits.{most_tasks};
+ghost use Rattle.ptg_base.specs.Limits.{most_flows, most_tasks};
 ghost use Rattle.ptg_base.specs.Lists.{IsIn};
 ghost use Rattle.ptg_base.specs.Task.{Task};
 ghost use Rattle.ptg_base.specs.declared.edge.Edge.{Edge};
@@ -61,7 +61,7 @@ pub fn the_numbers_of_a_shard_are_bounded()
 /// last.
 pub fn an_edge_finds_its_target()
     ensures target { (P : Plan) (G : Data) (R : Moment) (e : Edge) → IsConsistent P → IsSoundState P G R.state
-        → MaySend P G R.state (item.Edge e) → IsTask P e.to × (e.in_flow < 8) × (0 < goal P e.to) }
+        → MaySend P G R.state (item.Edge e) → IsTask P e.to × (e.in_flow < most_flows) × (0 < goal P e.to) }
     ensures waits { (P : Plan) (G : Data) (of : Placement) (k : ℕ) (R : Moment) (e : Edge) (y : Content)
         → IsConsistent P → IsSoundState P G R.state → MaySend P G R.state (item.Edge e) → of e.to ≡ k
         → IsShardOf P G of k R y → IsWaiting (entry_before y e.to (goal P e.to) (priority P e.to)) }

@@ -1,6 +1,7 @@
 //! Tables of jobs.
 
 ghost use Rattle.std.specs.Prelude.{◌≡◌, ◌<◌, ◌≤◌, IfOk, IfSome};
+ghost use Rattle.ptg_base.specs.Limits.{most_shards};
 ghost use Rattle.plan_data.specs.Fit.{DataFit};
 ghost use Rattle.table_rule.specs.Changes.{first_pass};
 ghost use Rattle.dep_table.specs.Passes.{IsPassOf};
@@ -41,7 +42,7 @@ fn open(
     make: Make,
 ) -> Result<(DepTable, Pass), OutOfMemory>
     requires fit { DataFit matched.colls matched.elems given }
-    requires shards { (0 < make.shards) × (make.shards ≤ 256) }
+    requires shards { (0 < make.shards) × (make.shards ≤ most_shards) }
     ensures pass { IfOk result (λ r. IsPassOf (id_of r.0) r.1 × (shown r.1 ≡ first_pass)) }
     ensures preloaded { IfOk result (λ r. (job_in r.0).preloaded ≡ make.preload) }
 {

@@ -2,6 +2,7 @@
 
 ghost use Rattle.std.specs.Prelude.{◌≡◌, ◌+◌, ◌<◌, ◌≤◌, [], ◌∷◌, ◌++◌, Some, Ok, Err, length, slice_get, IfOk, OnOk, IfErr, IsSome};
 ghost use Rattle.std.specs.Option.{option_copied};
+ghost use Rattle.ptg_base.specs.Limits.{most_flows};
 ghost use Rattle.body_eval.specs.Element.{tile_of};
 ghost use Rattle.dep_iter.specs.Tasks as tasks;
 ghost use Rattle.flow_meaning.specs.Starting as starting;
@@ -64,7 +65,7 @@ impl Bench {
     fn lay(&mut self, start: &Start, flow: &FlowPlan, arrivals: &mut Arrivals)
         requires start { IsStart start.now.plan.now start.now.given.now start.now.task.now start.now.locals.now }
         requires elems { self.old.elems ≡ start.now.plan.now.elems }
-        requires room { length self.old.tiles < 8 }
+        requires room { length self.old.tiles < most_flows }
         requires flow { slice_get (tasks.flows_of start.now.plan.now start.now.task.now) (length self.old.tiles)
             ≡ Some flow.now }
         requires inputs { HasInputsFrom start.now.plan.now start.now.given.now start.now.task.now

@@ -2,6 +2,7 @@
 
 ghost use Rattle.std.specs.Prelude.{◌≡◌, ◌<◌, ◌≤◌, [], pos, length, replicate, slice_index, unwrap_or, IfOk, IfSome, Some, None};
 ghost use Rattle.std.specs.Option.{option_copied};
+ghost use Rattle.ptg_base.specs.Limits.{most_flows};
 ghost use Rattle.tile_pool.specs.Pool.{IsTakenFrom};
 ghost use Rattle.task_run.specs.Pools.{LendsTo, with_lent, without_last};
 ghost use Rattle.task_run.specs.PoolList.{CanGive, IsGivenBack};
@@ -89,14 +90,14 @@ impl Pools {
     // How many flows the task on the bench has so far.
     pub(crate) fn flows(&self) -> usize
         ensures flows { result ≡ length self.now.lent }
-        ensures at_most { result ≤ 8 }
+        ensures at_most { result ≤ most_flows }
     {
         self.lent.len()
     }
 
     // One flow more, which needs no tile of the pools.
     pub(crate) fn lend_none(&mut self)
-        requires { length self.old.lent < 8 }
+        requires { length self.old.lent < most_flows }
         ensures { self.new ≡ with_lent self.old None }
     {
         self.lent.push(None);
@@ -104,7 +105,7 @@ impl Pools {
 
     // One flow more, which starts on a copy of this tile, or on zeros if there is none.
     pub(crate) fn lend(&mut self, datatype: u32, from: Option<&Tile>) -> Tile
-        requires flows { length self.old.lent < 8 }
+        requires flows { length self.old.lent < most_flows }
         requires known { datatype < length self.old.elems }
         requires length { IfSome (option_copied from) (λ tile. length tile ≡ slice_index self.old.elems datatype) }
         ensures tile { result

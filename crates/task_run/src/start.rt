@@ -1,6 +1,7 @@
 //! A task with what its tiles come from, besides the edges into it.
 
 ghost use Rattle.std.specs.Prelude.{◌≡◌, ◌+◌, ◌<◌, true, Some, length, pos, replicate, slice_get, slice_index};
+ghost use Rattle.ptg_base.specs.Limits.{most_flows};
 ghost use Rattle.plan_core.specs.Kinds as kinds;
 ghost use Rattle.coll_data.specs.Tiles.{tile_at};
 ghost use Rattle.dep_iter.specs.declared.source.Source.TheVariants as source;
@@ -32,7 +33,7 @@ pub struct Start<'a> {
 fn lend_place(pools: &mut Pools, start: &Start, flow: &FlowPlan, place: &Place) -> Option<Tile>
     requires start { IsStart start.now.plan.now start.now.given.now start.now.task.now start.now.locals.now }
     requires elems { pools.old.elems ≡ start.now.plan.now.elems }
-    requires flows { length pools.old.lent < 8 }
+    requires flows { length pools.old.lent < most_flows }
     requires flow { slice_get (tasks.flows_of start.now.plan.now start.now.task.now) (length pools.old.lent)
         ≡ Some flow.now }
     requires kind { kinds.is_data (Some flow.now.kind) ≡ true }
@@ -47,7 +48,7 @@ fn lend_place(pools: &mut Pools, start: &Start, flow: &FlowPlan, place: &Place) 
 
 // The tile of a flow that has no source.
 fn lend_unsourced(pools: &mut Pools, flow: &FlowPlan) -> Option<Tile>
-    requires flows { length pools.old.lent < 8 }
+    requires flows { length pools.old.lent < most_flows }
     requires known { flow.now.datatype < length pools.old.elems }
     ensures tile { result
         ≡ starting.unsourced_tile flow.now.kind (replicate (slice_index pools.old.elems flow.now.datatype) (pos 0)) }
@@ -66,7 +67,7 @@ fn lend_unsourced(pools: &mut Pools, flow: &FlowPlan) -> Option<Tile>
 fn lend_from(pools: &mut Pools, start: &Start, flow: &FlowPlan, source: &Source) -> Option<Tile>
     requires start { IsStart start.now.plan.now start.now.given.now start.now.task.now start.now.locals.now }
     requires elems { pools.old.elems ≡ start.now.plan.now.elems }
-    requires flows { length pools.old.lent < 8 }
+    requires flows { length pools.old.lent < most_flows }
     requires flow { slice_get (tasks.flows_of start.now.plan.now start.now.task.now) (length pools.old.lent)
         ≡ Some flow.now }
     requires kind { kinds.is_data (Some flow.now.kind) ≡ true }
@@ -90,7 +91,7 @@ fn lend_from(pools: &mut Pools, start: &Start, flow: &FlowPlan, source: &Source)
 fn lend_source(pools: &mut Pools, start: &Start, flow: &FlowPlan) -> Option<Tile>
     requires start { IsStart start.now.plan.now start.now.given.now start.now.task.now start.now.locals.now }
     requires elems { pools.old.elems ≡ start.now.plan.now.elems }
-    requires flows { length pools.old.lent < 8 }
+    requires flows { length pools.old.lent < most_flows }
     requires flow { slice_get (tasks.flows_of start.now.plan.now start.now.task.now) (length pools.old.lent)
         ≡ Some flow.now }
     ensures tile { result
@@ -115,7 +116,7 @@ pub(crate) fn next_tile(
 ) -> Option<Tile>
     requires start { IsStart start.now.plan.now start.now.given.now start.now.task.now start.now.locals.now }
     requires elems { pools.old.elems ≡ start.now.plan.now.elems }
-    requires flows { length pools.old.lent < 8 }
+    requires flows { length pools.old.lent < most_flows }
     requires flow { slice_get (tasks.flows_of start.now.plan.now start.now.task.now) (length pools.old.lent)
         ≡ Some flow.now }
     requires inputs { HasInputsFrom start.now.plan.now start.now.given.now start.now.task.now (length pools.old.lent)

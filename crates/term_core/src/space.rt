@@ -1,6 +1,7 @@
 //! Ranges, definitions and the space of a class.
 
 ghost use Rattle.std.specs.Prelude.{◌≡◌, ◌≤◌, length};
+ghost use Rattle.ptg_base.specs.Limits.{most_params};
 
 use crate::expr::Expr;
 use arrayvec::ArrayVec;
@@ -41,7 +42,7 @@ impl Model for Params {
 impl Params {
     /// The parameters with these definitions.
     pub fn new(definitions: &[u8]) -> Params
-        requires { length definitions.now ≤ 8 }
+        requires { length definitions.now ≤ most_params }
         ensures { result ≡ definitions.now }
     {
         let mut numbers = ArrayVec::new();
@@ -51,7 +52,7 @@ impl Params {
 
     /// The numbers of the definitions.
     pub fn as_slice(&self) -> &[u8]
-        ensures within { length result.now ≤ 8 }
+        ensures within { length result.now ≤ most_params }
         ensures same { result.now ≡ self.now }
     {
         self.numbers.as_slice()

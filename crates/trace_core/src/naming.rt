@@ -1,6 +1,7 @@
 //! The tasks that rows name.
 
 ghost use Rattle.std.specs.Prelude.{◌≡◌, ◌+◌, ◌<◌, ◌≤◌, ℕ, Some, MatchOption, length, slice_get};
+ghost use Rattle.ptg_base.specs.Limits.{most_classes, most_params};
 ghost use Rattle.ptg_base.specs.Task.{Task};
 ghost use Rattle.term_core.specs.declared.space.ClassSpace.{ClassSpace};
 ghost use Rattle.trace_core.specs.Naming.{IsNamed, Names};
@@ -16,7 +17,7 @@ use range_space::Numbers;
 
 // The number of the class with this name among these, of which the first has number `n`.
 fn class_among(classes: &[ClassPlan], name: &[u8], n: u32) -> Option<u32>
-    requires { n + length classes.now ≤ 64 }
+    requires { n + length classes.now ≤ most_classes }
     ensures { MatchOption result ((k : ℕ) → IsNamed classes.now name.now k → ⊥) (λ number.
         (k : ℕ) × IsNamed classes.now name.now k × (number ≡ n + k)) }
 {
@@ -41,7 +42,7 @@ fn class_named(plan: &Plan, name: &[u8]) -> Option<u32>
 fn parameter_count(plan: &Plan, class: u32) -> usize
     requires { class < length plan.now.classes }
     ensures count { (s : ClassSpace) → slice_get plan.now.spaces class ≡ Some s → result ≡ length s.params }
-    ensures at_most { result ≤ 8 }
+    ensures at_most { result ≤ most_params }
 {
     plan.space(class).params.as_slice().len()
 }

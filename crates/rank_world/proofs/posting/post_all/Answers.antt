@@ -25,7 +25,7 @@ post-requires c =
     let l = subst (λ (ms : List Message). PostedSoFar v c.args.bench.now.tiles ms c.loop-message.mail) c.in-Some.ensures.steps.0 c.loop-message.invariant.so_far in
     record {
       room = post_room v h c.args.bench.now.tiles c.requires.tiles c.in-Some.message c.next.new.self.rest.items c.loop-message.mail l;
-      few = post_few v h c.args.bench.now.tiles c.requires.tiles c.in-Some.message c.next.new.self.rest.items c.loop-message.mail l;
+      at_most = post_few v h c.args.bench.now.tiles c.requires.tiles c.in-Some.message c.next.new.self.rest.items c.loop-message.mail l;
       shape = post_shape v h c.args.bench.now.tiles c.requires.tiles c.in-Some.message c.next.new.self.rest.items c.loop-message.mail l;
     }
 
