@@ -1,7 +1,6 @@
 -- Needs over a walk through all tasks, and the spares of a shard that has what it needs.
-use Rattle.std.proofs.Common.{◌≡◌, ℕ, ◌+◌, ◌<◌, ◌≤◌, List, [], ◌∷◌, ◌++◌, length, refl, ap, sym, ◌∙◌, subst, Some, slice_get, slice_index, inl, inr, arith, append_assoc, length-append}
+use Rattle.std.proofs.Common.{◌≡◌, ℕ, ◌+◌, ◌<◌, ◌≤◌, List, [], ◌∷◌, ◌++◌, length, refl, ap, sym, ◌∙◌, subst, Some, slice_get, slice_index, inl, inr, arith, length-append}
 use Rattle.std.proofs.lemmas.Bool.{cases_eq}
-use Rattle.std.proofs.lemmas.List.{append-nil}
 use Rattle.ptg_base.specs.Task.{Task}
 use Rattle.ptg_base.specs.declared.edge.WriteBack.{WriteBack}
 use Rattle.plan_core.specs.declared.plan.Plan.{Plan}
@@ -11,7 +10,7 @@ use Rattle.shard_meaning.specs.Opening.{HasOpeningReserve, IsOpeningShard}
 use Rattle.shard_meaning.specs.Share.{Placement}
 use Rattle.table_rule.specs.Placing.{shard_of}
 use Rattle.dep_table.specs.declared.needs.Needs.{Needs}
-use Rattle.dep_table.specs.Needs.{AddsNeeds, AddsTaskAt, AddsTiles, AreNeedsOf, AreNoNeeds, AreReserved, FitShards, HaveRoomFor, IsNeedOf, IsNoNeed, IsReservedFor, ReservesAt, write_tiles}
+use Rattle.dep_table.specs.Needs.{AddsNeeds, AddsTaskAt, AddsTiles, AreNeedsOf, AreNoNeeds, AreReserved, FitShards, IsNeedOf, IsNoNeed, IsReservedFor, ReservesAt, write_tiles}
 use Rattle.dep_table.specs.Opened.{AreOpeningShards, HaveOpeningReserve}
 use Rattle.dep_table.proofs.NeedsCounts.{need_other, need_own}
 use Rattle.dep_table.proofs.NeedsRoom.{room_task}

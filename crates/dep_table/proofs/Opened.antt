@@ -1,5 +1,5 @@
 -- A table that was opened.
-use Rattle.std.proofs.Common.{◌≡◌, ℕ, zero, suc, ◌+◌, ◌<◌, ◌≤◌, ◌==◌, Bool, true, false, cond, List, [], ◌∷◌, ◌++◌, length, refl, ap, sym, ◌∙◌, subst, Some, None, slice_get, inl, inr, arith, length-append, eq-eqb, ne_eqb}
+use Rattle.std.proofs.Common.{◌≡◌, ℕ, zero, suc, ◌+◌, ◌<◌, ◌≤◌, ◌==◌, Bool, true, false, cond, List, [], ◌∷◌, ◌++◌, length, refl, ap, sym, ◌∙◌, subst, Some, slice_get, inl, inr, arith, length-append, eq-eqb, ne_eqb}
 use Rattle.std.specs.List.{filter}
 use mathlib.Core.Logic.{dite}
 use mathlib.Core.Option.{some, some-injective, some-ne-none}
@@ -12,7 +12,7 @@ use Rattle.dep_iter.specs.Consistent.{IsConsistent, roots}
 use Rattle.dep_iter.specs.Edges.{goal, in_edges}
 use Rattle.dep_iter.specs.Tasks.{all_tasks}
 use Rattle.dep_iter.proofs.Listing.{listed}
-use Rattle.dep_shard.specs.Content.{Content, Entries, IsNew, entry_in, entry_of}
+use Rattle.dep_shard.specs.Content.{Content, IsNew}
 use Rattle.flow_meaning.specs.Machine.{arrived, opening_state}
 use Rattle.flow_meaning.specs.Table.{is_ready, ready_tasks}
 use Rattle.shard_meaning.specs.Opening.{IsOpeningShard}
@@ -54,18 +54,6 @@ ready_first P t = ap (λ n. n == goal P t) (none_arrived P t) ∙ zero_first (go
 ready_at_opening : (P : Plan) → length (ready_tasks P opening_state) ≡ length (roots P)
 unfolding ready_tasks
 ready_at_opening P = λ i. length (filter (λ t. ready_first P t i) (all_tasks P))
-
--- of no task nothing is opened
-pub none_opened : (P : Plan) (of : Placement) (n : ℕ) (ys : List Content) → AreNew n P.elems ys → AreOpened P of [] ys
-none_opened P of n ys new = λ k y at. let w = new.each k y at in record {
-  there = λ t i own. absurd i;
-  only = λ t e is. let none : entry_of y t ≡ None = ap (λ (l : Entries). entry_in l t) w.entries in absurd cc;
-  written = w.written;
-  trapped = w.trapped;
-  running = w.running;
-  ended = w.ended;
-  elems = w.elems;
-}
 
 -- one task more is opened
 pub opened_more : (P : Plan) (n : ℕ) (t : Task) (rest : List Task) (old new : List Content) → length old ≡ n → Opens P (shard_of P (length old)) t old new → IsSoFar P (λ ts. AreOpened P (shard_of P n) ts old) (t ∷ rest) → IsSoFar P (λ ts. AreOpened P (shard_of P n) ts new) rest

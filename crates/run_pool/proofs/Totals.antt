@@ -101,28 +101,5 @@ write_item P t w i =
 pub out_of : (P : Plan) (t : Task) (w : WriteBack) → IsIn w (write_backs P t) → w.from ≡ t
 out_of P t w i = item_sender P t (item.Write w) (write_item P t w i)
 
--- the task of a class with parameters that the class has
-pub of_class : (P : Plan) (class : ℕ) (s : ClassSpace) (params : List ℤ) → slice_get P.spaces class ≡ Some s → IsIn params (tasks s) → IsTask P (task class params)
-of_class P class s params here i = subst (λ (o : Option ClassSpace). IsSomeAnd o (λ s. IsIn params (tasks s))) (sym here) i
-
--- the numbers of the first of some tasks of a class, and of those after it
-pub tasks_left : (P : Plan) (class : ℕ) (all left : List (List ℤ)) (params : List ℤ) (t : Task) → all ≡ params ∷ left → t ≡ task class params
-    → weigh (task_elements P) (map (task class) all) ≡ task_elements P t + weigh (task_elements P) (map (task class) left)
-tasks_left P class all left params t split is =
-    ap (λ l. weigh (task_elements P) (map (task class) l)) split ∙ ap (λ u. task_elements P u + weigh (task_elements P) (map (task class) left)) (sym is)
-
--- the numbers of the tasks of a class, and of those of the classes after it
-pub class_first : (P : Plan) (class : ℕ) (s : ClassSpace) → slice_get P.spaces class ≡ Some s
-    → weigh (task_elements P) (tasks_from class (drop class P.spaces)) ≡ weigh (task_elements P) (map (task class) (tasks s)) + weigh (task_elements P) (tasks_from (class + 1) (drop (class + 1) P.spaces))
-class_first P class s here =
-    let f = task_elements P in
-    let split : weigh f (tasks_from class (drop class P.spaces)) ≡ weigh f (tasks_from class (s ∷ drop (suc class) P.spaces)) = ap (λ ss. weigh f (tasks_from class ss)) (drop_from P.spaces class s here) in
-    let both = weigh-append f (map (task class) (tasks s)) (tasks_from (suc class) (drop (suc class) P.spaces)) in
-    rw add-one (split ∙ both)
-
--- no class is left
-pub none_left : (P : Plan) (class : ℕ) → length P.spaces ≤ class → weigh (task_elements P) (tasks_from class (drop class P.spaces)) ≡ 0
-none_left P class past = ap (λ ss. weigh (task_elements P) (tasks_from class ss)) (drop_all class P.spaces past)
-
 pub benches_at_most : (workers each : ℕ) → workers < 4294967296 → each ≤ 65536 → 8 * workers * each ≤ 2251799813685248
 benches_at_most workers each few small = omega (arith, mul-le-mul_left workers small)

@@ -1,21 +1,16 @@
 //! How many numbers go over the edges and the write-backs of a job.
 
-ghost use Rattle.std.specs.Prelude.{◌≡◌, ◌≤◌, ◌<◌, ◌^◌, Some, drop, length, map, slice_get, if◌then◌else◌};
-ghost use Rattle.ptg_base.specs.Limits.{most_locals};
-ghost use Rattle.range_space.specs.Tasks as range;
+ghost use Rattle.std.specs.Prelude.{◌≡◌, ◌≤◌, ◌<◌, ◌^◌, length, if◌then◌else◌};
 ghost use Rattle.plan_core.specs.Kinds as kinds;
 ghost use Rattle.dep_iter.specs.Edges as edges;
 ghost use Rattle.dep_iter.specs.Tasks as tasks;
-ghost use Rattle.dep_iter.specs.Tasks.{IsTask, task, tasks_from};
-ghost use Rattle.list_lemmas.specs.Counting.{weigh};
+ghost use Rattle.dep_iter.specs.Tasks.{IsTask};
 ghost use Rattle.run_pool.specs.Bytes as bytes;
 ghost use Rattle.run_pool.specs.Elements as elements;
 
-use dep_iter::{Matched, flows_of, in_edges_under, locals_of, write_backs_under};
+use dep_iter::{Matched, all_tasks, flows_of, in_edges_under, locals_of, write_backs_under};
 use plan_core::{Plan, is_data};
 use ptg_base::TaskId;
-use range_space::Space;
-use term_core::ClassSpace;
 
 // How many numbers a tile of this flow of a task has.
 fn flow_elements(plan: &Plan, t: &TaskId, flow: u8) -> u64
@@ -93,48 +88,16 @@ fn task_elements(plan: &Plan, t: &TaskId) -> u64
     in_elements(plan, t, env.as_slice()) + out_elements(plan, t, env.as_slice())
 }
 
-// The space of a class.
-fn space_of(plan: &Plan, class: u32) -> &ClassSpace
-    requires { class < length plan.now.classes }
-    ensures space { slice_get plan.now.spaces class ≡ Some result.now }
-    ensures at_most { length result.now.defs ≤ most_locals }
-{
-    let _ = plan.class(class);
-    plan.space(class)
-}
-
-// How many numbers go over the edges into the tasks of a class and over their write-backs.
-fn class_elements(plan: &Plan, class: u32, space: &ClassSpace) -> u64
-    requires class { slice_get plan.now.spaces class ≡ Some space.now }
-    requires defs { length space.now.defs ≤ most_locals }
-    requires at_most { weigh (elements.task_elements plan.now) (map (task class) (range.tasks space.now)) < 2 ^ 64 }
-    ensures { result ≡ weigh (elements.task_elements plan.now) (map (task class) (range.tasks space.now)) }
-{
-    let mut all = 0;
-    for params in Space::new(space) {
-        let t = TaskId::new(class, params.as_slice());
-        all += task_elements(plan, &t);
-    }
-    all
-}
-
-// The same for the classes from this number on.
-fn elements_from(plan: &Plan, class: u32) -> u64
-    requires { weigh (elements.task_elements plan.now) (tasks_from class (drop class plan.now.spaces)) < 2 ^ 64 }
-    ensures { result ≡ weigh (elements.task_elements plan.now) (tasks_from class (drop class plan.now.spaces)) }
-{
-    if class as usize >= plan.classes.len() {
-        return 0;
-    }
-    let here = class_elements(plan, class, space_of(plan, class));
-    here + elements_from(plan, class + 1)
-}
-
-// The same for all classes, by a walk over all tasks.
+// How many numbers go over the edges into all tasks and over their write-backs, by a walk over the tasks.
 fn elements_of_all(m: &Matched) -> u64
     ensures { result ≡ bytes.sent_elements m.now }
 {
-    elements_from(m.plan(), 0)
+    let plan = m.plan();
+    let mut all = 0;
+    for t in all_tasks(plan) {
+        all += task_elements(plan, &t);
+    }
+    all
 }
 
 // The same where all tiles are of one type: a product, without a walk.

@@ -1,4 +1,4 @@
-use Rattle.std.proofs.Common.{◌≡◌, ◌∙◌, ◌==◌, true, false, List, ◌∷◌, ap, sym, subst, length, arith}
+use Rattle.std.proofs.Common.{◌∙◌, List, ap, sym, subst, length, arith}
 use Rattle.ptg_base.specs.Task.{Task}
 use Rattle.table_rule.specs.Placing.{shard_of}
 use Rattle.dep_table.specs.Opened.{AreOpened, roots_among}

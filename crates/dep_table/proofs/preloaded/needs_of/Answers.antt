@@ -1,5 +1,4 @@
-use Rattle.std.proofs.Common.{rules, ◌≡◌, ◌∙◌, ◌<◌, ◌≤◌, List, [], ◌∷◌, ap, sym, subst, length, arith}
-use Rattle.ptg_base.specs.Task.{Task}
+use Rattle.std.proofs.Common.{rules, ◌≡◌, ◌∙◌, [], ◌∷◌, ap, sym, subst, length}
 use Rattle.plan_core.specs.declared.plan.Plan.{Plan}
 use Rattle.dep_iter.specs.Tasks.{all_tasks}
 use Rattle.table_rule.specs.Placing.{shard_of}
