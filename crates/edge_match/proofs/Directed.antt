@@ -1,6 +1,6 @@
 -- The edges of a flow in one direction: their marks, one after another, and those that its first dependences give.
 use Rattle.std.proofs.Common.{◌≡◌, ◌↔◌, ℕ, zero, suc, ℤ, Bool, true, false, List, [], ◌∷◌, ◌++◌, drop, take, map, refl, ap, sym}
-use Rattle.std.proofs.Common.{◌∙◌, subst, append_assoc, add-one, ◌+◌, Option, Some, None, slice_get, Result, Ok, Err, inl, inr}
+use Rattle.std.proofs.Common.{◌∙◌, subst, append_assoc, ◌+◌, Option, Some, None, slice_get, Result, Ok, Err, inl, inr}
 use Rattle.std.proofs.Common.{add-zero, arith}
 use Rattle.std.proofs.lemmas.List.{append-nil}
 use Rattle.std.specs.List.{filter_map, flat_map}
@@ -26,7 +26,7 @@ use Rattle.dep_iter.specs.declared.direction.Direction.{Direction}
 use Rattle.dep_iter.specs.declared.direction.Direction.TheVariants.{In, Out}
 use Rattle.dep_iter.specs.declared.source.Source.{Source}
 use Rattle.dep_iter.specs.Tasks.{flows_of, locals_of, task}
-use Rattle.dep_iter.specs.Active.{flow_ins, held_target, held_targets, held_then, takes_first}
+use Rattle.dep_iter.specs.Active.{flow_ins, held_target, held_targets, takes_first}
 use Rattle.dep_iter.specs.Directions.{dependences, edge_at, edges_of, first_alone, near_flow}
 use Rattle.dep_iter.specs.Edges.{data_source, edges_into, in_edges_before}
 use Rattle.dep_iter.specs.Items.{edge_of, out_edges_before, write_of}
