@@ -1,10 +1,9 @@
 -- What is sent, one item after another.
-use Rattle.std.proofs.Common.{◌≡◌, ◌+◌, ◌≤◌, ℤ, Bool, true, List, [], ◌∷◌, ◌++◌, length, length-append, map, refl, ap, sym, ◌∙◌}
+use Rattle.std.proofs.Common.{◌≡◌, ◌+◌, ℤ, List, [], ◌∷◌, ◌++◌, length, length-append, map, refl, ap, sym, ◌∙◌}
 use Rattle.std.proofs.Common.{subst, append_assoc, inl, inr, arith}
 use Rattle.std.proofs.lemmas.List.{append-nil, length-map, map-append, nil_from_length}
 use Rattle.std.proofs.lemmas.List.Elements.{filter_map-append}
 use Rattle.std.specs.List.{filter_map}
-use Rattle.ptg_base.specs.Lists.{IsIn}
 use Rattle.ptg_base.specs.declared.edge.Edge.{Edge}
 use Rattle.ptg_base.specs.declared.edge.Item.{Item}
 use Rattle.ptg_base.specs.declared.edge.Item.TheVariants as item
@@ -16,30 +15,30 @@ use Rattle.edge_accept.specs.declared.tally.Outs.{Outs}
 use Rattle.edge_accept.specs.Tallies.{AreSent, IsOnceIn, places_of}
 use Rattle.edge_accept.proofs.TaskFlows.{length-items}
 
--- one edge for each of the numbers
-edges_only : (mk : List ℤ → Edge) (ps : List (List ℤ)) → filter_map edge_of (map (λ p. item.Edge (mk p)) ps) ≡ map mk ps
-edges_only mk [] = refl
-edges_only mk (p ∷ ps) = ap (λ l. mk p ∷ l) (edges_only mk ps)
+-- edges that are written as items
+pub edges_only : (es : List Edge) → filter_map edge_of (map item.Edge es) ≡ es
+edges_only [] = refl
+edges_only (e ∷ es) = ap (λ l. e ∷ l) (edges_only es)
 
-no_writes : (mk : List ℤ → Edge) (ps : List (List ℤ)) → filter_map write_of (map (λ p. item.Edge (mk p)) ps) ≡ []
-no_writes mk [] = refl
-no_writes mk (p ∷ ps) = no_writes mk ps
+no_writes : (es : List Edge) → filter_map write_of (map item.Edge es) ≡ []
+no_writes [] = refl
+no_writes (e ∷ es) = no_writes es
 
 module _ (colls : List Shape) where
   pub sent_nil : (s : Outs) → AreSent colls s s []
   sent_nil s = record { edges = omega arith; writes = omega arith; exist = λ p h. absurd h; added = λ ps k. rw append-nil k }
 
-  pub sent_edges : (s u : Outs) (mk : List ℤ → Edge) (ps : List (List ℤ)) → u.edges ≡ s.edges + length ps → u.writes ≡ s.writes
-      → u.written ≡ s.written → AreSent colls s u (map (λ p. item.Edge (mk p)) ps)
-  sent_edges s u mk ps edges writes written =
-      let l = ap length (edges_only mk ps) ∙ length-map ps mk in
-      let none = no_writes mk ps in
+  pub sent_edges : (s u : Outs) (es : List Edge) → u.edges ≡ s.edges + length es → u.writes ≡ s.writes → u.written ≡ s.written
+      → AreSent colls s u (map item.Edge es)
+  sent_edges s u es edges writes written =
+      let l = ap length (edges_only es) in
+      let none = no_writes es in
       let n = ap length none in
       record {
         edges = omega arith;
         writes = omega arith;
         exist = λ p h. absurd (rw none at h);
-        added = λ qs k. rw (none, append-nil qs, written) k;
+        added = λ ps k. rw (none, append-nil ps, written) k;
       }
 
   pub sent_append : (s u v : Outs) (xs ys : List Item) → AreSent colls s u xs → AreSent colls u v ys → AreSent colls s v (xs ++ ys)

@@ -20,7 +20,7 @@ use Rattle.list_lemmas.proofs.Members.{IsIn-append_left, IsIn-append_right, from
 use Rattle.list_lemmas.proofs.Distinct.{HasNoRepeats-append}
 use Rattle.list_lemmas.proofs.Places.{drop_from}
 use Rattle.dep_iter.proofs.Belonging.{held-more}
-use Rattle.dep_iter.specs.Tasks.{flows_of, locals_of}
+use Rattle.dep_iter.specs.Tasks.{flows_of}
 use Rattle.dep_iter.specs.Active.{held_target, held_targets, held_then, takes_first}
 use Rattle.dep_iter.specs.Consistent.{is_data_edge, takes_tile}
 use Rattle.dep_iter.specs.Edges.{edges_into, in_edges_before}

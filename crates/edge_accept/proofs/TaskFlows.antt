@@ -1,8 +1,7 @@
 -- The edges into a task and what it sends, flow by flow.
-use Rattle.std.proofs.Common.{◌≡◌, ◌≢◌, ◌≤◌, ℕ, zero, suc, ◌+◌, ℤ, List, [], ◌∷◌, ◌++◌, length, map, refl, ap, sym, ◌∙◌}
-use Rattle.std.proofs.Common.{subst, append_assoc, add-zero, Option, Some, None, Bool, slice_get, inl, inr}
+use Rattle.std.proofs.Common.{◌≡◌, ◌≢◌, ℕ, zero, suc, ◌+◌, ℤ, List, [], ◌∷◌, ◌++◌, length, map, refl, ap, sym, ◌∙◌}
+use Rattle.std.proofs.Common.{subst, append_assoc, add-zero, Option, Some, None, slice_get, inl, inr}
 use Rattle.std.proofs.Common.{arith}
-use Rattle.std.proofs.lemmas.Bool.{cases_lt}
 use Rattle.std.specs.List.{filter_map, flat_map}
 use Rattle.std.specs.Option.{option_map_or}
 use Rattle.ptg_base.specs.Lists.{HasNoRepeats, IsIn}
@@ -19,7 +18,7 @@ use Rattle.list_lemmas.proofs.Members.{from_append, from_flat_map, from_map}
 use Rattle.dep_iter.specs.declared.source.Source.{Source}
 use Rattle.dep_iter.specs.declared.source.Source.TheVariants as source
 use Rattle.dep_iter.specs.Tasks.{flows_of, locals_of, task}
-use Rattle.dep_iter.specs.Active.{by_flow, flow_ins, flow_outs, held_targets, takes_first}
+use Rattle.dep_iter.specs.Active.{by_flow, flow_ins, flow_outs}
 use Rattle.dep_iter.specs.Arguments.{combinations}
 use Rattle.dep_iter.specs.Edges.{data_source, edge, edges_into, in_edges, source_among}
 use Rattle.dep_iter.specs.Items.{edge_of, item_flow, items, items_to, write_of}

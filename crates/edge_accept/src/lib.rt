@@ -8,8 +8,8 @@ mod ins;
 mod outs;
 mod roots;
 mod sending;
-mod tally;
 mod taking;
+mod tally;
 mod tasks;
 
 pub use accepting::accepts;

@@ -1,6 +1,6 @@
 //! Counts of what tasks send.
 
-ghost use Rattle.std.specs.Prelude.{◌≡◌, ◌+◌, ◌∷◌, [], ℤ, List, length, map};
+ghost use Rattle.std.specs.Prelude.{◌≡◌, ◌+◌, ◌∷◌, [], List, length, map};
 ghost use Rattle.std.specs.Bool.{OnTrue};
 ghost use Rattle.ptg_base.specs.declared.edge.Edge.{Edge as EdgeValue};
 ghost use Rattle.ptg_base.specs.declared.edge.Item.TheVariants as item;
@@ -24,8 +24,8 @@ impl Outs {
 
     // Counts so many edges, if they are not too many.
     pub(crate) fn add_edges(&mut self, count: u64) -> bool
-        ensures { (colls : List ShapeValue) (mk : List ℤ → EdgeValue) (ps : List (List ℤ)) → IsCount count (length ps)
-            → OnTrue result (AreSent colls self.old self.new (map (λ p. item.Edge (mk p)) ps)) }
+        ensures { (colls : List ShapeValue) (es : List EdgeValue) → IsCount count (length es)
+            → OnTrue result (AreSent colls self.old self.new (map item.Edge es)) }
     {
         if count > MOST_EDGES - self.items() {
             return false;

@@ -59,7 +59,8 @@ fn take_target(at: &FlowAt, k: usize, target: &Target, ins: &mut Ins) -> bool
             true
         }
         Target::Element(coll, indices) => {
-            at.plan.has_place(&place_of(*coll, indices.as_slice(), at.env))
+            at.plan
+                .has_place(&place_of(*coll, indices.as_slice(), at.env))
         }
         Target::New => true,
         Target::Null => at.sends_nothing,

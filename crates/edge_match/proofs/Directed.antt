@@ -1,6 +1,6 @@
 -- The edges of a flow in one direction: their marks, one after another, and those that its first dependences give.
 use Rattle.std.proofs.Common.{◌≡◌, ◌↔◌, ℕ, zero, suc, ℤ, Bool, true, false, List, [], ◌∷◌, ◌++◌, drop, take, map, refl, ap, sym}
-use Rattle.std.proofs.Common.{◌∙◌, subst, append_assoc, add-one, ◌+◌, Option, Some, None, slice_get, Result, Ok, Err, inl, inr}
+use Rattle.std.proofs.Common.{◌∙◌, subst, append_assoc, ◌+◌, Option, Some, None, slice_get, Result, Ok, Err, inl, inr}
 use Rattle.std.proofs.Common.{add-zero, arith}
 use Rattle.std.proofs.lemmas.List.{append-nil}
 use Rattle.std.specs.List.{filter_map, flat_map}
@@ -26,7 +26,7 @@ use Rattle.dep_iter.specs.declared.direction.Direction.{Direction}
 use Rattle.dep_iter.specs.declared.direction.Direction.TheVariants.{In, Out}
 use Rattle.dep_iter.specs.declared.source.Source.{Source}
 use Rattle.dep_iter.specs.Tasks.{flows_of, locals_of, task}
-use Rattle.dep_iter.specs.Active.{flow_ins, held_target, held_targets, held_then, takes_first}
+use Rattle.dep_iter.specs.Active.{flow_ins, held_target, held_targets, takes_first}
 use Rattle.dep_iter.specs.Directions.{dependences, edge_at, edges_of, first_alone, near_flow}
 use Rattle.dep_iter.specs.Edges.{data_source, edges_into, in_edges_before}
 use Rattle.dep_iter.specs.Items.{edge_of, out_edges_before, write_of}
@@ -34,6 +34,7 @@ use Rattle.dep_iter.specs.Arguments.{combinations}
 use Rattle.dep_iter.proofs.Belonging.{held-none}
 use Rattle.dep_iter.proofs.Distinctness.{distinct_in, distinct_out}
 use Rattle.edge_accept.specs.Flows.{by_number, edges_into_flow}
+use Rattle.edge_accept.proofs.SentItems.{edges_only}
 use Rattle.edge_accept.proofs.TakenEdges.{held-next_none, held-next_some}
 use Rattle.edge_accept.proofs.TaskFlows.{each_more, in_edges-flows, into_flow_is, items-flows, sent_flow_is}
 use Rattle.edge_match.specs.declared.counted.Counted.{Counted}
@@ -43,11 +44,6 @@ use Rattle.edge_match.specs.declared.task_at.FlowAt.{FlowAt}
 use Rattle.edge_match.specs.FlowParts.{CheckedAt, FlowMarks, before_at, marks_from}
 use Rattle.edge_match.specs.Marks.{Mark, edge_marks, flow_items, held_items, item_marks, items_at, numbered, write_marks}
 use Rattle.edge_match.proofs.Parts.{stop, followed, unchecked}
-
--- edges that are written as items
-pub edges_only : (es : List Edge) → filter_map edge_of (map item.Edge es) ≡ es
-edges_only [] = refl
-edges_only (e ∷ es) = ap (λ l. e ∷ l) (edges_only es)
 
 in_items : (t : Task) (env : List ℤ) (n : ℕ) (xs : List Target)
     → flat_map (items_at In t env n) xs ≡ map item.Edge (flat_map (edges_into t env n) xs)

@@ -1,7 +1,6 @@
 //! Faults of tasks.
 
-ghost use Rattle.std.specs.Prelude.{◌≡◌, ◌+◌, ◌≤◌, ◌++◌, ◌∷◌, [], IfOk, IsTrue, length};
-ghost use Rattle.ptg_base.specs.Limits.{most_locals};
+ghost use Rattle.std.specs.Prelude.{◌≡◌, ◌∷◌, [], IfOk, IsTrue};
 ghost use Rattle.plan_core.specs.declared.plan.Plan.{Plan as PlanValue};
 ghost use Rattle.edge_match.specs.Counted.{Checked, Decides};
 ghost use Rattle.edge_match.specs.Faults.{fault_at};
@@ -13,24 +12,15 @@ use crate::fault::{MatchCode, MatchFault};
 use ptg_base::TaskId;
 use range_space::Numbers;
 
-// Adds these values.
-fn push_all(values: &[i64], numbers: &mut Numbers<16>)
-    requires { length numbers.old + length values.now ≤ most_locals }
-    ensures { numbers.new ≡ numbers.old ++ values.now }
-{
-    let Some((v, others)) = values.split_first() else {
-        return;
-    };
-    numbers.push(*v);
-    push_all(others, numbers);
-}
-
 // The fault with this code of a task, of one of its flows or of none.
 pub(crate) fn fault_of(code: MatchCode, t: &TaskId, flow: Option<u8>) -> MatchFault
     ensures { result ≡ fault_at code t.now flow }
 {
     let mut numbers = Numbers::new();
-    push_all(t.params(), &mut numbers);
+    let params = t.params();
+    for v in params {
+        numbers.push(*v);
+    }
     MatchFault {
         code,
         class: t.class(),

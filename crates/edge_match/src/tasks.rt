@@ -71,11 +71,7 @@ fn check_task(
 }
 
 // Checks all tasks, in walk order.
-pub(crate) fn check_all(
-    phase: Phase,
-    plan: &Plan,
-    counted: &mut Counted,
-) -> Result<(), MatchFault>
+pub(crate) fn check_all(phase: Phase, plan: &Plan, counted: &mut Counted) -> Result<(), MatchFault>
     ensures { Checked plan.now counted.old counted.new result (phase_marks phase plan.now) }
 {
     all_tasks_are_listed();

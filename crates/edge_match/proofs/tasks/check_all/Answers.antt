@@ -1,4 +1,4 @@
-use Rattle.std.proofs.Common.{sym, ◌∙◌, ap, subst, inl, inr, refl}
+use Rattle.std.proofs.Common.{sym, ◌∙◌, subst, inl, inr, refl}
 use Rattle.std.specs.List.{flat_map}
 use Rattle.edge_match.specs.Counted.{Checked}
 use Rattle.edge_match.specs.Marks.{task_marks}

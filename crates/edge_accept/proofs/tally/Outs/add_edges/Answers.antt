@@ -3,7 +3,7 @@ use Rattle.edge_accept.proofs.SentItems.{sent_edges}
 use Rattle.edge_accept.proofs.tally.Outs.add_edges.Goals as goal
 
 pub returns : goal.returns
-returns c = λ colls mk ps k.
+returns c = λ colls es k.
     let few = c.if-count-items.false in
     let n = k.0 (omega arith) in
-    sent_edges colls c.args.self.now _ mk ps (ap (λ i. c.args.self.now.edges + i) n) refl refl
+    sent_edges colls c.args.self.now _ es (ap (λ i. c.args.self.now.edges + i) n) refl refl

@@ -1,6 +1,5 @@
-use Rattle.std.proofs.Common.{true, sym, subst, inl, inr, arith}
+use Rattle.std.proofs.Common.{sym, subst, inl, inr, arith}
 use Rattle.std.proofs.lemmas.Bool.{OnTrue_from}
-use Rattle.ptg_base.specs.declared.place.Place.{Place}
 use Rattle.plan_core.specs.Place.{HasPlace}
 use Rattle.list_lemmas.proofs.Distinct.{HasNoRepeats-push}
 use Rattle.edge_accept.proofs.tally.Outs.add_write.Goals as goal
