@@ -74,7 +74,8 @@ side (negsuc n) = None
 abbrev pub shape_of : ℤ → Option ℤ → Option (ℕ × Option ℕ)
 shape_of rows None = option_map (λ r. (r, None)) (side rows)
 shape_of rows (Some cols) =
-    option_and_then (λ r. option_and_then (λ c. if nat_le (r * c) most_tiles then Some (r, Some c) else None) (side cols))
+    option_and_then
+    (λ r. option_and_then (λ c. if nat_le (r * c) most_tiles then Some (r, Some c) else None) (side cols))
     (side rows)
 
 -- the shape, the type and the elements of a tile of a collection of the type of this name: its rows are the field of

@@ -77,8 +77,8 @@ fn next_task<'a>(plan: &'a Plan, later: &mut u32, at_hand: &mut ClassTasks<'a>) 
     next_task(plan, later, at_hand)
 }
 
-/// An iterator over the tasks of a plan, in walk order. Contracts see it as the list of those not yet given. It takes no
-/// memory.
+/// An iterator over the tasks of a plan, in walk order. Contracts see it as the list of those not yet given. It takes
+/// no memory.
 #[derive(Drop)]
 pub struct Tasks<'a> {
     plan: &'a Plan,

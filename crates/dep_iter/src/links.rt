@@ -148,7 +148,8 @@ impl<'a> Model for Links<'a> {
         l.at_hand ++ all_links (given_locals l.env) (targets_left l.inward (given_locals l.env) l.position) };
 
     ghost invariant = { λ l.
-        (l.position.next_flow + length l.position.flows.now ≤ most_flows) × IsTrue (position_fits l.plan.now l.position) };
+        (l.position.next_flow + length l.position.flows.now ≤ most_flows)
+        × IsTrue (position_fits l.plan.now l.position) };
 }
 
 impl<'a> Links<'a> {

@@ -105,8 +105,8 @@ fn opening_words(alloc: Global, shards: u32, live: u64) -> Result<Vec<u64>, OutO
     Ok(words)
 }
 
-// The shards of a new table: each has the ready entries of its own tasks that no edge goes into. The walk stops once all
-// of these are found.
+// The shards of a new table: each has the ready entries of its own tasks that no edge goes into. The walk stops once
+// all of these are found.
 pub(crate) fn opened_shards(
     alloc: Global,
     m: &Matched,

@@ -37,7 +37,8 @@ fn add_one(table: &mut IndexMap<TaskId, u32>, t: &TaskId)
 // Counts an item at the task that it goes to, if it is an edge.
 pub(crate) fn count_item(table: &mut IndexMap<TaskId, u32>, item: &Item)
     requires room { 0 < spare table.old }
-    requires at_most { (u : Task) → IsTrue (is_edge_to u item.now) → arrivals.number_at table.old.entries u ≤ most_edges }
+    requires at_most { (u : Task) → IsTrue (is_edge_to u item.now)
+        → arrivals.number_at table.old.entries u ≤ most_edges }
     ensures { (u : Task)
         → arrivals.number_at table.new.entries u
         ≡ arrivals.number_at table.old.entries u + as_number (is_edge_to u item.now) }

@@ -11,5 +11,6 @@ use Rattle.print_laws.specs.Same.{IsSame}
 -- itself the text of a tree, the same but for spots and the indices of tokens.
 abbrev pub ReadsBack : Type 0
 ReadsBack =
-    (bytes : List ℕ) (jdf : Jdf) → IsJdf bytes jdf → length (spelling jdf) ≤ most_bytes → token_count (fragments jdf) ≤ most_tokens
+    (bytes : List ℕ) (jdf : Jdf) → IsJdf bytes jdf → length (spelling jdf) ≤ most_bytes
+    → token_count (fragments jdf) ≤ most_tokens
     → (again : Jdf) × IsJdf (spelling jdf) again × IsSame again jdf

@@ -88,7 +88,8 @@ has_bad_operand _ _ = false
 
 -- 1 to 64 workers and 1 to 256 shards
 abbrev pub has_bad_count : List Part → Bool
-has_bad_count ps = has_no_number 1 most_workers (texts_of workers ps) || has_no_number 1 most_shards (texts_of shards ps)
+has_bad_count ps =
+    has_no_number 1 most_workers (texts_of workers ps) || has_no_number 1 most_shards (texts_of shards ps)
 
 abbrev pub has_bad_number : Verb → List Part → Bool
 has_bad_number verb ps = has_bad_count ps || has_bad_operand (operands_of verb) (operands ps)

@@ -28,8 +28,8 @@ pub record IsOpenedFor (P : Plan) (of : Placement) (k : ℕ) (ts : List Task) (y
 abbrev pub AreOpened : Plan → Placement → List Task → List Content → Type 0
 AreOpened P of ts ys = (k : ℕ) (y : Content) → slice_get ys k ≡ Some y → IsOpenedFor P of k ts y
 
--- From old to new the rank of a task got its entry, if no edge goes into it, where the ranks had the entries of the tasks
--- before it.
+-- From old to new the rank of a task got its entry, if no edge goes into it, where the ranks had the entries of the
+-- tasks before it.
 pub record Opens (P : Plan) (of : Placement) (t : Task) (old new : List Content) : Type 0 where
   pub count : length new ≡ length old
   pub opened : (done : List Task) → AreOpened P of done old → AreOpened P of (done ++ t ∷ []) new
