@@ -1,30 +1,25 @@
 -- The numbers that go over edges and write-backs, all together, and how many they are at most.
-use Rattle.std.proofs.Common.{nat_le, ◌*◌, ℤ, map, drop, slice_get, subst, add-one, ◌≡◌, ℕ, zero, suc, ◌+◌, ◌≤◌, ◌<◌, true, List, [], ◌∷◌, length, ap, sym, ◌∙◌, Option, Some, None, slice_index, sum, arith}
+use Rattle.std.proofs.Common.{nat_le, ◌*◌, subst, ◌≡◌, ℕ, zero, suc, ◌+◌, ◌≤◌, ◌<◌, true, List, [], ◌∷◌, length, ap, ◌∙◌, Option, Some, None, slice_index, sum, arith}
 use Rattle.std.proofs.Math.Nat.{mul-le-mul_left}
 use Rattle.std.proofs.lemmas.Bool.{and_parts}
-use Rattle.std.proofs.lemmas.List.{drop_all}
 use Rattle.std.proofs.lemmas.Bool.Decides.{nat_tests}
 use Rattle.std.proofs.lemmas.List.Sums.{sum_by-cons}
 use Rattle.std.specs.List.{list_all}
-use Rattle.std.specs.Prelude.{IsSomeAnd}
 use Rattle.ptg_base.specs.Lists.{IsIn}
 use Rattle.ptg_base.specs.Task.{Task}
 use Rattle.ptg_base.specs.declared.edge.Edge.{Edge}
 use Rattle.ptg_base.specs.declared.edge.WriteBack.{WriteBack}
 use Rattle.ptg_base.specs.declared.edge.Item.{Item}
 use Rattle.ptg_base.specs.declared.edge.Item.TheVariants as item
-use Rattle.term_core.specs.declared.space.ClassSpace.{ClassSpace}
-use Rattle.range_space.specs.Tasks.{tasks}
 use Rattle.plan_core.specs.declared.flow.FlowPlan.{FlowPlan}
 use Rattle.plan_core.specs.declared.plan.Plan.{Plan}
 use Rattle.plan_core.specs.WellMade.{is_tile_length}
 use Rattle.dep_iter.specs.Consistent.{IsConsistent, all_data, all_in, all_items, all_writes, is_data_edge}
 use Rattle.dep_iter.specs.Edges.{in_edges}
 use Rattle.dep_iter.specs.Items.{items, write_backs, write_of}
-use Rattle.dep_iter.specs.Tasks.{IsTask, all_tasks, task, tasks_from}
+use Rattle.dep_iter.specs.Tasks.{all_tasks}
 use Rattle.dep_iter.proofs.Belonging.{in_edge_is}
-use Rattle.list_lemmas.proofs.Counts.{weigh-append, weigh-at_most, weigh-filter, weigh-flat_map, weigh-plus}
-use Rattle.list_lemmas.proofs.Places.{drop_from}
+use Rattle.list_lemmas.proofs.Counts.{weigh-at_most, weigh-filter, weigh-flat_map, weigh-plus}
 use Rattle.list_lemmas.proofs.Members.{from_filter_map}
 use Rattle.list_lemmas.proofs.Joins.{length-filter_le, length-filter_map_le, length-flat_map_le}
 use Rattle.flow_meaning.proofs.Rest.{item_sender}
