@@ -20,4 +20,4 @@ judge_end-requires c =
 pub returns : goal.returns
 returns c = λ es read.
     let all = ran_all c.args.m.now c.args.given c.args.tasks.now c.in_ok-run.run' c.in_ok-run.early c.in_ok-run.ensures c.in_default.is in
-    at_end c.args.m.now c.args.given es c.args.tasks.now c.requires.tasks c.requires.once c.args.fault read c.plan.ensures.consistent _ all.claims all.may_run c.in_default-fault.is _ refl c.in_ok-verdict.verdict c.in_ok-verdict.ensures
+    at_end c.args.m.now c.args.given es c.args.tasks.now c.requires.tasks c.requires.once c.args.fault read c.is_consistent.ensures _ all.claims all.may_run c.in_default-fault.is _ refl c.in_ok-verdict.verdict c.in_ok-verdict.ensures

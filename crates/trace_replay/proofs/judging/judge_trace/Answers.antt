@@ -26,17 +26,17 @@ judge_tasks-requires c =
 pub returns-clause-fault : goal.returns-clause-fault
 returns-clause-fault c =
     let r = subst (λ ts. IsReading c.args.m.now c.args.bytes.now ts c.in-Ok.reading.fault) (sym c.as_slice.ensures) c.in-Ok.ensures.read in
-    verdict_fault c.args.m.now c.args.given c.plan.ensures.consistent c.args.bytes.now c.as_slice.result.now c.in-Ok.reading.fault r c.in_ok-verdict.verdict (c.in_ok-verdict.ensures r.entries r.read)
+    verdict_fault c.args.m.now c.args.given c.is_consistent.ensures c.args.bytes.now c.as_slice.result.now c.in-Ok.reading.fault r c.in_ok-verdict.verdict (c.in_ok-verdict.ensures r.entries r.read)
 
 pub returns-clause-refused : goal.returns-clause-refused
 returns-clause-refused c =
     let r = subst (λ ts. IsReading c.args.m.now c.args.bytes.now ts c.in-Ok.reading.fault) (sym c.as_slice.ensures) c.in-Ok.ensures.read in
-    only_fault c.args.m.now c.args.given c.plan.ensures.consistent c.args.bytes.now c.as_slice.result.now c.in-Ok.reading.fault r c.in_ok-verdict.verdict (c.in_ok-verdict.ensures r.entries r.read)
+    only_fault c.args.m.now c.args.given c.is_consistent.ensures c.args.bytes.now c.as_slice.result.now c.in-Ok.reading.fault r c.in_ok-verdict.verdict (c.in_ok-verdict.ensures r.entries r.read)
 
 pub returns-clause-whole : goal.returns-clause-whole
 returns-clause-whole c =
     let r = subst (λ ts. IsReading c.args.m.now c.args.bytes.now ts c.in-Ok.reading.fault) (sym c.as_slice.ensures) c.in-Ok.ensures.read in
-    verdict_whole c.args.m.now c.args.given c.plan.ensures.consistent c.args.bytes.now c.as_slice.result.now c.in-Ok.reading.fault r c.in_ok-verdict.verdict (c.in_ok-verdict.ensures r.entries r.read)
+    verdict_whole c.args.m.now c.args.given c.is_consistent.ensures c.args.bytes.now c.as_slice.result.now c.in-Ok.reading.fault r c.in_ok-verdict.verdict (c.in_ok-verdict.ensures r.entries r.read)
 
 pub returns-clause-answer : goal.returns-clause-answer
 returns-clause-answer c =

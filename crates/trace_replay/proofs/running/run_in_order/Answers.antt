@@ -13,7 +13,7 @@ returns-then-not-ran c =
     let lt : n < length ts = omega arith in
     let job = all_at (IsTask c.args.m.now) ts n t t lt c.t-item.is c.requires in
     let s = split_at ts n t t lt c.t-item.is in
-    stopped_here c.args.m.now c.args.given.now c.plan.ensures.consistent (take n ts) c.tasks.run c.tasks.invariant.run ts s.0 t c.tasks.index c.in_ok-next.ran job c.if-not-ran.true c.in_ok-next.ensures.exact s.1
+    stopped_here c.args.m.now c.args.given.now c.is_consistent.ensures (take n ts) c.tasks.run c.tasks.invariant.run ts s.0 t c.tasks.index c.in_ok-next.ran job c.if-not-ran.true c.in_ok-next.ensures.exact s.1
     (c.tasks.invariant.index ∙ sym (length_take ts n lt))
 
 pub tasks-preserved : goal.tasks-preserved
@@ -23,7 +23,7 @@ tasks-preserved c =
     let t = c.t-item.result in
     let lt : n < length ts = omega arith in
     let job = all_at (IsTask c.args.m.now) ts n t t lt c.t-item.is c.requires in
-    let next = ran_more c.args.m.now c.args.given.now c.plan.ensures.consistent (take n ts) c.tasks.run c.tasks.invariant.run t c.in_ok-next.next c.in_ok-next.ran job c.if-not-ran.false c.in_ok-next.ensures.exact c.in_ok-next.ensures.claims c.in_ok-next.ensures.between in
+    let next = ran_more c.args.m.now c.args.given.now c.is_consistent.ensures (take n ts) c.tasks.run c.tasks.invariant.run t c.in_ok-next.next c.in_ok-next.ran job c.if-not-ran.false c.in_ok-next.ensures.exact c.in_ok-next.ensures.claims c.in_ok-next.ensures.between in
     record {
       run = subst (λ us. HasRunInOrder c.args.m.now c.args.given.now us c.in_ok-next.next) (take_one_more ts n t t lt c.t-item.is) next;
       index = ap (λ k. k + 1) c.tasks.invariant.index;
