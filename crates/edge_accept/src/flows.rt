@@ -10,8 +10,8 @@ use crate::sending::send_all;
 use crate::taking::take_from;
 use crate::tally::Tally;
 
-// Whether the flows of a task from this number on may start from their sources and write what they write; the edges into
-// them and what they send are counted.
+// Whether the flows of a task from this number on may start from their sources and write what they write; the edges
+// into them and what they send are counted.
 pub(crate) fn accept_flows(task: &TaskAt, number: u8, tally: &mut Tally) -> bool
     requires { IsTask task.now.plan.now task.now.task.now }
     ensures { OnTrue result (Accepts task.now.plan.now task.now.task.now task.now.env.now tally.old tally.new number

@@ -1,5 +1,5 @@
-//! The edges into a flow, by its dependences: each is looked up among the edges out of its sender, and among the earlier
-//! ones of its flow.
+//! The edges into a flow, by its dependences: each is looked up among the edges out of its sender, and among the
+//! earlier ones of its flow.
 
 ghost use Rattle.std.specs.Prelude.{◌≡◌, ◌∷◌, [], IsTrue};
 ghost use Rattle.std.specs.Bool.{OnTrue};
