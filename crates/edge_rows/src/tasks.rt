@@ -1,15 +1,15 @@
 //! What the tasks of a job start from, wait for and send, as text.
 
-ghost use Rattle.std.specs.Prelude.{◌<◌, ◌≤◌, length};
 ghost use Rattle.dep_iter.specs.Tasks.{IsTask};
 
 use crate::names::{add_flow, add_place, add_task};
-use dep_iter::{Matched, Source, affinity, data_source, flows_of, is_task, priority};
+use dep_iter::{
+    Matched, Source, affinity, all_tasks, data_source, flows_of, is_task, priority,
+};
 use edge_walk::{Far, ties_of};
 use goal_count::goal;
 use plan_core::Plan;
 use ptg_base::TaskId;
-use range_space::Space;
 use row_files::{Printed, Why};
 use std::alloc::Global;
 use term_core::FlowKind;
@@ -19,36 +19,21 @@ use term_core::FlowKind;
 /// write-back.
 pub fn shown(alloc: Global, matched: &Matched) -> Result<Printed, Why> {
     let mut text = String::new(alloc);
-    let count = matched.plan().classes.len();
-    for class in 0..count {
-        add_class(&mut text, matched, class as u32)?;
+    let plan = matched.plan();
+    for task in all_tasks(plan) {
+        if !is_task(plan, &task) {
+            return Err(Why("a walk that came to no task"));
+        }
+        add_head(&mut text, matched, &task)?;
+        add_sources(&mut text, plan, &task)?;
+        add_ins(&mut text, plan, &task)?;
+        add_outs(&mut text, plan, &task)?;
+        add_writes(&mut text, plan, &task)?;
     }
     Ok(Printed {
         text: text.into_bytes(),
         status: 0,
     })
-}
-
-fn add_class(text: &mut String, matched: &Matched, class: u32) -> Result<(), Why>
-    requires { class < length matched.now.classes }
-{
-    let plan = matched.plan();
-    let space = plan.space(class);
-    if space.defs.len() > 16 {
-        return Err(Why("a class of too many definitions"));
-    }
-    for params in Space::new(space) {
-        let task = TaskId::new(class, params.as_slice());
-        if !is_task(plan, &task) {
-            return Err(Why("a walk that came to no task"));
-        }
-        add_head(text, matched, &task)?;
-        add_sources(text, plan, &task)?;
-        add_ins(text, plan, &task)?;
-        add_outs(text, plan, &task)?;
-        add_writes(text, plan, &task)?;
-    }
-    Ok(())
 }
 
 // The task with its hints and its goal.

@@ -1,6 +1,5 @@
 //! The lines of a task: itself, its affinity, and its ties in both directions.
 
-ghost use Rattle.std.specs.Prelude.{◌<◌, length};
 ghost use Rattle.dep_iter.specs.Tasks.{IsTask};
 
 use crate::dependence::{InText, class_of, in_text};
@@ -15,7 +14,6 @@ use edge_walk::{Far, Tie, ties_of};
 use jdf_tree::{FlowTree, Jdf};
 use plan_core::Plan;
 use ptg_base::TaskId;
-use range_space::Space;
 use std::io::Write;
 use term_core::FlowKind;
 
@@ -25,26 +23,7 @@ pub fn all_tasks<W: Write + Drop>(
     tree: &Jdf,
     plan: &Plan,
 ) -> Result<(), Failure> {
-    for class in 0..plan.classes.len() {
-        add_class(lines, tree, plan, class as u32)?;
-    }
-    Ok(())
-}
-
-fn add_class<W: Write + Drop>(
-    lines: &mut Lines<W>,
-    tree: &Jdf,
-    plan: &Plan,
-    class: u32,
-) -> Result<(), Failure>
-    requires { class < length plan.now.classes }
-{
-    let space = plan.space(class);
-    if space.defs.len() > 16 {
-        return Ok(());
-    }
-    for params in Space::new(space) {
-        let task = TaskId::new(class, params.as_slice());
+    for task in dep_iter::all_tasks(plan) {
         if is_task(plan, &task) {
             add_lines(lines, tree, plan, &task)?;
         }
