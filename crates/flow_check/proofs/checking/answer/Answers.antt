@@ -26,9 +26,9 @@ resolved-requires c =
       globals = c.requires.globals;
       bounded = within_is_bounded c.args.jdf.now c.requires.limits;
       seen_at_most = omega arith;
-      types_at_most = c.data_are_well_made.ensures.types_at_most;
+      types_at_most = c.is_well_made.ensures.types_at_most;
     }
 
 pub plan_of-requires : goal.plan_of-requires
 plan_of-requires c =
-    well_plan (record { jdf = c.args.jdf.now; given = c.args.given.now }) c.in-Ok.classes c.in-Ok.spaces c.requires.limits c.data_are_well_made.ensures c.in-Ok.ensures
+    well_plan (record { jdf = c.args.jdf.now; given = c.args.given.now }) c.in-Ok.classes c.in-Ok.spaces c.requires.limits c.is_well_made.ensures c.in-Ok.ensures
