@@ -1,7 +1,7 @@
 -- What is sent, one item after another.
-use Rattle.std.proofs.Common.{◌≡◌, ◌+◌, ℤ, List, [], ◌∷◌, ◌++◌, length, length-append, map, refl, ap, sym, ◌∙◌}
+use Rattle.std.proofs.Common.{◌≡◌, ◌+◌, List, [], ◌∷◌, ◌++◌, length, length-append, map, refl, ap, sym, ◌∙◌}
 use Rattle.std.proofs.Common.{subst, append_assoc, inl, inr, arith}
-use Rattle.std.proofs.lemmas.List.{append-nil, length-map, map-append, nil_from_length}
+use Rattle.std.proofs.lemmas.List.{append-nil, map-append, nil_from_length}
 use Rattle.std.proofs.lemmas.List.Elements.{filter_map-append}
 use Rattle.std.specs.List.{filter_map}
 use Rattle.ptg_base.specs.declared.edge.Edge.{Edge}

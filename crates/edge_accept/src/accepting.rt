@@ -8,7 +8,6 @@ ghost use Rattle.dep_iter.specs.Consistent.{HasCounts, IsConsistent};
 ghost use Rattle.dep_iter.specs.Tasks.{all_tasks};
 
 use crate::ins::Ins;
-use crate::roots::root_count;
 use crate::tally::{Outs, Tally};
 use crate::tasks::accept_all;
 use dep_iter::Counts;
@@ -41,15 +40,15 @@ pub fn accepts(alloc: Global, plan: &Plan, tasks: u64) -> Result<Option<Counts>,
             written: PlaceSet::new(alloc, plan.colls.as_slice())?,
         },
     };
-    if !accept_all(plan, tasks, &mut tally) {
+    let Some(roots) = accept_all(plan, tasks, &mut tally) else {
         return Ok(None);
-    }
+    };
     if tally.ins.edges != tally.outs.edges {
         return Ok(None);
     }
     Ok(Some(Counts {
         tasks,
-        roots: root_count(plan, tasks),
+        roots,
         edges: tally.ins.edges,
         data_edges: tally.ins.data_edges,
         writes: tally.outs.writes,

@@ -1,8 +1,10 @@
 //! The walk over all tasks.
 
-ghost use Rattle.std.specs.Prelude.{◌≡◌, ◌∷◌, [], length};
+ghost use Rattle.std.specs.Prelude.{◌≡◌, ◌==◌, ◌∷◌, [], IfSome, length};
 ghost use Rattle.std.specs.Bool.{OnTrue};
 ghost use Rattle.plan_core.specs.Place.{HasPlace};
+ghost use Rattle.dep_iter.specs.Consistent.{roots};
+ghost use Rattle.dep_iter.specs.Edges.{goal};
 ghost use Rattle.dep_iter.specs.Hints as hints;
 ghost use Rattle.dep_iter.specs.Tasks as of_plan;
 ghost use Rattle.dep_iter.specs.Tasks.{IsTask, all_tasks as tasks_of};
@@ -50,19 +52,34 @@ fn accept_task(plan: &Plan, t: &TaskId, tally: &mut Tally) -> bool
     accept_flows(&task, 0, tally)
 }
 
-// Goes over all tasks, in walk order, where there are so many. Where there is none it looks at no value of a range.
-pub(crate) fn accept_all(plan: &Plan, tasks: u64, tally: &mut Tally) -> bool
+// Accepts a task, and says whether no edge goes into it.
+fn accept_next(plan: &Plan, t: &TaskId, tally: &mut Tally) -> Option<bool>
+    requires { IsTask plan.now t.now }
+    ensures walk { IfSome result (λ _. WentOver plan.now tally.old tally.new (t.now ∷ [])) }
+    ensures root { IfSome result (λ root. root ≡ (goal plan.now t.now == 0)) }
+{
+    let before = tally.ins.edges;
+    if !accept_task(plan, t, tally) {
+        return None;
+    }
+    Some(tally.ins.edges == before)
+}
+
+// Goes over all tasks, in walk order, where there are so many, and counts those without an edge into them. Where there
+// is no task it looks at no value of a range.
+pub(crate) fn accept_all(plan: &Plan, tasks: u64, tally: &mut Tally) -> Option<u64>
     requires { tasks ≡ length (tasks_of plan.now) }
-    ensures { OnTrue result (WentOver plan.now tally.old tally.new (tasks_of plan.now)) }
+    ensures walk { IfSome result (λ _. WentOver plan.now tally.old tally.new (tasks_of plan.now)) }
+    ensures count { IfSome result (λ n. n ≡ length (roots plan.now)) }
 {
     if tasks == 0 {
-        return true;
+        return Some(0);
     }
     all_tasks_are_listed();
+    let mut count = 0;
     for t in all_tasks(plan) {
-        if !accept_task(plan, &t, tally) {
-            return false;
-        }
+        let root = accept_next(plan, &t, tally)?;
+        count += u64::from(root);
     }
-    true
+    Some(count)
 }

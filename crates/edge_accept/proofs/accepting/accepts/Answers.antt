@@ -6,7 +6,7 @@ pub returns : goal.returns
 returns c =
     let P = c.args.plan.now in
     let u = c.accept_all.new.tally in
-    let w = c.if-not-accept_all.ensures in
+    let w = c.in-Some.ensures.walk in
     let same = c.if-tally.false in
     let e = w.taken.edges in
     let d = w.taken.data_edges in
@@ -16,7 +16,7 @@ returns c =
       consistent P _ u w refl refl refl same empty c.requires.sound (omega arith) c.requires.prefixes_at_most,
       record {
         all_tasks = t;
-        all_roots = c.root_count.ensures;
+        all_roots = c.in-Some.ensures.count;
         all_edges = omega arith;
         all_data_edges = omega arith;
         all_writes = sent_writes P _ u w refl refl refl same;

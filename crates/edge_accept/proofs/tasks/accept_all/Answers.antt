@@ -1,37 +1,48 @@
-use Rattle.std.proofs.Common.{[], ◌∷◌, refl, sym, ◌∙◌, subst, inl, inr}
-use Rattle.std.proofs.lemmas.List.{nil_from_length}
+use Rattle.std.proofs.Common.{◌==◌, [], ◌∷◌, refl, ap, sym, ◌∙◌, subst, inl, inr, arith}
+use Rattle.list_lemmas.proofs.Joins.{length-filter_le}
+use Rattle.dep_iter.specs.Edges.{goal as goal_of}
 use Rattle.dep_iter.specs.Tasks.{all_tasks}
 use Rattle.edge_accept.specs.Tallies.{WentOver}
+use Rattle.edge_accept.proofs.RootCount.{first_root, roots_among}
 use Rattle.edge_accept.proofs.Walking.{went_nil, went_then}
 use Rattle.edge_accept.proofs.tasks.accept_all.Goals as goal
 
-pub returns-then-tasks-eq0 : goal.returns-then-tasks-eq0
-returns-then-tasks-eq0 c =
-    let P = c.args.plan.now in
-    let none = nil_from_length (all_tasks P) (sym c.requires ∙ c.if-tasks-eq0.true) in
-    subst (WentOver P c.args.tally.now c.args.tally.now) (sym none) (went_nil P c.args.tally.now)
-
-pub accept_task-requires : goal.accept_task-requires
-accept_task-requires c =
+pub accept_next-requires : goal.accept_next-requires
+accept_next-requires c =
     let all = c.into_iter-t-iterator.ensures.into_iter_gives ∙ c.all_tasks-t-items.ensures in
     let among = c.loop-t.invariant.among c.in-Some.t (rw c.in-Some.ensures.steps (inl refl)) in
     (c.all_tasks_are_listed.ensures.members c.args.plan.now c.in-Some.t).1 (rw all at among)
+
+pub overflow_add-count : goal.overflow_add-count
+overflow_add-count c =
+    let P = c.args.plan.now in
+    let all = ap (roots_among P) (c.into_iter-t-iterator.ensures.into_iter_gives ∙ c.all_tasks-t-items.ensures) in
+    let step = ap (roots_among P) c.in-Some.ensures.steps ∙ first_root P c.in-Some.t c.next.new.self c.in_ok-root.root c.in_ok-root.ensures.root in
+    let one = c.from-count.ensures in
+    let so_far = c.loop-t.invariant.roots in
+    let at_most = length-filter_le (λ t. goal_of P t == 0) (all_tasks P) in
+    let tasks = c.requires in
+    omega arith
 
 pub loop-t-preserved : goal.loop-t-preserved
 loop-t-preserved c =
     let P = c.args.plan.now in
     let s = c.loop-t.tally in
+    let step = ap (roots_among P) c.in-Some.ensures.steps ∙ first_root P c.in-Some.t c.next.new.self c.in_ok-root.root c.in_ok-root.ensures.root in
+    let one = c.from-count.ensures in
+    let so_far = c.loop-t.invariant.roots in
     record {
       can_next = tt;
       is_finite = tt;
       among = λ x h. c.loop-t.invariant.among x (rw c.in-Some.ensures.steps (inr h));
       then = λ u h. c.loop-t.invariant.then u (
           subst (WentOver P s u) (sym c.in-Some.ensures.steps)
-          (went_then P s c.accept_task.new.tally u (c.in-Some.t ∷ []) c.next.new.self c.if-not-accept_task.ensures h));
+          (went_then P s c.accept_next.new.tally u (c.in-Some.t ∷ []) c.next.new.self c.in_ok-root.ensures.walk h));
+      roots = omega arith;
     }
 
-pub returns : goal.returns
-returns c =
+pub returns-clause-walk : goal.returns-clause-walk
+returns-clause-walk c =
     let P = c.args.plan.now in
     let s = c.loop-t.tally in
     let all = c.into_iter-t-iterator.ensures.into_iter_gives ∙ c.all_tasks-t-items.ensures in
