@@ -1,7 +1,8 @@
 -- The elements of the tiles of a task's flows. Source: this project's own choice.
 use Rattle.std.specs.Prelude.{ℕ, ℤ, pos, negsuc, List, length, nat_lt, Result, Ok, Err, Option, Some, None, if◌then◌else◌, slice_index_or, slice_set}
 use Rattle.term_core.specs.Term.{Term}
-use Rattle.term_core.specs.Value.{and_then, value_with}
+use Rattle.ptg_base.specs.Returns.{and_then}
+use Rattle.term_core.specs.Value.{value_with}
 use Rattle.term_core.specs.Trap.{trap_of}
 use Rattle.term_core.specs.declared.trap.Trap.{Trap}
 use Rattle.term_core.specs.declared.trap.Trap.TheVariants.{Index, Absent}

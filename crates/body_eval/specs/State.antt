@@ -1,7 +1,7 @@
 -- The state of a body between two statements. Source: this project's own choice.
 use Rattle.std.specs.Prelude.{ℕ, ◌-◌, ℤ, List, Result, Ok, Err, Option, ◌==◌, if◌then◌else◌, slice_set}
 use Rattle.term_core.specs.Term.{Term}
-use Rattle.term_core.specs.Value.{and_then}
+use Rattle.ptg_base.specs.Returns.{and_then}
 use Rattle.term_core.specs.declared.trap.Trap.{Trap}
 use Rattle.term_core.specs.declared.trap.Trap.TheVariants.{Budget}
 use Rattle.body_eval.specs.Element.{put_element, body_value}

@@ -14,7 +14,7 @@ use Rattle.jdf_tree.specs.Grammar.{productions}
 use Rattle.jdf_tree.specs.Statements.{Statements}
 use Rattle.body_read.proofs.Whole.{only, fault_read, fault_place}
 use Rattle.body_names.specs.Environment.{Environment}
-use Rattle.body_names.specs.Expressions.{Resolved}
+use Rattle.expr_names.specs.Symbols.{Resolved}
 use Rattle.body_names.specs.Statements.{body_of}
 use Rattle.body_lang.specs.Broken.{broken_fault}
 use Rattle.body_lang.specs.Body.{IsNameFault, IsTextFault}

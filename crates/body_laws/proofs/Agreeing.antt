@@ -9,7 +9,7 @@ use Rattle.jdf_alphabet.specs.declared.terminal.Terminal.TheVariants as terminal
 use Rattle.grammar_core.specs.Production.{seq, opt, Fault, Language, Derives}
 use Rattle.jdf_alphabet.specs.Sets.{starts}
 use Rattle.jdf_alphabet.specs.Terminals.{terminal_of, is}
-use Rattle.term_core.specs.Value.{and_then}
+use Rattle.ptg_base.specs.Returns.{and_then}
 use Rattle.jdf_tree.specs.declared.body.StmtTree.{StmtTree}
 use Rattle.jdf_tree.specs.declared.body.StmtTree.TheVariants as stmt
 use Rattle.jdf_tree.specs.declared.expression.ExprWithSpot.{ExprWithSpot}
@@ -20,16 +20,17 @@ use Rattle.jdf_tree.specs.Nonterminal.{Nonterminal, TreeOf}
 use Rattle.jdf_tree.specs.GrammarParts.{word_of, name}
 use Rattle.body_names.specs.Environment.{Environment}
 use Rattle.body_names.specs.Meanings.{meaning_of}
-use Rattle.body_names.specs.Expressions.{Resolved, slot_of, written_flow, term_of}
+use Rattle.expr_names.specs.Symbols.{Resolved}
+use Rattle.body_names.specs.Expressions.{slot_of, written_flow, term_of}
 use Rattle.body_names.specs.Bindings.{Bindings, require_room, require_fresh, numbered}
 use Rattle.body_names.specs.Statements.{Resolver, declare, set, put, in_block, for_loop, follow, resolved, statement_of, body_of}
 use Rattle.body_names.specs.Statements as resolving
 use Rattle.body_names.specs.TokenScan.{TokenScan, declared, fault_of}
-use Rattle.body_laws.proofs.Along.{along, along_append, after_after, after_same, with_previous, is_inside}
+use Rattle.body_laws.proofs.Along.{along, along_append, after_after, after_same, with_previous}
 use Rattle.body_laws.proofs.Alike.{Alike, names_append, fresh_alike, slot_alike, term_alike}
 use Rattle.body_laws.proofs.Declared as count
 use Rattle.body_laws.proofs.Judging.{NoIndex, no_index, Names, outer_judges}
-use Rattle.body_laws.proofs.Walking.{is_int, is_trap, silent_as, inside_as, is_silent, silent, semicolon, begun, declared_name, trap_name, assigned_name, element_name, expression, Ready, Follows, first_step, known_step, walked}
+use Rattle.body_laws.proofs.Walking.{is_int, is_trap, silent_as, inside_as, silent, semicolon, begun, declared_name, trap_name, assigned_name, element_name, expression, Ready, Follows, first_step, known_step, walked}
 
 -- a fault is the same with nothing after it
 fault_again : (v : Resolved (Unit {0})) → fault_of v ≡ v

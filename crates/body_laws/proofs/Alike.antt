@@ -7,13 +7,14 @@ use Rattle.std.proofs.lemmas.List.{reverse-append}
 use Rattle.jdf_lex.specs.declared.fault.JdfCode.TheVariants.{NameTwice}
 use Rattle.jdf_tree.specs.declared.expression.Word.{Word}
 use Rattle.jdf_tree.specs.Expression.{Expression, Num, Name, Elem, Unary, Binary, Choose}
-use Rattle.term_core.specs.Value.{and_then}
+use Rattle.ptg_base.specs.Returns.{and_then}
 use Rattle.body_names.specs.declared.meaning.Meaning.{Meaning}
 use Rattle.body_names.specs.declared.meaning.Meaning.TheVariants as meaning
 use Rattle.body_names.specs.Environment.{Environment}
 use Rattle.body_names.specs.declared.variable.Variable.{Variable}
 use Rattle.body_names.specs.Meanings.{last_named, variable_or, local_named, local_or, integer_or, collection_or_nothing, meaning_of}
-use Rattle.body_names.specs.Expressions.{Resolved, value_of, slot_of, read_flow, term_of}
+use Rattle.expr_names.specs.Symbols.{Resolved}
+use Rattle.body_names.specs.Expressions.{value_of, slot_of, read_flow, term_of}
 use Rattle.body_names.specs.Bindings.{Bindings, require_fresh}
 use Rattle.body_names.specs.TokenScan.{fault_of}
 use Rattle.body_laws.proofs.Judging.{unary_fault, binary_fault, choose_fault, elem_fault}

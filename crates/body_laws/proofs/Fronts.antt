@@ -1,9 +1,9 @@
 -- The names at the front of a text have the fault of the whole text or none, whatever follows the next token.
 use Rattle.std.proofs.Common.{◌≡◌, ℕ, zero, suc, ◌<◌, List, [], ◌∷◌, ◌++◌, length, Ok, Err, ◌⊎◌, inl, inr, refl, ap, arith}
 use Rattle.grammar_core.specs.declared.token.Token.{Token}
-use Rattle.term_core.specs.Value.{and_then}
+use Rattle.ptg_base.specs.Returns.{and_then}
 use Rattle.body_names.specs.Environment.{Environment}
-use Rattle.body_names.specs.Expressions.{Resolved}
+use Rattle.expr_names.specs.Symbols.{Resolved}
 use Rattle.body_names.specs.TokenScan.{TokenScan, after_token, judged, judged_among}
 
 module _ (scope : Environment) where

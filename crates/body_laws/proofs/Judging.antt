@@ -12,7 +12,7 @@ use Rattle.jdf_alphabet.proofs.Disjoint.{are_disjoint, disjoint_at}
 use Rattle.term_core.specs.declared.operator.BinOp.{BinOp}
 use Rattle.term_core.specs.Term.{Term}
 use Rattle.term_core.specs.Term as term
-use Rattle.term_core.specs.Value.{and_then}
+use Rattle.ptg_base.specs.Returns.{and_then}
 use Rattle.jdf_tree.specs.declared.expression.ExprWithSpot.{ExprWithSpot}
 use Rattle.jdf_tree.specs.declared.expression.Word.{Word}
 use Rattle.jdf_tree.specs.declared.part.Part.TheVariants.{Body}
@@ -24,7 +24,9 @@ use Rattle.jdf_tree.specs.GrammarParts.{any, name, word_of}
 use Rattle.body_names.specs.Environment.{Environment}
 use Rattle.body_names.specs.declared.variable.Variable.{Variable}
 use Rattle.body_names.specs.Meanings.{meaning_of}
-use Rattle.body_names.specs.Expressions.{Resolved, value_of, read_flow, term_of}
+use Rattle.expr_names.specs.Symbols.{Resolved}
+use Rattle.expr_names.specs.Expressions.{together}
+use Rattle.body_names.specs.Expressions.{value_of, read_flow, term_of}
 use Rattle.body_names.specs.TokenScan.{fault_of}
 use Rattle.body_laws.proofs.Along.{Judges, faultless, same_verdict, same_rest, then_judges, token_then, then_token, quiet_judges, value_judges, element_judges, after_after, is_quiet}
 
@@ -62,38 +64,33 @@ module _ (scope : Environment) where
 
   -- ---- what a fault is made of
 
-  pub unary_fault : (o : _) (e : Expression) (spot : Spot) (seen : List Variable) → fault e seen ≡ fault (Unary o e spot) seen
-  unary_fault o e spot seen = go (term_of scope seen e)
-    where
-      go : (r : Resolved Term) → fault_of r ≡ fault_of (and_then r (λ x. Ok (term.Unary o x)))
-      go (Ok x) = refl
-      go (Err f) = refl
+  -- an operation on what is resolved
+  of_fault : {A B : Type 0} (r : Resolved A) (f : A → B) → fault_of r ≡ fault_of (and_then r (λ x. Ok (f x)))
+  of_fault (Ok x) f = refl
+  of_fault (Err e) f = refl
 
   -- two, one after the other
-  two : (r q : Resolved Term) (f : Term → Term → Term) → and_then (fault_of r) (λ _. fault_of q) ≡ fault_of (and_then r (λ x. and_then q (λ y. Ok (f x y))))
-  two (Ok x) (Ok y) f = refl
-  two (Ok x) (Err e) f = refl
-  two (Err e) q f = refl
+  pair_fault : {A B : Type 0} (r : Resolved A) (q : Resolved B) → and_then (fault_of r) (λ _. fault_of q) ≡ fault_of (together (λ first _. first) r q)
+  pair_fault (Ok x) (Ok y) = refl
+  pair_fault (Ok x) (Err e) = refl
+  pair_fault (Err e) (Ok y) = refl
+  pair_fault (Err e) (Err f) = refl
+
+  pub unary_fault : (o : _) (e : Expression) (spot : Spot) (seen : List Variable) → fault e seen ≡ fault (Unary o e spot) seen
+  unary_fault o e spot seen = of_fault (term_of scope seen e) (term.Unary o)
 
   pub binary_fault : (o : BinOp) (a b : Expression) (seen : List Variable) → and_then (fault a seen) (λ _. fault b seen) ≡ fault (Binary o a b) seen
-  binary_fault o a b seen = two (term_of scope seen a) (term_of scope seen b) (λ x y. term.Binary o x y)
-
-  three : (r q p : Resolved Term) (f : Term → Term → Term → Term) → and_then (fault_of r) (λ _. and_then (fault_of q) (λ _. fault_of p)) ≡ fault_of (and_then r (λ x. and_then q (λ y. and_then p (λ z. Ok (f x y z)))))
-  three (Ok x) (Ok y) (Ok z) f = refl
-  three (Ok x) (Ok y) (Err e) f = refl
-  three (Ok x) (Err e) p f = refl
-  three (Err e) q p f = refl
+  binary_fault o a b seen = pair_fault (term_of scope seen a) (term_of scope seen b) ∙ of_fault (together (λ first _. first) (term_of scope seen a) (term_of scope seen b)) (λ (x : Term × Term). term.Binary o x.0 x.1)
 
   pub choose_fault : (c a b : Expression) (seen : List Variable) → and_then (fault c seen) (λ _. and_then (fault a seen) (λ _. fault b seen)) ≡ fault (Choose c a b) seen
-  choose_fault c a b seen = three (term_of scope seen c) (term_of scope seen a) (term_of scope seen b) (λ x y z. term.Choose x y z)
+  choose_fault c a b seen =
+      let branches = together (λ first _. first) (term_of scope seen a) (term_of scope seen b) in
+      ap (λ (v : Resolved (Unit {0})). and_then (fault c seen) (λ _. v)) (pair_fault (term_of scope seen a) (term_of scope seen b))
+      ∙ (pair_fault (term_of scope seen c) branches
+      ∙ of_fault (together (λ first _. first) (term_of scope seen c) branches) (λ (x : Term × (Term × Term)). term.Choose x.0 x.1.0 x.1.1))
 
   pub elem_fault : (w : Word) (e : Expression) (seen : List Variable) → and_then (fault_of (read_flow scope w)) (λ _. fault e seen) ≡ fault (Elem w e) seen
-  elem_fault w e seen = go (read_flow scope w) (term_of scope seen e)
-    where
-      go : (r : Resolved ℕ) (q : Resolved Term) → and_then (fault_of r) (λ _. fault_of q) ≡ fault_of (and_then r (λ flow. and_then q (λ i. Ok (term.Elem flow i))))
-      go (Ok n) (Ok i) = refl
-      go (Ok n) (Err f) = refl
-      go (Err f) q = refl
+  elem_fault w e seen = pair_fault (read_flow scope w) (term_of scope seen e) ∙ of_fault (together (λ first _. first) (read_flow scope w) (term_of scope seen e)) (λ (x : ℕ × Term). term.Elem x.0 x.1)
 
   -- operands with operators between them
   abbrev faults : List (BinOp × ExprWithSpot) → List Variable → Resolved (Unit {0})

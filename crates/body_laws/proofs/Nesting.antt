@@ -11,7 +11,7 @@ use Rattle.term_core.specs.declared.body.Stmt.{Stmt}
 use Rattle.term_core.specs.declared.body.Stmt.TheVariants as out
 use Rattle.term_core.specs.BlockStatementList as block_steps
 use Rattle.term_core.specs.StatementList.{StatementList}
-use Rattle.term_core.specs.Value.{and_then}
+use Rattle.ptg_base.specs.Returns.{and_then}
 use Rattle.jdf_tree.specs.declared.body.StmtTree.{StmtTree}
 use Rattle.jdf_tree.specs.declared.body.StmtTree.TheVariants as stmt
 use Rattle.jdf_tree.specs.declared.expression.ExprWithSpot.{ExprWithSpot}
@@ -26,7 +26,8 @@ use Rattle.jdf_tree.specs.GrammarParts.{any, word_of, name}
 use Rattle.jdf_tree.specs.GrammarParts as piece
 use Rattle.jdf_tree.specs.Statements.{Statements}
 use Rattle.body_names.specs.Environment.{Environment}
-use Rattle.body_names.specs.Expressions.{Resolved, term_of}
+use Rattle.expr_names.specs.Symbols.{Resolved}
+use Rattle.body_names.specs.Expressions.{term_of}
 use Rattle.body_names.specs.Bindings.{Bindings, no_bindings, block_opened, block_closed, next_slot, with_variable, require_room}
 use Rattle.body_names.specs.Statements.{Resolver, in_block, follow, resolved, statement_of, body_of}
 use Rattle.body_names.specs.Statements as resolving

@@ -1,5 +1,5 @@
 -- A body under another name of one variable: what is seen under both names agrees, and the statements are the same.
-use Rattle.std.proofs.Common.{◌≡◌, ℕ, zero, suc, ◌+◌, Bool, true, false, cond, List, [], ◌∷◌, ◌++◌, length, take, drop, Result, Ok, Err, refl, sym, ap, ◌∙◌, subst, append_assoc, append-nil, length-append}
+use Rattle.std.proofs.Common.{◌≡◌, ℕ, zero, suc, ◌+◌, Bool, true, false, cond, List, [], ◌∷◌, ◌++◌, length, take, drop, Ok, refl, sym, ap, ◌∙◌, subst, append_assoc, append-nil, length-append}
 use Rattle.std.specs.Prelude.{◌||◌, Option, Some, None, find, reverse}
 use Rattle.std.specs.Str.{bytes_eq}
 use Rattle.std.specs.List.{list_any}
@@ -14,7 +14,7 @@ use Rattle.term_core.specs.StatementList.{StatementList}
 use Rattle.term_core.specs.StatementList as list
 use Rattle.term_core.specs.Term.{Term}
 use Rattle.term_core.specs.Term as term
-use Rattle.term_core.specs.Value.{and_then}
+use Rattle.ptg_base.specs.Returns.{and_then}
 use Rattle.jdf_tree.specs.declared.expression.Word.{Word}
 use Rattle.jdf_tree.specs.Expression.{Expression, Num, Name, Elem, Unary, Binary, Choose}
 use Rattle.jdf_tree.specs.Statements.{Statements, Done, DeclareThen, SetThen, PutThen, IfThen, ForThen, TrapThen}
@@ -23,11 +23,13 @@ use Rattle.body_names.specs.declared.meaning.Meaning.TheVariants as meaning
 use Rattle.body_names.specs.Environment.{Environment}
 use Rattle.body_names.specs.declared.variable.Variable.{Variable}
 use Rattle.body_names.specs.Meanings.{last_named, variable_or, local_or, local_named, integer_or, collection_or_nothing, meaning_of}
-use Rattle.body_names.specs.Expressions.{Resolved, fault_at, value_of, slot_of, read_flow, written_flow, term_of}
+use Rattle.expr_names.specs.Symbols.{Resolved, fault_at}
+use Rattle.expr_names.specs.Expressions.{together}
+use Rattle.body_names.specs.Expressions.{value_of, slot_of, read_flow, written_flow, term_of}
 use Rattle.body_names.specs.Bindings.{Bindings, block_opened, block_closed, next_slot, with_variable, require_room, require_fresh, numbered}
 use Rattle.body_names.specs.Statements.{Resolver, declare, set, put, in_block, if_else, for_loop, trap, follow, resolved}
 use Rattle.body_laws.specs.Renaming.{named, renamed_word, with_words, renamed_term, renamed, reads, occurs, DeclaredSame, LoopedSame}
-use Rattle.body_names.proofs.Well.{after_ok}
+use Rattle.expr_names.proofs.Closed.{after_ok}
 use Rattle.list_lemmas.proofs.Truth.{first_false, second_false, or-false}
 use Rattle.list_lemmas.proofs.Texts.{bytes_eq-sym_false}
 
@@ -205,6 +207,13 @@ module _ (scope : Environment) (old new : List ℕ) (pre : List Variable) (v : V
     changed_slot true w m = refl
     changed_slot false w m = slot_spot (bytes_eq w.text old) w m
 
+    -- two parts of an expression, of which the first one's fault is told
+    abbrev in_turn : {A B : Type 0} → Resolved A → Resolved B → Resolved (A × B)
+    in_turn r q = together (λ first _. first) r q
+
+    abbrev choice : Term × (Term × Term) → Resolved Term
+    choice x = Ok (term.Choose x.0 x.1.0 x.1.1)
+
     module _ (h : Bool) (hidden : has old post ≡ h) where
       pub slot_same : (w : Word) → bytes_eq w.text new ≡ false → slot_of (changed h w) (meaning_of scope (under_new post) (changed h w).text) ≡ slot_of w (meaning_of scope (under_old post) w.text)
       slot_same w apart = changed_slot h w (meaning_of scope (under_new post) (changed h w).text) ∙ ap (slot_of w) (word_same h hidden w apart)
@@ -214,16 +223,17 @@ module _ (scope : Environment) (old new : List ℕ) (pre : List Variable) (v : V
       pub term_same : (e : Expression) → reads new e ≡ false → term_of scope (under_new post) (with_words (changed h) e) ≡ term_of scope (under_old post) e
       term_same (Num z spot) apart = refl
       term_same (Name w) apart = changed_value h w (meaning_of scope (under_new post) (changed h w).text) ∙ ap (value_of w) (word_same h hidden w apart)
-      term_same (Elem w at) apart = ap (λ (r : Resolved Term). and_then (read_flow scope w) (λ flow. and_then r (λ i. Ok (term.Elem flow i)))) (term_same at apart)
+      term_same (Elem w at) apart =
+          ap (λ (r : Resolved Term). and_then (in_turn (read_flow scope w) r) (λ x. Ok (term.Elem x.0 x.1))) (term_same at apart)
       term_same (Unary o a spot) apart = ap (λ (r : Resolved Term). and_then r (λ x. Ok (term.Unary o x))) (term_same a apart)
       term_same (Binary o a b) apart =
-          ap (λ (r : Resolved Term). and_then r (λ x. and_then (term_of scope (under_new post) (with_words (changed h) b)) (λ y. Ok (term.Binary o x y)))) (term_same a (first_false (reads new a) (reads new b) apart))
-          ∙ ap (λ (r : Resolved Term). and_then (term_of scope (under_old post) a) (λ x. and_then r (λ y. Ok (term.Binary o x y)))) (term_same b (second_false (reads new a) (reads new b) apart))
+          ap (λ (r : Resolved Term). and_then (in_turn r (term_of scope (under_new post) (with_words (changed h) b))) (λ x. Ok (term.Binary o x.0 x.1))) (term_same a (first_false (reads new a) (reads new b) apart))
+          ∙ ap (λ (r : Resolved Term). and_then (in_turn (term_of scope (under_old post) a) r) (λ x. Ok (term.Binary o x.0 x.1))) (term_same b (second_false (reads new a) (reads new b) apart))
       term_same (Choose c a b) apart =
           let more = second_false (reads new c) (reads new a || reads new b) apart in
-          ap (λ (r : Resolved Term). and_then r (λ x. and_then (term_of scope (under_new post) (with_words (changed h) a)) (λ y. and_then (term_of scope (under_new post) (with_words (changed h) b)) (λ z. Ok (term.Choose x y z))))) (term_same c (first_false (reads new c) (reads new a || reads new b) apart))
-          ∙ (ap (λ (r : Resolved Term). and_then (term_of scope (under_old post) c) (λ x. and_then r (λ y. and_then (term_of scope (under_new post) (with_words (changed h) b)) (λ z. Ok (term.Choose x y z))))) (term_same a (first_false (reads new a) (reads new b) more))
-          ∙ ap (λ (r : Resolved Term). and_then (term_of scope (under_old post) c) (λ x. and_then (term_of scope (under_old post) a) (λ y. and_then r (λ z. Ok (term.Choose x y z))))) (term_same b (second_false (reads new a) (reads new b) more)))
+          ap (λ (r : Resolved Term). and_then (in_turn r (in_turn (term_of scope (under_new post) (with_words (changed h) a)) (term_of scope (under_new post) (with_words (changed h) b)))) choice) (term_same c (first_false (reads new c) (reads new a || reads new b) apart))
+          ∙ (ap (λ (r : Resolved Term). and_then (in_turn (term_of scope (under_old post) c) (in_turn r (term_of scope (under_new post) (with_words (changed h) b)))) choice) (term_same a (first_false (reads new a) (reads new b) more))
+          ∙ ap (λ (r : Resolved Term). and_then (in_turn (term_of scope (under_old post) c) (in_turn (term_of scope (under_old post) a) r)) choice) (term_same b (second_false (reads new a) (reads new b) more)))
 
   -- ---- what agrees under both names
 

@@ -15,7 +15,7 @@ use Rattle.term_core.specs.BlockStatementList.{then}
 use Rattle.term_core.specs.StatementList.{StatementList}
 use Rattle.term_core.specs.Term.{Term}
 use Rattle.term_core.specs.Term as term
-use Rattle.term_core.specs.Value.{and_then}
+use Rattle.ptg_base.specs.Returns.{and_then}
 use Rattle.jdf_tree.specs.declared.expression.Word.{Word}
 use Rattle.jdf_tree.specs.Expression.{Expression, Num, Name, Elem, Unary, Binary, Choose}
 use Rattle.jdf_tree.specs.Statements.{Statements, Done, DeclareThen, SetThen, PutThen, IfThen, ForThen, TrapThen}
@@ -26,7 +26,9 @@ use Rattle.body_names.specs.declared.scope.FlowName.{FlowName}
 use Rattle.body_names.specs.Environment.{Environment}
 use Rattle.body_names.specs.declared.variable.Variable.{Variable}
 use Rattle.body_names.specs.Meanings.{meaning_of, flow_named}
-use Rattle.body_names.specs.Expressions.{Resolved, value_of, slot_of, readable, writable, if_flow, flow_by, read_flow, written_flow, term_of}
+use Rattle.expr_names.specs.Symbols.{Resolved}
+use Rattle.expr_names.specs.Expressions.{together}
+use Rattle.body_names.specs.Expressions.{value_of, slot_of, readable, writable, if_flow, flow_by, read_flow, written_flow, term_of}
 use Rattle.body_names.specs.Bindings.{Bindings, no_bindings, block_opened, block_closed, next_slot, with_variable, require_room, require_fresh, numbered}
 use Rattle.body_names.specs.Statements.{Resolver, declare, set, put, in_block, if_else, for_loop, trap, follow, resolved, body_of}
 use Rattle.body_laws.specs.Declarations.{declarations}
@@ -39,6 +41,18 @@ NotTooMany P (Err f) = f.code ≡ TooManyVars → ⊥
 after_not_too_many : {A B : Type 0} (P : A → Type 0) (Q : B → Type 0) (r : Resolved A) (f : A → Resolved B) → NotTooMany P r → ((x : A) → P x → NotTooMany Q (f x)) → NotTooMany Q (and_then r f)
 after_not_too_many P Q (Ok x) f h k = k x h
 after_not_too_many P Q (Err e) f h k = h
+
+-- two parts of an expression
+pair_not_too_many : {A B : Type 0} (r : Resolved A) (q : Resolved B) → NotTooMany (Anything {A = A}) r → NotTooMany (Anything {A = B}) q → NotTooMany (Anything {A = A × B}) (together (λ first _. first) r q)
+pair_not_too_many (Ok x) (Ok y) h k = tt
+pair_not_too_many (Ok x) (Err g) h k = k
+pair_not_too_many (Err f) (Ok y) h k = h
+pair_not_too_many (Err f) (Err g) h k = h
+
+-- an operation on what is resolved
+of_not_too_many : {A : Type 0} (r : Resolved A) (f : A → Term) → NotTooMany (Anything {A = A}) r → NotTooMany (Anything {A = Term}) (and_then r (λ x. Ok (f x)))
+of_not_too_many (Ok x) f h = tt
+of_not_too_many (Err e) f h = h
 
 -- ---- names and expressions
 
@@ -80,16 +94,17 @@ module _ (scope : Environment) where
   term_not_too_many seen (Num z spot) = tt
   term_not_too_many seen (Name w) = value_not_too_many w (meaning_of scope seen w.text)
   term_not_too_many seen (Elem w at) =
-      after_not_too_many Anything Anything (read_flow scope w) (λ flow. and_then (term_of scope seen at) (λ i. Ok (term.Elem flow i))) (by_not_too_many readable readable_not_too_many scope w (flow_named scope w.text))
-      (λ flow h. after_not_too_many Anything Anything (term_of scope seen at) (λ i. Ok (term.Elem flow i)) (term_not_too_many seen at) (λ i h. tt))
-  term_not_too_many seen (Unary o a spot) = after_not_too_many Anything Anything (term_of scope seen a) (λ x. Ok (term.Unary o x)) (term_not_too_many seen a) (λ x h. tt)
+      of_not_too_many (together (λ first _. first) (read_flow scope w) (term_of scope seen at)) (λ (x : ℕ × Term). term.Elem x.0 x.1)
+      (pair_not_too_many (read_flow scope w) (term_of scope seen at) (by_not_too_many readable readable_not_too_many scope w (flow_named scope w.text)) (term_not_too_many seen at))
+  term_not_too_many seen (Unary o a spot) = of_not_too_many (term_of scope seen a) (term.Unary o) (term_not_too_many seen a)
   term_not_too_many seen (Binary o a b) =
-      after_not_too_many Anything Anything (term_of scope seen a) (λ x. and_then (term_of scope seen b) (λ y. Ok (term.Binary o x y))) (term_not_too_many seen a)
-      (λ x h. after_not_too_many Anything Anything (term_of scope seen b) (λ y. Ok (term.Binary o x y)) (term_not_too_many seen b) (λ y h. tt))
+      of_not_too_many (together (λ first _. first) (term_of scope seen a) (term_of scope seen b)) (λ (x : Term × Term). term.Binary o x.0 x.1)
+      (pair_not_too_many (term_of scope seen a) (term_of scope seen b) (term_not_too_many seen a) (term_not_too_many seen b))
   term_not_too_many seen (Choose c a b) =
-      after_not_too_many Anything Anything (term_of scope seen c) (λ x. and_then (term_of scope seen a) (λ y. and_then (term_of scope seen b) (λ z. Ok (term.Choose x y z)))) (term_not_too_many seen c)
-      (λ x h. after_not_too_many Anything Anything (term_of scope seen a) (λ y. and_then (term_of scope seen b) (λ z. Ok (term.Choose x y z))) (term_not_too_many seen a)
-      (λ y h. after_not_too_many Anything Anything (term_of scope seen b) (λ z. Ok (term.Choose x y z)) (term_not_too_many seen b) (λ z h. tt)))
+      let branches = together (λ first _. first) (term_of scope seen a) (term_of scope seen b) in
+      of_not_too_many (together (λ first _. first) (term_of scope seen c) branches) (λ (x : Term × (Term × Term)). term.Choose x.0 x.1.0 x.1.1)
+      (pair_not_too_many (term_of scope seen c) branches (term_not_too_many seen c)
+      (pair_not_too_many (term_of scope seen a) (term_of scope seen b) (term_not_too_many seen a) (term_not_too_many seen b)))
 
   -- ---- statements
 

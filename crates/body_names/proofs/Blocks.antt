@@ -8,17 +8,16 @@ use Rattle.term_core.specs.BlockStatementList.{statement_list}
 use Rattle.term_core.specs.BlockStatementList as block
 use Rattle.term_core.specs.StatementList.{StatementList}
 use Rattle.term_core.specs.StatementList as list
-use Rattle.term_core.specs.Value.{and_then}
+use Rattle.ptg_base.specs.Returns.{ReturnsRefusal, and_then}
 use Rattle.jdf_tree.specs.declared.body.StmtTree.{StmtTree}
 use Rattle.jdf_tree.specs.declared.body.StmtTree.TheVariants as tree
 use Rattle.jdf_tree.specs.BlockStatements.{then, statements_of}
 use Rattle.jdf_tree.specs.Statements.{Statements, Done, count_of_statements}
 use Rattle.body_names.specs.Environment.{Environment}
-use Rattle.ptg_base.specs.Returns.{ReturnsRefusal}
-use Rattle.body_names.specs.Expressions.{Resolved}
+use Rattle.expr_names.specs.Symbols.{Resolved}
 use Rattle.body_names.specs.Bindings.{Bindings}
 use Rattle.body_names.specs.Statements.{Resolver, follow, resolved, statement_of}
-use Rattle.body_names.proofs.Refusals.{refuses_before}
+use Rattle.ptg_base.proofs.Refusals.{refuses_before}
 
 -- statements before others
 abbrev steps_onto : List Stmt → StatementList → StatementList

@@ -9,16 +9,15 @@ use Rattle.grammar_core.specs.declared.code.Code.TheVariants.{Syntax}
 use Rattle.grammar_core.specs.Reading.{FaultFromEnd, Read, ◌>>=◌, reading}
 use Rattle.grammar_core.proofs.Loops.{applied}
 use Rattle.jdf_alphabet.specs.Terminals.{terminal_of}
-use Rattle.term_core.specs.Value.{and_then}
+use Rattle.ptg_base.specs.Returns.{ReturnsRefusal, and_then}
 use Rattle.jdf_tree.specs.declared.expression.Word.{Word}
 use Rattle.jdf_tree.specs.declared.part.Part.TheVariants.{Body}
 use Rattle.jdf_tree.specs.Grammar.{productions}
 use Rattle.jdf_tree.specs.GrammarParts.{name, names, word_of}
 use Rattle.body_names.specs.Environment.{Environment}
-use Rattle.ptg_base.specs.Returns.{ReturnsRefusal}
-use Rattle.body_names.specs.Expressions.{Resolved}
+use Rattle.expr_names.specs.Symbols.{Resolved}
 use Rattle.body_names.specs.TokenScan.{TokenScan, role_of, judged_as, judged, judged_among, after_token}
-use Rattle.body_names.proofs.Refusals.{refuses_before}
+use Rattle.ptg_base.proofs.Refusals.{refuses_before}
 
 -- ---- the next token
 

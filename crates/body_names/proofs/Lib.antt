@@ -1,4 +1,3 @@
-pub mod Refusals
 pub mod Last
 pub mod Blocks
 pub mod Slots

@@ -1,33 +1,27 @@
 -- The body that is resolved is well made: its expressions.
-use Rattle.std.proofs.Common.{◌≡◌, ℕ, ◌<◌, ◌≤◌, Bool, true, false, cond, List, length, Result, Ok, Err, refl, subst, arith}
-use Rattle.std.specs.Prelude.{◌&&◌, nat_lt, Option, Some, None, slice_get}
+use Rattle.std.proofs.Common.{◌≡◌, ℕ, ◌<◌, ◌≤◌, Bool, true, false, cond, List, length, Ok, refl, subst, arith}
+use Rattle.std.specs.Prelude.{Option, Some, None, slice_get}
 use Rattle.std.specs.Str.{bytes_eq}
-use Rattle.std.proofs.lemmas.Bool.{lt-ltb, and_from}
+use Rattle.std.proofs.lemmas.Bool.{lt-ltb}
 use Rattle.term_core.specs.declared.flow.FlowKind.{FlowKind}
 use Rattle.term_core.specs.declared.flow.FlowKind.TheVariants as kind
 use Rattle.term_core.specs.Term.{Term}
 use Rattle.term_core.specs.Term as term
-use Rattle.term_core.specs.Value.{and_then, is_closed_with}
+use Rattle.term_core.specs.Value.{is_closed_with}
 use Rattle.jdf_tree.specs.declared.expression.Word.{Word}
-use Rattle.jdf_tree.specs.Expression.{Expression, Num, Name, Elem, Unary, Binary, Choose}
+use Rattle.jdf_tree.specs.Expression.{Expression}
 use Rattle.body_names.specs.declared.meaning.Meaning.{Meaning}
 use Rattle.body_names.specs.declared.meaning.Meaning.TheVariants as meaning
 use Rattle.body_names.specs.Environment.{Environment}
 use Rattle.body_names.specs.declared.scope.FlowName.{FlowName}
 use Rattle.body_names.specs.declared.variable.Variable.{Variable}
 use Rattle.body_names.specs.Meanings.{last_named, variable_or, local_named, local_or, integer_or, collection_or_nothing, meaning_of, flow_named}
-use Rattle.body_names.specs.Expressions.{Resolved, value_of, slot_of, readable, writable, if_flow, flow_by, read_flow, written_flow, term_of}
+use Rattle.expr_names.specs.Symbols.{Resolved}
+use Rattle.body_names.specs.Expressions.{value_of, slot_of, readable, writable, if_flow, flow_by, read_flow, written_flow, symbols_of, term_of}
+use Rattle.expr_names.proofs.Closed as closed
+use Rattle.expr_names.proofs.Closed.{value_is}
 use Rattle.body_names.proofs.Slots.{AreSlots, last_found}
 use Rattle.list_lemmas.proofs.Places.{position_within}
-
--- ---- what comes before a value
-
-pub after_ok : {A B F : Type 0} (r : Result A F) (f : A → Result B F) (y : B) → and_then r f ≡ Ok y → (x : A) × (r ≡ Ok x) × (f x ≡ Ok y)
-after_ok (Ok x) f y e = (x, refl, e)
-after_ok (Err d) f y e = absurd cc
-
-value_is : {A : Type 0} (x y : A) → (let a : Resolved A = Ok x in let b : Resolved A = Ok y in a ≡ b) → x ≡ y
-value_is x y e = cc
 
 -- ---- names
 
@@ -115,23 +109,6 @@ module _ (scope : Environment) (end : ℕ) (room : length scope.locals ≤ end) 
     -- ---- expressions
 
     pub term_closed : (e : Expression) (t : Term) → term_of scope seen e ≡ Ok t → is_closed_with end (length scope.flows) t ≡ true
-    term_closed (Num z spot) t e = rw (← (value_is (term.Num z) t e)) refl
-    term_closed (Name w) t e = value_closed w (meaning_of scope seen w.text) t (meaning_there w.text) e
-    term_closed (Elem w at) t e =
-        let a = after_ok (read_flow scope w) (λ flow. and_then (term_of scope seen at) (λ i. Ok (term.Elem flow i))) t e in
-        let b = after_ok (term_of scope seen at) (λ i. Ok (term.Elem a.0 i)) t a.2 in
-        rw (← (value_is (term.Elem a.0 b.0) t b.2)) (and_from (nat_lt a.0 (length scope.flows)) (is_closed_with end (length scope.flows) b.0) (lt-ltb a.0 (length scope.flows) (read_below w a.0 a.1)) (term_closed at b.0 b.1))
-    term_closed (Unary o x spot) t e =
-        let a = after_ok (term_of scope seen x) (λ y. Ok (term.Unary o y)) t e in
-        rw (← (value_is (term.Unary o a.0) t a.2)) (term_closed x a.0 a.1)
-    term_closed (Binary o x y) t e =
-        let a = after_ok (term_of scope seen x) (λ u. and_then (term_of scope seen y) (λ v. Ok (term.Binary o u v))) t e in
-        let b = after_ok (term_of scope seen y) (λ v. Ok (term.Binary o a.0 v)) t a.2 in
-        rw (← (value_is (term.Binary o a.0 b.0) t b.2)) (and_from (is_closed_with end (length scope.flows) a.0) (is_closed_with end (length scope.flows) b.0) (term_closed x a.0 a.1) (term_closed y b.0 b.1))
-    term_closed (Choose c x y) t e =
-        let a = after_ok (term_of scope seen c) (λ u. and_then (term_of scope seen x) (λ v. and_then (term_of scope seen y) (λ w. Ok (term.Choose u v w)))) t e in
-        let b = after_ok (term_of scope seen x) (λ v. and_then (term_of scope seen y) (λ w. Ok (term.Choose a.0 v w))) t a.2 in
-        let d = after_ok (term_of scope seen y) (λ w. Ok (term.Choose a.0 b.0 w)) t b.2 in
-        rw (← (value_is (term.Choose a.0 b.0 d.0) t d.2))
-        (and_from (is_closed_with end (length scope.flows) a.0 && is_closed_with end (length scope.flows) b.0) (is_closed_with end (length scope.flows) d.0)
-        (and_from (is_closed_with end (length scope.flows) a.0) (is_closed_with end (length scope.flows) b.0) (term_closed c a.0 a.1) (term_closed x b.0 b.1)) (term_closed y d.0 d.1))
+    term_closed e t h =
+        closed.term_closed (symbols_of scope seen) end (length scope.flows) (λ w x k. value_closed w (meaning_of scope seen w.text) x (meaning_there w.text) k)
+        (λ w n k. read_below w n k) e t h

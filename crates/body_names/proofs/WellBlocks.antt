@@ -10,18 +10,21 @@ use Rattle.term_core.specs.BlockStatementList.{then}
 use Rattle.term_core.specs.StatementList.{StatementList}
 use Rattle.term_core.specs.StatementList as list
 use Rattle.term_core.specs.Term.{Term}
-use Rattle.term_core.specs.Value.{and_then, is_closed_with}
+use Rattle.ptg_base.specs.Returns.{and_then}
+use Rattle.term_core.specs.Value.{is_closed_with}
 use Rattle.term_core.specs.WellBody.{is_variable, are_well_made, IsWellBody}
 use Rattle.jdf_tree.specs.declared.expression.Word.{Word}
 use Rattle.jdf_tree.specs.Expression.{Expression}
 use Rattle.jdf_tree.specs.Statements.{Statements, Done, DeclareThen, SetThen, PutThen, IfThen, ForThen, TrapThen}
 use Rattle.body_names.specs.Environment.{Environment}
 use Rattle.body_names.specs.Meanings.{meaning_of}
-use Rattle.body_names.specs.Expressions.{Resolved, fault_at, slot_of, written_flow, term_of}
+use Rattle.expr_names.specs.Symbols.{Resolved, fault_at}
+use Rattle.body_names.specs.Expressions.{slot_of, written_flow, term_of}
 use Rattle.body_names.specs.Bindings.{Bindings, no_bindings, block_opened, block_closed, next_slot, with_variable, require_room, require_fresh, numbered, word_number}
 use Rattle.body_names.specs.Statements.{Resolver, declare, set, put, in_block, if_else, for_loop, trap, follow, resolved}
 use Rattle.body_names.proofs.Slots.{AreSlots, slots_append, slots_take, slots_raise}
-use Rattle.body_names.proofs.Well.{after_ok, set_there, written_below, term_closed}
+use Rattle.expr_names.proofs.Closed.{after_ok}
+use Rattle.body_names.proofs.Well.{set_there, written_below, term_closed}
 
 pair_is : {A B : Type 0} (x y : A × B) → (let a : Resolved (A × B) = Ok x in let b : Resolved (A × B) = Ok y in a ≡ b) → x ≡ y
 pair_is x y e = cc

@@ -10,7 +10,7 @@ use Rattle.jdf_tree.specs.declared.expression.Word.{Word}
 use Rattle.body_names.specs.declared.variable.BindingTable.{BindingTable}
 use Rattle.body_names.specs.declared.variable.Variable.{Variable}
 use Rattle.body_names.specs.Environment.{Environment}
-use Rattle.body_names.specs.Expressions.{Resolved, fault_at}
+use Rattle.expr_names.specs.Symbols.{Resolved, fault_at}
 
 pub record Bindings : Type 0 where
   -- the variables that are seen, in the order of their declarations

@@ -1,30 +1,21 @@
--- The expressions of a body with their names resolved, or the first name in the text's order that has a fault. Source:
--- this project's own choice.
-use Rattle.std.specs.Prelude.{ℕ, List, Option, Some, None, Result, Ok, Err, slice_get}
-use Rattle.jdf_lex.specs.declared.fault.JdfCode.{JdfCode}
+-- What the names in the expressions of a body are resolved to, or which fault they have. Source: this project's own
+-- choice.
+use Rattle.std.specs.Prelude.{ℕ, List, Option, Some, None, Ok, slice_get}
 use Rattle.jdf_lex.specs.declared.fault.JdfCode.TheVariants.{UnknownName, WrongKind, CtlMixed, ReadAssigned, NotAssignable}
-use Rattle.jdf_lex.specs.declared.fault.JdfFault.{JdfFault}
 use Rattle.term_core.specs.declared.flow.FlowKind.{FlowKind}
 use Rattle.term_core.specs.declared.flow.FlowKind.TheVariants as kind
 use Rattle.term_core.specs.Term.{Term}
 use Rattle.term_core.specs.Term as term
-use Rattle.term_core.specs.Value.{and_then}
 use Rattle.jdf_tree.specs.declared.expression.Word.{Word}
-use Rattle.jdf_tree.specs.Expression.{Expression, Num, Name, Elem, Unary, Binary, Choose}
+use Rattle.jdf_tree.specs.Expression.{Expression}
+use Rattle.expr_names.specs.Symbols.{Resolved, SymbolTable, fault_at}
+use Rattle.expr_names.specs.Expressions as expression
 use Rattle.body_names.specs.declared.variable.Variable.{Variable}
 use Rattle.body_names.specs.declared.meaning.Meaning.{Meaning}
 use Rattle.body_names.specs.declared.meaning.Meaning.TheVariants as meaning
 use Rattle.body_names.specs.Environment.{Environment}
 use Rattle.body_names.specs.declared.scope.FlowName.{FlowName}
 use Rattle.body_names.specs.Meanings.{meaning_of, flow_named}
-
--- what is resolved, or a fault
-abbrev pub Resolved : Type 0 → Type 0
-Resolved A = Result A JdfFault
-
--- a fault at a name
-abbrev pub fault_at : {A : Type 0} → Word → JdfCode → Resolved A
-fault_at w code = Err (record { spot = w.spot; code = code })
 
 -- the term of a name in an expression
 abbrev pub value_of : Word → Meaning → Resolved Term
@@ -71,14 +62,16 @@ read_flow scope w = flow_by readable scope w (flow_named scope w.text)
 abbrev pub written_flow : Environment → Word → Resolved ℕ
 written_flow scope w = flow_by writable scope w (flow_named scope w.text)
 
--- an expression: a name before an index is a flow's, and each other one means a number
+-- what names mean where these variables are seen: a name before an index is a flow's; of several faults the first in
+-- the text's order is told
+abbrev pub symbols_of : Environment → List Variable → SymbolTable
+symbols_of scope seen =
+    record {
+      value = λ w. value_of w (meaning_of scope seen w.text);
+      flow = λ w. read_flow scope w;
+      told = λ first _. first;
+    }
+
+-- an expression
 abbrev pub term_of : Environment → List Variable → Expression → Resolved Term
-term_of scope seen (Num z spot) = Ok (term.Num z)
-term_of scope seen (Name w) = value_of w (meaning_of scope seen w.text)
-term_of scope seen (Elem w at) =
-    and_then (read_flow scope w) (λ flow. and_then (term_of scope seen at) (λ i. Ok (term.Elem flow i)))
-term_of scope seen (Unary o a spot) = and_then (term_of scope seen a) (λ x. Ok (term.Unary o x))
-term_of scope seen (Binary o a b) =
-    and_then (term_of scope seen a) (λ x. and_then (term_of scope seen b) (λ y. Ok (term.Binary o x y)))
-term_of scope seen (Choose c a b) =
-    and_then (term_of scope seen c) (λ x. and_then (term_of scope seen a) (λ y. and_then (term_of scope seen b) (λ z. Ok (term.Choose x y z))))
+term_of scope seen e = expression.term_of (symbols_of scope seen) e

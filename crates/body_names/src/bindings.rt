@@ -8,9 +8,9 @@ ghost use Rattle.body_names.specs.Environment.{environment_of};
 ghost use Rattle.ptg_base.specs.Returns.{Returns};
 ghost use Rattle.body_names.specs.Bindings.{bindings_of, no_bindings, next_slot, with_variable, require_room, require_fresh, word_number};
 
-use crate::flow::fault_at;
 use crate::scope::{Context, Scope};
 use crate::variable::{BindingTable, Variable};
+use expr_names::fault_at;
 use jdf_lex::{JdfCode, JdfRefusal};
 use jdf_tree::Word;
 use name_table::NameSet;

@@ -1,26 +1,15 @@
 //! The flows that the elements of a body name.
 
-ghost use Rattle.std.specs.Prelude.{◌≡◌};
-ghost use Rattle.ptg_base.specs.declared.refusal.Refusal.TheVariants.{Fault};
 ghost use Rattle.body_names.specs.Environment.{environment_of};
 ghost use Rattle.ptg_base.specs.Returns.{Returns};
 ghost use Rattle.body_names.specs.Expressions.{read_flow, written_flow};
 
 use crate::lookup::flow_named;
 use crate::scope::Scope;
-use jdf_lex::{JdfCode, JdfFault, JdfRefusal};
+use expr_names::fault_at;
+use jdf_lex::{JdfCode, JdfRefusal};
 use jdf_tree::Word;
 use term_core::FlowKind;
-
-/// The fault of this code at a name.
-pub(crate) fn fault_at(word: &Word, code: JdfCode) -> JdfRefusal
-    ensures { result ≡ Fault (record { spot = word.now.spot; code = code }) }
-{
-    JdfRefusal::Fault(JdfFault {
-        spot: word.spot,
-        code,
-    })
-}
 
 /// The number of a flow whose elements are read.
 pub(crate) fn read_flow(scope: &Scope, word: &Word) -> Result<u8, JdfRefusal>

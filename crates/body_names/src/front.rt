@@ -21,7 +21,7 @@ use jdf_lex::{JdfRefusal, Token};
 use jdf_tree::{Part, Word};
 use std::alloc::Global;
 
-#[tactic(auto, using(crate::proofs::Refusals::refuses_before))]
+#[tactic(auto, using(ptg_base::proofs::Refusals::refuses_before))]
 fn judge_as(
     role: Role,
     scope: &Scope,

@@ -9,15 +9,22 @@ use std::alloc::Global;
 use term_core::FlowKind;
 
 /// A flow of a class.
-#[derive(Drop)]
 pub struct FlowName {
     pub name: Text,
     pub kind: FlowKind,
 }
 
+impl Drop for FlowName {
+    fn drop(self) {
+        let FlowName {
+            name: _name,
+            kind: _kind,
+        } = self;
+    }
+}
+
 /// What the names in a body may mean beside its own variables. Of two definitions or two flows of one name it is the
 /// first.
-#[derive(Drop)]
 pub struct Scope<'a> {
     /// The definitions of the class, in the text's order: at most 16.
     pub locals: Seq<Text>,
@@ -29,6 +36,17 @@ pub struct Scope<'a> {
     pub flows: Seq<FlowName>,
     pub ghost locals_at_most: { length locals ≤ most_locals },
     pub ghost flows_at_most: { length flows ≤ most_flows },
+}
+
+impl<'a> Drop for Scope<'a> {
+    fn drop(self) {
+        let Scope {
+            locals: _locals,
+            ints: _ints,
+            colls: _colls,
+            flows: _flows,
+        } = self;
+    }
 }
 
 /// What a body is resolved with: where it gets memory, and what names mean beside its variables.

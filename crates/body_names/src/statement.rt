@@ -16,7 +16,7 @@ use jdf_tree::{BlockTree, ExprTree, StmtTree, Word};
 use ptg_base::Seq;
 use term_core::{Block, Stmt};
 
-#[tactic(auto, using(crate::proofs::Refusals::refuses_before))]
+#[tactic(auto, using(ptg_base::proofs::Refusals::refuses_before))]
 fn declare(
     context: &Context,
     bindings: &mut BindingTable,
@@ -34,7 +34,7 @@ fn declare(
     Ok(Stmt::Set(slot, value))
 }
 
-#[tactic(auto, using(crate::proofs::Refusals::refuses_before))]
+#[tactic(auto, using(ptg_base::proofs::Refusals::refuses_before))]
 fn set(
     context: &Context,
     bindings: &BindingTable,
@@ -50,7 +50,7 @@ fn set(
     Ok(Stmt::Set(slot, value))
 }
 
-#[tactic(auto, using(crate::proofs::Refusals::refuses_before))]
+#[tactic(auto, using(ptg_base::proofs::Refusals::refuses_before))]
 fn put(
     context: &Context,
     bindings: &BindingTable,
@@ -77,7 +77,7 @@ fn trap(context: &Context, bindings: &mut BindingTable, word: &Word) -> Result<S
 
 // A block, after which its variables are no longer seen.
 #[cycle(block)]
-#[tactic(auto, using(crate::proofs::Refusals::refuses_before))]
+#[tactic(auto, using(ptg_base::proofs::Refusals::refuses_before))]
 fn in_block(
     context: &Context,
     bindings: &mut BindingTable,
@@ -95,7 +95,7 @@ fn in_block(
 }
 
 #[cycle(block)]
-#[tactic(auto, using(crate::proofs::Refusals::refuses_before))]
+#[tactic(auto, using(ptg_base::proofs::Refusals::refuses_before))]
 fn if_else(
     context: &Context,
     bindings: &mut BindingTable,
@@ -122,7 +122,7 @@ struct Bounds<'a> {
 }
 
 #[cycle(block)]
-#[tactic(auto, using(crate::proofs::Refusals::refuses_before))]
+#[tactic(auto, using(ptg_base::proofs::Refusals::refuses_before))]
 fn for_loop(
     context: &Context,
     bindings: &mut BindingTable,

@@ -1,11 +1,12 @@
 //! The variables of a body, and what is known of them at one of its tokens.
 
+ghost use Rattle.std.specs.Prelude.{◌≡◌};
+
 use jdf_alphabet::Terminal;
 use name_table::NameSet;
 use ptg_base::Text;
 
 /// A variable that a body declares.
-#[derive(Drop)]
 pub struct Variable {
     pub name: Text,
     /// The number of its slot.
@@ -13,8 +14,17 @@ pub struct Variable {
     pub is_loop_variable: bool,
 }
 
+impl Drop for Variable {
+    fn drop(self) {
+        let Variable {
+            name: _name,
+            slot: _slot,
+            is_loop_variable: _is_loop_variable,
+        } = self;
+    }
+}
+
 /// What the names of a body are bound to, between two of its tokens.
-#[derive(Drop)]
 pub struct BindingTable {
     /// The variables that are seen there, in the order of their declarations.
     pub seen: Vec<Variable>,
@@ -26,8 +36,33 @@ pub struct BindingTable {
     pub words: NameSet,
 }
 
+impl Drop for BindingTable {
+    fn drop(self) {
+        let BindingTable {
+            seen: _seen,
+            outside: _outside,
+            declared: _declared,
+            words: _words,
+        } = self;
+    }
+}
+
+impl BindingTable {
+    // The trap words alone.
+    pub(crate) fn into_words(self) -> NameSet
+        ensures { result ≡ self.words }
+    {
+        let BindingTable {
+            seen: _seen,
+            outside: _outside,
+            declared: _declared,
+            words,
+        } = self;
+        words
+    }
+}
+
 /// What is known at a token of a body.
-#[derive(Drop)]
 pub struct Scanner {
     pub bindings: BindingTable,
     /// For each block that is open, the innermost last, how many variables were seen before it, and how many of these
@@ -37,4 +72,15 @@ pub struct Scanner {
     pub naming: Option<Text>,
     /// The token before.
     pub previous: Option<Terminal>,
+}
+
+impl Drop for Scanner {
+    fn drop(self) {
+        let Scanner {
+            bindings: _bindings,
+            open_blocks: _open_blocks,
+            naming: _naming,
+            previous: _previous,
+        } = self;
+    }
 }

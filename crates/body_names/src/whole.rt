@@ -18,7 +18,7 @@ use term_core::Body;
 /// Resolves the names of a body: the body and its trap words, in the order of their first use; or the first fault of a
 /// name, in the text's order: NameTwice, UnknownName, WrongKind, CtlMixed, ReadAssigned, NotAssignable, or TooManyVars
 /// at the name of the 257th variable. More trap words than a 32-bit number can count are OutOfMemory.
-#[tactic(auto, using(crate::proofs::Refusals::refuses_before))]
+#[tactic(auto, using(ptg_base::proofs::Refusals::refuses_before))]
 pub fn resolve(
     alloc: Global,
     scope: &Scope,
@@ -33,5 +33,8 @@ pub fn resolve(
     let mut bindings = BindingTable::new(alloc);
     let statements = block(&context, &mut bindings, tree)?;
     let slots = scope.locals.len() as u16 + bindings.declared;
-    Ok((Body { statements, slots }, bindings.words.into_seq(alloc)?))
+    Ok((
+        Body { statements, slots },
+        bindings.into_words().into_seq(alloc)?,
+    ))
 }

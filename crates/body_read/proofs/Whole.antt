@@ -1,22 +1,28 @@
 -- One token of lookahead reads a whole body.
-use Rattle.std.proofs.Common.{◌≡◌, ℕ, true, List, Result, Ok, Err, refl, sym, ap, ◌∙◌, ◌≤◌, inl, inr, arith}
-use Rattle.std.specs.Prelude.{length, ◌-◌, None, ◌⊎◌, IfOk}
+use Rattle.std.proofs.Common.{◌≡◌, ℕ, true, List, Result, Ok, Err, refl, sym, ap, ◌∙◌, ◌≤◌, inl, inr, arith, subst}
+use Rattle.std.specs.Prelude.{length, ◌-◌, None}
+use Rattle.grammar_core.specs.declared.token.Spot.{Spot}
 use Rattle.grammar_core.specs.declared.token.Token.{Token}
 use Rattle.grammar_core.specs.declared.code.Code.{Code}
 use Rattle.grammar_core.specs.declared.code.Code.TheVariants.{Syntax}
 use Rattle.grammar_core.specs.Production.{IsText, IsFirstFault}
 use Rattle.grammar_core.specs.Predictive.{is_fine}
+use Rattle.ptg_base.specs.declared.refusal.Refusal.{Refusal}
 use Rattle.ptg_base.specs.declared.refusal.Refusal.TheVariants as errors
 use Rattle.grammar_core.specs.declared.fault.ReadFault.{ReadFault}
 use Rattle.grammar_core.specs.Returns.{ReadRefusal, Returns, Fails, fault_with}
 use Rattle.grammar_core.proofs.Refusals as refusals
 use Rattle.grammar_core.specs.Reading.{FaultFromEnd, whole}
 use Rattle.grammar_core.proofs.Whole.{text_found, text_only, fault_is as text_fault, fault_within, one_fault}
+use Rattle.ptg_base.specs.Returns.{FindsOrRefuses}
+use Rattle.jdf_lex.specs.declared.fault.JdfFault.{JdfFault}
 use Rattle.jdf_tree.specs.BodyGrammar.{body}
 use Rattle.jdf_tree.specs.Grammar.{productions, claims}
 use Rattle.jdf_tree.specs.Statements.{Statements}
 use Rattle.jdf_tree.proofs.Fine.{productions_fine}
 use Rattle.jdf_tree.proofs.Limits.{productions_limits, body_text_limits}
+use Rattle.expr_read.specs.Front.{fault_at}
+use Rattle.body_read.specs.Text.{IsTree, IsFaultBefore, IsTreeFault}
 use Rattle.body_read.proofs.Limited.{text_fine}
 
 body_fine : is_fine claims body ≡ true
@@ -95,35 +101,77 @@ pub read_is : (r : Result Statements ReadRefusal) (read : Result Statements Faul
 read_is (Ok t) read h = h
 read_is (Err e) read h = h
 
-abbrev answer : Statements → Result Statements ReadRefusal
-answer t = Ok t
-
 abbrev refusal : ReadRefusal → Result Statements ReadRefusal
 refusal e = Err e
 
-pub answers_found : (s : List Token) (r : Result Statements ReadRefusal) → IsRead r (whole productions body s) → IfOk r (λ t. IsText productions body s t None)
-answers_found s (Ok t) e = found s t e
-answers_found s (Err e) h = tt
+abbrev answer : Statements → Result Statements ReadRefusal
+answer t = Ok t
 
-pub answers_only : (s : List Token) (r : Result Statements ReadRefusal) → IsRead r (whole productions body s) → (t : Statements) → IsText productions body s t None → (r ≡ Ok t) ⊎ (r ≡ Err errors.OutOfMemory)
-answers_only s (Ok u) e t h = inl (ap answer (one_tree s u t e h))
-answers_only s (Err errors.OutOfMemory) e t h = inr refl
-answers_only s (Err (errors.Fault x)) e t h = absurd (no_tree s (x.left, x.code) t e h)
+fault_before : (s : List Token) (x f : ReadFault) → whole productions body s ≡ Err (x.left, x.code) → refusal (errors.Fault x) ≡ refusal (errors.Fault f) → IsFaultBefore s f
+fault_before s x f e h =
+    let same : x ≡ f = cc in
+    subst (λ (y : ReadFault). IsFaultBefore s y) same (record { within = fault_left s (x.left, x.code) e; first = faulty s x.left x.code e })
 
-refused_is : (x : ReadFault) (m : ℕ) (d : Code) → refusal (errors.Fault x) ≡ refusal (fault_with m d) → (x.left ≡ m) × (x.code ≡ d)
-refused_is x m d e = let same : x ≡ record { left = m; code = d } = cc in (ap (λ (y : ReadFault). y.left) same, ap (λ (y : ReadFault). y.code) same)
+fault_only : (s : List Token) (x f : ReadFault) → whole productions body s ≡ Err (x.left, x.code) → IsFaultBefore s f → refusal (errors.Fault x) ≡ refusal (errors.Fault f)
+fault_only s x f e h =
+    let same = same_stop (x.left, x.code) (length s - (length s - f.left), f.code) (sym e ∙ fault_read s (length s - f.left) f.code h.first) in
+    let w = h.within in
+    let n = ap (λ (m : FaultFromEnd). m.0) same in
+    let left : x.left ≡ f.left = omega (arith, n, w) in
+    let code : x.code ≡ f.code = ap (λ (m : FaultFromEnd). m.1) same in
+    λ i. refusal (errors.Fault (record { left = left i; code = code i }))
 
-pub answers_fault : (s : List Token) (r : Result Statements ReadRefusal) → IsRead r (whole productions body s) → (left : ℕ) (c : Code) → r ≡ Err (fault_with left c) → (left ≤ length s) × IsFirstFault productions body s (length s - left) c
-answers_fault s (Ok u) e left c h = absurd cc
-answers_fault s (Err errors.OutOfMemory) e left c h = absurd cc
-answers_fault s (Err (errors.Fault x)) e left c h =
-    let same = refused_is x left c h in
-    let read : whole productions body s ≡ Err (left, c) = e ∙ ap (λ (m : FaultFromEnd). failed m) (λ i. (same.0 i, same.1 i)) in
-    (fault_left s (left, c) read, faulty s left c read)
+-- what reading a tree answers
+pub tree_exact : (s : List Token) (r : Result Statements ReadRefusal) → IsRead r (whole productions body s) → FindsOrRefuses (IsTree s) (IsFaultBefore s) r
+tree_exact s (Ok u) e =
+    record {
+      found = found s u e;
+      only = λ t h. inl (ap answer (one_tree s u t e h));
+      fault = λ f h. absurd cc;
+      refused = λ f h. absurd (no_fault s u (length s - f.left) f.code e h.first);
+    }
+tree_exact s (Err errors.OutOfMemory) e = record { found = tt; only = λ t h. inr refl; fault = λ f h. absurd cc; refused = λ f h. inr refl }
+tree_exact s (Err (errors.Fault x)) e =
+    record {
+      found = tt;
+      only = λ t h. absurd (no_tree s (x.left, x.code) t e h);
+      fault = λ f h. fault_before s x f e h;
+      refused = λ f h. inl (fault_only s x f e h);
+    }
 
-pub answers_refused : (s : List Token) (r : Result Statements ReadRefusal) → IsRead r (whole productions body s) → (p : ℕ) (c : Code) → IsFirstFault productions body s p c → (r ≡ Err (fault_with (length s - p) c)) ⊎ (r ≡ Err errors.OutOfMemory)
-answers_refused s (Ok u) e p c h = absurd (no_fault s u p c e h)
-answers_refused s (Err errors.OutOfMemory) e p c h = inr refl
-answers_refused s (Err (errors.Fault x)) e p c h =
-    let same = same_stop (x.left, x.code) (length s - p, c) (sym e ∙ fault_read s p c h) in
-    inl (ap (λ (m : FaultFromEnd). refusal (fault_with m.0 m.1)) same)
+module _ (s : List Token) (finish : Spot) where
+  abbrev JdfRefusal : Type 0
+  JdfRefusal = Refusal JdfFault
+
+  abbrev Reads : Result Statements JdfRefusal → Type 0
+  Reads r = FindsOrRefuses (IsTree s) (IsTreeFault s finish) r
+
+  abbrev refused : JdfFault → Result Statements JdfRefusal
+  refused f = Err (errors.Fault f)
+
+  abbrev tree : Statements → Result Statements JdfRefusal
+  tree t = Ok t
+
+  pub read_tree : (u : Statements) → whole productions body s ≡ Ok u → Reads (Ok u)
+  read_tree u e =
+      record {
+        found = found s u e;
+        only = λ t h. inl (ap tree (one_tree s u t e h));
+        fault = λ f h. absurd cc;
+        refused = λ f h. absurd (no_fault s u h.token_index h.code e h.first);
+      }
+
+  pub read_no_memory : Reads (Err errors.OutOfMemory)
+  read_no_memory = record { found = tt; only = λ t h. inr refl; fault = λ f h. absurd cc; refused = λ f h. inr refl }
+
+  pub read_fault : (n : ℕ) (d : Code) (f : JdfFault) → whole productions body s ≡ Err (n, d) → f ≡ fault_at s finish (length s - n) d → Reads (Err (errors.Fault f))
+  read_fault n d f e at =
+      record {
+        found = tt;
+        only = λ t h. absurd (no_tree s (n, d) t e h);
+        fault = λ g h. let same : f ≡ g = cc in record { token_index = length s - n; code = d; first = faulty s n d e; placed = sym same ∙ at };
+        refused = λ g h.
+            let k = one_place s n h.token_index d h.code e h.first in
+            let here : f ≡ g = at ∙ (λ i. fault_at s finish (k.0 i) (k.1 i)) ∙ sym h.placed in
+            inl (ap refused here);
+      }

@@ -1,16 +1,11 @@
 //! The text of a body as a whole.
 
-ghost use Rattle.std.specs.Prelude.{◌≡◌, ℕ, ◌-◌, ◌≤◌, length, IfOk, Ok, Err, ◌⊎◌, None};
-ghost use Rattle.grammar_core.specs.declared.code.Code.{Code};
-ghost use Rattle.grammar_core.specs.Production.{IsText, IsFirstFault};
-ghost use Rattle.grammar_core.specs.Returns.{Returns, fault_with};
+ghost use Rattle.ptg_base.specs.Returns.{FindsOrRefuses};
+ghost use Rattle.grammar_core.specs.Returns.{Returns};
 ghost use Rattle.grammar_core.specs.Reading.{reading, whole};
-ghost use Rattle.jdf_lex.specs.declared.fault.JdfFault.{JdfFault};
-ghost use Rattle.ptg_base.specs.declared.refusal.Refusal.TheVariants.{Fault, OutOfMemory};
 ghost use Rattle.jdf_tree.specs.BodyGrammar.{text, body};
 ghost use Rattle.jdf_tree.specs.Grammar.{productions};
-ghost use Rattle.jdf_tree.specs.Statements.{Statements};
-ghost use Rattle.expr_read.specs.Front.{fault_at};
+ghost use Rattle.body_read.specs.Text.{IsTree, IsFaultBefore, IsTreeFault};
 
 use crate::limits::{block_limit, variable_limit};
 use crate::statement::{block, statements};
@@ -79,17 +74,8 @@ fn whole(alloc: Global, tokens: &[Token]) -> Result<BlockTree, ReadRefusal>
 /// that is.
 /// What its names mean is not looked at.
 pub fn tree(alloc: Global, tokens: &[Token]) -> Result<BlockTree, ReadRefusal>
-    // What is read is the tree of the text.
-    ensures found { IfOk result (λ tree. IsText productions body tokens.now tree None) }
-    // A text that has a tree is read, unless memory runs out.
-    ensures only { (tree : Statements) → IsText productions body tokens.now tree None
-        → (result ≡ Ok tree) ⊎ (result ≡ Err OutOfMemory) }
-    // A fault that is answered is the first one of the text.
-    ensures fault { (left : ℕ) → (c : Code) → result ≡ Err (fault_with left c)
-        → (left ≤ length tokens.now) × IsFirstFault productions body tokens.now (length tokens.now - left) c }
-    // Where the text has a first fault that is the answer, unless memory runs out.
-    ensures refused { (p : ℕ) → (c : Code) → IsFirstFault productions body tokens.now p c
-        → (result ≡ Err (fault_with (length tokens.now - p) c)) ⊎ (result ≡ Err OutOfMemory) }
+    // What is read is the tree of the text; a fault is its first one.
+    ensures exact { FindsOrRefuses (IsTree tokens.now) (IsFaultBefore tokens.now) result }
 {
     whole(alloc, tokens)
 }
@@ -98,17 +84,8 @@ pub fn tree(alloc: Global, tokens: &[Token]) -> Result<BlockTree, ReadRefusal>
 /// TooDeep or TooManyVars. Where the tokens end too early that is Syntax at `finish`, the spot after them. What its
 /// names mean is not looked at.
 pub fn read(alloc: Global, tokens: &[Token], finish: Spot) -> Result<BlockTree, JdfRefusal>
-    // What is read is the tree of the text.
-    ensures found { IfOk result (λ tree. IsText productions body tokens.now tree None) }
-    // A text that has a tree is read, unless memory runs out.
-    ensures only { (tree : Statements) → IsText productions body tokens.now tree None
-        → (result ≡ Ok tree) ⊎ (result ≡ Err OutOfMemory) }
-    // A fault that is answered is the first one of the text.
-    ensures fault { (f : JdfFault) → result ≡ Err (Fault f)
-        → (p : ℕ) × (c : Code) × IsFirstFault productions body tokens.now p c × (f ≡ fault_at tokens.now finish p c) }
-    // Where the text has a first fault that is the answer, unless memory runs out.
-    ensures refused { (p : ℕ) → (c : Code) → IsFirstFault productions body tokens.now p c
-        → (result ≡ Err (Fault (fault_at tokens.now finish p c))) ⊎ (result ≡ Err OutOfMemory) }
+    // What is read is the tree of the text; a fault is its first one.
+    ensures exact { FindsOrRefuses (IsTree tokens.now) (IsTreeFault tokens.now finish) result }
 {
     match whole(alloc, tokens) {
         Ok(tree) => Ok(tree),

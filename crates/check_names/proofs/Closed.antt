@@ -1,6 +1,6 @@
 -- Terms whose names are resolved name only locals that are seen.
-use Rattle.std.proofs.Common.{◌≡◌, ℕ, ℤ, ◌<◌, ◌&&◌, List, length, Option, Some, None, option_map, IsTrue, refl, ap, subst}
-use Rattle.std.specs.Option.{option_or}
+use Rattle.std.proofs.Common.{◌≡◌, ℕ, ℤ, ◌<◌, ◌&&◌, List, length, Option, Some, None, option_map, Ok, IsTrue, refl, ap, subst}
+use Rattle.std.specs.Option.{ok_or, option_or}
 use Rattle.std.proofs.lemmas.Bool.{lt-ltb, and_from}
 use Rattle.term_core.specs.Term.{Term}
 use Rattle.term_core.specs.Term as term
@@ -9,12 +9,17 @@ use Rattle.term_core.specs.WellSpace.{is_closed_step, is_closed_def}
 use Rattle.term_core.specs.declared.space.Range.{Range}
 use Rattle.term_core.specs.declared.space.Def.{Def}
 use Rattle.term_core.specs.declared.space.Def.TheVariants as def
-use Rattle.jdf_tree.specs.Expression.{Expression, Num, Name, Elem, Unary, Binary, Choose}
+use Rattle.jdf_tree.specs.Expression.{Expression}
 use Rattle.jdf_tree.specs.declared.tree.ArgTree.TheVariants as tree
-use Rattle.check_names.specs.Alphabet.{DefTree, ArgTree}
+use Rattle.check_names.specs.Alphabet.{DefTree, ArgTree, JdfFault, Spot}
+use Rattle.check_names.specs.Faults.{fault}
 use Rattle.check_names.specs.Names.{Job, word_is, int_named, local_named}
 use Rattle.check_names.specs.Returns.{both}
-use Rattle.check_names.specs.Expressions.{term_of, option_term}
+use Rattle.check_names.specs.Expressions.{name_code, name_term, symbols_of, term_of, option_term}
+use Rattle.check_names.proofs.OneResolver.{agrees, resolved_is}
+use Rattle.expr_names.proofs.Closed as closed
+use Rattle.expr_names.proofs.Closed.{value_is}
+use Rattle.expr_names.specs.Symbols.{Resolved}
 use Rattle.check_names.specs.Arguments.{range_of}
 use Rattle.check_names.specs.Definitions.{definition_of}
 use Rattle.list_lemmas.proofs.Places.{position_within}
@@ -29,16 +34,9 @@ closed_int : (seen : List DefTree) (o : Option ℤ) (t : Term) → option_map te
 closed_int seen None t e = absurd cc
 closed_int seen (Some z) t e = subst (λ x. IsTrue (is_closed (length seen) x)) (same_Some (term.Num z) t e) refl
 
--- operations on closed terms
-one_closed : (n : ℕ) (f : Term → Term) (o : Option Term) (t : Term) → ((x : Term) → IsTrue (is_closed n x) → IsTrue (is_closed n (f x))) → ((x : Term) → o ≡ Some x → IsTrue (is_closed n x)) → option_map f o ≡ Some t → IsTrue (is_closed n t)
-one_closed n f None t keeps h e = absurd cc
-one_closed n f (Some x) t keeps h e = subst (λ y. IsTrue (is_closed n y)) (same_Some (f x) t e) (keeps x (h x refl))
-
-two_closed : {A B : Type 0} (P : A → Type 0) (Q : B → Type 0) (R : Term → Type 0) (f : A → B → Term) (o : Option A) (p : Option B) (t : Term) → ((x : A) (y : B) → P x → Q y → R (f x y))
-    → ((x : A) → o ≡ Some x → P x) → ((y : B) → p ≡ Some y → Q y) → both f o p ≡ Some t → R t
-two_closed P Q R f None p t keeps h k e = absurd cc
-two_closed P Q R f (Some x) None t keeps h k e = absurd cc
-two_closed P Q R f (Some x) (Some y) t keeps h k e = subst R (same_Some (f x y) t e) (keeps x y (h x refl) (k y refl))
+from_ok_or : (o : Option Term) (f : JdfFault) (t : Term) → (let a : Resolved Term = Ok t in ok_or o f ≡ a) → o ≡ Some t
+from_ok_or None f t e = absurd cc
+from_ok_or (Some x) f t e = ap (λ y. Some y) (value_is x t e)
 
 -- two parts that are there
 pub pair_parts : {A B : Type 0} (o : Option A) (p : Option B) (z : A × B) → both (λ x y. (x, y)) o p ≡ Some z → (o ≡ Some z.0) × (p ≡ Some z.1)
@@ -47,21 +45,14 @@ pair_parts (Some x) None z e = absurd cc
 pair_parts (Some x) (Some y) z e = let same : (x, y) ≡ z = same_Some (x, y) z e in (ap (λ w. Some w.0) same, ap (λ w. Some w.1) same)
 
 pub closed_term : (job : Job) (seen : List DefTree) (e : Expression) (t : Term) → term_of job seen e ≡ Some t → IsTrue (is_closed (length seen) t)
-closed_term job seen (Num z spot) t h = subst (λ x. IsTrue (is_closed (length seen) x)) (same_Some (term.Num z) t h) refl
-closed_term job seen (Name w) t h =
-    closed_name seen w.text (local_named seen w.text) (option_map term.Num (int_named job w.text)) t
-    (λ n e. position_within (λ (d : DefTree). word_is w.text d.name) seen n e) (λ x e. closed_int seen (int_named job w.text) x e) h
-closed_term job seen (Elem w at) t h = absurd cc
-closed_term job seen (Unary o a spot) t h = one_closed (length seen) (term.Unary o) (term_of job seen a) t (λ x k. k) (λ x k. closed_term job seen a x k) h
-closed_term job seen (Binary o a b) t h =
-    two_closed (λ x. IsTrue (is_closed (length seen) x)) (λ y. IsTrue (is_closed (length seen) y)) (λ z. IsTrue (is_closed (length seen) z)) (term.Binary o) (term_of job seen a) (term_of job seen b) t
-    (λ x y k l. and_from (is_closed (length seen) x) (is_closed (length seen) y) k l) (λ x k. closed_term job seen a x k) (λ x k. closed_term job seen b x k) h
-closed_term job seen (Choose c a b) t h =
-    two_closed (λ x. IsTrue (is_closed (length seen) x)) (λ (y : Term × Term). IsTrue (is_closed (length seen) y.0) × IsTrue (is_closed (length seen) y.1)) (λ z. IsTrue (is_closed (length seen) z))
-    (λ x (y : Term × Term). term.Choose x y.0 y.1) (term_of job seen c) (both (λ x y. (x, y)) (term_of job seen a) (term_of job seen b)) t
-    (λ x y k l. and_from (is_closed (length seen) x && is_closed (length seen) y.0) (is_closed (length seen) y.1) (and_from (is_closed (length seen) x) (is_closed (length seen) y.0) k l.0) l.1)
-    (λ x k. closed_term job seen c x k)
-    (λ y k. let p = pair_parts (term_of job seen a) (term_of job seen b) y k in (closed_term job seen a y.0 p.0, closed_term job seen b y.1 p.1)) h
+closed_term job seen e t h =
+    closed.term_closed (symbols_of job seen) (length seen) 0 (λ w x k. named w.text x w.spot k) (λ w n k. absurd cc) e t (resolved_is _ _ _ (agrees job seen e) t h)
+  where
+    named : (name : List ℕ) (x : Term) (spot : Spot) → ok_or (name_term job seen name) (fault spot (name_code job name)) ≡ Ok x → IsTrue (is_closed (length seen) x)
+    named name x spot k =
+        closed_name seen name (local_named seen name) (option_map term.Num (int_named job name)) x
+        (λ n e. position_within (λ (d : DefTree). word_is name d.name) seen n e) (λ y e. closed_int seen (int_named job name) y e)
+        (from_ok_or (name_term job seen name) (fault spot (name_code job name)) x k)
 
 -- the same of an expression that may be left out
 pub closed_step : (job : Job) (seen : List DefTree) (e : Option Expression) (o : Option Term) → option_term job seen e ≡ Some o → IsTrue (is_closed_step (length seen) o)

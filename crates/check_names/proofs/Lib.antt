@@ -3,7 +3,7 @@ pub mod Ordered
 pub mod First
 pub mod Joins
 pub mod Least
-pub mod Operations
+pub mod OneResolver
 pub mod Parts
 pub mod Named
 pub mod GivenTwice

@@ -1,36 +1,27 @@
 -- What breaks no rule is resolved: expressions, arguments, definitions and spaces.
 use Rattle.std.proofs.Common.{◌≡◌, List, [], ◌∷◌, ◌++◌, flat_map, Option, refl}
 use Rattle.std.specs.Option.{IsSome}
-use Rattle.term_core.specs.Term.{Term}
-use Rattle.term_core.specs.Term as term
 use Rattle.term_core.specs.declared.space.Def.TheVariants as def
-use Rattle.jdf_tree.specs.Expression.{Expression, Num, Name, Elem, Unary, Binary, Choose}
+use Rattle.jdf_tree.specs.Expression.{Expression}
 use Rattle.jdf_tree.specs.declared.tree.ArgTree.TheVariants as tree
 use Rattle.plan_core.specs.declared.target.Arg.TheVariants as plan
-use Rattle.check_names.specs.Alphabet.{Word, DefTree, ArgTree, UnknownName, RangeInPlace, ParamUndefined, RangedLocal, LocalTwice, NameTwice}
+use Rattle.check_names.specs.Alphabet.{Word, DefTree, ArgTree, RangeInPlace, ParamUndefined, RangedLocal, LocalTwice, NameTwice}
 use Rattle.check_names.specs.Faults.{fault_if}
 use Rattle.check_names.specs.Returns.{both, each}
 use Rattle.check_names.specs.Names.{Job, local_named}
-use Rattle.check_names.specs.Expressions.{name_term, name_code, expression_faults, term_of, option_faults, option_term}
+use Rattle.check_names.specs.Expressions.{expression_faults, term_of, option_faults, option_term}
 use Rattle.check_names.specs.Arguments.{argument_faults, range_of, argument_of, index_faults, index_of, arguments_faults, arguments_of, indices_faults, indices_of}
 use Rattle.check_names.specs.Definitions.{is_ranged_local, definition_faults, definitions_faults, definition_of, definitions_of, parameter_faults, parameter_of, space_faults, space_of}
 use Rattle.check_names.specs.Repeats.{repeats}
 use Rattle.list_lemmas.proofs.Joins.{first_nil, rest_nil}
 use Rattle.list_lemmas.proofs.Options.{IsSome-option_map}
 use Rattle.check_names.proofs.AllThere.{some_both, not_none, no_nil, both_there, each_there, maybe_there}
-use Rattle.check_names.proofs.Operations.{choice}
+use Rattle.check_names.proofs.OneResolver.{agrees, faultless_there}
 use Rattle.check_names.proofs.Ranges.{range_from}
 use Rattle.check_names.proofs.Spaces.{space_from}
 
 pub term_there : (job : Job) (seen : List DefTree) (e : Expression) → expression_faults job seen e ≡ [] → IsSome (term_of job seen e)
-term_there job seen (Num z spot) h = refl
-term_there job seen (Name w) h = not_none (name_term job seen w.text) w.spot (name_code job w.text) h
-term_there job seen (Elem w at) h = no_nil (expression_faults job seen at) w.spot UnknownName h
-term_there job seen (Unary o a spot) h = IsSome-option_map (term.Unary o) (term_of job seen a) (term_there job seen a h)
-term_there job seen (Binary o a b) h = both_there (term.Binary o) (term_of job seen a) (term_of job seen b) (expression_faults job seen a) (expression_faults job seen b) (term_there job seen a) (term_there job seen b) h
-term_there job seen (Choose c a b) h =
-    both_there choice (term_of job seen c) (both (λ x y. (x, y)) (term_of job seen a) (term_of job seen b)) (expression_faults job seen c) (expression_faults job seen a ++ expression_faults job seen b) (term_there job seen c)
-    (both_there (λ x y. (x, y)) (term_of job seen a) (term_of job seen b) (expression_faults job seen a) (expression_faults job seen b) (term_there job seen a) (term_there job seen b)) h
+term_there job seen e h = faultless_there _ _ _ (agrees job seen e) h
 
 pub option_there : (job : Job) (seen : List DefTree) (e : Option Expression) → option_faults job seen e ≡ [] → IsSome (option_term job seen e)
 option_there job seen e h = maybe_there (term_of job seen) (option_faults job seen) (term_there job seen) e h

@@ -1,12 +1,13 @@
 -- The expressions of a class, outside of its body: the faults of their names, and the terms that they are. Source: the
 -- JDF documentation.
 use Rattle.std.specs.Prelude.{ℕ, List, [], ◌∷◌, ◌++◌, Option, Some, None, is_some, is_none, option_map, if◌then◌else◌}
-use Rattle.std.specs.Option.{option_or}
+use Rattle.std.specs.Option.{ok_or, option_or}
 use Rattle.term_core.specs.Term.{Term}
 use Rattle.term_core.specs.Term as term
 use Rattle.jdf_tree.specs.Expression.{Expression, Num, Name, Elem, Unary, Binary, Choose}
+use Rattle.expr_names.specs.Symbols.{SymbolTable, fault_at}
 use Rattle.check_names.specs.Alphabet.{JdfCode, JdfFault, Word, DefTree, UnknownName, WrongKind}
-use Rattle.check_names.specs.Faults.{fault, fault_if}
+use Rattle.check_names.specs.Faults.{earlier, fault, fault_if}
 use Rattle.check_names.specs.Returns.{both, each_option}
 use Rattle.check_names.specs.Names.{Job, int_named, coll_named, local_named}
 
@@ -27,7 +28,7 @@ name_faults job seen w = fault_if (is_none (name_term job seen w.text)) w.spot (
 abbrev pub expression_faults : Job → List DefTree → Expression → List JdfFault
 expression_faults job seen (Num z spot) = []
 expression_faults job seen (Name w) = name_faults job seen w
-expression_faults job seen (Elem w at) = expression_faults job seen at ++ fault w.spot UnknownName ∷ []
+expression_faults job seen (Elem w at) = fault w.spot UnknownName ∷ expression_faults job seen at
 expression_faults job seen (Unary o a spot) = expression_faults job seen a
 expression_faults job seen (Binary o a b) = expression_faults job seen a ++ expression_faults job seen b
 expression_faults job seen (Choose c a b) =
@@ -43,6 +44,15 @@ term_of job seen (Binary o a b) = both (term.Binary o) (term_of job seen a) (ter
 term_of job seen (Choose c a b) =
     both (λ x (y : Term × Term). term.Choose x y.0 y.1) (term_of job seen c)
     (both (λ x y. (x, y)) (term_of job seen a) (term_of job seen b))
+
+-- what names mean where these definitions are seen, as the resolver of expressions asks for it
+abbrev pub symbols_of : Job → List DefTree → SymbolTable
+symbols_of job seen =
+    record {
+      value = λ w. ok_or (name_term job seen w.text) (fault w.spot (name_code job w.text));
+      flow = λ w. fault_at w UnknownName;
+      told = earlier;
+    }
 
 -- the same of an expression that may be left out
 abbrev pub option_faults : Job → List DefTree → Option Expression → List JdfFault

@@ -11,12 +11,20 @@ use ptg_base::Text;
 use std::alloc::Global;
 
 /// The globals of a JDF by name.
-#[derive(Drop)]
 pub struct Globals {
     /// The value of each that is an integer of the data.
     pub ints: NameTable<i64>,
     /// The number of each that is a collection of the data.
     pub colls: NameTable<u32>,
+}
+
+impl Drop for Globals {
+    fn drop(self) {
+        let Globals {
+            ints: _ints,
+            colls: _colls,
+        } = self;
+    }
 }
 
 /// What names are resolved with: where memory comes from, a JDF and its data, the globals by name, and the definitions

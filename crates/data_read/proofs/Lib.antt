@@ -10,10 +10,3 @@ pub mod Digits
 pub mod FieldsAt
 pub mod SoFar
 pub mod TileSteps
-pub mod WholeLists
-pub mod Headings
-pub mod TileChanges
-pub mod OneMore
-pub mod FirstCodes
-pub mod AllRecords
-pub mod Faults

@@ -1,24 +1,18 @@
 -- The record of a tile, step by step.
 use Rattle.std.specs.Prelude.{nat_le, ◌&&◌, ◌-◌, drop, option_map}
-use Rattle.std.proofs.Common.{◌≡◌, ℕ, ◌<◌, ℤ, true, List, length, get_or, set, slice_get, Option, Some, Result, Ok, Err, refl, sym, ◌∙◌, ap}
+use Rattle.std.proofs.Common.{◌≡◌, ℕ, ◌<◌, ℤ, true, List, length, get_or, set, slice_get, Option, Some, Ok, Err, refl, sym, ◌∙◌, ap}
 use Rattle.std.proofs.lemmas.Option.{slice_get_read, same_Some}
 use Rattle.std.specs.List.{list_any}
 use Rattle.coll_data.specs.declared.fault.DataCode.{DataCode}
-use Rattle.ptg_base.specs.declared.refusal.Refusal.{Refusal}
-use Rattle.ptg_base.specs.declared.refusal.Refusal.TheVariants.{Fault, OutOfMemory}
 use Rattle.data_read.specs.declared.growing.GrowingColl.{GrowingColl}
 use Rattle.data_read.specs.declared.growing.Known.{Known}
 use Rattle.data_read.specs.Fields.{field, is_name, whole}
 use Rattle.data_read.specs.Draft.{Draft, coll_index, opened, with_tile}
 use Rattle.data_read.specs.Growing.{coll_or_int, meaning}
-use Rattle.ptg_base.specs.Returns.{ReturnsRefusal}
-use Rattle.data_read.specs.Records.{and_then, column, first_value, free_index, new_tile, numbers, tile_record}
+use Rattle.ptg_base.specs.Returns.{and_then}
+use Rattle.data_read.specs.Records.{column, first_value, free_index, new_tile, numbers, tile_record}
 use Rattle.data_read.proofs.Choices.{by_option}
 use Rattle.data_read.proofs.Meanings.{index_set, of_int}
-
-pub refuses_before : {A B : Type 0} (e : Refusal DataCode) (given : Result A DataCode) (next : A → Result B DataCode) → ReturnsRefusal e given → ReturnsRefusal e (and_then given next)
-refuses_before OutOfMemory given next h = tt
-refuses_before (Fault code) given next h = rw h refl
 
 pub tile_step : (d : Draft) (fields : List (List ℕ)) (name : List ℕ) (at : ℕ) (coll : GrowingColl) → nat_le 4 (length fields) ≡ true → is_name (field fields 1) ≡ true → name ≡ field fields 1
     → coll_index name d.colls ≡ Some at → slice_get d.colls at ≡ Some coll → tile_record d fields ≡ and_then (new_tile fields coll) (λ tile. Ok (with_tile d at coll tile.0 tile.1))

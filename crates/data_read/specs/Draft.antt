@@ -4,7 +4,11 @@ use Rattle.std.specs.List.{list_any}
 use Rattle.coll_data.specs.Data.{Data}
 use Rattle.coll_data.specs.Tiles.{tile_count, tile_index}
 use Rattle.coll_data.specs.declared.coll.Coll.{Coll}
-use Rattle.data_read.specs.declared.growing.GrowingColl.{GrowingColl}
+use Rattle.data_read.specs.declared.growing.GrowingColl.{GrowingColl as GrowingStruct}
+
+-- the struct of a collection with the tiles that records gave; laws of other crates name it by this
+abbrev pub GrowingColl : Type 0
+GrowingColl = GrowingStruct
 
 -- the types past DEFAULT with their numbers of elements, the elements of DEFAULT, the integers, the collections, and
 -- how many elements the tiles of all collections have

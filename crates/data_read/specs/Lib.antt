@@ -4,6 +4,3 @@ pub mod Records
 pub mod Reading
 pub mod Growing
 pub mod Rows
-pub mod WholeRecords
-pub mod Codes
-pub mod WholeTexts

@@ -2,14 +2,19 @@
 -- of the codes, and the first test that fails names its fault. Source: this project's own choice.
 use Rattle.std.specs.Prelude.{ℕ, ◌+◌, ◌-◌, ◌*◌, ℤ, pos, negsuc, Bool, not, ◌&&◌, ◌||◌, ◌==◌, nat_le, nat_lt, List, [], ◌∷◌, length, drop, codes, Option, Some, None, is_some, Result, Ok, Err, bytes_eq, option_map, option_and_then, if◌then◌else◌}
 use Rattle.ptg_base.specs.Limits.{most_elements, most_named_types, most_tiles}
+use Rattle.ptg_base.specs.Returns.{and_then}
 use Rattle.coll_data.specs.Tiles.{tile_count}
 use Rattle.coll_data.specs.WellMade.{is_element_count}
 use Rattle.coll_data.specs.declared.fault.DataCode.{DataCode}
 use Rattle.coll_data.specs.declared.fault.DataCode.TheVariants.{NoElems, ElemsTwice, UnknownRow, FieldCount, BadElems, BadName, NameTwice, TypeTwice, TooManyTypes, UnknownType, UnknownColl, TileCount, BadNumber, TooManyTiles, TooManyElements, BadIndex, TileTwice}
 use Rattle.data_read.specs.declared.growing.GrowingColl.{GrowingColl}
-use Rattle.data_read.specs.declared.growing.AskedColl.{AskedColl}
+use Rattle.data_read.specs.declared.growing.AskedColl.{AskedColl as AskedStruct}
 use Rattle.data_read.specs.Fields.{field, is_name, whole, without_blanks}
 use Rattle.data_read.specs.Draft.{Draft, type_named, coll_named, is_new, slot_at, opened, with_type, with_int, with_coll, with_tile}
+
+-- the struct of what a collection is asked to be; laws of other crates name it by this
+abbrev pub AskedColl : Type 0
+AskedColl = AskedStruct
 
 -- a test that has to be passed
 abbrev pub require : {A : Type 0} → Bool → DataCode → Result A DataCode → Result A DataCode
@@ -19,11 +24,6 @@ require passed code next = if passed then next else Err code
 abbrev pub demand : {A B : Type 0} → Option A → DataCode → (A → Result B DataCode) → Result B DataCode
 demand None code next = Err code
 demand (Some a) code next = next a
-
--- what follows a value; a fault stays
-abbrev pub and_then : {A B : Type 0} → Result A DataCode → (A → Result B DataCode) → Result B DataCode
-and_then (Ok a) next = next a
-and_then (Err code) next = Err code
 
 -- a number from 1 to 4,096
 abbrev pub as_element_count : ℤ → Option ℕ

@@ -6,7 +6,6 @@ mod field;
 mod finish;
 mod growing;
 mod ints;
-mod laws;
 mod names;
 mod read;
 mod record;
@@ -14,5 +13,4 @@ mod rows;
 mod tiles;
 mod types;
 
-pub use laws::{data_are_by_records, faults_are_first, the_first_code_is_the_fault};
 pub use read::read_data;

@@ -4,7 +4,7 @@ use Rattle.std.proofs.lemmas.Int.{ints}
 use Rattle.std.specs.List.{filter_map}
 use Rattle.ptg_base.specs.Lists.{HasNoRepeats}
 use Rattle.ptg_base.specs.Task.{Task}
-use Rattle.term_core.specs.Value.{and_then}
+use Rattle.ptg_base.specs.Returns.{and_then}
 use Rattle.range_space.specs.declared.fault.SpanFault.{SpanFault}
 use Rattle.range_space.specs.Values.{is_within, values, while_within}
 use Rattle.range_space.specs.Fault.{Bounds, bounds, number}

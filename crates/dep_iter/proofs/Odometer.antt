@@ -1,5 +1,5 @@
 -- How the combinations of values of progressions follow one another.
-use Rattle.std.proofs.Common.{◌≡◌, suc, ◌||◌, length, if◌then◌else◌, ℤ, pos, ◌+ℤ◌, Bool, true, false, List, [], ◌∷◌, ◌++◌, map, refl, ap, sym, ◌∙◌, Option, Some, None, Result, Ok, Err, IsErr, is_ok, MatchOption, FitsSigned, w64}
+use Rattle.std.proofs.Common.{◌≡◌, suc, length, ℤ, pos, ◌+ℤ◌, Bool, true, false, List, [], ◌∷◌, ◌++◌, map, refl, ap, sym, ◌∙◌, Option, Some, None, Result, Ok, Err, IsErr, is_ok, MatchOption, FitsSigned, w64}
 use Rattle.std.proofs.lemmas.Bool.{false≢true}
 use Rattle.std.specs.List.{flat_map}
 use Rattle.range_space.specs.declared.fault.SpanFault.{SpanFault}
@@ -7,15 +7,14 @@ use Rattle.range_space.specs.declared.steps.Steps.{Steps}
 use Rattle.range_space.specs.Values.{is_within, values}
 use Rattle.range_space.proofs.Stepping.{values_in, values_past, values_unfit}
 use Rattle.range_space.proofs.Nesting.{values-one}
-use Rattle.term_core.specs.Value.{and_then}
+use Rattle.ptg_base.specs.Returns.{and_then}
 use Rattle.dep_iter.specs.declared.progression.Progression.{Progression}
 use Rattle.dep_iter.specs.Arguments.{product}
-use Rattle.dep_iter.specs.Combining.{steps_values, HaveFirst, HasOneEach, first_values, product_after, has_next, next_of, combinations_left, AddsSteps}
-use Rattle.list_lemmas.proofs.Truth.{by_test, first_false, second_false, or-false, or-assoc}
-
-or_right : (a b : Bool) → a ≡ false → (a || b) ≡ true → b ≡ true
-or_right true b k h = absurd (false≢true (sym k))
-or_right false b k h = h
+use Rattle.dep_iter.specs.Combining.{steps_values, HasFirst, HaveFirst, HasOneEach, first_values, product_after, combinations_left, AddsSteps}
+use Rattle.list_lemmas.proofs.Joins.{map-map}
+use Rattle.list_lemmas.proofs.Truth.{by_test}
+use Rattle.std.proofs.lemmas.List.{append_assoc, map-append}
+use Rattle.std.proofs.lemmas.List.Concat.{flat_map-append}
 
 -- where the later lists have no combination, all have none
 pub none_later : (vs : List ℤ) (vss : List (List ℤ)) → product vss ≡ [] → product (vs ∷ vss) ≡ []
@@ -38,39 +37,9 @@ product-first (s ∷ ss) h =
     ap (over ss) (values_in s.hi s.step s.lo h.0)
     ∙ ap (λ (l : List (List ℤ)). map (λ ws. s.lo ∷ ws) l ++ over ss (values (s.lo +ℤ s.step) s.hi s.step)) (product-first ss h.1)
 
--- no combination comes after the last
-pub product_after-none : (ss : List Progression) (vs : List ℤ) → has_next ss vs ≡ false → product_after ss vs ≡ []
-unfolding over
-product_after-none [] vs h = refl
-product_after-none (s ∷ ss) [] h = refl
-product_after-none (s ∷ ss) (v ∷ vs) h =
-    ap (λ (l : List (List ℤ)). map (λ ws. v ∷ ws) l ++ over ss (values (v +ℤ s.step) s.hi s.step)) (product_after-none ss vs (first_false _ _ h))
-    ∙ ap (over ss) (values_past s.hi s.step (v +ℤ s.step) (second_false (has_next ss vs) _ h))
-
--- the one after another, and those after that
-pub product_after-next : (ss : List Progression) (vs : List ℤ) → HaveFirst ss → has_next ss vs ≡ true → product_after ss vs ≡ next_of ss vs ∷ product_after ss (next_of ss vs)
-unfolding over
-product_after-next [] vs f h = absurd (false≢true h)
-product_after-next (s ∷ ss) [] f h = absurd (false≢true h)
-product_after-next (s ∷ ss) (v ∷ vs) f h =
-    by_test (has_next ss vs)
-    (λ k. rw k (ap (λ (l : List (List ℤ)). map (λ ws. v ∷ ws) l ++ over ss (values (v +ℤ s.step) s.hi s.step)) (product_after-next ss vs f.1 k)))
-    (λ k. rw k (
-    ap (λ (l : List (List ℤ)). map (λ ws. v ∷ ws) l ++ over ss (values (v +ℤ s.step) s.hi s.step)) (product_after-none ss vs k)
-    ∙ ap (over ss) (values_in s.hi s.step (v +ℤ s.step) (or_right _ _ k h))
-    ∙ ap (λ (l : List (List ℤ)). map (λ ws. (v +ℤ s.step) ∷ ws) l ++ over ss (values ((v +ℤ s.step) +ℤ s.step) s.hi s.step)) (product-first ss f.1)))
-
 pub HasOneEach-first : (ss : List Progression) → HasOneEach ss (first_values ss)
 HasOneEach-first [] = tt
 HasOneEach-first (s ∷ ss) = HasOneEach-first ss
-
-pub HasOneEach-next : (ss : List Progression) (vs : List ℤ) → HasOneEach ss vs → HasOneEach ss (next_of ss vs)
-HasOneEach-next [] vs w = tt
-HasOneEach-next (s ∷ ss) [] w = absurd w
-HasOneEach-next (s ∷ ss) (v ∷ vs) w =
-    by_test (has_next ss vs)
-    (λ k. rw k (HasOneEach-next ss vs w))
-    (λ k. rw k (HasOneEach-first ss))
 
 -- what does not fit 64 bits is past an end that does
 pub unfit_past : (v hi step : ℤ) → FitsSigned w64 v → FitsSigned w64 hi → (FitsSigned w64 (v +ℤ step) → ⊥) → is_within hi step (v +ℤ step) ≡ false
@@ -113,59 +82,100 @@ length_each [] (v ∷ vs) w = absurd w
 length_each (s ∷ ss) [] w = absurd w
 length_each (s ∷ ss) (v ∷ vs) w = ap suc (length_each ss vs w)
 
-has_next-end : (ss : List Progression) (vs : List ℤ) (s : Progression) (v : ℤ) → HasOneEach ss vs → has_next (ss ++ s ∷ []) (vs ++ v ∷ []) ≡ (is_within s.hi s.step (v +ℤ s.step) || has_next ss vs)
-has_next-end [] [] s v w = sym (or-false (is_within s.hi s.step (v +ℤ s.step)))
-has_next-end [] (u ∷ vs) s v w = absurd w
-has_next-end (x ∷ ss) [] s v w = absurd w
-has_next-end (x ∷ ss) (u ∷ vs) s v w =
-    ap (λ b. b || is_within x.hi x.step (u +ℤ x.step)) (has_next-end ss vs s v w)
-    ∙ or-assoc (is_within s.hi s.step (v +ℤ s.step)) (has_next ss vs) (is_within x.hi x.step (u +ℤ x.step))
+pub HasOneEach-push : (ss : List Progression) (vs : List ℤ) (s : Progression) (v : ℤ) → HasOneEach ss vs → HasOneEach (ss ++ s ∷ []) (vs ++ v ∷ [])
+HasOneEach-push [] [] s v w = tt
+HasOneEach-push [] (u ∷ vs) s v w = absurd w
+HasOneEach-push (x ∷ ss) [] s v w = absurd w
+HasOneEach-push (x ∷ ss) (u ∷ vs) s v w = HasOneEach-push ss vs s v w
+
+pub HaveFirst-end : (ss : List Progression) (s : Progression) → HaveFirst (ss ++ s ∷ []) → HaveFirst ss × HasFirst s
+HaveFirst-end [] s h = (tt, h.0)
+HaveFirst-end (x ∷ ss) s h = let k = HaveFirst-end ss s h.1 in ((h.0, k.0), k.1)
+
+-- ---- combinations by their last value
+
+-- these values, and then each of those
+abbrev ended : List ℤ → List ℤ → List (List ℤ)
+ended ends ws = map (λ v. ws ++ v ∷ []) ends
+
+ended-cons : (ends : List ℤ) (u : ℤ) (ws : List ℤ) → map (λ zs. u ∷ zs) (ended ends ws) ≡ ended ends (u ∷ ws)
+ended-cons ends u ws = map-map (λ zs. u ∷ zs) (λ v. ws ++ v ∷ []) ends
+
+-- a value before all of some combinations, each of which is ended
+begun-ended : (ends : List ℤ) (u : ℤ) (wss : List (List ℤ)) → map (λ zs. u ∷ zs) (flat_map (ended ends) wss) ≡ flat_map (ended ends) (map (λ ws. u ∷ ws) wss)
+begun-ended ends u [] = refl
+begun-ended ends u (ws ∷ wss) =
+    map-append (λ zs. u ∷ zs) (ended ends ws) (flat_map (ended ends) wss)
+    ∙ (ap (λ l. l ++ map (λ zs. u ∷ zs) (flat_map (ended ends) wss)) (ended-cons ends u ws) ∙ ap (λ l. ended ends (u ∷ ws) ++ l) (begun-ended ends u wss))
+
+-- the same of each of these values
+all-ended : (ends us : List ℤ) (wss : List (List ℤ)) → flat_map (λ u. map (λ zs. u ∷ zs) (flat_map (ended ends) wss)) us ≡ flat_map (ended ends) (flat_map (λ u. map (λ ws. u ∷ ws) wss) us)
+all-ended ends [] wss = refl
+all-ended ends (u ∷ us) wss =
+    ap (λ l. l ++ flat_map (λ u. map (λ zs. u ∷ zs) (flat_map (ended ends) wss)) us) (begun-ended ends u wss)
+    ∙ (ap (λ l. flat_map (ended ends) (map (λ ws. u ∷ ws) wss) ++ l) (all-ended ends us wss)
+    ∙ sym (flat_map-append (ended ends) (map (λ ws. u ∷ ws) wss) (flat_map (λ u. map (λ ws. u ∷ ws) wss) us)))
+
+-- one value each
+singles : (vs : List ℤ) → flat_map (λ v. (v ∷ []) ∷ []) vs ≡ ended vs [] ++ []
+singles [] = refl
+singles (v ∷ vs) = ap (λ l. (v ∷ []) ∷ l) (singles vs)
+
+product-end : (vss : List (List ℤ)) (ends : List ℤ) → product (vss ++ ends ∷ []) ≡ flat_map (ended ends) (product vss)
+product-end [] ends = singles ends
+product-end (us ∷ vss) ends =
+    ap (λ (l : List (List ℤ)). flat_map (λ u. map (λ zs. u ∷ zs) l) us) (product-end vss ends) ∙ all-ended ends us (product vss)
+
+over-end : (ss : List Progression) (s : Progression) (vs : List ℤ) → over (ss ++ s ∷ []) vs ≡ flat_map (ended (steps_values s)) (over ss vs)
+unfolding over
+over-end ss s vs =
+    ap (λ (l : List (List ℤ)). flat_map (λ w. map (λ ws. w ∷ ws) (product l)) vs) (map-append steps_values ss (s ∷ []))
+    ∙ (ap (λ (l : List (List ℤ)). flat_map (λ w. map (λ ws. w ∷ ws) l) vs) (product-end (map steps_values ss) (steps_values s))
+    ∙ all-ended (steps_values s) vs (product (map steps_values ss)))
+
+-- After a combination come those with a later last value alone, and then those with later values before it.
+product_after-end : (ss : List Progression) (vs : List ℤ) (s : Progression) (v : ℤ) → HasOneEach ss vs
+    → product_after (ss ++ s ∷ []) (vs ++ v ∷ []) ≡ ended (values (v +ℤ s.step) s.hi s.step) vs ++ flat_map (ended (steps_values s)) (product_after ss vs)
+unfolding over
+product_after-end [] [] s v w = singles (values (v +ℤ s.step) s.hi s.step)
+product_after-end [] (u ∷ vs) s v w = absurd w
+product_after-end (x ∷ ss) [] s v w = absurd w
+product_after-end (x ∷ ss) (u ∷ vs) s v w =
+    let later : List ℤ = values (v +ℤ s.step) s.hi s.step in
+    let all : List ℤ = steps_values s in
+    let here : List (List ℤ) = over ss (values (u +ℤ x.step) x.hi x.step) in
+    let begin : List (List ℤ) → List (List ℤ) = map (λ ws. u ∷ ws) in
+    ap (λ (l : List (List ℤ)). begin l ++ over (ss ++ s ∷ []) (values (u +ℤ x.step) x.hi x.step)) (product_after-end ss vs s v w)
+    ∙ (ap (λ (l : List (List ℤ)). begin (ended later vs ++ flat_map (ended all) (product_after ss vs)) ++ l) (over-end ss s (values (u +ℤ x.step) x.hi x.step))
+    ∙ (ap (λ (l : List (List ℤ)). l ++ flat_map (ended all) here) (map-append (λ ws. u ∷ ws) (ended later vs) (flat_map (ended all) (product_after ss vs)))
+    ∙ (append_assoc (begin (ended later vs)) (begin (flat_map (ended all) (product_after ss vs))) (flat_map (ended all) here)
+    ∙ (ap (λ (l : List (List ℤ)). l ++ (begin (flat_map (ended all) (product_after ss vs)) ++ flat_map (ended all) here)) (ended-cons later u vs)
+    ∙ (ap (λ (l : List (List ℤ)). ended later (u ∷ vs) ++ (l ++ flat_map (ended all) here)) (begun-ended all u (product_after ss vs))
+    ∙ ap (λ (l : List (List ℤ)). ended later (u ∷ vs) ++ l) (sym (flat_map-append (ended all) (begin (product_after ss vs)) here)))))))
+
+-- ---- one step on
 
 module _ (s : Progression) (v : ℤ) where
-  has_next-step : (ss : List Progression) (vs : List ℤ) → HasOneEach ss vs → is_within s.hi s.step (v +ℤ s.step) ≡ true → has_next (ss ++ s ∷ []) (vs ++ v ∷ []) ≡ true
-  has_next-step ss vs w h = has_next-end ss vs s v w ∙ ap (λ b. b || has_next ss vs) h
-
-  has_next-carry : (ss : List Progression) (vs : List ℤ) → HasOneEach ss vs → is_within s.hi s.step (v +ℤ s.step) ≡ false → has_next (ss ++ s ∷ []) (vs ++ v ∷ []) ≡ has_next ss vs
-  has_next-carry ss vs w h = has_next-end ss vs s v w ∙ ap (λ b. b || has_next ss vs) h
-
-  next_of-step : (ss : List Progression) (vs : List ℤ) → HasOneEach ss vs → is_within s.hi s.step (v +ℤ s.step) ≡ true → next_of (ss ++ s ∷ []) (vs ++ v ∷ []) ≡ vs ++ (v +ℤ s.step) ∷ []
-  next_of-step [] [] w h = refl
-  next_of-step [] (u ∷ vs) w h = absurd w
-  next_of-step (x ∷ ss) [] w h = absurd w
-  next_of-step (x ∷ ss) (u ∷ vs) w h = rw (has_next-step ss vs w h) (ap (λ l. u ∷ l) (next_of-step ss vs w h))
-
-  next_of-carry : (ss : List Progression) (vs : List ℤ) → HasOneEach ss vs → is_within s.hi s.step (v +ℤ s.step) ≡ false → has_next ss vs ≡ true → next_of (ss ++ s ∷ []) (vs ++ v ∷ []) ≡ next_of ss vs ++ s.lo ∷ []
-  next_of-carry [] vs w h more = absurd (false≢true more)
-  next_of-carry (x ∷ ss) [] w h more = absurd w
-  next_of-carry (x ∷ ss) (u ∷ vs) w h more =
-      by_test (has_next ss vs)
-      (λ k. rw (has_next-carry ss vs w h, k) (ap (λ l. u ∷ l) (next_of-carry ss vs w h k)))
-      (λ k. rw (has_next-carry ss vs w h, k) (ap (λ l. (u +ℤ x.step) ∷ l) (first_values-end ss s)))
-
   -- the last value goes on
   pub stepped : (ss : List Progression) (vs : List ℤ) (w : ℤ) → HasOneEach ss vs → (w ≡ v +ℤ s.step) × (is_within s.hi s.step w ≡ true)
-      → (true ≡ has_next (ss ++ s ∷ []) (vs ++ v ∷ [])) × (vs ++ w ∷ [] ≡ next_of (ss ++ s ∷ []) (vs ++ v ∷ []))
-  stepped ss vs w k h =
-      let in_range : is_within s.hi s.step (v +ℤ s.step) ≡ true = rw (sym h.0) h.1 in
-      (sym (has_next-step ss vs k in_range), ap (λ z. vs ++ z ∷ []) h.0 ∙ sym (next_of-step ss vs k in_range))
+      → combinations_left true (ss ++ s ∷ []) (vs ++ w ∷ []) ≡ product_after (ss ++ s ∷ []) (vs ++ v ∷ [])
+  stepped ss vs w each h =
+      ap (λ (l : List (List ℤ)). (vs ++ w ∷ []) ∷ l) (product_after-end ss vs s w each)
+      ∙ (ap (λ (l : List ℤ). ended l vs ++ flat_map (ended (steps_values s)) (product_after ss vs)) (sym (values_in s.hi s.step w h.1))
+      ∙ (ap (λ (z : ℤ). ended (values z s.hi s.step) vs ++ flat_map (ended (steps_values s)) (product_after ss vs)) h.0
+      ∙ sym (product_after-end ss vs s v each)))
 
   -- the values before the last one go on, and it begins anew
-  pub carried : (ss : List Progression) (vs : List ℤ) (more : Bool) (new : List ℤ) → HasOneEach ss vs → is_within s.hi s.step (v +ℤ s.step) ≡ false
-      → more ≡ has_next ss vs → new ≡ (if more then next_of ss vs else first_values ss)
-      → (more ≡ has_next (ss ++ s ∷ []) (vs ++ v ∷ [])) × (new ++ s.lo ∷ [] ≡ (if more then next_of (ss ++ s ∷ []) (vs ++ v ∷ []) else first_values (ss ++ s ∷ [])))
-  carried ss vs true new k h e f = (e ∙ sym (has_next-carry ss vs k h), ap (λ l. l ++ s.lo ∷ []) f ∙ sym (next_of-carry ss vs k h (sym e)))
-  carried ss vs false new k h e f = (e ∙ sym (has_next-carry ss vs k h), ap (λ l. l ++ s.lo ∷ []) f ∙ sym (first_values-end ss s))
+  pub carried : (ss : List Progression) (vs new : List ℤ) (more : Bool) → HasOneEach ss vs → HasOneEach ss new → HasFirst s → is_within s.hi s.step (v +ℤ s.step) ≡ false
+      → combinations_left more ss new ≡ product_after ss vs → combinations_left more (ss ++ s ∷ []) (new ++ s.lo ∷ []) ≡ product_after (ss ++ s ∷ []) (vs ++ v ∷ [])
+  carried ss vs new more each after first past left = again more left ∙ sym (product_after-end ss vs s v each ∙ none)
+    where
+      none : ended (values (v +ℤ s.step) s.hi s.step) vs ++ flat_map (ended (steps_values s)) (product_after ss vs) ≡ flat_map (ended (steps_values s)) (product_after ss vs)
+      none = ap (λ (l : List ℤ). ended l vs ++ flat_map (ended (steps_values s)) (product_after ss vs)) (values_past s.hi s.step (v +ℤ s.step) past)
 
--- there are as many values as before
-pub length_advanced : (ss : List Progression) (vs : List ℤ) (more : Bool) (new : List ℤ) → HasOneEach ss vs → new ≡ (if more then next_of ss vs else first_values ss) → length new ≡ length vs
-length_advanced ss vs true new w e = ap length e ∙ sym (length_each ss (next_of ss vs) (HasOneEach-next ss vs w)) ∙ length_each ss vs w
-length_advanced ss vs false new w e = ap length e ∙ sym (length_each ss (first_values ss) (HasOneEach-first ss)) ∙ length_each ss vs w
-
-pub HasOneEach-advanced : (ss : List Progression) (vs : List ℤ) (more : Bool) (new : List ℤ) → HasOneEach ss vs → new ≡ (if more then next_of ss vs else first_values ss) → HasOneEach ss new
-HasOneEach-advanced ss vs true new w e = rw e (HasOneEach-next ss vs w)
-HasOneEach-advanced ss vs false new w e = rw e (HasOneEach-first ss)
-
--- the combinations left after the next one
-pub left_after : (ss : List Progression) (vs : List ℤ) (more : Bool) (new : List ℤ) → HaveFirst ss → more ≡ has_next ss vs → new ≡ (if more then next_of ss vs else first_values ss) → combinations_left more ss new ≡ product_after ss vs
-left_after ss vs true new f h e = rw e (sym (product_after-next ss vs f (sym h)))
-left_after ss vs false new f h e = sym (product_after-none ss vs (sym h))
+      again : (b : Bool) → combinations_left b ss new ≡ product_after ss vs → combinations_left b (ss ++ s ∷ []) (new ++ s.lo ∷ []) ≡ flat_map (ended (steps_values s)) (product_after ss vs)
+      again false e = ap (flat_map (ended (steps_values s))) e
+      again true e =
+          ap (λ (l : List (List ℤ)). (new ++ s.lo ∷ []) ∷ l) (product_after-end ss new s s.lo after)
+          ∙ (ap (λ (l : List ℤ). ended l new ++ flat_map (ended (steps_values s)) (product_after ss new)) (sym (values_in s.hi s.step s.lo first))
+          ∙ ap (flat_map (ended (steps_values s))) e)

@@ -3,7 +3,8 @@ use Rattle.std.specs.Prelude.{ℕ, ℤ, pos, List, [], ◌∷◌, map, flat_map,
 use Rattle.std.specs.Result.{result_unwrap_or}
 use Rattle.ptg_base.specs.declared.place.Place.{Place}
 use Rattle.term_core.specs.Term.{Term}
-use Rattle.term_core.specs.Value.{value, and_then}
+use Rattle.ptg_base.specs.Returns.{and_then}
+use Rattle.term_core.specs.Value.{value}
 use Rattle.range_space.specs.declared.fault.SpanFault.{SpanFault}
 use Rattle.range_space.specs.Fault.{number, range_values}
 use Rattle.range_space.specs.Tasks.{or_empty}

@@ -1,5 +1,5 @@
 -- From one combination of values of ranges to the next, the last range first.
-use Rattle.std.specs.Prelude.{◌≡◌, ℤ, ◌+ℤ◌, List, [], ◌∷◌, ◌++◌, map, flat_map, Bool, true, false, ◌||◌, if◌then◌else◌}
+use Rattle.std.specs.Prelude.{◌≡◌, ℤ, ◌+ℤ◌, List, [], ◌∷◌, ◌++◌, map, flat_map, Bool, true, false}
 use Rattle.dep_iter.specs.declared.progression.Progression.{Progression}
 use Rattle.range_space.specs.Values.{is_within, values}
 use Rattle.dep_iter.specs.Arguments.{product}
@@ -40,18 +40,6 @@ product_after (s ∷ ss) (v ∷ vs) =
 abbrev pub combinations_left : Bool → List Progression → List ℤ → List (List ℤ)
 combinations_left false ss at = []
 combinations_left true ss at = at ∷ product_after ss at
-
--- whether a combination comes after this one
-abbrev pub has_next : List Progression → List ℤ → Bool
-has_next [] at = false
-has_next (s ∷ ss) [] = false
-has_next (s ∷ ss) (v ∷ vs) = has_next ss vs || is_within s.hi s.step (v +ℤ s.step)
-
--- the combination that comes after this one: the last value that can goes on, and those after it begin anew
-abbrev pub next_of : List Progression → List ℤ → List ℤ
-next_of [] at = []
-next_of (s ∷ ss) [] = []
-next_of (s ∷ ss) (v ∷ vs) = if has_next ss vs then v ∷ next_of ss vs else (v +ℤ s.step) ∷ first_values ss
 
 -- `new` extends `old` by progressions with these lists of values, each with a first value
 pub record AddsSteps (lists : List (List ℤ)) (old new : List Progression) : Type 0 where

@@ -1,6 +1,6 @@
 //! The combinations of values of arguments, one after another.
 
-ghost use Rattle.std.specs.Prelude.{◌≡◌, ◌+◌, ◌≤◌, [], ◌++◌, drop, length, map, IfSome, slice_get, if◌then◌else◌};
+ghost use Rattle.std.specs.Prelude.{◌≡◌, ◌+◌, ◌≤◌, [], ◌++◌, drop, length, map, IfSome, slice_get};
 ghost use Rattle.std.specs.Bool.{OnTrue, OnFalse};
 ghost use Rattle.std.specs.Iterator.{YieldsFirst};
 ghost use Rattle.std.specs.Option.{option_copied};
@@ -8,8 +8,7 @@ ghost use Rattle.ptg_base.specs.Limits.{most_params};
 ghost use Rattle.range_space.specs.Tasks.{or_empty};
 ghost use Rattle.range_space.specs.Values.{is_within};
 ghost use Rattle.dep_iter.specs.Arguments.{arg_values, combinations};
-ghost use Rattle.dep_iter.specs.Combining as combining;
-ghost use Rattle.dep_iter.specs.Combining.{first_values, HasOneEach, HaveFirst, AddsSteps};
+ghost use Rattle.dep_iter.specs.Combining.{combinations_left, first_values, product_after, HasOneEach, HaveFirst, AddsSteps};
 
 use crate::argument::nonempty;
 use crate::progression::{Progression, next_value};
@@ -61,13 +60,14 @@ fn clear(values: &mut Numbers<8>)
     }
 }
 
-// Goes on to the combination after this one: the last value that can goes on, and those after it begin anew. Where
-// there is none all begin anew.
+// Goes on to the combination after this one: the last value that can goes on, and those after it begin anew. Answers
+// whether there is one.
 fn advance(spans: &[Progression], at: &mut Numbers<8>) -> bool
     requires at_most { length at.old ≤ most_params }
     requires each { HasOneEach spans.now at.old }
-    ensures next { result ≡ combining.has_next spans.now at.old }
-    ensures values { at.new ≡ (if result then combining.next_of spans.now at.old else first_values spans.now) }
+    requires first { HaveFirst spans.now }
+    ensures left { combinations_left result spans.now at.new ≡ product_after spans.now at.old }
+    ensures each { HasOneEach spans.now at.new }
 {
     let Some((steps, outer)) = spans.split_last() else {
         return false;

@@ -10,10 +10,18 @@ use plan_core::Plan;
 use std::marker::Model;
 
 /// A plan that is consistent, with its counts. Contracts see it as the plan; it stores no edge.
-#[derive(Drop)]
 pub struct Matched {
     plan: Plan,
     counts: Counts,
+}
+
+impl Drop for Matched {
+    fn drop(self) {
+        let Matched {
+            plan: _plan,
+            counts: _counts,
+        } = self;
+    }
 }
 
 impl Model for Matched {

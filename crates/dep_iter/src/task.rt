@@ -84,6 +84,6 @@ pub fn flows_of<'a>(plan: &'a Plan, t: &TaskId) -> &'a [FlowPlan]
     ensures at_most { length result.now ≤ most_flows }
     ensures fit { IsTrue (flows_fit plan.now result.now) }
 {
-    let _ = plan.space(t.class());
+    plan.each_class_has_a_space(t.class());
     plan.class(t.class()).flows.as_slice()
 }

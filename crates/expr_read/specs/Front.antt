@@ -1,6 +1,6 @@
 -- The longest expression at the start of some tokens, and its first fault: for a reader who does not know where it
 -- ends. Source: this project's own choice.
-use Rattle.std.specs.Prelude.{ℕ, ◌+◌, ◌<◌, ◌≤◌, List, length, take, Bool, true, false, Option, Some, None, slice_get}
+use Rattle.std.specs.Prelude.{◌≡◌, ℕ, ◌+◌, ◌-◌, ◌<◌, ◌≤◌, List, length, take, drop, Bool, true, false, Option, Some, None, slice_get}
 use Rattle.grammar_core.specs.declared.token.Spot.{Spot}
 use Rattle.grammar_core.specs.declared.token.Token.{Token}
 use Rattle.jdf_lex.specs.declared.fault.JdfFault.{JdfFault}
@@ -46,3 +46,16 @@ spot_or None finish = finish
 -- the fault with this code at the token of this index
 abbrev pub fault_at : List Token → Spot → ℕ → Code → JdfFault
 fault_at s finish p c = record { spot = spot_or (slice_get s p) finish; code = code_at_token c }
+
+-- An expression begins at the token of index `from`: its tree, and the index of the token after it.
+pub record IsExpressionFrom (part : Part) (tokens : List Token) (from : ℕ) (x : Expression × ℕ) : Type 0 where
+  pub after : from ≤ x.1
+  pub expression : IsExpression part (drop from tokens) x.0 (x.1 - from)
+
+-- This is the first fault of what begins at the token of index `from`; after all tokens it is at `finish`.
+pub record IsFaultFrom (part : Part) (tokens : List Token) (from : ℕ) (finish : Spot) (fault : JdfFault) : Type 0 where
+  -- how many tokens after `from` it is
+  pub offset : ℕ
+  pub code : Code
+  pub first : IsFirstFaultOf part (drop from tokens) offset code
+  pub placed : fault ≡ fault_at tokens finish (from + offset) code

@@ -1,11 +1,8 @@
 //! Reads an expression whose end is not known.
 
-ghost use Rattle.std.specs.Prelude.{◌≡◌, ℕ, ◌+◌, ◌-◌, ◌≤◌, IfOk, Ok, Err, ◌⊎◌, length, drop, slice_get};
-ghost use Rattle.grammar_core.specs.declared.code.Code.{Code};
-ghost use Rattle.jdf_lex.specs.declared.fault.JdfFault.{JdfFault};
-ghost use Rattle.ptg_base.specs.declared.refusal.Refusal.TheVariants.{Fault, OutOfMemory};
-ghost use Rattle.jdf_tree.specs.Expression.{Expression};
-ghost use Rattle.expr_read.specs.Front.{part_of, IsExpression, IsFirstFaultOf, spot_or, fault_at};
+ghost use Rattle.std.specs.Prelude.{◌≡◌, ◌≤◌, length, slice_get};
+ghost use Rattle.ptg_base.specs.Returns.{FindsOrRefuses};
+ghost use Rattle.expr_read.specs.Front.{part_of, spot_or, fault_at, IsExpressionFrom, IsFaultFrom};
 
 use crate::window::outer;
 use grammar_core::{Code, ReadRefusal};
@@ -44,15 +41,9 @@ pub fn read_expr(
     finish: Spot,
 ) -> Result<(ExprTree, usize), JdfRefusal>
     requires { from ≤ length tokens.now }
-    ensures found { IfOk result (λ x.
-        (from ≤ x.1) × IsExpression (part_of elements) (drop from tokens.now) x.0 (x.1 - from)) }
-    ensures only { (e : Expression) → (p : ℕ) → IsExpression (part_of elements) (drop from tokens.now) e p
-        → (result ≡ Ok (e, from + p)) ⊎ (result ≡ Err OutOfMemory) }
-    ensures fault { (f : JdfFault) → result ≡ Err (Fault f)
-        → (p : ℕ) × (c : Code) × IsFirstFaultOf (part_of elements) (drop from tokens.now) p c
-        × (f ≡ fault_at tokens.now finish (from + p) c) }
-    ensures refused { (p : ℕ) → (c : Code) → IsFirstFaultOf (part_of elements) (drop from tokens.now) p c
-        → (result ≡ Err (Fault (fault_at tokens.now finish (from + p) c))) ⊎ (result ≡ Err OutOfMemory) }
+    // What is read is the expression that begins there; a fault is its first one.
+    ensures exact { FindsOrRefuses (IsExpressionFrom (part_of elements) tokens.now from)
+        (IsFaultFrom (part_of elements) tokens.now from finish) result }
 {
     match outer(alloc, part_of(elements), &tokens[from..]) {
         Ok((expression, rest)) => Ok((expression.tree, tokens.len() - rest.len())),

@@ -19,11 +19,13 @@ use Rattle.body_names.specs.Environment.{Environment}
 use Rattle.body_names.specs.declared.scope.FlowName.{FlowName}
 use Rattle.body_names.specs.declared.variable.Variable.{Variable}
 use Rattle.body_names.specs.Meanings.{meaning_of, flow_named}
-use Rattle.body_names.specs.Expressions.{Resolved, value_of, slot_of, readable, writable, if_flow, flow_by, read_flow, written_flow, term_of}
+use Rattle.expr_names.specs.Symbols.{Resolved}
+use Rattle.expr_names.specs.Expressions.{together}
+use Rattle.body_names.specs.Expressions.{value_of, slot_of, readable, writable, if_flow, flow_by, read_flow, written_flow, term_of}
 use Rattle.body_names.specs.Bindings.{Bindings, block_opened, with_variable, require_room, require_fresh}
 use Rattle.body_names.specs.Statements.{Resolver, declare, set, put, in_block, if_else, for_loop, trap, follow, resolved}
 use Rattle.std.proofs.lemmas.Bool.{and_from}
-use Rattle.flow_check.proofs.BodyParts.{Good, after_good, past, good_then}
+use Rattle.flow_check.proofs.BodyParts.{Good, after_good, pair_good, past, good_then}
 
 -- the kinds of the flows
 abbrev pub kinds_of : Environment → List FlowKind
@@ -69,6 +71,12 @@ module _ (scope : Environment) where
   abbrev Reads : Term → Type 0
   Reads t = reads_data (kinds_of scope) t ≡ true
 
+  abbrev BothRead : Term × Term → Type 0
+  BothRead x = Reads x.0 × Reads x.1
+
+  both_read : (x y : Term) → Reads x → Reads y → reads_data (kinds_of scope) x && reads_data (kinds_of scope) y ≡ true
+  both_read x y h k = and_from (reads_data (kinds_of scope) x) (reads_data (kinds_of scope) y) h k
+
   value_good : (w : Word) (m : Meaning) → Good Reads (value_of w m)
   value_good w (meaning.Variable n) = refl
   value_good w (meaning.LoopVariable n) = refl
@@ -81,17 +89,18 @@ module _ (scope : Environment) where
   reads seen (Num z spot) = refl
   reads seen (Name w) = value_good w (meaning_of scope seen w.text)
   reads seen (Elem w at) =
-      after_good IsRead Reads (read_flow scope w) _ (flow_good is_data readable readable_use w (flow_named scope w.text))
-      (λ flow h. after_good Reads Reads (term_of scope seen at) _ (reads seen at) (λ i k. and_from (is_data (slice_get (kinds_of scope) flow)) (reads_data (kinds_of scope) i) h k))
+      after_good (λ (x : ℕ × Term). IsRead x.0 × Reads x.1) Reads (together (λ first _. first) (read_flow scope w) (term_of scope seen at)) _
+      (pair_good IsRead Reads (read_flow scope w) (term_of scope seen at) (flow_good is_data readable readable_use w (flow_named scope w.text)) (reads seen at))
+      (λ x h. and_from (is_data (slice_get (kinds_of scope) x.0)) (reads_data (kinds_of scope) x.1) h.0 h.1)
   reads seen (Unary o a spot) = after_good Reads Reads (term_of scope seen a) _ (reads seen a) (λ x h. h)
   reads seen (Binary o a b) =
-      after_good Reads Reads (term_of scope seen a) _ (reads seen a)
-      (λ x h. after_good Reads Reads (term_of scope seen b) _ (reads seen b) (λ y k. and_from (reads_data (kinds_of scope) x) (reads_data (kinds_of scope) y) h k))
+      after_good BothRead Reads (together (λ first _. first) (term_of scope seen a) (term_of scope seen b)) _
+      (pair_good Reads Reads (term_of scope seen a) (term_of scope seen b) (reads seen a) (reads seen b)) (λ x h. both_read x.0 x.1 h.0 h.1)
   reads seen (Choose c a b) =
-      after_good Reads Reads (term_of scope seen c) _ (reads seen c)
-      (λ x h. after_good Reads Reads (term_of scope seen a) _ (reads seen a)
-      (λ y k. after_good Reads Reads (term_of scope seen b) _ (reads seen b)
-      (λ z l. and_from (reads_data (kinds_of scope) x && reads_data (kinds_of scope) y) (reads_data (kinds_of scope) z) (and_from (reads_data (kinds_of scope) x) (reads_data (kinds_of scope) y) h k) l)))
+      let branches = together (λ first _. first) (term_of scope seen a) (term_of scope seen b) in
+      after_good (λ (x : Term × (Term × Term)). Reads x.0 × BothRead x.1) Reads (together (λ first _. first) (term_of scope seen c) branches) _
+      (pair_good Reads BothRead (term_of scope seen c) branches (reads seen c) (pair_good Reads Reads (term_of scope seen a) (term_of scope seen b) (reads seen a) (reads seen b)))
+      (λ x h. and_from (reads_data (kinds_of scope) x.0 && reads_data (kinds_of scope) x.1.0) (reads_data (kinds_of scope) x.1.1) (both_read x.0 x.1.0 h.0 h.1.0) h.1.1)
 
   -- ---- statements
 

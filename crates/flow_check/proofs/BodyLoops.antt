@@ -16,7 +16,8 @@ use Rattle.body_names.specs.declared.meaning.Meaning.TheVariants as meaning
 use Rattle.body_names.specs.Environment.{Environment}
 use Rattle.body_names.specs.declared.variable.Variable.{Variable}
 use Rattle.body_names.specs.Meanings.{last_named, variable_or, local_named, local_or, integer_or, collection_or_nothing, meaning_of}
-use Rattle.body_names.specs.Expressions.{Resolved, slot_of, written_flow, term_of}
+use Rattle.expr_names.specs.Symbols.{Resolved}
+use Rattle.body_names.specs.Expressions.{slot_of, written_flow, term_of}
 use Rattle.body_names.specs.Bindings.{Bindings, block_opened, next_slot, with_variable, require_room, require_fresh, numbered}
 use Rattle.body_names.specs.Statements.{Resolver, declare, set, put, in_block, if_else, for_loop, trap, follow, resolved}
 use Rattle.list_lemmas.proofs.Places.{each_weaker}

@@ -3,8 +3,9 @@ use Rattle.std.proofs.Common.{◌≡◌, ℕ, zero, suc, Bool, true, false, cond
 use Rattle.std.specs.Prelude.{reverse, find}
 use Rattle.std.specs.List.{AllByRecursion}
 use Rattle.std.proofs.lemmas.List.{reverse-append}
-use Rattle.term_core.specs.Value.{and_then}
-use Rattle.body_names.specs.Expressions.{Resolved}
+use Rattle.ptg_base.specs.Returns.{and_then}
+use Rattle.expr_names.specs.Symbols.{Resolved}
+use Rattle.expr_names.specs.Expressions.{together}
 
 -- where there is a value, it is so
 abbrev pub Good : {A : Type 0} → (A → Type 0) → Resolved A → Type 0
@@ -14,6 +15,13 @@ Good P (Err f) = Unit {0}
 pub after_good : {A B : Type 0} (P : A → Type 0) (Q : B → Type 0) (r : Resolved A) (f : A → Resolved B) → Good P r → ((x : A) → P x → Good Q (f x)) → Good Q (and_then r f)
 after_good P Q (Ok x) f h k = k x h
 after_good P Q (Err e) f h k = tt
+
+-- two parts of an expression
+pub pair_good : {A B : Type 0} (P : A → Type 0) (Q : B → Type 0) (r : Resolved A) (q : Resolved B) → Good P r → Good Q q → Good (λ (x : A × B). P x.0 × Q x.1) (together (λ first _. first) r q)
+pair_good P Q (Ok x) (Ok y) h k = (h, k)
+pair_good P Q (Ok x) (Err g) h k = tt
+pair_good P Q (Err f) (Ok y) h k = tt
+pair_good P Q (Err f) (Err g) h k = tt
 
 -- a first step of which nothing is needed
 pub past : {A B : Type 0} (Q : B → Type 0) (r : Resolved A) (f : A → Resolved B) → ((x : A) → Good Q (f x)) → Good Q (and_then r f)

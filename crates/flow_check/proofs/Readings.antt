@@ -7,14 +7,14 @@ use Rattle.grammar_core.specs.declared.code.Code.{Code}
 use Rattle.grammar_core.specs.Production.{IsText, IsFirstFault}
 use Rattle.grammar_core.specs.Reading.{FaultFromEnd, whole}
 use Rattle.term_core.specs.declared.body.Body.{Body}
-use Rattle.term_core.specs.Value.{and_then}
+use Rattle.ptg_base.specs.Returns.{and_then}
 use Rattle.jdf_tree.specs.BodyGrammar.{body}
 use Rattle.jdf_tree.specs.Grammar.{productions}
 use Rattle.jdf_tree.specs.Statements.{Statements}
 use Rattle.jdf_tree.specs.TreeLimits.{IsClassWithinLimits}
 use Rattle.body_read.proofs.Whole.{found, faulty}
 use Rattle.body_names.specs.Environment.{Environment}
-use Rattle.body_names.specs.Expressions.{Resolved}
+use Rattle.expr_names.specs.Symbols.{Resolved}
 use Rattle.body_names.specs.Statements.{body_of}
 use Rattle.body_names.specs.TokenScan.{front_fault}
 use Rattle.body_lang.specs.Broken.{broken_fault}

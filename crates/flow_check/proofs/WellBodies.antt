@@ -7,9 +7,9 @@ use Rattle.term_core.specs.WellBody.{IsWellBody}
 use Rattle.plan_core.specs.Bodies.{respects_kinds, has_words, keeps_loop_variables}
 use Rattle.body_names.specs.Environment.{Environment}
 use Rattle.body_names.specs.Bindings.{Bindings, no_bindings}
-use Rattle.body_names.specs.Expressions.{Resolved}
+use Rattle.expr_names.specs.Symbols.{Resolved}
 use Rattle.body_names.specs.Statements.{resolved}
-use Rattle.body_names.proofs.Well.{after_ok}
+use Rattle.expr_names.proofs.Closed.{after_ok}
 use Rattle.body_names.proofs.WellBlocks.{whole_well}
 use Rattle.body_lang.specs.Body.{IsBody}
 use Rattle.body_lang.specs.TrapWords.{words_of}

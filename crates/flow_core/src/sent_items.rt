@@ -17,12 +17,21 @@ use std::marker::Model;
 
 // The items that were sent. An edge is kept with its tile until it is taken, and a write-back to the end. Contracts see
 // what was sent, and what is kept of it.
-#[derive(Drop)]
 pub struct SentItems {
     edges: IndexMap<Item, Option<Tile>>,
     // In the order of the sends.
     writes: IndexMap<Item, Option<Tile>>,
     history: History,
+}
+
+impl Drop for SentItems {
+    fn drop(self) {
+        let SentItems {
+            edges: _edges,
+            writes: _writes,
+            history: _history,
+        } = self;
+    }
 }
 
 impl Model for SentItems {
@@ -166,6 +175,11 @@ impl SentItems {
     pub(crate) fn into_writes(self, alloc: Global) -> Result<Vec<(WriteBack, Tile)>, OutOfMemory>
         ensures { IfOk result (λ writes. writes.items ≡ writes_among self.writes) }
     {
-        write_backs_of(self.writes, alloc)
+        let SentItems {
+            edges: _edges,
+            writes,
+            history: _history,
+        } = self;
+        write_backs_of(writes, alloc)
     }
 }

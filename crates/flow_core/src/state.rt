@@ -40,7 +40,6 @@ use term_core::Trap;
 
 /// A run on one thread. Contracts see the claimed tasks, each with how it ended once it has; the items that were sent,
 /// each with its tile; and which tiles of ended tasks are kept.
-#[derive(Drop)]
 pub struct State {
     alloc: Global,
     // The claimed tasks in the order of the claims, each with how it ended; `None` while it runs.
@@ -50,6 +49,18 @@ pub struct State {
     sent: SentItems,
     // How many edges were sent to each task that is not claimed, if one was.
     arrived: IndexMap<TaskId, u32>,
+}
+
+impl Drop for State {
+    fn drop(self) {
+        let State {
+            alloc: _alloc,
+            claims: _claims,
+            outputs: _outputs,
+            sent: _sent,
+            arrived: _arrived,
+        } = self;
+    }
 }
 
 impl Model for State {

@@ -1,21 +1,20 @@
 -- What is resolved has no fault.
-use Rattle.std.proofs.Common.{◌≡◌, true, false, ◌||◌, List, [], ◌∷◌, ◌++◌, flat_map, Option, Some, None, is_none, refl, sym, ◌∙◌, ap}
+use Rattle.std.proofs.Common.{◌≡◌, true, false, ◌||◌, List, [], ◌∷◌, ◌++◌, flat_map, Option, Some, None, refl, sym, ◌∙◌, ap}
 use Rattle.std.specs.List.{list_any}
 use Rattle.term_core.specs.Term.{Term}
-use Rattle.term_core.specs.Term as term
 use Rattle.term_core.specs.declared.space.Range.{Range}
-use Rattle.jdf_tree.specs.Expression.{Expression, Num, Name, Elem, Unary, Binary, Choose}
+use Rattle.jdf_tree.specs.Expression.{Expression}
 use Rattle.jdf_tree.specs.declared.tree.ArgTree.TheVariants as tree
 use Rattle.plan_core.specs.declared.target.Arg.{Arg}
 use Rattle.plan_core.specs.declared.target.Arg.TheVariants as plan
 use Rattle.plan_core.specs.Closed.{is_span}
 use Rattle.check_names.specs.Alphabet.{ArgTree, DefTree, JdfCode, JdfFault}
 use Rattle.check_names.specs.Arguments.{argument_faults, argument_of, arguments_faults, arguments_of, index_faults, index_of, indices_faults, indices_of, range_faults, range_of, ranges_faults}
-use Rattle.check_names.specs.Expressions.{expression_faults, name_code, option_faults, option_term, term_of}
-use Rattle.check_names.specs.Faults.{fault_if}
+use Rattle.check_names.specs.Expressions.{expression_faults, option_faults, option_term, term_of}
 use Rattle.check_names.specs.Names.{Job}
 use Rattle.check_names.specs.Returns.{both, each}
 use Rattle.check_names.proofs.Closed.{pair_parts}
+use Rattle.check_names.proofs.OneResolver.{agrees, there_faultless}
 use Rattle.check_names.proofs.NoFaults.{option_there, parts_of}
 use Rattle.list_lemmas.proofs.Options.{from_option_map}
 use Rattle.std.proofs.lemmas.Bool.{or_parts}
@@ -24,18 +23,7 @@ pub none_joined : {A : Type 0} (xs ys : List A) → xs ≡ [] → ys ≡ [] → 
 none_joined xs ys e f = λ i. e i ++ f i
 
 pub term_no_fault : (job : Job) (seen : List DefTree) (e : Expression) (t : Term) → term_of job seen e ≡ Some t → expression_faults job seen e ≡ []
-term_no_fault job seen (Num z spot) t h = refl
-term_no_fault job seen (Name w) t h = ap (λ o. fault_if (is_none o) w.spot (name_code job w.text)) h
-term_no_fault job seen (Elem w at) t h = absurd cc
-term_no_fault job seen (Unary o a spot) t h = let p = from_option_map (term.Unary o) (term_of job seen a) t h in term_no_fault job seen a p.0 p.1
-term_no_fault job seen (Binary o a b) t h =
-    let p = parts_of (term.Binary o) (term_of job seen a) (term_of job seen b) t h in
-    none_joined (expression_faults job seen a) (expression_faults job seen b) (term_no_fault job seen a p.0 p.2) (term_no_fault job seen b p.1 p.3)
-term_no_fault job seen (Choose c a b) t h =
-    let p = parts_of (λ x (y : Term × Term). term.Choose x y.0 y.1) (term_of job seen c) (both (λ x y. (x, y)) (term_of job seen a) (term_of job seen b)) t h in
-    let q = pair_parts (term_of job seen a) (term_of job seen b) p.1 p.3 in
-    none_joined (expression_faults job seen c) (expression_faults job seen a ++ expression_faults job seen b) (term_no_fault job seen c p.0 p.2)
-    (none_joined (expression_faults job seen a) (expression_faults job seen b) (term_no_fault job seen a p.1.0 q.0) (term_no_fault job seen b p.1.1 q.1))
+term_no_fault job seen e t h = there_faultless _ _ _ (agrees job seen e) t h
 
 pub option_no_fault : (job : Job) (seen : List DefTree) (e : Option Expression) (o : Option Term) → option_term job seen e ≡ Some o → option_faults job seen e ≡ []
 option_no_fault job seen None o h = refl

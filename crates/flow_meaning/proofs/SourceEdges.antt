@@ -8,7 +8,8 @@ use Rattle.std.specs.Option.{option_map_or}
 use Rattle.ptg_base.specs.Lists.{IsIn}
 use Rattle.ptg_base.specs.Task.{Task}
 use Rattle.ptg_base.specs.declared.edge.Edge.{Edge}
-use Rattle.term_core.specs.Value.{value, and_then, map_fault}
+use Rattle.ptg_base.specs.Returns.{and_then}
+use Rattle.term_core.specs.Value.{value, map_fault}
 use Rattle.term_core.specs.declared.fault.ExprFault.{ExprFault}
 use Rattle.term_core.specs.declared.flow.FlowKind.{FlowKind}
 use Rattle.term_core.specs.declared.flow.FlowKind.TheVariants.{Read, Write, Rw, Ctl}

@@ -6,7 +6,6 @@ use ptg_base::Seq;
 use term_core::FlowKind;
 
 /// An argument of a list, or the value of a definition: an expression or a range.
-#[derive(Drop)]
 pub enum ArgTree {
     /// One value.
     One(ExprTree),
@@ -14,15 +13,31 @@ pub enum ArgTree {
     Span(Spot, ExprTree, ExprTree, Option<ExprTree>),
 }
 
+impl Drop for ArgTree {
+    fn drop(self) {
+        match self {
+            ArgTree::One(_value) => {}
+            ArgTree::Span(_, _lo, _hi, _step) => {}
+        }
+    }
+}
+
 /// A definition of a class, `name = value`.
-#[derive(Drop)]
 pub struct DefTree {
     pub name: Word,
     pub value: ArgTree,
 }
 
+impl Drop for DefTree {
+    fn drop(self) {
+        let DefTree {
+            name: _name,
+            value: _value,
+        } = self;
+    }
+}
+
 /// The target of a dependence: where it leads to, or comes from.
-#[derive(Drop)]
 pub enum TargetTree {
     /// A flow of a task: the flow, the class and the arguments.
     Task(Word, Word, Seq<ArgTree>),
@@ -32,6 +47,16 @@ pub enum TargetTree {
     New(Spot),
     /// `NULL`, and its spot.
     Null(Spot),
+}
+
+impl Drop for TargetTree {
+    fn drop(self) {
+        match self {
+            TargetTree::Task(_flow, _class, _args) => {}
+            TargetTree::Element(_coll, _indices) => {}
+            TargetTree::New(_) | TargetTree::Null(_) => {}
+        }
+    }
 }
 
 /// A dependence. Its target is `yes` if it has no guard or the guard holds, and else `no`.

@@ -14,10 +14,18 @@ use std::collections::BTreeMap;
 /// The numbers of names. A bucket has at most seven; the names for which their bucket has no room are in a map by their
 /// order.
 /// So a look-up never takes more steps than a few and those of the map, however the names were chosen.
-#[derive(Drop)]
 pub struct Index {
     pub(crate) buckets: Vec<Bucket>,
     pub(crate) others: BTreeMap<Text, u32>,
+}
+
+impl Drop for Index {
+    fn drop(self) {
+        let Index {
+            buckets: _buckets,
+            others: _others,
+        } = self;
+    }
 }
 
 // Whether the name has this number.

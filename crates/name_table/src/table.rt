@@ -15,11 +15,20 @@ use std::marker::Model;
 /// value.
 ///
 /// Names are looked up by an index that no choice of names makes slow.
-#[derive(Drop)]
 pub struct NameTable<V> {
     alloc: Global,
     pairs: Vec<(Text, V)>,
     index: Index,
+}
+
+impl<V: Drop> Drop for NameTable<V> {
+    fn drop(self) {
+        let NameTable {
+            alloc: _alloc,
+            pairs: _pairs,
+            index: _index,
+        } = self;
+    }
 }
 
 impl<V> Model for NameTable<V> {
@@ -78,7 +87,12 @@ impl<V> NameTable<V> {
     pub(crate) fn into_pairs(self) -> Vec<(Text, V)>
         ensures { result.items ≡ self }
     {
-        self.pairs
+        let NameTable {
+            alloc: _alloc,
+            pairs,
+            index: _index,
+        } = self;
+        pairs
     }
 }
 

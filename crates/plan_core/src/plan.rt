@@ -78,6 +78,14 @@ impl Plan {
         self.spaces.get(n as usize)
     }
 
+    /// A law: each class has a space, which is well made.
+    pub fn each_class_has_a_space(&self, n: u32)
+        requires { n < length self.now.classes }
+        ensures { (s : ClassSpace) × (slice_get self.now.spaces n ≡ Some s) × IsWellSpace s }
+    {
+        let _space = self.space(n);
+    }
+
     /// The collection with this number.
     pub fn coll(&self, n: u32) -> &Shape
         requires { n < length self.now.colls }

@@ -4,7 +4,6 @@ use ptg_base::Seq;
 use term_core::{Expr, Range};
 
 /// An argument of a task target.
-#[derive(Drop)]
 pub enum Arg {
     /// The value of a parameter.
     One(Expr),
@@ -12,8 +11,16 @@ pub enum Arg {
     Span(Range),
 }
 
+impl Drop for Arg {
+    fn drop(self) {
+        match self {
+            Arg::One(_value) => {}
+            Arg::Span(_range) => {}
+        }
+    }
+}
+
 /// The other end of a dependence.
-#[derive(Drop)]
 pub enum Target {
     /// The numbers of a class and of a flow of it, and an argument for each parameter of the class.
     Task(u32, u8, Seq<Arg>),
@@ -23,4 +30,14 @@ pub enum Target {
     New,
     /// No tile.
     Null,
+}
+
+impl Drop for Target {
+    fn drop(self) {
+        match self {
+            Target::Task(_, _, _args) => {}
+            Target::Element(_, _indices) => {}
+            Target::New | Target::Null => {}
+        }
+    }
 }

@@ -1,2 +1,3 @@
 pub mod Comparisons
 mod DecimalDigits
+pub mod Refusals

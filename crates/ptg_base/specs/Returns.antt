@@ -4,6 +4,11 @@ use Rattle.std.specs.Prelude.{◌≡◌, ◌⊎◌, Result, Ok, Err, IfOk}
 use Rattle.ptg_base.specs.declared.refusal.Refusal.{Refusal}
 use Rattle.ptg_base.specs.declared.refusal.Refusal.TheVariants.{Fault, OutOfMemory}
 
+-- what the continuation gives of a value; a fault stays as it is
+abbrev pub and_then : {A B F : Type 0} → Result A F → (A → Result B F) → Result B F
+and_then (Ok x) next = next x
+and_then (Err e) next = Err e
+
 -- the refusal is the fault that the definition gives, or there was no memory
 abbrev pub ReturnsRefusal : {Y F : Type 0} → Refusal F → Result Y F → Type 0
 ReturnsRefusal OutOfMemory given = Unit {0}

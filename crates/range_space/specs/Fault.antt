@@ -3,7 +3,8 @@
 use Rattle.std.specs.Prelude.{ℤ, pos, List, Option, Some, None, Result, Ok, Err, if◌then◌else◌}
 use Rattle.std.specs.Ordering.{int_eq}
 use Rattle.term_core.specs.Term.{Term}
-use Rattle.term_core.specs.Value.{value, and_then, map_fault}
+use Rattle.ptg_base.specs.Returns.{and_then}
+use Rattle.term_core.specs.Value.{value, map_fault}
 use Rattle.term_core.specs.declared.space.Range.{Range}
 use Rattle.range_space.specs.declared.fault.SpanFault.{SpanFault}
 use Rattle.range_space.specs.declared.fault.SpanFault.TheVariants.{Expr, ZeroStep}

@@ -9,7 +9,7 @@ ghost use Rattle.range_space.specs.Tasks.{tasks, def_values, or_empty};
 ghost use Rattle.range_space.specs.Locals.{IsLocalsOf};
 ghost use Rattle.range_space.specs.Completion.{param_value, AgreesWith, IsOnlyAgreeing, IsGivenIfRanged, IsCompletion, HasNoCompletion};
 ghost use Rattle.range_space.specs.Fault.{number, range_values};
-ghost use Rattle.term_core.specs.Value.{and_then};
+ghost use Rattle.ptg_base.specs.Returns.{and_then};
 
 use crate::numbers::Numbers;
 use crate::steps::{number, steps_of};

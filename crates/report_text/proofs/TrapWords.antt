@@ -5,7 +5,8 @@ use Rattle.std.proofs.lemmas.Bool.{and_parts, ltb-true}
 use Rattle.std.specs.Prelude.{length}
 use Rattle.term_core.specs.Term.{Term, Num, Local, Elem, Unary, Binary, Choose}
 use Rattle.term_core.specs.Arith.{holds, arithmetic, decided, unary_value}
-use Rattle.term_core.specs.Value.{and_then, decided_or, map_fault}
+use Rattle.ptg_base.specs.Returns.{and_then}
+use Rattle.term_core.specs.Value.{decided_or, map_fault}
 use Rattle.term_core.specs.Trap.{trap_of}
 use Rattle.term_core.specs.StatementList.{StatementList, Done, SetThen, PutThen, IfThen, ForThen, TrapThen}
 use Rattle.term_core.specs.declared.body.Body.{Body}

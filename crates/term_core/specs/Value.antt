@@ -1,15 +1,11 @@
 -- The value of an expression, by cases on its tree in the order of evaluation. Source: the JDF documentation, for
 -- expressions as in C.
 use Rattle.std.specs.Prelude.{ℕ, ℤ, pos, List, Bool, true, ◌&&◌, nat_lt, Result, Ok, Err, Option, Some, None, if◌then◌else◌, slice_index_or}
+use Rattle.ptg_base.specs.Returns.{and_then}
 use Rattle.term_core.specs.declared.fault.ExprFault.{ExprFault}
 use Rattle.term_core.specs.declared.operator.BinOp.{BinOp}
 use Rattle.term_core.specs.Term.{Term, Num, Local, Elem, Unary, Binary, Choose}
 use Rattle.term_core.specs.Arith.{holds, arithmetic, unary_value, decided}
-
--- what the continuation gives of a value; a fault stays as it is
-abbrev pub and_then : {A B F : Type 0} → Result A F → (A → Result B F) → Result B F
-and_then (Ok x) next = next x
-and_then (Err e) next = Err e
 
 -- a fault of arithmetic as a fault of another kind
 abbrev pub map_fault : {F : Type 0} → (ExprFault → F) → Result ℤ ExprFault → Result ℤ F

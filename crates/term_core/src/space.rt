@@ -9,20 +9,37 @@ use ptg_base::Seq;
 use std::marker::Model;
 
 /// The numbers from `lo` to `hi` by `step`, or by 1 where no step is written.
-#[derive(Drop)]
 pub struct Range {
     pub lo: Expr,
     pub hi: Expr,
     pub step: Option<Expr>,
 }
 
+impl Drop for Range {
+    fn drop(self) {
+        let Range {
+            lo: _lo,
+            hi: _hi,
+            step: _step,
+        } = self;
+    }
+}
+
 /// The definition of a local of a class.
-#[derive(Drop)]
 pub enum Def {
     /// Each value of a range.
     Span(Range),
     /// The value of an expression alone.
     Value(Expr),
+}
+
+impl Drop for Def {
+    fn drop(self) {
+        match self {
+            Def::Span(_range) => {}
+            Def::Value(_value) => {}
+        }
+    }
 }
 
 /// For each parameter, in order, the number of its definition; at most eight. It takes no memory.

@@ -46,7 +46,6 @@ fn put_row(out: &mut Seq<u8>, plan: &Plan, t: &TaskId) -> Result<(), OutOfMemory
     requires { IsTask plan.now t.now }
     ensures { OnOk result (out.new ≡ out.old ++ row_line (entry_of plan.now t.now)) }
 {
-    let _ = plan.space(t.class());
     out.append(b"ran,")?;
     out.append(plan.class(t.class()).name.bytes())?;
     put_numbers(out, t.params())?;

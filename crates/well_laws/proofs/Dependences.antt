@@ -4,7 +4,8 @@ use Rattle.std.specs.Prelude.{Result, Ok, Err, IsOk}
 use Rattle.ptg_base.specs.Lists.{IsIn}
 use Rattle.term_core.specs.Term.{Term}
 use Rattle.term_core.specs.Arith.{holds}
-use Rattle.term_core.specs.Value.{value, and_then}
+use Rattle.ptg_base.specs.Returns.{and_then}
+use Rattle.term_core.specs.Value.{value}
 use Rattle.term_core.specs.declared.fault.ExprFault.{ExprFault}
 use Rattle.plan_core.specs.declared.flow.DepPlan.{DepPlan}
 use Rattle.plan_core.specs.declared.target.Target.{Target}

@@ -223,6 +223,13 @@ impl State {
     fn into_writes(self) -> Result<Vec<(WriteBack, Tile)>, OutOfMemory>
         ensures { IfOk result (λ writes. writes.items ≡ writes_among self.sends) }
     {
-        self.sent.into_writes(self.alloc)
+        let State {
+            alloc,
+            claims: _claims,
+            outputs: _outputs,
+            sent,
+            arrived: _arrived,
+        } = self;
+        sent.into_writes(alloc)
     }
 }

@@ -9,8 +9,10 @@ use Rattle.data_read.specs.declared.growing.GrowingColl.{GrowingColl}
 use Rattle.data_read.specs.Fields.{is_name}
 use Rattle.data_read.specs.Draft.{with_tile}
 use Rattle.data_read.specs.Growing.{draft_of}
-use Rattle.data_read.specs.Records.{and_then, new_tile}
-use Rattle.data_read.proofs.TileSteps.{refuses_before, same_read, tile_keyed, tile_step}
+use Rattle.ptg_base.specs.Returns.{and_then}
+use Rattle.data_read.specs.Records.{new_tile}
+use Rattle.ptg_base.proofs.Refusals.{refuses_before}
+use Rattle.data_read.proofs.TileSteps.{same_read, tile_keyed, tile_step}
 use Rattle.data_read.proofs.tiles.add_tile.Goals as goal
 
 pub returns-in_err-index-clause-step : goal.returns-in_err-index-clause-step

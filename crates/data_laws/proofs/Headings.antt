@@ -1,0 +1,153 @@
+-- The headings of collections, and the tiles of one of them, as one record more comes.
+use Rattle.std.proofs.Common.{◌≡◌, ℕ, ◌+◌, ℤ, Bool, true, false, ◌||◌, List, [], ◌∷◌, ◌++◌, map, slice_get, replicate, bytes_eq, codes, Option, Some, None, option_map, refl, sym, ◌∙◌, ap, subst, inl, inr}
+use Rattle.std.specs.List.{AllByRecursion, list_any, range_with_len}
+use Rattle.std.specs.Cmp.Lexicographic.{bytes_decides}
+use Rattle.std.proofs.lemmas.Bool.{false≢true, false_from_ne_true}
+use Rattle.coll_data.specs.Tiles.{tile_count}
+use Rattle.data_read.specs.Draft.{GrowingColl, coll_index, type_among}
+use Rattle.data_read.specs.Fields.{field}
+use Rattle.data_laws.specs.WholeRecords.{Heading, Row, begins, declares, given_tile, heading_at, heading_in, name_at, tile_in, type_name_in, with_tiles}
+use Rattle.data_read.proofs.Choices.{by_option}
+use Rattle.data_laws.proofs.WholeLists.{all_of, left_out, map_same, none_kept, range_constant, range_same}
+use Rattle.list_lemmas.proofs.Truth.{by_test, chosen}
+use Rattle.list_lemmas.proofs.Texts.{bytes_eq-sym_false}
+use Rattle.list_lemmas.proofs.Options.{none_from_one_more}
+
+-- ---- names
+
+-- no two collections have one name
+abbrev pub AreApart : List Heading → Type 0
+AreApart [] = Unit {0}
+AreApart (h ∷ hs) = (list_any (λ (g : Heading). bytes_eq h.name g.name) hs ≡ false) × AreApart hs
+
+-- one of the collections has this name
+abbrev pub has_name : List ℕ → List Heading → Bool
+has_name name hs = list_any (λ (h : Heading). bytes_eq name h.name) hs
+
+any_push : {X : Type 0} (p : X → Bool) (xs : List X) (x : X) → list_any p xs ≡ false → p x ≡ false → list_any p (xs ++ x ∷ []) ≡ false
+any_push p [] x none one = rw one refl
+any_push p (y ∷ ys) x none one = let parts = parts_of (p y) (list_any p ys) none in rw parts.0 (any_push p ys x parts.1 one)
+  where
+    parts_of : (a b : Bool) → (a || b) ≡ false → (a ≡ false) × (b ≡ false)
+    parts_of true b e = absurd cc
+    parts_of false b e = (refl, e)
+
+pub name_kept : (name : List ℕ) (hs : List Heading) (h : Heading) → has_name name hs ≡ true → has_name name (hs ++ h ∷ []) ≡ true
+name_kept name [] h is = absurd cc
+name_kept name (g ∷ gs) h is = either (bytes_eq name g.name) (has_name name gs) (has_name name (gs ++ h ∷ [])) is (name_kept name gs h)
+  where
+    either : (a b c : Bool) → (a || b) ≡ true → (b ≡ true → c ≡ true) → (a || c) ≡ true
+    either true b c e more = refl
+    either false b c e more = more e
+
+pub apart_push : (hs : List Heading) (h : Heading) → AreApart hs → has_name h.name hs ≡ false → AreApart (hs ++ h ∷ [])
+apart_push [] h all none = (refl, tt)
+apart_push (g ∷ gs) h all none =
+    let parts = parts_of (bytes_eq h.name g.name) (has_name h.name gs) none in
+    (any_push (λ (k : Heading). bytes_eq g.name k.name) gs h all.0 (bytes_eq-sym_false h.name g.name parts.0), apart_push gs h all.1 parts.1)
+  where
+    parts_of : (a b : Bool) → (a || b) ≡ false → (a ≡ false) × (b ≡ false)
+    parts_of true b e = absurd cc
+    parts_of false b e = (refl, e)
+
+-- a name without a collection
+pub no_name : (rows : List Row) (name : List ℕ) (hs : List Heading) → coll_index name (map (with_tiles rows) hs) ≡ None → has_name name hs ≡ false
+no_name rows name [] none = refl
+no_name rows name (h ∷ hs) none = elim (chosen (bytes_eq name h.name) (Some 0) (option_map (λ n. n + 1) (coll_index name (map (with_tiles rows) hs))) None none) [
+  | inl here ↦ absurd (let never : ◌≡◌ {A = Option ℕ} (Some 0) None = here.1 in cc)
+  | inr later ↦ rw later.0 (no_name rows name hs (none_from_one_more (coll_index name (map (with_tiles rows) hs)) later.1))
+]
+
+-- a name with a collection
+pub some_name : (rows : List Row) (name : List ℕ) (hs : List Heading) (at : ℕ) → coll_index name (map (with_tiles rows) hs) ≡ Some at → has_name name hs ≡ true
+some_name rows name [] at is = absurd cc
+some_name rows name (h ∷ hs) at is =
+    by_test (bytes_eq name h.name)
+    (λ here. rw here refl)
+    (λ other. let is = rw other at is in
+    by_option (coll_index name (map (with_tiles rows) hs))
+    (λ none. absurd (let never = rw none at is in cc))
+    (λ m found. rw other (some_name rows name hs m found)))
+
+-- ---- types
+
+-- the type of a collection is one of these
+abbrev pub HasKnownType : List (List ℕ × ℕ) → Row → Type 0
+HasKnownType types row = declares row ≡ true → (known : ℕ × ℕ) × (type_among (type_name_in row) 0 types ≡ Some known)
+
+pub type_kept : (name : List ℕ) (number : ℕ) (types : List (List ℕ × ℕ)) (t : List ℕ × ℕ) (known : ℕ × ℕ) → type_among name number types ≡ Some known → type_among name number (types ++ t ∷ []) ≡ Some known
+type_kept name number [] t known is = absurd cc
+type_kept name number (u ∷ us) t known is =
+    by_test (bytes_eq name u.0)
+    (λ here. rw here (rw here at is))
+    (λ other. rw other (type_kept name (number + 1) us t known (rw other at is)))
+
+pub heading_kept : (types : List (List ℕ × ℕ)) (t : List ℕ × ℕ) (row : Row) → HasKnownType types row → heading_in (types ++ t ∷ []) row ≡ heading_in types row
+heading_kept types t row known =
+    by_test (declares row)
+    (λ h.
+    let found = known h in
+    let is : type_among (type_name_in row) 0 types ≡ Some found.0 = found.1 in
+    let more = type_kept (type_name_in row) 0 types t found.0 is in
+    let same : heading_at (type_among (type_name_in row) 0 (types ++ t ∷ [])) row (name_at row) ≡ heading_at (type_among (type_name_in row) 0 types) row (name_at row) =
+    ap (λ o. heading_at o row (name_at row)) (more ∙ sym is) in
+    rw h same)
+    (λ h. rw h refl)
+
+-- ---- tiles
+
+-- a collection with these tiles
+abbrev pub tiled : Heading → List (Option (List ℤ)) → GrowingColl
+tiled h tiles = record { name = h.name; shape = h.shape; datatype = h.datatype; elements = h.elements; tiles = tiles }
+
+abbrev pub places : Heading → List ℕ
+places h = range_with_len 0 (tile_count h.shape.0 h.shape.1)
+
+-- a record that gives no tile of a collection changes none of it
+pub tiles_kept : (rows : List Row) (row : Row) (h : Heading) → ((k : ℕ) → tile_in h k row ≡ None) → with_tiles (rows ++ row ∷ []) h ≡ with_tiles rows h
+tiles_kept rows row h none =
+    ap (tiled h)
+    (range_same (given_tile h rows) (given_tile h (rows ++ row ∷ [])) 0 (tile_count h.shape.0 h.shape.1)
+    (λ k above. ap (λ (ts : List (List ℤ)). slice_get ts 0) (left_out (tile_in h k) rows row (none k))))
+
+pub no_tile : (row : Row) → begins (codes "tile") row ≡ false → (h : Heading) (k : ℕ) → tile_in h k row ≡ None
+no_tile row other h k = rw other refl
+
+-- a tile of a collection of another name
+pub other_tile : (row : Row) (h : Heading) → bytes_eq (field row 1) h.name ≡ false → (k : ℕ) → tile_in h k row ≡ None
+other_tile row h other k =
+    by_test (begins (codes "tile") row)
+    (λ tile. rw (tile, other) refl)
+    (λ none. rw none refl)
+
+-- a record that is no tile changes no collection
+pub colls_kept : (rows : List Row) (row : Row) (hs : List Heading) → begins (codes "tile") row ≡ false → map (with_tiles (rows ++ row ∷ [])) hs ≡ map (with_tiles rows) hs
+colls_kept rows row hs other =
+    map_same (with_tiles (rows ++ row ∷ [])) (with_tiles rows) hs
+    (all_of (λ (h : Heading). with_tiles (rows ++ row ∷ []) h ≡ with_tiles rows h) hs (λ h. tiles_kept rows row h (no_tile row other h)))
+
+-- the record is no tile, or one of these collections has the name in it
+abbrev pub IsOfKnown : List Heading → Row → Type 0
+IsOfKnown hs row = begins (codes "tile") row ≡ true → has_name (field row 1) hs ≡ true
+
+not_of : (hs : List Heading) (h : Heading) (row : Row) → has_name h.name hs ≡ false → IsOfKnown hs row → (k : ℕ) → tile_in h k row ≡ None
+not_of hs h row new known k =
+    by_test (begins (codes "tile") row)
+    (λ tile.
+    let other = false_from_ne_true (bytes_eq (field row 1) h.name)
+    (λ same. false≢true (sym new ∙ subst (λ n. has_name n hs ≡ true) ((bytes_decides (field row 1) h.name).0 same) (known tile))) in
+    other_tile row h other k)
+    (λ none. no_tile row none h k)
+
+all_not_of : (hs : List Heading) (h : Heading) (rows : List Row) → has_name h.name hs ≡ false → AllByRecursion (IsOfKnown hs) rows → (k : ℕ) → AllByRecursion (λ row. tile_in h k row ≡ None) rows
+all_not_of hs h [] new known k = tt
+all_not_of hs h (row ∷ rows) new known k = (not_of hs h row new known.0 k, all_not_of hs h rows new known.1 k)
+
+-- a collection of a new name has no tile yet
+pub new_coll : (rows : List Row) (row : Row) (hs : List Heading) (h : Heading) → begins (codes "tile") row ≡ false → has_name h.name hs ≡ false → AllByRecursion (IsOfKnown hs) rows
+    → with_tiles (rows ++ row ∷ []) h ≡ tiled h (replicate (tile_count h.shape.0 h.shape.1) None)
+new_coll rows row hs h other new known =
+    tiles_kept rows row h (no_tile row other h)
+    ∙ ap (tiled h)
+    (range_constant (given_tile h rows) None 0 (tile_count h.shape.0 h.shape.1)
+    (λ k. ap (λ (ts : List (List ℤ)). slice_get ts 0) (none_kept (tile_in h k) rows (all_not_of hs h rows new known k))))

@@ -1,0 +1,3 @@
+pub mod WholeRecords
+pub mod Codes
+pub mod WholeTexts

@@ -1,0 +1,22 @@
+-- What the names in expressions mean. Source: the JDF documentation.
+use Rattle.std.specs.Prelude.{ℕ, Result, Err}
+use Rattle.jdf_lex.specs.declared.fault.JdfCode.{JdfCode}
+use Rattle.jdf_lex.specs.declared.fault.JdfFault.{JdfFault}
+use Rattle.term_core.specs.Term.{Term}
+use Rattle.jdf_tree.specs.declared.expression.Word.{Word}
+
+-- what is resolved, or a fault
+abbrev pub Resolved : Type 0 → Type 0
+Resolved A = Result A JdfFault
+
+-- a fault at a name
+abbrev pub fault_at : {A : Type 0} → Word → JdfCode → Resolved A
+fault_at w code = Err (record { spot = w.spot; code = code })
+
+pub record SymbolTable : Type 0 where
+  -- the term of a name that stands for a number
+  pub value : Word → Resolved Term
+  -- the number of the flow of a name before an index
+  pub flow : Word → Resolved ℕ
+  -- which of the faults of two parts of an expression is told
+  pub told : JdfFault → JdfFault → JdfFault

@@ -1,0 +1,96 @@
+//! Expressions with their names resolved.
+
+ghost use Rattle.std.specs.Prelude.{◌≡◌};
+ghost use Rattle.ptg_base.specs.Returns.{Returns};
+ghost use Rattle.jdf_tree.specs.NodeExpression.{expression_of};
+ghost use Rattle.expr_names.specs.Symbols.{Resolved};
+ghost use Rattle.expr_names.specs.Expressions.{together, term_of};
+ghost use Rattle.expr_names.specs.Refusals.{told_refusal};
+
+use crate::symbols::Symbols;
+use jdf_lex::JdfRefusal;
+use jdf_tree::{ExprNode, ExprTree};
+use std::alloc::Global;
+use term_core::Expr;
+
+/// The term that an expression is where names mean this, or which fault is told of those of its names.
+pub fn term_of<S: Symbols>(alloc: Global, symbols: &S, tree: &ExprTree) -> Result<Expr, JdfRefusal>
+    requires { S.is_sound symbols.now }
+    ensures { Returns (λ e. e) result (term_of (S.table symbols.now) tree.now) }
+{
+    node_term(alloc, symbols, tree.node())
+}
+
+// Which refusal is told of two; or that there was no memory, if either says so.
+fn told<S: Symbols>(symbols: &S, first: JdfRefusal, second: JdfRefusal) -> JdfRefusal
+    requires { S.is_sound symbols.now }
+    ensures { result ≡ told_refusal (S.table symbols.now).told first second }
+{
+    match first {
+        JdfRefusal::OutOfMemory => JdfRefusal::OutOfMemory,
+        JdfRefusal::Fault(f) => match second {
+            JdfRefusal::OutOfMemory => JdfRefusal::OutOfMemory,
+            JdfRefusal::Fault(g) => JdfRefusal::Fault(symbols.told(f, g)),
+        },
+    }
+}
+
+// Two parts of an expression: both of them, or which fault is told of theirs.
+#[tactic(auto, using(crate::proofs::Together::both_there, crate::proofs::Together::second_refused, crate::proofs::Together::first_refused, crate::proofs::Together::both_refused))]
+fn together<S: Symbols, A: Drop, B: Drop>(
+    symbols: &S,
+    first: Result<A, JdfRefusal>,
+    second: Result<B, JdfRefusal>,
+) -> Result<(A, B), JdfRefusal>
+    requires { S.is_sound symbols.now }
+    ensures { (p : Resolved A) (q : Resolved B) → Returns (λ x. x) first p → Returns (λ x. x) second q
+        → Returns (λ x. x) result (together (S.table symbols.now).told p q) }
+{
+    match first {
+        Ok(a) => match second {
+            Ok(b) => Ok((a, b)),
+            Err(refusal) => Err(refusal),
+        },
+        Err(refusal) => {
+            let Err(other) = second else {
+                return Err(refusal);
+            };
+            Err(told(symbols, refusal, other))
+        }
+    }
+}
+
+#[tactic(auto, using(ptg_base::proofs::Refusals::refuses_before))]
+fn node_term<S: Symbols>(alloc: Global, symbols: &S, node: &ExprNode) -> Result<Expr, JdfRefusal>
+    requires { S.is_sound symbols.now }
+    ensures { Returns (λ e. e) result (term_of (S.table symbols.now) (expression_of node.now)) }
+{
+    match node {
+        ExprNode::Num(value, _) => Ok(Expr::num(*value)),
+        ExprNode::Name(word) => symbols.value(word),
+        ExprNode::Elem(word, at) => {
+            let flow = symbols.flow(word);
+            let at = node_term(alloc, symbols, at);
+            let (flow, at) = together(symbols, flow, at)?;
+            Ok(Expr::elem(alloc, flow, at)?)
+        }
+        ExprNode::Unary(operator, a, _) => {
+            let a = node_term(alloc, symbols, a)?;
+            Ok(Expr::unary(alloc, *operator, a)?)
+        }
+        ExprNode::Binary(operator, a, b) => {
+            let a = node_term(alloc, symbols, a);
+            let b = node_term(alloc, symbols, b);
+            let (a, b) = together(symbols, a, b)?;
+            Ok(Expr::binary(alloc, *operator, a, b)?)
+        }
+        ExprNode::Choose(c, a, b) => {
+            let c = node_term(alloc, symbols, c);
+            let a = node_term(alloc, symbols, a);
+            let b = node_term(alloc, symbols, b);
+            let branches = together(symbols, a, b);
+            let (c, (a, b)) = together(symbols, c, branches)?;
+            Ok(Expr::choose(alloc, c, a, b)?)
+        }
+    }
+}

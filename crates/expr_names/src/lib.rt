@@ -1,0 +1,9 @@
+//! Expressions with their names resolved, or which fault is told of those of their names: one resolver for bodies and
+//! for all that is outside of them.
+#![tactic(auto)]
+
+mod expression;
+mod symbols;
+
+pub use expression::term_of;
+pub use symbols::{Symbols, fault_at};

@@ -1,0 +1,46 @@
+//! What the names in expressions mean.
+
+ghost use Rattle.std.specs.Prelude.{◌≡◌};
+ghost use Rattle.ptg_base.specs.Returns.{Returns};
+ghost use Rattle.ptg_base.specs.declared.refusal.Refusal.TheVariants.{Fault};
+ghost use Rattle.expr_names.specs.Symbols.{SymbolTable};
+
+use jdf_lex::{JdfCode, JdfFault, JdfRefusal};
+use jdf_tree::Word;
+use term_core::Expr;
+
+/// What the names in an expression mean: a name before an index is a flow's, and each other one stands for a number.
+pub trait Symbols {
+    ghost use Rattle.expr_names.specs.Symbols.{SymbolTable};
+
+    /// What a look-up asks of the names.
+    ghost is_sound: { Self → Type 0 };
+
+    /// What they mean.
+    ghost table: { Self → SymbolTable };
+
+    /// The term of a name that stands for a number.
+    fn value(&self, word: &Word) -> Result<Expr, JdfRefusal>
+        requires { is_sound self.now }
+        ensures { Returns (λ e. e) result ((table self.now).value word.now) };
+
+    /// The number of the flow of a name before an index.
+    fn flow(&self, word: &Word) -> Result<u8, JdfRefusal>
+        requires { is_sound self.now }
+        ensures { Returns (λ n. n) result ((table self.now).flow word.now) };
+
+    /// Which fault is told of those of two parts of an expression.
+    fn told(&self, first: JdfFault, second: JdfFault) -> JdfFault
+        requires { is_sound self.now }
+        ensures { result ≡ (table self.now).told first second };
+}
+
+/// The fault of this code at a name.
+pub fn fault_at(word: &Word, code: JdfCode) -> JdfRefusal
+    ensures { result ≡ Fault (record { spot = word.now.spot; code = code }) }
+{
+    JdfRefusal::Fault(JdfFault {
+        spot: word.spot,
+        code,
+    })
+}
