@@ -6,4 +6,3 @@ pub mod KindRules
 pub mod TypeRules
 pub mod WellTargets
 pub mod WellFlows
-pub mod Resolved

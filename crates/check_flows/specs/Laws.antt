@@ -26,15 +26,3 @@ abbrev pub FlowsAreWellMade : Type 0
 FlowsAreWellMade =
     (job : Job) (classes : List ClassPlan) (spaces : List ClassSpace) (colls : List Shape) → HaveParts job classes spaces colls → (seen : List DefTree) (flow : FlowTree) (p : FlowPlan)
     → IsFlowWithinLimits flow → flow_faults job seen flow ≡ [] → flow_plan job seen flow ≡ Some p → IsTrue (is_flow classes spaces colls (suc (length job.given.types)) (length seen) p)
-
--- An element that breaks no rule is resolved.
-abbrev pub ElementIsResolved : Type 0
-ElementIsResolved =
-    (job : Job) (seen : List DefTree) (w : Word) (args : List ArgTree) → element_faults job seen w args ≡ []
-    → IsSome (element_of job seen w args)
-
--- So is a flow.
-abbrev pub FlowIsResolved : Type 0
-FlowIsResolved =
-    (job : Job) (seen : List DefTree) (flow : FlowTree) → flow_faults job seen flow ≡ []
-    → IsSome (flow_plan job seen flow)

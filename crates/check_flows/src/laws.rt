@@ -1,6 +1,6 @@
 //! Laws of what is resolved: the elements and the flows of a plan.
 
-ghost use Rattle.check_flows.specs.Laws.{ElementsExist, FlowsAreWellMade, ElementIsResolved, FlowIsResolved};
+ghost use Rattle.check_flows.specs.Laws.{ElementsExist, FlowsAreWellMade};
 
 /// A law: an element whose names are resolved, and that breaks no rule, is one of a collection of the plan.
 pub fn a_resolved_element_exists()
@@ -11,10 +11,4 @@ pub fn a_resolved_element_exists()
 /// have. Its targets exist, have its datatype, and are those that a flow of its kind may have.
 pub fn a_resolved_flow_is_well_made()
     ensures { FlowsAreWellMade }
-{}
-
-/// A law: elements and flows that break no rule are resolved.
-pub fn flows_without_faults_are_resolved()
-    ensures element { ElementIsResolved }
-    ensures flow { FlowIsResolved }
 {}

@@ -10,7 +10,5 @@ mod rule;
 mod target;
 
 pub use dependence::flow;
-pub use laws::{
-    a_resolved_element_exists, a_resolved_flow_is_well_made, flows_without_faults_are_resolved,
-};
+pub use laws::{a_resolved_element_exists, a_resolved_flow_is_well_made};
 pub use place::element;

@@ -1,8 +1,6 @@
 pub mod Order
-pub mod Ordered
 pub mod First
 pub mod Joins
-pub mod Least
 pub mod OneResolver
 pub mod Parts
 pub mod Named
@@ -15,5 +13,3 @@ pub mod NoFaults
 pub mod Distinct
 pub mod ClosedArguments
 pub mod WellSpaces
-pub mod AllThere
-pub mod Resolved

@@ -44,27 +44,3 @@ abbrev pub ArgumentsAreNoRanges : Type 0
 ArgumentsAreNoRanges =
     (job : Job) (seen : List DefTree) (code : JdfCode) (args : List ArgTree) (xs : List Arg)
     → ranges_faults code args ≡ [] → arguments_of job seen args ≡ Some xs → list_any is_span xs ≡ false
-
--- Arguments that break no rule are resolved.
-abbrev pub ArgumentsAreResolved : Type 0
-ArgumentsAreResolved =
-    (job : Job) (seen : List DefTree) (args : List ArgTree) → arguments_faults job seen args ≡ []
-    → IsSome (arguments_of job seen args)
-
--- So are indices.
-abbrev pub IndicesAreResolved : Type 0
-IndicesAreResolved =
-    (job : Job) (seen : List DefTree) (args : List ArgTree) → indices_faults job seen args ≡ []
-    → IsSome (indices_of job seen args)
-
--- So is an expression that may be left out.
-abbrev pub OptionIsResolved : Type 0
-OptionIsResolved =
-    (job : Job) (seen : List DefTree) (e : Option Expression) → option_faults job seen e ≡ []
-    → IsSome (option_term job seen e)
-
--- So is the space of a class.
-abbrev pub SpaceIsResolved : Type 0
-SpaceIsResolved =
-    (job : Job) (params : List Word) (defs : List DefTree) → space_faults job params defs ≡ []
-    → IsSome (space_of job params defs)

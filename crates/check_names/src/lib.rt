@@ -17,8 +17,7 @@ pub use definition::space;
 pub use expression::{option_term, term_of};
 pub use fault::{fault_at, fault_if};
 pub use laws::{
-    a_resolved_space_is_well_made, names_given_once_are_distinct,
-    names_without_faults_are_resolved, the_first_fault_is_the_least, what_is_resolved_is_closed,
+    a_resolved_space_is_well_made, names_given_once_are_distinct, what_is_resolved_is_closed,
 };
 pub use part::{and_rules, join, refused, with_part};
 pub use repeat::{HasName, repeats};

@@ -15,5 +15,3 @@ pub mod WellBodies
 pub mod WellClasses
 pub mod WellPlans
 pub mod Plans
-pub mod Readings
-pub mod Resolved

@@ -41,20 +41,3 @@ OnePlan = (job : Job) (p q : Plan) → IsPlan job p → IsPlan job q → p ≡ q
 -- What has a plan has no fault.
 abbrev pub PlanHasNoFault : Type 0
 PlanHasNoFault = (job : Job) (p : Plan) (f : JdfFault) → IsPlan job p → IsFirstFault job f → ⊥
-
--- The body of each class within the limits is read: its tokens are a body, or have a first fault.
-abbrev pub EachBodyIsRead : Type 0
-EachBodyIsRead = (job : Job) (class : ClassTree) → IsClassWithinLimits class → (b : BodyResult) × ReadsBody job class b
-
--- A class that breaks no rule is resolved.
-abbrev pub ClassIsResolved : Type 0
-ClassIsResolved =
-    (job : Job) (class : ClassTree) (b : BodyResult) → class_faults job class b ≡ [] → IsSome (class_plan job class b)
-
--- A JDF and its data have a plan or a first fault.
-abbrev pub HasPlanOrFault : Job → Type 0
-HasPlanOrFault job = ((p : Plan) × IsPlan job p) ⊎ ((f : JdfFault) × IsFirstFault job f)
-
--- Each JDF within the limits, with data that are well made, has one of both.
-abbrev pub EachHasPlanOrFault : Type 0
-EachHasPlanOrFault = (job : Job) → IsWithinLimits job.jdf → well_data.IsWellMade job.given → HasPlanOrFault job

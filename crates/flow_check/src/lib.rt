@@ -15,7 +15,4 @@ mod whole;
 pub use checking::check;
 pub use given::missing;
 pub use globals::globals_of;
-pub use laws::{
-    a_job_has_a_plan_or_a_fault, classes_without_faults_are_resolved, each_body_is_read,
-    one_answer, what_is_resolved_is_a_plan,
-};
+pub use laws::{one_answer, what_is_resolved_is_a_plan};

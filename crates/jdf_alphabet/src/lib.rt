@@ -4,14 +4,12 @@
 
 mod code;
 mod kind;
-mod laws;
 mod limit;
 mod next;
 mod terminal;
 
 pub use code::GrammarCode;
 pub use kind::TokenKind;
-pub use laws::numbers_are_exact;
 pub use limit::expression_limit;
 pub use next::{expect, is_next};
 pub use terminal::Terminal;

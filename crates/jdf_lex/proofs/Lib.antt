@@ -1,10 +1,6 @@
 pub mod Closing
-pub mod ClosingMarks
 pub mod Fronts
-pub mod Longest
 pub mod Runs
 pub mod Scanning
 pub mod Spots
-pub mod TokensOrFault
 pub mod Uniqueness
-pub mod WrittenForms

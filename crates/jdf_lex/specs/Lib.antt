@@ -1,4 +1,3 @@
-pub mod Forms
 pub mod Reading
 pub mod Spelling
 pub mod Tokens

@@ -14,6 +14,7 @@ mod token;
 pub use fault::{JdfCode, JdfFault, JdfRefusal};
 pub use grammar_core::{Spot, Token};
 pub use jdf_alphabet::TokenKind;
-pub use laws::{longest_is_taken, one_list_of_tokens, tokens_or_one_fault, units_as_written};
+pub use laws::one_list_of_tokens;
 pub use lex::tokens;
+pub use lexical_unit::LexicalUnit;
 pub use token::Lexed;

@@ -2,7 +2,6 @@ pub mod ListSteps
 pub mod Begins
 pub mod Counts
 pub mod File
-pub mod Either
 pub mod Limits
 pub mod Listed
 pub mod Once

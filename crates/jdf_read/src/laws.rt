@@ -1,6 +1,6 @@
 //! Laws of whole texts.
 
-ghost use Rattle.jdf_read.specs.Laws.{OneTree, OneFault, TreeOrFault, NotBoth};
+ghost use Rattle.jdf_read.specs.Laws.{OneTree, OneFault};
 ghost use Rattle.jdf_tree.specs.Nonterminal.{Nonterminal, TreeOf};
 ghost use Rattle.jdf_tree.specs.Grammar.{productions, file, claims};
 ghost use Rattle.jdf_tree.specs.declared.tree.Jdf.{Jdf};
@@ -35,10 +35,4 @@ pub fn one_tree()
 /// A law: a text has one first fault at most.
 pub fn one_fault()
     ensures { OneFault }
-{}
-
-/// A law: each text, whatever its bytes, has a tree or a first fault, and not both.
-pub fn tree_or_fault()
-    ensures either { TreeOrFault }
-    ensures not_both { NotBoth }
 {}

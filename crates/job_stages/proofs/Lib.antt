@@ -1,4 +1,2 @@
 pub mod Once
 pub mod Judged
-pub mod WellData
-pub mod Always

@@ -1,8 +1,6 @@
 -- What follows from the definition of the verdict on two texts.
 use Rattle.std.specs.Prelude.{◌≡◌, ℕ, List}
-use Rattle.jdf_tree.specs.TreeLimits.{IsWithinLimits}
 use Rattle.coll_data.specs.Data.{Data}
-use Rattle.coll_data.specs.WellMade as well_data
 use Rattle.plan_core.specs.declared.plan.Plan.{Plan}
 use Rattle.plan_data.specs.Fit.{DataFit}
 use Rattle.check_names.specs.Names.{Job}
@@ -19,15 +17,6 @@ abbrev pub OneVerdict : Type 0
 OneVerdict =
     (jdf_text data_text : List ℕ) (v w : JobVerdict) → TextsDenote jdf_text data_text v
     → TextsDenote jdf_text data_text w → v ≡ w
-
--- A JDF within the limits of its text denotes a verdict with data that are well made.
-abbrev pub SomeVerdictOfJob : Type 0
-SomeVerdictOfJob =
-    (job : Job) → IsWithinLimits job.jdf → well_data.IsWellMade job.given → (v : JobVerdict) × JobDenotes job v
-
--- Two texts denote a verdict.
-abbrev pub SomeVerdict : Type 0
-SomeVerdict = (jdf_text data_text : List ℕ) → (v : JobVerdict) × TextsDenote jdf_text data_text v
 
 -- A fault of the JDF's text is the verdict whatever the data's text is.
 abbrev pub JdfIsJudgedAlone : Type 0

@@ -1,18 +1,11 @@
 //! Laws of the verdict on two texts.
 
-ghost use Rattle.job_stages.specs.Laws.{OneVerdictOfJob, OneVerdict, SomeVerdictOfJob, SomeVerdict, JdfIsJudgedAlone, DataFitPlan};
+ghost use Rattle.job_stages.specs.Laws.{OneVerdictOfJob, OneVerdict, JdfIsJudgedAlone, DataFitPlan};
 
 /// A law: the text of a JDF and the text of its data denote one verdict at most, and so does a JDF with its data.
 pub fn one_verdict()
     ensures texts { OneVerdict }
     ensures job { OneVerdictOfJob }
-{}
-
-/// A law: the text of a JDF and the text of its data denote a verdict, whatever their bytes are; and so does each JDF
-/// within the limits of its text, with data that are well made.
-pub fn every_job_has_a_verdict()
-    ensures texts { SomeVerdict }
-    ensures job { SomeVerdictOfJob }
 {}
 
 /// A law: a fault of the JDF's text is the verdict whatever the data's text is.

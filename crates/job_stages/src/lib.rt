@@ -11,7 +11,5 @@ mod verdict;
 pub use data_text::{data_too_long, given_of};
 pub use jdf_text::{jdf_too_long, tree_of};
 pub use judging::{judge_data, judge_texts};
-pub use laws::{
-    every_job_has_a_verdict, one_verdict, the_data_fit_the_plan, the_jdf_is_judged_alone,
-};
+pub use laws::{one_verdict, the_data_fit_the_plan, the_jdf_is_judged_alone};
 pub use verdict::JobVerdict;

@@ -7,7 +7,7 @@ use Rattle.grammar_core.specs.Terminals as numbered
 use Rattle.jdf_alphabet.specs.declared.terminal.Terminal.{Terminal}
 use Rattle.jdf_alphabet.specs.declared.terminal.Terminal.TheVariants.{Name, TypeWord, Int, If, Else, For, Trap, Number, Quoted, Raw, OptionLine, Other, Extern, Body, End, Read, Write, Rw, Ctl, New, Null, LeftParen, RightParen, LeftBracket, RightBracket, LeftBrace, RightBrace, Comma, Semicolon, Colon, Question, Assign, Dots, Inward, Outward, Plus, Minus, Star, Slash, Percent, Equal, NotEqual, Less, AtMost, Greater, AtLeast, And, AndAnd, Or, OrOr, Not}
 use Rattle.jdf_alphabet.specs.Terminals.{number_of, terminal_at, terminal_of}
-use Rattle.jdf_alphabet.proofs.Numbers.{terminal_of_number}
+use Rattle.text_laws.proofs.Numbers.{terminal_of_number}
 
 -- a number is below 64
 below : (k : Terminal) → number_of k < 64

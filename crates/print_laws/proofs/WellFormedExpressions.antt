@@ -11,7 +11,7 @@ use Rattle.jdf_alphabet.specs.Counted.{is_name, is_counted}
 use Rattle.jdf_alphabet.specs.Sets.{limit_at, IsOne}
 use Rattle.grammar_core.specs.Production.{map, seq, opt, Fault, Language, Many, Derives, taken, bad_unless}
 use Rattle.jdf_alphabet.specs.Sets.{one_of}
-use Rattle.jdf_alphabet.proofs.Disjoint.{is_within, within_at}
+use Rattle.text_laws.proofs.Disjoint.{is_within, within_at}
 use Rattle.jdf_tree.specs.declared.expression.Word.{Word}
 use Rattle.jdf_tree.specs.declared.expression.ExprWithSpot.{ExprWithSpot}
 use Rattle.jdf_tree.specs.declared.part.Part.TheVariants.{Class}

@@ -1,5 +1,4 @@
 pub mod Requested
-pub mod Settings
 pub mod Checked
 pub mod Answered
 pub mod Replayed
@@ -12,5 +11,3 @@ pub mod Carried
 pub mod JobTexts
 pub mod Ending
 pub mod Receipts
-pub mod Once
-pub mod Always

@@ -12,7 +12,7 @@ use Rattle.ptg_top.specs.Denotation as verdicts
 use Rattle.ptg_top.specs.Denotation.{Denotation}
 use Rattle.ptg_top.specs.Findings.{finding_text, status_of_finding}
 use Rattle.ptg_top.specs.JobFiles.{Entries}
-use Rattle.ptg_top.specs.Meaning.{AskForNoTrace, Denotes}
+use Rattle.ptg_top.specs.Meaning.{Denotes}
 use Rattle.ptg_top.specs.Reports.{IsVerdictOnWords}
 use Rattle.ptg_top.specs.JobText.{job_text, status_of_job}
 
@@ -70,17 +70,6 @@ pub record Prints (words : List (List ℕ)) (files : Entries) (before after : Op
   pub denoted : Denotes words files verdict
   pub text : after ≡ appended before (text_of verdict)
   pub ends : status ≡ status_of verdict
-
--- arguments that ask for no trace and files determine what is printed, and the status
-abbrev pub OneOutput : Type 0
-OneOutput =
-    (words : List (List ℕ)) (files : Entries) (before after other : Option (List ℕ)) (status another : Status)
-    → AskForNoTrace words → Prints words files before after status → Prints words files before other another → (after ≡ other) × (status ≡ another)
-
--- and whatever they are, something is printed for them, with a status
-abbrev pub SomeOutput : Type 0
-SomeOutput =
-    (words : List (List ℕ)) (files : Entries) (before : Option (List ℕ)) → (after : Option (List ℕ)) × (status : Status) × Prints words files before after status
 
 -- a failed write cut the text of a verdict short: the one that the arguments and the files denote, or the name of a
 -- file that could not be read

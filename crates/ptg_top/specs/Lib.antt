@@ -11,7 +11,6 @@ pub mod Replay
 pub mod Trace
 pub mod Ranks
 pub mod Meaning
-pub mod Settings
 pub mod Reports
 pub mod Steps
 pub mod JobText

@@ -60,36 +60,6 @@ abbrev pub Denotes : List (List ℕ) → Entries → Denotation → Type 0
 Denotes words files v =
     (IsNoOrder words × (v ≡ verdicts.Usage)) ⊎ ((request : Request) × Requests words request × RequestDenotes files request v)
 
--- what is asked is no trace
-abbrev pub IsNoTrace : Request → Type 0
-IsNoTrace (Trace jdf data_name settings) = ⊥
-IsNoTrace request = Unit {0}
-
--- the arguments ask for no trace
-abbrev pub AskForNoTrace : List (List ℕ) → Type 0
-AskForNoTrace words = (request : Request) → Requests words request → IsNoTrace request
-
--- arguments that ask for no trace and files denote one verdict at most
-abbrev pub OneMeaning : Type 0
-OneMeaning =
-    (words : List (List ℕ)) (files : Entries) (v w : Denotation) → AskForNoTrace words → Denotes words files v
-    → Denotes words files w → v ≡ w
-
--- two verdicts are texts of whole orders of one consistent job, which two of the files denote
-abbrev pub AreTracesOfOneJob : Entries → Denotation → Denotation → Type 0
-AreTracesOfOneJob files v w =
-    (jdf data_name : List ℕ) × (P : Plan) × (given : Data) × FilesDenote files jdf data_name (verdicts.Job (jobs.Consistent P given)) × IsTraced P given v × IsTraced P given w
-
--- two verdicts that any arguments and files denote are the same, or traces of one job
-abbrev pub OneJob : Type 0
-OneJob =
-    (words : List (List ℕ)) (files : Entries) (v w : Denotation) → Denotes words files v → Denotes words files w
-    → (v ≡ w) ⊎ AreTracesOfOneJob files v w
-
--- and they denote one, whatever they are
-abbrev pub SomeMeaning : Type 0
-SomeMeaning = (words : List (List ℕ)) (files : Entries) → (v : Denotation) × Denotes words files v
-
 -- this is the JDF file, or it is the data file and the JDF is the text of a tree, where the contents are known
 abbrev pub IsUnreadOf : Option Entries → List ℕ → List ℕ → List ℕ → Type 0
 IsUnreadOf contents jdf data_name name =

@@ -9,7 +9,6 @@ mod finding_printing;
 mod host;
 mod job_printing;
 mod judge;
-mod laws;
 mod names;
 mod printing;
 mod program;
@@ -26,7 +25,7 @@ mod tracing;
 mod verdict;
 
 pub use ended::Ended;
-pub use laws::{one_job, one_meaning, settings_change_nothing_else, some_meaning};
 pub use program::ptg_main;
+pub use request::{RankSettings, Request};
 pub use status::Status;
 pub use verdict::{Finding, RanBy, Verdict};

@@ -1,0 +1,71 @@
+-- That what breaks no rule of the type check is resolved, so that a job has a plan or a first fault.
+use Rattle.std.specs.Prelude.{◌≡◌, ◌⊎◌, List, [], Option}
+use Rattle.std.specs.Option.{IsSome}
+use Rattle.jdf_tree.specs.Expression.{Expression}
+use Rattle.jdf_tree.specs.TreeLimits.{IsClassWithinLimits, IsWithinLimits}
+use Rattle.coll_data.specs.WellMade as well_data
+use Rattle.plan_core.specs.declared.plan.Plan.{Plan}
+use Rattle.check_names.specs.Alphabet.{JdfFault, Word, DefTree, ArgTree, FlowTree, ClassTree}
+use Rattle.check_names.specs.Names.{Job}
+use Rattle.check_names.specs.Arguments.{arguments_faults, arguments_of, indices_faults, indices_of}
+use Rattle.check_names.specs.Expressions.{option_faults, option_term}
+use Rattle.check_names.specs.Definitions.{space_faults, space_of}
+use Rattle.check_flows.specs.Places.{element_faults, element_of}
+use Rattle.check_flows.specs.Dependences.{flow_faults, flow_plan}
+use Rattle.flow_check.specs.Bodies.{BodyResult, ReadsBody}
+use Rattle.flow_check.specs.Classes.{class_plan, class_faults}
+use Rattle.flow_check.specs.Check.{IsFirstFault}
+use Rattle.flow_check.specs.Plans.{IsPlan}
+
+-- Arguments that break no rule are resolved.
+abbrev pub ArgumentsAreResolved : Type 0
+ArgumentsAreResolved =
+    (job : Job) (seen : List DefTree) (args : List ArgTree) → arguments_faults job seen args ≡ []
+    → IsSome (arguments_of job seen args)
+
+-- So are indices.
+abbrev pub IndicesAreResolved : Type 0
+IndicesAreResolved =
+    (job : Job) (seen : List DefTree) (args : List ArgTree) → indices_faults job seen args ≡ []
+    → IsSome (indices_of job seen args)
+
+-- So is an expression that may be left out.
+abbrev pub OptionIsResolved : Type 0
+OptionIsResolved =
+    (job : Job) (seen : List DefTree) (e : Option Expression) → option_faults job seen e ≡ []
+    → IsSome (option_term job seen e)
+
+-- So is the space of a class.
+abbrev pub SpaceIsResolved : Type 0
+SpaceIsResolved =
+    (job : Job) (params : List Word) (defs : List DefTree) → space_faults job params defs ≡ []
+    → IsSome (space_of job params defs)
+
+-- An element that breaks no rule is resolved.
+abbrev pub ElementIsResolved : Type 0
+ElementIsResolved =
+    (job : Job) (seen : List DefTree) (w : Word) (args : List ArgTree) → element_faults job seen w args ≡ []
+    → IsSome (element_of job seen w args)
+
+-- So is a flow.
+abbrev pub FlowIsResolved : Type 0
+FlowIsResolved =
+    (job : Job) (seen : List DefTree) (flow : FlowTree) → flow_faults job seen flow ≡ []
+    → IsSome (flow_plan job seen flow)
+
+-- A class that breaks no rule is resolved.
+abbrev pub ClassIsResolved : Type 0
+ClassIsResolved =
+    (job : Job) (class : ClassTree) (b : BodyResult) → class_faults job class b ≡ [] → IsSome (class_plan job class b)
+
+-- The body of each class within the limits is read: its tokens are a body, or have a first fault.
+abbrev pub EachBodyIsRead : Type 0
+EachBodyIsRead = (job : Job) (class : ClassTree) → IsClassWithinLimits class → (b : BodyResult) × ReadsBody job class b
+
+-- A JDF and its data have a plan or a first fault.
+abbrev pub HasPlanOrFault : Job → Type 0
+HasPlanOrFault job = ((p : Plan) × IsPlan job p) ⊎ ((f : JdfFault) × IsFirstFault job f)
+
+-- Each JDF within the limits, with data that are well made, has one of both.
+abbrev pub EachHasPlanOrFault : Type 0
+EachHasPlanOrFault = (job : Job) → IsWithinLimits job.jdf → well_data.IsWellMade job.given → HasPlanOrFault job

@@ -1,6 +1,0 @@
-use Rattle.jdf_read.proofs.Either.{tree_or_fault}
-use Rattle.jdf_read.proofs.Once.{not_both}
-use Rattle.jdf_read.proofs.laws.tree_or_fault.Goals as goal
-
-pub returns : goal.returns
-returns c = record { either = tree_or_fault; not_both = not_both }

@@ -1,0 +1,2 @@
+pub mod WellData
+pub mod Always

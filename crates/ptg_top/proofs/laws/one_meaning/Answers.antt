@@ -1,8 +1,0 @@
-use Rattle.ptg_top.proofs.Once.{one_meaning, one_output}
-use Rattle.ptg_top.proofs.laws.one_meaning.Goals as goal
-
-pub returns-clause-meaning : goal.returns-clause-meaning
-returns-clause-meaning c = one_meaning
-
-pub returns-clause-output : goal.returns-clause-output
-returns-clause-output c = one_output

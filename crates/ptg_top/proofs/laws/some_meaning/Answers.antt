@@ -1,8 +1,0 @@
-use Rattle.ptg_top.proofs.Always.{some_meaning, some_output}
-use Rattle.ptg_top.proofs.laws.some_meaning.Goals as goal
-
-pub returns-clause-meaning : goal.returns-clause-meaning
-returns-clause-meaning c = some_meaning c.words_give_one_order.ensures.some
-
-pub returns-clause-output : goal.returns-clause-output
-returns-clause-output c = some_output c.words_give_one_order.ensures.some

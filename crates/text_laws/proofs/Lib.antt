@@ -1,0 +1,7 @@
+pub mod Numbers
+pub mod Disjoint
+mod ClosingMarks
+mod Longest
+mod WrittenForms
+mod TokensOrFault
+pub mod TreeOrFault

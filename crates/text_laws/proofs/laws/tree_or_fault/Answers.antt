@@ -1,0 +1,6 @@
+use Rattle.text_laws.proofs.TreeOrFault.{tree_or_fault}
+use Rattle.jdf_read.proofs.Once.{not_both}
+use Rattle.text_laws.proofs.laws.tree_or_fault.Goals as goal
+
+pub returns : goal.returns
+returns c = record { either = tree_or_fault; not_both = not_both }

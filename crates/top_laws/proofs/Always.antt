@@ -1,0 +1,155 @@
+-- Arguments and files denote a verdict.
+use Rattle.std.proofs.Common.{◌≡◌, ℕ, List, Some, refl, sym, ◌∙◌, ap, subst, ◌⊎◌, inl, inr}
+use Rattle.std.specs.Prelude.{Option, None, if◌then◌else◌}
+use Rattle.ptg_io.specs.Files.{file_of}
+use Rattle.ptg_io.specs.Sink.{appended}
+use Rattle.ptg_words.specs.Laws.{OrderOrUsage}
+use Rattle.jdf_print.specs.Spelling.{spelling}
+use Rattle.flow_meaning.specs.Answer.{answer}
+use Rattle.text_laws.proofs.TreeOrFault.{tree_or_fault}
+use Rattle.job_stages.specs.declared.verdict.JobVerdict.TheVariants as jobs
+use Rattle.job_laws.proofs.Always.{texts_some}
+use Rattle.ptg_top.specs.declared.request.Request.{Request}
+use Rattle.ptg_top.specs.declared.request.Request.TheVariants.{Run, Show, Check, Demo, Trace, Replay, Certify, Ranks}
+use Rattle.ptg_top.specs.Denotation as verdicts
+use Rattle.ptg_top.specs.Denotation.{Denotation}
+use Rattle.ptg_top.specs.Requests.{Requests, request_of}
+use Rattle.job_gen.specs.Job.{data_text, jdf_text}
+use Rattle.ptg_top.specs.JobFiles.{Entries, ContentsDenote, JobTextsDenote}
+use Rattle.ptg_top.specs.Meaning.{ContentShows, IsNoOrder, RequestDenotes, Shows}
+use Rattle.ptg_top.specs.Headline.{text_of, status_of}
+use Rattle.top_laws.specs.Meanings.{SomeMeaning, SomeOutput}
+use Rattle.ptg_top.specs.Answering.{IsAnswer}
+use Rattle.coll_data.specs.Data.{Data}
+use Rattle.plan_core.specs.declared.plan.Plan.{Plan}
+use Rattle.dep_iter.specs.Consistent.{IsConsistent}
+use Rattle.chain_cert.specs.Weights.{class_weights}
+use Rattle.chain_exists.proofs.Existing.{some_certificate}
+use Rattle.ptg_top.specs.Certify.{IsCertified, certified}
+use Rattle.trace_core.specs.Text.{trace_text}
+use Rattle.trace_exists.proofs.Either.{fault_or_trace}
+use Rattle.trace_exists.proofs.Growing.{some_whole_order}
+use Rattle.ptg_top.specs.Trace.{IsTraced}
+use Rattle.ptg_top.specs.Replay.{IsReplayed}
+use Rattle.rank_core.specs.Sound.{message_count}
+use Rattle.ptg_top.specs.Ranks.{IsRanked}
+use Rattle.ptg_top.specs.Demo.{DemoDenotes, IsSummary, summed}
+use Rattle.ptg_top.specs.declared.verdict.Finding.TheVariants.{Answer, Order as TraceText, Ranked}
+use Rattle.run_pool.specs.declared.settings.Settings.{Settings}
+use Rattle.ptg_top.specs.Preload.{is_too_large}
+use Rattle.ptg_top.proofs.Answered.{some_on}
+use Rattle.ptg_top.proofs.Checked.{contents_consistent, fault_refuses}
+
+-- ---- what is asked
+
+asked_or_none : OrderOrUsage → (words : List (List ℕ)) → ((request : Request) × Requests words request) ⊎ IsNoOrder words
+asked_or_none either words = elim (either words) [
+  | inl o ↦ inl (request_of o.0, record { order = o.0; formed = o.1; asks = refl })
+  | inr usage ↦ inr (λ request asked. asked.formed.breaks_no_rule usage)
+]
+
+-- ---- what the files denote
+
+shows_some : (text : List ℕ) → (v : Denotation) × Shows text v
+shows_some text = elim (tree_or_fault text) [
+  | inl tree ↦ (verdicts.Spelling (spelling tree.0), inr (tree.0, tree.1, refl))
+  | inr w ↦ (verdicts.Job (jobs.Jdf w.0), inl (fault_refuses text w.0 w.1))
+]
+
+content_shows_some : (name : List ℕ) (content : Option (List ℕ)) → (v : Denotation) × ContentShows name content v
+content_shows_some name None = (verdicts.Unread name, refl)
+content_shows_some name (Some text) = shows_some text
+
+job_texts_some : (text data_text : List ℕ) → (v : Denotation) × JobTextsDenote text data_text v
+job_texts_some text data_text = let job = texts_some text data_text in (verdicts.Job job.0, (job.0, job.1, refl))
+
+contents_some : (jdf data_name : List ℕ) (a b : Option (List ℕ)) → (v : Denotation) × ContentsDenote jdf data_name a b v
+contents_some jdf data_name None b = (verdicts.Unread jdf, refl)
+contents_some jdf data_name (Some text) None = elim (tree_or_fault text) [
+  | inl tree ↦ (verdicts.Unread data_name, inr (tree.0, tree.1, refl))
+  | inr w ↦ (verdicts.Job (jobs.Jdf w.0), inl (fault_refuses text w.0 w.1))
+]
+contents_some jdf data_name (Some text) (Some data_text) = job_texts_some text data_text
+
+demo_some : (n : ℕ) → (v : Denotation) × DemoDenotes n v
+demo_some n =
+    let checked = job_texts_some jdf_text (data_text n) in
+    let found = some_on (IsSummary n) checked.0 (λ P given is. (verdicts.Ran P (summed n (answer P given)), refl)) in
+    (found.0, (checked.0, checked.1, found.1))
+
+certified_some : (P : Plan) (given : Data) → IsConsistent P → (v : Denotation) × IsCertified P given v
+certified_some P given con =
+    let ws = class_weights P given in
+    let c = some_certificate P given ws con in
+    (verdicts.Ran P (certified ws (answer P given) c.0), (c.0, c.1, refl))
+
+certify_some : (files : Entries) (jdf data_name : List ℕ) → (v : Denotation) × RequestDenotes files (Certify jdf data_name) v
+certify_some files jdf data_name =
+    let a = file_of files jdf in
+    let b = file_of files data_name in
+    let checked = contents_some jdf data_name a b in
+    let found = some_on IsCertified checked.0 (λ P given is. certified_some P given (contents_consistent jdf data_name a b P given (subst (ContentsDenote jdf data_name a b) is checked.1))) in
+    (found.0, (checked.0, checked.1, found.1))
+
+traced_some : (P : Plan) (given : Data) → IsConsistent P → (v : Denotation) × IsTraced P given v
+traced_some P given con =
+    let order = some_whole_order P given con in
+    (verdicts.Ran P (TraceText (trace_text P order.0)), (order.0, order.1, refl))
+
+trace_some : (files : Entries) (jdf data_name : List ℕ) (settings : Settings) → (v : Denotation) × RequestDenotes files (Trace jdf data_name settings) v
+trace_some files jdf data_name settings =
+    let a = file_of files jdf in
+    let b = file_of files data_name in
+    let checked = contents_some jdf data_name a b in
+    let found = some_on IsTraced checked.0 (λ P given is. traced_some P given (contents_consistent jdf data_name a b P given (subst (ContentsDenote jdf data_name a b) is checked.1))) in
+    (found.0, (checked.0, checked.1, found.1))
+
+replayed_some : (trace : List ℕ) (content : Option (List ℕ)) (P : Plan) (given : Data) → IsConsistent P → (v : Denotation) × IsReplayed trace content P given v
+replayed_some trace None P given con = (verdicts.Unread trace, refl)
+replayed_some trace (Some text) P given con = elim (fault_or_trace P given con text) [
+  | inl p ↦ (verdicts.Trace p.0, inl (p.0, p.1, refl))
+  | inr found ↦ (verdicts.Ran P (Answer (answer P given)), inr (found, refl))
+]
+
+replay_some : (files : Entries) (jdf data_name trace : List ℕ) → (v : Denotation) × RequestDenotes files (Replay jdf data_name trace) v
+replay_some files jdf data_name trace =
+    let a = file_of files jdf in
+    let b = file_of files data_name in
+    let content = file_of files trace in
+    let checked = contents_some jdf data_name a b in
+    let found = some_on (IsReplayed trace content) checked.0 (λ P given is. replayed_some trace content P given (contents_consistent jdf data_name a b P given (subst (ContentsDenote jdf data_name a b) is checked.1))) in
+    (found.0, (checked.0, checked.1, found.1))
+
+abbrev ranked : ℕ → Plan → Data → Denotation
+ranked r P given = verdicts.Ran P (Ranked (record { ranks = r; messages = message_count P given r; outcome = answer P given }))
+
+ranks_some : (files : Entries) (jdf data_name : List ℕ) (r seed : ℕ) → (v : Denotation) × RequestDenotes files (Ranks jdf data_name (record { ranks = r; seed = seed })) v
+ranks_some files jdf data_name r seed =
+    let checked = contents_some jdf data_name (file_of files jdf) (file_of files data_name) in
+    let found = some_on (IsRanked r) checked.0 (λ P given is. (ranked r P given, refl)) in
+    (found.0, (checked.0, checked.1, found.1))
+
+request_some : (files : Entries) (request : Request) → (v : Denotation) × RequestDenotes files request v
+request_some files (Run jdf data_name settings) = let checked = contents_some jdf data_name (file_of files jdf) (file_of files data_name) in
+    let found = some_on (IsAnswer settings) checked.0 (λ P given is. (if is_too_large settings P then verdicts.Preload else verdicts.Ran P (Answer (answer P given)), refl)) in
+    (found.0, (checked.0, checked.1, found.1))
+request_some files (Show jdf) = content_shows_some jdf (file_of files jdf)
+request_some files (Check jdf data_name) = contents_some jdf data_name (file_of files jdf) (file_of files data_name)
+request_some files (Demo rows) = demo_some rows
+request_some files (Trace jdf data_name settings) = trace_some files jdf data_name settings
+request_some files (Replay jdf data_name trace) = replay_some files jdf data_name trace
+request_some files (Certify jdf data_name) = certify_some files jdf data_name
+request_some files (Ranks jdf data_name settings) = ranks_some files jdf data_name settings.ranks settings.seed
+
+-- ---- arguments and files
+
+pub some_meaning : OrderOrUsage → SomeMeaning
+some_meaning either words files = elim (asked_or_none either words) [
+  | inl asked ↦ let found = request_some files asked.0 in (found.0, inr (asked.0, asked.1, found.1))
+  | inr none ↦ (verdicts.Usage, inl (none, refl))
+]
+
+pub some_output : OrderOrUsage → SomeOutput
+some_output either words files before =
+    let found = some_meaning either words files in
+    (appended before (text_of found.0), status_of found.0, record { verdict = found.0; denoted = found.1; text = refl; ends = refl })

@@ -1,0 +1,56 @@
+-- That arguments and files denote one verdict, so that one text is printed for them. Source: this project's own choice.
+use Rattle.std.specs.Prelude.{◌≡◌, ◌⊎◌, ℕ, List, Option}
+use Rattle.coll_data.specs.Data.{Data}
+use Rattle.plan_core.specs.declared.plan.Plan.{Plan}
+use Rattle.job_stages.specs.declared.verdict.JobVerdict.TheVariants as jobs
+use Rattle.ptg_top.specs.declared.request.Request.{Request}
+use Rattle.ptg_top.specs.declared.request.Request.TheVariants.{Trace}
+use Rattle.ptg_top.specs.declared.status.Status.{Status}
+use Rattle.ptg_top.specs.Denotation as verdicts
+use Rattle.ptg_top.specs.Denotation.{Denotation}
+use Rattle.ptg_top.specs.Headline.{Prints}
+use Rattle.ptg_top.specs.JobFiles.{Entries, FilesDenote}
+use Rattle.ptg_top.specs.Meaning.{Denotes}
+use Rattle.ptg_top.specs.Requests.{Requests}
+use Rattle.ptg_top.specs.Trace.{IsTraced}
+
+-- what is asked is no trace
+abbrev pub IsNoTrace : Request → Type 0
+IsNoTrace (Trace jdf data_name settings) = ⊥
+IsNoTrace request = Unit {0}
+
+-- the arguments ask for no trace
+abbrev pub AskForNoTrace : List (List ℕ) → Type 0
+AskForNoTrace words = (request : Request) → Requests words request → IsNoTrace request
+
+-- arguments that ask for no trace and files denote one verdict at most
+abbrev pub OneMeaning : Type 0
+OneMeaning =
+    (words : List (List ℕ)) (files : Entries) (v w : Denotation) → AskForNoTrace words → Denotes words files v
+    → Denotes words files w → v ≡ w
+
+-- two verdicts are texts of whole orders of one consistent job, which two of the files denote
+abbrev pub AreTracesOfOneJob : Entries → Denotation → Denotation → Type 0
+AreTracesOfOneJob files v w =
+    (jdf data_name : List ℕ) × (P : Plan) × (given : Data) × FilesDenote files jdf data_name (verdicts.Job (jobs.Consistent P given)) × IsTraced P given v × IsTraced P given w
+
+-- two verdicts that any arguments and files denote are the same, or traces of one job
+abbrev pub OneJob : Type 0
+OneJob =
+    (words : List (List ℕ)) (files : Entries) (v w : Denotation) → Denotes words files v → Denotes words files w
+    → (v ≡ w) ⊎ AreTracesOfOneJob files v w
+
+-- and they denote one, whatever they are
+abbrev pub SomeMeaning : Type 0
+SomeMeaning = (words : List (List ℕ)) (files : Entries) → (v : Denotation) × Denotes words files v
+
+-- arguments that ask for no trace and files determine what is printed, and the status
+abbrev pub OneOutput : Type 0
+OneOutput =
+    (words : List (List ℕ)) (files : Entries) (before after other : Option (List ℕ)) (status another : Status)
+    → AskForNoTrace words → Prints words files before after status → Prints words files before other another → (after ≡ other) × (status ≡ another)
+
+-- and whatever they are, something is printed for them, with a status
+abbrev pub SomeOutput : Type 0
+SomeOutput =
+    (words : List (List ℕ)) (files : Entries) (before : Option (List ℕ)) → (after : Option (List ℕ)) × (status : Status) × Prints words files before after status

@@ -1,0 +1,34 @@
+//! Laws of the meaning of a command.
+
+ghost use Rattle.top_laws.specs.Meanings.{OneJob, OneMeaning, OneOutput, SomeMeaning, SomeOutput};
+ghost use Rattle.top_laws.specs.Settings.{SeedsChangeNothing, ShardsChangeNothing, WorkersChangeNothing};
+
+use ptg_words::words_give_one_order;
+
+/// A law: arguments that ask for no trace and files denote one verdict at most, and so determine what is printed.
+pub fn one_meaning()
+    ensures meaning { OneMeaning }
+    ensures output { OneOutput }
+{}
+
+/// A law: two verdicts that arguments and files denote are the same, or texts of whole orders of one job.
+pub fn one_job()
+    ensures { OneJob }
+{}
+
+/// A law: all arguments and files denote a verdict, and so something is printed for them: no input is without a
+/// meaning.
+pub fn some_meaning()
+    ensures meaning { SomeMeaning }
+    ensures output { SomeOutput }
+{
+    words_give_one_order();
+}
+
+/// A law: the number of shards changes nothing in what arguments and files denote. Without a preload the number of
+/// workers does not either. The seed of ranks changes nothing.
+pub fn settings_change_nothing_else()
+    ensures shards { ShardsChangeNothing }
+    ensures workers { WorkersChangeNothing }
+    ensures seeds { SeedsChangeNothing }
+{}
