@@ -2,4 +2,3 @@ pub mod Units
 pub mod Turns
 pub mod TurnSteps
 pub mod Blocks
-pub mod MoreUnits

@@ -2,6 +2,5 @@ pub mod Element
 pub mod Sizes
 pub mod State
 pub mod Meaning
-pub mod MoreUnits
 pub mod Statement
 pub mod WellStatement

@@ -2,12 +2,10 @@
 #![tactic(auto)]
 
 mod element;
-mod laws;
 mod run;
 mod scratch;
 mod well;
 
-pub use laws::more_units_change_nothing;
 pub use run::run_body;
 pub use scratch::Scratch;
 pub use well::is_well_body;

@@ -8,3 +8,4 @@ pub mod Agreeing
 pub mod Nesting
 pub mod Fronts
 pub mod Renaming
+pub mod MoreUnits

@@ -1,3 +1,4 @@
 pub mod Declarations
 pub mod Renaming
 pub mod Laws
+pub mod MoreUnits

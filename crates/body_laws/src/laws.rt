@@ -1,6 +1,9 @@
 //! What follows from the definitions of bodies and of the names in them.
 
+ghost use Rattle.std.specs.Prelude.{ℕ, ℤ, List, Option};
+ghost use Rattle.term_core.specs.declared.body.Body.{Body};
 ghost use Rattle.body_laws.specs.Laws.{NameNeverTooMany, SlotForEach, TokensAgreeWithTree, FrontsAgreeWithTree, OnlyTheNextCounts};
+ghost use Rattle.body_laws.specs.MoreUnits.{DoesTheSame};
 ghost use Rattle.body_laws.specs.Renaming.{DeclaredSame, LoopedSame};
 
 /// A law: giving a variable another name, which occurs nowhere else, changes nothing in the body that is read.
@@ -25,4 +28,10 @@ pub fn names_agree()
     ensures whole { TokensAgreeWithTree }
     ensures front { FrontsAgreeWithTree }
     ensures next { OnlyTheNextCounts }
+{}
+
+/// A law: a body does within a larger budget what it does within a smaller one, unless the smaller one ran out.
+pub fn more_units_change_nothing()
+    ensures { (units more : ℕ) (body : Body) (locals : List ℤ) (tiles : List (Option (List ℤ)))
+        → DoesTheSame units more body locals tiles }
 {}

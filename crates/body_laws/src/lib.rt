@@ -1,10 +1,10 @@
-//! Laws of bodies that no program cites: a variable's name does not matter, and the names of a broken text are judged
-//! as in a tree.
+//! Laws of bodies that no program cites: a variable's name does not matter, the names of a broken text are judged as in
+//! a tree, and a larger budget changes nothing.
 #![tactic(auto)]
 
 mod laws;
 
 pub use laws::{
-    a_slot_for_each_variable, another_name_changes_nothing, names_agree,
+    a_slot_for_each_variable, another_name_changes_nothing, more_units_change_nothing, names_agree,
     variables_are_counted_in_the_text,
 };

@@ -1,10 +1,12 @@
-//! A law of claims and of what a table holds.
+//! Laws of the event machine: of claims and of what a table holds, and of the states that are reached.
 
 ghost use Rattle.std.specs.Prelude.{◌≡◌, ◌≢◌, None, Some};
 ghost use Rattle.ptg_base.specs.Task.{Task};
 ghost use Rattle.plan_core.specs.declared.plan.Plan.{Plan};
 ghost use Rattle.coll_data.specs.Data.{Data};
+ghost use Rattle.dep_iter.specs.Consistent.{IsConsistent};
 ghost use Rattle.flow_meaning.specs.Machine.{Claim, MachineState, MayClaim, state_after};
+ghost use Rattle.flow_meaning.specs.Sound.{IsReached, IsSoundState};
 ghost use Rattle.flow_meaning.specs.Table.{entry_of, table_entry, waiting_rows, written};
 
 /// A law: a task that may be claimed has an entry in the table; a claim takes the entry of its task and leaves every
@@ -20,4 +22,9 @@ pub fn a_claim_takes_its_own_entry()
         → waiting_rows P (state_after P G S (Claim t)) ≡ waiting_rows P S }
     ensures writes { (P : Plan) (G : Data) (S : MachineState) (t : Task)
         → written (state_after P G S (Claim t)) ≡ written S }
+{}
+
+/// A law: every sound state is reached by some list of events, up to the order of its two lists.
+pub fn sound_states_are_reached()
+    ensures { (P : Plan) (G : Data) (S : MachineState) → IsConsistent P → IsSoundState P G S → IsReached P G S }
 {}

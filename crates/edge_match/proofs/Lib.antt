@@ -5,4 +5,3 @@ pub mod Added
 pub mod Holding
 pub mod Consistency
 pub mod OneFault
-pub mod Named

@@ -21,3 +21,4 @@ pub use laws::{
     all_edges_and_items_are_counted,
 };
 pub use matching::match_edges;
+pub use phase::Phase;

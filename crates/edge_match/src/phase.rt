@@ -2,7 +2,7 @@
 
 /// In which phase a task is checked.
 #[derive(Clone, Copy, Debug, PartialEq, Eq)]
-pub(crate) enum Phase {
+pub enum Phase {
     /// Whether what the task needs and names exists.
     Connecting,
     /// Whether its edges match those at their other ends.

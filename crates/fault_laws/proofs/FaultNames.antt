@@ -19,7 +19,7 @@ use Rattle.dep_iter.specs.Tasks.{IsTask, task}
 use Rattle.edge_match.specs.declared.fault.MatchFault.{MatchFault}
 use Rattle.edge_match.specs.Faults.{space_fault}
 use Rattle.edge_match.specs.FirstFault.{IsFirstFault, IsTaskFault}
-use Rattle.edge_match.proofs.Named.{names_task}
+use Rattle.fault_laws.proofs.Named.{names_task}
 
 -- a visit of this class, with fewer values than so many where a definition has none
 abbrev pub IsVisitOf : ℕ → ℕ → Visit → Type 0

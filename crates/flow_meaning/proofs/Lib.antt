@@ -7,7 +7,6 @@ pub mod Events
 pub mod Orders
 pub mod Quiet
 pub mod Reordering
-pub mod Reached
 pub mod Rest
 pub mod Shapes
 pub mod Sizes

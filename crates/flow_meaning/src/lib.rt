@@ -12,7 +12,6 @@ pub use laws::{
 pub use machine::{
     a_quiescent_state_has_the_meaning, an_edge_arrives_at_its_target, claims_are_a_legal_order,
     events_keep_states_sound, nothing_is_undone, order_does_not_matter,
-    quiescent_states_are_at_rest, sound_states_are_reached, tasks_have_their_inputs,
-    the_same_members_are_the_same_counts,
+    quiescent_states_are_at_rest, tasks_have_their_inputs, the_same_members_are_the_same_counts,
 };
 pub use outcome::{Outcome, TrapRow, WaitRow};

@@ -19,7 +19,7 @@ ghost use Rattle.flow_meaning.specs.Ending.{has_outputs, output_tile};
 ghost use Rattle.flow_meaning.specs.Backward.{ended, inputs};
 ghost use Rattle.flow_meaning.specs.Answer.{answer, ran, trapped, waiting};
 ghost use Rattle.flow_meaning.specs.Machine.{Event, MaySend, Send, arrived, Happen, IsLater, IsPossible, IsQuiescent, MachineState, state_after, end_in, is_sent, opening_state, Sent, same_sent, sender, sent_tile};
-ghost use Rattle.flow_meaning.specs.Sound.{IsAtRest, HasAllArrived, IsReached, IsReordered, IsSoundState};
+ghost use Rattle.flow_meaning.specs.Sound.{IsAtRest, HasAllArrived, IsReordered, IsSoundState};
 ghost use Rattle.flow_meaning.specs.StateAnswer.{state_answer, state_traps};
 ghost use Rattle.flow_meaning.specs.Table.{table_entry, waiting_rows};
 ghost use Rattle.flow_meaning.specs.Order.{IsLegalOrder};
@@ -32,11 +32,6 @@ pub fn events_keep_states_sound()
         → IsPossible P G S e → IsSoundState P G (state_after P G S e) }
     ensures events { (P : Plan) (G : Data) (es : List Event) (S T : MachineState) → IsConsistent P → IsSoundState P G S
         → Happen P G es S T → IsSoundState P G T }
-{}
-
-/// A law: every sound state is reached by some list of events, up to the order of its two lists.
-pub fn sound_states_are_reached()
-    ensures { (P : Plan) (G : Data) (S : MachineState) → IsConsistent P → IsSoundState P G S → IsReached P G S }
 {}
 
 /// A law: nothing that has happened is undone.
