@@ -5,7 +5,8 @@ ghost use Rattle.chain_cert.specs.Checking.{AreWeights};
 
 use crate::edits::{Edit, edited};
 use crate::names::add_task;
-use chain_cert::{Certificate, certify, check_chain, check_cycle, weights};
+use cert_check::{check_chain, check_cycle};
+use chain_cert::{Certificate, certify, weights};
 use coll_data::Given;
 use dep_iter::Matched;
 use flow_core::run_one;

@@ -1,28 +1,23 @@
--- The checkers accept every certificate.
+-- The printed chain with the levels of all tasks is shown to be heaviest.
 use Rattle.std.proofs.Common.{◌≡◌, ℕ, ◌+◌, ◌≤◌, List, [], ◌∷◌, reverse, refl, ap, sym, ◌∙◌, subst, inl, inr, arith}
 use Rattle.std.proofs.lemmas.List.{append-nil}
 use Rattle.ptg_base.specs.Lists.{IsIn}
 use Rattle.ptg_base.specs.Task.{Task}
 use Rattle.plan_core.specs.declared.plan.Plan.{Plan}
-use Rattle.coll_data.specs.Data.{Data}
 use Rattle.dep_iter.specs.Tasks.{IsTask, all_tasks}
 use Rattle.dep_iter.specs.Consistent.{IsConsistent}
 use Rattle.dep_iter.proofs.Listing.{listed}
-use Rattle.flow_meaning.specs.Answer.{ran}
-use Rattle.chain_cert.specs.declared.certificate.Certificate.{Certificate}
-use Rattle.chain_cert.specs.declared.certificate.Certificate.TheVariants.{Chain, Cycle, Trapped}
-use Rattle.chain_cert.specs.Certificates.{AreLevels, IsCertificate}
+use Rattle.chain_cert.specs.Certificates.{AreLevels}
 use Rattle.chain_cert.specs.Chains.{IsChain}
 use Rattle.chain_cert.specs.Checked.{ShowsHeaviest, greatest_level}
 use Rattle.chain_cert.specs.Checking.{tasks_of}
-use Rattle.chain_cert.specs.Finding.{IsAccepted}
 use Rattle.chain_cert.specs.Levels.{IsLevel}
 use Rattle.chain_cert.specs.Printed.{IsChainBack, IsPrintedChain, IsTracedBack}
 use Rattle.chain_cert.specs.Weights.{chain_weight, weight}
 use Rattle.chain_cert.proofs.TableLevels.{longer}
 use Rattle.chain_cert.proofs.Potentials.{at_most_greatest, row_of}
 use Rattle.chain_cert.proofs.TaskSorting.{order_task}
-use Rattle.chain_cert.proofs.Turning.{printed_is_cycle, source_task, turned, turned_is}
+use Rattle.chain_cert.proofs.Turning.{source_task, turned, turned_is}
 use Rattle.chain_cert.proofs.Unique.{level_one}
 
 -- a chain that is traced back weighs the level of its end, and is a chain
@@ -84,8 +79,3 @@ module _ (P : Plan) (con : IsConsistent P) (ws : List ℕ) where
 
       task_of : (t : Task) (n : ℕ) → IsIn (t, n) levels → IsTask P t
       task_of t n i = (order_task P levels a.tasks t).0 (in_rows levels t n i)
-
-pub accepted : (P : Plan) (G : Data) (ws : List ℕ) (c : Certificate) → IsConsistent P → IsCertificate P G ws c → IsAccepted P ws c
-accepted P G ws (Chain c l) con a = shows_heaviest P con ws c l a.2 a.3
-accepted P G ws (Cycle c) con a = printed_is_cycle P con (ran P G) c a.1
-accepted P G ws Trapped con a = tt

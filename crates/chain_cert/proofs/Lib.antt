@@ -1,7 +1,6 @@
-pub mod Walks
 pub mod Linking
 pub mod TaskSorting
-pub mod Lookups
+pub mod Prefixes
 pub mod Potentials
 pub mod Turning
 pub mod Unique

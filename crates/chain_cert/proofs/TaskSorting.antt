@@ -1,5 +1,5 @@
 -- Tasks in task order.
-use Rattle.std.proofs.Common.{◌≡◌, ℕ, suc, ◌≤◌, ◌↔◌, Bool, true, false, cond, List, [], ◌∷◌, length, refl, ap, sym, ◌∙◌, subst, inl, inr, IsTrue, arith}
+use Rattle.std.proofs.Common.{◌≡◌, ℕ, ◌↔◌, true, false, cond, List, [], ◌∷◌, refl, ap, sym, ◌∙◌, subst, inl, inr}
 use Rattle.std.proofs.lemmas.Bool.{false≢true}
 use Rattle.std.specs.declared.cmp.Ordering.{Ordering}
 use Rattle.std.specs.declared.cmp.Ordering.TheVariants.{Less, Equal, Greater}
@@ -11,12 +11,11 @@ use Rattle.ptg_base.specs.TaskLaws.{task_cmp-compares}
 use Rattle.plan_core.specs.declared.plan.Plan.{Plan}
 use Rattle.list_lemmas.proofs.Truth.{by_test}
 use Rattle.list_lemmas.proofs.Tasks.{distinct_once, before_trans}
-use Rattle.list_lemmas.proofs.Distinct.{onto}
 use Rattle.dep_iter.specs.Tasks.{IsTask, all_tasks}
 use Rattle.dep_iter.proofs.Listing.{listed}
 use Rattle.flow_meaning.proofs.Once.{tasks_once}
 use Rattle.chain_cert.specs.Certificates.{HasTasksInOrder, tasks_in_order}
-use Rattle.chain_cert.specs.Checking.{AreInPlace, IsBeforeFirst, IsRising, tasks_of}
+use Rattle.chain_cert.specs.Checking.{IsRising, tasks_of}
 
 -- of two tasks one is before the other, or they are the same
 pub data IsOrdered (a b : Task) : Type 0 where
@@ -39,10 +38,10 @@ pub not_itself : (a : Task) → task_before a a ≡ true → ⊥
 not_itself a h = not_both a a h h
 
 -- what is inserted is a member, and so are those that were
-past : (t u : Task) (us : List Task) → task_before u t ≡ true → insert_by (λ (v : Task). v) t (u ∷ us) ≡ u ∷ insert_by (λ (v : Task). v) t us
+pub past : (t u : Task) (us : List Task) → task_before u t ≡ true → insert_by (λ (v : Task). v) t (u ∷ us) ≡ u ∷ insert_by (λ (v : Task). v) t us
 past t u us h = ap (λ b. cond b (u ∷ insert_by (λ (v : Task). v) t us) (t ∷ u ∷ us)) h
 
-here : (t u : Task) (us : List Task) → task_before u t ≡ false → insert_by (λ (v : Task). v) t (u ∷ us) ≡ t ∷ u ∷ us
+pub here : (t u : Task) (us : List Task) → task_before u t ≡ false → insert_by (λ (v : Task). v) t (u ∷ us) ≡ t ∷ u ∷ us
 here t u us h = ap (λ b. cond b (u ∷ insert_by (λ (v : Task). v) t us) (t ∷ u ∷ us)) h
 
 in_insert : (x t : Task) (us : List Task) → IsIn x (insert_by (λ (v : Task). v) t us) ↔ IsIn x (t ∷ us)
@@ -65,17 +64,6 @@ in_order x (t ∷ ts) =
       λ i. elim (put.0 i) [ inl q ↦ inl q | inr later ↦ inr (rest.0 later) ],
       λ i. put.1 (elim i [ inl q ↦ inl q | inr later ↦ inr (rest.1 later) ]),
     )
-
-length_insert : (t : Task) (us : List Task) → length (insert_by (λ (v : Task). v) t us) ≡ suc (length us)
-length_insert t [] = refl
-length_insert t (u ∷ us) =
-    by_test (task_before u t)
-    (λ h. ap length (past t u us h) ∙ ap suc (length_insert t us))
-    (λ h. ap length (here t u us h))
-
-pub length_order : (ts : List Task) → length (in_task_order (λ t. t) ts) ≡ length ts
-length_order [] = refl
-length_order (t ∷ ts) = length_insert t (in_task_order (λ u. u) ts) ∙ ap suc (length_order ts)
 
 rising_insert : (t : Task) (us : List Task) → (IsIn t us → ⊥) → IsRising us → IsRising (insert_by (λ (v : Task). v) t us)
 rising_insert t [] new up = (λ u i. absurd i, tt)
@@ -102,10 +90,6 @@ pub rising_order : (ts : List Task) → HasNoRepeats ts → IsRising (in_task_or
 rising_order [] once = tt
 rising_order (t ∷ ts) once = rising_insert t (in_task_order (λ u. u) ts) (λ i. once.0 ((in_order t ts).0 i)) (rising_order ts once.1)
 
-pub rising_once : (ts : List Task) → IsRising ts → HasNoRepeats ts
-rising_once [] up = tt
-rising_once (t ∷ ts) up = (λ i. not_itself t (up.0 t i), rising_once ts up.1)
-
 -- rising lists with the same members are one
 pub one_rising : (ts us : List Task) → IsRising ts → IsRising us → ((x : Task) → IsIn x ts ↔ IsIn x us) → ts ≡ us
 one_rising [] [] up also same = refl
@@ -125,29 +109,6 @@ one_rising (t ∷ ts) (u ∷ us) up also same =
     ) in
     ap (λ v. v ∷ ts) heads ∙ ap (λ l. u ∷ l) (one_rising ts us up.1 also.1 rest)
 
-length_tasks : (rows : List (Task × ℕ)) → length (tasks_of rows) ≡ length rows
-length_tasks [] = refl
-length_tasks (row ∷ rows) = ap suc (length_tasks rows)
-
-pub place_rising : (P : Plan) (ts : List Task) → AreInPlace P ts → IsRising ts
-place_rising P [] h = tt
-place_rising P (t ∷ []) h = (λ u i. absurd i, tt)
-place_rising P (t ∷ u ∷ us) h =
-    let rest = place_rising P (u ∷ us) h.1 in
-    (λ v i. elim i [ inl e ↦ subst (λ w. task_before t w ≡ true) (sym e) h.0.1 | inr later ↦ before_trans t u v h.0.1 (rest.0 v later) ], rest)
-
-pub place_task : (P : Plan) (ts : List Task) → AreInPlace P ts → (t : Task) → IsIn t ts → IsTask P t
-place_task P [] h t i = absurd i
-place_task P (u ∷ us) h t i = elim i [ inl e ↦ subst (IsTask P) (sym e) h.0.0 | inr later ↦ place_task P us h.1 t later ]
-
-before_first : (t : Task) (ts : List Task) → ((u : Task) → IsIn u ts → task_before t u ≡ true) → IsBeforeFirst t ts
-before_first t [] h = tt
-before_first t (u ∷ us) h = h u (inl refl)
-
-in_place : (P : Plan) (ts : List Task) → IsRising ts → ((t : Task) → IsIn t ts → IsTask P t) → AreInPlace P ts
-in_place P [] up job = tt
-in_place P (t ∷ ts) up job = ((job t (inl refl), before_first t ts up.0), in_place P ts up.1 (λ u i. job u (inr i)))
-
 module _ (P : Plan) where
   pub all_once : HasNoRepeats (all_tasks P)
   all_once = distinct_once (all_tasks P) (tasks_once P)
@@ -157,31 +118,6 @@ module _ (P : Plan) where
 
   pub sorted_rising : IsRising (tasks_in_order P)
   sorted_rising = rising_order (all_tasks P) all_once
-
-  -- as many rows as tasks, in place, are all tasks in their order
-  pub has_order : (rows : List (Task × ℕ)) → length rows ≡ length (all_tasks P) → (b : Bool) → IsTrue b ↔ AreInPlace P (tasks_of rows) → IsTrue b ↔ HasTasksInOrder P rows
-  has_order rows many b h = (
-    λ e.
-        let placed = h.0 e in
-        let up = place_rising P (tasks_of rows) placed in
-        let few : length (all_tasks P) ≤ length (tasks_of rows) = omega (arith, many, length_tasks rows) in
-        let within : (t : Task) → IsIn t (tasks_of rows) → IsIn t (all_tasks P) = λ t i. (listed P t).0 (place_task P (tasks_of rows) placed t i) in
-        one_rising (tasks_of rows) (tasks_in_order P) up sorted_rising (λ t. (
-          λ i. (sorted_task t).1 (place_task P (tasks_of rows) placed t i),
-          λ i. onto (tasks_of rows) (all_tasks P) (rising_once (tasks_of rows) up) within few t ((in_order t (all_tasks P)).0 i),
-        )),
-    λ q. h.1 (subst (AreInPlace P) (sym q) (in_place P (tasks_in_order P) sorted_rising (λ t i. (sorted_task t).0 i))),
-  )
-
-  -- other lists have not all tasks
-  pub wrong_length : (rows : List (Task × ℕ)) → (length rows ≡ length (all_tasks P) → ⊥) → IsTrue false ↔ HasTasksInOrder P rows
-  wrong_length rows other = (
-    λ e. absurd (false≢true e),
-    λ q. absurd (other (sym (length_tasks rows) ∙ ap length q ∙ length_order (all_tasks P))),
-  )
-
-  pub order_rising : (rows : List (Task × ℕ)) → HasTasksInOrder P rows → IsRising (tasks_of rows)
-  order_rising rows q = subst IsRising (sym q) sorted_rising
 
   pub order_task : (rows : List (Task × ℕ)) → HasTasksInOrder P rows → (t : Task) → IsIn t (tasks_of rows) ↔ IsTask P t
   order_task rows q t = (λ i. (sorted_task t).0 (subst (IsIn t) q i), λ job. subst (IsIn t) (sym q) ((sorted_task t).1 job))

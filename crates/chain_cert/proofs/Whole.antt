@@ -1,5 +1,5 @@
 -- A legal order of all tasks: the job has no cycle, and the rows of the levels are in task order.
-use Rattle.std.proofs.Common.{◌≡◌, ℕ, zero, suc, ◌<◌, ◌≤◌, ◌↔◌, List, [], ◌∷◌, ◌++◌, length, take, slice_index_or, refl, ap, sym, ◌∙◌, subst, inl, inr, Option, Some, None, IsSomeAnd, arith}
+use Rattle.std.proofs.Common.{◌≡◌, ℕ, ◌<◌, ◌≤◌, List, [], ◌∷◌, ◌++◌, length, take, slice_index_or, refl, ap, sym, ◌∙◌, subst, inl, inr, Option, Some, None, IsSomeAnd, arith}
 use Rattle.std.specs.Map.{lookup}
 use Rattle.std.proofs.lemmas.List.{length-take}
 use Rattle.ptg_base.specs.Lists.{HasNoRepeats, IsIn}
@@ -8,27 +8,24 @@ use Rattle.ptg_base.specs.TaskOrder.{in_task_order}
 use Rattle.ptg_base.specs.TaskComparing.{same_task}
 use Rattle.ptg_base.specs.declared.edge.Edge.{Edge}
 use Rattle.plan_core.specs.declared.plan.Plan.{Plan}
-use Rattle.list_lemmas.proofs.Members.{IsIn-map, from_append, from_map}
+use Rattle.list_lemmas.proofs.Members.{from_append, from_map}
 use Rattle.list_lemmas.proofs.Distinct.{no_longer, onto}
-use Rattle.list_lemmas.proofs.Tasks.{member_or_not, once_each}
+use Rattle.list_lemmas.proofs.Tasks.{once_each}
 use Rattle.dep_iter.specs.Tasks.{IsTask, all_tasks}
 use Rattle.dep_iter.specs.Edges.{in_edges}
 use Rattle.dep_iter.specs.Consistent.{IsConsistent}
 use Rattle.dep_iter.proofs.Listing.{listed}
 use Rattle.flow_meaning.specs.Order.{IsLegalAfter, IsLegalOrder}
 use Rattle.run_answer.specs.Rows.{AreOfDifferentTasks}
-use Rattle.task_order.specs.Greatest.{IsGreatestOrder}
-use Rattle.task_order.proofs.Orders.{from_outside, legal_once, legal_tasks}
+use Rattle.task_order.proofs.Orders.{legal_once, legal_tasks}
 use Rattle.chain_cert.specs.Certificates.{AreLevels, tasks_in_order}
-use Rattle.chain_cert.specs.Chains.{HasNoCycle, IsCycle, IsSourceOf}
+use Rattle.chain_cert.specs.Chains.{HasNoCycle, IsCycle}
 use Rattle.chain_cert.specs.Checking.{tasks_of}
 use Rattle.chain_cert.specs.Finding.{HasAllLevels, HasLevels, IsLevelAmong, IsNextTask, level_in, rows_by}
 use Rattle.chain_cert.specs.Levels.{IsLevel}
-use Rattle.chain_cert.proofs.Completeness.{long_walk}
 use Rattle.chain_cert.proofs.TableLevels.{follows_at, found}
 use Rattle.chain_cert.proofs.Linking.{chain_task, cycle_source}
-use Rattle.chain_cert.proofs.TaskSorting.{all_once, in_order, one_rising, rising_order, sorted_rising, sorted_task}
-use Rattle.chain_cert.proofs.Turning.{IsBackFrom, source_task}
+use Rattle.chain_cert.proofs.TaskSorting.{in_order, one_rising, rising_order, sorted_rising, sorted_task}
 
 -- a legal order has no task of a cycle
 none_of_cycle : (P : Plan) (before ts c : List Task) → IsLegalAfter P before ts → IsCycle P c → ((t : Task) → IsIn t before → IsIn t c → ⊥) → (t : Task) → IsIn t ts → IsIn t c → ⊥
@@ -105,35 +102,3 @@ module _ (P : Plan) (order : List Task) (legal : IsLegalOrder P order) where
             let level : n ≡ level_in table p.0 = ap (λ (r : Task × ℕ). r.1) p.2 in
             subst (IsLevel P ws t) (sym level) (subst (λ u. IsLevel P ws u (level_in table p.0)) (sym task) (found P ws order table h p.0 ((in_order p.0 order).0 p.1)));
       }
-
--- a greatest legal order has all tasks exactly where there is no cycle
-module _ (P : Plan) (con : IsConsistent P) (order : List Task) (g : IsGreatestOrder P order) where
-  source_outside : (t : Task) → IsTask P t → (IsIn t order → ⊥) → (s : Task) × IsSourceOf P s t × (IsIn s order → ⊥)
-  source_outside t job out =
-      let p = from_outside P order g t job out in
-      (p.0.from, IsIn-map (λ (e : Edge). e.from) (in_edges P t) p.0 p.1, p.2)
-
-  walk_outside : (n : ℕ) (t : Task) → IsTask P t → (IsIn t order → ⊥) → (ss : List Task) × (length ss ≡ n) × IsBackFrom P con t ss
-  walk_outside zero t job out = ([], refl, tt)
-  walk_outside (suc n) t job out =
-      let p = source_outside t job out in
-      let q = walk_outside n p.0 (source_task P con p.0 t job p.1) p.2 in
-      (p.0 ∷ q.0, ap suc q.1, (p.1, q.2))
-
-  all_inside : HasNoCycle P → (t : Task) → IsTask P t → IsIn t order
-  all_inside none t job = elim (member_or_not t order) [
-    | inl i ↦ i
-    | inr out ↦
-        let q = walk_outside (length (all_tasks P)) t job out in
-        let p = long_walk P con t q.0 job q.2 (omega (arith, q.1)) in
-        absurd (none p.0 p.1)
-  ]
-
-  pub all_without_cycle : (length order ≡ length (all_tasks P)) ↔ HasNoCycle P
-  all_without_cycle = (
-    λ e. no_cycle P order g.legal (omega (arith, e)),
-    λ none.
-        let few = order_at_most P order g.legal in
-        let many = no_longer (all_tasks P) order (all_once P) (λ t i. all_inside none t ((listed P t).1 i)) in
-        omega (arith, few, many),
-  )

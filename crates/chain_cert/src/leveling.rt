@@ -9,7 +9,7 @@ ghost use Rattle.chain_cert.specs.Checking.{AreWeights};
 ghost use Rattle.chain_cert.specs.Finding as finding;
 ghost use Rattle.chain_cert.specs.Finding.{HasLevels, IsNextTask};
 
-use crate::levels::weight_of;
+use crate::tasks::weight_of;
 use dep_iter::{Matched, in_edges};
 use indexmap::IndexMap;
 use plan_core::Plan;

@@ -14,7 +14,7 @@ ghost use Rattle.chain_cert.specs.Printed.{HasGreatestLevel, IsHeaviestSource, I
 ghost use Rattle.chain_cert.specs.Weights as weighing;
 
 use crate::leveling::level_in;
-use crate::levels::{is_before, weight_of};
+use crate::tasks::{is_before, weight_of};
 use dep_iter::{Matched, in_edges};
 use indexmap::IndexMap;
 use plan_core::Plan;

@@ -1,7 +1,7 @@
 //! Checks of certificates of given sizes. The lists are written down, not made by a run.
 use crate::count::{Count, Failure};
 use crate::jobs::{line, ring};
-use chain_cert::{check_chain, check_cycle};
+use cert_check::{check_chain, check_cycle};
 use dep_iter::Matched;
 use edge_match::{MatchRefusal, match_edges};
 use plan_core::Plan;

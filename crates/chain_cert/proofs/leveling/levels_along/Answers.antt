@@ -1,7 +1,7 @@
 use Rattle.std.proofs.Common.{◌≤◌, [], length, take, sym, subst, arith}
 use Rattle.std.proofs.lemmas.List.{take_all}
 use Rattle.chain_cert.specs.Finding.{HasLevels}
-use Rattle.chain_cert.proofs.Lookups.{take_next}
+use Rattle.chain_cert.proofs.Prefixes.{take_next}
 use Rattle.chain_cert.proofs.TableLevels.{none_noted}
 use Rattle.chain_cert.proofs.Whole.{next_task}
 use Rattle.chain_cert.proofs.leveling.levels_along.Goals as goal

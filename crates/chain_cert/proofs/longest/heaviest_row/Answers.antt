@@ -1,7 +1,7 @@
 use Rattle.std.proofs.Common.{◌≤◌, length, take, sym, subst, arith}
 use Rattle.std.proofs.lemmas.List.{take_all}
 use Rattle.chain_cert.specs.Finding.{IsHeaviestRow}
-use Rattle.chain_cert.proofs.Lookups.{take_next}
+use Rattle.chain_cert.proofs.Prefixes.{take_next}
 use Rattle.chain_cert.proofs.longest.heaviest_row.Goals as goal
 
 pub loop-row-preserved : goal.loop-row-preserved

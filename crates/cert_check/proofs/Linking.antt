@@ -1,0 +1,95 @@
+-- What the checkers find of chains and cycles.
+use Rattle.std.proofs.Common.{◌≡◌, ◌↔◌, Bool, true, false, List, [], ◌∷◌, ◌++◌, length, refl, ap, sym, ◌∙◌, subst, inl, inr, IsTrue, arith}
+use Rattle.std.proofs.lemmas.Bool.{false≢true}
+use Rattle.std.specs.Prelude.{◌||◌}
+use Rattle.std.specs.List.{list_any}
+use Rattle.ptg_base.specs.Lists.{HasNoRepeats, IsIn}
+use Rattle.ptg_base.specs.Task.{Task}
+use Rattle.ptg_base.specs.TaskComparing.{same_task}
+use Rattle.ptg_base.specs.TaskLaws.{same_task-decides}
+use Rattle.plan_core.specs.declared.plan.Plan.{Plan}
+use Rattle.list_lemmas.proofs.Truth.{by_test}
+use Rattle.dep_iter.specs.Tasks.{IsTask}
+use Rattle.chain_cert.specs.Chains.{BeginsWith, IsChain, IsCycle, IsSourceOf}
+use Rattle.cert_check.specs.Checking.{IsLinked}
+use Rattle.chain_cert.proofs.Linking.{chain_task}
+
+-- a chain, from its first task and the others
+pub linked_then : (P : Plan) (t : Task) (ts : List Task) → IsLinked P (t ∷ ts) → IsChain P ts → IsChain P (t ∷ ts)
+linked_then P t [] l c = (l.0, tt, tt)
+linked_then P t (u ∷ us) l c = (l.0, l.1.1, c)
+
+pub then_linked : (P : Plan) (t : Task) (ts : List Task) → IsChain P (t ∷ ts) → IsLinked P (t ∷ ts) × IsChain P ts
+then_linked P t [] c = ((c.0, tt), tt)
+then_linked P t (u ∷ us) c = ((c.0, (c.2.0, c.1)), c.2)
+
+-- the first of a list comes again
+abbrev pub ComesAgain : List Task → Type 0
+ComesAgain xs = (t : Task) × (ts : List Task) × (xs ≡ t ∷ ts) × IsIn t ts
+
+pub once_split : (x : Task) (xs : List Task) → HasNoRepeats (x ∷ xs) → (ComesAgain (x ∷ xs) → ⊥) × HasNoRepeats xs
+once_split x xs h = (λ w. let moved : HasNoRepeats (w.0 ∷ w.1) = subst HasNoRepeats w.2 h in moved.0 w.3, h.1)
+
+pub once_join : (x : Task) (xs : List Task) → (ComesAgain (x ∷ xs) → ⊥) → HasNoRepeats xs → HasNoRepeats (x ∷ xs)
+once_join x xs new h = (λ i. new (x, xs, refl, i), h)
+
+-- the last of a list is one
+pub same_last : (xs ys : List Task) (x y : Task) → xs ++ x ∷ [] ≡ ys ++ y ∷ [] → x ≡ y
+same_last [] [] x y e = cc
+same_last [] (z ∷ []) x y e = absurd cc
+same_last [] (z ∷ w ∷ ys) x y e = absurd cc
+same_last (z ∷ []) [] x y e = absurd cc
+same_last (z ∷ w ∷ xs) [] x y e = absurd cc
+same_last (z ∷ xs) (w ∷ ys) x y e = let rest : xs ++ x ∷ [] ≡ ys ++ y ∷ [] = cc in same_last xs ys x y rest
+
+pub same_first : (x y : Task) (xs ys : List Task) → x ∷ xs ≡ y ∷ ys → x ≡ y
+same_first x y xs ys e = cc
+
+-- a cycle, by its first task and its last
+module _ (P : Plan) (ts front back : List Task) (first last : Task) (begins : ts ≡ first ∷ back) (ends : ts ≡ front ++ last ∷ []) where
+  pub cycle_closed : IsCycle P ts → IsTask P first × IsSourceOf P last first
+  cycle_closed c =
+      let a : c.first ≡ first = same_first c.first first c.begins.0 back (sym c.begins.1 ∙ begins) in
+      let z : c.last ≡ last = same_last c.ends.0 front c.last last (sym c.ends.1 ∙ ends) in
+      (chain_task P ts c.chain first (subst (IsIn first) (sym begins) (inl refl)), subst (λ u. IsSourceOf P last u) a (subst (λ u. IsSourceOf P u c.first) z c.closed))
+
+  pub cycle_is : IsTask P first × IsSourceOf P last first → IsChain P ts → HasNoRepeats ts → IsCycle P ts
+  cycle_is closed chain once = record { chain = chain; differ = once; first = first; begins = (back, begins); last = last; ends = (front, ends); closed = closed.1 }
+
+  -- where one part fails it is none
+  pub no_link : (IsTask P first × IsSourceOf P last first → ⊥) → IsTrue false ↔ IsCycle P ts
+  no_link h = (λ e. absurd (false≢true e), λ c. absurd (h (cycle_closed c)))
+
+  pub no_chain : (IsChain P ts → ⊥) → IsTrue false ↔ IsCycle P ts
+  no_chain h = (λ e. absurd (false≢true e), λ c. absurd (h c.chain))
+
+  pub by_once : (b : Bool) → IsTask P first × IsSourceOf P last first → IsChain P ts → IsTrue b ↔ HasNoRepeats ts → IsTrue b ↔ IsCycle P ts
+  by_once b closed chain h = (λ e. cycle_is closed chain (h.0 e), λ c. h.1 c.differ)
+
+-- the empty list is no cycle
+pub no_task : (P : Plan) (ts : List Task) → length ts ≡ 0 → IsTrue false ↔ IsCycle P ts
+no_task P [] h = (λ e. absurd (false≢true e), λ c. absurd (empty c.first c.begins))
+  where
+    empty : (t : Task) → BeginsWith t [] → ⊥
+    empty t b = let e = b.1 in cc
+no_task P (t ∷ ts) h = absurd (omega arith)
+
+-- a task is one of these where a test finds it
+pub any_in : (t : Task) (ts : List Task) (b : Bool) → b ≡ list_any (λ (u : Task). same_task u t) ts → IsTrue b ↔ IsIn t ts
+any_in t ts b e = (λ k. (by ts).0 (sym e ∙ k), λ i. e ∙ (by ts).1 i)
+  where
+    by : (us : List Task) → (list_any (λ (u : Task). same_task u t) us ≡ true) ↔ IsIn t us
+    by [] = (λ k. absurd (false≢true k), λ i. absurd i)
+    by (u ∷ us) =
+        by_test (same_task u t)
+        (λ k. (
+          λ _. inl (sym ((same_task-decides u t).0 k)),
+          λ _. ap (λ c. c || list_any (λ (v : Task). same_task v t) us) k,
+        ))
+        (λ k. (
+          λ h. inr ((by us).0 (sym (ap (λ c. c || list_any (λ (v : Task). same_task v t) us) k) ∙ h)),
+          λ i. elim i [
+            | inl q ↦ absurd (false≢true (sym k ∙ (same_task-decides u t).1 (sym q)))
+            | inr later ↦ ap (λ c. c || list_any (λ (v : Task). same_task v t) us) k ∙ (by us).1 later
+          ],
+        ))

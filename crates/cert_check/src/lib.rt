@@ -1,0 +1,15 @@
+//! Checkers of chains and of cycles, and laws of certificates.
+#![tactic(auto)]
+
+mod chains;
+mod cycles;
+mod heaviest;
+mod laws;
+mod levels;
+
+pub use cycles::check_cycle;
+pub use heaviest::check_chain;
+pub use laws::{
+    a_greatest_order_is_whole_without_cycle, a_job_is_complete_without_cycle_and_trap,
+    one_certificate, the_checkers_accept_certificates, the_printed_cycle_is_a_cycle,
+};

@@ -1,6 +1,0 @@
-use Rattle.std.proofs.Common.{◌↔◌, drop}
-use Rattle.ptg_base.specs.Lists.{HasNoRepeats}
-use Rattle.chain_cert.proofs.cycles.are_different.Given as goal
-
-abbrev pub invariant-loop-at : goal.invariant-loop-at
-invariant-loop-at l = HasNoRepeats l.tasks ↔ HasNoRepeats (drop l.at l.tasks)

@@ -1,5 +1,0 @@
-use Rattle.chain_cert.proofs.Completeness.{complete_exactly}
-use Rattle.chain_cert.proofs.laws.a_job_is_complete_without_cycle_and_trap.Goals as goal
-
-pub returns : goal.returns
-returns c = λ P G con. complete_exactly P con G

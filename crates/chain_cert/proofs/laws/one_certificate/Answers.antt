@@ -1,5 +1,0 @@
-use Rattle.chain_cert.proofs.Unique.{one}
-use Rattle.chain_cert.proofs.laws.one_certificate.Goals as goal
-
-pub returns : goal.returns
-returns c = λ P G ws a b con x y. one P G ws a b con x y

@@ -1,5 +1,0 @@
-use Rattle.std.proofs.Common.{length}
-use Rattle.chain_cert.proofs.levels.+level_of.Given as goal
-
-abbrev pub decreases-level_of : goal.decreases-level_of
-decreases-level_of l = length l.rows.now

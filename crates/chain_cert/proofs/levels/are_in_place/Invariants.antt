@@ -1,6 +1,0 @@
-use Rattle.std.proofs.Common.{◌↔◌, drop}
-use Rattle.chain_cert.specs.Checking.{AreInPlace, tasks_of}
-use Rattle.chain_cert.proofs.levels.are_in_place.Given as goal
-
-abbrev pub invariant-loop-at : goal.invariant-loop-at
-invariant-loop-at l = AreInPlace l.plan (tasks_of l.rows) ↔ AreInPlace l.plan (tasks_of (drop l.at l.rows))
