@@ -1,5 +1,5 @@
 -- The rules hold or fail by what the parts of the words are.
-use Rattle.std.proofs.Common.{◌≡◌, ℕ, Bool, true, false, not, ◌&&◌, List, [], ◌∷◌, ◌++◌, ◌+◌, take, length, get_or, Some, refl, sym, ap, ◌∙◌, subst, inl, inr, arith, ◌<◌, ◌≤◌}
+use Rattle.std.proofs.Common.{◌≡◌, ℕ, Bool, true, false, not, ◌&&◌, List, [], ◌∷◌, ◌++◌, ◌+◌, take, length, get_or, Some, Result, Ok, Err, IfOk, refl, sym, ap, ◌∙◌, subst, inl, inr, arith, ◌<◌, ◌≤◌}
 use Rattle.std.specs.Prelude.{◌==◌, ◌⊎◌, drop, option_map, nat_le}
 use Rattle.std.specs.List.{All, list_any, list_all, slice_index_or}
 use Rattle.std.specs.Option.{option_map_or}
@@ -8,9 +8,12 @@ use Rattle.std.proofs.lemmas.List.{take_more, map-append}
 use Rattle.std.specs.Borrow.{Bor}
 use Rattle.ptg_base.specs.Decimal.{decimal, is_decimal, is_digit}
 use Rattle.ptg_words.specs.Parts.{Part, parts, operands, is_lacking, is_stray, has_twice}
+use Rattle.ptg_words.specs.declared.options.Options.{Options}
 use Rattle.ptg_words.specs.declared.order.Order.{Order}
-use Rattle.ptg_words.specs.Words.{Verb, Breaks, Orders, IsProper, IsUsage, no_verb, improper_word, stray_word, lacking_number, option_twice, operand_number, bad_number, formed, read, verb_of, options_of, operands_of, operand_count, has_bad_count, has_bad_operand, has_bad_number, has_wrong_count, is_number, ranks}
-use Rattle.ptg_words.specs.Readings.{AllProper, IsOf, is_read, texts}
+use Rattle.ptg_words.specs.Words.{Verb, Breaks, Orders, IsProper, IsUsage, no_verb, improper_word, stray_word, lacking_number, option_twice, operand_number, bad_number, formed, read, verb_of, options_of, operands_of, operand_count, has_bad_count, has_bad_operand, has_bad_number, has_wrong_count, is_number}
+use Rattle.ptg_words.specs.Readings.{AllProper, Forms, HasBadOperand, IsOf, IsReadOf, is_read, texts}
+use Rattle.ptg_words.specs.declared.order.WordsRefusal.{WordsRefusal}
+use Rattle.ptg_words.specs.declared.verb.ReadVerb.{ReadVerb}
 
 pub all_proper : (ws : List (List ℕ)) → All IsProper ws → AllProper ws
 all_proper [] h = tt
@@ -107,15 +110,30 @@ module _ (v : Verb) (ws : List (List ℕ)) (of : IsOf v ws) where
   order_from order ops good counts same numbers asks =
       order_of order good counts (ap (has_bad_operand (operands_of v)) (sym same) ∙ numbers) (ap (λ xs. formed v xs rest_of) (sym same) ∙ asks)
 
+  -- what was read with the ids and options of the verb
+  pub read_with : (n : ℕ) (opts : Options) (r : ReadVerb) → n ≡ operand_count v → opts ≡ options_of v → IsReadOf n (parts opts (drop 1 ws)) r → IsReadOf (operand_count v) rest_of r
+  read_with n opts r count options read =
+      subst (λ m. IsReadOf m rest_of r) count (subst (λ o. IsReadOf n (parts o (drop 1 ws)) r) options read)
+
+  -- the order of what was read
+  pub orders : (r : ReadVerb) (result : Result Order WordsRefusal) → IsReadOf (operand_count v) rest_of r → IfOk result (Forms v r) → IfOk result (λ order. Orders ws order)
+  orders r (Ok order) read forms = order_from order (texts r.operands.items) read.good read.counts read.operand_texts forms.good (forms.asks rest_of read.options)
+  orders r (Err e) read forms = tt
+
   -- arguments that are not read break a rule
   pub refused : (is_read (operand_count v) rest_of ≡ false) ⊎ (has_bad_count rest_of ≡ true) → IsUsage ws
   refused (inl h) = breaks_rule ws v rest_of of.reads h
   refused (inr h) = breaks_number ws v rest_of of.reads (rw h refl)
 
--- proper words whose first is the word of a verb
-pub begins : (word : List ℕ) (v : Verb) (w : List ℕ) (ws : List (List ℕ)) → All IsProper (w ∷ ws) → w ≡ word → verb_of word ≡ Some v → IsOf v (w ∷ ws)
-begins word v w ws proper same is = record {
-  reads = ap (option_map (λ verb. (verb, parts (options_of verb) ws))) (ap verb_of same ∙ is);
+  -- as are those with an operand that is no number
+  pub refused_operand : (r : ReadVerb) → IsReadOf (operand_count v) rest_of r → HasBadOperand v r → IsUsage ws
+  refused_operand r read bad = breaks_number ws v rest_of of.reads (rw read.counts (ap (has_bad_operand (operands_of v)) (sym read.operand_texts) ∙ bad))
+
+-- proper words whose first one names this verb
+pub begins : (ws : List (Bor (List ℕ))) (d : Bor (List ℕ)) (v : Verb) → 1 ≤ length ws → All IsProper (texts ws) → Some v ≡ verb_of (get_or ws 0 d).now → IsOf v (texts ws)
+begins [] d v some proper is = absurd (omega (arith, some))
+begins (w ∷ ws) d v some proper is = record {
+  reads = ap (option_map (λ verb. (verb, parts (options_of verb) (texts ws)))) (sym is);
   proper = proper;
 }
 
@@ -127,18 +145,3 @@ texts_more xs ys list i d x pushed same lt is =
 
 pub proper_more : (list : List (List ℕ)) (i : ℕ) (d : List ℕ) → All IsProper (take i list) → i < length list → IsProper (slice_index_or list i d) → All IsProper (take (i + 1) list)
 proper_more list i d all lt p = subst (All IsProper) (sym (take_more list i d lt)) (All-push IsProper (take i list) (slice_index_or list i d) all p)
-
--- lists of three and of four references, as a pattern of a slice knows them
-pub three_texts : (xs : List (Bor (List ℕ))) (d : Bor (List ℕ)) → 3 ≤ length xs → length xs < 4 → texts xs ≡ (get_or xs 0 d).now ∷ (get_or xs 1 d).now ∷ (get_or xs 2 d).now ∷ []
-three_texts (a ∷ b ∷ e ∷ []) d low high = refl
-three_texts xs d low high = absurd (omega (arith, low, high))
-
-pub four_texts : (xs : List (Bor (List ℕ))) (d : Bor (List ℕ)) → 4 ≤ length xs → length xs < 5
-    → texts xs ≡ (get_or xs 0 d).now ∷ (get_or xs 1 d).now ∷ (get_or xs 2 d).now ∷ (get_or xs 3 d).now ∷ []
-four_texts (a ∷ b ∷ e ∷ f ∷ []) d low high = refl
-four_texts xs d low high = absurd (omega (arith, low, high))
-
--- two numbers in range are no bad operands
-pub ranks_fit : (jdf data_name count seed : List ℕ) → is_number 1 64 count ≡ true → is_number 0 18446744073709551615 seed ≡ true
-    → has_bad_operand (operands_of ranks) (jdf ∷ data_name ∷ count ∷ seed ∷ []) ≡ false
-ranks_fit jdf data_name count seed r s = rw (r, s) refl

@@ -9,6 +9,7 @@ mod reading;
 #[cfg(test)]
 mod tests;
 mod verb;
+mod verbs;
 
 pub use laws::{files_are_text, orders_have_numbers_in_range, words_give_one_order};
 pub use order::{Order, WordsRefusal};

@@ -1,15 +1,15 @@
 //! The command that proper words form: the verb, its operands and its numbers.
 
-ghost use Rattle.std.specs.Prelude.{◌≡◌, IfOk, MatchResult, Err, Ok};
+ghost use Rattle.std.specs.Prelude.{◌≡◌, ◌≤◌, ◌∷◌, IfOk, MatchResult, Err, Ok, drop, length};
 ghost use Rattle.std.specs.List.{All};
 ghost use Rattle.ptg_words.specs.Words as Words;
 ghost use Rattle.ptg_words.specs.Words.{IsProper, IsUsage, Orders};
-ghost use Rattle.ptg_words.specs.Readings.{IsOf, texts};
+ghost use Rattle.ptg_words.specs.Readings.{Forms, HasBadOperand, denoted, texts};
 
-use crate::options::Options;
 use crate::order::{Order, WordsRefusal};
-use crate::verb::{file, number, read_verb, small_number};
-use ptg_base::Text;
+use crate::verb::{ReadVerb, file, number, read_verb, small_number};
+use crate::verbs::{Verb, verb_of};
+use ptg_base::{OutOfMemory, Text};
 use std::alloc::Global;
 
 // How many ranks a world may have.
@@ -59,155 +59,123 @@ fn order(alloc: Global, words: &[&str]) -> Result<Order, WordsRefusal>
     ensures found { IfOk result (λ order. Orders (texts words.now) order) }
     ensures usage { result ≡ Err WordsRefusal.Usage → IsUsage (texts words.now) }
 {
-    match words {
-        [verb, ..] if *verb == "run" => run(alloc, words),
-        [verb, ..] if *verb == "show" => show(alloc, words),
-        [verb, ..] if *verb == "check" => check(alloc, words),
-        [verb, ..] if *verb == "demo" => demo(alloc, words),
-        [verb, ..] if *verb == "trace" => trace(alloc, words),
-        [verb, ..] if *verb == "replay" => replay(alloc, words),
-        [verb, ..] if *verb == "certify" => certify(alloc, words),
-        [verb, ..] if *verb == "ranks" => ranks(alloc, words),
-        _ => Err(WordsRefusal::Usage),
+    let [name, ..] = words else {
+        return Err(WordsRefusal::Usage);
+    };
+    let Some(verb) = verb_of(name) else {
+        return Err(WordsRefusal::Usage);
+    };
+    let read = read_verb(alloc, name, verb.operand_ids(), verb.options(), words)?;
+    formed(alloc, verb, &read)
+}
+
+// The order of a verb, of what was read after it.
+fn formed(alloc: Global, verb: Verb, read: &ReadVerb) -> Result<Order, WordsRefusal>
+    requires { length read.now.operands.items ≡ Words.operand_count (denoted verb) }
+    ensures found { IfOk result (Forms (denoted verb) read.now) }
+    ensures usage { result ≡ Err WordsRefusal.Usage → HasBadOperand (denoted verb) read.now }
+{
+    match verb {
+        Verb::Run => run(alloc, read),
+        Verb::Show => show(alloc, read),
+        Verb::Check => check(alloc, read),
+        Verb::Demo => demo(read),
+        Verb::Trace => trace(alloc, read),
+        Verb::Replay => replay(alloc, read),
+        Verb::Certify => certify(alloc, read),
+        Verb::Ranks => ranks(alloc, read),
     }
 }
 
-fn run(alloc: Global, words: &[&str]) -> Result<Order, WordsRefusal>
-    requires { IsOf Words.run (texts words.now) }
-    ensures found { IfOk result (λ order. Orders (texts words.now) order) }
-    ensures usage { result ≡ Err WordsRefusal.Usage → IsUsage (texts words.now) }
+fn run(alloc: Global, read: &ReadVerb) -> Result<Order, WordsRefusal>
+    requires { length read.now.operands.items ≡ 2 }
+    ensures found { IfOk result (Forms Words.run read.now) }
+    ensures usage { result ≡ Err WordsRefusal.Usage → HasBadOperand Words.run read.now }
 {
-    let read = read_verb(
-        alloc,
-        "run",
-        &["jdf", "data"],
-        Options::CountsAndPreload,
-        words,
-    )?;
-    let [jdf, data_name] = read.operands.as_slice() else {
-        return Err(WordsRefusal::Usage);
-    };
-    let jdf = file(alloc, jdf)?;
-    let data_name = file(alloc, data_name)?;
+    let (jdf, data_name) = job_files(alloc, read.operands.as_slice())?;
     Ok(Order::Run(jdf, data_name, read.workers, read.shards, read.preload))
 }
 
-fn show(alloc: Global, words: &[&str]) -> Result<Order, WordsRefusal>
-    requires { IsOf Words.show (texts words.now) }
-    ensures found { IfOk result (λ order. Orders (texts words.now) order) }
-    ensures usage { result ≡ Err WordsRefusal.Usage → IsUsage (texts words.now) }
+fn show(alloc: Global, read: &ReadVerb) -> Result<Order, WordsRefusal>
+    requires { length read.now.operands.items ≡ 1 }
+    ensures found { IfOk result (Forms Words.show read.now) }
+    ensures usage { result ≡ Err WordsRefusal.Usage → HasBadOperand Words.show read.now }
 {
-    let read = read_verb(alloc, "show", &["jdf"], Options::NoOptions, words)?;
-    let [jdf] = read.operands.as_slice() else {
-        return Err(WordsRefusal::Usage);
-    };
-    Ok(Order::Show(file(alloc, jdf)?))
+    let operands = read.operands.as_slice();
+    Ok(Order::Show(file(alloc, operands[0])?))
 }
 
-fn check(alloc: Global, words: &[&str]) -> Result<Order, WordsRefusal>
-    requires { IsOf Words.check (texts words.now) }
-    ensures found { IfOk result (λ order. Orders (texts words.now) order) }
-    ensures usage { result ≡ Err WordsRefusal.Usage → IsUsage (texts words.now) }
+fn check(alloc: Global, read: &ReadVerb) -> Result<Order, WordsRefusal>
+    requires { length read.now.operands.items ≡ 2 }
+    ensures found { IfOk result (Forms Words.check read.now) }
+    ensures usage { result ≡ Err WordsRefusal.Usage → HasBadOperand Words.check read.now }
 {
-    let read = read_verb(alloc, "check", &["jdf", "data"], Options::NoOptions, words)?;
-    let [jdf, data_name] = read.operands.as_slice() else {
-        return Err(WordsRefusal::Usage);
-    };
-    let jdf = file(alloc, jdf)?;
-    Ok(Order::Check(jdf, file(alloc, data_name)?))
+    let (jdf, data_name) = job_files(alloc, read.operands.as_slice())?;
+    Ok(Order::Check(jdf, data_name))
 }
 
-fn demo(alloc: Global, words: &[&str]) -> Result<Order, WordsRefusal>
-    requires { IsOf Words.demo (texts words.now) }
-    ensures found { IfOk result (λ order. Orders (texts words.now) order) }
-    ensures usage { result ≡ Err WordsRefusal.Usage → IsUsage (texts words.now) }
+fn demo(read: &ReadVerb) -> Result<Order, WordsRefusal>
+    requires { length read.now.operands.items ≡ 1 }
+    ensures found { IfOk result (Forms Words.demo read.now) }
+    ensures usage { result ≡ Err WordsRefusal.Usage → HasBadOperand Words.demo read.now }
 {
-    let read = read_verb(alloc, "demo", &["rows"], Options::NoOptions, words)?;
-    let [rows] = read.operands.as_slice() else {
-        return Err(WordsRefusal::Usage);
-    };
-    match small_number(rows, MOST_ROWS) {
+    let operands = read.operands.as_slice();
+    match small_number(operands[0], MOST_ROWS) {
         Some(rows) => Ok(Order::Demo(rows)),
         None => Err(WordsRefusal::Usage),
     }
 }
 
-fn trace(alloc: Global, words: &[&str]) -> Result<Order, WordsRefusal>
-    requires { IsOf Words.trace (texts words.now) }
-    ensures found { IfOk result (λ order. Orders (texts words.now) order) }
-    ensures usage { result ≡ Err WordsRefusal.Usage → IsUsage (texts words.now) }
+fn trace(alloc: Global, read: &ReadVerb) -> Result<Order, WordsRefusal>
+    requires { length read.now.operands.items ≡ 2 }
+    ensures found { IfOk result (Forms Words.trace read.now) }
+    ensures usage { result ≡ Err WordsRefusal.Usage → HasBadOperand Words.trace read.now }
 {
-    let read = read_verb(alloc, "trace", &["jdf", "data"], Options::Counts, words)?;
-    let [jdf, data_name] = read.operands.as_slice() else {
-        return Err(WordsRefusal::Usage);
-    };
-    let jdf = file(alloc, jdf)?;
-    let data_name = file(alloc, data_name)?;
+    let (jdf, data_name) = job_files(alloc, read.operands.as_slice())?;
     Ok(Order::Trace(jdf, data_name, read.workers, read.shards))
 }
 
-fn replay(alloc: Global, words: &[&str]) -> Result<Order, WordsRefusal>
-    requires { IsOf Words.replay (texts words.now) }
-    ensures found { IfOk result (λ order. Orders (texts words.now) order) }
-    ensures usage { result ≡ Err WordsRefusal.Usage → IsUsage (texts words.now) }
+fn replay(alloc: Global, read: &ReadVerb) -> Result<Order, WordsRefusal>
+    requires { length read.now.operands.items ≡ 3 }
+    ensures found { IfOk result (Forms Words.replay read.now) }
+    ensures usage { result ≡ Err WordsRefusal.Usage → HasBadOperand Words.replay read.now }
 {
-    let read = read_verb(
-        alloc,
-        "replay",
-        &["jdf", "data", "trace"],
-        Options::NoOptions,
-        words,
-    )?;
-    let [jdf, data_name, trace] = read.operands.as_slice() else {
-        return Err(WordsRefusal::Usage);
-    };
-    let jdf = file(alloc, jdf)?;
-    let data_name = file(alloc, data_name)?;
-    Ok(Order::Replay(jdf, data_name, file(alloc, trace)?))
+    let operands = read.operands.as_slice();
+    let (jdf, data_name) = job_files(alloc, operands)?;
+    Ok(Order::Replay(jdf, data_name, file(alloc, operands[2])?))
 }
 
-fn certify(alloc: Global, words: &[&str]) -> Result<Order, WordsRefusal>
-    requires { IsOf Words.certify (texts words.now) }
-    ensures found { IfOk result (λ order. Orders (texts words.now) order) }
-    ensures usage { result ≡ Err WordsRefusal.Usage → IsUsage (texts words.now) }
+fn certify(alloc: Global, read: &ReadVerb) -> Result<Order, WordsRefusal>
+    requires { length read.now.operands.items ≡ 2 }
+    ensures found { IfOk result (Forms Words.certify read.now) }
+    ensures usage { result ≡ Err WordsRefusal.Usage → HasBadOperand Words.certify read.now }
 {
-    let read = read_verb(
-        alloc,
-        "certify",
-        &["jdf", "data"],
-        Options::NoOptions,
-        words,
-    )?;
-    let [jdf, data_name] = read.operands.as_slice() else {
-        return Err(WordsRefusal::Usage);
-    };
-    let jdf = file(alloc, jdf)?;
-    Ok(Order::Certify(jdf, file(alloc, data_name)?))
+    let (jdf, data_name) = job_files(alloc, read.operands.as_slice())?;
+    Ok(Order::Certify(jdf, data_name))
 }
 
 // The order of `ranks`: 1 to 64 ranks, and a seed of 64 bits.
-fn ranks(alloc: Global, words: &[&str]) -> Result<Order, WordsRefusal>
-    requires { IsOf Words.ranks (texts words.now) }
-    ensures found { IfOk result (λ order. Orders (texts words.now) order) }
-    ensures usage { result ≡ Err WordsRefusal.Usage → IsUsage (texts words.now) }
+fn ranks(alloc: Global, read: &ReadVerb) -> Result<Order, WordsRefusal>
+    requires { length read.now.operands.items ≡ 4 }
+    ensures found { IfOk result (Forms Words.ranks read.now) }
+    ensures usage { result ≡ Err WordsRefusal.Usage → HasBadOperand Words.ranks read.now }
 {
-    let read = read_verb(
-        alloc,
-        "ranks",
-        &["jdf", "data", "ranks", "seed"],
-        Options::NoOptions,
-        words,
-    )?;
-    let [jdf, data_name, ranks, seed] = read.operands.as_slice() else {
+    let operands = read.operands.as_slice();
+    let Some(ranks) = small_number(operands[2], MOST_RANKS) else {
         return Err(WordsRefusal::Usage);
     };
-    let Some(ranks) = small_number(ranks, MOST_RANKS) else {
+    let Some(seed) = number(operands[3], 0, u64::MAX) else {
         return Err(WordsRefusal::Usage);
     };
-    let Some(seed) = number(seed, 0, u64::MAX) else {
-        return Err(WordsRefusal::Usage);
-    };
-    let jdf = file(alloc, jdf)?;
-    let data_name = file(alloc, data_name)?;
+    let (jdf, data_name) = job_files(alloc, operands)?;
     Ok(Order::Ranks(jdf, data_name, ranks, seed))
+}
+
+// The names of a job's JDF file and of its data file, with which the operands begin.
+fn job_files(alloc: Global, operands: &[&str]) -> Result<(Text, Text), OutOfMemory>
+    requires { 2 ≤ length operands.now }
+    ensures { IfOk result (λ files. files.0 ∷ files.1 ∷ drop 2 (texts operands.now) ≡ texts operands.now) }
+{
+    let jdf = file(alloc, operands[0])?;
+    Ok((jdf, file(alloc, operands[1])?))
 }
