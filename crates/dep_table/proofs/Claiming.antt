@@ -12,7 +12,7 @@ use Rattle.work_board.specs.Records.{IsClean}
 use Rattle.work_board.specs.declared.record.PassRecord.{PassRecord}
 use Rattle.table_rule.specs.Changes.{turn_left, with_own_claim, with_stamp, with_turn}
 use Rattle.table_rule.specs.Live.{own_claims, own_stamps}
-use Rattle.table_rule.specs.Placing.{shard_of}
+use Rattle.shard_meaning.specs.Placing.{shard_of}
 use Rattle.table_rule.specs.Plays.{Seated}
 use Rattle.table_rule.specs.Records.{joined}
 use Rattle.table_rule.proofs.SameMembers.{joined_parts}

@@ -14,7 +14,7 @@ use Rattle.work_board.specs.Sends.{HasEnded, MayEnd, MayTrap}
 use Rattle.work_board.specs.declared.record.PassRecord.{PassRecord}
 use Rattle.table_rule.specs.Changes.{turn_left, with_own_end, with_turn, without_credit}
 use Rattle.table_rule.specs.Live.{Stamp, own_stamps}
-use Rattle.table_rule.specs.Placing.{shard_of}
+use Rattle.shard_meaning.specs.Placing.{shard_of}
 use Rattle.table_rule.specs.Plays.{HasName, Seated}
 use Rattle.table_rule.specs.Records.{joined}
 use Rattle.table_rule.proofs.SameMembers.{joined_parts}

@@ -1,6 +1,4 @@
 pub mod Quiets
-pub mod TaskWalks
-pub mod OpeningSteps
 pub mod Opened
 pub mod NeedsCounts
 pub mod NeedsOne

@@ -8,13 +8,14 @@ use Rattle.dep_iter.specs.Tasks.{all_tasks}
 use Rattle.dep_shard.specs.Content.{Content, Entries, HasSpares, IsUnchanged, entry_in}
 use Rattle.shard_meaning.specs.Opening.{HasOpeningReserve, IsOpeningShard}
 use Rattle.shard_meaning.specs.Share.{Placement}
-use Rattle.table_rule.specs.Placing.{shard_of}
+use Rattle.shard_meaning.specs.Placing.{shard_of}
 use Rattle.dep_table.specs.declared.needs.Needs.{Needs}
 use Rattle.dep_table.specs.Needs.{AddsNeeds, AddsTaskAt, AddsTiles, AreNeedsOf, AreNoNeeds, AreReserved, FitShards, IsNeedOf, IsNoNeed, IsReservedFor, ReservesAt, write_tiles}
-use Rattle.dep_table.specs.Opened.{AreOpeningShards, HaveOpeningReserve}
+use Rattle.shard_calls.specs.Opened.{AreOpeningShards}
+use Rattle.dep_table.specs.Opened.{HaveOpeningReserve}
 use Rattle.dep_table.proofs.NeedsCounts.{need_other, need_own}
 use Rattle.dep_table.proofs.NeedsRoom.{room_task}
-use Rattle.dep_table.proofs.TaskWalks.{IsSoFar, one_more}
+use Rattle.shard_calls.proofs.TaskWalks.{IsSoFar, one_more}
 use Rattle.list_lemmas.proofs.Places.{slice_get_push, slice_get_there}
 use Rattle.std.proofs.lemmas.Option.{slice_get_within}
 

@@ -7,8 +7,8 @@ use Rattle.shard_meaning.specs.Moment.{Moment}
 use Rattle.shard_meaning.proofs.Calming.{calm_by_shards, calm_quiescent, calm_shard}
 use Rattle.shard_answer.specs.Ending.{HoldAnEnd}
 use Rattle.table_rule.specs.declared.job.Job.{Job}
-use Rattle.table_rule.specs.Placing.{shard_of}
-use Rattle.table_rule.proofs.Placing.{shard_below}
+use Rattle.shard_meaning.specs.Placing.{shard_of}
+use Rattle.shard_meaning.proofs.Placing.{shard_below}
 use Rattle.dep_table.specs.Closing.{HaveNoWork, IsClosed, IsClosedAt}
 use Rattle.std.proofs.lemmas.Option.{slice_get-get_or}
 

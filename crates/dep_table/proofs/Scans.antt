@@ -10,7 +10,7 @@ use Rattle.work_board.specs.declared.record.PassRecord.{PassRecord}
 use Rattle.plan_core.specs.declared.plan.Plan.{Plan}
 use Rattle.coll_data.specs.Data.{Data}
 use Rattle.table_rule.specs.Changes.{with_turn}
-use Rattle.table_rule.specs.Placing.{shard_of}
+use Rattle.shard_meaning.specs.Placing.{shard_of}
 use Rattle.table_rule.specs.Plays.{WasSeen}
 use Rattle.table_rule.proofs.Seeing.{seen_share}
 use Rattle.dep_table.specs.declared.table.DepTable.{DepTable}

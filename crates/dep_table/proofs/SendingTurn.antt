@@ -30,7 +30,7 @@ use Rattle.work_board.specs.declared.record.PassRecord.{PassRecord}
 use Rattle.table_rule.specs.declared.job.Job.{Job}
 use Rattle.table_rule.specs.Changes.{turn_left, with_own_send, with_turn}
 use Rattle.table_rule.specs.Live.{Stamp, own_stamps}
-use Rattle.table_rule.specs.Placing.{shard_of}
+use Rattle.shard_meaning.specs.Placing.{shard_of}
 use Rattle.table_rule.specs.Plays.{HasName, Seated, fires}
 use Rattle.table_rule.specs.Records.{joined}
 use Rattle.table_rule.specs.Rule.{Parts, Reserve, Share}

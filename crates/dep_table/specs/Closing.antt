@@ -14,7 +14,7 @@ use Rattle.shard_meaning.specs.Share.{IsShardOf}
 use Rattle.table_rule.specs.declared.job.Job.{Job}
 use Rattle.table_rule.specs.Live.{Stamp}
 use Rattle.table_rule.specs.Names.{AreAll}
-use Rattle.table_rule.specs.Placing.{shard_of}
+use Rattle.shard_meaning.specs.Placing.{shard_of}
 use Rattle.table_rule.specs.Records.{moment_of}
 use Rattle.dep_table.specs.Passes.{IsPassOf}
 use Rattle.dep_table.specs.Views.{PassView, shown}

@@ -1,67 +1,16 @@
--- How a table is opened: its shards get a ready entry of each task that no edge goes into. Source: DAGuE (Parallel
--- Computing, 2012): a task without dependences may run at once.
-use Rattle.std.specs.Prelude.{◌≡◌, ◌≢◌, ℕ, ◌==◌, ℤ, List, [], ◌∷◌, ◌++◌, length, filter, slice_get, slice_index, Some, None}
-use Rattle.ptg_base.specs.Lists.{IsIn}
-use Rattle.ptg_base.specs.Task.{Task}
+-- How a table is opened: its words, and what its shards have in reserve. Source: this project's own choice.
+use Rattle.std.specs.Prelude.{◌≡◌, ◌≢◌, ℕ, List, length, slice_get, slice_index, Some}
 use Rattle.plan_core.specs.declared.plan.Plan.{Plan}
-use Rattle.dep_iter.specs.Edges.{goal}
-use Rattle.dep_shard.specs.Content.{Content, Entry, IsNew, KeepsAllButEntries, Updates, entry_of, fresh}
-use Rattle.shard_meaning.specs.Opening.{HasOpeningReserve, IsOpeningShard, opening_entry}
-use Rattle.shard_meaning.specs.Share.{Placement}
-use Rattle.table_rule.specs.Placing.{shard_of}
+use Rattle.dep_shard.specs.Content.{Content}
+use Rattle.shard_meaning.specs.Opening.{HasOpeningReserve}
+use Rattle.shard_meaning.specs.Placing.{shard_of}
 use Rattle.table_rule.specs.Words.{live_word, word_count}
-
--- the tasks of a list that no edge goes into
-abbrev pub roots_among : Plan → List Task → List Task
-roots_among P ts = filter (λ t. goal P t == 0) ts
-
--- The shard k has, of these tasks, the entries of its own that no edge goes into, and nothing else.
-pub record IsOpenedFor (P : Plan) (of : Placement) (k : ℕ) (ts : List Task) (y : Content) : Type 0 where
-  pub there : (t : Task) → IsIn t ts → of t ≡ k → entry_of y t ≡ opening_entry P t
-  pub only : (t : Task) (e : Entry) → entry_of y t ≡ Some e → IsIn t ts × (of t ≡ k)
-  pub written : y.written ≡ []
-  pub trapped : y.trapped ≡ []
-  pub running : y.running ≡ 0
-  pub ended : y.ended ≡ 0
-  pub elems : y.elems ≡ P.elems
-
--- each shard has, of these tasks, the entries of its own that no edge goes into, and nothing else
-abbrev pub AreOpened : Plan → Placement → List Task → List Content → Type 0
-AreOpened P of ts ys = (k : ℕ) (y : Content) → slice_get ys k ≡ Some y → IsOpenedFor P of k ts y
-
--- From old to new the shard of a task got its entry, if no edge goes into it, where the shards had the entries of the
--- tasks before it.
-pub record Opens (P : Plan) (of : Placement) (t : Task) (old new : List Content) : Type 0 where
-  pub count : length new ≡ length old
-  pub opened : (done : List Task) → AreOpened P of done old → AreOpened P of (done ++ t ∷ []) new
-
--- A ready entry of the task is entered. If the task has an entry, that one stays.
-pub record EntersIn (t : Task) (priority : ℤ) (old new : Content) : Type 0 where
-  pub first : entry_of old t ≡ None → Updates old.entries new.entries t (Some (fresh 0 priority))
-  pub again : (e : Entry) → entry_of old t ≡ Some e → new.entries ≡ old.entries
-  pub rest : KeepsAllButEntries old new
-
--- A ready entry of the task is entered into the shard k, and the other shards stay.
-pub record Enters (k : ℕ) (t : Task) (priority : ℤ) (old new : List Content) : Type 0 where
-  pub count : length new ≡ length old
-  pub others : (i : ℕ) → i ≢ k → slice_get new i ≡ slice_get old i
-  pub here : (y z : Content) → slice_get old k ≡ Some y → slice_get new k ≡ Some z → EntersIn t priority y z
-
--- so many new shards, with tiles of these lengths
-pub record AreNew (n : ℕ) (lengths : List ℕ) (ys : List Content) : Type 0 where
-  pub count : length ys ≡ n
-  pub each : (k : ℕ) (y : Content) → slice_get ys k ≡ Some y → IsNew y lengths
 
 -- the words of a new table: the live word is this number, and each other word is 0
 pub record AreOpeningWords (n ready : ℕ) (words : List ℕ) : Type 0 where
   pub long : length words ≡ word_count n
   pub live : slice_index words (live_word n) ≡ ready
   pub zero : (i : ℕ) → i ≢ live_word n → slice_index words i ≡ 0
-
--- the shards of a new table, so many: each has the ready entries of its own tasks that no edge goes into
-pub record AreOpeningShards (P : Plan) (n : ℕ) (ys : List Content) : Type 0 where
-  pub count : length ys ≡ n
-  pub each : (k : ℕ) (y : Content) → slice_get ys k ≡ Some y → IsOpeningShard P (shard_of P n) k y
 
 -- each of so many shards of a new table has spares for all that will come to it
 abbrev pub HaveOpeningReserve : Plan → ℕ → List Content → Type 0

@@ -25,7 +25,7 @@ use Rattle.work_board.specs.declared.answers.Sent.TheVariants as answer
 use Rattle.work_board.specs.declared.record.PassRecord.{PassRecord}
 use Rattle.table_rule.specs.declared.job.Job.{Job}
 use Rattle.table_rule.specs.Live.{own_stamps}
-use Rattle.table_rule.specs.Placing.{shard_of}
+use Rattle.shard_meaning.specs.Placing.{shard_of}
 use Rattle.table_rule.specs.Plays.{HasTurn, Seated, fires}
 
 -- the edge goes to a flow of a task that waits for it, by the entry that the shard has of the task, and its tile is of

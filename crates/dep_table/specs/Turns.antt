@@ -10,7 +10,7 @@ use Rattle.work_board.specs.Records.{IsClean}
 use Rattle.work_board.specs.declared.record.PassRecord.{PassRecord}
 use Rattle.table_rule.specs.declared.job.Job.{Job}
 use Rattle.table_rule.specs.Live.{own_stamps}
-use Rattle.table_rule.specs.Placing.{shard_of}
+use Rattle.shard_meaning.specs.Placing.{shard_of}
 use Rattle.table_rule.specs.Changes.{with_turn}
 use Rattle.table_rule.specs.Plays.{HasTurn, Seated, WasSeen}
 use Rattle.dep_table.specs.declared.turn.Turn.{Turn}

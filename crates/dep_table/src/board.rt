@@ -1,7 +1,7 @@
 //! The table is a board for workers.
 
 ghost use Rattle.std.specs.Prelude.{◌≡◌, []};
-ghost use Rattle.table_rule.specs.Placing as placing;
+ghost use Rattle.shard_meaning.specs.Placing as placing;
 ghost use Rattle.dep_table.specs.declared.table.DepTable.{DepTable as TableValue};
 ghost use Rattle.dep_table.specs.Boards.{IsWorkerPass};
 ghost use Rattle.dep_table.specs.Passes.{IsPassOf};

@@ -5,7 +5,7 @@ ghost use Rattle.ptg_base.specs.Task.{Task};
 ghost use Rattle.dep_iter.specs.Tasks.{IsTask};
 ghost use Rattle.work_board.specs.Looks.{HaltedIf, HasHalted, HasStamp, QuietIf};
 ghost use Rattle.table_rule.specs.Changes.{after_split, split_off};
-ghost use Rattle.table_rule.specs.Placing as placing;
+ghost use Rattle.shard_meaning.specs.Placing as placing;
 ghost use Rattle.table_rule.specs.Plays.{WasPass};
 ghost use Rattle.dep_table.specs.Passes.{IsPassOf};
 ghost use Rattle.dep_table.specs.Tables.{id_of, job_of};
@@ -14,8 +14,9 @@ ghost use Rattle.dep_table.specs.Views.{shown};
 use crate::pass::Pass;
 use crate::table::DepTable;
 use coll_data::Given;
-use dep_iter::{Matched, affinity, place_number};
+use dep_iter::Matched;
 use ptg_base::TaskId;
+use shard_calls::shard_at;
 use table_rule::law::SplitOff;
 
 impl DepTable {
@@ -48,18 +49,12 @@ impl DepTable {
     }
 
     /// The number of the shard of a task.
-    #[tactic(auto, unfolding(table_rule::specs::Placing::shard_of))]
     pub fn shard_of(&self, t: &TaskId) -> u32
         requires { IsTask (job_of self.now).matched t.now }
         ensures number { result ≡ placing.shard_of (job_of self.now).matched (job_of self.now).shards t.now }
         ensures within { result < (job_of self.now).shards }
     {
-        let plan = self.job.matched.plan();
-        let place = affinity(plan, t);
-        let shards = u64::from(self.job.shards);
-        let coll = u64::from(place.coll) % shards;
-        let number = place_number(plan, &place) % shards;
-        ((coll + number) % shards) as u32
+        shard_at(&self.job.matched, self.job.shards as usize, t) as u32
     }
 
     /// Splits a pass off another: a new name, and nothing done.

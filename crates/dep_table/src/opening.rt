@@ -1,16 +1,13 @@
 //! The opening of a table.
 
-ghost use Rattle.std.specs.Prelude.{◌≡◌, ◌<◌, ◌≤◌, ◌==◌, false, true, IfOk, OnOk, length};
+ghost use Rattle.std.specs.Prelude.{◌≡◌, ◌<◌, ◌≤◌, false, true, IfOk};
 ghost use Rattle.ptg_base.specs.Limits.{most_shards};
 ghost use Rattle.plan_data.specs.Fit.{DataFit};
-ghost use Rattle.dep_iter.specs.Edges.{goal};
-ghost use Rattle.dep_iter.specs.Tasks as tasks;
-ghost use Rattle.dep_iter.specs.Tasks.{IsTask};
+ghost use Rattle.shard_calls.specs.Opened.{AreOpeningShards};
 ghost use Rattle.table_rule.specs.Changes.{first_pass};
 ghost use Rattle.table_rule.specs.Opening.{IsOpening};
-ghost use Rattle.table_rule.specs.Placing as placing;
 ghost use Rattle.dep_table.specs.ClosingRooms.{IsRoomFor};
-ghost use Rattle.dep_table.specs.Opened.{AreNew, AreOpeningShards, AreOpeningWords, Enters, EntersIn, HaveOpeningReserve, Opens};
+ghost use Rattle.dep_table.specs.Opened.{AreOpeningWords, HaveOpeningReserve};
 ghost use Rattle.dep_table.specs.Passes.{IsPassOf};
 ghost use Rattle.dep_table.specs.Tables.{id_of, job_of};
 
@@ -20,80 +17,15 @@ use crate::table::DepTable;
 use crate::words::{STRIDE, live_index};
 use atomic_table::{Refused, Table};
 use coll_data::Given;
-use dep_iter::{Matched, affinity_under, all_tasks, locals_of, place_number, priority_under};
+use dep_iter::Matched;
 use dep_shard::Shard;
-use goal_count::goal_under;
-use ptg_base::{OutOfMemory, TaskId};
+use ptg_base::OutOfMemory;
+use shard_calls::opened_shards;
 use std::alloc::Global;
 use table_rule::job::Job;
 use table_rule::law::Law;
 use table_rule::rules::the_rule_holds_before_the_first_step;
 use work_board::PassRecord;
-
-// Enters a ready task into its shard, unless it has an entry.
-fn enter_in(shard: &mut Shard, t: &TaskId, priority: i64) -> Result<(), OutOfMemory>
-    ensures { OnOk result (EntersIn t.now priority shard.old shard.new) }
-{
-    match shard.index_of(t) {
-        Some(_index) => Ok(()),
-        None => shard.add_ready(t, priority),
-    }
-}
-
-// Enters a ready task into the shard k.
-fn enter(shards: &mut Vec<Shard>, k: usize, t: &TaskId, priority: i64) -> Result<(), OutOfMemory>
-    requires { k < length shards.old.items }
-    ensures { OnOk result (Enters k t.now priority shards.old.items shards.new.items) }
-{
-    enter_in(&mut shards[k], t, priority)
-}
-
-// The shard of a task with these locals, where there are so many shards.
-#[tactic(auto, unfolding(table_rule::specs::Placing::shard_of))]
-pub(crate) fn shard_under(m: &Matched, shards: usize, t: &TaskId, env: &[i64]) -> usize
-    requires task { IsTask m.now t.now }
-    requires locals { env.now ≡ tasks.locals_of m.now t.now }
-    requires shards { (0 < shards) × (shards ≤ most_shards) }
-    ensures number { result ≡ placing.shard_of m.now shards t.now }
-    ensures within { result < shards }
-{
-    let plan = m.plan();
-    let place = affinity_under(plan, t, env);
-    let count = shards as u64;
-    let coll = u64::from(place.coll) % count;
-    let number = place_number(plan, &place) % count;
-    ((coll + number) % count) as usize
-}
-
-// Enters a task if no edge goes into it, and answers whether that is so.
-fn open_task(shards: &mut Vec<Shard>, m: &Matched, t: &TaskId) -> Result<bool, OutOfMemory>
-    requires task { IsTask m.now t.now }
-    requires shards { (0 < length shards.old.items) × (length shards.old.items ≤ most_shards) }
-    ensures root { IfOk result (λ root. root ≡ (goal m.now t.now == 0)) }
-    ensures opened { OnOk result
-        (Opens m.now (placing.shard_of m.now (length shards.old.items)) t.now shards.old.items shards.new.items) }
-{
-    let env = locals_of(m.plan(), t);
-    if goal_under(m, t, env.as_slice()) != 0 {
-        return Ok(false);
-    }
-    let k = shard_under(m, shards.len(), t, env.as_slice());
-    let urgency = priority_under(m.plan(), t, env.as_slice());
-    enter(shards, k, t, urgency)?;
-    Ok(true)
-}
-
-// So many new shards.
-fn new_shards(alloc: Global, m: &Matched, count: u32) -> Result<Vec<Shard>, OutOfMemory>
-    ensures { IfOk result (λ v. AreNew count m.now.elems v.items) }
-{
-    let elems = m.plan().elems.as_slice();
-    let mut shards = Vec::new(alloc);
-    for _ in 0..count {
-        shards.push(Shard::new(alloc, elems)?)?;
-    }
-    Ok(shards)
-}
 
 // The words of a table with so many shards and ready tasks.
 fn opening_words(alloc: Global, shards: u32, live: u64) -> Result<Vec<u64>, OutOfMemory>
@@ -103,29 +35,6 @@ fn opening_words(alloc: Global, shards: u32, live: u64) -> Result<Vec<u64>, OutO
     let mut words = vec![in alloc; 0; STRIDE * (shards as usize + 3)]?;
     words[live_index(shards)] = live;
     Ok(words)
-}
-
-// The shards of a new table: each has the ready entries of its own tasks that no edge goes into. The walk stops once
-// all of these are found.
-pub(crate) fn opened_shards(
-    alloc: Global,
-    m: &Matched,
-    shards: u32,
-) -> Result<Vec<Shard>, OutOfMemory>
-    requires { (0 < shards) × (shards ≤ most_shards) }
-    ensures { IfOk result (λ v. AreOpeningShards m.now shards v.items) }
-{
-    let mut opened = new_shards(alloc, m, shards)?;
-    let mut left = m.roots();
-    for t in all_tasks(m.plan()) {
-        if left == 0 {
-            return Ok(opened);
-        }
-        if open_task(&mut opened, m, &t)? {
-            left -= 1;
-        }
-    }
-    Ok(opened)
 }
 
 // The room that a table for this job keeps for its close.

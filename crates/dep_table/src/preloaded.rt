@@ -7,20 +7,22 @@ ghost use Rattle.dep_iter.specs.Tasks.{IsTask, all_tasks};
 ghost use Rattle.plan_data.specs.Fit.{DataFit};
 ghost use Rattle.dep_shard.specs.Content.{Content};
 ghost use Rattle.table_rule.specs.Changes.{first_pass};
-ghost use Rattle.table_rule.specs.Placing as placing;
+ghost use Rattle.shard_meaning.specs.Placing as placing;
 ghost use Rattle.dep_table.specs.Needs.{AddsNeeds, AddsTaskAt, AreNeedsOf, AreNoNeeds, AreReserved, FitShards, HaveRoomFor, HaveTypes, IsReservedFor, ReservesAt};
-ghost use Rattle.dep_table.specs.Opened.{AreOpeningShards, HaveOpeningReserve};
+ghost use Rattle.shard_calls.specs.Opened.{AreOpeningShards};
+ghost use Rattle.dep_table.specs.Opened.{HaveOpeningReserve};
 ghost use Rattle.dep_table.specs.Passes.{IsPassOf};
 ghost use Rattle.dep_table.specs.Tables.{id_of, job_of};
 
 use crate::needs::Needs;
-use crate::opening::{open_table, opened_shards, shard_under};
+use crate::opening::open_table;
 use crate::pass::Pass;
 use crate::table::DepTable;
 use coll_data::Given;
 use dep_iter::{Matched, all_tasks, locals_of};
 use dep_shard::Shard;
 use ptg_base::{OutOfMemory, TaskId};
+use shard_calls::{opened_shards, shard_under};
 use std::alloc::Global;
 use table_rule::job::Job;
 

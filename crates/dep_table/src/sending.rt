@@ -6,7 +6,7 @@ ghost use Rattle.dep_shard.specs.Content.{Content};
 ghost use Rattle.work_board.specs.Records.{OnlyTook};
 ghost use Rattle.work_board.specs.Sends.{HasSent, IsNext, shard_of_item};
 ghost use Rattle.work_board.specs.declared.record.PassRecord.{PassRecord};
-ghost use Rattle.table_rule.specs.Placing as placing;
+ghost use Rattle.shard_meaning.specs.Placing as placing;
 ghost use Rattle.dep_table.specs.Passes.{IsPassOf};
 ghost use Rattle.dep_table.specs.Tables.{id_of, job_of};
 ghost use Rattle.dep_table.specs.Turns.{IsTurn, IsTurnOf};

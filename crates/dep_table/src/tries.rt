@@ -9,7 +9,7 @@ ghost use Rattle.flow_meaning.specs.Machine.{sender};
 ghost use Rattle.work_board.specs.Claims.{Claimed, Scanned};
 ghost use Rattle.work_board.specs.Records.{OnlyTook};
 ghost use Rattle.work_board.specs.Sends.{EndedIf, IsNext, MayEnd, MayTrap, SentAs, shard_of_item};
-ghost use Rattle.table_rule.specs.Placing as placing;
+ghost use Rattle.shard_meaning.specs.Placing as placing;
 ghost use Rattle.dep_table.specs.Passes.{IsPassOf};
 ghost use Rattle.dep_table.specs.Tables.{id_of, job_of};
 ghost use Rattle.dep_table.specs.Views.{shown};

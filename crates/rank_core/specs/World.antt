@@ -2,29 +2,25 @@
 -- message. Source: PaRSEC (2013), where a task runs on the rank that has the data of its affinity, and the runtime
 -- sends a message for an edge between ranks; that a rank is a remainder, and that a message may come late, twice and in
 -- any order, is this project's own choice.
-use Rattle.std.specs.Prelude.{◌≡◌, ℕ, ◌+◌, ◌%◌, ◌<◌, ◌==◌, List, [], ◌∷◌, ◌++◌, map, filter, length, slice_get, Bool, not, IsTrue, Option, if◌then◌else◌}
+use Rattle.std.specs.Prelude.{◌≡◌, ℕ, ◌<◌, ◌==◌, List, [], ◌∷◌, ◌++◌, map, filter, length, slice_get, Bool, not, IsTrue, Option, if◌then◌else◌}
 use Rattle.std.specs.Option.{option_map_or}
 use Rattle.ptg_base.specs.Lists.{IsIn}
 use Rattle.ptg_base.specs.Task.{Task}
 use Rattle.ptg_base.specs.declared.edge.Edge.{Edge}
 use Rattle.ptg_base.specs.declared.edge.Item.{Item}
 use Rattle.ptg_base.specs.declared.edge.Item.TheVariants as item
-use Rattle.ptg_base.specs.declared.place.Place.{Place}
 use Rattle.plan_core.specs.declared.plan.Plan.{Plan}
 use Rattle.coll_data.specs.Data.{Data}
-use Rattle.dep_iter.specs.Hints.{affinity, place_number}
 use Rattle.dep_iter.specs.Items.{item_flow, out_edges, write_backs}
 use Rattle.flow_meaning.specs.Ending.{Ended, has_outputs, output_tile}
 use Rattle.flow_meaning.specs.Machine.{MachineState, MayClaim, Sent, end_in, is_sent, opening_state}
+use Rattle.shard_meaning.specs.Placing.{shard_of}
+use Rattle.shard_meaning.specs.Share.{Placement}
 use Rattle.rank_core.specs.declared.message.Message.{Message}
 
--- the rank of a place, where there are r ranks: collections are counted from 0, and so are the places of each
-abbrev pub rank_of_place : Plan → ℕ → Place → ℕ
-rank_of_place P r p = (p.coll + place_number P p) % r
-
--- the rank of a task: that of the place of its affinity
-unfoldable pub rank_of : Plan → ℕ → Task → ℕ
-rank_of P r t = rank_of_place P r (affinity P t)
+-- the rank of a task, where there are r ranks: the shard that it belongs to, where there are as many shards
+abbrev pub rank_of : Plan → ℕ → Placement
+rank_of P r = shard_of P r
 
 -- whether an edge goes from one rank to another
 abbrev pub is_between : Plan → ℕ → Edge → Bool

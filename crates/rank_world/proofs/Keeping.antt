@@ -1,6 +1,5 @@
 -- What the ranks and the mail of a world say of it, between two events.
-use Rattle.std.proofs.Common.{◌≡◌, ◌<◌, ◌+◌, nat_eq, ℕ, true, false, cond, List, [], ◌∷◌, length, refl, ap, sym, ◌∙◌, subst, Option, Some, None, slice_get}
-use Rattle.std.proofs.lemmas.Nat.{mod_below}
+use Rattle.std.proofs.Common.{◌≡◌, ◌<◌, nat_eq, ℕ, true, false, cond, List, [], ◌∷◌, length, refl, ap, sym, ◌∙◌, subst, Option, Some, None, slice_get}
 use Rattle.std.specs.Cmp.{unsigned_Decides}
 use Rattle.std.specs.Map.{lookup}
 use Rattle.ptg_base.specs.Lists.{IsIn}
@@ -10,7 +9,6 @@ use Rattle.coll_data.specs.Data.{Data}
 use Rattle.list_lemmas.proofs.Truth.{by_test}
 use Rattle.list_lemmas.proofs.Places.{slice_get_there, place_of_member, IsIn-slice_get}
 use Rattle.dep_iter.specs.Consistent.{IsConsistent}
-use Rattle.dep_iter.specs.Hints.{affinity, place_number}
 use Rattle.dep_shard.specs.Content.{Content, Entry, IsReady, entry_of}
 use Rattle.flow_meaning.specs.Machine.{MachineState, MayClaim}
 use Rattle.flow_meaning.proofs.Rest.{rests}
@@ -18,17 +16,14 @@ use Rattle.shard_meaning.specs.Calm.{HasNoWork}
 use Rattle.shard_meaning.specs.Opening.{IsOpeningShard}
 use Rattle.shard_meaning.proofs.Holding.{may_ready, ready_may}
 use Rattle.shard_meaning.proofs.Openings.{opening_share}
+use Rattle.shard_meaning.proofs.Placing.{shard_below}
 use Rattle.shard_answer.specs.Ending.{HoldAnEnd}
 use Rattle.rank_core.specs.declared.message.Message.{Message}
 use Rattle.rank_core.specs.Sound.{IsSoundWorld}
 use Rattle.rank_core.specs.World.{IsQuiet, WorldState, opening_world, rank_of, stands}
 use Rattle.rank_core.proofs.Quiet.{quiet_iff}
 use Rattle.rank_world.specs.Keeping.{HoldShares, IsUnderWay, at_rest, unless_it_stands}
-use Rattle.rank_world.specs.Opened.{AreOpeningRanks}
-
-pub rank_below : (P : Plan) (r : ℕ) (t : Task) → 0 < r → rank_of P r t < r
-unfolding rank_of
-rank_below P r t some = mod_below ((affinity P t).coll + place_number P (affinity P t)) r some
+use Rattle.shard_calls.specs.Opened.{AreOpeningShards}
 
 -- what is under way
 pub under_way_none : (S : MachineState) (m : Message) → None ≡ unless_it_stands S (Some m) → stands S m ≡ true
@@ -76,7 +71,7 @@ module _ (P : Plan) (G : Data) (w : WorldState) (ys : List Content) (some : 0 < 
 
   pub quiet_by_ranks : ((k : ℕ) (y : Content) → slice_get ys k ≡ Some y → HasNoWork y) → (t : Task) → MayClaim P w.machine t → ⊥
   quiet_by_ranks idle t may =
-      let p = slice_get_there ys (rank_of P (length ys) t) (rank_below P (length ys) t some) in
+      let p = slice_get_there ys (rank_of P (length ys) t) (shard_below P (length ys) t some) in
       let e = ready_at t (rank_of P (length ys) t) p.0 p.1 refl may in
       (idle (rank_of P (length ys) t) p.0 p.1).ready t e.0 e.1 e.2
 
@@ -84,7 +79,7 @@ module _ (P : Plan) (G : Data) (w : WorldState) (ys : List Content) (some : 0 < 
   ranks_by_quiet none k y e = record { ready = λ t f is ready. none t (ready_may P G (rank_of P (length ys)) k (at_rest w.machine) y (shares k y e) t f is ready); running = (shares k y e).running }
 
 -- the ranks of a world that was opened
-pub opening_shares : (P : Plan) (G : Data) (n : ℕ) (ys : List Content) → AreOpeningRanks P n ys → HoldShares P G opening_world ys
+pub opening_shares : (P : Plan) (G : Data) (n : ℕ) (ys : List Content) → AreOpeningShards P n ys → HoldShares P G opening_world ys
 opening_shares P G n ys w k y e =
     opening_share P (rank_of P (length ys)) k y (subst (λ m. IsOpeningShard P (rank_of P m) k y) (sym w.count) (w.each k y e)) G
 
@@ -95,7 +90,7 @@ holds_an_end P G w ys con some sound shares quiet =
     record {
       of = rank_of P (length ys);
       moment = at_rest w.machine;
-      placed = λ t job. rank_below P (length ys) t some;
+      placed = λ t job. shard_below P (length ys) t some;
       shares = shares;
       sound = sound.state;
       calm = record { none_ready = quiet.none_may_run; none_runs = refl };

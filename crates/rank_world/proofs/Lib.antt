@@ -1,6 +1,3 @@
-pub mod TaskWalks
-pub mod OpeningSteps
-pub mod Opened
 pub mod Keeping
 pub mod Delivering
 pub mod Parts

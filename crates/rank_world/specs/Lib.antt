@@ -1,5 +1,4 @@
 pub mod Views
-pub mod Opened
 pub mod Keeping
 pub mod Sending
 pub mod Visits

@@ -1,112 +1,14 @@
 //! What an item changes in the rank that it comes to.
 
-ghost use Rattle.std.specs.Prelude.{◌≡◌, ◌<◌, ◌↔◌, None, Some, IfOk, IfSome, IsOk, IsSome, OnErr, OnOk, if◌then◌else◌, is_some, slice_index};
+ghost use Rattle.std.specs.Prelude.{IsOk, OnErr, OnOk};
 ghost use Rattle.std.specs.Option.{option_copied};
-ghost use Rattle.ptg_base.specs.Limits.{most_flows};
-ghost use Rattle.plan_core.specs.declared.flow.FlowPlan.{FlowPlan as FlowPlanValue};
-ghost use Rattle.plan_core.specs.Kinds.{flow_of};
-ghost use Rattle.dep_iter.specs.Edges as edges;
-ghost use Rattle.dep_iter.specs.Hints as hints;
-ghost use Rattle.dep_iter.specs.Tasks.{IsTask};
-ghost use Rattle.dep_shard.specs.declared.shard.Arrived.TheVariants.{Fired};
-ghost use Rattle.dep_shard.specs.Content.{IsReady, IsTileOf, IsUnchanged, IsWaiting, KeepsAllButEntries, Updates, Uses, entry_before, entry_of, with_arrival};
+ghost use Rattle.dep_shard.specs.Content.{IsUnchanged};
 ghost use Rattle.rank_world.specs.Sending.{HasRoomFor, MayTakeEdge, MayTakeWrite, TakesEdge, TakesWrite};
 
-use dep_iter::{Matched, flows_of, locals_of, priority_under};
-use dep_shard::{Arrived, Shard};
-use goal_count::goal_under;
-use ptg_base::{Edge, OutOfMemory, TaskId, Tile, WriteBack};
-
-// The number of the type of the tiles of a flow.
-fn type_of_flow(m: &Matched, t: &TaskId, flow: u8) -> u32
-    requires task { IsTask m.now t.now }
-    requires flow { IsSome (flow_of m.now.classes t.now.class flow) }
-    ensures { (f : FlowPlanValue) → flow_of m.now.classes t.now.class flow ≡ Some f → result ≡ f.datatype }
-{
-    let flows = flows_of(m.plan(), t);
-    flows[flow as usize].datatype
-}
-
-// The first edge comes to a task. Only here are its goal and its priority computed.
-fn arrive_first(
-    desk: &mut Shard,
-    m: &Matched,
-    edge: &Edge,
-    datatype: u32,
-    tile: Option<&Tile>,
-) -> Result<Arrived, OutOfMemory>
-    requires task { IsTask m.now edge.now.to }
-    requires flow { edge.now.in_flow < most_flows }
-    requires goal { 0 < edges.goal m.now edge.now.to }
-    requires new { entry_of desk.old edge.now.to ≡ None }
-    requires tile { IfSome (option_copied tile) (λ t. IsTileOf desk.old.elems datatype t) }
-    ensures ok { OnOk result
-        (Updates desk.old.entries desk.new.entries edge.now.to
-        (Some
-        (with_arrival
-        (entry_before desk.old edge.now.to (edges.goal m.now edge.now.to)
-        (hints.priority m.now edge.now.to))
-        edge.now.in_flow (option_copied tile.entry)))) }
-    ensures fired { IfOk result (λ a.
-        (a ≡ Fired)
-        ↔ IsReady
-        (with_arrival
-        (entry_before desk.old edge.now.to (edges.goal m.now edge.now.to) (hints.priority m.now edge.now.to))
-        edge.now.in_flow (option_copied tile.entry))) }
-    ensures err { OnErr result (desk.new.entries ≡ desk.old.entries) }
-    ensures rest { KeepsAllButEntries desk.old desk.new }
-    ensures spare { Uses desk.old.spare desk.new.spare (if is_some (entry_of desk.old edge.now.to) then 0 else 1)
-        (if is_some tile.entry then Some datatype else None) 0 0 }
-    ensures kept { OnErr result (Uses desk.old.spare desk.new.spare 0 None 0 0) }
-    ensures succeeds { 0 < desk.old.spare.entries → (IsSome tile.entry → 0 < slice_index desk.old.spare.tiles datatype)
-        → IsOk result }
-{
-    let locals = locals_of(m.plan(), &edge.to);
-    let goal = goal_under(m, &edge.to, locals.as_slice());
-    let urgency = priority_under(m.plan(), &edge.to, locals.as_slice());
-    desk.arrive_first(edge, goal, urgency, datatype, tile)
-}
-
-// An edge comes to its target.
-fn arrive(
-    desk: &mut Shard,
-    m: &Matched,
-    edge: &Edge,
-    datatype: u32,
-    tile: Option<&Tile>,
-) -> Result<Arrived, OutOfMemory>
-    requires task { IsTask m.now edge.now.to }
-    requires flow { edge.now.in_flow < most_flows }
-    requires goal { 0 < edges.goal m.now edge.now.to }
-    requires waits { IsWaiting
-        (entry_before desk.old edge.now.to (edges.goal m.now edge.now.to) (hints.priority m.now edge.now.to)) }
-    requires tile { IfSome (option_copied tile) (λ t. IsTileOf desk.old.elems datatype t) }
-    ensures ok { OnOk result
-        (Updates desk.old.entries desk.new.entries edge.now.to
-        (Some
-        (with_arrival
-        (entry_before desk.old edge.now.to (edges.goal m.now edge.now.to)
-        (hints.priority m.now edge.now.to))
-        edge.now.in_flow (option_copied tile.entry)))) }
-    ensures fired { IfOk result (λ a.
-        (a ≡ Fired)
-        ↔ IsReady
-        (with_arrival
-        (entry_before desk.old edge.now.to (edges.goal m.now edge.now.to) (hints.priority m.now edge.now.to))
-        edge.now.in_flow (option_copied tile.entry))) }
-    ensures err { OnErr result (desk.new.entries ≡ desk.old.entries) }
-    ensures rest { KeepsAllButEntries desk.old desk.new }
-    ensures spare { Uses desk.old.spare desk.new.spare (if is_some (entry_of desk.old edge.now.to) then 0 else 1)
-        (if is_some tile.entry then Some datatype else None) 0 0 }
-    ensures kept { OnErr result (Uses desk.old.spare desk.new.spare 0 None 0 0) }
-    ensures succeeds { (entry_of desk.old edge.now.to ≡ None → 0 < desk.old.spare.entries)
-        → (IsSome tile.entry → 0 < slice_index desk.old.spare.tiles datatype) → IsOk result }
-{
-    match desk.index_of(&edge.to) {
-        Some(index) => desk.arrive_at(index, edge.in_flow, datatype, tile),
-        None => arrive_first(desk, m, edge, datatype, tile),
-    }
-}
+use dep_iter::Matched;
+use dep_shard::Shard;
+use ptg_base::{Edge, OutOfMemory, Tile, WriteBack};
+use shard_calls::{arrive, type_of_flow};
 
 // A rank takes an edge in, with its tile. Without memory it stays as it was, but for spares that grow.
 pub(crate) fn take_edge(

@@ -8,8 +8,6 @@ mod driving;
 mod history;
 mod leaving;
 mod mail;
-mod opening;
-mod placing;
 mod posting;
 mod room;
 mod running;

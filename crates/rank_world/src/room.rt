@@ -12,13 +12,13 @@ ghost use Rattle.rank_world.specs.Outgoings.{AddsBlank, AddsWithin};
 ghost use Rattle.rank_world.specs.Sending.{HasRoomFor};
 ghost use Rattle.rank_world.specs.Visits.{AreBlank, IsShapeOf, IsVisit, between_among, plan_of, within_among};
 
-use crate::placing::rank_at;
 use crate::visit::Visit;
 use dep_iter::{Matched, flows_of, out_edges_under, write_backs_under};
 use dep_shard::Shard;
 use plan_core::{FlowPlan, Plan, is_data};
 use ptg_base::{Edge, OutOfMemory, TaskId, Tile};
 use rank_core::Message;
+use shard_calls::shard_at;
 use std::alloc::Global;
 
 // What a task will send: the messages to other ranks, whose tiles are still blank, and how many edges stay within its
@@ -90,7 +90,7 @@ pub(crate) fn goes_away(at: &Visit, edge: &Edge) -> bool
     requires to { IsTask (plan_of at.now) edge.now.to }
     ensures { result ≡ is_between (plan_of at.now) at.now.ranks edge.now }
 {
-    rank_at(at.matched, at.ranks, &edge.to) != at.rank
+    shard_at(at.matched, at.ranks, &edge.to) != at.rank
 }
 
 // Adds an edge out of the task of a visit to what it will send.

@@ -19,7 +19,6 @@ ghost use Rattle.rank_world.specs.Visits.{AreBlank, HoldsAt, IsVisit, after, bef
 use crate::history::{History, Number};
 use crate::leaving::leave_within;
 use crate::mail::Mail;
-use crate::placing::rank_under;
 use crate::posting::post_all;
 use crate::room::{Outgoing, count_writes, make_room, outgoing_of};
 use crate::visit::Visit;
@@ -28,6 +27,7 @@ use dep_iter::task_locals;
 use dep_shard::Shard;
 use ptg_base::{OutOfMemory, TaskId};
 use rank_core::Message;
+use shard_calls::shard_under;
 use std::alloc::Global;
 use task_run::{Bench, Start};
 use term_core::Trap;
@@ -268,7 +268,7 @@ impl<'m> World<'m> {
         let Some(locals) = task_locals(plan, t) else {
             return Ok(false);
         };
-        let rank = rank_under(self.matched, self.ranks.len(), t, locals.as_slice());
+        let rank = shard_under(self.matched, self.ranks.len(), t, locals.as_slice());
         if !is_ready(&self.ranks[rank], t) {
             return Ok(false);
         }

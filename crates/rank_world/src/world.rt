@@ -21,8 +21,6 @@ ghost use Rattle.rank_world.specs.Views.{opened, with_delivery};
 use crate::delivery::take_edge;
 use crate::history::{History, Number};
 use crate::mail::Mail;
-use crate::opening::opened_ranks;
-use crate::placing::rank_at;
 use coll_data::Given;
 use dep_iter::Matched;
 use dep_shard::Shard;
@@ -31,6 +29,7 @@ use indexmap::IndexMap;
 use ptg_base::{OutOfMemory, TaskId};
 use rank_core::Message;
 use shard_answer::{Room, outcome_of};
+use shard_calls::{opened_shards, shard_at};
 use std::alloc::Global;
 use std::marker::Model;
 use task_run::Bench;
@@ -118,7 +117,7 @@ impl<'m> World<'m> {
         ensures opened { IfOk result (λ w. w ≡ opened m.now given ranks) }
         ensures sound { IfOk result (λ w. IsSoundWorld w.plan w.given w.ranks w.state) }
     {
-        let shards = opened_ranks(alloc, m, ranks)?;
+        let shards = opened_shards(alloc, m, ranks)?;
         let bench = Bench::new(alloc, m)?;
         m.is_consistent();
         Ok(World {
@@ -141,7 +140,7 @@ impl<'m> World<'m> {
         ensures rank { result ≡ world.rank_of self.now.plan self.now.ranks t.now }
         ensures within { result < self.now.ranks }
     {
-        rank_at(self.matched, self.ranks.len(), t) as u32
+        shard_at(self.matched, self.ranks.len(), t) as u32
     }
 
     /// How many ranks there are.
@@ -217,7 +216,7 @@ impl<'m> World<'m> {
         let Some(message) = self.mail.under_way.get(&n) else {
             return Ok(false);
         };
-        let k = rank_at(self.matched, self.ranks.len(), &message.edge.to);
+        let k = shard_at(self.matched, self.ranks.len(), &message.edge.to);
         take_edge_at(&mut self.ranks, k, self.matched, message)?;
         let _message = self.mail.under_way.swap_remove(&n);
         self.history = History::with_delivery(&self.history, &Number { value: n });

@@ -1,3 +1,4 @@
+pub mod Placing
 pub mod Listing
 pub mod TableEntries
 pub mod Destinations
@@ -13,7 +14,6 @@ pub mod SendReserving
 pub mod SoundMoments
 pub mod Holding
 pub mod Targets
-pub mod Writing
 pub mod Calming
 pub mod Openings
 pub mod ReadyCount

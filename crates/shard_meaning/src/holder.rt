@@ -3,12 +3,10 @@
 
 ghost use Rattle.std.specs.Prelude.{◌≡◌, ◌<◌, ◌≤◌, ◌+◌, ◌↔◌, ℕ, ℤ, IsSome, List, None, Option, Some};
 ghost use Rattle.ptg_base.specs.Limits.{most_flows, most_tasks};
-ghost use Rattle.ptg_base.specs.Lists.{IsIn};
 ghost use Rattle.ptg_base.specs.Task.{Task};
 ghost use Rattle.ptg_base.specs.declared.edge.Edge.{Edge};
 ghost use Rattle.ptg_base.specs.declared.edge.Item.TheVariants as item;
 ghost use Rattle.ptg_base.specs.declared.edge.Item.{Item};
-ghost use Rattle.ptg_base.specs.declared.edge.WriteBack.{WriteBack};
 ghost use Rattle.plan_core.specs.declared.plan.Plan.{Plan};
 ghost use Rattle.coll_data.specs.Data.{Data};
 ghost use Rattle.dep_iter.specs.Consistent.{IsConsistent};
@@ -79,12 +77,4 @@ pub fn an_edge_finds_its_target()
         → IsShardOf P G of k R y → entry_of y e.to ≡ Some v
         → (v.goal ≡ goal P e.to) × (v.priority ≡ priority P e.to)
         × (entry_before y e.to (goal P e.to) (priority P e.to) ≡ v) }
-{}
-
-/// A law: the place of a write-back that may be sent was written by no shard.
-pub fn a_place_is_written_once()
-    ensures { (P : Plan) (G : Data) (of : Placement) (k : ℕ) (R : Moment) (w : WriteBack) (y : Content)
-        (p : WriteBack × List ℤ)
-        → IsConsistent P → IsSoundState P G R.state → MaySend P G R.state (item.Write w) → IsShardOf P G of k R y
-        → IsIn p y.written → p.0.place ≡ w.place → ⊥ }
 {}

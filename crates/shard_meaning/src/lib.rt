@@ -14,8 +14,7 @@ mod threads;
 
 pub use calm::{a_calm_moment_is_at_rest, shards_without_work_are_calm};
 pub use holder::{
-    a_claim_hands_out_the_inputs, a_place_is_written_once, an_edge_finds_its_target,
-    the_numbers_of_a_shard_are_bounded,
+    a_claim_hands_out_the_inputs, an_edge_finds_its_target, the_numbers_of_a_shard_are_bounded,
 };
 pub use items::items_carry_tiles_of_their_types;
 pub use moments::{

@@ -31,7 +31,7 @@ use Rattle.table_rule.specs.declared.job.Job.{Job}
 use Rattle.table_rule.specs.Changes.{turn_left, with_own_claim}
 use Rattle.table_rule.specs.Live.{OwnsLives}
 use Rattle.table_rule.specs.Owning.{OwnsWork}
-use Rattle.table_rule.specs.Placing.{shard_of}
+use Rattle.shard_meaning.specs.Placing.{shard_of}
 use Rattle.table_rule.specs.Plays.{HasName, HasTurn, Seated, gave_claim}
 use Rattle.table_rule.specs.Rule.{Parts, Rule, Table}
 use Rattle.table_rule.specs.Words.{live_word, stamp_word, turn_word}

@@ -32,7 +32,7 @@ use Rattle.table_rule.specs.declared.job.Job.{Job}
 use Rattle.table_rule.specs.Changes.{turn_left, with_own_end}
 use Rattle.table_rule.specs.Live.{OwnsLives, own_claims, own_runs, own_stamps}
 use Rattle.table_rule.specs.Owning.{OwnsWork}
-use Rattle.table_rule.specs.Placing.{shard_of}
+use Rattle.shard_meaning.specs.Placing.{shard_of}
 use Rattle.table_rule.specs.Plays.{HasName, HasTurn, Seated, gave_end}
 use Rattle.table_rule.specs.Records.{AreRecordsOf}
 use Rattle.table_rule.specs.Rule.{Parts, Reserve, Rule, Share, Table}

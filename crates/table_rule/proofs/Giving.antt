@@ -10,7 +10,7 @@ use Rattle.shard_meaning.proofs.Reserving.{reserve-unchanged}
 use Rattle.work_board.specs.declared.record.PassRecord.{PassRecord}
 use Rattle.table_rule.specs.declared.job.Job.{Job}
 use Rattle.table_rule.specs.Changes.{turn_left}
-use Rattle.table_rule.specs.Placing.{shard_of}
+use Rattle.shard_meaning.specs.Placing.{shard_of}
 use Rattle.table_rule.specs.Plays.{HasTurn, Seated, left}
 use Rattle.table_rule.specs.Rule.{Rule}
 use Rattle.table_rule.specs.Words.{turn_word}

@@ -17,4 +17,3 @@ pub mod Alone
 pub mod Opening
 pub mod Seeing
 pub mod AllNames
-pub mod Placing

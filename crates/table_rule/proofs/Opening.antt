@@ -17,7 +17,7 @@ use Rattle.table_rule.specs.Live.{OwnsLives}
 use Rattle.table_rule.specs.Names.{is_named}
 use Rattle.table_rule.specs.Opening.{IsOpening}
 use Rattle.table_rule.specs.Owning.{OwnsWork}
-use Rattle.table_rule.specs.Placing.{shard_of}
+use Rattle.shard_meaning.specs.Placing.{shard_of}
 use Rattle.table_rule.specs.Records.{Each}
 use Rattle.table_rule.specs.Rule.{Rule}
 use Rattle.table_rule.specs.Words.{halt_word, stamp_word, turn_word}

@@ -21,7 +21,7 @@ use Rattle.shard_meaning.proofs.Reordered.{reordered_calm, reordered_finished, r
 use Rattle.work_board.specs.declared.record.PassRecord.{PassRecord}
 use Rattle.table_rule.specs.declared.job.Job.{Job}
 use Rattle.table_rule.specs.Live.{AreLive}
-use Rattle.table_rule.specs.Placing.{shard_of}
+use Rattle.shard_meaning.specs.Placing.{shard_of}
 use Rattle.table_rule.specs.Records.{AreRecordsOf, joined}
 use Rattle.table_rule.specs.Rule.{Parts, Reserve, Rule, Share, Table}
 use Rattle.table_rule.proofs.Ending.{sound_moment}

@@ -19,7 +19,7 @@ use Rattle.shard_meaning.proofs.Targets.{target_fires}
 use Rattle.work_board.specs.Sends.{IsNext}
 use Rattle.work_board.specs.declared.record.PassRecord.{PassRecord}
 use Rattle.table_rule.specs.declared.job.Job.{Job}
-use Rattle.table_rule.specs.Placing.{shard_of}
+use Rattle.shard_meaning.specs.Placing.{shard_of}
 use Rattle.table_rule.specs.Plays.{WasSeen, fires}
 use Rattle.table_rule.specs.Records.{joined}
 use Rattle.table_rule.specs.Rule.{Parts, Reserve, Rule, Share, Table}

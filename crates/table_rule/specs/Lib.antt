@@ -1,5 +1,4 @@
 pub mod Words
-pub mod Placing
 pub mod Records
 pub mod Names
 pub mod Owning

@@ -9,7 +9,7 @@ use Rattle.flow_meaning.specs.Machine.{opening_state}
 use Rattle.flow_meaning.specs.Table.{ready_tasks}
 use Rattle.shard_meaning.specs.Opening.{HasOpeningReserve, IsOpeningShard}
 use Rattle.table_rule.specs.declared.job.Job.{Job}
-use Rattle.table_rule.specs.Placing.{shard_of}
+use Rattle.shard_meaning.specs.Placing.{shard_of}
 use Rattle.table_rule.specs.Words.{live_word, word_count}
 
 -- the words and the shards of a new table: the tasks that no edge goes into are entries of their shards, the live word

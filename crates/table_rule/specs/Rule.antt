@@ -14,7 +14,7 @@ use Rattle.work_board.specs.declared.record.PassRecord.{PassRecord}
 use Rattle.table_rule.specs.declared.job.Job.{Job}
 use Rattle.table_rule.specs.Live.{AreLive}
 use Rattle.table_rule.specs.Owning.{AreOwned}
-use Rattle.table_rule.specs.Placing.{shard_of}
+use Rattle.shard_meaning.specs.Placing.{shard_of}
 use Rattle.table_rule.specs.Quiet.{IsQuieted}
 use Rattle.table_rule.specs.Records.{AreRecordsOf}
 use Rattle.table_rule.specs.Turns.{AreHeld, AreTurns, AtRest}

@@ -19,7 +19,7 @@ ghost use Rattle.shard_meaning.specs.Reserve.{has_type};
 ghost use Rattle.work_board.specs.Sends.{IsNext, MayEnd, MayTrap};
 ghost use Rattle.table_rule.specs.declared.job.Job.{Job};
 ghost use Rattle.table_rule.specs.Live.{own_stamps};
-ghost use Rattle.table_rule.specs.Placing.{shard_of};
+ghost use Rattle.shard_meaning.specs.Placing.{shard_of};
 ghost use Rattle.table_rule.specs.Plays.{HasTurn, Seated, fires, gave_claim, gave_end, gave_send};
 ghost use Rattle.table_rule.specs.Rule.{Rule};
 ghost use Rattle.table_rule.specs.Words.{turn_word};

@@ -23,7 +23,7 @@ ghost use Rattle.table_rule.specs.Changes.{after_split, both, first_pass, split_
 ghost use Rattle.table_rule.specs.Live.{AreStamps};
 ghost use Rattle.table_rule.specs.Names.{AreAll};
 ghost use Rattle.table_rule.specs.Opening.{IsOpening};
-ghost use Rattle.table_rule.specs.Placing.{shard_of};
+ghost use Rattle.shard_meaning.specs.Placing.{shard_of};
 ghost use Rattle.table_rule.specs.Plays.{WasSeen, fires};
 ghost use Rattle.table_rule.specs.Records.{joined, moment_of};
 ghost use Rattle.table_rule.specs.Rule.{Parts, Reserve, Rule, Share, Table};

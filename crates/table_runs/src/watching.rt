@@ -2,7 +2,7 @@
 
 ghost use Rattle.std.specs.Prelude.{◌≡◌};
 ghost use Rattle.dep_iter.specs.Tasks.{IsTask};
-ghost use Rattle.table_rule.specs.Placing as placing;
+ghost use Rattle.shard_meaning.specs.Placing as placing;
 ghost use Rattle.dep_table.specs.Tables.{job_of};
 ghost use Rattle.dep_table.specs.Views as views;
 ghost use Rattle.table_runs.specs.declared.watching.Watch.{Watch as WatchValue};

@@ -5,4 +5,3 @@ pub mod Rows
 pub mod Spellings
 pub mod Running
 pub mod Either
-pub mod Growing

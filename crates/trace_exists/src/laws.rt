@@ -6,7 +6,6 @@ ghost use Rattle.plan_core.specs.declared.plan.Plan.{Plan};
 ghost use Rattle.coll_data.specs.Data.{Data};
 ghost use Rattle.dep_iter.specs.Consistent.{IsConsistent};
 ghost use Rattle.trace_core.specs.Faults.{IsTraceFault};
-ghost use Rattle.trace_core.specs.Orders.{IsWholeOrder};
 ghost use Rattle.trace_core.specs.Reading.{IsListOf};
 ghost use Rattle.trace_core.specs.declared.fault.TraceFault.{TraceFault};
 ghost use Rattle.trace_exists.specs.Traces.{IsSomeTrace, IsTrace};
@@ -24,9 +23,4 @@ pub fn every_text_has_a_fault_or_is_a_trace()
 pub fn a_trace_is_the_text_of_its_list()
     ensures { (P : Plan) (G : Data) (text : List ℕ) (tasks : List Task) → IsTrace P G text tasks
         → IsListOf P text tasks }
-{}
-
-/// A law: a job has a whole order, whatever its data are.
-pub fn every_job_has_a_whole_order()
-    ensures { (P : Plan) (G : Data) → IsConsistent P → (tasks : List Task) × IsWholeOrder P G tasks }
 {}

@@ -1,5 +1,5 @@
 use Rattle.std.proofs.Common.{◌≡◌, ◌∙◌, ◌<◌, ap, subst, length}
-use Rattle.table_rule.specs.Placing.{shard_of}
+use Rattle.shard_meaning.specs.Placing.{shard_of}
 use Rattle.dep_table.specs.Needs.{AddsTaskAt}
 use Rattle.dep_table.proofs.NeedsSteps.{task_needs}
 use Rattle.dep_table.proofs.preloaded.need_task.Goals as goal

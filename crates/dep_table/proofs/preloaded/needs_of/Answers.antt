@@ -1,11 +1,11 @@
 use Rattle.std.proofs.Common.{rules, ◌≡◌, ◌∙◌, [], ◌∷◌, ap, sym, subst, length}
 use Rattle.plan_core.specs.declared.plan.Plan.{Plan}
 use Rattle.dep_iter.specs.Tasks.{all_tasks}
-use Rattle.table_rule.specs.Placing.{shard_of}
+use Rattle.shard_meaning.specs.Placing.{shard_of}
 use Rattle.dep_table.specs.Needs.{AreNeedsOf, HaveRoomFor}
 use Rattle.dep_table.proofs.NeedsRoom.{room_all, room_first}
 use Rattle.dep_table.proofs.NeedsSteps.{needs_more, no_task}
-use Rattle.dep_table.proofs.TaskWalks.{IsSoFar, begun, next_task, whole}
+use Rattle.shard_calls.proofs.TaskWalks.{IsSoFar, begun, next_task, whole}
 use Rattle.dep_table.proofs.preloaded.needs_of.Goals as goal
 
 pub loop-t-init : goal.loop-t-init

@@ -1,0 +1,3 @@
+pub mod TaskWalks
+pub mod OpeningSteps
+pub mod Opened

@@ -1,0 +1,82 @@
+//! The opening of shards: each gets a ready entry of its own tasks that no edge goes into.
+
+ghost use Rattle.std.specs.Prelude.{◌≡◌, ◌<◌, ◌≤◌, ◌==◌, IfOk, OnOk, length};
+ghost use Rattle.ptg_base.specs.Limits.{most_shards};
+ghost use Rattle.dep_iter.specs.Edges.{goal};
+ghost use Rattle.dep_iter.specs.Tasks.{IsTask};
+ghost use Rattle.shard_meaning.specs.Placing.{shard_of};
+ghost use Rattle.shard_calls.specs.Opened.{AreNew, AreOpeningShards, Enters, EntersIn, Opens};
+
+use crate::placing::shard_under;
+use dep_iter::{Matched, all_tasks, locals_of, priority_under};
+use dep_shard::Shard;
+use goal_count::goal_under;
+use ptg_base::{OutOfMemory, TaskId};
+use std::alloc::Global;
+
+// Enters a ready task into its shard, unless it has an entry.
+fn enter_in(shard: &mut Shard, t: &TaskId, priority: i64) -> Result<(), OutOfMemory>
+    ensures { OnOk result (EntersIn t.now priority shard.old shard.new) }
+{
+    match shard.index_of(t) {
+        Some(_index) => Ok(()),
+        None => shard.add_ready(t, priority),
+    }
+}
+
+// Enters a ready task into the shard k.
+fn enter(shards: &mut Vec<Shard>, k: usize, t: &TaskId, priority: i64) -> Result<(), OutOfMemory>
+    requires { k < length shards.old.items }
+    ensures { OnOk result (Enters k t.now priority shards.old.items shards.new.items) }
+{
+    enter_in(&mut shards[k], t, priority)
+}
+
+// Enters a task if no edge goes into it, and answers whether that is so.
+fn open_task(shards: &mut Vec<Shard>, m: &Matched, t: &TaskId) -> Result<bool, OutOfMemory>
+    requires task { IsTask m.now t.now }
+    requires shards { (0 < length shards.old.items) × (length shards.old.items ≤ most_shards) }
+    ensures root { IfOk result (λ root. root ≡ (goal m.now t.now == 0)) }
+    ensures opened { OnOk result
+        (Opens m.now (shard_of m.now (length shards.old.items)) t.now shards.old.items shards.new.items) }
+{
+    let env = locals_of(m.plan(), t);
+    if goal_under(m, t, env.as_slice()) != 0 {
+        return Ok(false);
+    }
+    let k = shard_under(m, shards.len(), t, env.as_slice());
+    let urgency = priority_under(m.plan(), t, env.as_slice());
+    enter(shards, k, t, urgency)?;
+    Ok(true)
+}
+
+// So many new shards.
+fn new_shards(alloc: Global, m: &Matched, count: u32) -> Result<Vec<Shard>, OutOfMemory>
+    ensures { IfOk result (λ v. AreNew count m.now.elems v.items) }
+{
+    let elems = m.plan().elems.as_slice();
+    let mut shards = Vec::new(alloc);
+    for _ in 0..count {
+        shards.push(Shard::new(alloc, elems)?)?;
+    }
+    Ok(shards)
+}
+
+/// So many new shards: each has the ready entries of its own tasks that no edge goes into. The walk stops once all of
+/// these are found.
+pub fn opened_shards(alloc: Global, m: &Matched, shards: u32) -> Result<Vec<Shard>, OutOfMemory>
+    requires { (0 < shards) × (shards ≤ most_shards) }
+    ensures { IfOk result (λ v. AreOpeningShards m.now shards v.items) }
+{
+    let mut opened = new_shards(alloc, m, shards)?;
+    let mut left = m.roots();
+    for t in all_tasks(m.plan()) {
+        if left == 0 {
+            return Ok(opened);
+        }
+        if open_task(&mut opened, m, &t)? {
+            left -= 1;
+        }
+    }
+    Ok(opened)
+}
