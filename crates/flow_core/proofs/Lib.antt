@@ -8,7 +8,6 @@ pub mod Rows
 pub mod Writes
 pub mod RunningTasks
 pub mod OneThread
-pub mod Turning
 pub mod Quiet
 pub mod KeptGoals
 pub mod Opening

@@ -74,14 +74,6 @@ module _ {X : Type 0} where
         | inr later ↦ let p = key_found t es later in (p.0, ap (λ b. cond b (Some e.1) (lookup (same_task t) es)) k ∙ p.1)
       ])
 
-  -- a look-up in a list with one more entry
-  pub lookup_push : (test : Task → Bool) (es : List (Task × X)) (t : Task) (x : X) → lookup test es ≡ None → lookup test (es ++ (t, x) ∷ []) ≡ cond (test t) (Some x) None
-  lookup_push test [] t x none = refl
-  lookup_push test (e ∷ es) t x none =
-      by_test (test e.0)
-      (λ k. let no : Some e.1 ≡ None = sym (ap (λ b. cond b (Some e.1) (lookup test es)) k) ∙ none in cc)
-      (λ k. ap (λ b. cond b (Some e.1) (lookup test (es ++ (t, x) ∷ []))) k ∙ lookup_push test es t x (sym (ap (λ b. cond b (Some e.1) (lookup test es)) k) ∙ none))
-
   -- where a look-up finds nothing in the longer list, it found nothing before
   pub none_before : (test : Task → Bool) (es : List (Task × X)) (t : Task) (x : X) → lookup test (es ++ (t, x) ∷ []) ≡ None → (lookup test es ≡ None) × (test t ≡ false)
   none_before test [] t x none = (refl, by_test (test t) (λ k. let no : Some x ≡ None = sym (ap (λ b. cond b (Some x) None) k) ∙ none in cc) (λ k. k))

@@ -9,5 +9,4 @@ pub mod Rows
 pub mod OneThread
 pub mod Keeping
 pub mod Quiet
-pub mod Turns
 pub mod Goals

@@ -1,12 +1,9 @@
-//! Laws of runs: each call is an event of the machine, or none; an edge of a CTL flow carries no tile; which task may
-//! follow finished ones.
+//! Laws of runs: each call is an event of the machine, or none; an edge of a CTL flow carries no tile.
 
-ghost use Rattle.std.specs.Prelude.{◌≡◌, ◌↔◌, IsFalse, IsTrue, None, Some, slice_get};
-ghost use Rattle.std.specs.Map.{keys_of};
+ghost use Rattle.std.specs.Prelude.{◌≡◌, IsFalse, None, Some, slice_get};
 ghost use Rattle.ptg_base.specs.Lists.{IsIn};
 ghost use Rattle.ptg_base.specs.Task.{Task};
 ghost use Rattle.ptg_base.specs.declared.edge.Item.{Item};
-ghost use Rattle.ptg_base.specs.declared.edge.Edge.{Edge};
 ghost use Rattle.plan_core.specs.declared.plan.Plan.{Plan};
 ghost use Rattle.plan_core.specs.declared.flow.FlowPlan.{FlowPlan};
 ghost use Rattle.plan_core.specs.Kinds.{is_data};
@@ -14,14 +11,10 @@ ghost use Rattle.coll_data.specs.Data.{Data};
 ghost use Rattle.coll_data.specs.WellMade.{IsWellMade};
 ghost use Rattle.plan_data.specs.Fit.{DataFit};
 ghost use Rattle.dep_iter.specs.Items.{item_flow};
-ghost use Rattle.dep_iter.specs.Edges.{in_edges};
-ghost use Rattle.dep_iter.specs.Tasks.{IsTask, flows_of};
+ghost use Rattle.dep_iter.specs.Tasks.{flows_of};
 ghost use Rattle.dep_iter.specs.Consistent.{IsConsistent};
-ghost use Rattle.flow_meaning.specs.Ending.{Ended, has_outputs};
-ghost use Rattle.flow_meaning.specs.Backward.{ended};
-ghost use Rattle.flow_meaning.specs.Machine.{Claim, Send, MachineState, MayClaim, Sent, sender, state_after};
-ghost use Rattle.flow_meaning.specs.Sound.{IsFinished, IsSoundState};
-ghost use Rattle.flow_core.specs.Turns.{IsBetweenTurns};
+ghost use Rattle.flow_meaning.specs.Ending.{Ended};
+ghost use Rattle.flow_meaning.specs.Machine.{Claim, Send, Sent, sender, state_after};
 ghost use Rattle.flow_core.specs.RunState.{RunState, IsRunning, machine, opening_run, with_claim, with_end, with_send};
 ghost use Rattle.flow_core.specs.Fits.{Fits, HasFinished, MaySendNow};
 
@@ -40,21 +33,4 @@ pub fn items_of_ctl_flows_carry_no_tile()
         → DataFit P.colls P.elems G → IsWellMade G → Fits P G r → IsIn x r.sends
         → slice_get (flows_of P (sender x.item)) (item_flow x.item) ≡ Some f → IsFalse (is_data (Some f.kind))
         → x.tile ≡ None }
-{}
-
-/// A law: where each claimed task does no more, a task may be claimed exactly if it is new, and the source of each edge
-/// into it is claimed and has outputs.
-pub fn a_task_may_follow_finished_ones()
-    ensures { (P : Plan) (G : Data) (S : MachineState) (t : Task) → IsConsistent P → IsSoundState P G S
-        → ((u : Task) → IsIn u S.claims → IsFinished P G S u) → IsTask P t
-        → MayClaim P S t
-        ↔ ((IsIn t S.claims → ⊥)
-        × ((e : Edge) → IsIn e (in_edges P t)
-        → IsIn e.from S.claims × IsTrue (has_outputs (ended P G e.from)))) }
-{}
-
-/// A law: between two turns each claimed task does no more.
-pub fn turns_leave_tasks_finished()
-    ensures { (P : Plan) (G : Data) (r : RunState) (t : Task) → IsBetweenTurns P G r → IsIn t (keys_of r.claims)
-        → IsFinished P G (machine r) t }
 {}

@@ -16,11 +16,7 @@ mod runner;
 mod sending;
 mod sent_items;
 mod state;
-mod turns;
 
-pub use laws::{
-    a_task_may_follow_finished_ones, calls_are_events, items_of_ctl_flows_carry_no_tile,
-    turns_leave_tasks_finished,
-};
+pub use laws::{calls_are_events, items_of_ctl_flows_carry_no_tile};
 pub use one_thread::run_one;
 pub use state::State;

@@ -37,7 +37,6 @@ use task_run::Bench;
 /// A world of ranks that runs a job in one thread: each rank has the entries of its own tasks, and an edge between
 /// two ranks is a message, which may be delivered late, twice and in any order. Contracts see the job, the number of
 /// ranks and what has happened.
-#[derive(Drop)]
 pub struct World<'m> {
     pub(crate) alloc: Global,
     pub(crate) matched: &'m Matched,
@@ -46,6 +45,20 @@ pub struct World<'m> {
     pub(crate) bench: Bench,
     pub(crate) mail: Mail,
     pub(crate) history: History,
+}
+
+impl<'m> Drop for World<'m> {
+    fn drop(self) {
+        let World {
+            alloc: _alloc,
+            matched: _matched,
+            given: _given,
+            ranks: _ranks,
+            bench: _bench,
+            mail: _mail,
+            history: _history,
+        } = self;
+    }
 }
 
 impl<'m> Model for World<'m> {

@@ -4,7 +4,7 @@ use Rattle.std.specs.Prelude.{IfErr, IfOk, IsErr, MatchOption, OnOk}
 use Rattle.ptg_base.specs.declared.refusal.Refusal.{Refusal}
 use Rattle.ptg_base.specs.declared.refusal.Refusal.TheVariants as refusals
 use Rattle.ptg_base.specs.declared.refusal.Refusal.TheVariants.{Fault}
-use Rattle.flow_core.specs.RunState.{RunState}
+use Rattle.rank_world.specs.Views.{WorldView}
 use Rattle.std.proofs.Common.{◌≡◌, ℕ, ◌+◌, true, List, [], ◌∷◌, ◌++◌, map, length, refl, ap, sym, ◌∙◌, subst, inl, inr, append_assoc, Option, Some, None, Result, Ok, Err, arith}
 use Rattle.std.specs.List.{AllByRecursion}
 use Rattle.std.proofs.lemmas.List.{append-nil, map-append}
@@ -152,11 +152,11 @@ spelling_of_text P G text f (over_length l p q) = too_long l p q
 spelling_of_text P G text f (of_a_row le b q) = bad_trace le b q
 
 -- what the turns of tasks came to
-pub stopped_at : (P : Plan) (G : Data) (ts : List Task) (r : RunState) (o : Option ℕ) (index : ℕ) → MatchOption o (HasRunInOrder P G ts r) (λ i. StopsAt P G ts i) → o ≡ Some index → StopsAt P G ts index
-stopped_at P G ts r o index h is = subst (λ x. MatchOption x (HasRunInOrder P G ts r) (λ i. StopsAt P G ts i)) is h
+pub stopped_at : (P : Plan) (G : Data) (ts : List Task) (w : WorldView) (o : Option ℕ) (index : ℕ) → MatchOption o (HasRunInOrder P G ts w) (λ i. StopsAt P G ts i) → o ≡ Some index → StopsAt P G ts index
+stopped_at P G ts w o index h is = subst (λ x. MatchOption x (HasRunInOrder P G ts w) (λ i. StopsAt P G ts i)) is h
 
-pub ran_all : (P : Plan) (G : Data) (ts : List Task) (r : RunState) (o : Option ℕ) → MatchOption o (HasRunInOrder P G ts r) (λ i. StopsAt P G ts i) → o ≡ None → HasRunInOrder P G ts r
-ran_all P G ts r o h is = subst (λ x. MatchOption x (HasRunInOrder P G ts r) (λ i. StopsAt P G ts i)) is h
+pub ran_all : (P : Plan) (G : Data) (ts : List Task) (w : WorldView) (o : Option ℕ) → MatchOption o (HasRunInOrder P G ts w) (λ i. StopsAt P G ts i) → o ≡ None → HasRunInOrder P G ts w
+ran_all P G ts w o h is = subst (λ x. MatchOption x (HasRunInOrder P G ts w) (λ i. StopsAt P G ts i)) is h
 
 -- a text that could not be read, as its refusal says
 module _ (P : Plan) (G : Data) (text : List ℕ) {E : Type 0} (r : Result (Result Outcome TraceFault) E) where

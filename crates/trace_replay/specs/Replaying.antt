@@ -1,24 +1,30 @@
 -- Tasks that run one after another, in the order of a list, and the verdict on rows. Source: this project's own choice.
 use Rattle.std.specs.Prelude.{◌≡◌, ◌⊎◌, ℕ, List, [], ◌∷◌, ◌++◌, length, Result, Ok, Err}
-use Rattle.std.specs.Map.{keys_of}
 use Rattle.ptg_base.specs.Lists.{IsIn}
 use Rattle.ptg_base.specs.Task.{Task}
 use Rattle.plan_core.specs.declared.plan.Plan.{Plan}
 use Rattle.coll_data.specs.Data.{Data}
 use Rattle.flow_meaning.specs.declared.outcome.Outcome.{Outcome}
 use Rattle.flow_meaning.specs.Answer.{answer, ran}
-use Rattle.flow_core.specs.RunState.{RunState}
-use Rattle.flow_core.specs.Turns.{IsBetweenTurns}
+use Rattle.rank_core.specs.Sound.{IsSoundWorld}
+use Rattle.rank_world.specs.Views.{WorldView}
 use Rattle.trace_core.specs.declared.fault.TraceFault.{TraceFault}
 use Rattle.trace_core.specs.Faults.{IsFaultOfRow, IsUnfinished}
 use Rattle.trace_core.specs.Naming.{AreRowsOf}
 use Rattle.trace_core.specs.Orders.{IsWholeOrder, MayAllRunAfter, MayRunAfter}
 use Rattle.trace_core.specs.Text.{Entry}
 
--- a run between two turns in which these tasks have run, one after another
-pub record HasRunInOrder (P : Plan) (G : Data) (ts : List Task) (r : RunState) : Type 0 where
-  pub between : IsBetweenTurns P G r
-  pub claims : keys_of r.claims ≡ ts
+-- a world of one rank that runs this job
+pub record IsOfOneRank (P : Plan) (G : Data) (w : WorldView) : Type 0 where
+  pub plan : w.plan ≡ P
+  pub given : w.given ≡ G
+  pub ranks : w.ranks ≡ 1
+  pub sound : IsSoundWorld P G 1 w.state
+
+-- a world of one rank in which these tasks have run, one after another
+pub record HasRunInOrder (P : Plan) (G : Data) (ts : List Task) (w : WorldView) : Type 0 where
+  pub world : IsOfOneRank P G w
+  pub claims : w.state.machine.claims ≡ ts
   pub may_run : MayAllRunAfter P G [] ts
 
 -- the task at this index of a list may not run after those before it, which may

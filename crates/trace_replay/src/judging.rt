@@ -16,7 +16,7 @@ ghost use Rattle.trace_core.specs.Text.{Entry, entry_of};
 ghost use Rattle.trace_core.specs.declared.fault.TraceFault.{TraceFault as TraceFaultValue};
 ghost use Rattle.trace_replay.specs.Replaying.{IsVerdictOn};
 
-use crate::running::{give_up, judge_end, run_in_order};
+use crate::running::{judge_end, run_in_order};
 use coll_data::Given;
 use dep_iter::Matched;
 use flow_meaning::Outcome;
@@ -39,23 +39,21 @@ fn judge_tasks(
         (es : List Entry) → IsReadAs m.now es tasks.now fault → IsVerdictOn m.now given es tasks.now v) }
 {
     m.is_consistent();
-    let (run, early) = run_in_order(alloc, m, &given, tasks)?;
+    let (world, early) = run_in_order(alloc, m, given, tasks)?;
     if let Some(index) = early {
-        give_up(run);
         return Ok(Err(TraceFault {
             row: index as u64 + 2,
             code: TraceCode::TooEarly,
         }));
     }
     if let Some(fault) = fault {
-        give_up(run);
         return Ok(Err(fault));
     }
     let unfinished = TraceFault {
         row: tasks.len() as u64 + 2,
         code: TraceCode::Unfinished,
     };
-    let verdict = judge_end(run, m, given, unfinished)?;
+    let verdict = judge_end(world, m, unfinished)?;
     Ok(verdict)
 }
 

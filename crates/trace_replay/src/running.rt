@@ -1,75 +1,66 @@
-//! Tasks of a list, run one after another.
+//! Tasks of a list, run one after another in a world of one rank.
 
 ghost use Rattle.std.specs.Prelude.{◌≡◌, [], IfOk, MatchOption};
 ghost use Rattle.std.specs.List.{AllByRecursion};
-ghost use Rattle.std.specs.Map.{keys_of};
 ghost use Rattle.plan_data.specs.Fit.{DataFit};
 ghost use Rattle.dep_iter.specs.Tasks.{IsTask};
-ghost use Rattle.flow_core.specs.Turns.{IsBetweenTurns};
-ghost use Rattle.trace_replay.specs.Replaying.{HasRunInOrder, IsEndOf, StopsAt};
+ghost use Rattle.trace_replay.specs.Replaying.{HasRunInOrder, IsEndOf, IsOfOneRank, StopsAt};
 
 use coll_data::Given;
 use dep_iter::Matched;
-use flow_core::State;
 use flow_meaning::Outcome;
 use ptg_base::{OutOfMemory, TaskId};
+use rank_world::World;
 use std::alloc::Global;
 use trace_core::TraceFault;
 
-// A run in which nothing has happened.
-fn opened(alloc: Global, m: &Matched, given: &Given) -> State
-    ensures { HasRunInOrder m.now given.now [] result }
+// A world of one rank in which nothing has happened. It has no messages.
+fn opened<'m>(alloc: Global, m: &'m Matched, given: Given) -> Result<World<'m>, OutOfMemory>
+    requires { DataFit m.now.colls m.now.elems given }
+    ensures { IfOk result (HasRunInOrder m.now given []) }
 {
     m.is_consistent();
-    given.is_well_made();
-    State::start(alloc)
+    World::new(alloc, m, given, 1)
 }
 
 // Runs the tasks of a list one after another, up to the first that may not run: its index.
-pub(crate) fn run_in_order(
+pub(crate) fn run_in_order<'m>(
     alloc: Global,
-    m: &Matched,
-    given: &Given,
+    m: &'m Matched,
+    given: Given,
     list: &[TaskId],
-) -> Result<(State, Option<usize>), OutOfMemory>
-    requires { AllByRecursion (IsTask m.now) list.now }
+) -> Result<(World<'m>, Option<usize>), OutOfMemory>
+    requires tasks { AllByRecursion (IsTask m.now) list.now }
+    requires known { DataFit m.now.colls m.now.elems given }
     ensures { IfOk result (λ r.
-        MatchOption r.1 (HasRunInOrder m.now given.now list.now r.0) (λ index.
-        StopsAt m.now given.now list.now index)) }
+        MatchOption r.1 (HasRunInOrder m.now given list.now r.0) (λ index. StopsAt m.now given list.now index)) }
 {
     m.is_consistent();
-    let mut run = opened(alloc, m, given);
+    let mut world = opened(alloc, m, given)?;
     let mut index = 0;
     'tasks: for t in list {
-        let (next, ran) = run.take_turn(m, given, t)?;
-        run = next;
+        let ran = world.run(t)?;
         if !ran {
-            return Ok((run, Some(index)));
+            return Ok((world, Some(index)));
         }
         index += 1;
     }
-    Ok((run, None))
+    Ok((world, None))
 }
 
-// Gives up a run.
-pub(crate) fn give_up(_run: State) {}
-
-// The verdict on a run between two turns: the answer, if each task that runs is among its tasks, else this fault.
+// The verdict on a world between two runs: the answer, if each task that runs has run there, else this fault.
 pub(crate) fn judge_end(
-    run: State,
+    world: World<'_>,
     m: &Matched,
-    given: Given,
     unfinished: TraceFault,
 ) -> Result<Result<Outcome, TraceFault>, OutOfMemory>
-    requires between { IsBetweenTurns m.now given run }
-    requires known { DataFit m.now.colls m.now.elems given }
-    ensures { IfOk result (IsEndOf m.now given (keys_of run.claims) unfinished) }
+    requires { IsOfOneRank m.now world.given world }
+    ensures { IfOk result (IsEndOf m.now world.entry.given world.entry.state.machine.claims unfinished) }
 {
     m.is_consistent();
-    if !run.quiescent(m) {
-        give_up(run);
+    if !world.quiescent() {
         return Ok(Err(unfinished));
     }
-    let outcome = run.answer(m, given)?;
+    let outcome = world.answer()?;
     Ok(Ok(outcome))
 }

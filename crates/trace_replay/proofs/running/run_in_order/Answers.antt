@@ -1,7 +1,6 @@
 use Rattle.std.proofs.Common.{◌≡◌, ◌+◌, ◌<◌, ◌≤◌, length, take, ap, sym, ◌∙◌, subst, arith}
-use Rattle.std.specs.List.{AllByRecursion}
 use Rattle.dep_iter.specs.Tasks.{IsTask}
-use Rattle.trace_replay.specs.Replaying.{HasRunInOrder}
+use Rattle.trace_replay.specs.Replaying.{HasRunInOrder, StopsAt}
 use Rattle.trace_replay.proofs.Turned.{all_at, length_take, ran_more, split_at, stopped_here, take_one_more}
 use Rattle.trace_replay.proofs.running.run_in_order.Goals as goal
 
@@ -10,21 +9,24 @@ returns-then-not-ran c =
     let n = c.tasks.t-index in
     let ts = c.args.list.now in
     let t = c.t-item.result in
+    let G = c.in_ok-world.world.given in
     let lt : n < length ts = omega arith in
-    let job = all_at (IsTask c.args.m.now) ts n t t lt c.t-item.is c.requires in
+    let job = all_at (IsTask c.args.m.now) ts n t t lt c.t-item.is c.requires.tasks in
     let s = split_at ts n t t lt c.t-item.is in
-    stopped_here c.args.m.now c.args.given.now c.is_consistent.ensures (take n ts) c.tasks.run c.tasks.invariant.run ts s.0 t c.tasks.index c.in_ok-next.ran job c.if-not-ran.true c.in_ok-next.ensures.exact s.1
-    (c.tasks.invariant.index ∙ sym (length_take ts n lt))
+    subst (λ g. StopsAt c.args.m.now g ts c.tasks.index) c.in_ok-world.ensures.world.given
+    (stopped_here c.args.m.now G c.is_consistent.ensures (take n ts) c.tasks.world c.tasks.invariant.run ts s.0 t c.tasks.index c.in_ok-ran.ran job c.if-not-ran.true c.in_ok-ran.ensures.exact s.1
+    (c.tasks.invariant.index ∙ sym (length_take ts n lt)))
 
 pub tasks-preserved : goal.tasks-preserved
 tasks-preserved c =
     let n = c.tasks.t-index in
     let ts = c.args.list.now in
     let t = c.t-item.result in
+    let G = c.in_ok-world.world.given in
     let lt : n < length ts = omega arith in
-    let job = all_at (IsTask c.args.m.now) ts n t t lt c.t-item.is c.requires in
-    let next = ran_more c.args.m.now c.args.given.now c.is_consistent.ensures (take n ts) c.tasks.run c.tasks.invariant.run t c.in_ok-next.next c.in_ok-next.ran job c.if-not-ran.false c.in_ok-next.ensures.exact c.in_ok-next.ensures.claims c.in_ok-next.ensures.between in
+    let job = all_at (IsTask c.args.m.now) ts n t t lt c.t-item.is c.requires.tasks in
+    let next = ran_more c.args.m.now G c.is_consistent.ensures (take n ts) c.tasks.world c.tasks.invariant.run t c.run.new.self c.in_ok-ran.ran job c.if-not-ran.false c.in_ok-ran.ensures.exact c.in_ok-ran.ensures.state c.in_ok-ran.ensures.sound in
     record {
-      run = subst (λ us. HasRunInOrder c.args.m.now c.args.given.now us c.in_ok-next.next) (take_one_more ts n t t lt c.t-item.is) next;
+      run = subst (λ us. HasRunInOrder c.args.m.now G us c.run.new.self) (take_one_more ts n t t lt c.t-item.is) next;
       index = ap (λ k. k + 1) c.tasks.invariant.index;
     }
