@@ -1,9 +1,7 @@
 //! The cases that can be measured.
 use crate::count::Count;
 use crate::deques::{deep_deque, deque, thieves};
-use crate::shards::{
-    best, by_task, fired, first_edges, last_edges, ready, reserved, trapped, written,
-};
+use crate::shards::{ShardCase, in_a_shard};
 use ptg_base::OutOfMemory;
 use std::alloc::Global;
 use std::sync::Wait;
@@ -12,24 +10,8 @@ use std::thread::Threads;
 /// What is measured.
 #[derive(Clone, Copy, Debug, PartialEq, Eq)]
 pub enum Case {
-    /// So many ready tasks added to a shard.
-    Ready,
-    /// The same, and all of them taken from the best to the last.
-    Best,
-    /// The same, and all of them taken by their numbers.
-    ByTask,
-    /// The first of two edges into each of so many tasks.
-    FirstEdges,
-    /// Both edges into each of so many tasks.
-    LastEdges,
-    /// The same in a shard with spares for all of it.
-    Reserved,
-    /// Both edges into each of so many tasks, and all tasks taken from the best to the last.
-    Fired,
-    /// So many ready tasks that are taken and trap.
-    Trapped,
-    /// So many tiles written back.
-    Written,
+    /// What is done with one shard.
+    Shard(ShardCase),
     /// So many ids pushed to one deque and popped, in bursts.
     Deque,
     /// So many ids pushed to one deque, and then popped.
@@ -42,19 +24,10 @@ impl Case {
     /// The case of this name.
     pub fn of(name: &str) -> Option<Case> {
         match name {
-            "ready" => Some(Case::Ready),
-            "best" => Some(Case::Best),
-            "by_task" => Some(Case::ByTask),
-            "first_edges" => Some(Case::FirstEdges),
-            "last_edges" => Some(Case::LastEdges),
-            "reserved" => Some(Case::Reserved),
-            "fired" => Some(Case::Fired),
-            "trapped" => Some(Case::Trapped),
-            "written" => Some(Case::Written),
             "deque" => Some(Case::Deque),
             "deep_deque" => Some(Case::DeepDeque),
             "thieves" => Some(Case::Thieves),
-            _ => None,
+            _ => ShardCase::of(name).map(Case::Shard),
         }
     }
 }
@@ -67,15 +40,7 @@ pub fn measure<R: Threads + Wait + Sync>(
     size: u32,
 ) -> Result<Vec<Count>, OutOfMemory> {
     match case {
-        Case::Ready => ready(alloc, size),
-        Case::Best => best(alloc, size),
-        Case::ByTask => by_task(alloc, size),
-        Case::FirstEdges => first_edges(alloc, size),
-        Case::LastEdges => last_edges(alloc, size),
-        Case::Reserved => reserved(alloc, size),
-        Case::Fired => fired(alloc, size),
-        Case::Trapped => trapped(alloc, size),
-        Case::Written => written(alloc, size),
+        Case::Shard(case) => in_a_shard(alloc, case, size),
         Case::Deque => deque(alloc, size),
         Case::DeepDeque => deep_deque(alloc, size),
         Case::Thieves => thieves(rt, alloc, size),

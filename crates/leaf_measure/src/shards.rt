@@ -1,5 +1,5 @@
 //! One shard: ready tasks and edges come, tasks are taken and end or trap, and tiles are written back.
-ghost use Rattle.std.specs.Prelude.{◌≡◌, ◌<◌, OnOk, IsTrue};
+ghost use Rattle.std.specs.Prelude.{◌≡◌, ◌<◌, length, OnOk, IsTrue};
 ghost use Rattle.dep_shard.specs.Content.{IsTileOf};
 ghost use Rattle.leaf_measure.specs.Tasks.{task_of, HasNoneFrom, WaitFrom};
 
@@ -16,101 +16,191 @@ const MOST_TASKS: u64 = 1000000;
 // How many numbers a tile has.
 const NUMBERS: u32 = 4;
 
-/// So many ready tasks are added.
-pub fn ready(alloc: Global, size: u32) -> Result<Vec<Count>, OutOfMemory> {
-    let mut shard = Shard::new(alloc, &[])?;
-    add_ready(&mut shard, size)?;
-    Ok(vec![in alloc; Count::of("entries", shard.len() as u64)]?)
+/// What is measured of a shard.
+#[derive(Clone, Copy, Debug, PartialEq, Eq)]
+pub enum ShardCase {
+    /// So many ready tasks added.
+    Ready,
+    /// The same, and all of them taken from the best to the last.
+    Best,
+    /// The same, and all of them taken by their numbers.
+    ByTask,
+    /// The first of two edges into each of so many tasks.
+    FirstEdges,
+    /// Both edges into each of so many tasks.
+    LastEdges,
+    /// The same in a shard with spares for all of it.
+    Reserved,
+    /// Both edges into each of so many tasks, and all tasks taken from the best to the last.
+    Fired,
+    /// So many ready tasks that are taken and trap.
+    Trapped,
+    /// So many tiles written back.
+    Written,
 }
 
-/// So many ready tasks are added, and taken from the best to the last.
-pub fn best(alloc: Global, size: u32) -> Result<Vec<Count>, OutOfMemory> {
-    let mut shard = Shard::new(alloc, &[])?;
-    add_ready(&mut shard, size)?;
-    let taken = take_best(&mut shard, size);
-    Ok(vec![in alloc;
-        Count::of("taken", taken),
-        Count::of("entries", shard.len() as u64),
-    ]?)
+impl ShardCase {
+    /// The case of this name.
+    pub fn of(name: &str) -> Option<ShardCase> {
+        match name {
+            "ready" => Some(ShardCase::Ready),
+            "best" => Some(ShardCase::Best),
+            "by_task" => Some(ShardCase::ByTask),
+            "first_edges" => Some(ShardCase::FirstEdges),
+            "last_edges" => Some(ShardCase::LastEdges),
+            "reserved" => Some(ShardCase::Reserved),
+            "fired" => Some(ShardCase::Fired),
+            "trapped" => Some(ShardCase::Trapped),
+            "written" => Some(ShardCase::Written),
+            _ => None,
+        }
+    }
 }
 
-/// So many ready tasks are added, and taken by their numbers.
-pub fn by_task(alloc: Global, size: u32) -> Result<Vec<Count>, OutOfMemory> {
-    let mut shard = Shard::new(alloc, &[])?;
-    add_ready(&mut shard, size)?;
-    let taken = take_by_task(&mut shard, size);
-    Ok(vec![in alloc;
-        Count::of("taken", taken),
-        Count::of("entries", shard.len() as u64),
-    ]?)
-}
-
-/// The first of two edges comes to each of so many tasks.
-pub fn first_edges(alloc: Global, size: u32) -> Result<Vec<Count>, OutOfMemory> {
-    let mut shard = Shard::new(alloc, &[NUMBERS])?;
+/// Measures a case at this size, in a new shard.
+pub fn in_a_shard(alloc: Global, case: ShardCase, size: u32) -> Result<Vec<Count>, OutOfMemory> {
     let tile = Tile::zeros(alloc, NUMBERS)?;
-    send_first(&mut shard, size, &tile)?;
-    Ok(vec![in alloc; Count::of("entries", shard.len() as u64)]?)
+    let mut shard = Shard::new(alloc, &[NUMBERS])?;
+    counts(alloc, case, size, &mut shard, &tile)
 }
 
-/// Both of two edges come to each of so many tasks.
-pub fn last_edges(alloc: Global, size: u32) -> Result<Vec<Count>, OutOfMemory> {
-    let mut shard = Shard::new(alloc, &[NUMBERS])?;
-    let tile = Tile::zeros(alloc, NUMBERS)?;
-    send_first(&mut shard, size, &tile)?;
-    let fired = send_last(&mut shard, size, &tile)?;
-    Ok(vec![in alloc;
-        Count::of("fired", fired),
-        Count::of("entries", shard.len() as u64),
-    ]?)
+// What a case counts in a shard that has nothing yet. The cases are handed it, so that one function alone lets it go.
+fn counts(
+    alloc: Global,
+    case: ShardCase,
+    size: u32,
+    shard: &mut Shard,
+    tile: &Tile,
+) -> Result<Vec<Count>, OutOfMemory>
+    requires new { HasNoneFrom 0 shard.old }
+    requires tile { IsTileOf shard.old.elems 0 tile.now }
+    requires types { length shard.old.elems ≡ 1 }
+{
+    match case {
+        ShardCase::Ready => ready(alloc, size, shard),
+        ShardCase::Best => best(alloc, size, shard),
+        ShardCase::ByTask => by_task(alloc, size, shard),
+        ShardCase::FirstEdges => first_edges(alloc, size, shard, tile),
+        ShardCase::LastEdges => last_edges(alloc, size, shard, tile),
+        ShardCase::Reserved => reserved(alloc, size, shard, tile),
+        ShardCase::Fired => fired(alloc, size, shard, tile),
+        ShardCase::Trapped => trapped(alloc, size, shard),
+        ShardCase::Written => written(alloc, size, shard, tile),
+    }
 }
 
-/// Both of two edges come to each of so many tasks, for which there are spares.
-pub fn reserved(alloc: Global, size: u32) -> Result<Vec<Count>, OutOfMemory> {
-    let mut shard = Shard::new(alloc, &[NUMBERS])?;
-    let tile = Tile::zeros(alloc, NUMBERS)?;
+fn ready(alloc: Global, size: u32, shard: &mut Shard) -> Result<Vec<Count>, OutOfMemory>
+    requires { HasNoneFrom 0 shard.old }
+{
+    add_ready(shard, size)?;
+    Ok(vec![in alloc; entries(shard)]?)
+}
+
+fn best(alloc: Global, size: u32, shard: &mut Shard) -> Result<Vec<Count>, OutOfMemory>
+    requires { HasNoneFrom 0 shard.old }
+{
+    add_ready(shard, size)?;
+    let taken = take_best(shard, size);
+    Ok(vec![in alloc; Count::of("taken", taken), entries(shard)]?)
+}
+
+fn by_task(alloc: Global, size: u32, shard: &mut Shard) -> Result<Vec<Count>, OutOfMemory>
+    requires { HasNoneFrom 0 shard.old }
+{
+    add_ready(shard, size)?;
+    let taken = take_by_task(shard, size);
+    Ok(vec![in alloc; Count::of("taken", taken), entries(shard)]?)
+}
+
+fn first_edges(
+    alloc: Global,
+    size: u32,
+    shard: &mut Shard,
+    tile: &Tile,
+) -> Result<Vec<Count>, OutOfMemory>
+    requires new { HasNoneFrom 0 shard.old }
+    requires tile { IsTileOf shard.old.elems 0 tile.now }
+{
+    send_first(shard, size, tile)?;
+    Ok(vec![in alloc; entries(shard)]?)
+}
+
+fn last_edges(
+    alloc: Global,
+    size: u32,
+    shard: &mut Shard,
+    tile: &Tile,
+) -> Result<Vec<Count>, OutOfMemory>
+    requires new { HasNoneFrom 0 shard.old }
+    requires tile { IsTileOf shard.old.elems 0 tile.now }
+{
+    let fired = send_both(shard, size, tile)?;
+    Ok(vec![in alloc; Count::of("fired", fired), entries(shard)]?)
+}
+
+fn reserved(
+    alloc: Global,
+    size: u32,
+    shard: &mut Shard,
+    tile: &Tile,
+) -> Result<Vec<Count>, OutOfMemory>
+    requires new { HasNoneFrom 0 shard.old }
+    requires tile { IsTileOf shard.old.elems 0 tile.now }
+    requires types { length shard.old.elems ≡ 1 }
+{
     shard.reserve(u64::from(size), &[2 * u64::from(size)], 0, 0)?;
-    send_first(&mut shard, size, &tile)?;
-    let fired = send_last(&mut shard, size, &tile)?;
-    Ok(vec![in alloc;
-        Count::of("fired", fired),
-        Count::of("entries", shard.len() as u64),
-    ]?)
+    let fired = send_both(shard, size, tile)?;
+    Ok(vec![in alloc; Count::of("fired", fired), entries(shard)]?)
 }
 
-/// Both of two edges come to each of so many tasks, which are taken from the best to the last.
-pub fn fired(alloc: Global, size: u32) -> Result<Vec<Count>, OutOfMemory> {
-    let mut shard = Shard::new(alloc, &[NUMBERS])?;
-    let tile = Tile::zeros(alloc, NUMBERS)?;
-    send_first(&mut shard, size, &tile)?;
-    let fired = send_last(&mut shard, size, &tile)?;
-    let taken = take_best(&mut shard, size);
+fn fired(
+    alloc: Global,
+    size: u32,
+    shard: &mut Shard,
+    tile: &Tile,
+) -> Result<Vec<Count>, OutOfMemory>
+    requires new { HasNoneFrom 0 shard.old }
+    requires tile { IsTileOf shard.old.elems 0 tile.now }
+{
+    let fired = send_both(shard, size, tile)?;
+    let taken = take_best(shard, size);
     Ok(vec![in alloc;
         Count::of("fired", fired),
         Count::of("taken", taken),
-        Count::of("entries", shard.len() as u64),
+        entries(shard),
     ]?)
 }
 
-/// So many ready tasks are added, taken by their numbers, and trap.
-pub fn trapped(alloc: Global, size: u32) -> Result<Vec<Count>, OutOfMemory> {
-    let mut shard = Shard::new(alloc, &[])?;
-    shard.reserve(u64::from(size), &[], 0, u64::from(size))?;
-    add_ready(&mut shard, size)?;
-    trap_by_task(&mut shard, size)?;
+fn trapped(alloc: Global, size: u32, shard: &mut Shard) -> Result<Vec<Count>, OutOfMemory>
+    requires new { HasNoneFrom 0 shard.old }
+    requires types { length shard.old.elems ≡ 1 }
+{
+    shard.reserve(u64::from(size), &[0], 0, u64::from(size))?;
+    add_ready(shard, size)?;
+    trap_by_task(shard, size)?;
     Ok(vec![in alloc;
-        Count::of("trapped", count_trapped(&shard, size)),
+        Count::of("trapped", count_trapped(shard, size)),
         Count::of("ended", shard.ended()),
     ]?)
 }
 
-/// So many tiles are written back.
-pub fn written(alloc: Global, size: u32) -> Result<Vec<Count>, OutOfMemory> {
-    let mut shard = Shard::new(alloc, &[NUMBERS])?;
-    let tile = Tile::zeros(alloc, NUMBERS)?;
+fn written(
+    alloc: Global,
+    size: u32,
+    shard: &mut Shard,
+    tile: &Tile,
+) -> Result<Vec<Count>, OutOfMemory>
+    requires tile { IsTileOf shard.old.elems 0 tile.now }
+    requires types { length shard.old.elems ≡ 1 }
+{
     shard.reserve(0, &[u64::from(size)], u64::from(size), 0)?;
-    write_back(&mut shard, size, &tile)?;
-    Ok(vec![in alloc; Count::of("written", count_written(&shard, size))]?)
+    write_back(shard, size, tile)?;
+    Ok(vec![in alloc; Count::of("written", count_written(shard, size))]?)
+}
+
+// How many entries a shard has.
+fn entries(shard: &Shard) -> Count {
+    Count::of("entries", shard.len() as u64)
 }
 
 fn add_ready(shard: &mut Shard, size: u32) -> Result<(), OutOfMemory>
@@ -159,6 +249,15 @@ fn send_last(shard: &mut Shard, size: u32, tile: &Tile) -> Result<u64, OutOfMemo
         }
     }
     Ok(fired)
+}
+
+// Both of two edges come to each of so many tasks. How many fired.
+fn send_both(shard: &mut Shard, size: u32, tile: &Tile) -> Result<u64, OutOfMemory>
+    requires new { HasNoneFrom 0 shard.old }
+    requires tile { IsTileOf shard.old.elems 0 tile.now }
+{
+    send_first(shard, size, tile)?;
+    send_last(shard, size, tile)
 }
 
 // A ready task is taken, unless as many run or have ended as may. Whether it was.

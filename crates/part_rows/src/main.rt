@@ -3,6 +3,7 @@
 #![tactic(auto)]
 
 mod bodies;
+mod commands;
 mod data;
 mod expressions;
 mod scope;
@@ -44,6 +45,7 @@ impl Call for Parts {
             (b"read-body", []) => bodies::read_names(alloc, only(files)?),
             (b"run-body", [elements]) => bodies::run(alloc, only(files)?, elements.bytes()),
             (b"read-data", []) => data::read(alloc, only(files)?),
+            (b"read-command", words) => commands::read(alloc, words),
             _ => Err(Why("words that call nothing")),
         }
     }

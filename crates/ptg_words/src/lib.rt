@@ -6,8 +6,6 @@ mod laws;
 mod options;
 mod order;
 mod reading;
-#[cfg(test)]
-mod tests;
 mod verb;
 mod verbs;
 

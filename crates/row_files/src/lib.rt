@@ -17,6 +17,3 @@ pub use call::Call;
 pub use session::all_as_wanted;
 pub use why::Why;
 pub use worked_row::{Order, Printed};
-
-#[cfg(test)]
-mod tests;
