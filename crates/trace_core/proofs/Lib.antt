@@ -8,5 +8,6 @@ pub mod Texts
 pub mod OneText
 pub mod OneFault
 pub mod Lists
+pub mod OneReading
 pub mod Wholes
 pub mod ReadFaults

@@ -27,7 +27,7 @@ spelled_text P ts rows le =
       spelled = rows;
     }
 
-same_list : (P : Plan) (ts us : List Task) → AllByRecursion (IsTask P) ts → AllByRecursion (IsTask P) us → map (entry_of P) ts ≡ map (entry_of P) us → ts ≡ us
+pub same_list : (P : Plan) (ts us : List Task) → AllByRecursion (IsTask P) ts → AllByRecursion (IsTask P) us → map (entry_of P) ts ≡ map (entry_of P) us → ts ≡ us
 same_list P [] [] h k e = refl
 same_list P [] (u ∷ us) h k e = let never : [] ≡ entry_of P u ∷ map (entry_of P) us = e in absurd cc
 same_list P (t ∷ ts) [] h k e = let never : entry_of P t ∷ map (entry_of P) ts ≡ [] = e in absurd cc

@@ -1,7 +1,8 @@
 //! The tasks of the rows of a text.
 
-ghost use Rattle.std.specs.Prelude.{◌≡◌, [], List, Err, IfOk};
+ghost use Rattle.std.specs.Prelude.{◌≡◌, [], List, Err, None, IfOk};
 ghost use Rattle.std.specs.List.{AllByRecursion};
+ghost use Rattle.ptg_base.specs.Returns.{FindsOrRefuses};
 ghost use Rattle.ptg_base.specs.declared.refusal.Refusal.TheVariants.{Fault};
 ghost use Rattle.trace_core.specs.Naming.{AreRead};
 ghost use Rattle.trace_core.specs.Reading.{IsListOf, IsReadAs, IsReadFault, IsReading, IsSpellingFault};
@@ -115,8 +116,8 @@ pub fn read_rows(alloc: Global, m: &Matched, bytes: &[u8]) -> Result<Reading, Tr
 
 /// Reads a text as a list of tasks of the job that are different: its tasks, or its first fault as such a list.
 pub fn read_trace(alloc: Global, m: &Matched, bytes: &[u8]) -> Result<Seq<TaskId>, TraceRefusal>
+    ensures exact { FindsOrRefuses (λ tasks. IsReading m.now bytes.now tasks None) (IsReadFault m.now bytes.now) result }
     ensures found { IfOk result (λ tasks. IsListOf m.now bytes.now tasks) }
-    ensures fault { (f : TraceFaultValue) → result ≡ Err (Fault f) → IsReadFault m.now bytes.now f }
 {
     let reading = match read_rows(alloc, m, bytes) {
         Ok(reading) => reading,
