@@ -9,6 +9,7 @@ mod expressions;
 mod scope;
 mod tokens;
 
+use ptg_base::Text;
 use ptg_io::File;
 use row_files::{Call, Order, Printed, Why, all_as_wanted};
 use std::alloc::Global;
@@ -33,19 +34,59 @@ impl Call for Parts {
         alloc: Global,
         order: Order,
     ) -> Result<Printed, Why> {
-        let files = order.files.as_slice();
         let [word, words @ ..] = order.words.as_slice() else {
             return Err(Why("no word that says what is called"));
         };
-        match (word.bytes(), words) {
-            (b"read-tokens", []) => tokens::read(alloc, only(files)?),
-            (b"read-expression", []) => expressions::read(alloc, only(files)?, false),
-            (b"read-body-expression", []) => expressions::read(alloc, only(files)?, true),
-            (b"read-syntax", []) => bodies::read_syntax(alloc, only(files)?),
-            (b"read-body", []) => bodies::read_names(alloc, only(files)?),
-            (b"run-body", [elements]) => bodies::run(alloc, only(files)?, elements.bytes()),
-            (b"read-data", []) => data::read(alloc, only(files)?),
-            (b"read-command", words) => commands::read(alloc, words),
+        let part = Part::of(text_of(word)?)?;
+        part.printed(alloc, order.files.as_slice(), words)
+    }
+}
+
+// The word as text.
+fn text_of(word: &Text) -> Result<&str, Why> {
+    str::from_utf8(word.bytes()).map_err(|_| Why("a word that is not UTF-8"))
+}
+
+// What is called.
+#[derive(Clone, Copy)]
+enum Part {
+    Tokens,
+    Expression,
+    BodyExpression,
+    Syntax,
+    Names,
+    Run,
+    Data,
+    Command,
+}
+
+impl Part {
+    // The part that this word names.
+    fn of(word: &str) -> Result<Part, Why> {
+        match word {
+            "read-tokens" => Ok(Part::Tokens),
+            "read-expression" => Ok(Part::Expression),
+            "read-body-expression" => Ok(Part::BodyExpression),
+            "read-syntax" => Ok(Part::Syntax),
+            "read-body" => Ok(Part::Names),
+            "run-body" => Ok(Part::Run),
+            "read-data" => Ok(Part::Data),
+            "read-command" => Ok(Part::Command),
+            _ => Err(Why("a word that calls nothing")),
+        }
+    }
+
+    // What a call of it prints, with these files and these words after its own.
+    fn printed(self, alloc: Global, files: &[File], words: &[Text]) -> Result<Printed, Why> {
+        match (self, words) {
+            (Part::Tokens, []) => tokens::read(alloc, only(files)?),
+            (Part::Expression, []) => expressions::read(alloc, only(files)?, false),
+            (Part::BodyExpression, []) => expressions::read(alloc, only(files)?, true),
+            (Part::Syntax, []) => bodies::read_syntax(alloc, only(files)?),
+            (Part::Names, []) => bodies::read_names(alloc, only(files)?),
+            (Part::Run, [elements]) => bodies::run(alloc, only(files)?, elements.bytes()),
+            (Part::Data, []) => data::read(alloc, only(files)?),
+            (Part::Command, words) => commands::read(alloc, words),
             _ => Err(Why("words that call nothing")),
         }
     }
