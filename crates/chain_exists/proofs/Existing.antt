@@ -1,5 +1,5 @@
 -- Every job has a certificate.
-use Rattle.std.proofs.Common.{◌≡◌, ℕ, ◌≤◌, List, [], ◌∷◌, length, refl, sym, ◌∙◌, subst, ◌⊎◌, inl, inr, arith}
+use Rattle.std.proofs.Common.{◌≡◌, ℕ, ◌≤◌, List, [], ◌∷◌, length, refl, sym, ◌∙◌, subst, inl, inr, arith}
 use Rattle.ptg_base.specs.Lists.{IsIn}
 use Rattle.ptg_base.specs.Task.{Task}
 use Rattle.plan_core.specs.declared.plan.Plan.{Plan}
@@ -11,7 +11,7 @@ use Rattle.flow_meaning.specs.declared.outcome.TrapRow.{TrapRow}
 use Rattle.flow_meaning.specs.Answer.{ran, trapped}
 use Rattle.task_order.specs.Greatest.{IsGreatestOrder}
 use Rattle.list_lemmas.proofs.Distinct.{no_longer}
-use Rattle.list_lemmas.proofs.Tasks.{member_or_not}
+use Rattle.list_lemmas.proofs.Tasks.{all_or_absent}
 use Rattle.task_order.proofs.Orders.{legal_once, legal_tasks}
 use Rattle.task_order.proofs.Running.{members_ran}
 use Rattle.chain_cert.specs.declared.certificate.Certificate.{Certificate}
@@ -26,17 +26,6 @@ use Rattle.chain_exists.proofs.Rows.{level_rows, rows_have}
 use Rattle.chain_exists.proofs.Backward.{some_chain, some_cycle}
 
 module _ (P : Plan) (con : IsConsistent P) (order : List Task) (g : IsGreatestOrder P order) where
-  -- all of these tasks are in the order, or one is not
-  inside_or_not : (ts : List Task) → ((t : Task) → IsIn t ts → IsIn t order) ⊎ ((t : Task) × IsIn t ts × (IsIn t order → ⊥))
-  inside_or_not [] = inl (λ t i. absurd i)
-  inside_or_not (u ∷ us) = elim (member_or_not u order) [
-    | inr out ↦ inr (u, inl refl, out)
-    | inl here ↦ elim (inside_or_not us) [
-      | inr p ↦ inr (p.0, inr p.1, p.2)
-      | inl all ↦ inl (λ t i. elim i [ inl e ↦ subst (λ v. IsIn v order) (sym e) here | inr later ↦ all t later ])
-    ]
-  ]
-
   module _ (G : Data) (ws : List ℕ) (calm : trapped P G ≡ []) where
     chain_certificate : ((t : Task) → IsIn t (all_tasks P) → IsIn t order) → (c : Certificate) × IsCertificate P G ws c
     chain_certificate inside =
@@ -73,7 +62,7 @@ some_certificate P G ws con = by (trapped P G) refl
         not_none q = cc
     by [] calm =
         let found = greatest_order P in
-        elim (inside_or_not P con found.0 found.1 (all_tasks P)) [
+        elim (all_or_absent found.0 (all_tasks P)) [
           | inl inside ↦ chain_certificate P con found.0 found.1 G ws calm inside
           | inr p ↦ cycle_certificate P con found.0 found.1 G ws calm p.0 p.1 p.2
         ]

@@ -1,5 +1,5 @@
 -- There is a greatest legal order, and its tasks have levels.
-use Rattle.std.proofs.Common.{◌≡◌, ℕ, zero, suc, ◌+◌, ◌≤◌, List, [], ◌∷◌, ◌++◌, length, refl, sym, subst, ◌⊎◌, inl, inr, arith, length-append}
+use Rattle.std.proofs.Common.{◌≡◌, ℕ, ◌+◌, ◌≤◌, List, [], ◌∷◌, ◌++◌, length, refl, sym, subst, ◌⊎◌, inl, inr, arith}
 use Rattle.std.specs.Prelude.{nat_le}
 use Rattle.std.proofs.lemmas.Bool.{leb-false, leb-true}
 use Rattle.ptg_base.specs.Lists.{IsIn}
@@ -9,6 +9,7 @@ use Rattle.plan_core.specs.declared.plan.Plan.{Plan}
 use Rattle.list_lemmas.proofs.Members.{from_append, from_map}
 use Rattle.list_lemmas.proofs.Truth.{by_test}
 use Rattle.list_lemmas.proofs.Distinct.{no_longer}
+use Rattle.list_lemmas.proofs.Growing.{all_or_one, grown_to_the_end}
 use Rattle.list_lemmas.proofs.Tasks.{member_or_not}
 use Rattle.dep_iter.specs.Tasks.{IsTask, all_tasks}
 use Rattle.dep_iter.specs.Edges.{in_edges, sources}
@@ -22,57 +23,24 @@ use Rattle.chain_cert.specs.Weights.{weight}
 use Rattle.chain_cert.proofs.TableLevels.{level_from}
 
 module _ (P : Plan) where
-  -- all edges come from these tasks, or one does not
-  all_from_or_not : (before : List Task) (es : List Edge) → ((e : Edge) → IsIn e es → IsIn e.from before) ⊎ ((e : Edge) × IsIn e es × (IsIn e.from before → ⊥))
-  all_from_or_not before [] = inl (λ e i. absurd i)
-  all_from_or_not before (d ∷ ds) = elim (member_or_not d.from before) [
-    | inr out ↦ inr (d, inl refl, out)
-    | inl in_before ↦ elim (all_from_or_not before ds) [
-      | inr p ↦ inr (p.0, inr p.1, p.2)
-      | inl all ↦ inl (λ e i. elim i [ inl q ↦ subst (λ (x : Edge). IsIn x.from before) (sym q) in_before | inr later ↦ all e later ])
-    ]
-  ]
-
-  may_or_not : (before : List Task) (t : Task) → IsTask P t → MayFollow P before t ⊎ (MayFollow P before t → ⊥)
-  may_or_not before t job = elim (member_or_not t before) [
-    | inl old ↦ inr (λ m. m.first_time old)
-    | inr new ↦ elim (all_from_or_not before (in_edges P t)) [
-      | inl all ↦ inl (record { task = job; first_time = new; after_sources = all })
-      | inr p ↦ inr (λ m. p.2 (m.after_sources p.0 p.1))
-    ]
-  ]
-
-  -- one of these tasks may follow, or none
-  next_or_none : (before us : List Task) → ((t : Task) → IsIn t us → IsTask P t) → ((t : Task) × MayFollow P before t) ⊎ ((t : Task) → IsIn t us → MayFollow P before t → ⊥)
-  next_or_none before [] job = inr (λ t i m. i)
-  next_or_none before (u ∷ us) job = elim (may_or_not before u (job u (inl refl))) [
-    | inl m ↦ inl (u, m)
-    | inr cannot ↦ elim (next_or_none before us (λ t i. job t (inr i))) [
-      | inl p ↦ inl p
-      | inr none ↦ inr (λ t i m. elim i [ inl e ↦ cannot (subst (MayFollow P before) e m) | inr later ↦ none t later m ])
+  -- a task may not follow these, or it may
+  bars_or_may : (before : List Task) (t : Task) → IsIn t (all_tasks P) → (MayFollow P before t → ⊥) ⊎ MayFollow P before t
+  bars_or_may before t i = elim (member_or_not t before) [
+    | inl old ↦ inl (λ m. m.first_time old)
+    | inr new ↦ elim (all_or_one (λ (e : Edge). IsIn e.from before) (λ (e : Edge). IsIn e.from before → ⊥) (in_edges P t) (λ e j. member_or_not e.from before)) [
+      | inl all ↦ inr (record { task = (listed P t).1 i; first_time = new; after_sources = all })
+      | inr p ↦ inl (λ m. p.2 (m.after_sources p.0 p.1))
     ]
   ]
 
   legal_at_most : (ts : List Task) → IsLegalOrder P ts → length ts ≤ length (all_tasks P)
   legal_at_most ts legal = no_longer ts (all_tasks P) (legal_once P [] ts legal) (λ t i. (listed P t).0 (legal_tasks P [] ts legal t i))
 
-  -- a legal order after which none may follow is a greatest one
-  stops : (ts : List Task) → IsLegalOrder P ts → ((t : Task) → IsIn t (all_tasks P) → MayFollow P ts t → ⊥) → IsGreatestOrder P ts
-  stops ts legal none = record { legal = legal; greatest = λ t m. none t ((listed P t).0 m.task) m }
-
-  -- a legal order can be gone on with to a greatest one
-  grow : (n : ℕ) (ts : List Task) → IsLegalOrder P ts → length (all_tasks P) ≤ length ts + n → (us : List Task) × IsGreatestOrder P us
-  grow zero ts legal many = elim (next_or_none ts (all_tasks P) (λ t i. (listed P t).1 i)) [
-    | inr none ↦ (ts, stops ts legal none)
-    | inl p ↦ absurd (omega (arith, many, legal_at_most (ts ++ p.0 ∷ []) (legal_push P [] ts p.0 legal p.1), length-append ts (p.0 ∷ [])))
-  ]
-  grow (suc n) ts legal many = elim (next_or_none ts (all_tasks P) (λ t i. (listed P t).1 i)) [
-    | inr none ↦ (ts, stops ts legal none)
-    | inl p ↦ grow n (ts ++ p.0 ∷ []) (legal_push P [] ts p.0 legal p.1) (omega (arith, many, length-append ts (p.0 ∷ [])))
-  ]
-
+  -- a legal order after which no task may follow is a greatest one
   pub greatest_order : (us : List Task) × IsGreatestOrder P us
-  greatest_order = grow (length (all_tasks P)) [] tt (omega arith)
+  greatest_order =
+      let g = grown_to_the_end (all_tasks P) (MayFollow P) (IsLegalOrder P) bars_or_may (legal_push P []) legal_at_most tt in
+      (g.0, record { legal = g.1; greatest = λ t m. g.2 t ((listed P t).0 m.task) m })
 
   module _ (ws : List ℕ) where
     abbrev pub HasLevel : Task → Type 0

@@ -25,6 +25,7 @@ use Rattle.work_board.specs.declared.answers.Sent.TheVariants as answer
 use Rattle.work_board.specs.declared.record.PassRecord.{PassRecord}
 use Rattle.table_rule.specs.declared.job.Job.{Job}
 use Rattle.table_rule.specs.Live.{own_stamps}
+use Rattle.shard_calls.specs.WriteBacks.{MayTakeWrite}
 use Rattle.shard_meaning.specs.Placing.{shard_of}
 use Rattle.table_rule.specs.Plays.{HasTurn, Seated, fires}
 
@@ -38,14 +39,6 @@ pub record MayTakeEdge (P : Plan) (e : Edge) (tile : Option (List ℤ)) (y : Con
   pub some_goal : 0 < goal P e.to
   pub same_goal : (entry_before y e.to (goal P e.to) (priority P e.to)).goal ≡ goal P e.to
   pub waits : IsWaiting (entry_before y e.to (goal P e.to) (priority P e.to))
-  pub fits : IfSome tile (IsTileOf y.elems flow.datatype)
-
--- the write-back is of a flow of a task, and it has a tile of the flow's type
-pub record MayTakeWrite (P : Plan) (w : WriteBack) (tile : Option (List ℤ)) (y : Content) : Type 0 where
-  pub task : IsTask P w.from
-  pub flow : FlowPlan
-  pub is_flow : flow_of P.classes w.from.class w.flow ≡ Some flow
-  pub carries : IsSome tile
   pub fits : IfSome tile (IsTileOf y.elems flow.datatype)
 
 -- what an item needs

@@ -6,7 +6,8 @@ ghost use Rattle.ptg_base.specs.declared.edge.Item.TheVariants as item;
 ghost use Rattle.dep_shard.specs.Content.{IsUnchanged, Uses};
 ghost use Rattle.work_board.specs.Sends.{AnswersFor};
 ghost use Rattle.dep_table.specs.Sending as sending;
-ghost use Rattle.dep_table.specs.Sending.{HasSpareForItem, HasSpareForEdge, HasSpareForWrite, MayTakeItem, MayTakeEdge, MayTakeWrite, TakesItem, TakesEdge, TakesWrite};
+ghost use Rattle.shard_calls.specs.WriteBacks.{MayTakeWrite};
+ghost use Rattle.dep_table.specs.Sending.{HasSpareForItem, HasSpareForEdge, HasSpareForWrite, MayTakeItem, MayTakeEdge, TakesItem, TakesEdge, TakesWrite};
 
 use dep_iter::Matched;
 use dep_shard::{Arrived, Shard};

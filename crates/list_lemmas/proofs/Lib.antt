@@ -4,6 +4,7 @@ pub mod Joins
 pub mod Members
 pub mod Counts
 pub mod Distinct
+pub mod Growing
 pub mod Pigeonhole
 pub mod Places
 pub mod Tasks

@@ -10,6 +10,7 @@ use Rattle.ptg_base.specs.TaskComparing.{task_cmp, same_task}
 use Rattle.ptg_base.specs.TaskLaws.{task_cmp-compares, task_cmp-total, same_task-decides}
 use Rattle.ptg_base.specs.TaskOrder.{task_before}
 use Rattle.list_lemmas.proofs.Counts.{some_passes, count-some}
+use Rattle.list_lemmas.proofs.Growing.{all_or_one}
 use Rattle.list_lemmas.proofs.Truth.{by_test}
 use Rattle.list_lemmas.specs.Counting.{count, as_number}
 
@@ -72,11 +73,4 @@ member_or_not t (u ∷ us) =
 -- of tasks, all are among these, or one is not
 pub all_or_absent : (ts us : List Task)
     → ((t : Task) → IsIn t us → IsIn t ts) ⊎ ((t : Task) × IsIn t us × (IsIn t ts → ⊥))
-all_or_absent ts [] = inl (λ t i. absurd i)
-all_or_absent ts (u ∷ us) = elim (member_or_not u ts) [
-  | inr absent ↦ inr (u, inl refl, absent)
-  | inl here ↦ elim (all_or_absent ts us) [
-    | inl all ↦ inl (λ t i. elim i [ inl q ↦ subst (λ v. IsIn v ts) (sym q) here | inr later ↦ all t later ])
-    | inr p ↦ inr (p.0, inr p.1, p.2)
-  ]
-]
+all_or_absent ts us = all_or_one (λ t. IsIn t ts) (λ t. IsIn t ts → ⊥) us (λ t i. member_or_not t ts)

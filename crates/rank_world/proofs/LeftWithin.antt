@@ -18,7 +18,8 @@ use Rattle.flow_meaning.specs.Ending.{has_outputs, output_tile}
 use Rattle.rank_core.specs.World.{is_between}
 use Rattle.rank_core.proofs.Items.{out_from}
 use Rattle.rank_world.specs.declared.visit.Visit.{Visit}
-use Rattle.rank_world.specs.Sending.{HasRoomFor, MayTakeEdge, MayTakeWrite, TakesEdge, TakesWrite}
+use Rattle.shard_calls.specs.WriteBacks.{MayTakeWrite}
+use Rattle.rank_world.specs.Sending.{HasRoomFor, MayTakeEdge, TakesEdge, TakesWrite}
 use Rattle.rank_world.specs.Visits.{HoldsAt, IsVisit, data_of, its_writes, part_way, plan_of, within_among}
 use Rattle.rank_world.proofs.Parts.{by_task, edge_holds, may_edge, may_write, write_holds}
 

@@ -37,7 +37,8 @@ use Rattle.rank_core.proofs.Items.{within_is_item, within_once}
 use Rattle.rank_core.proofs.Running.{items_with, items_without, part_happens, run_ends}
 use Rattle.rank_world.specs.declared.visit.Visit.{Visit}
 use Rattle.rank_world.specs.Keeping.{at_rest}
-use Rattle.rank_world.specs.Sending.{MayTakeEdge, MayTakeWrite, TakesEdge, TakesWrite}
+use Rattle.shard_calls.specs.WriteBacks.{MayTakeWrite}
+use Rattle.rank_world.specs.Sending.{MayTakeEdge, TakesEdge, TakesWrite}
 use Rattle.rank_world.specs.Visits.{HoldsAt, IsVisit, after, before, data_of, its_writes, part_way, plan_of}
 use Rattle.rank_world.proofs.Delivering.{may_take_edge}
 

@@ -1,7 +1,7 @@
 -- What an item needs of its rank, and what it changes there. Source: DAGuE (Parallel Computing, 2012), where a task
 -- that ends satisfies the dependences of its successors; that a write-back is kept by the rank of its task is this
 -- project's own choice.
-use Rattle.std.specs.Prelude.{◌++◌, ◌≡◌, ◌<◌, ◌≤◌, ◌+◌, ℕ, ℤ, List, [], ◌∷◌, Option, Some, None, IsSome, IfSome, is_some, if◌then◌else◌, length, slice_index}
+use Rattle.std.specs.Prelude.{◌++◌, ◌≡◌, ◌<◌, ◌≤◌, ◌+◌, ℕ, ℤ, List, [], ◌∷◌, Option, Some, None, IfSome, is_some, if◌then◌else◌, length, slice_index}
 use Rattle.ptg_base.specs.Limits.{most_flows}
 use Rattle.ptg_base.specs.declared.edge.Edge.{Edge}
 use Rattle.ptg_base.specs.declared.edge.WriteBack.{WriteBack}
@@ -22,14 +22,6 @@ pub record MayTakeEdge (P : Plan) (e : Edge) (tile : Option (List ℤ)) (y : Con
   pub flow_number : e.in_flow < most_flows
   pub some_goal : 0 < goal P e.to
   pub waits : IsWaiting (entry_before y e.to (goal P e.to) (priority P e.to))
-  pub fits : IfSome tile (IsTileOf y.elems flow.datatype)
-
--- the write-back is of a flow of a task, and it has a tile of the flow's type
-pub record MayTakeWrite (P : Plan) (w : WriteBack) (tile : Option (List ℤ)) (y : Content) : Type 0 where
-  pub task : IsTask P w.from
-  pub flow : FlowPlan
-  pub is_flow : flow_of P.classes w.from.class w.flow ≡ Some flow
-  pub carries : IsSome tile
   pub fits : IfSome tile (IsTileOf y.elems flow.datatype)
 
 -- the rank has spares for so many edges and so many write-backs, of whatever types, and for a trap

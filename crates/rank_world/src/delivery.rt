@@ -3,7 +3,8 @@
 ghost use Rattle.std.specs.Prelude.{IsOk, OnErr, OnOk};
 ghost use Rattle.std.specs.Option.{option_copied};
 ghost use Rattle.dep_shard.specs.Content.{IsUnchanged};
-ghost use Rattle.rank_world.specs.Sending.{HasRoomFor, MayTakeEdge, MayTakeWrite, TakesEdge, TakesWrite};
+ghost use Rattle.shard_calls.specs.WriteBacks.{MayTakeWrite};
+ghost use Rattle.rank_world.specs.Sending.{HasRoomFor, MayTakeEdge, TakesEdge, TakesWrite};
 
 use dep_iter::Matched;
 use dep_shard::Shard;

@@ -8,7 +8,8 @@ ghost use Rattle.dep_iter.specs.Tasks.{IsTask};
 ghost use Rattle.flow_meaning.specs.Backward.{ended};
 ghost use Rattle.flow_meaning.specs.Ending.{output_tile};
 ghost use Rattle.rank_core.specs.World.{is_between};
-ghost use Rattle.rank_world.specs.Sending.{HasRoomFor, MayTakeEdge, MayTakeWrite, TakesEdge, TakesWrite};
+ghost use Rattle.shard_calls.specs.WriteBacks.{MayTakeWrite};
+ghost use Rattle.rank_world.specs.Sending.{HasRoomFor, MayTakeEdge, TakesEdge, TakesWrite};
 ghost use Rattle.rank_world.specs.Visits.{HoldsAt, IsVisit, data_of, its_writes, part_way, plan_of, within_among};
 
 use crate::delivery::{take_edge, take_write};

@@ -1,5 +1,5 @@
--- Which shard a task belongs to. Source: this project's own choice. Tasks whose affinity is one tile share a shard; no
--- other definition depends on how the number is computed.
+-- Which shard a task belongs to. Source: this project's own choice. Tasks whose affinity is one tile share a shard. A
+-- run depends on this number nowhere; the rank of a task is this number too, and so which edges are messages.
 use Rattle.std.specs.Prelude.{ℕ, ◌+◌, ◌%◌}
 use Rattle.ptg_base.specs.Task.{Task}
 use Rattle.ptg_base.specs.declared.place.Place.{Place}

@@ -1,8 +1,7 @@
 -- Orders in which tasks may run, and whole orders.
-use Rattle.std.proofs.Common.{◌≡◌, ℕ, ◌+◌, ◌<◌, ◌≤◌, ◌↔◌, Bool, true, false, cond, List, [], ◌∷◌, ◌++◌, map, length, refl, ap, sym, ◌∙◌, subst, ◌⊎◌, inl, inr, append_assoc, Option, Some, None, is_some, arith}
+use Rattle.std.proofs.Common.{◌≡◌, ◌+◌, ◌<◌, ◌≤◌, ◌↔◌, true, cond, List, [], ◌∷◌, ◌++◌, length, refl, ap, sym, ◌∙◌, subst, ◌⊎◌, inl, inr, append_assoc, None, is_some, arith}
 use Rattle.std.specs.Prelude.{option_map}
-use Rattle.std.specs.List.{AllByRecursion, filter}
-use Rattle.std.proofs.lemmas.Bool.{false≢true}
+use Rattle.std.specs.List.{filter}
 use Rattle.std.proofs.lemmas.List.{append-nil}
 use Rattle.ptg_base.specs.Lists.{HasNoRepeats, IsIn}
 use Rattle.ptg_base.specs.Task.{Task}
@@ -18,6 +17,7 @@ use Rattle.list_lemmas.proofs.Counts.{count-some, some_passes, same_counts}
 use Rattle.list_lemmas.proofs.Options.{some_value}
 use Rattle.list_lemmas.proofs.Members.{member_passes, list_all-from_members, IsIn-filter}
 use Rattle.list_lemmas.proofs.Distinct.{no_longer, HasNoRepeats-filter}
+use Rattle.list_lemmas.proofs.Growing.{all_or_one}
 use Rattle.list_lemmas.proofs.Tasks.{distinct_once, member_or_not, uncounted, once_each}
 use Rattle.dep_iter.specs.Tasks.{IsTask, all_tasks, locals_of}
 use Rattle.dep_iter.specs.Edges.{in_edges}
@@ -48,20 +48,13 @@ may_legal P G acc (t ∷ ts) h = (h.0.follows, may_legal P G (acc ++ t ∷ []) t
 
 -- of edges, all come from these tasks and their sources have outputs, or one does not
 pub all_or_missing : (P : Plan) (G : Data) (before : List Task) (es : List Edge) → ((e : Edge) → IsIn e es → IsIn e.from before × (has_outputs (ended P G e.from) ≡ true)) ⊎ ((x : Edge) × IsIn x es × IsMissing P G before x)
-all_or_missing P G before [] = inl (λ e i. absurd i)
-all_or_missing P G before (d ∷ ds) = elim (member_or_not d.from before) [
-  | inr absent ↦ inr (d, inl refl, inl absent)
-  | inl here ↦
-      by_test (has_outputs (ended P G d.from))
-      (λ o. elim (all_or_missing P G before ds) [
-        | inl all ↦ inl (λ e i. elim i [
-          | inl q ↦ (subst (λ (x : Edge). IsIn x.from before) (sym q) here, subst (λ (x : Edge). has_outputs (ended P G x.from) ≡ true) (sym q) o)
-          | inr later ↦ all e later
-        ])
-        | inr p ↦ inr (p.0, inr p.1, p.2)
-      ])
-      (λ o. inr (d, inl refl, inr o))
-]
+all_or_missing P G before es = all_or_one (λ (e : Edge). IsIn e.from before × (has_outputs (ended P G e.from) ≡ true)) (IsMissing P G before) es decide
+  where
+    decide : (e : Edge) → IsIn e es → (IsIn e.from before × (has_outputs (ended P G e.from) ≡ true)) ⊎ IsMissing P G before e
+    decide e i = elim (member_or_not e.from before) [
+      | inr absent ↦ inr (inl absent)
+      | inl here ↦ by_test (has_outputs (ended P G e.from)) (λ o. inl (here, o)) (λ o. inr (inr o))
+    ]
 
 module _ (P : Plan) (G : Data) (con : IsConsistent P) where
   -- a task ends whose sources all have outputs, and the other way round

@@ -1,5 +1,5 @@
 -- There is a whole order: it grows by one task after another that may run, until none is left.
-use Rattle.std.proofs.Common.{◌≡◌, ℕ, zero, suc, ◌+◌, ◌≤◌, true, List, [], ◌∷◌, ◌++◌, length, refl, ap, sym, ◌∙◌, subst, ◌⊎◌, inl, inr, Some, is_some, arith, length-append}
+use Rattle.std.proofs.Common.{◌≡◌, ℕ, zero, suc, ◌≤◌, true, List, [], length, ap, sym, ◌∙◌, ◌⊎◌, inl, inr, Some, is_some}
 use Rattle.std.proofs.lemmas.Bool.{false≢true}
 use Rattle.ptg_base.specs.Lists.{IsIn}
 use Rattle.ptg_base.specs.Task.{Task}
@@ -19,6 +19,7 @@ use Rattle.flow_meaning.proofs.Rounds.{has_sources}
 use Rattle.list_lemmas.proofs.Options.{some_value}
 use Rattle.list_lemmas.proofs.Members.{member_passes}
 use Rattle.list_lemmas.proofs.Distinct.{no_longer}
+use Rattle.list_lemmas.proofs.Growing.{grown_to_the_end}
 use Rattle.list_lemmas.proofs.Tasks.{member_or_not}
 use Rattle.task_order.proofs.Orders.{legal_once, legal_tasks}
 use Rattle.trace_core.specs.Orders.{IsWholeOrder, MayAllRunAfter, MayRunAfter}
@@ -32,23 +33,13 @@ module _ (P : Plan) (G : Data) where
     | inr trap ↦ false≢true (sym trap ∙ may.have_outputs x i)
   ]
 
-  may_or_not : (before : List Task) (t : Task) → IsTask P t → MayRunAfter P G before t ⊎ (MayRunAfter P G before t → ⊥)
-  may_or_not before t job = elim (member_or_not t before) [
-    | inl old ↦ inr (λ m. m.follows.first_time old)
+  -- a task may not run next, or it may
+  bars_or_may : (before : List Task) (t : Task) → IsIn t (all_tasks P) → (MayRunAfter P G before t → ⊥) ⊎ MayRunAfter P G before t
+  bars_or_may before t i = elim (member_or_not t before) [
+    | inl old ↦ inl (λ m. m.follows.first_time old)
     | inr new ↦ elim (all_or_missing P G before (in_edges P t)) [
-      | inl all ↦ inl (record { follows = record { task = job; first_time = new; after_sources = λ e i. (all e i).0 }; have_outputs = λ e i. (all e i).1 })
-      | inr p ↦ inr (λ m. not_missing before t m p.0 p.1 p.2)
-    ]
-  ]
-
-  -- one of these tasks may run next, or none may
-  next_or_none : (before us : List Task) → ((t : Task) → IsIn t us → IsTask P t) → ((t : Task) × MayRunAfter P G before t) ⊎ ((t : Task) → IsIn t us → MayRunAfter P G before t → ⊥)
-  next_or_none before [] job = inr (λ t i m. i)
-  next_or_none before (u ∷ us) job = elim (may_or_not before u (job u (inl refl))) [
-    | inl m ↦ inl (u, m)
-    | inr cannot ↦ elim (next_or_none before us (λ t i. job t (inr i))) [
-      | inl p ↦ inl p
-      | inr none ↦ inr (λ t i m. elim i [ inl e ↦ cannot (subst (MayRunAfter P G before) e m) | inr later ↦ none t later m ])
+      | inl all ↦ inr (record { follows = record { task = (listed P t).1 i; first_time = new; after_sources = λ e j. (all e j).0 }; have_outputs = λ e j. (all e j).1 })
+      | inr p ↦ inl (λ m. not_missing before t m p.0 p.1 p.2)
     ]
   ]
 
@@ -86,16 +77,7 @@ module _ (P : Plan) (G : Data) where
           let o = some_value (ended P G t) r.1 in
           within (length (all_tasks P)) t r.0 r.1 o.0 o.1
 
-    -- tasks that may run can be gone on with to a whole order
-    grow : (n : ℕ) (ts : List Task) → MayAllRunAfter P G [] ts → length (all_tasks P) ≤ length ts + n → (us : List Task) × IsWholeOrder P G us
-    grow zero ts may room = elim (next_or_none ts (all_tasks P) (λ t i. (listed P t).1 i)) [
-      | inr none ↦ (ts, whole P G con ts may (has_all ts (λ t m. none t ((listed P t).0 m.follows.task) m)))
-      | inl p ↦ absurd (omega (arith, room, few (ts ++ p.0 ∷ []) (may_push P G [] ts p.0 may p.1), length-append ts (p.0 ∷ [])))
-    ]
-    grow (suc n) ts may room = elim (next_or_none ts (all_tasks P) (λ t i. (listed P t).1 i)) [
-      | inr none ↦ (ts, whole P G con ts may (has_all ts (λ t m. none t ((listed P t).0 m.follows.task) m)))
-      | inl p ↦ grow n (ts ++ p.0 ∷ []) (may_push P G [] ts p.0 may p.1) (omega (arith, room, length-append ts (p.0 ∷ [])))
-    ]
-
     pub some_whole_order : (us : List Task) × IsWholeOrder P G us
-    some_whole_order = grow (length (all_tasks P)) [] tt (omega arith)
+    some_whole_order =
+        let g = grown_to_the_end (all_tasks P) (MayRunAfter P G) (MayAllRunAfter P G []) bars_or_may (may_push P G []) few tt in
+        (g.0, whole P G con g.0 g.1 (has_all g.0 (λ t m. g.2 t ((listed P t).0 m.follows.task) m)))
