@@ -17,21 +17,21 @@ all_or_one Has Lacks (x ∷ xs) decide = elim (decide x (inl refl)) [
 
 -- lists that are begun with none and grow by members of `all` that may follow: they are never longer than `all`
 module _ {A : Type 0} (all : List A) (MayFollow : List A → A → Type 0) (IsGrown : List A → Type 0)
-  (decide : (xs : List A) (x : A) → IsIn x all → (MayFollow xs x → ⊥) ⊎ MayFollow xs x)
-  (push : (xs : List A) (x : A) → IsGrown xs → MayFollow xs x → IsGrown (xs ++ x ∷ []))
-  (few : (xs : List A) → IsGrown xs → length xs ≤ length all)
+    (decide : (xs : List A) (x : A) → IsIn x all → (MayFollow xs x → ⊥) ⊎ MayFollow xs x)
+    (push : (xs : List A) (x : A) → IsGrown xs → MayFollow xs x → IsGrown (xs ++ x ∷ []))
+    (few : (xs : List A) → IsGrown xs → length xs ≤ length all)
   where
-  grow : (n : ℕ) (xs : List A) → IsGrown xs → length all ≤ length xs + n
-      → (ys : List A) × IsGrown ys × ((x : A) → IsIn x all → MayFollow ys x → ⊥)
-  grow zero xs grown room = elim (all_or_one (λ x. MayFollow xs x → ⊥) (MayFollow xs) all (decide xs)) [
-    | inl none ↦ (xs, grown, none)
-    | inr p ↦ absurd (omega (arith, room, few (xs ++ p.0 ∷ []) (push xs p.0 grown p.2), length-append xs (p.0 ∷ [])))
-  ]
-  grow (suc n) xs grown room = elim (all_or_one (λ x. MayFollow xs x → ⊥) (MayFollow xs) all (decide xs)) [
-    | inl none ↦ (xs, grown, none)
-    | inr p ↦ grow n (xs ++ p.0 ∷ []) (push xs p.0 grown p.2) (omega (arith, room, length-append xs (p.0 ∷ [])))
-  ]
+    grow : (n : ℕ) (xs : List A) → IsGrown xs → length all ≤ length xs + n
+        → (ys : List A) × IsGrown ys × ((x : A) → IsIn x all → MayFollow ys x → ⊥)
+    grow zero xs grown room = elim (all_or_one (λ x. MayFollow xs x → ⊥) (MayFollow xs) all (decide xs)) [
+      | inl none ↦ (xs, grown, none)
+      | inr p ↦ absurd (omega (arith, room, few (xs ++ p.0 ∷ []) (push xs p.0 grown p.2), length-append xs (p.0 ∷ [])))
+    ]
+    grow (suc n) xs grown room = elim (all_or_one (λ x. MayFollow xs x → ⊥) (MayFollow xs) all (decide xs)) [
+      | inl none ↦ (xs, grown, none)
+      | inr p ↦ grow n (xs ++ p.0 ∷ []) (push xs p.0 grown p.2) (omega (arith, room, length-append xs (p.0 ∷ [])))
+    ]
 
-  -- such a list that none may follow
-  pub grown_to_the_end : IsGrown [] → (ys : List A) × IsGrown ys × ((x : A) → IsIn x all → MayFollow ys x → ⊥)
-  grown_to_the_end none = grow (length all) [] none (omega arith)
+    -- such a list that none may follow
+    pub grown_to_the_end : IsGrown [] → (ys : List A) × IsGrown ys × ((x : A) → IsIn x all → MayFollow ys x → ⊥)
+    grown_to_the_end none = grow (length all) [] none (omega arith)

@@ -40,31 +40,75 @@ fn steal<R: Threads + Wait + Sync>(rt: &R, hands: &mut Hands, from: u32) -> Opti
     }
 }
 
+/// Whether so many workers are numbered from 0 on, and know how many they are.
+fn are_numbered(team: &[Hands], workers: u32) -> bool {
+    for (k, hands) in team.iter().enumerate() {
+        if hands.number() as usize != k || hands.workers() != workers {
+            return false;
+        }
+    }
+    team.len() == workers as usize
+}
+
+#[test]
+fn the_workers_of_a_team_are_numbered(rt: HostRuntime) -> Result<(), Fail> {
+    let team = make(rt.alloc(), 3)?;
+    assert!(rt; are_numbered(team.as_slice(), 3));
+    Ok(())
+}
+
+/// The hands of workers 1 and 2 of three.
+fn last_two(alloc: Global) -> Result<(Hands, Hands), Fail> {
+    let mut team = make(alloc, 3)?;
+    let (Some(last), Some(middle)) = (team.pop(), team.pop()) else {
+        return Err("fewer than two".into());
+    };
+    Ok((middle, last))
+}
+
+/// Whether all of so many tasks were pushed.
+fn push_all(hands: &mut Hands, count: i64) -> bool {
+    let mut all = true;
+    for k in 0..count {
+        all &= hands.push(task(k)).is_ok();
+    }
+    all
+}
+
+/// Whether the tasks of these numbers were popped, the last one first.
+fn pops_down(hands: &mut Hands, from: i64, to: i64) -> bool {
+    let mut all = true;
+    for k in (from..to).rev() {
+        all &= pop(hands) == Some(k);
+    }
+    all
+}
+
+/// Whether neither the owner, worker 1, nor the thief finds a task.
+fn find_none<R: Threads + Wait + Sync>(rt: &R, owner: &mut Hands, thief: &mut Hands) -> bool {
+    pop(owner).is_none() && steal(rt, thief, 1).is_none()
+}
+
+/// Whether the owner, worker 1, pops the newest of 20 tasks and the thief steals the oldest, and none from a worker
+/// that has none.
+fn take_from_both_ends<R: Threads + Wait + Sync>(
+    rt: &R,
+    owner: &mut Hands,
+    thief: &mut Hands,
+) -> bool {
+    if !push_all(owner, 20) || !pops_down(owner, 18, 20) {
+        return false;
+    }
+    let stolen = (steal(rt, thief, 1), steal(rt, thief, 1));
+    stolen == (Some(0), Some(1)) && steal(rt, thief, 0).is_none() && pops_down(owner, 2, 18)
+}
+
 #[test]
 fn a_worker_pops_its_newest_and_another_steals_its_oldest(rt: HostRuntime) -> Result<(), Fail> {
-    let mut team = make(rt.alloc(), 3)?;
-    assert_eq!(rt; team.len(), 3);
-    for (k, hands) in team.iter().enumerate() {
-        assert_eq!(rt; (hands.number() as usize, hands.workers()), (k, 3));
-    }
-    let Some(mut thief) = team.pop() else {
-        return Ok(());
-    };
-    let Some(mut owner) = team.pop() else {
-        return Ok(());
-    };
-    assert_eq!(rt; (pop(&mut owner), steal(&rt, &mut thief, 1)), (None, None));
-    for k in 0..20 {
-        assert!(rt; owner.push(task(k)).is_ok());
-    }
-    assert_eq!(rt; (pop(&mut owner), pop(&mut owner)), (Some(19), Some(18)));
-    assert_eq!(rt; steal(&rt, &mut thief, 1), Some(0));
-    assert_eq!(rt; steal(&rt, &mut thief, 1), Some(1));
-    assert_eq!(rt; steal(&rt, &mut thief, 0), None);
-    for k in (2..18).rev() {
-        assert_eq!(rt; pop(&mut owner), Some(k));
-    }
-    assert_eq!(rt; (pop(&mut owner), steal(&rt, &mut thief, 1)), (None, None));
+    let (mut owner, mut thief) = last_two(rt.alloc())?;
+    assert!(rt; find_none(&rt, &mut owner, &mut thief));
+    assert!(rt; take_from_both_ends(&rt, &mut owner, &mut thief));
+    assert!(rt; find_none(&rt, &mut owner, &mut thief));
     Ok(())
 }
 
@@ -111,33 +155,57 @@ fn take_part<R: Threads + Wait + Sync>(rt: &R, seat: &mut Seat) {
     }
 }
 
-#[test]
-fn each_id_is_taken_once_by_four_threads(rt: HostRuntime) -> Result<(), Fail> {
-    let mut seats = Vec::new(rt.alloc());
-    for hands in make(rt.alloc(), 4)? {
-        let taken = vec![in rt.alloc(); 0u32; TASKS as usize]?;
+/// The hands of four workers, each with a count for each task.
+fn four_seats(alloc: Global) -> Result<Vec<Seat>, Fail> {
+    let mut seats = Vec::new(alloc);
+    for hands in make(alloc, 4)? {
+        let taken = vec![in alloc; 0u32; TASKS as usize]?;
         seats.push(Seat { hands, taken })?;
     }
+    Ok(seats)
+}
+
+/// Takes what is left of a worker's own tasks. Whether its deque is empty then.
+fn drain(seat: &mut Seat) -> bool {
+    for _ in 0..TASKS {
+        let left = pop(&mut seat.hands);
+        seat.note(left);
+    }
+    pop(&mut seat.hands).is_none()
+}
+
+/// Whether this task was taken once, by all together.
+fn is_taken_once(seats: &[Seat], k: usize) -> bool {
+    let mut all = 0u32;
+    for seat in seats {
+        all = all.wrapping_add(seat.taken.get(k).copied().unwrap_or(0));
+    }
+    all == 1
+}
+
+/// Whether each task was taken once.
+fn are_taken_once(seats: &[Seat]) -> bool {
+    let mut each = true;
+    for k in 0..TASKS as usize {
+        each &= is_taken_once(seats, k);
+    }
+    each
+}
+
+#[test]
+fn each_id_is_taken_once_by_four_threads(rt: HostRuntime) -> Result<(), Fail> {
+    let mut seats = four_seats(rt.alloc())?;
     thread::for_each_mut(
         &rt,
         seats.as_mut_slice(),
         4,
         &|_, seat| take_part(&rt, seat),
     );
-    if let Some(seat) = seats.first_mut() {
-        for _ in 0..TASKS {
-            let left = pop(&mut seat.hands);
-            seat.note(left);
-        }
-        assert_eq!(rt; pop(&mut seat.hands), None);
-    }
-    for k in 0..TASKS as usize {
-        let mut all = 0u32;
-        for seat in &seats {
-            all = all.wrapping_add(seat.taken.get(k).copied().unwrap_or(0));
-        }
-        assert_eq!(rt; all, 1);
-    }
+    let Some(first) = seats.first_mut() else {
+        return Err("no worker".into());
+    };
+    assert!(rt; drain(first));
+    assert!(rt; are_taken_once(seats.as_slice()));
     Ok(())
 }
 
@@ -155,10 +223,12 @@ fn pair(alloc: Global) -> Result<(Hands, Hands), Fail>
 #[test]
 fn the_hands_of_a_team_are_settled(rt: HostRuntime) -> Result<(), Fail> {
     let (mut owner, mut other) = pair(rt.alloc())?;
-    assert!(rt; owner.push(task(0)).is_ok());
-    assert!(rt; owner.push(task(1)).is_ok());
-    assert_eq!(rt; steal(&rt, &mut other, 1), Some(0));
-    assert_eq!(rt; pop(&mut owner), Some(1));
+    let pushed = owner.push(task(0)).is_ok();
+    let both_pushed = owner.push(task(1)).is_ok() && pushed;
+    let stolen = steal(&rt, &mut other, 1);
+    let popped = pop(&mut owner);
     owner.settle(vec![in rt.alloc(); other]?);
+    assert!(rt; both_pushed);
+    assert_eq!(rt; (stolen, popped), (Some(0), Some(1)));
     Ok(())
 }
