@@ -1,25 +1,84 @@
-//! Runs a broadcast by the calls of one run, in orders other than the program's, compares each answer with that of one
-//! thread, and prints how each order ends.
+//! Runs jobs in orders other than the program's and prints how they end: a broadcast by the calls of one run, compared
+//! with the answer of one thread; the same in worlds of ranks, whose messages come late, in other orders and again; and
+//! jobs in worlds that are driven in the orders of several seeds.
 #![tactic(auto)]
 
+mod broadcast;
+mod comparing;
+mod driven;
+mod jobs;
 mod orders;
+mod steps;
 mod stepwise;
 
-use crate::orders::{AFTER, BETWEEN, End, REFUSED, end_of};
+ghost use Rattle.std.specs.Prelude.{◌<◌, ◌≤◌};
+ghost use Rattle.ptg_base.specs.Limits.{most_ranks};
+
+use crate::broadcast::{EARLY, LATE, LEFT, REFUSED, THRICE};
+use crate::driven::agreed;
+use crate::jobs::{JOBS, Job};
+use crate::orders::End;
+use crate::stepwise::Step;
+use std::alloc::Global;
 use std::io;
 
+// Prints how the broadcast ends on one thread, in one order of steps.
+fn print_order<R: Print>(
+    rt: &R,
+    alloc: Global,
+    name: &str,
+    steps: &[(Step, bool)],
+) -> io::Result<()> {
+    match orders::end_of(alloc, steps) {
+        Ok(End::Numbers(n)) => println!(rt; "{name},{},{},{}", n[0], n[1], n[2]),
+        Ok(End::Otherwise(number)) => println!(rt; "{name}: step {number} was answered otherwise"),
+        Ok(End::NotComplete) => println!(rt; "{name}: not all tasks ran"),
+        Ok(End::Differs) => println!(rt; "{name}: one thread answers otherwise"),
+        Ok(End::NoJob) => println!(rt; "{name}: the job is not consistent"),
+        Err(_) => println!(rt; "{name}: out of memory"),
+    }
+}
+
+// Prints how it ends in so many ranks, in one order of steps.
+fn print_order_of_ranks<R: Print>(
+    rt: &R,
+    alloc: Global,
+    name: &str,
+    ranks: u32,
+    steps: &[(steps::Step, bool)],
+) -> io::Result<()>
+    requires { (0 < ranks) × (ranks ≤ most_ranks) }
+{
+    match broadcast::end_of(alloc, ranks, steps) {
+        Ok(end) => println!(rt; "{name},{ranks},{end}"),
+        Err(_) => println!(rt; "{name}: out of memory"),
+    }
+}
+
+// Prints what several seeds have in common for a job in so many ranks.
+fn print_agreed<R: Print>(rt: &R, alloc: Global, job: &Job, ranks: u32) -> io::Result<()>
+    requires { (0 < ranks) × (ranks ≤ most_ranks) }
+{
+    match agreed(alloc, job, ranks) {
+        Ok(finding) => println!(rt; "{},{ranks},{finding}", job.name),
+        Err(_) => println!(rt; "{}: out of memory", job.name),
+    }
+}
+
 fn main(rt: HostRuntime) -> io::Result<()> {
-    for (name, steps) in [("between", BETWEEN), ("after", AFTER), ("refused", REFUSED)] {
-        match end_of(rt.alloc(), steps) {
-            Ok(End::Numbers(n)) => println!(rt; "{name},{},{},{}", n[0], n[1], n[2])?,
-            Ok(End::Otherwise(number)) => println!(rt;
-                "{name}: step {number} was answered otherwise"
-            )?,
-            Ok(End::NotComplete) => println!(rt; "{name}: not all tasks ran")?,
-            Ok(End::Differs) => println!(rt; "{name}: one thread answers otherwise")?,
-            Ok(End::NoJob) => println!(rt; "{name}: the job is not consistent")?,
-            Err(_) => println!(rt; "{name}: out of memory")?,
-        }
+    let alloc = rt.alloc();
+    print_order(&rt, alloc, "between", orders::BETWEEN)?;
+    print_order(&rt, alloc, "after", orders::AFTER)?;
+    print_order(&rt, alloc, "refused", orders::REFUSED)?;
+    print_order_of_ranks(&rt, alloc, "thrice", 3, THRICE)?;
+    print_order_of_ranks(&rt, alloc, "late", 3, LATE)?;
+    print_order_of_ranks(&rt, alloc, "early", 3, EARLY)?;
+    print_order_of_ranks(&rt, alloc, "refused", 4, REFUSED)?;
+    print_order_of_ranks(&rt, alloc, "left", 3, LEFT)?;
+    for job in JOBS {
+        print_agreed(&rt, alloc, job, 1)?;
+        print_agreed(&rt, alloc, job, 3)?;
+        print_agreed(&rt, alloc, job, 64)?;
     }
     Ok(())
 }

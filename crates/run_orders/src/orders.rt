@@ -1,51 +1,17 @@
 //! A broadcast, claimed and sent in other orders than the program's.
 
+use crate::jobs::{BROADCAST, numbers};
 use crate::stepwise::{Step, Stepwise, answer_of_run_one};
 use flow_meaning::Outcome;
-use ptg_base::{OutOfMemory, Place};
+use ptg_base::OutOfMemory;
 use std::alloc::Global;
 
-// The job of the row 'a broadcast' of jobs.txt: Src(0) sends one tile to three tasks Sink(i), and each adds i to its
-// number and writes it back to its own place.
-const JDF: &[u8] = b"D
-
-Src(z)
-z = 0 .. 0
-: D(0)
-READ A <- D(0) -> X Sink(0 .. 2)
-BODY
-END
-Sink(i)
-i = 0 .. 2
-: D(0)
-RW X <- A Src(0) -> D(i)
-BODY
-X[0] = X[0] + i;
-END
-";
-
-// The tile that is sent has the number 10.
-const DATA: &[u8] = b"elems,1
-coll,D,3
-tile,D,0,10
-";
-
-// The numbers of D's three tiles, if this is the answer of a job all of whose four tasks ran.
-fn numbers(answer: Option<Outcome>) -> Option<[i64; 3]> {
-    let Some(Outcome::Complete(4, given)) = answer else {
-        return None;
-    };
-    let mut numbers = [0; 3];
-    for i in 0..3 {
-        let place = Place {
-            coll: 0,
-            i: i as i64,
-            j: 0,
-        };
-        let number = given.tile(&place)?.as_slice().first()?;
-        numbers[i] = *number;
+// The numbers of the three places, if this is the answer of a run all of whose four tasks ran.
+fn found(answer: Option<Outcome>) -> Option<[i64; 3]> {
+    match answer {
+        Some(outcome) => numbers(&outcome),
+        None => None,
     }
-    Some(numbers)
 }
 
 /// The edges are sent last to first, and readers are claimed and run between the sends.
@@ -155,17 +121,17 @@ pub enum End {
 
 /// The broadcast in one order of steps, compared with the answer of one thread.
 pub fn end_of(alloc: Global, steps: &[(Step, bool)]) -> Result<End, OutOfMemory> {
-    let Some(mut run) = Stepwise::start(alloc, JDF, DATA)? else {
+    let Some(mut run) = Stepwise::start(alloc, &BROADCAST)? else {
         return Ok(End::NoJob);
     };
     if let Some(number) = run.first_other(steps)? {
         return Ok(End::Otherwise(number));
     }
-    let Some(found) = numbers(run.answer()?) else {
+    let Some(numbers) = found(run.answer()?) else {
         return Ok(End::NotComplete);
     };
-    match numbers(answer_of_run_one(alloc, JDF, DATA)?) {
-        Some(wanted) if wanted == found => Ok(End::Numbers(found)),
+    match found(answer_of_run_one(alloc, &BROADCAST)?) {
+        Some(wanted) if wanted == numbers => Ok(End::Numbers(numbers)),
         _ => Ok(End::Differs),
     }
 }

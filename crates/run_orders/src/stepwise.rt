@@ -5,6 +5,7 @@ ghost use Rattle.ptg_base.specs.Lists.{IsIn};
 ghost use Rattle.ptg_base.specs.Task.{Task};
 ghost use Rattle.flow_core.specs.RunState.{IsRunning};
 
+use crate::jobs::Job;
 use coll_data::Given;
 use dep_iter::Matched;
 use flow_core::{State, run_one};
@@ -91,9 +92,9 @@ fn none_runs(run: &State, tasks: &[TaskId]) -> bool
 }
 
 impl Stepwise {
-    /// The run of the job of these texts, before anything has happened in it; nothing if the job is not consistent.
-    pub fn start(alloc: Global, jdf: &[u8], data: &[u8]) -> Result<Option<Stepwise>, OutOfMemory> {
-        match judge_texts(alloc, jdf, data)? {
+    /// The run of a job, before anything has happened in it; nothing if the job is not consistent.
+    pub fn start(alloc: Global, texts: &Job) -> Result<Option<Stepwise>, OutOfMemory> {
+        match judge_texts(alloc, texts.jdf, texts.data)? {
             JobVerdict::Consistent(job, given) => Ok(Some(Stepwise {
                 job,
                 given,
@@ -161,13 +162,9 @@ impl Stepwise {
     }
 }
 
-/// The answer of the job of these texts as one thread finds it; nothing if the job is not consistent.
-pub fn answer_of_run_one(
-    alloc: Global,
-    jdf: &[u8],
-    data: &[u8],
-) -> Result<Option<Outcome>, OutOfMemory> {
-    match judge_texts(alloc, jdf, data)? {
+/// The answer of a job as one thread finds it; nothing if the job is not consistent.
+pub fn answer_of_run_one(alloc: Global, texts: &Job) -> Result<Option<Outcome>, OutOfMemory> {
+    match judge_texts(alloc, texts.jdf, texts.data)? {
         JobVerdict::Consistent(job, given) => Ok(Some(run_one(alloc, &job, given)?)),
         _ => Ok(None),
     }

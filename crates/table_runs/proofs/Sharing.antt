@@ -1,4 +1,4 @@
--- The watched table may be shared between threads.
+-- The watched table and the one that can't be scanned may be shared between threads.
 use denote.Param.Send.{IsSync, sendable, struct_sync}
 use denote.Struct.Struct.{Struct}
 use denote.Struct.Declared.{shape}
@@ -9,7 +9,8 @@ use Rattle.shard_meaning.proofs.Sharing.{declared_sync, given_sync, matched_sync
 use Rattle.table_rule.specs.contracts.job.Job.{the_type as job_type}
 use Rattle.dep_table.specs.contracts.closing_room.ClosingRoom.{the_type as closing_type}
 use Rattle.dep_table.specs.contracts.table.DepTable.{the_type as table_type}
-use Rattle.table_runs.specs.contracts.watching.Watched.{the_row, the_type}
+use Rattle.table_runs.specs.contracts.unscanned.Unscanned.{the_row as unscanned_row, the_type as unscanned_type}
+use Rattle.table_runs.specs.contracts.watching.Watched.{the_row as watched_row, the_type as watched_type}
 
 -- a job, and the room of a close, as fields of another struct
 job_fields : IsSync (Struct (shape job_type))
@@ -22,5 +23,8 @@ closing_fields = let s = shard_sync in struct_sync (shape closing_type) (search 
 table_fields : IsSync (Struct (shape table_type))
 table_fields = let s = shard_send in struct_sync (shape table_type) (search (sendable, crosses, shared_sync, lease_sync) depth 30, (job_fields, (closing_fields, tt)))
 
-pub board_sync : IsSync the_row
-board_sync = declared_sync the_type (table_fields, tt)
+pub watched_sync : IsSync watched_row
+watched_sync = declared_sync watched_type (table_fields, tt)
+
+pub unscanned_sync : IsSync unscanned_row
+unscanned_sync = declared_sync unscanned_type (table_fields, (search sendable depth 30, tt))

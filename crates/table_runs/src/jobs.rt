@@ -139,6 +139,53 @@ tile,Q,0,3,4
 ",
 };
 
+/// One task, which no edge goes into or comes from.
+pub const ONE_TASK: Texts = Texts {
+    name: "one task",
+    jdf: b"D
+
+Alone(k)
+k = 0 .. 0
+: D(0)
+RW A <- D(0)
+     -> D(0)
+BODY
+A[0] = A[0] + 1;
+END
+",
+    data: b"elems,1
+coll,D,1
+",
+};
+
+/// Two tasks: the second one is ready once the first one has sent it its tile.
+pub const PAIR: Texts = Texts {
+    name: "a pair",
+    jdf: b"D
+
+First(k)
+k = 0 .. 0
+: D(0)
+RW A <- D(0)
+     -> A Second(0)
+BODY
+A[0] = A[0] + 1;
+END
+
+Second(k)
+k = 0 .. 0
+: D(0)
+RW A <- A First(0)
+     -> D(0)
+BODY
+A[0] = A[0] + 1;
+END
+",
+    data: b"elems,1
+coll,D,1
+",
+};
+
 // The shape of a tiled Cholesky factorization.
 const CHOLESKY_JDF: &[u8] = b"D [type = \"parsec_data_collection_t*\"]
 NT [type = int]

@@ -1,25 +1,31 @@
-//! Plays jobs over the shared table: by one worker while two passes look on, in several orders, by several workers in
-//! threads, and up to a close before the end. It prints what the passes were answered and what the closed tables
-//! answer.
+//! Plays jobs over the shared table: by one worker while two passes look on, in several orders, by one that can only
+//! steal, by several workers in threads, and up to a close before the end. It prints what the passes were answered and
+//! what the closed tables answer.
 #![tactic(auto)]
 
 mod answer;
 mod closing;
 mod early;
+mod hands;
 mod jobs;
 mod opening;
 mod orders;
 mod playing;
 mod seen;
+mod thief;
 mod threads;
+mod unscanned;
 mod watcher;
 mod watching;
 
 use crate::early::{claim_and_close, shard_of};
-use crate::jobs::{BROADCAST, CHOLESKY_4, CHOLESKY_20, GATHER, STALL, TRAPS, TYPES, Texts};
+use crate::jobs::{
+    BROADCAST, CHOLESKY_4, CHOLESKY_20, GATHER, ONE_TASK, PAIR, STALL, TRAPS, TYPES, Texts,
+};
 use crate::opening::{Make, table_of};
 use crate::orders::play_in_order;
 use crate::playing::{Played, play};
+use crate::thief::ran_by_thief;
 use crate::threads::{answer_by, traced};
 use ptg_base::{OutOfMemory, TaskId};
 use run_pool::Settings;
@@ -148,6 +154,22 @@ fn print_shard<R: Print>(rt: &R, alloc: Global, texts: &Texts, task: &TaskId) ->
     }
 }
 
+// What a worker runs that can only steal, of these ids of tasks of class 0.
+fn print_thief<R: Threads + Wait + Print + Sync>(
+    rt: &R,
+    alloc: Global,
+    texts: &Texts,
+    ids: &[i64],
+) -> io::Result<()> {
+    let name = texts.name;
+    let count = ids.len();
+    match ran_by_thief(rt, alloc, texts, ids) {
+        Ok(Some(end)) => println!(rt; "{name}, {count} ids: {end}"),
+        Ok(None) => println!(rt; "{name}: no job"),
+        Err(OutOfMemory) => println!(rt; "{name}: no memory"),
+    }
+}
+
 fn main(rt: HostRuntime) -> io::Result<()> {
     let alloc = rt.alloc();
     for texts in [BROADCAST, GATHER, TRAPS, STALL, TYPES] {
@@ -161,6 +183,9 @@ fn main(rt: HostRuntime) -> io::Result<()> {
     // After the first claim a task is ready, and after the second one it runs.
     print_early(&rt, alloc, &BROADCAST, &TaskId::new(1, &[0]))?;
     print_early(&rt, alloc, &BROADCAST, &TaskId::new(0, &[0]))?;
+    print_thief(&rt, alloc, &ONE_TASK, &[0, 0])?;
+    print_thief(&rt, alloc, &PAIR, &[0, 0])?;
+    print_thief(&rt, alloc, &ONE_TASK, &[])?;
     print_claims(&rt, alloc, &CHOLESKY_20)?;
     print_shard(&rt, alloc, &CHOLESKY_4, &TaskId::new(0, &[0]))?;
     print_shard(&rt, alloc, &CHOLESKY_4, &TaskId::new(1, &[0, 1]))?;

@@ -1,20 +1,21 @@
 //! A job run by one worker in an order that its deque of ids steers.
 
-ghost use Rattle.std.specs.Prelude.{◌≡◌, false};
+ghost use Rattle.std.specs.Prelude.{◌≡◌, [], false};
 ghost use Rattle.table_rule.specs.Changes.{first_pass};
+ghost use Rattle.dep_table.specs.Boards.{IsWorkerPass};
 ghost use Rattle.dep_table.specs.Passes.{IsPassOf};
 ghost use Rattle.dep_table.specs.Tables.{id_of, job_of};
 ghost use Rattle.dep_table.specs.Views.{shown};
 
 use crate::answer::{Answer, answer_of};
 use crate::closing::close_one;
+use crate::hands::one_worker;
 use crate::jobs::Texts;
 use crate::opening::{Make, table_of};
 use dep_table::an_idle_pass_is_a_workers_pass;
 use dep_table::pass::Pass;
 use dep_table::table::DepTable;
 use ptg_base::{OutOfMemory, TaskId};
-use ready_deques::{Hands, make};
 use std::alloc::Global;
 use std::fmt;
 use std::sync::Wait;
@@ -42,16 +43,34 @@ impl fmt::Display for Ordered {
     }
 }
 
-// The hands of one worker, in whose deque are tasks of class 0 with these parameters, the last one at the back.
-fn hands_with(alloc: Global, ids: &[i64]) -> Result<Hands, OutOfMemory> {
-    let Some(mut hands) = make(alloc, 1)?.pop() else {
-        return Err(OutOfMemory);
-    };
-    for id in ids {
-        // What comes back is dropped: a new deque has room for 16.
-        let _pushed = hands.push(TaskId::new(0, &[*id]));
-    }
-    Ok(hands)
+// The claims of a worker with these ids in its deque, up to the end.
+fn claims_by_one<R: Threads + Wait + Sync>(
+    rt: &R,
+    alloc: Global,
+    table: &DepTable,
+    pass: &mut Pass,
+    ids: &[i64],
+) -> Result<Vec<(u64, TaskId)>, OutOfMemory>
+    requires pass { IsWorkerPass table.now pass.old }
+    requires idle { (shown pass.old).running ≡ [] }
+    requires not_preloaded { (job_of table.now).preloaded ≡ false }
+    ensures pass { IsPassOf (id_of table.now) pass.new }
+    ensures names { (shown pass.new).names ≡ (shown pass.old).names }
+{
+    let mut hands = one_worker(alloc, ids)?;
+    let mut bench = Bench::new(alloc, table.matched())?;
+    let mut claims = Vec::new(alloc);
+    let _worked = work_logged(
+        rt,
+        0,
+        table,
+        pass,
+        &mut hands,
+        &Always,
+        &mut bench,
+        &mut claims,
+    )?;
+    Ok(claims)
 }
 
 // Lets one worker work at a new table that is not preloaded, with these ids in its deque, and closes the table.
@@ -68,19 +87,7 @@ fn work_with<R: Threads + Wait + Sync>(
 {
     an_idle_pass_is_a_workers_pass();
     let mut pass = first;
-    let mut bench = Bench::new(alloc, table.matched())?;
-    let mut hands = hands_with(alloc, ids)?;
-    let mut claims = Vec::new(alloc);
-    let _worked = work_logged(
-        rt,
-        0,
-        &table,
-        &mut pass,
-        &mut hands,
-        &Always,
-        &mut bench,
-        &mut claims,
-    )?;
+    let claims = claims_by_one(rt, alloc, &table, &mut pass, ids)?;
     let answer = answer_of(close_one(alloc, table, pass)?)?;
     Ok(Ordered { claims, answer })
 }

@@ -9,6 +9,7 @@ ghost use Rattle.table_runs.specs.Watching.{IsReadyWatch, IsWatch};
 
 use crate::answer::{Answer, answer_of};
 use crate::closing::close_three;
+use crate::hands::one_worker;
 use crate::seen::Seen;
 use crate::watcher::Watcher;
 use crate::watching::{Watch, Watched};
@@ -17,7 +18,6 @@ use dep_table::closed::Closed;
 use dep_table::pass::Pass;
 use dep_table::table::DepTable;
 use ptg_base::OutOfMemory;
-use ready_deques::make;
 use std::alloc::Global;
 use std::fmt;
 use std::sync::Wait;
@@ -97,6 +97,24 @@ fn close(alloc: Global, watched: Watched, watch: Watch) -> Result<Closed, OutOfM
     close_three(alloc, table, mine, first, second)
 }
 
+// Lets one worker work at a watched table to the end: how many tasks it ran.
+fn ran_by_one<R: Threads + Wait + Sync>(
+    rt: &R,
+    alloc: Global,
+    watched: &Watched,
+    watch: &mut Watch,
+) -> Result<u64, OutOfMemory>
+    requires watch { IsWatch watched.now watch.old }
+    requires idle { (shown watch.old.mine).running ≡ [] }
+    ensures watch { IsWatch watched.now watch.new }
+    ensures names { (shown watch.new.mine).names ≡ (shown watch.old.mine).names }
+{
+    let mut hands = one_worker(alloc, &[])?;
+    let mut bench = Bench::new(alloc, watched.table.matched())?;
+    let worked = work(rt, 0, watched, watch, &mut hands, &Always, &mut bench)?;
+    Ok(worked.ran)
+}
+
 /// Lets one worker work at a new table while two passes look on, and closes the table.
 pub fn play<R: Threads + Wait + Sync>(
     rt: &R,
@@ -109,17 +127,13 @@ pub fn play<R: Threads + Wait + Sync>(
 {
     let (watched, mut watch) = with_watch(table, first);
     let quiet_before = watched.sees_quiet(&mut watch);
-    let mut bench = Bench::new(alloc, watched.table.matched())?;
-    let Some(mut hands) = make(alloc, 1)?.pop() else {
-        return Err(OutOfMemory);
-    };
-    let worked = work(rt, 0, &watched, &mut watch, &mut hands, &Always, &mut bench)?;
+    let ran = ran_by_one(rt, alloc, &watched, &mut watch)?;
     let quiet_after = watched.sees_quiet(&mut watch);
     let seen = watch.seen;
     let answer = answer_of(close(alloc, watched, watch)?)?;
     Ok(Played {
         quiet_before,
-        ran: worked.ran,
+        ran,
         seen,
         quiet_after,
         answer,

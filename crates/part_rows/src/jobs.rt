@@ -1,0 +1,105 @@
+//! Parts that are called with a job: its JDF, its data, and with some a text that is read as its trace.
+
+ghost use Rattle.std.specs.Prelude.{IfOk};
+ghost use Rattle.plan_data.specs.Fit.{DataFit};
+
+use crate::{accepted, certificates, replays, tasks};
+use coll_data::Given;
+use dep_iter::Matched;
+use job_stages::{JobVerdict, judge_texts};
+use ptg_base::Text;
+use row_files::{Order, Printed, Why};
+use std::alloc::Global;
+
+/// What is called with a job.
+#[derive(Clone, Copy)]
+pub enum JobPart {
+    Edges,
+    Accepts,
+    Certificate,
+    Replay,
+    List,
+}
+
+impl JobPart {
+    /// The part that this word names, if it names one.
+    pub fn of(word: &str) -> Option<JobPart> {
+        match word {
+            "edges" => Some(JobPart::Edges),
+            "accepts" => Some(JobPart::Accepts),
+            "certificate" => Some(JobPart::Certificate),
+            "replay" => Some(JobPart::Replay),
+            "list" => Some(JobPart::List),
+            _ => None,
+        }
+    }
+
+    /// What a call of it prints, with the files that these words name.
+    pub fn printed(self, alloc: Global, order: &Order, words: &[Text]) -> Result<Printed, Why> {
+        match (self, words) {
+            (JobPart::Edges, [jdf, table]) => { edges(alloc, order.file(jdf)?, order.file(table)?) }
+            (JobPart::Accepts, [jdf, table]) => {
+                accepts(alloc, order.file(jdf)?, order.file(table)?)
+            }
+            (JobPart::Certificate, [jdf, table]) => {
+                certificate(alloc, order.file(jdf)?, order.file(table)?)
+            }
+            (JobPart::Replay, [jdf, table, trace]) => replay(
+                alloc,
+                order.file(jdf)?,
+                order.file(table)?,
+                order.file(trace)?,
+            ),
+            (JobPart::List, [jdf, table, trace]) => list(
+                alloc,
+                order.file(jdf)?,
+                order.file(table)?,
+                order.file(trace)?,
+            ),
+            _ => Err(Why("words that call nothing")),
+        }
+    }
+}
+
+// The job of two texts, which is consistent.
+fn job_of(alloc: Global, jdf: &[u8], table: &[u8]) -> Result<(Matched, Given), Why>
+    ensures { IfOk result (λ j. DataFit j.0.colls j.0.elems j.1) }
+{
+    match judge_texts(alloc, jdf, table)? {
+        JobVerdict::Consistent(matched, given) => Ok((matched, given)),
+        _ => Err(Why("a job that is not consistent")),
+    }
+}
+
+// The tasks of a job with their edges, if one walk accepts it.
+fn edges(alloc: Global, jdf: &[u8], table: &[u8]) -> Result<Printed, Why> {
+    let (matched, _given) = job_of(alloc, jdf, table)?;
+    if !accepted::is_accepted(alloc, matched.plan())? {
+        return Err(Why("a consistent job that one walk does not accept"));
+    }
+    tasks::shown(alloc, &matched)
+}
+
+// Whether one walk accepts the job, beside the verdict on it.
+fn accepts(alloc: Global, jdf: &[u8], table: &[u8]) -> Result<Printed, Why> {
+    let verdict = judge_texts(alloc, jdf, table)?;
+    accepted::shown(alloc, &verdict)
+}
+
+// The certificate of a job, and what the checkers say of it.
+fn certificate(alloc: Global, jdf: &[u8], table: &[u8]) -> Result<Printed, Why> {
+    let (matched, given) = job_of(alloc, jdf, table)?;
+    certificates::shown(alloc, &matched, given)
+}
+
+// What a text comes to as the trace of a job.
+fn replay(alloc: Global, jdf: &[u8], table: &[u8], trace: &[u8]) -> Result<Printed, Why> {
+    let (matched, given) = job_of(alloc, jdf, table)?;
+    replays::replayed(alloc, &matched, given, trace)
+}
+
+// The same of a text that is read as a list of tasks first.
+fn list(alloc: Global, jdf: &[u8], table: &[u8], trace: &[u8]) -> Result<Printed, Why> {
+    let (matched, given) = job_of(alloc, jdf, table)?;
+    replays::listed(alloc, &matched, given, trace)
+}

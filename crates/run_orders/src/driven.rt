@@ -1,0 +1,102 @@
+//! Jobs that are driven in the orders of several seeds.
+
+ghost use Rattle.std.specs.Prelude.{◌<◌, ◌≤◌};
+ghost use Rattle.ptg_base.specs.Limits.{most_ranks};
+
+use crate::comparing::same;
+use crate::jobs::Job;
+use crate::stepwise::answer_of_run_one;
+use flow_meaning::Outcome;
+use job_stages::{JobVerdict, judge_texts};
+use ptg_base::OutOfMemory;
+use rank_world::ranks_of;
+use std::alloc::Global;
+use std::fmt;
+
+const SEEDS: &[u64] = &[0, 1, 7, 8, 4294967296, 18446744073709551615];
+
+/// How an answer ends, without its rows.
+#[derive(Drop)]
+pub enum End {
+    /// So many tasks ran, and that is all.
+    Complete(u64),
+    /// So many tasks trapped.
+    Trapped(usize),
+    /// So many tasks ran of so many.
+    Stalled(u64, u64),
+}
+
+/// What several seeds have in common.
+#[derive(Drop)]
+pub enum Finding {
+    /// Each sent so many messages, and gave the answer of one thread.
+    Agreed(u64, End),
+    /// This seed sent another number of messages than the first.
+    OtherMessages(u64),
+    /// This seed gave another answer than one thread.
+    OtherAnswer(u64),
+    /// The job is not consistent.
+    NoJob,
+}
+
+impl fmt::Display for Finding {
+    fn fmt<W: fmt::Write>(&self, f: &mut fmt::Formatter<W>) -> fmt::Result {
+        match self {
+            Finding::Agreed(messages, End::Complete(n)) => write!(f, "{messages},complete,{n}"),
+            Finding::Agreed(messages, End::Trapped(n)) => write!(f, "{messages},trapped,{n}"),
+            Finding::Agreed(messages, End::Stalled(n, all)) => {
+                write!(f, "{messages},stalled,{n},{all}")
+            }
+            Finding::OtherMessages(seed) => write!(f, "seed {seed} sent other messages"),
+            Finding::OtherAnswer(seed) => write!(f, "seed {seed} gave another answer"),
+            Finding::NoJob => write!(f, "the job is not consistent"),
+        }
+    }
+}
+
+fn ending(outcome: &Outcome) -> End {
+    match outcome {
+        Outcome::Complete(count, _given) => End::Complete(*count),
+        Outcome::Trapped(rows) => End::Trapped(rows.len()),
+        Outcome::Stalled(ran, all, _rows) => End::Stalled(*ran, *all),
+    }
+}
+
+// How many messages a job sends in so many ranks, and its answer, in the order of a seed.
+fn driven(
+    alloc: Global,
+    job: &Job,
+    ranks: u32,
+    seed: u64,
+) -> Result<Option<(u64, Outcome)>, OutOfMemory>
+    requires { (0 < ranks) × (ranks ≤ most_ranks) }
+{
+    match judge_texts(alloc, job.jdf, job.data)? {
+        JobVerdict::Consistent(matched, given) => {
+            Ok(Some(ranks_of(alloc, &matched, given, ranks, seed)?))
+        }
+        _ => Ok(None),
+    }
+}
+
+/// What the seeds have in common for a job in so many ranks.
+pub fn agreed(alloc: Global, job: &Job, ranks: u32) -> Result<Finding, OutOfMemory>
+    requires { (0 < ranks) × (ranks ≤ most_ranks) }
+{
+    let Some(answer) = answer_of_run_one(alloc, job)? else {
+        return Ok(Finding::NoJob);
+    };
+    let mut first = None;
+    for seed in SEEDS {
+        let Some((messages, outcome)) = driven(alloc, job, ranks, *seed)? else {
+            return Ok(Finding::NoJob);
+        };
+        if *first.get_or_insert(messages) != messages {
+            return Ok(Finding::OtherMessages(*seed));
+        }
+        if !same(&outcome, &answer) {
+            return Ok(Finding::OtherAnswer(*seed));
+        }
+    }
+    Ok(Finding::Agreed(first.unwrap_or(0), ending(&answer)))
+}

@@ -1,0 +1,199 @@
+//! The jobs that are run.
+
+use flow_meaning::Outcome;
+use ptg_base::Place;
+
+/// A job, by its name here.
+#[derive(Drop)]
+pub struct Job {
+    pub name: &'static str,
+    pub jdf: &'static [u8],
+    pub data: &'static [u8],
+}
+
+// Four tasks, each on the place of its number: with more ranks than one each edge is a message.
+const CHAIN: Job = Job {
+    name: "chain",
+    jdf: b"D
+NB
+
+Task(k)
+k = 0 .. NB
+: D(k)
+RW A <- (k == 0) ? D(0) : A Task(k-1)
+     -> (k == NB) ? D(0) : A Task(k+1)
+BODY
+A[0] = A[0] + 1;
+END
+",
+    data: b"elems,1
+int,NB,3
+coll,D,4
+tile,D,0,5
+",
+};
+
+// The Cholesky job with four rows of tiles: 20 edges go from one tile to another.
+const CHOLESKY: Job = Job {
+    name: "cholesky",
+    jdf: b"D
+NT
+
+potrf(k)
+k = 0 .. NT-1
+: D(k, k)
+RW T <- (k == 0) ? D(k, k) : T herk(k-1, k)
+     -> T trsm(k, k+1 .. NT-1)
+     -> D(k, k)
+; NT - k
+BODY
+T[0] = T[0] + 1; T[1] = T[1] + k; T[2] = 1;
+END
+
+trsm(k, m)
+k = 0 .. NT-2
+m = k+1 .. NT-1
+: D(m, k)
+READ T <- T potrf(k)
+RW C <- (k == 0) ? D(m, k) : C gemm(k-1, m, k)
+     -> A herk(k, m)
+     -> A gemm(k, m, k+1 .. m-1)
+     -> B gemm(k, m+1 .. NT-1, m)
+     -> D(m, k)
+BODY
+if (T[2] != 1) { trap order; }
+C[0] = C[0] + 1; C[1] = C[1] + k; C[2] = 1;
+END
+
+herk(k, m)
+k = 0 .. NT-2
+m = k+1 .. NT-1
+: D(m, m)
+READ A <- C trsm(k, m)
+RW T <- (k == 0) ? D(m, m) : T herk(k-1, m)
+     -> (m == k+1) ? T potrf(m) : T herk(k+1, m)
+BODY
+if (A[2] != 1) { trap order; }
+T[0] = T[0] + 1; T[1] = T[1] + k;
+END
+
+gemm(k, m, n)
+k = 0 .. NT-3
+m = k+2 .. NT-1
+n = k+1 .. m-1
+: D(m, n)
+READ A <- C trsm(k, m)
+READ B <- C trsm(k, n)
+RW C <- (k == 0) ? D(m, n) : C gemm(k-1, m, n)
+     -> (n == k+1) ? C trsm(n, m) : C gemm(k+1, m, n)
+BODY
+if (A[2] + B[2] != 2) { trap order; }
+C[0] = C[0] + 1; C[1] = C[1] + k;
+END
+",
+    data: b"elems,3
+int,NT,4
+coll,D,4,4
+",
+};
+
+// T(0) waits for itself. The edge of S(0) is a message; the one that never comes is none.
+const STALL: Job = Job {
+    name: "stall",
+    jdf: b"D
+
+S(z)
+z = 0 .. 0
+: D(0)
+WRITE A -> X T(0)
+BODY
+END
+
+T(z)
+z = 0 .. 0
+: D(1)
+READ X <- A S(0)
+CTL c <- c T(0)
+      -> c T(0)
+BODY
+END
+",
+    data: b"elems,1
+coll,D,2
+",
+};
+
+// Of four tasks T(k), each with an edge to the next place, two trap: their edges are no messages.
+const TRAPS: Job = Job {
+    name: "traps",
+    jdf: b"D
+
+T(k)
+k = 0 .. 3
+: D(k)
+WRITE A -> X U(k)
+BODY
+if (k == 2) { A[0] = 1 / 0; }
+if (k == 3) { A[1] = 1; }
+END
+
+U(k)
+k = 0 .. 3
+: D(k + 1)
+READ X <- A T(k)
+BODY
+END
+",
+    data: b"elems,1
+coll,D,5
+",
+};
+
+/// The jobs that are driven.
+pub const JOBS: &[Job] = &[CHAIN, CHOLESKY, STALL, TRAPS];
+
+/// The job of the row 'a broadcast' of jobs.txt: Src(0) sends one tile, whose number is 10, to three tasks Sink(i), and
+/// each adds i to its number and writes it back to its own place.
+pub const BROADCAST: Job = Job {
+    name: "broadcast",
+    jdf: b"D
+
+Src(z)
+z = 0 .. 0
+: D(0)
+READ A <- D(0)
+     -> X Sink(0 .. 2)
+BODY
+END
+
+Sink(i)
+i = 0 .. 2
+: D(i)
+RW X <- A Src(0)
+     -> D(i)
+BODY
+X[0] = X[0] + i;
+END
+",
+    data: b"elems,1
+coll,D,3
+tile,D,0,10
+",
+};
+
+/// The numbers of the three places of the broadcast, if this is the answer of a run all of whose four tasks ran.
+pub fn numbers(outcome: &Outcome) -> Option<[i64; 3]> {
+    let Outcome::Complete(4, given) = outcome else {
+        return None;
+    };
+    let mut numbers = [0; 3];
+    for i in 0..3 {
+        let place = Place {
+            coll: 0,
+            i: i as i64,
+            j: 0,
+        };
+        numbers[i] = *given.tile(&place)?.as_slice().first()?;
+    }
+    Some(numbers)
+}

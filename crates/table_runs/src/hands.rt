@@ -1,0 +1,32 @@
+//! The hands of workers, with ids of tasks in their deques.
+
+use ptg_base::{OutOfMemory, TaskId};
+use ready_deques::{Hands, make};
+use std::alloc::Global;
+
+// Pushes the ids of the tasks of class 0 with these parameters. What comes back is dropped: a new deque has room for
+// 16.
+fn push_all(hands: &mut Hands, parameters: &[i64]) {
+    for parameter in parameters {
+        let _pushed = hands.push(TaskId::new(0, &[*parameter]));
+    }
+}
+
+/// The hands of one worker, in whose deque are the tasks of class 0 with these parameters, the last one at the back.
+pub fn one_worker(alloc: Global, parameters: &[i64]) -> Result<Hands, OutOfMemory> {
+    let Some(mut hands) = make(alloc, 1)?.pop() else {
+        return Err(OutOfMemory);
+    };
+    push_all(&mut hands, parameters);
+    Ok(hands)
+}
+
+/// The hands of worker 1 of two, whose deque is empty, and those of worker 0, in whose deque are these tasks.
+pub fn two_workers(alloc: Global, parameters: &[i64]) -> Result<(Hands, Hands), OutOfMemory> {
+    let mut team = make(alloc, 2)?;
+    let (Some(second), Some(mut first)) = (team.pop(), team.pop()) else {
+        return Err(OutOfMemory);
+    };
+    push_all(&mut first, parameters);
+    Ok((second, first))
+}
