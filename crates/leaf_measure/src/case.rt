@@ -1,5 +1,5 @@
 //! The cases that can be measured.
-use crate::count::Count;
+use crate::count::Counts;
 use crate::deques::{deep_deque, deque, thieves};
 use crate::shards::{ShardCase, in_a_shard};
 use ptg_base::OutOfMemory;
@@ -38,7 +38,7 @@ pub fn measure<R: Threads + Wait + Sync>(
     alloc: Global,
     case: Case,
     size: u32,
-) -> Result<Vec<Count>, OutOfMemory> {
+) -> Result<Counts, OutOfMemory> {
     match case {
         Case::Shard(case) => in_a_shard(alloc, case, size),
         Case::Deque => deque(alloc, size),

@@ -1,7 +1,7 @@
 //! Deques of ready tasks: on one thread, and with three thieves.
 ghost use Rattle.std.specs.Prelude.{◌≢◌, ◌<◌, length};
 
-use crate::count::Count;
+use crate::count::{Count, Counts};
 use crate::tasks::task;
 use ptg_base::OutOfMemory;
 use ready_deques::{Hands, Stolen, make};
@@ -18,23 +18,23 @@ const BURST: u32 = 1000;
 const WORKERS: u32 = 4;
 
 /// So many ids are pushed to one deque and popped, in bursts.
-pub fn deque(alloc: Global, size: u32) -> Result<Vec<Count>, OutOfMemory> {
+pub fn deque(alloc: Global, size: u32) -> Result<Counts, OutOfMemory> {
     let mut team = make(alloc, 1)?;
     let taken = match team.first_mut() {
         Some(hands) => push_and_pop(hands, size, BURST),
         None => 0,
     };
-    Ok(vec![in alloc; Count::of("taken", taken)]?)
+    Ok(Counts::one(Count::of("taken", taken)))
 }
 
 /// So many ids are pushed to one deque, and then all are popped.
-pub fn deep_deque(alloc: Global, size: u32) -> Result<Vec<Count>, OutOfMemory> {
+pub fn deep_deque(alloc: Global, size: u32) -> Result<Counts, OutOfMemory> {
     let mut team = make(alloc, 1)?;
     let taken = match team.first_mut() {
         Some(hands) => push_and_pop(hands, size, size),
         None => 0,
     };
-    Ok(vec![in alloc; Count::of("taken", taken)]?)
+    Ok(Counts::one(Count::of("taken", taken)))
 }
 
 // Pushes the ids of numbers up to this one, in bursts that are popped until none is left. How many were popped, or came
@@ -79,7 +79,7 @@ pub fn thieves<R: Threads + Wait + Sync>(
     rt: &R,
     alloc: Global,
     size: u32,
-) -> Result<Vec<Count>, OutOfMemory> {
+) -> Result<Counts, OutOfMemory> {
     let mut seats = Vec::new(alloc);
     for hands in make(alloc, WORKERS)? {
         seats.push(Seat { hands, taken: 0 })?;
@@ -95,7 +95,7 @@ pub fn thieves<R: Threads + Wait + Sync>(
     for seat in &seats {
         taken = taken.wrapping_add(seat.taken);
     }
-    Ok(vec![in alloc; Count::of("taken", taken)]?)
+    Ok(Counts::one(Count::of("taken", taken)))
 }
 
 // Worker 0 pushes and pops, and then says that it is done. The others steal from it until then.

@@ -9,7 +9,7 @@ mod shards;
 mod tasks;
 
 use crate::case::{Case, measure};
-use crate::count::Count;
+use crate::count::Counts;
 use ptg_base::OutOfMemory;
 use std::alloc::Global;
 use std::process::ExitCode;
@@ -31,7 +31,7 @@ fn counts<R: Threads + Wait + Sync>(
     alloc: Global,
     case: &String,
     size: &String,
-) -> Option<Result<Vec<Count>, OutOfMemory>> {
+) -> Option<Result<Counts, OutOfMemory>> {
     let (case, size) = wanted(case, size)?;
     Some(measure(rt, alloc, case, size))
 }
@@ -51,7 +51,7 @@ fn main(rt: HostRuntime) -> io::Result<ExitCode> {
             &words[2 * number + 2],
         ) {
             Some(Ok(counts)) => {
-                for count in counts.as_slice() {
+                for count in counts.each().iter().flatten() {
                     println!(rt; "{count}")?;
                 }
             }

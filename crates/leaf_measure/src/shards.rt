@@ -3,7 +3,7 @@ ghost use Rattle.std.specs.Prelude.{◌≡◌, ◌<◌, length, OnOk, IsTrue};
 ghost use Rattle.dep_shard.specs.Content.{IsTileOf};
 ghost use Rattle.leaf_measure.specs.Tasks.{task_of, HasNoneFrom, WaitFrom};
 
-use crate::count::Count;
+use crate::count::{Count, Counts};
 use crate::tasks::{priority, task};
 use dep_shard::{Arrived, Shard};
 use ptg_base::{Edge, OutOfMemory, Place, TaskId, Tile, WriteBack};
@@ -58,144 +58,113 @@ impl ShardCase {
 }
 
 /// Measures a case at this size, in a new shard.
-pub fn in_a_shard(alloc: Global, case: ShardCase, size: u32) -> Result<Vec<Count>, OutOfMemory> {
+pub fn in_a_shard(alloc: Global, case: ShardCase, size: u32) -> Result<Counts, OutOfMemory> {
     let tile = Tile::zeros(alloc, NUMBERS)?;
     let mut shard = Shard::new(alloc, &[NUMBERS])?;
-    counts(alloc, case, size, &mut shard, &tile)
+    counts(case, size, &mut shard, &tile)
 }
 
 // What a case counts in a shard that has nothing yet. The cases are handed it, so that one function alone lets it go.
-fn counts(
-    alloc: Global,
-    case: ShardCase,
-    size: u32,
-    shard: &mut Shard,
-    tile: &Tile,
-) -> Result<Vec<Count>, OutOfMemory>
+fn counts(case: ShardCase, size: u32, shard: &mut Shard, tile: &Tile) -> Result<Counts, OutOfMemory>
     requires new { HasNoneFrom 0 shard.old }
     requires tile { IsTileOf shard.old.elems 0 tile.now }
     requires types { length shard.old.elems ≡ 1 }
 {
     match case {
-        ShardCase::Ready => ready(alloc, size, shard),
-        ShardCase::Best => best(alloc, size, shard),
-        ShardCase::ByTask => by_task(alloc, size, shard),
-        ShardCase::FirstEdges => first_edges(alloc, size, shard, tile),
-        ShardCase::LastEdges => last_edges(alloc, size, shard, tile),
-        ShardCase::Reserved => reserved(alloc, size, shard, tile),
-        ShardCase::Fired => fired(alloc, size, shard, tile),
-        ShardCase::Trapped => trapped(alloc, size, shard),
-        ShardCase::Written => written(alloc, size, shard, tile),
+        ShardCase::Ready => ready(size, shard),
+        ShardCase::Best => best(size, shard),
+        ShardCase::ByTask => by_task(size, shard),
+        ShardCase::FirstEdges => first_edges(size, shard, tile),
+        ShardCase::LastEdges => last_edges(size, shard, tile),
+        ShardCase::Reserved => reserved(size, shard, tile),
+        ShardCase::Fired => fired(size, shard, tile),
+        ShardCase::Trapped => trapped(size, shard),
+        ShardCase::Written => written(size, shard, tile),
     }
 }
 
-fn ready(alloc: Global, size: u32, shard: &mut Shard) -> Result<Vec<Count>, OutOfMemory>
+fn ready(size: u32, shard: &mut Shard) -> Result<Counts, OutOfMemory>
     requires { HasNoneFrom 0 shard.old }
 {
     add_ready(shard, size)?;
-    Ok(vec![in alloc; entries(shard)]?)
+    Ok(Counts::one(entries(shard)))
 }
 
-fn best(alloc: Global, size: u32, shard: &mut Shard) -> Result<Vec<Count>, OutOfMemory>
+fn best(size: u32, shard: &mut Shard) -> Result<Counts, OutOfMemory>
     requires { HasNoneFrom 0 shard.old }
 {
     add_ready(shard, size)?;
     let taken = take_best(shard, size);
-    Ok(vec![in alloc; Count::of("taken", taken), entries(shard)]?)
+    Ok(Counts::two(Count::of("taken", taken), entries(shard)))
 }
 
-fn by_task(alloc: Global, size: u32, shard: &mut Shard) -> Result<Vec<Count>, OutOfMemory>
+fn by_task(size: u32, shard: &mut Shard) -> Result<Counts, OutOfMemory>
     requires { HasNoneFrom 0 shard.old }
 {
     add_ready(shard, size)?;
     let taken = take_by_task(shard, size);
-    Ok(vec![in alloc; Count::of("taken", taken), entries(shard)]?)
+    Ok(Counts::two(Count::of("taken", taken), entries(shard)))
 }
 
-fn first_edges(
-    alloc: Global,
-    size: u32,
-    shard: &mut Shard,
-    tile: &Tile,
-) -> Result<Vec<Count>, OutOfMemory>
+fn first_edges(size: u32, shard: &mut Shard, tile: &Tile) -> Result<Counts, OutOfMemory>
     requires new { HasNoneFrom 0 shard.old }
     requires tile { IsTileOf shard.old.elems 0 tile.now }
 {
     send_first(shard, size, tile)?;
-    Ok(vec![in alloc; entries(shard)]?)
+    Ok(Counts::one(entries(shard)))
 }
 
-fn last_edges(
-    alloc: Global,
-    size: u32,
-    shard: &mut Shard,
-    tile: &Tile,
-) -> Result<Vec<Count>, OutOfMemory>
+fn last_edges(size: u32, shard: &mut Shard, tile: &Tile) -> Result<Counts, OutOfMemory>
     requires new { HasNoneFrom 0 shard.old }
     requires tile { IsTileOf shard.old.elems 0 tile.now }
 {
     let fired = send_both(shard, size, tile)?;
-    Ok(vec![in alloc; Count::of("fired", fired), entries(shard)]?)
+    Ok(Counts::two(Count::of("fired", fired), entries(shard)))
 }
 
-fn reserved(
-    alloc: Global,
-    size: u32,
-    shard: &mut Shard,
-    tile: &Tile,
-) -> Result<Vec<Count>, OutOfMemory>
+fn reserved(size: u32, shard: &mut Shard, tile: &Tile) -> Result<Counts, OutOfMemory>
     requires new { HasNoneFrom 0 shard.old }
     requires tile { IsTileOf shard.old.elems 0 tile.now }
     requires types { length shard.old.elems ≡ 1 }
 {
     shard.reserve(u64::from(size), &[2 * u64::from(size)], 0, 0)?;
     let fired = send_both(shard, size, tile)?;
-    Ok(vec![in alloc; Count::of("fired", fired), entries(shard)]?)
+    Ok(Counts::two(Count::of("fired", fired), entries(shard)))
 }
 
-fn fired(
-    alloc: Global,
-    size: u32,
-    shard: &mut Shard,
-    tile: &Tile,
-) -> Result<Vec<Count>, OutOfMemory>
+fn fired(size: u32, shard: &mut Shard, tile: &Tile) -> Result<Counts, OutOfMemory>
     requires new { HasNoneFrom 0 shard.old }
     requires tile { IsTileOf shard.old.elems 0 tile.now }
 {
     let fired = send_both(shard, size, tile)?;
     let taken = take_best(shard, size);
-    Ok(vec![in alloc;
+    Ok(Counts::three(
         Count::of("fired", fired),
         Count::of("taken", taken),
         entries(shard),
-    ]?)
+    ))
 }
 
-fn trapped(alloc: Global, size: u32, shard: &mut Shard) -> Result<Vec<Count>, OutOfMemory>
+fn trapped(size: u32, shard: &mut Shard) -> Result<Counts, OutOfMemory>
     requires new { HasNoneFrom 0 shard.old }
     requires types { length shard.old.elems ≡ 1 }
 {
     shard.reserve(u64::from(size), &[0], 0, u64::from(size))?;
     add_ready(shard, size)?;
     trap_by_task(shard, size)?;
-    Ok(vec![in alloc;
+    Ok(Counts::two(
         Count::of("trapped", count_trapped(shard, size)),
         Count::of("ended", shard.ended()),
-    ]?)
+    ))
 }
 
-fn written(
-    alloc: Global,
-    size: u32,
-    shard: &mut Shard,
-    tile: &Tile,
-) -> Result<Vec<Count>, OutOfMemory>
+fn written(size: u32, shard: &mut Shard, tile: &Tile) -> Result<Counts, OutOfMemory>
     requires tile { IsTileOf shard.old.elems 0 tile.now }
     requires types { length shard.old.elems ≡ 1 }
 {
     shard.reserve(0, &[u64::from(size)], u64::from(size), 0)?;
     write_back(shard, size, tile)?;
-    Ok(vec![in alloc; Count::of("written", count_written(shard, size))]?)
+    Ok(Counts::one(Count::of("written", count_written(shard, size))))
 }
 
 // How many entries a shard has.

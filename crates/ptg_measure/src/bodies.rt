@@ -1,5 +1,5 @@
 //! Bodies of tasks, run.
-use crate::count::{Count, Failure};
+use crate::count::{Count, Counts, Failure};
 use body_eval::{Scratch, is_well_body, run_body};
 use ptg_base::{Seq, Tile};
 use std::alloc::Global;
@@ -27,7 +27,7 @@ fn turns(alloc: Global, size: u32) -> Result<Body, Failure> {
 }
 
 /// A body of so many turns, run: the sum that it leaves in its tile.
-pub fn body(alloc: Global, size: u32) -> Result<Vec<Count>, Failure> {
+pub fn body(alloc: Global, size: u32) -> Result<Counts, Failure> {
     let body = turns(alloc, size)?;
     let mut tiles = vec![in alloc; Some(Tile::zeros(alloc, 1)?)]?;
     if !is_well_body(&body, 0, 1) {
@@ -38,5 +38,5 @@ pub fn body(alloc: Global, size: u32) -> Result<Vec<Count>, Failure> {
         Some(tile) if tile.len() > 0 => tile.get(0),
         _ => return Err(Failure::NotWellMade),
     };
-    Ok(vec![in alloc; Count { name: "sum", value }]?)
+    Ok(Counts::one(Count { name: "sum", value }))
 }

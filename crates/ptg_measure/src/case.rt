@@ -1,7 +1,7 @@
 //! The cases that can be measured.
 use crate::bodies::body;
 use crate::certificates::{chain_lists, checked_chain, checked_cycle};
-use crate::count::{Count, Failure};
+use crate::count::{Counts, Failure};
 use crate::data_files::{ints, long_tiles, short_tiles};
 use crate::edges::{edges, job, star_edges};
 use crate::names::names;
@@ -103,7 +103,7 @@ pub fn measure<R: Threads + Wait + Sync>(
     alloc: Global,
     case: Case,
     size: u32,
-) -> Result<Vec<Count>, Failure> {
+) -> Result<Counts, Failure> {
     match case {
         Case::Space => space(alloc, size),
         Case::Size => size_of_line(alloc, size),

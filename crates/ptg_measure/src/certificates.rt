@@ -1,5 +1,5 @@
 //! Checks of certificates of given sizes. The lists are written down, not made by a run.
-use crate::count::{Count, Failure};
+use crate::count::{Count, Counts, Failure};
 use crate::jobs::{line, ring};
 use cert_check::{check_chain, check_cycle};
 use dep_iter::Matched;
@@ -35,34 +35,34 @@ fn rising(alloc: Global, count: u32) -> Result<Vec<(TaskId, u64)>, Failure> {
     Ok(rows)
 }
 
-fn said(alloc: Global, accepted: bool) -> Result<Vec<Count>, Failure> {
-    Ok(vec![in alloc; Count::of("accepted", u64::from(accepted))]?)
+fn said(accepted: bool) -> Counts {
+    Counts::one(Count::of("accepted", u64::from(accepted)))
 }
 
 /// Tasks in a line, each the source of an edge into the next: whether they are shown to be a heaviest chain.
-pub fn checked_chain(alloc: Global, size: u32) -> Result<Vec<Count>, Failure> {
+pub fn checked_chain(alloc: Global, size: u32) -> Result<Counts, Failure> {
     let m = matched(alloc, line(alloc, size)?)?;
     let chain = tasks_below(alloc, size)?;
     let levels = rising(alloc, size)?;
     let is_heaviest = check_chain(&m, &[1], chain.as_slice(), levels.as_slice())?;
-    said(alloc, is_heaviest)
+    Ok(said(is_heaviest))
 }
 
 /// The same lists, without the check.
-pub fn chain_lists(alloc: Global, size: u32) -> Result<Vec<Count>, Failure> {
+pub fn chain_lists(alloc: Global, size: u32) -> Result<Counts, Failure> {
     let m = matched(alloc, line(alloc, size)?)?;
     let chain = tasks_below(alloc, size)?;
     let levels = rising(alloc, size)?;
-    Ok(vec![in alloc;
+    Ok(Counts::three(
         Count::of("tasks", m.tasks()),
         Count::of("links", chain.len() as u64),
         Count::of("levels", levels.len() as u64),
-    ]?)
+    ))
 }
 
 /// Tasks in a ring: whether they are a cycle.
-pub fn checked_cycle(alloc: Global, size: u32) -> Result<Vec<Count>, Failure> {
+pub fn checked_cycle(alloc: Global, size: u32) -> Result<Counts, Failure> {
     let m = matched(alloc, ring(alloc, size)?)?;
     let cycle = tasks_below(alloc, size)?;
-    said(alloc, check_cycle(&m, cycle.as_slice()))
+    Ok(said(check_cycle(&m, cycle.as_slice())))
 }

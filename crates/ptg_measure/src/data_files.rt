@@ -1,5 +1,5 @@
 //! Data files of a given size, read.
-use crate::count::{Count, Failure};
+use crate::count::{Count, Counts, Failure};
 use data_read::read_data;
 use std::alloc::Global;
 
@@ -48,7 +48,7 @@ fn integers(alloc: Global, size: u32) -> Result<String, Failure> {
 }
 
 // Reads a data file: how many bytes and records it has, and how many integers and tiles there are.
-fn read(alloc: Global, text: &str) -> Result<Vec<Count>, Failure> {
+fn read(alloc: Global, text: &str) -> Result<Counts, Failure> {
     if text.len() > 16777216 {
         return Err(Failure::TooLarge);
     }
@@ -57,28 +57,28 @@ fn read(alloc: Global, text: &str) -> Result<Vec<Count>, Failure> {
     for coll in given.colls() {
         tiles = tiles.wrapping_add(coll.tiles.len() as u64);
     }
-    Ok(vec![in alloc;
+    Ok(Counts::four(
         Count::of("bytes", text.len() as u64),
         Count::of("records", given.rows_read()),
         Count::of("ints", given.ints().len() as u64),
         Count::of("tiles", tiles),
-    ]?)
+    ))
 }
 
 /// A data file of so many tiles with 2,000 numbers each, read.
-pub fn long_tiles(alloc: Global, size: u32) -> Result<Vec<Count>, Failure> {
+pub fn long_tiles(alloc: Global, size: u32) -> Result<Counts, Failure> {
     let text = long_records(alloc, size)?;
     read(alloc, text.as_str())
 }
 
 /// A data file of so many tiles of one number, read.
-pub fn short_tiles(alloc: Global, size: u32) -> Result<Vec<Count>, Failure> {
+pub fn short_tiles(alloc: Global, size: u32) -> Result<Counts, Failure> {
     let text = short_records(alloc, size)?;
     read(alloc, text.as_str())
 }
 
 /// A data file of so many integers, read.
-pub fn ints(alloc: Global, size: u32) -> Result<Vec<Count>, Failure> {
+pub fn ints(alloc: Global, size: u32) -> Result<Counts, Failure> {
     let text = integers(alloc, size)?;
     read(alloc, text.as_str())
 }

@@ -2,7 +2,7 @@
 ghost use Rattle.std.specs.Prelude.{◌<◌, length};
 ghost use Rattle.dep_iter.specs.Tasks.{IsTask};
 
-use crate::count::{Count, Failure};
+use crate::count::{Count, Counts, Failure};
 use crate::jobs::{cholesky, star};
 use dep_iter::{Direction, LentEdge, far_locals, in_edges, is_task, out_edges};
 use plan_core::Plan;
@@ -61,17 +61,17 @@ impl Walked {
 
 /// The edges of a job of the shape of a tiled Cholesky factorization with so many rows of tiles: those into each task
 /// and those out of each.
-pub fn edges(alloc: Global, size: u32) -> Result<Vec<Count>, Failure> {
+pub fn edges(alloc: Global, size: u32) -> Result<Counts, Failure> {
     let plan = cholesky(alloc, size)?;
     let mut walked = Walked::none();
     for class in 0..plan.classes.len() {
         walked.add_class(&plan, class as u32)?;
     }
-    Ok(vec![in alloc;
+    Ok(Counts::three(
         Count::of("tasks", walked.tasks),
         Count::of("in", walked.ins),
         Count::of("out", walked.outs),
-    ]?)
+    ))
 }
 
 // How many of the edges out of a task are edges into their targets.
@@ -101,20 +101,20 @@ fn sent(plan: &Plan, task: &TaskId) -> u64
 }
 
 /// The plan of such a job alone, made from its texts: how many classes it has.
-pub fn job(alloc: Global, size: u32) -> Result<Vec<Count>, Failure> {
+pub fn job(alloc: Global, size: u32) -> Result<Counts, Failure> {
     let plan = cholesky(alloc, size)?;
-    Ok(vec![in alloc; Count::of("classes", plan.classes.len() as u64)]?)
+    Ok(Counts::one(Count::of("classes", plan.classes.len() as u64)))
 }
 
 /// One task with an edge to and an edge from each of so many others: how many of them the others have too.
-pub fn star_edges(alloc: Global, size: u32) -> Result<Vec<Count>, Failure> {
+pub fn star_edges(alloc: Global, size: u32) -> Result<Counts, Failure> {
     let plan = star(alloc, size)?;
     let task = TaskId::new(0, &[0]);
     if !is_task(&plan, &task) {
         return Err(Failure::NotWellMade);
     }
-    Ok(vec![in alloc;
+    Ok(Counts::two(
         Count::of("received", received(&plan, &task)),
         Count::of("sent", sent(&plan, &task)),
-    ]?)
+    ))
 }

@@ -15,7 +15,7 @@ mod tables;
 mod texts;
 
 use crate::case::{Case, measure};
-use crate::count::{Count, Failure};
+use crate::count::{Counts, Failure};
 use std::alloc::Global;
 use std::process::ExitCode;
 use std::sync::Wait;
@@ -38,7 +38,7 @@ fn counts<R: Threads + Wait + Sync>(
     alloc: Global,
     case: &String,
     size: &String,
-) -> Option<Result<Vec<Count>, Failure>> {
+) -> Option<Result<Counts, Failure>> {
     let (case, size) = wanted(case, size)?;
     Some(measure(rt, alloc, case, size))
 }
@@ -58,7 +58,7 @@ fn main(rt: HostRuntime) -> io::Result<ExitCode> {
             &words[2 * number + 2],
         ) {
             Some(Ok(counts)) => {
-                for count in counts.as_slice() {
+                for count in counts.each().iter().flatten() {
                     println!(rt; "{count}")?;
                 }
             }

@@ -1,5 +1,5 @@
 //! Bodies read under many globals.
-use crate::count::{Count, Failure};
+use crate::count::{Count, Counts, Failure};
 use body_lang::read_body;
 use body_names::{FlowName, Scope};
 use jdf_lex::tokens;
@@ -70,7 +70,7 @@ fn body(alloc: Global, size: u32) -> Result<String, Failure> {
 }
 
 /// A body with so many names, read under as many globals: how many tokens and slots it has.
-pub fn names(alloc: Global, size: u32) -> Result<Vec<Count>, Failure> {
+pub fn names(alloc: Global, size: u32) -> Result<Counts, Failure> {
     let ints = integers(alloc, size)?;
     let colls = NameTable::new(alloc);
     let scope = scope(alloc, &ints, &colls)?;
@@ -80,8 +80,8 @@ pub fn names(alloc: Global, size: u32) -> Result<Vec<Count>, Failure> {
     }
     let lexed = tokens(alloc, text.as_str())?;
     let (body, _words) = read_body(alloc, lexed.tokens.as_slice(), lexed.end, &scope)?;
-    Ok(vec![in alloc;
+    Ok(Counts::two(
         Count::of("tokens", lexed.tokens.len() as u64),
         Count::of("slots", u64::from(body.slots)),
-    ]?)
+    ))
 }

@@ -1,7 +1,7 @@
 //! Counts of the tasks of a class by `space_size` alone.
 ghost use Rattle.std.specs.Prelude.{◌≤◌, IfOk, length};
 
-use crate::count::{Count, Failure};
+use crate::count::{Count, Counts, Failure};
 use ptg_base::Seq;
 use range_space::space_size;
 use std::alloc::Global;
@@ -48,25 +48,25 @@ fn square_with_sum(alloc: Global, side: u32) -> Result<ClassSpace, Failure>
 }
 
 // How many tasks a class has.
-fn counted(alloc: Global, class: ClassSpace) -> Result<Vec<Count>, Failure>
+fn counted(alloc: Global, class: ClassSpace) -> Result<Counts, Failure>
     requires { length class.defs ≤ 16 }
 {
     let classes = vec![in alloc; class]?;
     let count = space_size(classes.as_slice()).map_err(|_| Failure::TooLarge)?;
-    Ok(vec![in alloc; Count::of("counted", count)]?)
+    Ok(Counts::one(Count::of("counted", count)))
 }
 
 /// A class of so many tasks in one range.
-pub fn size_of_line(alloc: Global, count: u32) -> Result<Vec<Count>, Failure> {
+pub fn size_of_line(alloc: Global, count: u32) -> Result<Counts, Failure> {
     counted(alloc, line(alloc, count)?)
 }
 
 /// A class of two ranges of so many values each.
-pub fn size_of_square(alloc: Global, side: u32) -> Result<Vec<Count>, Failure> {
+pub fn size_of_square(alloc: Global, side: u32) -> Result<Counts, Failure> {
     counted(alloc, square(alloc, side)?)
 }
 
 /// The same with a third definition, which is the sum of the two.
-pub fn size_with_sum(alloc: Global, side: u32) -> Result<Vec<Count>, Failure> {
+pub fn size_with_sum(alloc: Global, side: u32) -> Result<Counts, Failure> {
     counted(alloc, square_with_sum(alloc, side)?)
 }

@@ -2,7 +2,7 @@
 ghost use Rattle.std.specs.Prelude.{◌≡◌, ◌≤◌, IfOk, IfSome, length};
 ghost use Rattle.range_space.specs.Tasks.{tasks};
 
-use crate::count::{Count, Failure};
+use crate::count::{Count, Counts, Failure};
 use ptg_base::Seq;
 use range_space::{Space, space_size};
 use std::alloc::Global;
@@ -36,9 +36,9 @@ fn walked(space: &ClassSpace) -> Option<u64>
 }
 
 /// A class of so many tasks: how many a walk comes to, and how many `space_size` counts.
-pub fn space(alloc: Global, size: u32) -> Result<Vec<Count>, Failure> {
+pub fn space(alloc: Global, size: u32) -> Result<Counts, Failure> {
     let classes = vec![in alloc; line(alloc, size)?]?;
     let walked = walked(&classes[0]).ok_or(Failure::TooLarge)?;
     let counted = space_size(classes.as_slice()).map_err(|_| Failure::TooLarge)?;
-    Ok(vec![in alloc; Count::of("walked", walked), Count::of("counted", counted)]?)
+    Ok(Counts::two(Count::of("walked", walked), Count::of("counted", counted)))
 }

@@ -6,7 +6,7 @@ ghost use Rattle.dep_table.specs.Passes.{IsPassOf};
 ghost use Rattle.dep_table.specs.Tables.{id_of, job_of};
 ghost use Rattle.dep_table.specs.Views.{shown};
 
-use crate::count::{Count, Failure};
+use crate::count::{Count, Counts, Failure};
 use crate::jobs::{line_job, waiting_job};
 use coll_data::Given;
 use dep_iter::Matched;
@@ -71,14 +71,14 @@ fn take_turns(table: &DepTable, pass: &mut Pass, count: u32) -> u64
 }
 
 /// So many turns, taken and given back by one pass alone.
-pub fn turns(alloc: Global, size: u32) -> Result<Vec<Count>, Failure> {
+pub fn turns(alloc: Global, size: u32) -> Result<Counts, Failure> {
     let (table, mut pass) = open(alloc, line_job(alloc, 2)?)?;
     let taken = take_turns(&table, &mut pass, size);
-    Ok(vec![in alloc; Count::of("taken", taken)]?)
+    Ok(Counts::one(Count::of("taken", taken)))
 }
 
 /// So many turns by each of three passes, one after the other, on one thread.
-pub fn turns_of_three(alloc: Global, size: u32) -> Result<Vec<Count>, Failure> {
+pub fn turns_of_three(alloc: Global, size: u32) -> Result<Counts, Failure> {
     let (table, mut first) = open(alloc, line_job(alloc, 2)?)?;
     let mut second = table.split(&mut first);
     let mut third = table.split(&mut first);
@@ -88,7 +88,7 @@ pub fn turns_of_three(alloc: Global, size: u32) -> Result<Vec<Count>, Failure> {
         taken = taken.wrapping_add(take_turns(&table, &mut second, 1));
         taken = taken.wrapping_add(take_turns(&table, &mut third, 1));
     }
-    Ok(vec![in alloc; Count::of("taken", taken)]?)
+    Ok(Counts::one(Count::of("taken", taken)))
 }
 
 // The first pass of a table, with others that are split off it.
@@ -142,7 +142,7 @@ pub fn turns_in_threads<R: Threads + Wait + Sync>(
     rt: &R,
     alloc: Global,
     size: u32,
-) -> Result<Vec<Count>, Failure> {
+) -> Result<Counts, Failure> {
     let (table, first) = open(alloc, line_job(alloc, 2)?)?;
     let passes = some_passes(alloc, &table, first)?;
     let taken = thread::map_vec(
@@ -156,19 +156,19 @@ pub fn turns_in_threads<R: Threads + Wait + Sync>(
     for one in taken {
         sum = sum.wrapping_add(one);
     }
-    Ok(vec![in alloc; Count::of("taken", sum)]?)
+    Ok(Counts::one(Count::of("taken", sum)))
 }
 
 /// The job of so many tasks in a line, without a table.
-pub fn unopened(alloc: Global, size: u32) -> Result<Vec<Count>, Failure> {
+pub fn unopened(alloc: Global, size: u32) -> Result<Counts, Failure> {
     let (matched, _given) = line_job(alloc, size)?;
-    Ok(vec![in alloc; Count::of("tasks", matched.tasks())]?)
+    Ok(Counts::one(Count::of("tasks", matched.tasks())))
 }
 
 /// The same with a table.
-pub fn opened(alloc: Global, size: u32) -> Result<Vec<Count>, Failure> {
+pub fn opened(alloc: Global, size: u32) -> Result<Counts, Failure> {
     let (table, _first) = open(alloc, line_job(alloc, size)?)?;
-    Ok(vec![in alloc; Count::of("tasks", table.matched().tasks())]?)
+    Ok(Counts::one(Count::of("tasks", table.matched().tasks())))
 }
 
 // The closed table of a job that one worker has run.
@@ -197,9 +197,9 @@ pub fn close<R: Threads + Wait + Sync>(
     rt: &R,
     alloc: Global,
     size: u32,
-) -> Result<Vec<Count>, Failure> {
+) -> Result<Counts, Failure> {
     let closed = closed(rt, alloc, waiting_job(alloc, size)?)?;
-    Ok(vec![in alloc; Count::of("quiet", u64::from(closed.quiet()))]?)
+    Ok(Counts::one(Count::of("quiet", u64::from(closed.quiet()))))
 }
 
 /// The same, up to its answer: how many wait.
@@ -207,7 +207,7 @@ pub fn outcome<R: Threads + Wait + Sync>(
     rt: &R,
     alloc: Global,
     size: u32,
-) -> Result<Vec<Count>, Failure> {
+) -> Result<Counts, Failure> {
     let closed = closed(rt, alloc, waiting_job(alloc, size)?)?;
     if !closed.quiet() {
         return Err(Failure::NotWellMade);
@@ -217,5 +217,5 @@ pub fn outcome<R: Threads + Wait + Sync>(
         Outcome::Stalled(_ran, _total, rows) => rows.len() as u64,
         _ => 0,
     };
-    Ok(vec![in alloc; Count::of("waiting", waits)]?)
+    Ok(Counts::one(Count::of("waiting", waits)))
 }

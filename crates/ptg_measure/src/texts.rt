@@ -1,5 +1,5 @@
 //! JDF texts of a given number of tokens, lexed.
-use crate::count::{Count, Failure};
+use crate::count::{Count, Counts, Failure};
 use jdf_lex::tokens;
 use std::alloc::Global;
 
@@ -19,16 +19,14 @@ fn text(alloc: Global, size: u32) -> Result<String, Failure> {
 }
 
 /// A text of so many tokens: how many are found.
-pub fn tokens_of_text(alloc: Global, size: u32) -> Result<Vec<Count>, Failure> {
+pub fn tokens_of_text(alloc: Global, size: u32) -> Result<Counts, Failure> {
     let text = text(alloc, size)?;
     if text.len() > 16777216 {
         return Err(Failure::TooLarge);
     }
     let value = tokens(alloc, text.as_str())?.tokens.len() as i64;
-    Ok(vec![in alloc;
-        Count {
-            name: "tokens",
-            value
-        },
-    ]?)
+    Ok(Counts::one(Count {
+        name: "tokens",
+        value,
+    }))
 }

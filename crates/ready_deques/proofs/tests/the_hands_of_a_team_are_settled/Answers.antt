@@ -7,5 +7,5 @@ pub settle-requires : goal.settle-requires
 settle-requires g c =
     let first = c.in_ok-owner.owner in
     let pushed : SameWorker first c.push-2.new.self = same_still first c.push.new.self c.push-2.new.self c.push.ensures.same c.push-2.ensures.same in
-    let owner : SameWorker first c.pop.new.hands = same_still first c.push-2.new.self c.pop.new.hands pushed c.pop.ensures in
-    subst (AreTheOthers c.pop.new.hands) (sym c.in_ok-vec.ensures.items) (stay_others first c.pop.new.hands c.in_ok-owner.other c.steal.new.hands c.in_ok-owner.ensures owner c.steal.ensures)
+    let owner : SameWorker first c.pop-popped.new.hands = same_still first c.push-2.new.self c.pop-popped.new.hands pushed c.pop-popped.ensures in
+    subst (AreTheOthers c.pop-popped.new.hands) (sym c.in_ok-vec.ensures.items) (stay_others first c.pop-popped.new.hands c.in_ok-owner.other c.steal-stolen.new.hands c.in_ok-owner.ensures owner c.steal-stolen.ensures)
