@@ -36,34 +36,56 @@ fn counts<R: Threads + Wait + Sync>(
     Some(measure(rt, alloc, case, size))
 }
 
-fn main(rt: HostRuntime) -> io::Result<ExitCode> {
-    let words: Vec<String> = env::args(&rt)?.collect(rt.alloc())?;
-    let words = words.as_slice();
-    if words.len() % 2 == 0 {
-        println!(rt; "{USAGE}")?;
-        return Ok(ExitCode::FAILURE);
-    }
-    for number in 0..words.len() / 2 {
-        match counts(
-            &rt,
-            rt.alloc(),
-            &words[2 * number + 1],
-            &words[2 * number + 2],
-        ) {
-            Some(Ok(counts)) => {
-                for count in counts.each().iter().flatten() {
-                    println!(rt; "{count}")?;
-                }
+// Prints what is counted by the case and the size that two words name. Whether they name any, and it came to its end.
+fn print_counts<R: Print + Threads + Wait + Sync>(
+    rt: &R,
+    alloc: Global,
+    case: &String,
+    size: &String,
+) -> io::Result<bool> {
+    match counts(rt, alloc, case, size) {
+        Some(Ok(counts)) => {
+            for count in counts.each().iter().flatten() {
+                println!(rt; "{count}")?;
             }
-            Some(Err(_)) => {
-                println!(rt; "out of memory")?;
-                return Ok(ExitCode::FAILURE);
-            }
-            None => {
-                println!(rt; "{USAGE}")?;
-                return Ok(ExitCode::FAILURE);
-            }
+            Ok(true)
+        }
+        Some(Err(_)) => {
+            println!(rt; "out of memory")?;
+            Ok(false)
+        }
+        None => {
+            println!(rt; "{USAGE}")?;
+            Ok(false)
         }
     }
-    Ok(ExitCode::SUCCESS)
+}
+
+// Measures the cases that these words name, two and two, up to the first that does not come to its end. Whether all
+// did.
+fn print_all<R: Print + Threads + Wait + Sync>(
+    rt: &R,
+    alloc: Global,
+    words: &[String],
+) -> io::Result<bool> {
+    if words.len() % 2 == 0 {
+        println!(rt; "{USAGE}")?;
+        return Ok(false);
+    }
+    for number in 0..words.len() / 2 {
+        let (case, size) = (&words[2 * number + 1], &words[2 * number + 2]);
+        if !print_counts(rt, alloc, case, size)? {
+            return Ok(false);
+        }
+    }
+    Ok(true)
+}
+
+fn main(rt: HostRuntime) -> io::Result<ExitCode> {
+    let words: Vec<String> = env::args(&rt)?.collect(rt.alloc())?;
+    if print_all(&rt, rt.alloc(), words.as_slice())? {
+        Ok(ExitCode::SUCCESS)
+    } else {
+        Ok(ExitCode::FAILURE)
+    }
 }
