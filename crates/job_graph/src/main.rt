@@ -41,14 +41,30 @@ fn main(rt: HostRuntime) -> io::Result<ExitCode> {
 fn graph<R: Print + Files + Env + AllocGlobal>(rt: &R) -> Result<(), Failure> {
     let words: Vec<String> = env::args(rt)?.collect(rt.alloc())?;
     let request = request_of(rt.alloc(), words.as_slice())?;
+    graph_of_files(rt, &request)
+}
+
+fn graph_of_files<R: Print + Files + AllocGlobal>(
+    rt: &R,
+    request: &Request,
+) -> Result<(), Failure> {
     let text = bytes_of(rt, request.jdf)?;
     let data = bytes_of(rt, request.data)?;
-    let tree = tree_of(rt.alloc(), text.as_slice())?;
-    match judge_data(rt.alloc(), &tree, data.as_slice())? {
+    graph_of_texts(rt, request, text.as_slice(), data.as_slice())
+}
+
+fn graph_of_texts<R: Print + AllocGlobal>(
+    rt: &R,
+    request: &Request,
+    text: &[u8],
+    data: &[u8],
+) -> Result<(), Failure> {
+    let tree = tree_of(rt.alloc(), text)?;
+    match judge_data(rt.alloc(), &tree, data)? {
         JobVerdict::Jdf(_) => Err(Failure::JdfRefused),
         JobVerdict::Data(_) => Err(Failure::DataRefused),
-        JobVerdict::Inconsistent(plan, _) => print(rt, &request, &tree, &plan),
-        JobVerdict::Consistent(matched, _) => print(rt, &request, &tree, matched.plan()),
+        JobVerdict::Inconsistent(plan, _) => print(rt, request, &tree, &plan),
+        JobVerdict::Consistent(matched, _) => print(rt, request, &tree, matched.plan()),
     }
 }
 

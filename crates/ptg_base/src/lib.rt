@@ -78,34 +78,29 @@ mod tests {
         Ok(())
     }
 
+    /// Whether two tasks compare like this, both ways, and are equal and of one hash only then.
+    fn compare_like(a: &TaskId, b: &TaskId, answer: Ordering) -> bool {
+        a.cmp(b) == answer
+            && b.cmp(a) == answer.reverse()
+            && a.partial_cmp(b) == Some(answer)
+            && (a == b) == answer.is_eq()
+            && (hash_of(a) == hash_of(b)) == answer.is_eq()
+    }
+
     #[test]
     fn tasks_are_in_task_order(rt: HostRuntime) -> Result<(), Fail> {
-        let rows = [
-            (TaskId::new(1, &[9]), TaskId::new(2, &[-9]), Ordering::Less),
-            (TaskId::new(1, &[-1]), TaskId::new(1, &[0]), Ordering::Less),
-            (
-                TaskId::new(1, &[3]),
-                TaskId::new(1, &[2, 5]),
-                Ordering::Greater,
-            ),
-            (
-                TaskId::new(1, &[2]),
-                TaskId::new(1, &[2, -5]),
-                Ordering::Less,
-            ),
-            (TaskId::new(0, &[]), TaskId::new(0, &[]), Ordering::Equal),
-            (
-                TaskId::new(4, &[7, -8]),
-                TaskId::new(4, &[7, -8]),
-                Ordering::Equal,
-            ),
+        let rows: [((u32, &[i64]), (u32, &[i64]), Ordering); 6] = [
+            ((1, &[9]), (2, &[-9]), Ordering::Less),
+            ((1, &[-1]), (1, &[0]), Ordering::Less),
+            ((1, &[3]), (1, &[2, 5]), Ordering::Greater),
+            ((1, &[2]), (1, &[2, -5]), Ordering::Less),
+            ((0, &[]), (0, &[]), Ordering::Equal),
+            ((4, &[7, -8]), (4, &[7, -8]), Ordering::Equal),
         ];
-        for (a, b, answer) in &rows {
-            assert_eq!(rt; a.cmp(b), *answer);
-            assert_eq!(rt; b.cmp(a), answer.reverse());
-            assert_eq!(rt; a.partial_cmp(b), Some(*answer));
-            assert_eq!(rt; a == b, answer.is_eq());
-            assert_eq!(rt; hash_of(a) == hash_of(b), answer.is_eq());
+        for ((class, params), (other, others), answer) in rows {
+            assert!(rt; params.len() <= 8 && others.len() <= 8);
+            let (a, b) = (TaskId::new(class, params), TaskId::new(other, others));
+            assert!(rt; compare_like(&a, &b, answer));
         }
         Ok(())
     }

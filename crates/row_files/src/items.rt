@@ -17,47 +17,68 @@ pub struct Item<'a> {
 // The line before a text, and the line after it.
 const DASHES: &str = "---";
 
-/// The items of a file. Outside of texts, empty lines and lines that begin with `#` are skipped.
-pub fn items<'a>(alloc: Global, text: &'a str) -> Result<Vec<Item<'a>>, (usize, Why)> {
-    let mut list = Vec::new(alloc);
-    let mut block = None;
-    let mut number = 0usize;
-    for line in text.lines() {
-        number = number.saturating_add(1);
-        block = match add_line(alloc, &mut list, block, (number, line)) {
-            Ok(block) => block,
-            Err(why) => return Err((number, why)),
-        };
+// The items so far, and the lines of the text that is open, if one is.
+#[derive(Drop)]
+struct Reading<'a> {
+    list: Vec<Item<'a>>,
+    open: Option<Vec<&'a str>>,
+}
+
+impl<'a> Reading<'a> {
+    fn add(&mut self, alloc: Global, number: usize, line: &'a str) -> Result<(), Why> {
+        if line == DASHES {
+            return self.open_or_close(alloc);
+        }
+        match &mut self.open {
+            Some(lines) => lines.push(line)?,
+            None => {
+                if let Some(item) = item_of(number, line) {
+                    self.list.push(item)?;
+                }
+            }
+        }
+        Ok(())
     }
-    match block {
-        None => Ok(list),
-        Some(_) => Err((number, Why("a text without its end"))),
+
+    // Opens a text, or gives the one that is open to the last item.
+    fn open_or_close(&mut self, alloc: Global) -> Result<(), Why> {
+        match self.open.take() {
+            None => {
+                self.open = Some(Vec::new(alloc));
+                Ok(())
+            }
+            Some(lines) => close(&mut self.list, lines),
+        }
     }
 }
 
-// Adds a line, where the block is open that is given. Gives the one that is open after it.
-fn add_line<'a>(
+// Adds the lines of a text. How many there are, or the number of the first that does not belong.
+fn add_lines<'a>(
     alloc: Global,
-    list: &mut Vec<Item<'a>>,
-    block: Option<Vec<&'a str>>,
-    (number, line): (usize, &'a str),
-) -> Result<Option<Vec<&'a str>>, Why> {
-    match block {
-        None if line == DASHES => Ok(Some(Vec::new(alloc))),
-        None => {
-            if let Some(item) = item_of(number, line) {
-                list.push(item)?;
-            }
-            Ok(None)
+    reading: &mut Reading<'a>,
+    text: &'a str,
+) -> Result<usize, (usize, Why)> {
+    let mut number = 0usize;
+    for line in text.lines() {
+        number = number.saturating_add(1);
+        if let Err(why) = reading.add(alloc, number, line) {
+            return Err((number, why));
         }
-        Some(lines) if line == DASHES => {
-            close(list, lines)?;
-            Ok(None)
-        }
-        Some(mut lines) => {
-            lines.push(line)?;
-            Ok(Some(lines))
-        }
+    }
+    Ok(number)
+}
+
+/// The items of a file. Outside of texts, empty lines and lines that begin with `#` are skipped.
+pub fn items<'a>(alloc: Global, text: &'a str) -> Result<Vec<Item<'a>>, (usize, Why)> {
+    let mut reading = Reading {
+        list: Vec::new(alloc),
+        open: None,
+    };
+    let lines = add_lines(alloc, &mut reading, text)?;
+    let Reading { list, open } = reading;
+    match open {
+        None => Ok(list),
+        Some(_) => Err((lines, Why("a text without its end"))),
     }
 }
 

@@ -33,37 +33,48 @@ pub fn all_as_wanted<R: Print + Files + Env + AllocGlobal + Threads + Wait + Syn
     let alloc = rt.alloc();
     let mut report = Report::new(rt, alloc);
     for word in env::args(rt)?.skip(1) {
-        let file = word.as_str();
-        match fs::read_to_string(rt, file) {
-            Ok(text) => try_rows(&mut report, call, file, text.as_str())?,
-            Err(_) => report.unread(file, 0, Why("no file of text"))?,
-        }
+        try_file(rt, &mut report, call, word.as_str())?;
     }
     report.end()?;
     Ok(report.others == 0)
 }
 
 // Tries the rows of a file.
-fn try_rows<R: Print + Threads + Wait + Sync, C: Call>(
+fn try_file<R: Print + Files + AllocGlobal + Threads + Wait + Sync, C: Call>(
+    rt: &R,
+    report: &mut Report<'_, R>,
+    call: &C,
+    file: &str,
+) -> io::Result<()> {
+    match fs::read_to_string(rt, file) {
+        Ok(text) => try_text(report, call, file, text.as_str()),
+        Err(_) => report.unread(file, 0, Why("no file of text")),
+    }
+}
+
+// Tries the rows of a file's text.
+fn try_text<R: Print + Threads + Wait + Sync, C: Call>(
     report: &mut Report<'_, R>,
     call: &C,
     file: &str,
     text: &str,
 ) -> io::Result<()> {
-    let alloc = report.alloc;
-    let list = match items(alloc, text) {
-        Ok(list) => list,
-        Err((line, why)) => return report.unread(file, line, why),
-    };
-    let mut reading = Reading::new(alloc);
-    for item in &list {
-        if item.keyword == "row" {
-            reading.finish(report, call, file)?;
-        }
-        if let Err(why) = reading.add(alloc, item) {
-            report.unread(file, item.line, why)?;
-            reading.row = None;
-        }
+    match items(report.alloc, text) {
+        Ok(list) => try_items(report, call, file, list.as_slice()),
+        Err((line, why)) => report.unread(file, line, why),
+    }
+}
+
+// Tries the rows of a file's items.
+fn try_items<'a, R: Print + Threads + Wait + Sync, C: Call>(
+    report: &mut Report<'_, R>,
+    call: &C,
+    file: &str,
+    list: &[Item<'a>],
+) -> io::Result<()> {
+    let mut reading = Reading::new(report.alloc);
+    for item in list {
+        reading.take(report, call, file, item)?;
     }
     reading.finish(report, call, file)
 }
@@ -75,6 +86,24 @@ impl<'a> Reading<'a> {
             row: None,
             is_head: true,
         }
+    }
+
+    // Takes an item: the one that begins a row ends the row before it.
+    fn take<R: Print + Threads + Wait + Sync, C: Call>(
+        &mut self,
+        report: &mut Report<'_, R>,
+        call: &C,
+        file: &str,
+        item: &Item<'a>,
+    ) -> io::Result<()> {
+        if item.keyword == "row" {
+            self.finish(report, call, file)?;
+        }
+        if let Err(why) = self.add(report.alloc, item) {
+            report.unread(file, item.line, why)?;
+            self.row = None;
+        }
+        Ok(())
     }
 
     fn add(&mut self, alloc: Global, item: &Item<'a>) -> Result<(), Why> {

@@ -4,7 +4,7 @@ use flow_meaning::Outcome;
 use ptg_base::Place;
 
 /// A job, by its name here.
-#[derive(Drop)]
+#[derive(Clone, Copy)]
 pub struct Job {
     pub name: &'static str,
     pub jdf: &'static [u8],

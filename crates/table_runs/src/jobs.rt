@@ -1,7 +1,7 @@
 //! The jobs that are played.
 
 /// A job's two texts.
-#[derive(Drop)]
+#[derive(Clone, Copy)]
 pub struct Texts {
     pub name: &'static str,
     pub jdf: &'static [u8],

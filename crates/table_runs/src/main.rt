@@ -99,10 +99,10 @@ fn print_answers<R: Threads + Wait + Print + Sync>(
     Ok(())
 }
 
-// A table that is closed after a claim of this task.
-fn print_early<R: Print>(rt: &R, alloc: Global, texts: &Texts, task: &TaskId) -> io::Result<()> {
+// A table that is closed after a claim of the task of this class with the parameter 0.
+fn print_early<R: Print>(rt: &R, alloc: Global, texts: &Texts, class: u32) -> io::Result<()> {
     let name = texts.name;
-    match claim_and_close(alloc, texts, task) {
+    match claim_and_close(alloc, texts, &TaskId::new(class, &[0])) {
         Ok(Some(e)) => println!(rt;
             "{name}, one claim: claimed {}, seen quiet {}, closed quiet {}",
             e.claimed, e.seen_quiet, e.quiet
@@ -145,10 +145,15 @@ fn print_claims<R: Threads + Wait + Print + Sync>(
 }
 
 // The shard of a task of the job, among 16.
-fn print_shard<R: Print>(rt: &R, alloc: Global, texts: &Texts, task: &TaskId) -> io::Result<()> {
+fn print_shard<R: Print>(
+    rt: &R,
+    alloc: Global,
+    texts: &Texts,
+    (class, params): (u32, &[i64]),
+) -> io::Result<()> {
     let name = texts.name;
-    match shard_of(alloc, texts, task) {
-        Ok(Some(shard)) => println!(rt; "{name}, class {}: shard {shard}", task.class()),
+    match shard_of(alloc, texts, &TaskId::new(class, params)) {
+        Ok(Some(shard)) => println!(rt; "{name}, class {class}: shard {shard}"),
         Ok(None) => println!(rt; "{name}: no job"),
         Err(OutOfMemory) => println!(rt; "{name}: no memory"),
     }
@@ -170,24 +175,33 @@ fn print_thief<R: Threads + Wait + Print + Sync>(
     }
 }
 
+// What comes of the jobs in orders that ids steer, and of early closes.
+fn print_orders<R: Threads + Wait + Print + Sync>(rt: &R, alloc: Global) -> io::Result<()> {
+    print_ordered(rt, alloc, &GATHER, &[])?;
+    print_ordered(rt, alloc, &GATHER, &[0, 1, 2])?;
+    print_ordered(rt, alloc, &GATHER, &[1, 2, 0])?;
+    print_ordered(rt, alloc, &TRAPS, &[3, 0, 2, 1])?;
+    // After the first claim a task is ready, and after the second one it runs.
+    print_early(rt, alloc, &BROADCAST, 1)?;
+    print_early(rt, alloc, &BROADCAST, 0)
+}
+
+// What a thief runs, the claims of four workers, and which shard a task has.
+fn print_others<R: Threads + Wait + Print + Sync>(rt: &R, alloc: Global) -> io::Result<()> {
+    print_thief(rt, alloc, &ONE_TASK, &[0, 0])?;
+    print_thief(rt, alloc, &PAIR, &[0, 0])?;
+    print_thief(rt, alloc, &ONE_TASK, &[])?;
+    print_claims(rt, alloc, &CHOLESKY_20)?;
+    print_shard(rt, alloc, &CHOLESKY_4, (0, &[0]))?;
+    print_shard(rt, alloc, &CHOLESKY_4, (1, &[0, 1]))
+}
+
 fn main(rt: HostRuntime) -> io::Result<()> {
     let alloc = rt.alloc();
     for texts in [BROADCAST, GATHER, TRAPS, STALL, TYPES] {
         print_played(&rt, alloc, &texts)?;
         print_answers(&rt, alloc, &texts)?;
     }
-    print_ordered(&rt, alloc, &GATHER, &[])?;
-    print_ordered(&rt, alloc, &GATHER, &[0, 1, 2])?;
-    print_ordered(&rt, alloc, &GATHER, &[1, 2, 0])?;
-    print_ordered(&rt, alloc, &TRAPS, &[3, 0, 2, 1])?;
-    // After the first claim a task is ready, and after the second one it runs.
-    print_early(&rt, alloc, &BROADCAST, &TaskId::new(1, &[0]))?;
-    print_early(&rt, alloc, &BROADCAST, &TaskId::new(0, &[0]))?;
-    print_thief(&rt, alloc, &ONE_TASK, &[0, 0])?;
-    print_thief(&rt, alloc, &PAIR, &[0, 0])?;
-    print_thief(&rt, alloc, &ONE_TASK, &[])?;
-    print_claims(&rt, alloc, &CHOLESKY_20)?;
-    print_shard(&rt, alloc, &CHOLESKY_4, &TaskId::new(0, &[0]))?;
-    print_shard(&rt, alloc, &CHOLESKY_4, &TaskId::new(1, &[0, 1]))?;
-    Ok(())
+    print_orders(&rt, alloc)?;
+    print_others(&rt, alloc)
 }

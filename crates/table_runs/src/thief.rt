@@ -87,6 +87,23 @@ fn steal<R: Threads + Wait + Sync>(
     Ok(work_at(rt, &board, &mut pass, thief, &mut bench))
 }
 
+// Lets the thief work at a table of one shard that can't be scanned.
+fn ran_with<R: Threads + Wait + Sync>(
+    rt: &R,
+    alloc: Global,
+    texts: &Texts,
+    thief: &mut Hands,
+) -> Result<Option<End>, OutOfMemory> {
+    let make = Make {
+        shards: 1,
+        preload: false,
+    };
+    let Some((table, first)) = table_of(alloc, texts, make)? else {
+        return Ok(None);
+    };
+    Ok(Some(steal(rt, alloc, table, first, thief)?))
+}
+
 /// Lets worker 1 of two work at a table of one shard that can't be scanned. The id of the job's ready task, the one of
 /// class 0 with the parameter 0, is in the deque of worker 0 so many times: at least twice where it is to be found,
 /// since a steal may leave the last id.
@@ -97,12 +114,5 @@ pub fn ran_by_thief<R: Threads + Wait + Sync>(
     ids: &[i64],
 ) -> Result<Option<End>, OutOfMemory> {
     let (mut thief, _idle) = two_workers(alloc, ids)?;
-    let make = Make {
-        shards: 1,
-        preload: false,
-    };
-    let Some((table, first)) = table_of(alloc, texts, make)? else {
-        return Ok(None);
-    };
-    Ok(Some(steal(rt, alloc, table, first, &mut thief)?))
+    ran_with(rt, alloc, texts, &mut thief)
 }
