@@ -145,15 +145,10 @@ fn print_claims<R: Threads + Wait + Print + Sync>(
 }
 
 // The shard of a task of the job, among 16.
-fn print_shard<R: Print>(
-    rt: &R,
-    alloc: Global,
-    texts: &Texts,
-    (class, params): (u32, &[i64]),
-) -> io::Result<()> {
+fn print_shard<R: Print>(rt: &R, alloc: Global, texts: &Texts, task: &TaskId) -> io::Result<()> {
     let name = texts.name;
-    match shard_of(alloc, texts, &TaskId::new(class, params)) {
-        Ok(Some(shard)) => println!(rt; "{name}, class {class}: shard {shard}"),
+    match shard_of(alloc, texts, task) {
+        Ok(Some(shard)) => println!(rt; "{name}, class {}: shard {shard}", task.class()),
         Ok(None) => println!(rt; "{name}: no job"),
         Err(OutOfMemory) => println!(rt; "{name}: no memory"),
     }
@@ -192,8 +187,8 @@ fn print_others<R: Threads + Wait + Print + Sync>(rt: &R, alloc: Global) -> io::
     print_thief(rt, alloc, &PAIR, &[0, 0])?;
     print_thief(rt, alloc, &ONE_TASK, &[])?;
     print_claims(rt, alloc, &CHOLESKY_20)?;
-    print_shard(rt, alloc, &CHOLESKY_4, (0, &[0]))?;
-    print_shard(rt, alloc, &CHOLESKY_4, (1, &[0, 1]))
+    print_shard(rt, alloc, &CHOLESKY_4, &TaskId::new(0, &[0]))?;
+    print_shard(rt, alloc, &CHOLESKY_4, &TaskId::new(1, &[0, 1]))
 }
 
 fn main(rt: HostRuntime) -> io::Result<()> {
