@@ -63,13 +63,13 @@ abbrev pub written_flow : Environment → Word → Resolved ℕ
 written_flow scope w = flow_by writable scope w (flow_named scope w.text)
 
 -- what names mean where these variables are seen: a name before an index is a flow's; of several faults the first in
--- the text's order is told
+-- the text's order is reported
 abbrev pub symbols_of : Environment → List Variable → SymbolTable
 symbols_of scope seen =
     record {
       value = λ w. value_of w (meaning_of scope seen w.text);
       flow = λ w. read_flow scope w;
-      told = λ first _. first;
+      reported = λ first _. first;
     }
 
 -- an expression

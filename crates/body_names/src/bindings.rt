@@ -39,7 +39,7 @@ pub(crate) fn require_room(word: &Word, bindings: &BindingTable) -> Result<(), J
     if usize::from(bindings.declared) < MOST_VARIABLES {
         Ok(())
     } else {
-        Err(fault_at(word, JdfCode::TooManyVars))
+        Err(fault_at(word.spot, JdfCode::TooManyVars))
     }
 }
 
@@ -70,7 +70,7 @@ pub(crate) fn require_fresh(word: &Word, bindings: &BindingTable) -> Result<(), 
     ensures { Returns (λ _. tt) result (require_fresh word.now (bindings_of bindings.now)) }
 {
     if is_named(innermost(bindings), word.text.bytes()) {
-        Err(fault_at(word, JdfCode::NameTwice))
+        Err(fault_at(word.spot, JdfCode::NameTwice))
     } else {
         Ok(())
     }

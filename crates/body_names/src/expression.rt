@@ -24,8 +24,8 @@ pub(crate) fn value_of(word: &Word, meaning: Meaning) -> Result<Expr, JdfRefusal
         Meaning::Variable(slot) | Meaning::LoopVariable(slot) => Ok(Expr::local(slot)),
         Meaning::Local(number) => Ok(Expr::local(number)),
         Meaning::Integer(value) => Ok(Expr::num(value)),
-        Meaning::Collection => Err(fault_at(word, JdfCode::WrongKind)),
-        Meaning::Nothing => Err(fault_at(word, JdfCode::UnknownName)),
+        Meaning::Collection => Err(fault_at(word.spot, JdfCode::WrongKind)),
+        Meaning::Nothing => Err(fault_at(word.spot, JdfCode::UnknownName)),
     }
 }
 
@@ -37,11 +37,11 @@ pub(crate) fn slot_of(scope: &Scope, seen: &[Variable], word: &Word) -> Result<u
     match meaning_of(scope, seen, &word.text) {
         Meaning::Variable(slot) => Ok(slot),
         Meaning::LoopVariable(_) | Meaning::Local(_) | Meaning::Integer(_) => Err(fault_at(
-            word,
+            word.spot,
             JdfCode::NotAssignable,
         )),
-        Meaning::Collection => Err(fault_at(word, JdfCode::WrongKind)),
-        Meaning::Nothing => Err(fault_at(word, JdfCode::UnknownName)),
+        Meaning::Collection => Err(fault_at(word.spot, JdfCode::WrongKind)),
+        Meaning::Nothing => Err(fault_at(word.spot, JdfCode::UnknownName)),
     }
 }
 
@@ -65,7 +65,7 @@ impl Symbols for Seen<'_> {
         read_flow(self.scope, word)
     }
 
-    fn told(&self, first: JdfFault, _second: JdfFault) -> JdfFault {
+    fn reported(&self, first: JdfFault, _second: JdfFault) -> JdfFault {
         first
     }
 }

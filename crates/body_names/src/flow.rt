@@ -16,10 +16,10 @@ pub(crate) fn read_flow(scope: &Scope, word: &Word) -> Result<u8, JdfRefusal>
     ensures { Returns (λ n. n) result (read_flow (environment_of scope.now) word.now) }
 {
     let Some(number) = flow_named(scope, word.text.bytes()) else {
-        return Err(fault_at(word, JdfCode::UnknownName));
+        return Err(fault_at(word.spot, JdfCode::UnknownName));
     };
     match scope.flows.get(number).kind {
-        FlowKind::Ctl => Err(fault_at(word, JdfCode::CtlMixed)),
+        FlowKind::Ctl => Err(fault_at(word.spot, JdfCode::CtlMixed)),
         FlowKind::Read | FlowKind::Write | FlowKind::Rw => Ok(number as u8),
     }
 }
@@ -29,11 +29,11 @@ pub(crate) fn written_flow(scope: &Scope, word: &Word) -> Result<u8, JdfRefusal>
     ensures { Returns (λ n. n) result (written_flow (environment_of scope.now) word.now) }
 {
     let Some(number) = flow_named(scope, word.text.bytes()) else {
-        return Err(fault_at(word, JdfCode::UnknownName));
+        return Err(fault_at(word.spot, JdfCode::UnknownName));
     };
     match scope.flows.get(number).kind {
-        FlowKind::Ctl => Err(fault_at(word, JdfCode::CtlMixed)),
-        FlowKind::Read => Err(fault_at(word, JdfCode::ReadAssigned)),
+        FlowKind::Ctl => Err(fault_at(word.spot, JdfCode::CtlMixed)),
+        FlowKind::Read => Err(fault_at(word.spot, JdfCode::ReadAssigned)),
         FlowKind::Write | FlowKind::Rw => Ok(number as u8),
     }
 }

@@ -7,8 +7,9 @@ ghost use Rattle.check_names.specs.Names.{coll_named, int_named};
 ghost use Rattle.check_names.specs.Returns.{ReturnsChecked};
 ghost use Rattle.check_flows.specs.Places.{dimensions_of, collection_faults, element_faults, element_of};
 
-use check_names::{Context, and_rules, coll_named, fault_at, fault_if, indices, int_named, join};
+use check_names::{Context, and_rules, coll_named, fault_if, indices, int_named, join};
 use coll_data::Given;
+use expr_names::fault_at;
 use jdf_lex::{JdfCode, JdfRefusal};
 use jdf_tree::{ArgTree, Word};
 use ptg_base::{Seq, Text};

@@ -12,7 +12,8 @@ ghost use Rattle.check_names.specs.Returns.{ReturnsChecked, both};
 ghost use Rattle.check_flows.specs.Targets.{first_spot, task_faults, class_at, task_of, named_faults, target_of};
 
 use crate::place::element;
-use check_names::{Context, and_rules, arguments, class_named, fault_at, fault_if, join};
+use check_names::{Context, and_rules, arguments, class_named, fault_if, join};
+use expr_names::fault_at;
 use jdf_lex::{JdfCode, JdfRefusal, Spot};
 use jdf_tree::{ArgTree, ClassTree, TargetTree, Word};
 use plan_core::Target;

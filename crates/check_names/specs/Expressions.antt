@@ -51,7 +51,7 @@ symbols_of job seen =
     record {
       value = λ w. ok_or (name_term job seen w.text) (fault w.spot (name_code job w.text));
       flow = λ w. fault_at w UnknownName;
-      told = earlier;
+      reported = earlier;
     }
 
 -- the same of an expression that may be left out

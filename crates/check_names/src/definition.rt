@@ -13,9 +13,10 @@ ghost use Rattle.check_names.specs.Definitions.{is_ranged_local, definition_faul
 use crate::argument::range;
 use crate::context::{Context, local_named};
 use crate::expression::term_of;
-use crate::fault::{fault_at, fault_if};
+use crate::fault::fault_if;
 use crate::part::{and_rules, join, with_part};
 use crate::repeat::repeats;
+use expr_names::fault_at;
 use jdf_lex::{JdfCode, JdfRefusal};
 use jdf_tree::{ArgTree, ClassTree, DefTree, Word};
 use ptg_base::{Seq, Text};

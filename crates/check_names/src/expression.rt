@@ -6,8 +6,8 @@ ghost use Rattle.check_names.specs.Returns.{ReturnsChecked};
 ghost use Rattle.check_names.specs.Expressions.{name_code, symbols_of, expression_faults, term_of, option_faults, option_term};
 
 use crate::context::{Context, coll_named, int_named, local_named};
-use crate::fault::{earlier, fault_at};
-use expr_names::Symbols;
+use crate::fault::earlier;
+use expr_names::{Symbols, fault_at};
 use jdf_lex::{JdfCode, JdfFault, JdfRefusal};
 use jdf_tree::{ExprTree, Word};
 use ptg_base::Text;
@@ -45,7 +45,7 @@ impl Symbols for Context<'_> {
         Err(fault_at(word.spot, JdfCode::UnknownName))
     }
 
-    fn told(&self, first: JdfFault, second: JdfFault) -> JdfFault {
+    fn reported(&self, first: JdfFault, second: JdfFault) -> JdfFault {
         earlier(first, second)
     }
 }

@@ -1,10 +1,10 @@
 //! Faults in the order of the text.
 
 ghost use Rattle.std.specs.Prelude.{◌≡◌, Some};
-ghost use Rattle.ptg_base.specs.declared.refusal.Refusal.TheVariants.{Fault};
-ghost use Rattle.check_names.specs.Faults.{is_before, earlier, fault, fault_if};
+ghost use Rattle.check_names.specs.Faults.{is_before, earlier, fault_if};
 ghost use Rattle.check_names.specs.Returns.{ReturnsChecked};
 
+use expr_names::fault_at;
 use jdf_lex::{JdfCode, JdfFault, JdfRefusal, Spot};
 
 /// Does a fault come before another, by its place and then by its code?
@@ -22,13 +22,6 @@ pub fn earlier(f: JdfFault, g: JdfFault) -> JdfFault
     ensures { result ≡ earlier f g }
 {
     if is_before(&g, &f) { g } else { f }
-}
-
-/// The refusal for a fault with this code at a place.
-pub fn fault_at(spot: Spot, code: JdfCode) -> JdfRefusal
-    ensures { result ≡ Fault (fault spot code) }
-{
-    JdfRefusal::Fault(JdfFault { spot, code })
 }
 
 /// That fault, if the condition holds.

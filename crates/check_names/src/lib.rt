@@ -15,7 +15,7 @@ pub use argument::{arguments, indices, no_ranges, range};
 pub use context::{Context, Globals, class_named, coll_named, int_named, local_named};
 pub use definition::space;
 pub use expression::{option_term, term_of};
-pub use fault::{fault_at, fault_if};
+pub use fault::fault_if;
 pub use laws::{
     a_resolved_space_is_well_made, names_given_once_are_distinct, what_is_resolved_is_closed,
 };

@@ -5,7 +5,8 @@ ghost use Rattle.jdf_lex.specs.declared.fault.JdfFault.{JdfFault};
 ghost use Rattle.check_names.specs.Returns.{ReturnsChecked, both, earlier_refusal};
 ghost use Rattle.check_names.specs.Faults.{fault};
 
-use crate::fault::{earlier, fault_at};
+use crate::fault::earlier;
+use expr_names::fault_at;
 use jdf_lex::{JdfCode, JdfRefusal, Spot};
 use ptg_base::Seq;
 

@@ -2,7 +2,9 @@
 
 ghost use Rattle.std.specs.Prelude.{◌≡◌, ◌↔◌, ℕ, IsTrue, MatchOption, flat_map, take};
 ghost use Rattle.ptg_base.specs.Lists.{IsIn};
+ghost use Rattle.ptg_base.specs.Task.{Task};
 ghost use Rattle.plan_core.specs.declared.flow.FlowPlan.{FlowPlan as FlowPlanValue};
+ghost use Rattle.plan_core.specs.declared.plan.Plan.{Plan as PlanValue};
 ghost use Rattle.dep_iter.specs.Active.{held_targets};
 ghost use Rattle.dep_iter.specs.Arguments.{combinations};
 ghost use Rattle.dep_iter.specs.Directions.{IsNearFlow, edges_before, edges_of, near_flow};
@@ -115,26 +117,18 @@ fn first_dependences<'a>(deps: &'a [DepPlan], k: usize) -> &'a [DepPlan]
     if k < deps.len() { &deps[..k] } else { deps }
 }
 
-/// Whether one of the first `k` dependences of the edge's flow gives the edge to the task with these locals. While the
+/// Whether one of the first `k` dependences of this flow gives the edge to its task, which has these locals. While the
 /// dependence with number `k` is walked, this is whether an earlier one gives its edge too.
 pub fn has_edge_before(
-    plan: &Plan,
+    flow: &FlowPlan,
     way: Direction,
-    t: &TaskId,
     env: &[i64],
     edge: &LentEdge,
     k: usize,
 ) -> bool
-    requires task { IsTask plan.now t.now }
-    requires locals { env.now ≡ tasks.locals_of plan.now t.now }
-    ensures { IsTrue result ↔ IsIn edge.now (edges_before way plan.now t.now (near_flow way edge.now) k) }
+    ensures { (P : PlanValue) (t : Task) → env.now ≡ tasks.locals_of P t → IsNearFlow way P t edge.now flow.now
+        → IsTrue result ↔ IsIn edge.now (edges_before way P t (near_flow way edge.now) k) }
 {
-    if k == 0 {
-        return false;
-    }
-    let Some(flow) = flow_at(plan, way, t, edge) else {
-        return false;
-    };
     any_leads_to(
         way.first_alone(flow.kind),
         first_dependences(way.dependences(flow), k),

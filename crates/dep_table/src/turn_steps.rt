@@ -15,7 +15,7 @@ use crate::pass::Seat;
 use crate::table::DepTable;
 use crate::words::{live_index, stamp_index, turn_index};
 use dep_shard::{Arrivals, Shard};
-use ptg_base::TaskId;
+use ptg_base::{MOST_TASKS, TaskId};
 use std::marker::Brand;
 use table_rule::law::{Claim, DrawStamp, End, Event, Leave, LowerLive, Take};
 
@@ -70,7 +70,7 @@ pub(crate) fn take_ready(desk: &mut Shard, t: &TaskId) -> Option<Arrivals>
     ensures some { IfSome result (λ tiles. Takes desk.old desk.new t.now tiles) }
     ensures spare { Uses desk.old.spare desk.new.spare 0 None 0 0 }
 {
-    if desk.running() >= 1_000_000 {
+    if desk.running() >= MOST_TASKS {
         return None;
     }
     desk.take_ready(t)

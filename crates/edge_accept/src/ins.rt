@@ -4,8 +4,7 @@ ghost use Rattle.std.specs.Prelude.{◌≡◌, ◌≤◌, ◌+◌, if◌then◌e
 ghost use Rattle.std.specs.Bool.{OnTrue};
 ghost use Rattle.ptg_base.specs.Limits.{most_edges};
 
-// The most edges into tasks, and the most items, that a job may have.
-pub(crate) const MOST_EDGES: u64 = 4_000_000;
+use ptg_base::MOST_EDGES;
 
 /// How many edges into tasks were counted, and how many of them carry a tile.
 #[derive(Drop)]

@@ -9,10 +9,9 @@ ghost use Rattle.plan_core.specs.declared.shape.Shape.{Shape as ShapeValue};
 ghost use Rattle.goal_count.specs.Counting.{IsCount};
 ghost use Rattle.edge_accept.specs.Tallies.{AreSent};
 
-use crate::ins::MOST_EDGES;
 use crate::tally::Outs;
 use plan_core::Plan;
-use ptg_base::Place;
+use ptg_base::{MOST_EDGES, Place};
 
 impl Outs {
     // How many items were counted.

@@ -5,7 +5,6 @@ ghost use Rattle.std.specs.Prelude.{◌≡◌, ◌∷◌, [], IsTrue};
 ghost use Rattle.std.specs.Bool.{OnTrue};
 ghost use Rattle.dep_iter.specs.Edges.{in_edges_before};
 ghost use Rattle.dep_iter.specs.Links.{fits};
-ghost use Rattle.dep_iter.specs.Tasks.{IsTask};
 ghost use Rattle.edge_accept.specs.Flows.{AreTaken};
 ghost use Rattle.edge_accept.specs.Tallies.{Takes, TakesFrom};
 
@@ -21,7 +20,6 @@ use ptg_base::TaskId;
 // Counts an edge into the flow, which dependence `k` gives, if it is one out of the task that it comes from and no
 // earlier dependence gives it.
 fn take_edge(at: &FlowAt, k: usize, edge: &LentEdge, ins: &mut Ins) -> bool
-    requires of_job { IsTask at.now.plan.now at.now.task.now }
     requires task { edge.now.to ≡ at.now.task.now }
     requires flow { edge.now.in_flow ≡ at.now.number }
     ensures { OnTrue result
@@ -31,7 +29,7 @@ fn take_edge(at: &FlowAt, k: usize, edge: &LentEdge, ins: &mut Ins) -> bool
     let Some(_) = far_locals(at.plan, Direction::In, edge) else {
         return false;
     };
-    if has_edge_before(at.plan, Direction::In, at.task, at.env, edge, k) {
+    if has_edge_before(at.flow, Direction::In, at.env, edge, k) {
         return false;
     }
     ins.add(is_data(at.flow.kind))
@@ -39,8 +37,7 @@ fn take_edge(at: &FlowAt, k: usize, edge: &LentEdge, ins: &mut Ins) -> bool
 
 // Whether the flow may start from a target of dependence `k`; the edges that the target stands for are counted.
 fn take_target(at: &FlowAt, k: usize, target: &Target, ins: &mut Ins) -> bool
-    requires of_job { IsTask at.now.plan.now at.now.task.now }
-    requires fit { IsTrue (fits at.now.plan.now target.now) }
+    requires { IsTrue (fits at.now.plan.now target.now) }
     ensures { OnTrue result (Takes at.now k ins.old ins.new (target.now ∷ [])) }
 {
     match target {
@@ -70,7 +67,6 @@ fn take_target(at: &FlowAt, k: usize, target: &Target, ins: &mut Ins) -> bool
 // Whether the flow may start from its in dependences from number `k` on, if those before them do not hold or it takes
 // all that hold; the edges that they give are counted.
 pub(crate) fn take_from(at: &FlowAt, k: usize, ins: &mut Ins) -> bool
-    requires { IsTask at.now.plan.now at.now.task.now }
     ensures { OnTrue result (TakesFrom at.now k ins.old ins.new) }
 {
     let Some(d) = at.flow.ins.as_slice().get(k) else {

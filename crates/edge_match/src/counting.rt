@@ -10,10 +10,7 @@ ghost use Rattle.edge_match.specs.Counted.{Decides};
 ghost use Rattle.edge_match.specs.Marks.{CountsIn, CountsItem, IsNewPlace};
 
 use crate::counted::Counted;
-use ptg_base::Place;
-
-// The most edges into tasks, and the most items, that a job may have.
-const MOST_EDGES: u64 = 4_000_000;
+use ptg_base::{MOST_EDGES, Place};
 
 impl Counted {
     // Counts an edge into a task, which carries a tile or not, if it is not one too many.

@@ -2,7 +2,6 @@
 
 ghost use Rattle.std.specs.Prelude.{IsTrue};
 ghost use Rattle.dep_iter.specs.Links.{fits};
-ghost use Rattle.dep_iter.specs.Tasks.{IsTask};
 ghost use Rattle.edge_match.specs.FlowParts.{CheckedAt, before_at, marks_from};
 ghost use Rattle.edge_match.specs.Marks.{item_marks, items_at};
 
@@ -25,8 +24,7 @@ fn check_target(
     target: &Target,
     counted: &mut Counted,
 ) -> Result<(), MatchFault>
-    requires of_job { IsTask at.now.plan.now at.now.task.now }
-    requires fit { IsTrue (fits at.now.plan.now target.now) }
+    requires { IsTrue (fits at.now.plan.now target.now) }
     ensures { CheckedAt at.now.phase at.now counted.old counted.new result
         (item_marks way (before_at way at.now k) (items_at way at.now.task.now at.now.env.now at.now.number target.now)) }
 {
@@ -59,7 +57,6 @@ pub(crate) fn check_dependences(
     k: usize,
     counted: &mut Counted,
 ) -> Result<(), MatchFault>
-    requires { IsTask at.now.plan.now at.now.task.now }
     ensures { CheckedAt at.now.phase at.now counted.old counted.new result (marks_from way at.now k) }
 {
     let Some(d) = way.dependences(at.flow).get(k) else {

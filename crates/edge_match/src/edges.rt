@@ -7,7 +7,6 @@ ghost use Rattle.ptg_base.specs.declared.edge.WriteBack.{WriteBack as WriteBackV
 ghost use Rattle.plan_core.specs.declared.plan.Plan.{Plan as PlanValue};
 ghost use Rattle.dep_iter.specs.Consistent.{is_data_edge};
 ghost use Rattle.dep_iter.specs.Directions.{HasOtherEnd, near_flow, near_task};
-ghost use Rattle.dep_iter.specs.Tasks.{IsTask};
 ghost use Rattle.dep_iter.specs.declared.direction.Direction.TheVariants as direction;
 ghost use Rattle.edge_match.specs.Counted.{Decides};
 ghost use Rattle.edge_match.specs.FlowParts.{CheckedAt, before_at};
@@ -83,13 +82,13 @@ fn connect_edge(
 
 // Whether an edge of the flow, which dependence `k` gives, is one at its other end, and no earlier dependence gives it.
 fn match_edge(at: &FlowAt, way: Direction, k: usize, edge: &LentEdge) -> Result<(), MatchFault>
-    requires of_job { IsTask at.now.plan.now at.now.task.now }
+    requires task { near_task way edge.now ≡ at.now.task.now }
     requires flow { near_flow way edge.now ≡ at.now.number }
     ensures { (earlier : List EdgeValue) (s : CountedValue) → IsIn edge.now earlier ↔ IsIn edge.now (before_at way at.now k)
         → CheckedAt phase.Matching at.now s s result (edge_marks way earlier edge.now) }
 {
     at.require(has_other_end(at.plan, way, edge), unmatched(way))?;
-    let double = has_edge_before(at.plan, way, at.task, at.env, edge, k);
+    let double = has_edge_before(at.flow, way, at.env, edge, k);
     at.require(!double, MatchCode::DoubleEdge)
 }
 
@@ -101,7 +100,6 @@ pub(crate) fn check_edge(
     edge: &LentEdge,
     counted: &mut Counted,
 ) -> Result<(), MatchFault>
-    requires of_job { IsTask at.now.plan.now at.now.task.now }
     requires task { near_task way edge.now ≡ at.now.task.now }
     requires flow { near_flow way edge.now ≡ at.now.number }
     ensures { (earlier : List EdgeValue) → IsIn edge.now earlier ↔ IsIn edge.now (before_at way at.now k)

@@ -64,7 +64,6 @@ fn start_flow(at: &FlowAt, source: &Source) -> Result<(), MatchFault>
 
 // Checks the edges of the flow in one direction, and with those out of it what it writes.
 fn check_way(at: &FlowAt, way: Direction, counted: &mut Counted) -> Result<(), MatchFault>
-    requires { IsTask at.now.plan.now at.now.task.now }
     ensures { Checked at.now.plan.now counted.old counted.new result
         (way_marks way at.now.phase at.now.plan.now at.now.task.now at.now.number at.now.flow.now) }
 {
@@ -73,8 +72,7 @@ fn check_way(at: &FlowAt, way: Direction, counted: &mut Counted) -> Result<(), M
 
 // Checks the flow, the edges into it and what it sends.
 fn check_flow(at: &FlowAt, source: &Source, counted: &mut Counted) -> Result<(), MatchFault>
-    requires of_job { IsTask at.now.plan.now at.now.task.now }
-    requires source { source.now ≡ data_source_of at.now.plan.now at.now.task.now at.now.number }
+    requires { source.now ≡ data_source_of at.now.plan.now at.now.task.now at.now.number }
     ensures { Checked at.now.plan.now counted.old counted.new result
         (flow_marks at.now.phase at.now.plan.now at.now.task.now (at.now.number, at.now.flow.now)) }
 {

@@ -1,5 +1,5 @@
--- The expressions of a JDF with their names resolved, or the fault that is told of those of its names. Source: the JDF
--- documentation; that one fault is told is this project's own choice.
+-- The expressions of a JDF with their names resolved, or the fault that is reported of those of its names. Source: the
+-- JDF documentation; that one fault is reported is this project's own choice.
 use Rattle.std.specs.Prelude.{Ok, Err}
 use Rattle.jdf_lex.specs.declared.fault.JdfFault.{JdfFault}
 use Rattle.term_core.specs.Term.{Term}
@@ -8,22 +8,22 @@ use Rattle.ptg_base.specs.Returns.{and_then}
 use Rattle.jdf_tree.specs.Expression.{Expression, Num, Name, Elem, Unary, Binary, Choose}
 use Rattle.expr_names.specs.Symbols.{Resolved, SymbolTable}
 
--- two parts of an expression: both of them, or the fault of the one that has one, or which is told of two faults
+-- two parts of an expression: both of them, or the fault of the one that has one, or which is reported of two faults
 abbrev pub together : {A B : Type 0} → (JdfFault → JdfFault → JdfFault) → Resolved A → Resolved B → Resolved (A × B)
-together told (Ok x) (Ok y) = Ok (x, y)
-together told (Ok x) (Err g) = Err g
-together told (Err f) (Ok y) = Err f
-together told (Err f) (Err g) = Err (told f g)
+together reported (Ok x) (Ok y) = Ok (x, y)
+together reported (Ok x) (Err g) = Err g
+together reported (Err f) (Ok y) = Err f
+together reported (Err f) (Err g) = Err (reported f g)
 
 -- the term that an expression is where names mean this
 abbrev pub term_of : SymbolTable → Expression → Resolved Term
 term_of names (Num z spot) = Ok (term.Num z)
 term_of names (Name w) = names.value w
 term_of names (Elem w at) =
-    and_then (together names.told (names.flow w) (term_of names at)) (λ x. Ok (term.Elem x.0 x.1))
+    and_then (together names.reported (names.flow w) (term_of names at)) (λ x. Ok (term.Elem x.0 x.1))
 term_of names (Unary o a spot) = and_then (term_of names a) (λ x. Ok (term.Unary o x))
 term_of names (Binary o a b) =
-    and_then (together names.told (term_of names a) (term_of names b)) (λ x. Ok (term.Binary o x.0 x.1))
+    and_then (together names.reported (term_of names a) (term_of names b)) (λ x. Ok (term.Binary o x.0 x.1))
 term_of names (Choose c a b) =
-    and_then (together names.told (term_of names c) (together names.told (term_of names a) (term_of names b)))
+    and_then (together names.reported (term_of names c) (together names.reported (term_of names a) (term_of names b)))
     (λ x. Ok (term.Choose x.0 x.1.0 x.1.1))

@@ -1,10 +1,10 @@
--- Which refusal is told of two.
+-- Which refusal is reported of two.
 use Rattle.ptg_base.specs.declared.refusal.Refusal.{Refusal}
 use Rattle.ptg_base.specs.declared.refusal.Refusal.TheVariants.{Fault, OutOfMemory}
 use Rattle.jdf_lex.specs.declared.fault.JdfFault.{JdfFault}
 
--- which refusal is told of two; or that there was no memory, if either says so
-abbrev pub told_refusal : (JdfFault → JdfFault → JdfFault) → Refusal JdfFault → Refusal JdfFault → Refusal JdfFault
-told_refusal told OutOfMemory other = OutOfMemory
-told_refusal told (Fault f) OutOfMemory = OutOfMemory
-told_refusal told (Fault f) (Fault g) = Fault (told f g)
+-- which refusal is reported of two; or that there was no memory, if either says so
+abbrev pub reported_refusal : (JdfFault → JdfFault → JdfFault) → Refusal JdfFault → Refusal JdfFault → Refusal JdfFault
+reported_refusal reported OutOfMemory other = OutOfMemory
+reported_refusal reported (Fault f) OutOfMemory = OutOfMemory
+reported_refusal reported (Fault f) (Fault g) = Fault (reported f g)

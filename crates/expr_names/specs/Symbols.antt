@@ -18,5 +18,5 @@ pub record SymbolTable : Type 0 where
   pub value : Word → Resolved Term
   -- the number of the flow of a name before an index
   pub flow : Word → Resolved ℕ
-  -- which of the faults of two parts of an expression is told
-  pub told : JdfFault → JdfFault → JdfFault
+  -- which of the faults of two parts of an expression is reported
+  pub reported : JdfFault → JdfFault → JdfFault

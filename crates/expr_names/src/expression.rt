@@ -5,7 +5,7 @@ ghost use Rattle.ptg_base.specs.Returns.{Returns};
 ghost use Rattle.jdf_tree.specs.NodeExpression.{expression_of};
 ghost use Rattle.expr_names.specs.Symbols.{Resolved};
 ghost use Rattle.expr_names.specs.Expressions.{together, term_of};
-ghost use Rattle.expr_names.specs.Refusals.{told_refusal};
+ghost use Rattle.expr_names.specs.Refusals.{reported_refusal};
 
 use crate::symbols::Symbols;
 use jdf_lex::JdfRefusal;
@@ -13,7 +13,7 @@ use jdf_tree::{ExprNode, ExprTree};
 use std::alloc::Global;
 use term_core::Expr;
 
-/// The term that an expression is where names mean this, or which fault is told of those of its names.
+/// The term that an expression is where names mean this, or which fault is reported of those of its names.
 pub fn term_of<S: Symbols>(alloc: Global, symbols: &S, tree: &ExprTree) -> Result<Expr, JdfRefusal>
     requires { S.is_sound symbols.now }
     ensures { Returns (λ e. e) result (term_of (S.table symbols.now) tree.now) }
@@ -21,21 +21,21 @@ pub fn term_of<S: Symbols>(alloc: Global, symbols: &S, tree: &ExprTree) -> Resul
     node_term(alloc, symbols, tree.node())
 }
 
-// Which refusal is told of two; or that there was no memory, if either says so.
-fn told<S: Symbols>(symbols: &S, first: JdfRefusal, second: JdfRefusal) -> JdfRefusal
+// Which refusal is reported of two; or that there was no memory, if either says so.
+fn reported<S: Symbols>(symbols: &S, first: JdfRefusal, second: JdfRefusal) -> JdfRefusal
     requires { S.is_sound symbols.now }
-    ensures { result ≡ told_refusal (S.table symbols.now).told first second }
+    ensures { result ≡ reported_refusal (S.table symbols.now).reported first second }
 {
     match first {
         JdfRefusal::OutOfMemory => JdfRefusal::OutOfMemory,
         JdfRefusal::Fault(f) => match second {
             JdfRefusal::OutOfMemory => JdfRefusal::OutOfMemory,
-            JdfRefusal::Fault(g) => JdfRefusal::Fault(symbols.told(f, g)),
+            JdfRefusal::Fault(g) => JdfRefusal::Fault(symbols.reported(f, g)),
         },
     }
 }
 
-// Two parts of an expression: both of them, or which fault is told of theirs.
+// Two parts of an expression: both of them, or which fault is reported of theirs.
 #[tactic(auto, using(crate::proofs::Together::both_there, crate::proofs::Together::second_refused, crate::proofs::Together::first_refused, crate::proofs::Together::both_refused))]
 fn together<S: Symbols, A: Drop, B: Drop>(
     symbols: &S,
@@ -44,7 +44,7 @@ fn together<S: Symbols, A: Drop, B: Drop>(
 ) -> Result<(A, B), JdfRefusal>
     requires { S.is_sound symbols.now }
     ensures { (p : Resolved A) (q : Resolved B) → Returns (λ x. x) first p → Returns (λ x. x) second q
-        → Returns (λ x. x) result (together (S.table symbols.now).told p q) }
+        → Returns (λ x. x) result (together (S.table symbols.now).reported p q) }
 {
     match first {
         Ok(a) => match second {
@@ -55,7 +55,7 @@ fn together<S: Symbols, A: Drop, B: Drop>(
             let Err(other) = second else {
                 return Err(refusal);
             };
-            Err(told(symbols, refusal, other))
+            Err(reported(symbols, refusal, other))
         }
     }
 }

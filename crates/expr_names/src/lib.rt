@@ -1,5 +1,5 @@
-//! Expressions with their names resolved, or which fault is told of those of their names: one resolver for bodies and
-//! for all that is outside of them.
+//! Expressions with their names resolved, or which fault is reported of those of their names: one resolver for bodies
+//! and for all that is outside of them.
 #![tactic(auto)]
 
 mod expression;

@@ -5,7 +5,7 @@ ghost use Rattle.ptg_base.specs.Returns.{Returns};
 ghost use Rattle.ptg_base.specs.declared.refusal.Refusal.TheVariants.{Fault};
 ghost use Rattle.expr_names.specs.Symbols.{SymbolTable};
 
-use jdf_lex::{JdfCode, JdfFault, JdfRefusal};
+use jdf_lex::{JdfCode, JdfFault, JdfRefusal, Spot};
 use jdf_tree::Word;
 use term_core::Expr;
 
@@ -29,18 +29,15 @@ pub trait Symbols {
         requires { is_sound self.now }
         ensures { Returns (λ n. n) result ((table self.now).flow word.now) };
 
-    /// Which fault is told of those of two parts of an expression.
-    fn told(&self, first: JdfFault, second: JdfFault) -> JdfFault
+    /// Which fault is reported of those of two parts of an expression.
+    fn reported(&self, first: JdfFault, second: JdfFault) -> JdfFault
         requires { is_sound self.now }
-        ensures { result ≡ (table self.now).told first second };
+        ensures { result ≡ (table self.now).reported first second };
 }
 
-/// The fault of this code at a name.
-pub fn fault_at(word: &Word, code: JdfCode) -> JdfRefusal
-    ensures { result ≡ Fault (record { spot = word.now.spot; code = code }) }
+/// The refusal for a fault with this code at a place.
+pub fn fault_at(spot: Spot, code: JdfCode) -> JdfRefusal
+    ensures { result ≡ Fault (record { spot = spot; code = code }) }
 {
-    JdfRefusal::Fault(JdfFault {
-        spot: word.spot,
-        code,
-    })
+    JdfRefusal::Fault(JdfFault { spot, code })
 }

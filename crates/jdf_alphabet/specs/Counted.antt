@@ -1,6 +1,6 @@
 -- The limit of an expression: 512 tokens, and 128 names, numbers and operators among them. Source: this project's own
 -- choice.
-use Rattle.std.specs.Prelude.{Bool, ◌||◌}
+use Rattle.std.specs.Prelude.{ℕ, Bool, ◌||◌}
 use Rattle.jdf_alphabet.specs.declared.terminal.Terminal.{Terminal}
 use Rattle.jdf_alphabet.specs.declared.terminal.Terminal.TheVariants.{Name, TypeWord, Int, If, Else, For, Trap, Number, Question, Plus, Minus, Star, Slash, Percent, Equal, NotEqual, Less, AtMost, Greater, AtLeast, And, AndAnd, Or, OrOr, Not}
 use Rattle.jdf_alphabet.specs.Terminals.{is, set}
@@ -19,12 +19,19 @@ is_counted k =
     || is Equal k || is NotEqual k || is Less k || is AtMost k || is Greater k || is AtLeast k
     || is And k || is AndAnd k || is Or k || is OrOr k || is Not k
 
--- at most 512 tokens, and at most 128 of them counted
+-- how many tokens an expression may have, and how many of them may be counted
+abbrev pub most_expression_tokens : ℕ
+most_expression_tokens = 512
+
+abbrev pub most_counted : ℕ
+most_counted = 128
+
+-- at most so many tokens, and at most so many of them counted; the indices of the last ones are one less
 abbrev pub expression_limit : Limit
 expression_limit =
     record {
-      at = limit_at (set is_counted) 512 128;
+      at = limit_at (set is_counted) most_expression_tokens most_counted;
       one = limit_one (set is_counted) 511 127;
-      keeps = λ w r r' h. limit_keeps (set is_counted) w 512 128 r r' h;
-      stays = λ w x r r' h. limit_stays (set is_counted) w 512 128 x r r' h;
+      keeps = λ w r r' h. limit_keeps (set is_counted) w most_expression_tokens most_counted r r' h;
+      stays = λ w x r r' h. limit_stays (set is_counted) w most_expression_tokens most_counted x r r' h;
     }

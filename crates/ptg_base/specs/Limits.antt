@@ -70,3 +70,7 @@ most_shards = 256
 
 abbrev pub most_ranks : ℕ
 most_ranks = 64
+
+-- how many rows of tiles a made job may have
+abbrev pub most_rows : ℕ
+most_rows = 96

@@ -60,11 +60,11 @@ pub fn load<F: Files>(alloc: Global, files: &mut F, name: &str) -> Result<Seq<u8
         Rose (F.faults files.old name.now) (F.faults files.new name.now) }
     ensures too_long { IsErrOf result LoadFault.TooLong →
         (entries : List (List ℕ × List ℕ)) → F.contents files.old ≡ Some entries →
-        IsLonger entries name.now 16777216 }
+        IsLonger entries name.now most_bytes }
     ensures stops { IsErrOf result LoadFault.TooLong →
-        StopsPast F.read_gives name.now 16777216 files.old files.new }
+        StopsPast F.read_gives name.now most_bytes files.old files.new }
     ensures within { IsErrOf result LoadFault.Failed →
-        FailsWithin F.read_gives F.read_fails name.now 16777216 files.old files.new }
+        FailsWithin F.read_gives F.read_fails name.now most_bytes files.old files.new }
     ensures no_fault { ¬ IsErrOf result LoadFault.Failed →
         (other : List ℕ) → F.faults files.new other ≡ F.faults files.old other }
 {
@@ -98,11 +98,11 @@ fn read_all<F: Files>(
         Rose (F.faults files.old name.now) (F.faults files.new name.now) }
     ensures too_long { IsErrOf result LoadFault.TooLong →
         (entries : List (List ℕ × List ℕ)) → F.contents files.old ≡ Some entries →
-        IsLonger entries name.now 16777216 }
+        IsLonger entries name.now most_bytes }
     ensures stops { IsErrOf result LoadFault.TooLong →
-        StopsPast F.read_gives name.now 16777216 files.old files.new }
+        StopsPast F.read_gives name.now most_bytes files.old files.new }
     ensures within { IsErrOf result LoadFault.Failed →
-        FailsWithin F.read_gives F.read_fails name.now 16777216 files.old files.new }
+        FailsWithin F.read_gives F.read_fails name.now most_bytes files.old files.new }
     ensures no_fault { ¬ IsErrOf result LoadFault.Failed →
         (other : List ℕ) → F.faults files.new other ≡ F.faults files.old other }
 {
@@ -138,7 +138,7 @@ fn read_piece<F: Files>(
         Rose (F.faults files.old name.now) (F.faults files.new name.now) }
     ensures too_long { IsErrOf result LoadFault.TooLong →
         (entries : List (List ℕ × List ℕ)) → F.contents files.old ≡ Some entries →
-        IsLonger entries name.now 16777216 }
+        IsLonger entries name.now most_bytes }
     ensures read_fails { IsErrOf result LoadFault.Failed
         → F.read_fails files.old name.now (vec_len bytes.old) files.new }
     ensures no_fault { ¬ IsErrOf result LoadFault.Failed →

@@ -55,17 +55,17 @@ fires P y e =
     ((entry_before y e.to (goal P e.to) (priority P e.to)).arrived + 1) ==
     (entry_before y e.to (goal P e.to) (priority P e.to)).goal
 
--- what is told of a job, where one is named
-abbrev pub Tells : Option Job → (Job → Type 0) → Type 0
-Tells None told = Unit {0}
-Tells (Some j) told = told j
+-- what holds of the job, where one is named
+abbrev pub OfJob : Option Job → (Job → Type 0) → Type 0
+OfJob None fact = Unit {0}
+OfJob (Some j) fact = fact j
 
 -- a turn is taken, or was found taken: the step is on the turn word of that shard, and what it found there is the
 -- pass's look
 abbrev pub took : Option Job → ℕ → Step Content → Seated → ℕ → Seated → Type 0
 took j k st m r n =
     (st.word ≡ turn_word k)
-    × (r ≡ 0 → (y : Content) × (n ≡ (with_turn m.0 k y, (k, y) ∷ m.1)) × Tells j (λ (i : Job). WasSeen i k m.0 y))
+    × (r ≡ 0 → (y : Content) × (n ≡ (with_turn m.0 k y, (k, y) ∷ m.1)) × OfJob j (λ (i : Job). WasSeen i k m.0 y))
     × (r ≢ 0 → n ≡ (with_look m.0 (Turn k) r, m.1))
 
 -- a turn is given back: with nothing else, with a claim, with a send, with the end of the running task
@@ -74,7 +74,7 @@ left st m r n = n ≡ (turn_left m.0, rest m.1)
 
 abbrev pub gave_claim : Option Job → Task → List FlowTile → Step Content → Seated → ℕ → Seated → Type 0
 gave_claim j t tiles st m r n =
-    (n ≡ (turn_left (with_own_claim m.0 t), rest m.1)) × Tells j (λ (i : Job). MayStart i.matched i.given t tiles m.0)
+    (n ≡ (turn_left (with_own_claim m.0 t), rest m.1)) × OfJob j (λ (i : Job). MayStart i.matched i.given t tiles m.0)
 
 abbrev pub gave_send : Sent → Step Content → Seated → ℕ → Seated → Type 0
 gave_send x st m r n = n ≡ (turn_left (with_own_send m.0 x), rest m.1)
@@ -90,7 +90,7 @@ raised_halt st m r n = (st.word ≡ halt_word st.slots) × (n ≡ (with_halt m.0
 abbrev pub read_halt : Option Job → Step Content → Seated → ℕ → Seated → Type 0
 read_halt j st m r n =
     (st.word ≡ halt_word st.slots) × (n ≡ (with_look m.0 Halt r, m.1))
-    × Tells j (λ (i : Job). i.preloaded ≡ true → r ≡ 0)
+    × OfJob j (λ (i : Job). i.preloaded ≡ true → r ≡ 0)
 
 -- the live word is raised, lowered, or read: 0 is quiet. What is read, and becomes the pass's look, stands in the live
 -- word
@@ -103,7 +103,7 @@ lowered_live st m r n = n ≡ (without_credit m.0, m.1)
 abbrev pub read_live : Option Job → Step Content → Seated → ℕ → Seated → Type 0
 read_live j st m r n =
     (st.word ≡ live_word st.slots)
-    × (r ≡ 0 → (n ≡ (with_quiet (with_look m.0 Live r), m.1)) × Tells j (λ (i : Job). WasPass i (with_quiet (with_look m.0 Live r))))
+    × (r ≡ 0 → (n ≡ (with_quiet (with_look m.0 Live r), m.1)) × OfJob j (λ (i : Job). WasPass i (with_quiet (with_look m.0 Live r))))
     × (r ≢ 0 → n ≡ (with_look m.0 Live r, m.1))
 
 -- a stamp is drawn for a task

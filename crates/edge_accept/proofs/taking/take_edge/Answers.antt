@@ -14,7 +14,7 @@ returns c =
     let e = c.args.edge.now in
     let before = in_edges_before P t at.number c.args.k in
     let here : kind_of P.classes e.to.class e.in_flow ≡ Some at.flow.now.kind = rw (c.requires.task, c.requires.flow) (kind_of-here P t at.number at.flow.now at.here) in
-    let found = subst (λ (n : ℕ). IsTrue c.has_edge_before.result ↔ IsIn e (in_edges_before P t n c.args.k)) c.requires.flow c.has_edge_before.ensures in
+    let found = subst (λ (n : ℕ). IsTrue c.has_edge_before.result ↔ IsIn e (in_edges_before P t n c.args.k)) c.requires.flow (c.has_edge_before.ensures P t at.locals (c.requires.task, rw c.requires.flow at.here)) in
     OnTrue_from _ _ (λ h. taken_one P before c.args.ins.now c.add.new.self e (is_data (Some at.flow.now.kind))
     c.in-Some.ensures.0
     (λ k. false≢true (sym c.if-has_edge_before.false ∙ found.1 k))

@@ -11,8 +11,9 @@ returns-in_err-require c = λ earlier s same.
 pub returns : goal.returns
 returns c = λ earlier s same.
     let e = c.args.edge.now in
+    let at = c.args.at.now in
     let double = c.has_edge_before-double in
-    let found = rw c.requires.flow at double.ensures in
+    let found = rw c.requires.flow at (double.ensures at.plan.now at.task.now at.locals (c.requires.task, rw c.requires.flow at.here)) in
     let fresh = opposite double.result (λ h. same.1 (found.0 h), λ k. found.1 (same.0 k)) in
     followed (c.in_ok-require.ensures.checked (Is (HasOther c.args.way e)) s s (decides (HasOther c.args.way e) c.has_other_end.ensures) (c.unmatched.ensures e))
     (c.require-2.ensures.checked (Is (IsNewEdge earlier e)) s s (decides (IsNewEdge earlier e) fresh) refl)
