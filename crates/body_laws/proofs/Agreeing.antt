@@ -190,9 +190,6 @@ module _ (scope : Environment) where
     settled : (st : TokenScan) → st.naming ≡ None → done st ≡ with_previous terminal.Semicolon st
     settled st e = rw e refl
 
-    kept : (k : Bindings) (st : TokenScan) → Ready k st → Ready k (with_previous terminal.Semicolon st)
-    kept k st ready = record { alike = ready.alike; naming = ready.naming; begins = refl }
-
     pub assignment_walks : (s : List Token) (t : StmtTree) (o : Fault) (r : List Token) → Derives R assignment s t o r → Walks s r (count.declared t) (statement_of scope t)
     unfolding assignment
     assignment_walks s t o r h = subst (λ (t : StmtTree). Walks s r (count.declared t) (statement_of scope t)) h.2 (by_index h.0.0 h.0.1.0 h.0.1.1 h.1)

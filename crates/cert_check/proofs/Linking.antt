@@ -1,5 +1,5 @@
 -- What the checkers find of chains and cycles.
-use Rattle.std.proofs.Common.{◌≡◌, ◌↔◌, Bool, true, false, List, [], ◌∷◌, ◌++◌, length, refl, ap, sym, ◌∙◌, subst, inl, inr, IsTrue, arith}
+use Rattle.std.proofs.Common.{◌≡◌, ◌↔◌, Bool, true, false, List, [], ◌∷◌, ◌++◌, refl, ap, sym, ◌∙◌, subst, inl, inr, IsTrue, arith}
 use Rattle.std.proofs.lemmas.Bool.{false≢true}
 use Rattle.std.specs.Prelude.{◌||◌}
 use Rattle.std.specs.List.{list_any}
@@ -10,7 +10,7 @@ use Rattle.ptg_base.specs.TaskLaws.{same_task-decides}
 use Rattle.plan_core.specs.declared.plan.Plan.{Plan}
 use Rattle.list_lemmas.proofs.Truth.{by_test}
 use Rattle.dep_iter.specs.Tasks.{IsTask}
-use Rattle.chain_cert.specs.Chains.{BeginsWith, IsChain, IsCycle, IsSourceOf}
+use Rattle.chain_cert.specs.Chains.{IsChain, IsCycle, IsSourceOf}
 use Rattle.cert_check.specs.Checking.{IsLinked}
 use Rattle.chain_cert.proofs.Linking.{chain_task}
 
@@ -65,14 +65,6 @@ module _ (P : Plan) (ts front back : List Task) (first last : Task) (begins : ts
 
   pub by_once : (b : Bool) → IsTask P first × IsSourceOf P last first → IsChain P ts → IsTrue b ↔ HasNoRepeats ts → IsTrue b ↔ IsCycle P ts
   by_once b closed chain h = (λ e. cycle_is closed chain (h.0 e), λ c. h.1 c.differ)
-
--- the empty list is no cycle
-pub no_task : (P : Plan) (ts : List Task) → length ts ≡ 0 → IsTrue false ↔ IsCycle P ts
-no_task P [] h = (λ e. absurd (false≢true e), λ c. absurd (empty c.first c.begins))
-  where
-    empty : (t : Task) → BeginsWith t [] → ⊥
-    empty t b = let e = b.1 in cc
-no_task P (t ∷ ts) h = absurd (omega arith)
 
 -- a task is one of these where a test finds it
 pub any_in : (t : Task) (ts : List Task) (b : Bool) → b ≡ list_any (λ (u : Task). same_task u t) ts → IsTrue b ↔ IsIn t ts

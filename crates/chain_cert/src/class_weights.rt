@@ -13,6 +13,9 @@ use std::alloc::Global;
 // What the names of weights begin with.
 const PREFIX: &[u8; 7] = b"weight_";
 
+// The greatest weight of a task.
+const MOST_WEIGHT: u64 = 1_000_000;
+
 // A number as a weight.
 fn clamped(z: i64) -> u64
     ensures { result ≡ weighing.clamped z }
@@ -20,7 +23,7 @@ fn clamped(z: i64) -> u64
     if z < 0 {
         return 0;
     }
-    (z as u64).min(1_000_000)
+    (z as u64).min(MOST_WEIGHT)
 }
 
 // The integer with this name, if there is one.

@@ -6,7 +6,6 @@ ghost use Rattle.ptg_base.specs.Limits.{most_named_types};
 ghost use Rattle.check_names.specs.Returns.{ReturnsChecked};
 ghost use Rattle.check_flows.specs.Datatypes.{default_name, type_is, type_number, allowed_type, type_of_written, written_faults, first_written, type_of_flow, flow_type};
 
-use crate::kind::is_control;
 use coll_data::Given;
 use expr_names::fault_at;
 use jdf_lex::{JdfCode, JdfRefusal};
@@ -46,7 +45,7 @@ fn allowed_type(given: &Given, kind: FlowKind, name: &[u8]) -> Option<u32>
     requires { length given.now.types ≤ most_named_types }
     ensures { result ≡ allowed_type given.now kind name.now }
 {
-    if is_control(kind) && !is_default(name) {
+    if kind.is_control() && !is_default(name) {
         return None;
     }
     type_number(given, name)

@@ -9,7 +9,6 @@ ghost use Rattle.check_flows.specs.Targets.{target_of};
 ghost use Rattle.check_flows.specs.Dependences.{target_faults, second_faults, type_spot, type_faults, dependence_faults, dependence_of, is_of_way, dependences_of, dependences_faults, ways_of, ways_faults, flow_faults, flow_from, flow_plan};
 
 use crate::datatype::{flow_type, type_of_flow, type_of_written, written_type};
-use crate::kind::is_control;
 use crate::rule::target_rules;
 use crate::target::{first_spot, named_target};
 use check_names::{Context, and_rules, fault_if, join, option_term, with_part};
@@ -68,7 +67,7 @@ fn type_rules(given: &Given, flow: &FlowTree, dependence: &DepTree) -> Result<()
     requires { length given.now.types ≤ most_named_types }
     ensures { ReturnsChecked result (Some tt) (type_faults given.now flow.now dependence.now) }
 {
-    let differs = !is_control(flow.kind)
+    let differs = !flow.kind.is_control()
         && type_of_written(&dependence.datatype) != type_of_flow(flow);
     let spot = type_spot(&dependence.yes, &dependence.datatype);
     let same = fault_if(differs, spot, JdfCode::MixedTypes);

@@ -8,7 +8,7 @@ ghost use Rattle.check_flows.specs.Rules.{flow_of_target, mixes_flows, is_mixed,
 ghost use Rattle.check_names.specs.Names.{class_of};
 
 use crate::datatype::{type_number, type_of_flow};
-use crate::kind::{are_mixed, is_control, is_write};
+use crate::kind::are_mixed;
 use crate::target::{first_spot, flow_named};
 use check_names::{Context, and_rules, class_named, coll_named, fault_if, no_ranges};
 use coll_data::Given;
@@ -53,9 +53,9 @@ fn is_mixed(context: &Context, kind: FlowKind, target: &TargetTree) -> bool
             None => false,
             Some(named) => are_mixed(kind, named.kind),
         },
-        TargetTree::Element(_, _) => is_control(kind),
-        TargetTree::New(_) => is_control(kind),
-        TargetTree::Null(_) => is_control(kind),
+        TargetTree::Element(_, _) => kind.is_control(),
+        TargetTree::New(_) => kind.is_control(),
+        TargetTree::Null(_) => kind.is_control(),
     }
 }
 
@@ -99,8 +99,8 @@ fn task_ranges(target: &TargetTree) -> Result<(), JdfRefusal>
 fn in_rules(kind: FlowKind, target: &TargetTree) -> Result<(), JdfRefusal>
     ensures { ReturnsChecked result (Some tt) (in_faults kind target.now) }
 {
-    let is_wrong = is_write(kind) && is_no_start(target);
-    let ranges = if is_control(kind) {
+    let is_wrong = kind.is_write() && is_no_start(target);
+    let ranges = if kind.is_control() {
         Ok(())
     } else {
         task_ranges(target)
@@ -140,7 +140,7 @@ fn type_differs(context: &Context, name: &[u8], target: &TargetTree) -> bool
     match target {
         TargetTree::Task(_, _, _) => match flow_of_target(context, target) {
             None => false,
-            Some(named) => !is_control(named.kind) && type_of_flow(named) != name,
+            Some(named) => !named.kind.is_control() && type_of_flow(named) != name,
         },
         TargetTree::Element(coll, _) => match coll_named(context, &coll.text) {
             None => false,
@@ -163,7 +163,7 @@ pub(crate) fn target_rules(
 {
     let spot = first_spot(target);
     let is_mixed = is_mixed(context, flow.kind, target);
-    let differs = !is_control(flow.kind) && type_differs(context, type_of_flow(flow), target);
+    let differs = !flow.kind.is_control() && type_differs(context, type_of_flow(flow), target);
     let fits = and_rules(
         fault_if(is_mixed, spot, JdfCode::CtlMixed),
         fault_if(differs, spot, JdfCode::TypeDiffers),

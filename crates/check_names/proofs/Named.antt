@@ -1,8 +1,7 @@
 -- Lists of names that grow by one.
-use Rattle.std.proofs.Common.{◌≡◌, ℕ, ◌+◌, ◌<◌, Bool, true, false, not, ◌||◌, List, [], ◌∷◌, ◌++◌, map, take, length, get_or, if◌then◌else◌, refl, sym, ◌∙◌, ap, subst}
+use Rattle.std.proofs.Common.{◌≡◌, ℕ, ◌+◌, Bool, true, false, not, ◌||◌, List, [], ◌∷◌, ◌++◌, if◌then◌else◌, refl, sym, ◌∙◌, ap, subst}
 use Rattle.std.specs.Str.{bytes_eq}
 use Rattle.std.specs.Cmp.Lexicographic.{bytes_decides}
-use Rattle.std.proofs.lemmas.List.{take_more, map_push}
 use Rattle.name_table.specs.Names.{has_name}
 use Rattle.list_lemmas.proofs.Truth.{or-false, or-assoc}
 
@@ -34,10 +33,3 @@ has_added names after x n new e s = go (has_name names x) refl
     go false none =
         let more : after ≡ names ++ x ∷ [] = s ∙ ap (λ b. if b then names ++ x ∷ [] else names) (e ∙ ap not none) in
         ap (λ l. has_name l n) more ∙ has_pushed names x n
-
--- one element more, and its name
-pub has_more : {X : Type 0} (f : X → List ℕ) (xs : List X) (i : ℕ) (d : X) (n : List ℕ) → i < length xs
-    → has_name (map f (take (i + 1) xs)) n ≡ (has_name (map f (take i xs)) n || bytes_eq (f (get_or xs i d)) n)
-has_more f xs i d n lt =
-    ap (λ l. has_name (map f l) n) (take_more xs i d lt)
-    ∙ (ap (λ l. has_name l n) (map_push f (take i xs) (get_or xs i d)) ∙ has_pushed (map f (take i xs)) (f (get_or xs i d)) n)

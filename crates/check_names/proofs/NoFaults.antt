@@ -1,12 +1,11 @@
 -- Lists without faults, and parts that are all there.
-use Rattle.std.proofs.Common.{◌≡◌, ℕ, zero, suc, Bool, true, false, List, [], ◌∷◌, flat_map, Option, Some, None, option_map, slice_get, IsTrue, refl, sym, ◌∙◌, ap, subst}
+use Rattle.std.proofs.Common.{◌≡◌, zero, suc, Bool, true, false, List, [], ◌∷◌, Option, Some, None, option_map, IsTrue, refl, subst}
 use Rattle.std.specs.List.{list_all}
 use Rattle.std.proofs.lemmas.Bool.{and_from}
-use Rattle.check_names.specs.Alphabet.{Spot, JdfCode, JdfFault}
+use Rattle.check_names.specs.Alphabet.{Spot, JdfCode}
 use Rattle.check_names.specs.Faults.{fault_if}
 use Rattle.check_names.specs.Returns.{both, each, each_option}
 use Rattle.std.proofs.lemmas.Option.{same_Some}
-use Rattle.list_lemmas.proofs.Joins.{first_nil, rest_nil}
 
 pub holds_not : (b : Bool) (spot : Spot) (code : JdfCode) → fault_if b spot code ≡ [] → b ≡ false
 holds_not true spot code e = absurd cc
@@ -31,9 +30,3 @@ parts_all f p h [] ys e = subst (λ l. IsTrue (list_all p l)) (same_Some [] ys e
 parts_all f p h (x ∷ xs) ys e =
     let q = parts_of (λ y ys. y ∷ ys) (f x) (each f xs) ys e in
     subst (λ l. IsTrue (list_all p l)) q.4 (and_from (p q.0) (list_all p q.1) (h x q.0 q.2) (parts_all f p h xs q.1 q.3))
-
--- no element has a fault
-pub none_at : {A : Type 0} (g : A → List JdfFault) (xs : List A) (n : ℕ) (x : A) → flat_map g xs ≡ [] → slice_get xs n ≡ Some x → g x ≡ []
-none_at g [] n x h at = absurd cc
-none_at g (z ∷ xs) zero x h at = ap g (sym (same_Some z x at)) ∙ first_nil (g z) (flat_map g xs) h
-none_at g (z ∷ xs) (suc n) x h at = none_at g xs n x (rest_nil (g z) (flat_map g xs) h) at

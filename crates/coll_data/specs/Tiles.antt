@@ -1,17 +1,13 @@
 -- The places of data and the tiles at them; tiles are listed row by row. Source: this project's own choice.
-use Rattle.std.specs.Prelude.{ℕ, ℤ, pos, negsuc, ◌+◌, ◌*◌, nat_lt, List, Option, Some, None, IsSomeAnd, slice_get, option_map, option_and_then, if◌then◌else◌}
+use Rattle.std.specs.Prelude.{ℕ, ℤ, pos, negsuc, ◌+◌, ◌*◌, nat_lt, List, Option, Some, None, slice_get, option_map, option_and_then, if◌then◌else◌}
 use Rattle.ptg_base.specs.declared.place.Place.{Place}
-pub use Rattle.ptg_base.specs.Places.{IsRow, IsColumn}
+pub use Rattle.ptg_base.specs.Places.{IsRow, IsColumn, tile_count}
+use Rattle.ptg_base.specs.Places.{HasPlaceAmong}
 use Rattle.coll_data.specs.declared.coll.Coll.{Coll}
-
--- how many tiles a collection has, by its rows and columns
-abbrev pub tile_count : ℕ → Option ℕ → ℕ
-tile_count rows None = rows
-tile_count rows (Some cols) = rows * cols
 
 -- the place's collection exists, and has its row and column
 abbrev pub HasPlace : List Coll → Place → Type 0
-HasPlace colls p = IsSomeAnd (slice_get colls p.coll) (λ (c : Coll). IsRow c.shape.0 p.i × IsColumn c.shape.1 p.j)
+HasPlace colls p = HasPlaceAmong (λ (c : Coll). c.shape.0) (λ (c : Coll). c.shape.1) colls p
 
 -- a whole number from 0 on, if it is below the limit
 abbrev pub below : ℕ → ℤ → Option ℕ

@@ -1,14 +1,11 @@
 -- What holds of all data: their limits, and that each collection is whole. Source: this project's own choice.
-use Rattle.std.specs.Prelude.{◌≡◌, ℕ, ℤ, ◌≤◌, ◌<◌, ◌*◌, ◌^◌, ◌&&◌, nat_le, Bool, List, ◌∷◌, length, map, IsTrue, IfSome, slice_get, slice_index}
+use Rattle.std.specs.Prelude.{◌≡◌, ℕ, ℤ, ◌≤◌, ◌<◌, ◌*◌, List, ◌∷◌, length, map, IsTrue, IfSome, slice_get, slice_index}
 use Rattle.std.specs.List.{AllByRecursion, list_all, sum_by}
-use Rattle.ptg_base.specs.Limits.{most_named_types, most_tile_elements, most_tiles}
+use Rattle.ptg_base.specs.Limits.{most_elements, most_named_types, most_tiles}
+pub use Rattle.ptg_base.specs.Places.{is_element_count}
 use Rattle.coll_data.specs.declared.coll.Coll.{Coll}
 use Rattle.coll_data.specs.Data.{Data}
 use Rattle.coll_data.specs.Tiles.{tile_count}
-
--- whether a type may have so many elements
-abbrev pub is_element_count : ℕ → Bool
-is_element_count n = nat_le 1 n && nat_le n most_tile_elements
 
 -- how many elements each type has, by its number; type 0 is DEFAULT
 abbrev pub elements_by_type : Data → List ℕ
@@ -27,13 +24,13 @@ pub record IsWellColl (elements : List ℕ) (c : Coll) : Type 0 where
 abbrev pub element_total : List ℕ → List Coll → ℕ
 element_total elements colls = sum_by (λ (c : Coll). length c.tiles * slice_index elements c.datatype) colls
 
--- at most 16 types, DEFAULT among them, each with 1 to 4,096 elements; collections of these, with at most 2 ^ 24
--- elements in all
+-- at most 16 types, DEFAULT among them, each with 1 to 4,096 elements; collections of these, with at most
+-- 16,777,216 elements in all
 pub record IsWellMade (d : Data) : Type 0 where
   pub types_at_most : length d.types ≤ most_named_types
   pub element_counts : IsTrue (list_all is_element_count (elements_by_type d))
   pub colls : AllByRecursion (IsWellColl (elements_by_type d)) d.colls
-  pub elements_at_most : element_total (elements_by_type d) d.colls ≤ 2 ^ 24
+  pub elements_at_most : element_total (elements_by_type d) d.colls ≤ most_elements
 
 -- the tile has as many numbers as the type of the collection with this number has elements
 abbrev pub IsTileOf : Data → ℕ → List ℤ → Type 0

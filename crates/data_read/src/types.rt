@@ -1,6 +1,6 @@
 //! The types of tiles.
 
-ghost use Rattle.std.specs.Prelude.{◌≡◌, ◌≤◌, Ok, Err, OnOk, length};
+ghost use Rattle.std.specs.Prelude.{◌≡◌, ◌<◌, ◌≤◌, Ok, Err, OnOk, length};
 ghost use Rattle.std.specs.Result.{MatchResult};
 ghost use Rattle.ptg_base.specs.Limits.{most_named_types};
 ghost use Rattle.csv.specs.Records.{fields_of};
@@ -14,6 +14,9 @@ use coll_data::DataCode;
 use csv::ByteRecord;
 use ptg_base::{Refusal, Text, is_name};
 use std::alloc::Global;
+
+// How many types the data may name beside DEFAULT.
+const MOST_NAMED_TYPES: usize = 15;
 
 // The number and the elements of the type of this name among those past DEFAULT.
 fn later_type(types: &[(Text, u32)], name: &[u8]) -> Option<(u32, u32)>
@@ -46,7 +49,7 @@ fn new_type<'a>(all: &Growing, row: &'a ByteRecord) -> Result<(&'a [u8], u32), D
         (λ type.
         type_record (draft_of all.now) (fields_of row.now) ≡ Ok (with_type (draft_of all.now) type.0.now type.1))
         (λ code. type_record (draft_of all.now) (fields_of row.now) ≡ Err code) }
-    ensures at_most { MatchResult result (λ type. length all.now.types ≤ 14) (λ code. Unit {0}) }
+    ensures at_most { MatchResult result (λ type. length all.now.types < most_named_types) (λ code. Unit {0}) }
 {
     if row.len() == 2 {
         return Err(DataCode::ElemsTwice);
@@ -64,7 +67,7 @@ fn new_type<'a>(all: &Growing, row: &'a ByteRecord) -> Result<(&'a [u8], u32), D
     if type_named(all, name).is_some() {
         return Err(DataCode::TypeTwice);
     }
-    if all.types.len() >= 15 {
+    if all.types.len() >= MOST_NAMED_TYPES {
         return Err(DataCode::TooManyTypes);
     }
     Ok((name, elements))

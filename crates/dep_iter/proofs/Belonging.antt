@@ -253,17 +253,3 @@ pub before-no_dependences : (d : Direction) (P : Plan) (t : Task) (n : ℕ) → 
 unfolding in_edges_before out_edges_before
 before-no_dependences In P t n = none_of _ (λ f. refl) (slice_get (flows_of P t) n)
 before-no_dependences Out P t n = none_of _ (λ f. refl) (slice_get (flows_of P t) n)
-
-before-past : (d : Direction) (P : Plan) (t : Task) (n k : ℕ) → slice_get (flows_of P t) n ≡ None
-    → edges_before d P t n k ≡ []
-unfolding in_edges_before out_edges_before
-before-past In P t n k past = rw past refl
-before-past Out P t n k past = rw past refl
-
-pub before-none : (d : Direction) (P : Plan) (t : Task) (e : Edge) (k : ℕ) → ((f : FlowPlan) → IsNearFlow d P t e f → ⊥)
-    → IsIn e (edges_before d P t (near_flow d e) k) → ⊥
-before-none d P t e k none h = of_flow (slice_get (flows_of P t) (near_flow d e)) refl
-  where
-    of_flow : (o : Option FlowPlan) → slice_get (flows_of P t) (near_flow d e) ≡ o → ⊥
-    of_flow None past = rw (before-past d P t (near_flow d e) k past) at h
-    of_flow (Some f) here = none f (((before-is P t e f k d here).0 h).0, here)

@@ -1,18 +1,16 @@
 -- How the combinations of values of progressions follow one another.
-use Rattle.std.proofs.Common.{◌≡◌, suc, length, ℤ, pos, ◌+ℤ◌, Bool, true, false, List, [], ◌∷◌, ◌++◌, map, refl, ap, sym, ◌∙◌, Option, Some, None, Result, Ok, Err, IsErr, is_ok, MatchOption, FitsSigned, w64}
+use Rattle.std.proofs.Common.{◌≡◌, suc, length, ℤ, pos, ◌+ℤ◌, Bool, true, false, List, [], ◌∷◌, ◌++◌, map, refl, ap, sym, ◌∙◌, Option, Some, None, Result, Ok, Err, IsErr, is_ok, MatchOption}
 use Rattle.std.proofs.lemmas.Bool.{false≢true}
 use Rattle.std.specs.List.{flat_map}
 use Rattle.range_space.specs.declared.fault.SpanFault.{SpanFault}
 use Rattle.range_space.specs.declared.steps.Steps.{Steps}
 use Rattle.range_space.specs.Values.{is_within, values}
-use Rattle.range_space.proofs.Stepping.{values_in, values_past, values_unfit}
+use Rattle.range_space.proofs.Stepping.{values_in, values_past}
 use Rattle.range_space.proofs.Nesting.{values-one}
 use Rattle.ptg_base.specs.Returns.{and_then}
-use Rattle.dep_iter.specs.declared.progression.Progression.{Progression}
 use Rattle.dep_iter.specs.Arguments.{product}
 use Rattle.dep_iter.specs.Combining.{steps_values, HasFirst, HaveFirst, HasOneEach, first_values, product_after, combinations_left, AddsSteps}
 use Rattle.list_lemmas.proofs.Joins.{map-map}
-use Rattle.list_lemmas.proofs.Truth.{by_test}
 use Rattle.std.proofs.lemmas.List.{append_assoc, map-append}
 use Rattle.std.proofs.lemmas.List.Concat.{flat_map-append}
 
@@ -22,31 +20,21 @@ none_later [] vss e = refl
 none_later (v ∷ vs) vss e =
     ap (λ (l : List (List ℤ)). map (λ ws. v ∷ ws) l ++ flat_map (λ u. map (λ ws. u ∷ ws) (product vss)) vs) e ∙ none_later vs vss e
 
-pub none_here : (vs : List ℤ) (vss : List (List ℤ)) → vs ≡ [] → product (vs ∷ vss) ≡ []
-none_here vs vss e = ap (λ (l : List ℤ). product (l ∷ vss)) e
-
 -- the values of the first list, each before the combinations of the others
-over : List Progression → List ℤ → List (List ℤ)
+over : List Steps → List ℤ → List (List ℤ)
 over ss vs = flat_map (λ w. map (λ ws. w ∷ ws) (product (map steps_values ss))) vs
 
 -- the combinations begin with the first values
-pub product-first : (ss : List Progression) → HaveFirst ss → product (map steps_values ss) ≡ first_values ss ∷ product_after ss (first_values ss)
+pub product-first : (ss : List Steps) → HaveFirst ss → product (map steps_values ss) ≡ first_values ss ∷ product_after ss (first_values ss)
 unfolding over
 product-first [] h = refl
 product-first (s ∷ ss) h =
     ap (over ss) (values_in s.hi s.step s.lo h.0)
     ∙ ap (λ (l : List (List ℤ)). map (λ ws. s.lo ∷ ws) l ++ over ss (values (s.lo +ℤ s.step) s.hi s.step)) (product-first ss h.1)
 
-pub HasOneEach-first : (ss : List Progression) → HasOneEach ss (first_values ss)
+pub HasOneEach-first : (ss : List Steps) → HasOneEach ss (first_values ss)
 HasOneEach-first [] = tt
 HasOneEach-first (s ∷ ss) = HasOneEach-first ss
-
--- what does not fit 64 bits is past an end that does
-pub unfit_past : (v hi step : ℤ) → FitsSigned w64 v → FitsSigned w64 hi → (FitsSigned w64 (v +ℤ step) → ⊥) → is_within hi step (v +ℤ step) ≡ false
-unfit_past v hi step f g not_fit =
-    by_test (is_within hi step (v +ℤ step))
-    (λ w. let a = values_unfit v hi step f g not_fit in let b = values_in hi step (v +ℤ step) w in absurd cc)
-    (λ w. w)
 
 -- an expression as a progression of one value
 pub one_value : (r : Result ℤ SpanFault) (o : Option Steps) → MatchOption o (IsErr r) (λ s. (r ≡ Ok s.lo) × (s.hi ≡ s.lo) × (s.step ≡ pos 1)) →
@@ -57,14 +45,10 @@ one_value r (Some s) h =
     rw (h.0, h.1, h.2) (ap Ok (sym (values-one s.lo)))
 
 -- where progressions were added to none, these are all
-pub all_added : (lists : List (List ℤ)) (new : List Progression) → AddsSteps lists [] new → (map steps_values new ≡ lists) × HaveFirst new
+pub all_added : (lists : List (List ℤ)) (new : List Steps) → AddsSteps lists [] new → (map steps_values new ≡ lists) × HaveFirst new
 all_added lists new w = (ap (map steps_values) w.extends ∙ w.same_values, rw w.extends w.have_first)
 
-pub first_values-end : (ss : List Progression) (s : Progression) → first_values (ss ++ s ∷ []) ≡ first_values ss ++ s.lo ∷ []
-first_values-end [] s = refl
-first_values-end (x ∷ ss) s = ap (λ l. x.lo ∷ l) (first_values-end ss s)
-
-pub HasOneEach-end : (ss : List Progression) (vs : List ℤ) (s : Progression) (v : ℤ) → HasOneEach (ss ++ s ∷ []) (vs ++ v ∷ []) → HasOneEach ss vs
+pub HasOneEach-end : (ss : List Steps) (vs : List ℤ) (s : Steps) (v : ℤ) → HasOneEach (ss ++ s ∷ []) (vs ++ v ∷ []) → HasOneEach ss vs
 HasOneEach-end [] [] s v w = tt
 HasOneEach-end [] (u ∷ []) s v w = absurd w
 HasOneEach-end [] (u ∷ x ∷ vs) s v w = absurd w
@@ -72,23 +56,23 @@ HasOneEach-end (x ∷ []) [] s v w = absurd w
 HasOneEach-end (x ∷ y ∷ ss) [] s v w = absurd w
 HasOneEach-end (x ∷ ss) (u ∷ vs) s v w = HasOneEach-end ss vs s v w
 
-pub none_each : (ss : List Progression) (s : Progression) → HasOneEach (ss ++ s ∷ []) [] → ⊥
+pub none_each : (ss : List Steps) (s : Steps) → HasOneEach (ss ++ s ∷ []) [] → ⊥
 none_each [] s w = w
 none_each (x ∷ ss) s w = w
 
-pub length_each : (ss : List Progression) (vs : List ℤ) → HasOneEach ss vs → length ss ≡ length vs
+pub length_each : (ss : List Steps) (vs : List ℤ) → HasOneEach ss vs → length ss ≡ length vs
 length_each [] [] w = refl
 length_each [] (v ∷ vs) w = absurd w
 length_each (s ∷ ss) [] w = absurd w
 length_each (s ∷ ss) (v ∷ vs) w = ap suc (length_each ss vs w)
 
-pub HasOneEach-push : (ss : List Progression) (vs : List ℤ) (s : Progression) (v : ℤ) → HasOneEach ss vs → HasOneEach (ss ++ s ∷ []) (vs ++ v ∷ [])
+pub HasOneEach-push : (ss : List Steps) (vs : List ℤ) (s : Steps) (v : ℤ) → HasOneEach ss vs → HasOneEach (ss ++ s ∷ []) (vs ++ v ∷ [])
 HasOneEach-push [] [] s v w = tt
 HasOneEach-push [] (u ∷ vs) s v w = absurd w
 HasOneEach-push (x ∷ ss) [] s v w = absurd w
 HasOneEach-push (x ∷ ss) (u ∷ vs) s v w = HasOneEach-push ss vs s v w
 
-pub HaveFirst-end : (ss : List Progression) (s : Progression) → HaveFirst (ss ++ s ∷ []) → HaveFirst ss × HasFirst s
+pub HaveFirst-end : (ss : List Steps) (s : Steps) → HaveFirst (ss ++ s ∷ []) → HaveFirst ss × HasFirst s
 HaveFirst-end [] s h = (tt, h.0)
 HaveFirst-end (x ∷ ss) s h = let k = HaveFirst-end ss s h.1 in ((h.0, k.0), k.1)
 
@@ -126,7 +110,7 @@ product-end [] ends = singles ends
 product-end (us ∷ vss) ends =
     ap (λ (l : List (List ℤ)). flat_map (λ u. map (λ zs. u ∷ zs) l) us) (product-end vss ends) ∙ all-ended ends us (product vss)
 
-over-end : (ss : List Progression) (s : Progression) (vs : List ℤ) → over (ss ++ s ∷ []) vs ≡ flat_map (ended (steps_values s)) (over ss vs)
+over-end : (ss : List Steps) (s : Steps) (vs : List ℤ) → over (ss ++ s ∷ []) vs ≡ flat_map (ended (steps_values s)) (over ss vs)
 unfolding over
 over-end ss s vs =
     ap (λ (l : List (List ℤ)). flat_map (λ w. map (λ ws. w ∷ ws) (product l)) vs) (map-append steps_values ss (s ∷ []))
@@ -134,7 +118,7 @@ over-end ss s vs =
     ∙ all-ended (steps_values s) vs (product (map steps_values ss)))
 
 -- After a combination come those with a later last value alone, and then those with later values before it.
-product_after-end : (ss : List Progression) (vs : List ℤ) (s : Progression) (v : ℤ) → HasOneEach ss vs
+product_after-end : (ss : List Steps) (vs : List ℤ) (s : Steps) (v : ℤ) → HasOneEach ss vs
     → product_after (ss ++ s ∷ []) (vs ++ v ∷ []) ≡ ended (values (v +ℤ s.step) s.hi s.step) vs ++ flat_map (ended (steps_values s)) (product_after ss vs)
 unfolding over
 product_after-end [] [] s v w = singles (values (v +ℤ s.step) s.hi s.step)
@@ -155,9 +139,9 @@ product_after-end (x ∷ ss) (u ∷ vs) s v w =
 
 -- ---- one step on
 
-module _ (s : Progression) (v : ℤ) where
+module _ (s : Steps) (v : ℤ) where
   -- the last value goes on
-  pub stepped : (ss : List Progression) (vs : List ℤ) (w : ℤ) → HasOneEach ss vs → (w ≡ v +ℤ s.step) × (is_within s.hi s.step w ≡ true)
+  pub stepped : (ss : List Steps) (vs : List ℤ) (w : ℤ) → HasOneEach ss vs → (w ≡ v +ℤ s.step) × (is_within s.hi s.step w ≡ true)
       → combinations_left true (ss ++ s ∷ []) (vs ++ w ∷ []) ≡ product_after (ss ++ s ∷ []) (vs ++ v ∷ [])
   stepped ss vs w each h =
       ap (λ (l : List (List ℤ)). (vs ++ w ∷ []) ∷ l) (product_after-end ss vs s w each)
@@ -166,7 +150,7 @@ module _ (s : Progression) (v : ℤ) where
       ∙ sym (product_after-end ss vs s v each)))
 
   -- the values before the last one go on, and it begins anew
-  pub carried : (ss : List Progression) (vs new : List ℤ) (more : Bool) → HasOneEach ss vs → HasOneEach ss new → HasFirst s → is_within s.hi s.step (v +ℤ s.step) ≡ false
+  pub carried : (ss : List Steps) (vs new : List ℤ) (more : Bool) → HasOneEach ss vs → HasOneEach ss new → HasFirst s → is_within s.hi s.step (v +ℤ s.step) ≡ false
       → combinations_left more ss new ≡ product_after ss vs → combinations_left more (ss ++ s ∷ []) (new ++ s.lo ∷ []) ≡ product_after (ss ++ s ∷ []) (vs ++ v ∷ [])
   carried ss vs new more each after first past left = again more left ∙ sym (product_after-end ss vs s v each ∙ none)
     where

@@ -9,8 +9,7 @@ use Rattle.term_core.specs.Arith.{holds}
 use Rattle.ptg_base.specs.Returns.{and_then}
 use Rattle.term_core.specs.Value.{value}
 use Rattle.term_core.specs.declared.fault.ExprFault.{ExprFault}
-use Rattle.term_core.specs.declared.flow.FlowKind.{FlowKind}
-use Rattle.term_core.specs.declared.flow.FlowKind.TheVariants.{Read, Write, Rw, Ctl}
+pub use Rattle.term_core.specs.Kinds.{takes_first}
 use Rattle.plan_core.specs.declared.flow.DepPlan.{DepPlan}
 use Rattle.plan_core.specs.declared.flow.FlowPlan.{FlowPlan}
 use Rattle.plan_core.specs.declared.plan.Plan.{Plan}
@@ -46,13 +45,6 @@ held_then false (Some x) later = x ∷ later
 abbrev pub held_targets : Bool → List DepPlan → List ℤ → List Target
 held_targets first_only [] env = []
 held_targets first_only (d ∷ ds) env = held_then first_only (held_target d env) (held_targets first_only ds env)
-
--- whether of the in dependences of a flow of this kind the first that holds counts alone: not of a CTL flow
-abbrev pub takes_first : FlowKind → Bool
-takes_first Read = true
-takes_first Write = true
-takes_first Rw = true
-takes_first Ctl = false
 
 -- the targets of the active in dependences of a flow, and of its active out dependences
 abbrev pub flow_ins : List ℤ → FlowPlan → List Target

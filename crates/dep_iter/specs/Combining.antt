@@ -1,49 +1,49 @@
 -- From one combination of values of ranges to the next, the last range first.
 use Rattle.std.specs.Prelude.{◌≡◌, ℤ, ◌+ℤ◌, List, [], ◌∷◌, ◌++◌, map, flat_map, Bool, true, false}
-use Rattle.dep_iter.specs.declared.progression.Progression.{Progression}
+use Rattle.range_space.specs.declared.steps.Steps.{Steps}
 use Rattle.range_space.specs.Values.{is_within, values}
 use Rattle.dep_iter.specs.Arguments.{product}
 
 -- the values of a progression
-abbrev pub steps_values : Progression → List ℤ
+abbrev pub steps_values : Steps → List ℤ
 steps_values s = values s.lo s.hi s.step
 
 -- a progression has a first value
-abbrev pub HasFirst : Progression → Type 0
+abbrev pub HasFirst : Steps → Type 0
 HasFirst s = is_within s.hi s.step s.lo ≡ true
 
 -- each progression has a first value
-abbrev pub HaveFirst : List Progression → Type 0
+abbrev pub HaveFirst : List Steps → Type 0
 HaveFirst [] = Unit {0}
 HaveFirst (s ∷ ss) = HasFirst s × HaveFirst ss
 
 -- there is one value for each progression
-abbrev pub HasOneEach : List Progression → List ℤ → Type 0
+abbrev pub HasOneEach : List Steps → List ℤ → Type 0
 HasOneEach [] [] = Unit {0}
 HasOneEach [] (v ∷ vs) = ⊥
 HasOneEach (s ∷ ss) [] = ⊥
 HasOneEach (s ∷ ss) (v ∷ vs) = HasOneEach ss vs
 
 -- the first values of all
-abbrev pub first_values : List Progression → List ℤ
+abbrev pub first_values : List Steps → List ℤ
 first_values [] = []
 first_values (s ∷ ss) = s.lo ∷ first_values ss
 
 -- the combinations that come after this one
-abbrev pub product_after : List Progression → List ℤ → List (List ℤ)
+abbrev pub product_after : List Steps → List ℤ → List (List ℤ)
 product_after [] at = []
 product_after (s ∷ ss) [] = []
 product_after (s ∷ ss) (v ∷ vs) =
     map (λ ws. v ∷ ws) (product_after ss vs) ++ flat_map (λ w. map (λ ws. w ∷ ws) (product (map steps_values ss))) (values (v +ℤ s.step) s.hi s.step)
 
 -- this combination and those that come after it, while there are any
-abbrev pub combinations_left : Bool → List Progression → List ℤ → List (List ℤ)
+abbrev pub combinations_left : Bool → List Steps → List ℤ → List (List ℤ)
 combinations_left false ss at = []
 combinations_left true ss at = at ∷ product_after ss at
 
 -- `new` extends `old` by progressions with these lists of values, each with a first value
-pub record AddsSteps (lists : List (List ℤ)) (old new : List Progression) : Type 0 where
-  pub added : List Progression
+pub record AddsSteps (lists : List (List ℤ)) (old new : List Steps) : Type 0 where
+  pub added : List Steps
   pub extends : new ≡ old ++ added
   pub same_values : map steps_values added ≡ lists
   pub have_first : HaveFirst added

@@ -1,6 +1,6 @@
 -- Consistent jobs. Source: PaRSEC (2013): each out edge has its in edge and each in edge its out edge; the limits, and
 -- that no place is written twice, are this project's own choice.
-use Rattle.std.specs.Prelude.{◌≡◌, ◌≢◌, ◌≤◌, ◌↔◌, ◌==◌, ℕ, List, length, map, flat_map, filter, Bool, true, false, IsTrue, slice_get, Some}
+use Rattle.std.specs.Prelude.{◌≡◌, ◌≢◌, ◌≤◌, ◌↔◌, ◌==◌, ℕ, List, length, map, flat_map, filter, Bool, IsTrue, slice_get, Some}
 use Rattle.std.specs.List.{AllByRecursion}
 use Rattle.ptg_base.specs.Limits.{most_edges, most_prefixes, most_tasks}
 use Rattle.ptg_base.specs.Lists.{IsIn, HasNoRepeats}
@@ -9,8 +9,7 @@ use Rattle.ptg_base.specs.declared.place.Place.{Place}
 use Rattle.ptg_base.specs.declared.edge.Edge.{Edge}
 use Rattle.ptg_base.specs.declared.edge.WriteBack.{WriteBack}
 use Rattle.ptg_base.specs.declared.edge.Item.{Item}
-use Rattle.term_core.specs.declared.flow.FlowKind.{FlowKind}
-use Rattle.term_core.specs.declared.flow.FlowKind.TheVariants.{Read, Write, Rw, Ctl}
+pub use Rattle.term_core.specs.Kinds.{takes_tile}
 use Rattle.range_space.specs.Sound.{IsSound, prefix_total}
 use Rattle.plan_core.specs.declared.flow.FlowPlan.{FlowPlan}
 use Rattle.plan_core.specs.declared.plan.Plan.{Plan}
@@ -23,13 +22,6 @@ use Rattle.dep_iter.specs.Edges.{data_source, goal, in_edges}
 use Rattle.dep_iter.specs.Items.{item_flow, items, out_edges, write_backs}
 use Rattle.dep_iter.specs.Hints.{affinity}
 use Rattle.dep_iter.specs.Well.{IsWellTask}
-
--- whether a flow of this kind takes a tile, so that one of its in dependences must hold
-abbrev pub takes_tile : FlowKind → Bool
-takes_tile Read = true
-takes_tile Write = false
-takes_tile Rw = true
-takes_tile Ctl = false
 
 -- what must be so at each task
 pub record IsWellConnected (P : Plan) (t : Task) : Type 0 where

@@ -8,7 +8,6 @@ ghost use Rattle.range_space.specs.Values.{values};
 ghost use Rattle.dep_iter.specs.Arguments as arguments;
 ghost use Rattle.dep_iter.specs.Combining.{steps_values, HasFirst};
 
-use crate::progression::{Progression, within};
 use plan_core::Arg;
 use range_space::{Steps, steps_of};
 use term_core::{Expr, eval};
@@ -43,19 +42,15 @@ pub fn arg_steps(arg: &Arg, env: &[i64]) -> Option<Steps>
 }
 
 // The progression of an argument, or None where it has no value.
-pub(crate) fn nonempty(arg: &Arg, env: &[i64]) -> Option<Progression>
+pub(crate) fn nonempty(arg: &Arg, env: &[i64]) -> Option<Steps>
     ensures { MatchOption result (or_empty (arguments.arg_values arg.now env.now) ≡ []) (λ s.
         (or_empty (arguments.arg_values arg.now env.now) ≡ steps_values s) × HasFirst s) }
 {
     let steps = arg_steps(arg, env)?;
-    if !within(steps.hi, steps.step, steps.lo) {
+    if steps.is_empty() {
         return None;
     }
-    Some(Progression {
-        lo: steps.lo,
-        hi: steps.hi,
-        step: steps.step,
-    })
+    Some(steps)
 }
 
 // Whether a number is one of the values of an argument.

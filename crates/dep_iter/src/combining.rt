@@ -6,23 +6,22 @@ ghost use Rattle.std.specs.Iterator.{YieldsFirst};
 ghost use Rattle.std.specs.Option.{option_copied};
 ghost use Rattle.ptg_base.specs.Limits.{most_params};
 ghost use Rattle.range_space.specs.Tasks.{or_empty};
-ghost use Rattle.range_space.specs.Values.{is_within};
 ghost use Rattle.dep_iter.specs.Arguments.{arg_values, combinations};
 ghost use Rattle.dep_iter.specs.Combining.{combinations_left, first_values, product_after, HasOneEach, HaveFirst, AddsSteps};
 
 use crate::argument::nonempty;
-use crate::progression::{Progression, next_value};
 use arrayvec::ArrayVec;
 use plan_core::Arg;
-use range_space::Numbers;
+use ptg_base::MOST_PARAMS;
+use range_space::{Numbers, Steps};
 use std::marker::Model;
 
 /// The combinations of values of arguments that are not yet given, the first argument outermost. It takes no memory,
 /// and goes on in place.
 #[derive(Drop)]
 pub struct Combinations {
-    spans: ArrayVec<Progression, 8>,
-    at: Numbers<8>,
+    spans: ArrayVec<Steps, MOST_PARAMS>,
+    at: Numbers<MOST_PARAMS>,
     live: bool,
 }
 
@@ -40,7 +39,7 @@ impl Model for Combinations {
 }
 
 // Adds the first value of each progression.
-fn push_first(spans: &[Progression], values: &mut Numbers<8>)
+fn push_first(spans: &[Steps], values: &mut Numbers<MOST_PARAMS>)
     requires { length values.old + length spans.now ≤ most_params }
     ensures { values.new ≡ values.old ++ first_values spans.now }
 {
@@ -52,7 +51,7 @@ fn push_first(spans: &[Progression], values: &mut Numbers<8>)
 }
 
 // Takes all numbers away.
-fn clear(values: &mut Numbers<8>)
+fn clear(values: &mut Numbers<MOST_PARAMS>)
     ensures { values.new ≡ [] }
 {
     if values.pop().is_some() {
@@ -62,7 +61,7 @@ fn clear(values: &mut Numbers<8>)
 
 // Goes on to the combination after this one: the last value that can goes on, and those after it begin anew. Answers
 // whether there is one.
-fn advance(spans: &[Progression], at: &mut Numbers<8>) -> bool
+fn advance(spans: &[Steps], at: &mut Numbers<MOST_PARAMS>) -> bool
     requires at_most { length at.old ≤ most_params }
     requires each { HasOneEach spans.now at.old }
     requires first { HaveFirst spans.now }
@@ -75,7 +74,7 @@ fn advance(spans: &[Progression], at: &mut Numbers<8>) -> bool
     let Some(v) = at.pop() else {
         return false;
     };
-    if let Some(w) = next_value(steps.hi, steps.step, v) {
+    if let Some(w) = steps.next_value(v) {
         at.push(w);
         return true;
     }
@@ -85,7 +84,7 @@ fn advance(spans: &[Progression], at: &mut Numbers<8>) -> bool
 }
 
 // Adds the progression of each argument, unless one has no values.
-fn push_spans(args: &[Arg], env: &[i64], spans: &mut ArrayVec<Progression, 8>) -> bool
+fn push_spans(args: &[Arg], env: &[i64], spans: &mut ArrayVec<Steps, MOST_PARAMS>) -> bool
     requires { length spans.old.items + length args.now ≤ most_params }
     ensures found { OnTrue result
         (AddsSteps (map (λ a. or_empty (arg_values a env.now)) args.now) spans.old.items spans.new.items) }
@@ -168,7 +167,7 @@ impl Combinations {
     }
 
     /// A copy of the next combination, and then None.
-    pub fn next(&mut self) -> Option<Numbers<8>>
+    pub fn next(&mut self) -> Option<Numbers<MOST_PARAMS>>
         ensures { YieldsFirst (λ left. left) self.old result self.new }
     {
         if !self.live {

@@ -3,7 +3,6 @@
 ghost use Rattle.std.specs.Prelude.{◌≡◌};
 ghost use Rattle.dep_iter.specs.Directions as directions;
 
-use crate::position::takes_first;
 use plan_core::{DepPlan, FlowPlan};
 use term_core::FlowKind;
 
@@ -42,7 +41,7 @@ impl Direction {
         ensures { result ≡ directions.first_alone self kind }
     {
         match self {
-            Direction::In => takes_first(kind),
+            Direction::In => kind.takes_first(),
             Direction::Out => false,
         }
     }

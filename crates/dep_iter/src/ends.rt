@@ -9,11 +9,12 @@ use crate::lent::LentEdge;
 use crate::membership::has_edge_under;
 use crate::task::task_locals;
 use plan_core::Plan;
+use ptg_base::MOST_LOCALS;
 use range_space::Numbers;
 
 /// The locals of the task at the other end of an edge, if the edge is one of that task too: an edge into a task is one
 /// out of the task that it comes from. None where the job has no such task, or the task no such edge.
-pub fn far_locals(plan: &Plan, way: Direction, edge: &LentEdge) -> Option<Numbers<16>>
+pub fn far_locals(plan: &Plan, way: Direction, edge: &LentEdge) -> Option<Numbers<MOST_LOCALS>>
     ensures { MatchOption result (HasOtherEnd way plan.now edge.now → ⊥)
         (λ locals. HasOtherEnd way plan.now edge.now × (locals ≡ locals_of plan.now (far_task way edge.now))) }
 {

@@ -3,12 +3,13 @@
 ghost use Rattle.std.specs.Prelude.{◌≡◌};
 ghost use Rattle.dep_iter.specs.Given.{given_locals};
 
+use ptg_base::MOST_LOCALS;
 use range_space::Numbers;
 
 // The locals of a task: the walk's own, or lent to it.
 #[derive(Drop)]
 pub enum Locals<'a> {
-    Own(Numbers<16>),
+    Own(Numbers<MOST_LOCALS>),
     Lent(&'a [i64]),
 }
 

@@ -3,14 +3,12 @@
 ghost use Rattle.std.specs.Prelude.{Bool, ◌≡◌, ◌+◌, ◌<◌, ◌≤◌, [], ◌∷◌, ℤ, List, length, IfSome, IsTrue, MatchOption, ◌&&◌};
 ghost use Rattle.ptg_base.specs.Limits.{most_flows};
 ghost use Rattle.plan_core.specs.declared.plan.Plan.{Plan};
-ghost use Rattle.dep_iter.specs.Active as active;
 ghost use Rattle.dep_iter.specs.Active.{by_flow, held_targets};
 ghost use Rattle.dep_iter.specs.Links.{dependences_fit, fits, flow_targets, flows_fit};
 ghost use Rattle.dep_iter.specs.Walking.{position_fits, targets_left};
 
 use crate::guard::held_target;
 use plan_core::{DepPlan, FlowPlan, Target};
-use term_core::FlowKind;
 
 /// Where a walk over the active targets of a task stands.
 #[derive(Clone, Copy)]
@@ -41,18 +39,6 @@ pub(crate) fn start<'a>(flows: &'a [FlowPlan]) -> Position<'a>
         deps: &[],
         next_flow: 0,
         flows,
-    }
-}
-
-/// Whether of the in dependences of a flow of this kind the first that holds counts alone.
-pub fn takes_first(kind: FlowKind) -> bool
-    ensures { result ≡ active.takes_first kind }
-{
-    match kind {
-        FlowKind::Read => true,
-        FlowKind::Write => true,
-        FlowKind::Rw => true,
-        FlowKind::Ctl => false,
     }
 }
 
@@ -92,7 +78,7 @@ fn enter<'a>(inward: bool, flow: &'a FlowPlan, number: u8, others: &'a [FlowPlan
     };
     Position {
         flow: number,
-        first_only: inward && takes_first(flow.kind),
+        first_only: inward && flow.kind.takes_first(),
         deps,
         next_flow: number + 1,
         flows: others,

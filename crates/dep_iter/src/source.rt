@@ -1,4 +1,4 @@
-//! Where the tile of a data flow comes from.
+//! What the tile of a data flow may come from.
 
 use ptg_base::{Edge, Place};
 

@@ -11,7 +11,6 @@ ghost use Rattle.dep_iter.specs.Tasks.{IsTask};
 
 use crate::guard::held_target;
 use crate::membership::has_combination;
-use crate::position::takes_first;
 use crate::task::flows_of;
 use plan_core::{DepPlan, FlowPlan, Plan, Target};
 use ptg_base::TaskId;
@@ -62,7 +61,7 @@ fn any_flow_names(flows: &[FlowPlan], env: &[i64], far: &TaskId) -> bool
     let Some((flow, others)) = flows.split_first() else {
         return false;
     };
-    if any_names(takes_first(flow.kind), flow.ins.as_slice(), env, far) {
+    if any_names(flow.kind.takes_first(), flow.ins.as_slice(), env, far) {
         return true;
     }
     any_flow_names(others, env, far)

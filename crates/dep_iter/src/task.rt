@@ -2,17 +2,14 @@
 
 ghost use Rattle.std.specs.Prelude.{◌≡◌, ◌↔◌, ◌<◌, ◌≤◌, length, slice_get, Some, IsTrue, MatchOption};
 ghost use Rattle.ptg_base.specs.Limits.{most_flows};
-ghost use Rattle.ptg_base.specs.Lists.{IsIn};
 ghost use Rattle.term_core.specs.WellSpace.{IsWellSpace};
-ghost use Rattle.term_core.specs.declared.space.ClassSpace.{ClassSpace as ClassSpaceValue};
-ghost use Rattle.range_space.specs.Tasks.{all_locals, params_of};
 ghost use Rattle.dep_iter.specs.Tasks as tasks;
-ghost use Rattle.dep_iter.specs.Tasks.{IsTask, task};
+ghost use Rattle.dep_iter.specs.Tasks.{IsTask};
 ghost use Rattle.dep_iter.specs.Links.{flows_fit};
 
 use plan_core::{FlowPlan, Plan};
-use ptg_base::TaskId;
-use range_space::{Numbers, a_task_has_one_list_of_locals, find_locals, in_space, params_at};
+use ptg_base::{MOST_LOCALS, TaskId};
+use range_space::{Numbers, a_task_has_one_list_of_locals, find_locals, in_space};
 use term_core::ClassSpace;
 
 // The space of a task's class, if the class exists and has as many parameters as the task has values; else the job has
@@ -44,7 +41,7 @@ pub fn is_task(plan: &Plan, t: &TaskId) -> bool
 }
 
 /// The locals of a task, under which all that its class says of it is evaluated.
-pub fn locals_of(plan: &Plan, t: &TaskId) -> Numbers<16>
+pub fn locals_of(plan: &Plan, t: &TaskId) -> Numbers<MOST_LOCALS>
     requires { IsTask plan.now t.now }
     ensures { result ≡ tasks.locals_of plan.now t.now }
 {
@@ -54,27 +51,12 @@ pub fn locals_of(plan: &Plan, t: &TaskId) -> Numbers<16>
 
 /// The locals of a task, or None where the job has no such task, in one pass over the definitions. All that the calls
 /// under given locals say of the task is evaluated under them.
-pub fn task_locals(plan: &Plan, t: &TaskId) -> Option<Numbers<16>>
+pub fn task_locals(plan: &Plan, t: &TaskId) -> Option<Numbers<MOST_LOCALS>>
     ensures { MatchOption result (IsTask plan.now t.now → ⊥)
         (λ locals. IsTask plan.now t.now × (locals ≡ tasks.locals_of plan.now t.now)) }
 {
     a_task_has_one_list_of_locals();
     find_locals(space_for(plan, t)?, t.params())
-}
-
-/// The task of a class that has these locals.
-pub fn task_with(plan: &Plan, class: u32, locals: &[i64]) -> TaskId
-    requires class { class < length plan.now.classes }
-    requires locals { (s : ClassSpaceValue) → slice_get plan.now.spaces class ≡ Some s
-        → IsIn locals.now (all_locals s) }
-    ensures task { (s : ClassSpaceValue) → slice_get plan.now.spaces class ≡ Some s
-        → result ≡ task class (params_of s.params locals.now) }
-    ensures of_job { IsTask plan.now result }
-    ensures locals { locals.now ≡ tasks.locals_of plan.now result }
-{
-    a_task_has_one_list_of_locals();
-    let params = params_at(plan.space(class), locals);
-    TaskId::new(class, params.as_slice())
 }
 
 /// The flows of the class of a task.

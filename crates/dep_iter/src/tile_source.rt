@@ -5,7 +5,6 @@ ghost use Rattle.ptg_base.specs.Limits.{most_params};
 ghost use Rattle.plan_core.specs.declared.target.Target.TheVariants.{Task};
 ghost use Rattle.dep_iter.specs.Active.{flow_ins};
 ghost use Rattle.dep_iter.specs.Arguments as arguments;
-ghost use Rattle.dep_iter.specs.Consistent as consistent;
 ghost use Rattle.dep_iter.specs.Edges as edges;
 ghost use Rattle.dep_iter.specs.Links.{dependences_fit, fits};
 ghost use Rattle.dep_iter.specs.Tasks as tasks;
@@ -13,25 +12,12 @@ ghost use Rattle.dep_iter.specs.Tasks.{IsTask};
 
 use crate::links::arguments_at_most;
 use crate::place::{place_of, value_or_zero};
-use crate::position::{next_held, takes_first};
+use crate::position::next_held;
 use crate::source::Source;
 use crate::task::{flows_of, locals_of};
 use plan_core::{Arg, FlowPlan, Plan, Target};
-use ptg_base::{Edge, TaskId};
+use ptg_base::{Edge, MOST_PARAMS, TaskId};
 use range_space::Numbers;
-use term_core::FlowKind;
-
-/// Whether a flow of this kind takes a tile, so that one of its in dependences must hold.
-pub fn takes_tile(kind: FlowKind) -> bool
-    ensures { result ≡ consistent.takes_tile kind }
-{
-    match kind {
-        FlowKind::Read => true,
-        FlowKind::Write => false,
-        FlowKind::Rw => true,
-        FlowKind::Ctl => false,
-    }
-}
 
 // The value of an argument that is no range.
 fn single_value(env: &[i64], arg: &Arg) -> i64
@@ -44,7 +30,7 @@ fn single_value(env: &[i64], arg: &Arg) -> i64
 }
 
 // Adds the value of each of these arguments.
-fn push_single(args: &[Arg], env: &[i64], values: &mut Numbers<8>)
+fn push_single(args: &[Arg], env: &[i64], values: &mut Numbers<MOST_PARAMS>)
     requires { length values.old + length args.now ≤ most_params }
     ensures { values.new ≡ values.old ++ map (arguments.single_value env.now) args.now }
 {
@@ -91,7 +77,7 @@ fn flow_source(plan: &Plan, t: &TaskId, env: &[i64], number: u8, flow: &FlowPlan
     requires { IsTrue (dependences_fit plan.now flow.now.ins) }
     ensures { result ≡ edges.source_among t.now env.now number (flow_ins env.now flow.now) }
 {
-    match next_held(takes_first(flow.kind), flow.ins.as_slice(), env) {
+    match next_held(flow.kind.takes_first(), flow.ins.as_slice(), env) {
         Some((target, _)) => source_at(plan, t, env, number, target),
         None => Source::Nothing,
     }

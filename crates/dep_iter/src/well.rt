@@ -9,7 +9,6 @@ ghost use Rattle.dep_iter.specs.Well as well;
 
 use crate::argument::arg_steps;
 use crate::guard::{guard_value, target_by};
-use crate::position::takes_first;
 use crate::task::{flows_of, locals_of};
 use plan_core::{Arg, ClassPlan, DepPlan, FlowPlan, Plan, Target};
 use ptg_base::TaskId;
@@ -87,7 +86,7 @@ fn are_well(first_only: bool, env: &[i64], deps: &[DepPlan]) -> bool
 fn is_well_flow(env: &[i64], flow: &FlowPlan) -> bool
     ensures { result ≡ well.is_well_flow env.now flow.now }
 {
-    are_well(takes_first(flow.kind), env, flow.ins.as_slice())
+    are_well(flow.kind.takes_first(), env, flow.ins.as_slice())
         && are_well(false, env, flow.outs.as_slice())
 }
 

@@ -179,14 +179,6 @@ task_equivalence = decided same_task same_task-decides
 pub updates_at : (es : Entries) (i : ℕ) (t : Task) (e f : Entry) → IsDistinct same_task (keys_of es) → slice_get es i ≡ Some (t, e) → Updates es (set_value_at es i f) t (Some f)
 updates_at es i t e f distinct at = (updates-with_value_at (hash_map es es 0) i f task_equivalence distinct t e at).0
 
-row_of : (es : Entries) (i : ℕ) (t : Task) → slice_get (keys_of es) i ≡ Some t → (e : Entry) → slice_get (values_of es) i ≡ Some e → slice_get es i ≡ Some (t, e)
-row_of [] i t key e value = absurd cc
-row_of (x ∷ xs) zero t key e value =
-    let k : x.0 ≡ t = cc in
-    let v : x.1 ≡ e = cc in
-    λ j. Some (k j, v j)
-row_of (x ∷ xs) (suc i) t key e value = row_of xs i t key e value
-
 value_of : (es : Entries) (i : ℕ) (t : Task) (e : Entry) → slice_get es i ≡ Some (t, e) → slice_get (values_of es) i ≡ Some e
 value_of [] i t e is = absurd cc
 value_of (x ∷ xs) zero t e is =

@@ -4,7 +4,7 @@ ghost use Rattle.std.specs.Option.{option_copied};
 ghost use Rattle.ptg_base.specs.Limits.{most_flows};
 ghost use Rattle.dep_shard.specs.Arrivals.{with_tile, without_tile, tile_of, IsInFlowOrder};
 
-use ptg_base::Tile;
+use ptg_base::{MOST_FLOWS, Tile};
 use std::marker::Model;
 
 /// The tiles that came to a task by edges, each with the number of its flow.
@@ -12,7 +12,7 @@ use std::marker::Model;
 /// Contracts see them as a list in order of flow number, in which no flow is twice. A flow number is below 8.
 #[derive(Drop)]
 pub struct Arrivals {
-    tiles: [Option<Tile>; 8],
+    tiles: [Option<Tile>; MOST_FLOWS],
 }
 
 impl Model for Arrivals {

@@ -66,9 +66,6 @@ module _ (t : Turn) (v : PassRecord) (y z : Content) (h : IsTurnOf t v y z) (i q
   gone_last r me = ap (λ (m : Seated). m.0.last) me ∙ ap (λ (p : PassRecord). p.last) me0
 
   module _ (u : Task) (s : ℕ) (r : List (ℕ × Content)) (me : q.me ≡ (with_stamp (turn_left (with_own_claim i.me.0 u)) u s, r)) (idle : v.running ≡ []) where
-    final : PassRecord
-    final = with_stamp (turn_left (with_own_claim (with_turn v t.shard y) u)) u s
-
     is_final : shown q ≡ with_stamp (turn_left (with_own_claim (with_turn v t.shard y) u)) u s
     is_final = ap (λ (m : Seated). m.0) me ∙ ap (λ (p : PassRecord). with_stamp (turn_left (with_own_claim p u)) u s) me0
 

@@ -1,5 +1,5 @@
 -- What one edge, one write-back and one task need.
-use Rattle.std.proofs.Common.{◌≡◌, ℕ, ◌<◌, ◌≤◌, true, cond, List, [], length, refl, ap, sym, ◌∙◌, subst, Option, Some, None, slice_get, arith}
+use Rattle.std.proofs.Common.{◌≡◌, ℕ, ◌<◌, ◌≤◌, true, cond, List, [], length, ap, sym, ◌∙◌, subst, Option, Some, None, slice_get, arith}
 use Rattle.std.proofs.lemmas.Bool.{and_parts, eqb-true, ltb-true}
 use Rattle.std.specs.Prelude.{IfSome, MatchOption, get_or, option_map}
 use Rattle.std.proofs.lemmas.Option.{slice_get-get_or}
@@ -48,10 +48,6 @@ carried o d = cond (is_data (option_map (λ (f : FlowPlan). f.kind) o)) (as_numb
 
 abbrev pub written : Option FlowPlan → ℕ → ℕ
 written o d = as_number (has_type d o)
-
--- nothing is added, or as much by another name
-pub no_tiles : (f : ℕ → ℕ) (a : Needs) → ((d : ℕ) → f d ≡ 0) → AddsTiles f 0 a a
-no_tiles f a zero_each = record { entries = refl; types = refl; tiles = λ d. omega (arith, zero_each d); writes = omega arith; traps = refl }
 
 pub same_tiles : (f g : ℕ → ℕ) (n : ℕ) (a b : Needs) → AddsTiles f n a b → ((d : ℕ) → g d ≡ f d) → AddsTiles g n a b
 same_tiles f g n a b w same = record { entries = w.entries; types = w.types; tiles = λ d. omega (arith, w.tiles d, same d); writes = w.writes; traps = w.traps }

@@ -15,7 +15,7 @@ ghost use Rattle.dep_table.specs.Needs.{AddsTask, AddsTiles, HasRoomFor, IsNoNee
 
 use dep_iter::{Matched, flows_of, held_target, write_backs_under};
 use goal_count::goal_under;
-use plan_core::{DepPlan, FlowPlan, Plan, Target, is_data};
+use plan_core::{DepPlan, FlowPlan, Plan, Target};
 use ptg_base::{OutOfMemory, TaskId, WriteBack};
 use std::alloc::Global;
 
@@ -102,7 +102,7 @@ impl Needs {
         requires room { (d : ℕ) → slice_index self.old.tiles.items d + flow_tiles env.now flow.now d < 2 ^ 64 }
         ensures { AddsTiles (flow_tiles env.now flow.now) 0 self.old self.new }
     {
-        if is_data(flow.kind) && begins_with_edge(flow.ins.as_slice(), env) {
+        if flow.kind.is_data() && begins_with_edge(flow.ins.as_slice(), env) {
             self.add_tile(flow.datatype);
         }
     }

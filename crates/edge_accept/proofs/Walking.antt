@@ -23,9 +23,6 @@ use Rattle.edge_accept.proofs.TakenEdges.{taken_append, taken_nil}
 use Rattle.edge_accept.proofs.TaskFlows.{each_more, in_edges-flows, items-flows}
 
 module _ (P : Plan) (t : Task) (env : List ℤ) where
-  pub accepts_nil : (s : Tally) (n : ℕ) → Accepts P t env s s n []
-  accepts_nil s n = record { sound = λ i f h. absurd cc; taken = taken_nil P [] s.ins; sent = sent_nil P.colls s.outs }
-
   pub accepts_more : (s u v : Tally) (n : ℕ) (f : FlowPlan) (fs : List FlowPlan) → HasSoundSource P t env n f
       → AreTakenOnce P [] s.ins u.ins (edges_into_flow t env n f) → AreSent P.colls s.outs u.outs (items_of_flow t env n f)
       → Accepts P t env u v (suc n) fs → Accepts P t env s v n (f ∷ fs)

@@ -12,9 +12,9 @@ use crate::at::FlowAt;
 use crate::ins::Ins;
 use dep_iter::{
     Combinations, Direction, LentEdge, arguments_at_most, edges_of_a_dependence_differ, far_locals,
-    has_edge_before, held_target, place_of, takes_first, takes_tile,
+    has_edge_before, held_target, place_of,
 };
-use plan_core::{Target, is_data};
+use plan_core::Target;
 use ptg_base::TaskId;
 
 // Counts an edge into the flow, which dependence `k` gives, if it is one out of the task that it comes from and no
@@ -32,7 +32,7 @@ fn take_edge(at: &FlowAt, k: usize, edge: &LentEdge, ins: &mut Ins) -> bool
     if has_edge_before(at.flow, Direction::In, at.env, edge, k) {
         return false;
     }
-    ins.add(is_data(at.flow.kind))
+    ins.add(at.flow.kind.is_data())
 }
 
 // Whether the flow may start from a target of dependence `k`; the edges that the target stands for are counted.
@@ -70,7 +70,7 @@ pub(crate) fn take_from(at: &FlowAt, k: usize, ins: &mut Ins) -> bool
     ensures { OnTrue result (TakesFrom at.now k ins.old ins.new) }
 {
     let Some(d) = at.flow.ins.as_slice().get(k) else {
-        return !takes_tile(at.flow.kind);
+        return !at.flow.kind.takes_tile();
     };
     let Some(target) = held_target(d, at.env) else {
         return take_from(at, k + 1, ins);
@@ -78,7 +78,7 @@ pub(crate) fn take_from(at: &FlowAt, k: usize, ins: &mut Ins) -> bool
     if !take_target(at, k, target, ins) {
         return false;
     }
-    if takes_first(at.flow.kind) {
+    if at.flow.kind.takes_first() {
         return true;
     }
     take_from(at, k + 1, ins)

@@ -21,7 +21,7 @@ use crate::fault::{MatchCode, MatchFault};
 use crate::phase::Phase;
 use crate::task_at::FlowAt;
 use dep_iter::{Direction, LentEdge, far_locals, has_edge_before, is_task};
-use plan_core::{Plan, is_data};
+use plan_core::Plan;
 use ptg_base::Place;
 
 // Whether an edge is one at its other end.
@@ -76,7 +76,7 @@ fn connect_edge(
 {
     check_tile(at, way)?;
     at.require(is_task(at.plan, edge.far_task(way)), MatchCode::OutOfSpace)?;
-    let fits = count_edge(way, is_data(at.flow.kind), counted);
+    let fits = count_edge(way, at.flow.kind.is_data(), counted);
     at.require(fits, MatchCode::TooManyEdges)
 }
 

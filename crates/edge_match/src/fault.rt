@@ -1,5 +1,6 @@
 //! Why a job is not consistent.
 
+use ptg_base::MOST_LOCALS;
 use range_space::Numbers;
 
 /// What is wrong with a job.
@@ -37,7 +38,7 @@ pub struct MatchFault {
     pub class: u32,
     /// The parameters of the task; of a definition without a value, the values of the definitions before it; none where
     /// tasks are too many.
-    pub numbers: Numbers<16>,
+    pub numbers: Numbers<MOST_LOCALS>,
     /// The number of the flow, if it is one's fault.
     pub flow: Option<u8>,
 }

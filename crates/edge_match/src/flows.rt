@@ -16,7 +16,7 @@ use crate::dependences::check_dependences;
 use crate::fault::{MatchCode, MatchFault};
 use crate::phase::Phase;
 use crate::task_at::{FlowAt, TaskAt};
-use dep_iter::{Direction, Source, data_source_under, takes_tile};
+use dep_iter::{Direction, Source, data_source_under};
 use plan_core::Plan;
 use term_core::FlowKind;
 
@@ -25,7 +25,7 @@ fn has_input(kind: FlowKind, source: &Source) -> bool
     ensures { IsTrue result ↔ (IsTrue (consistent.takes_tile kind) → source.now ≢ source_variant.Nothing) }
 {
     match source {
-        Source::Nothing => !takes_tile(kind),
+        Source::Nothing => !kind.takes_tile(),
         _ => true,
     }
 }

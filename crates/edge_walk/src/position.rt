@@ -8,7 +8,7 @@ ghost use Rattle.dep_iter.specs.Links.{dependences_fit, fits, flows_fit};
 ghost use Rattle.edge_walk.specs.Ties.{active_from, numbered_flow, numbered_targets};
 ghost use Rattle.edge_walk.specs.Walking.{position_fits, left};
 
-use dep_iter::{held_target, takes_first};
+use dep_iter::held_target;
 use plan_core::{DepPlan, FlowPlan, Target};
 
 /// Where a walk over the active dependences of a task stands.
@@ -108,7 +108,7 @@ fn enter<'a>(inward: bool, flow: &'a FlowPlan, number: u8, others: &'a [FlowPlan
     let _count = deps.len();
     Position {
         flow: number,
-        first_only: inward && takes_first(flow.kind),
+        first_only: inward && flow.kind.takes_first(),
         dependence: 0,
         deps,
         next_flow: number + 1,

@@ -14,7 +14,7 @@ use crate::target_ties::TargetTies;
 use crate::tie::Tie;
 use dep_iter::{flows_of, locals_of};
 use plan_core::Plan;
-use ptg_base::TaskId;
+use ptg_base::{MOST_LOCALS, TaskId};
 use range_space::Numbers;
 use std::marker::Model;
 
@@ -23,7 +23,7 @@ use std::marker::Model;
 pub struct Ties<'a> {
     plan: &'a Plan,
     inward: bool,
-    env: Numbers<16>,
+    env: Numbers<MOST_LOCALS>,
     position: Position<'a>,
     at_hand: TargetTies,
 }

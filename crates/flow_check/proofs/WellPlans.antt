@@ -1,5 +1,5 @@
 -- The parts of a plan that a JDF and its data resolve to are well made.
-use Rattle.std.proofs.Common.{◌≡◌, ℕ, zero, suc, ◌≤◌, false, ◌&&◌, ◌==◌, List, [], ◌∷◌, length, map, Option, Some, None, option_map, option_and_then, slice_get, IsTrue, nat_le, nat_lt, refl, sym, ◌∙◌, ap, subst, arith}
+use Rattle.std.proofs.Common.{◌≡◌, ℕ, zero, suc, ◌≤◌, false, ◌&&◌, ◌==◌, List, [], ◌∷◌, length, map, Some, option_map, option_and_then, slice_get, IsTrue, nat_le, nat_lt, refl, sym, ◌∙◌, ap, subst, arith}
 use Rattle.std.specs.List.{list_all, AllByRecursion}
 use Rattle.std.specs.Option.{option_map_or}
 use Rattle.std.proofs.lemmas.Bool.{lt-ltb, le-leb, eq-eqb, and_from}
@@ -8,7 +8,6 @@ use Rattle.std.proofs.lemmas.Option.{slice_get-map, same_Some, slice_get_within}
 use Rattle.term_core.specs.declared.space.ClassSpace.{ClassSpace}
 use Rattle.jdf_tree.specs.TreeLimits.{IsClassWithinLimits, IsWithinLimits}
 use Rattle.coll_data.specs.declared.coll.Coll.{Coll}
-use Rattle.coll_data.specs.Tiles as data_tiles
 use Rattle.coll_data.specs.WellMade.{elements_by_type, IsWellColl}
 use Rattle.coll_data.specs.WellMade as well_data
 use Rattle.plan_core.specs.declared.class.ClassPlan.{ClassPlan}
@@ -83,17 +82,12 @@ plans_names job (c ∷ cs) (b ∷ bs) ps r e =
 
 -- ---- the data
 
-count_is : (rows : ℕ) (cols : Option ℕ) → data_tiles.tile_count rows cols ≡ tile_count rows cols
-count_is rows None = refl
-count_is rows (Some n) = refl
-
 shapes_well : (elements : List ℕ) (cs : List Coll) → AllByRecursion (IsWellColl elements) cs → IsTrue (list_all (is_shape (length elements)) (map shape_of cs))
 shapes_well elements [] h = refl
 shapes_well elements (c ∷ cs) h =
     let count = tile_count c.shape.0 c.shape.1 in
-    let same = count_is c.shape.0 c.shape.1 in
-    let low : 1 ≤ count = subst (λ n. 1 ≤ n) same h.0.has_tiles in
-    let high : count ≤ 65536 = subst (λ n. n ≤ 65536) same h.0.tiles_at_most in
+    let low : 1 ≤ count = h.0.has_tiles in
+    let high : count ≤ 65536 = h.0.tiles_at_most in
     and_from (is_shape (length elements) (shape_of c)) (list_all (is_shape (length elements)) (map shape_of cs))
     (and_from (nat_le 1 count && nat_le count 65536) (nat_lt c.datatype (length elements)) (and_from (nat_le 1 count) (nat_le count 65536) (le-leb 1 count low) (le-leb count 65536 high)) (lt-ltb c.datatype (length elements) h.0.datatype))
     (shapes_well elements cs h.1)

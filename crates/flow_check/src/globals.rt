@@ -1,7 +1,8 @@
 //! The globals of a JDF by name, tabulated once for a job.
 
-ghost use Rattle.std.specs.Prelude.{◌≡◌, ◌≤◌, ◌^◌, ◌++◌, ◌∷◌, [], ℕ, List, None, IfOk, OnOk, length, position, if◌then◌else◌};
+ghost use Rattle.std.specs.Prelude.{◌≡◌, ◌≤◌, ◌++◌, ◌∷◌, [], ℕ, List, None, IfOk, OnOk, length, position, if◌then◌else◌};
 ghost use Rattle.std.specs.List.{list_any};
+ghost use Rattle.ptg_base.specs.Limits.{most_elements};
 ghost use Rattle.name_table.specs.Names.{has_name, value_named};
 ghost use Rattle.check_names.specs.Contexts.{AreGlobals};
 ghost use Rattle.check_names.specs.Names.{word_is, is_declared, coll_is};
@@ -87,7 +88,7 @@ fn add_number(
 // The numbers of those of some collections of the data that are declared as globals, by name.
 fn numbers_among(declared: &Declared, colls: &[Coll]) -> Result<NameTable<u32>, OutOfMemory>
     requires declared { AreDeclared (job_with declared.now) declared.now.names.now }
-    requires at_most { length colls.now ≤ 2 ^ 24 }
+    requires at_most { length colls.now ≤ most_elements }
     ensures { IfOk result (λ table.
         (n : List ℕ)
         → value_named table n
@@ -112,7 +113,7 @@ fn globals_among(
     requires declared { AreDeclared (job_with declared.now) declared.now.names.now }
     requires ints { ints.now ≡ declared.now.given.now.ints }
     requires colls { colls.now ≡ declared.now.given.now.colls }
-    requires at_most { length colls.now ≤ 2 ^ 24 }
+    requires at_most { length colls.now ≤ most_elements }
     ensures { IfOk result (λ globals. AreGlobals (job_with declared.now) globals) }
 {
     Ok(Globals {

@@ -55,9 +55,6 @@ module _ {A : Type 0} (Q : A → Type 0) where
 
 -- an item of a task is unsent exactly if an edge or a write-back is
 module _ (P : Plan) (sends : List Sent) (t : Task) (end : Option Ended) where
-  pub no_outputs : has_outputs end ≡ false → IsTrue false ↔ Owes P sends (t, end)
-  no_outputs h = (λ k. absurd (false≢true k), λ o. absurd (false≢true (sym h ∙ o.0)))
-
   pub edge_owed : has_outputs end ≡ true → HasOne (λ (e : Edge). IsUnsent sends (item.Edge e)) (out_edges P t) → IsTrue true ↔ Owes P sends (t, end)
   edge_owed h one = (λ k. (h, (item.Edge one.0, (edge_among (items P t) one.0).1 one.1, one.2)), λ o. refl)
 

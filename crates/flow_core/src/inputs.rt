@@ -19,7 +19,7 @@ ghost use Rattle.dep_iter.specs.Tasks as tasks;
 use crate::sent_items::SentItems;
 use coll_data::Given;
 use dep_iter::{Source, data_source_under, flows_of};
-use plan_core::{FlowPlan, Plan, is_data};
+use plan_core::{FlowPlan, Plan};
 use ptg_base::{Item, OutOfMemory, TaskId, Tile};
 use std::alloc::Global;
 use term_core::FlowKind;
@@ -90,7 +90,7 @@ fn source_of(start: &Start, number: u8, flow: &FlowPlan) -> Source
     requires { IsTask start.now.plan.now start.now.task.now }
     ensures { result ≡ inputs.source_of start.now.plan.now start.now.task.now number flow.now }
 {
-    if !is_data(flow.kind) {
+    if !flow.kind.is_data() {
         return Source::Null;
     }
     data_source_under(start.plan, start.task, start.env, number)

@@ -129,9 +129,6 @@ module _ (P : Plan) (G : Data) (con : IsConsistent P) (S : MachineState) (sound 
   }
 
   module _ (i : Item) (may : MaySend P G S i) where
-    sent_now : MachineState
-    sent_now = state_after P G S (Send i)
-
     sum_at : (j : Item) → send_count (state_after P G S (Send i)) j ≡ send_count S j + as_number (same_item j i)
     sum_at j = weigh-push (λ (x : Sent). as_number (same_item j x.item)) S.sends (sent_with P G S i)
 

@@ -15,7 +15,7 @@ ghost use Rattle.goal_count.specs.Counting.{IsCount};
 
 use dep_iter::{
     Matched, a_task_has_no_more_edges_than_the_job, edges_are_links, flows_of, held_target,
-    locals_of, takes_first,
+    locals_of,
 };
 use plan_core::{Arg, DepPlan, FlowPlan, Target};
 use ptg_base::TaskId;
@@ -95,7 +95,7 @@ fn flows_count(flows: &[FlowPlan], env: &[i64]) -> u64
     let Some((flow, others)) = flows.split_first() else {
         return 0;
     };
-    let here = held_count(takes_first(flow.kind), flow.ins.as_slice(), env);
+    let here = held_count(flow.kind.takes_first(), flow.ins.as_slice(), env);
     here.saturating_add(flows_count(others, env))
 }
 

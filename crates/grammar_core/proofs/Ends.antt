@@ -22,12 +22,6 @@ use Rattle.grammar_core.proofs.SoundLimits.{front}
 use Rattle.grammar_core.proofs.Whole.{LimitsOnly, sound}
 use Rattle.list_lemmas.proofs.Truth.{chosen}
 
-abbrev failed : {A : Type 0} → FaultFromEnd → Read A
-failed n = Err n
-
-stop_is : {B : Type 0} {a b : FaultFromEnd} → failed {A = B} a ≡ failed b → a ≡ b
-stop_is e = cc
-
 not_syntax : (d : Code) → is_limit d ≡ true → d ≡ Syntax → ⊥
 not_syntax d h e = both_ways (is_limit d) (rw e refl) h
 

@@ -114,9 +114,6 @@ extends_more rest more z e = record { head = e.head; rest_tail = e.rest_tail; mo
 pub taken_is : (w z : List Token) → taken (w ++ z) z ≡ length w
 taken_is w z = omega (arith, length-append w z)
 
-no_limit : {c : Code} → c ≡ Syntax → c ≢ Syntax → ⊥
-no_limit e n = n e
-
 pub second_is : {n : FaultFromEnd} {m : ℕ} {c : Code} → n ≡ (m, c) → n.1 ≡ c
 second_is e = ap (λ (x : FaultFromEnd). x.1) e
 

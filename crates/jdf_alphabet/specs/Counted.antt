@@ -1,6 +1,6 @@
 -- The limit of an expression: 512 tokens, and 128 names, numbers and operators among them. Source: this project's own
 -- choice.
-use Rattle.std.specs.Prelude.{ℕ, Bool, ◌||◌}
+use Rattle.std.specs.Prelude.{ℕ, pred, Bool, ◌||◌}
 use Rattle.jdf_alphabet.specs.declared.terminal.Terminal.{Terminal}
 use Rattle.jdf_alphabet.specs.declared.terminal.Terminal.TheVariants.{Name, TypeWord, Int, If, Else, For, Trap, Number, Question, Plus, Minus, Star, Slash, Percent, Equal, NotEqual, Less, AtMost, Greater, AtLeast, And, AndAnd, Or, OrOr, Not}
 use Rattle.jdf_alphabet.specs.Terminals.{is, set}
@@ -31,7 +31,7 @@ abbrev pub expression_limit : Limit
 expression_limit =
     record {
       at = limit_at (set is_counted) most_expression_tokens most_counted;
-      one = limit_one (set is_counted) 511 127;
+      one = limit_one (set is_counted) (pred most_expression_tokens) (pred most_counted);
       keeps = λ w r r' h. limit_keeps (set is_counted) w most_expression_tokens most_counted r r' h;
       stays = λ w x r r' h. limit_stays (set is_counted) w most_expression_tokens most_counted x r r' h;
     }

@@ -7,7 +7,7 @@ use crate::terminal::Terminal;
 use grammar_core::Token;
 
 // How many tokens an expression may have.
-const MOST_TOKENS: usize = 512;
+const MOST_EXPRESSION_TOKENS: usize = 512;
 
 // How many of its tokens may be names, numbers, operators and `?`.
 const MOST_COUNTED: usize = 128;
@@ -41,8 +41,8 @@ pub fn expression_limit(tokens: &[Token]) -> usize
 {
     let mut counted = 0;
     for (index, token) in tokens.iter().enumerate() {
-        if index == MOST_TOKENS {
-            return MOST_TOKENS;
+        if index == MOST_EXPRESSION_TOKENS {
+            return MOST_EXPRESSION_TOKENS;
         }
         if is_counted(Terminal::of(token)) {
             if counted == MOST_COUNTED {
@@ -51,5 +51,5 @@ pub fn expression_limit(tokens: &[Token]) -> usize
             counted += 1;
         }
     }
-    MOST_TOKENS
+    MOST_EXPRESSION_TOKENS
 }

@@ -26,9 +26,6 @@ longer_front (c ∷ a) x (d ∷ b) y same shorter =
     let rest = longer_front a x b y tails (omega arith) in
     (rest.0, (λ i. sym heads i ∷ rest.1 i), rest.2)
 
-some_unit : LexicalUnit → Option LexicalUnit
-some_unit p = Some p
-
 pub one_begins : (p q : LexicalUnit) (rest : List ℕ) → unit_at rest ≡ Some p → unit_at rest ≡ Some q → p ≡ q
 one_begins p q rest e f = cc
 

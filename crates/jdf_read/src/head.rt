@@ -7,7 +7,7 @@ ghost use Rattle.grammar_core.specs.Returns.{Returns};
 ghost use Rattle.grammar_core.specs.Reading.{reading};
 ghost use Rattle.jdf_alphabet.specs.Terminals.{terminal_of};
 ghost use Rattle.jdf_tree.specs.declared.part.Part.TheVariants.{Class};
-ghost use Rattle.jdf_tree.specs.ClassGrammar.{parameters, parameter_list, definition, definitions, affinity, is_no_right_bracket, properties};
+ghost use Rattle.jdf_tree.specs.ClassGrammar.{most_parameter_tokens, parameters, parameter_list, definition, definitions, affinity, is_no_right_bracket, properties};
 ghost use Rattle.jdf_tree.specs.Grammar.{productions};
 ghost use Rattle.jdf_tree.specs.GrammarParts.{name, listed, maybe};
 ghost use Rattle.jdf_read.specs.Next.{next_parameter, past, signature};
@@ -18,11 +18,11 @@ use grammar_core::{ReadFault, ReadRefusal, refusal_at};
 use jdf_alphabet::{GrammarCode, Terminal, expect, is_next};
 use jdf_lex::Token;
 use jdf_tree::{ArgTree, DefTree, Part, Word};
-use ptg_base::{MOST_LOCALS, Seq};
+use ptg_base::{MOST_LOCALS, MOST_PARAMS, Seq};
 use std::alloc::Global;
 
-// How many tokens eight parameters are, with the comma after each.
-const MOST_PARAMETER_TOKENS: usize = 16;
+// How many tokens the most parameters are, with the comma after each.
+const MOST_PARAMETER_TOKENS: usize = 2 * MOST_PARAMS;
 
 // `"," name`
 #[tactic(auto, unfolding(crate::specs::Next::next_parameter))]
@@ -50,7 +50,7 @@ fn names(alloc: Global, tokens: &[Token]) -> Result<(Seq<Word>, &[Token]), ReadR
 
 // Were more tokens taken than eight parameters have, if this many are left?
 fn is_over(tokens: &[Token], left: usize) -> bool
-    ensures { result ≡ nat_lt 16 (length tokens.now - left) }
+    ensures { result ≡ nat_lt most_parameter_tokens (length tokens.now - left) }
 {
     MOST_PARAMETER_TOKENS < tokens.len().saturating_sub(left)
 }

@@ -1,8 +1,8 @@
 -- The grammar of a class of tasks. Source: the JDF documentation; the limits, and `-> NULL`, are this project's own
 -- choice.
 use Rattle.std.proofs.Common.{arith}
-use Rattle.std.specs.Prelude.{ℕ, ◌≤◌, Bool, nat_le, not, List, ◌∷◌, Option, Some, None, option_map, ◌||◌, ◌&&◌, if◌then◌else◌}
-use Rattle.ptg_base.specs.Limits.{most_dependences, most_flows, most_locals}
+use Rattle.std.specs.Prelude.{ℕ, ◌≤◌, ◌*◌, Bool, nat_le, not, List, ◌∷◌, Option, Some, None, option_map, ◌||◌, ◌&&◌, if◌then◌else◌}
+use Rattle.ptg_base.specs.Limits.{most_dependences, most_flows, most_locals, most_params}
 use Rattle.grammar_core.specs.declared.token.Spot.{Spot}
 use Rattle.grammar_core.specs.declared.token.Token.{Token}
 use Rattle.term_core.specs.declared.flow.FlowKind.{FlowKind}
@@ -144,16 +144,19 @@ flows = star (full_at most_flows TooManyFlows) flow
 
 -- ---- parameters, definitions, affinity, priority
 
-pub some_tokens : 1 ≤ 16
+-- how many tokens the most parameters are, with the comma after each; the token after them is a name too many
+abbrev pub most_parameter_tokens : ℕ
+most_parameter_tokens = 2 * most_params
+
+pub some_tokens : 1 ≤ most_parameter_tokens
 some_tokens = omega arith
 
--- Eight names and the comma after each are 16 tokens, so the first token that is too many is the ninth name.
-abbrev pub eight_names : Limit
-eight_names = record { at = λ s. 16; one = λ s. some_tokens; keeps = λ w r r' h. h; stays = λ w x r r' h. h }
+abbrev pub parameter_limit : Limit
+parameter_limit = record { at = λ s. most_parameter_tokens; one = λ s. some_tokens; keeps = λ w r r' h. h; stays = λ w x r r' h. h }
 
 -- parameters = name ("," name)*, at most 8
 unfoldable pub parameters : Grammar (List Word)
-parameters = limited eight_names TooManyParams (listed (name Class))
+parameters = limited parameter_limit TooManyParams (listed (name Class))
 
 -- parameter list = "(" parameters? ")"
 unfoldable pub parameter_list : Grammar (List Word)

@@ -1,7 +1,8 @@
-//! The made job: the texts of a graph of the shape of a tiled Cholesky factorization, for any number of rows of tiles.
+//! The made job: the texts of a graph of the shape of a tiled Cholesky factorization, for 1 to 96 rows of tiles.
 #![tactic(auto)]
 
 ghost use Rattle.std.specs.Prelude.{◌≡◌, ◌≤◌, IfOk};
+ghost use Rattle.ptg_base.specs.Limits.{most_rows};
 ghost use Rattle.job_gen.specs.Job.{jdf_text, data_text};
 
 use ptg_base::{OutOfMemory, Text};
@@ -66,7 +67,7 @@ END
 
 /// The job of a lower triangle of `n` rows of tiles: its JDF text and its data.
 pub fn make(alloc: Global, n: u32) -> Result<(Text, Text), OutOfMemory>
-    requires { (1 ≤ n) × (n ≤ 96) }
+    requires { (1 ≤ n) × (n ≤ most_rows) }
     ensures jdf { IfOk result (λ texts. texts.0 ≡ jdf_text) }
     ensures data_file { IfOk result (λ texts. texts.1 ≡ data_text n) }
 {
@@ -78,6 +79,7 @@ pub fn make(alloc: Global, n: u32) -> Result<(Text, Text), OutOfMemory>
 #[cfg(test)]
 mod tests {
     use super::*;
+    use ptg_base::MOST_ROWS;
     use std::test::Fail;
 
     #[test]
@@ -88,7 +90,7 @@ mod tests {
             (96, b"elems,3\nint,NT,96\ncoll,D,96,96\n"),
         ];
         for (n, records) in rows {
-            assert!(rt; 1 <= n && n <= 96);
+            assert!(rt; 1 <= n && n <= MOST_ROWS);
             let (jdf, data) = make(rt.alloc(), n)?;
             assert_eq!(rt; data.bytes(), records);
             assert_eq!(rt; jdf.bytes().len(), 1040);

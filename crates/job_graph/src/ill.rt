@@ -1,12 +1,12 @@
 //! Which dependence of a task needs an expression that has no value.
 
-use dep_iter::{arg_steps, takes_first};
+use dep_iter::arg_steps;
 use plan_core::{Arg, DepPlan, FlowPlan, Target};
 use term_core::{Expr, eval};
 
 /// Whether the first such dependence of a flow is an in dependence, and its number among those of its direction.
 pub fn ill_dependence(flow: &FlowPlan, env: &[i64]) -> Option<(bool, usize)> {
-    match first_ill(takes_first(flow.kind), flow.ins.as_slice(), env) {
+    match first_ill(flow.kind.takes_first(), flow.ins.as_slice(), env) {
         Some(number) => Some((true, number)),
         None => Some((false, first_ill(false, flow.outs.as_slice(), env)?)),
     }

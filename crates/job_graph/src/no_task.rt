@@ -6,7 +6,7 @@ use crate::lines::Lines;
 use crate::names::{add_task, name_of};
 use jdf_tree::{DefTree, Jdf};
 use plan_core::Plan;
-use ptg_base::TaskId;
+use ptg_base::{MOST_LOCALS, TaskId};
 use range_space::{Numbers, steps_of};
 use std::io::Write;
 use term_core::{ClassSpace, Def, Range, eval};
@@ -27,13 +27,13 @@ pub fn add_no_task<W: Write + Drop>(
     let Some(space) = plan.spaces.as_slice().get(task.class() as usize) else {
         return Ok(());
     };
-    if space.defs.len() > 16 || space.params.as_slice().len() != task.params().len() {
+    if space.defs.len() > MOST_LOCALS || space.params.as_slice().len() != task.params().len() {
         return Ok(());
     }
-    let mut locals = Numbers::<16>::new();
+    let mut locals = Numbers::<MOST_LOCALS>::new();
     for (definition, named) in space.defs.as_slice().iter().zip(class.defs.as_slice()) {
         match value_of(lines, space, definition, named, (task, locals.as_slice()))? {
-            Some(value) if locals.as_slice().len() < 16 => locals.push(value),
+            Some(value) if locals.as_slice().len() < MOST_LOCALS => locals.push(value),
             _ => return Ok(()),
         }
     }

@@ -13,7 +13,7 @@ use dep_iter::{affinity, flows_of, is_task, locals_of, well_task};
 use edge_walk::{Far, Tie, ties_of};
 use jdf_tree::{FlowTree, Jdf};
 use plan_core::Plan;
-use ptg_base::TaskId;
+use ptg_base::{MOST_PARAMS, TaskId};
 use std::io::Write;
 use term_core::FlowKind;
 
@@ -42,7 +42,7 @@ pub fn one_task<W: Write + Drop>(
         return Err(Failure::Usage);
     };
     let params = name.params.as_slice();
-    if params.len() > 8 {
+    if params.len() > MOST_PARAMS {
         return Err(Failure::Usage);
     }
     let task = TaskId::new(class, params);

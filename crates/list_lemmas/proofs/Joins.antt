@@ -58,21 +58,6 @@ pub list_all-weaker : {A : Type 0} (p q : A → Bool) → ((x : A) → p x ≡ t
 list_all-weaker p q f [] h = refl
 list_all-weaker p q f (x ∷ xs) h = and_from _ _ (f x (first_so _ _ h)) (list_all-weaker p q f xs (second_so _ _ h))
 
-pub length-filter_append : {A : Type 0} (q : A → Bool) (xs ys : List A)
-    → length (filter q (xs ++ ys)) ≡ length (filter q xs) + length (filter q ys)
-length-filter_append q [] ys = omega arith
-length-filter_append q (x ∷ xs) ys =
-    let more = length-filter_append q xs ys in
-    by_test (q x)
-    (λ k.
-    let a = ap (λ b. length (cond b (x ∷ filter q (xs ++ ys)) (filter q (xs ++ ys)))) k in
-    let b = ap (λ b. length (cond b (x ∷ filter q xs) (filter q xs))) k in
-    omega (arith, a, b, more))
-    (λ k.
-    let a = ap (λ b. length (cond b (x ∷ filter q (xs ++ ys)) (filter q (xs ++ ys)))) k in
-    let b = ap (λ b. length (cond b (x ∷ filter q xs) (filter q xs))) k in
-    omega (arith, a, b, more))
-
 pub length-filter_le : {A : Type 0} (test : A → Bool) (xs : List A) → length (filter test xs) ≤ length xs
 length-filter_le test [] = omega arith
 length-filter_le test (x ∷ xs) =

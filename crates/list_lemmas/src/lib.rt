@@ -1,2 +1,2 @@
-//! Lists: weights and counts of their members, and the lemmas on lists, truth values and options that all crates share.
+//! Lists: weights and counts of their members, and the lemmas on lists, truth values and options that crates share.
 #![tactic(auto)]

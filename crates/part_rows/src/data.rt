@@ -1,21 +1,15 @@
 //! Data files, read.
 
 use coll_data::{Coll, Given};
-use data_read::read_data;
+use job_stages::given_of;
 use ptg_base::{Refusal, Text};
 use row_files::{Printed, Why};
 use std::alloc::Global;
 
-// So long a file may be.
-const LONGEST: usize = 16777216;
-
 /// Reads a data file: the number of its records, and what they give in the order of the file's format; or its first
 /// fault.
 pub fn read(alloc: Global, bytes: &[u8]) -> Result<Printed, Why> {
-    if bytes.len() > LONGEST {
-        return Err(Why("a data file that is too long"));
-    }
-    match read_data(alloc, bytes) {
+    match given_of(alloc, bytes) {
         Ok(given) => Ok(Printed {
             text: shown(alloc, &given)?.into_bytes(),
             status: 0,

@@ -10,7 +10,6 @@ use plan_core::Plan;
 use ptg_base::TaskId;
 use row_files::{Printed, Why};
 use std::alloc::Global;
-use term_core::FlowKind;
 
 /// The tasks of a job in walk order, each with its goal, its priority and the place of its affinity, and below it a
 /// line for each source of a data flow that is no task, for each edge into it, for each edge out of it, and for each
@@ -63,7 +62,7 @@ fn add_source(text: &mut String, plan: &Plan, task: &TaskId, number: u8) -> Resu
     let Some(flow) = flows_of(plan, task).get(number as usize) else {
         return Ok(());
     };
-    if flow.kind == FlowKind::Ctl {
+    if flow.kind.is_control() {
         return Ok(());
     }
     let source = data_source(plan, task, number);

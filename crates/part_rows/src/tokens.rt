@@ -2,11 +2,9 @@
 
 use jdf_alphabet::Terminal;
 use jdf_lex::{JdfRefusal, Lexed, tokens};
+use ptg_base::MOST_BYTES;
 use row_files::{Printed, Why};
 use std::alloc::Global;
-
-// So long a text may be.
-const LONGEST: usize = 16777216;
 
 /// Reads the tokens of a text: each with its terminal, its line, its column and what it is, and the end of the text; or
 /// the text's first fault.
@@ -20,7 +18,7 @@ pub fn read(alloc: Global, text: &[u8]) -> Result<Printed, Why> {
 /// The tokens of a text that is short enough.
 pub fn lexed(alloc: Global, text: &[u8]) -> Result<Result<Lexed, JdfRefusal>, Why> {
     let text = str::from_utf8(text).map_err(|_| Why("a text that is not UTF-8"))?;
-    if text.len() > LONGEST {
+    if text.len() > MOST_BYTES {
         return Err(Why("a text that is too long"));
     }
     Ok(tokens(alloc, text))

@@ -1,8 +1,8 @@
 -- The flows of a job by number, and their kinds: a CTL flow carries order alone, every other flow carries a tile.
 -- Source: PaRSEC 2013.
-use Rattle.std.specs.Prelude.{ℕ, List, Option, Some, None, Bool, true, false, slice_get, option_map, option_and_then}
+use Rattle.std.specs.Prelude.{ℕ, List, Option, Some, None, Bool, false, slice_get, option_map, option_and_then}
 use Rattle.term_core.specs.declared.flow.FlowKind.{FlowKind}
-use Rattle.term_core.specs.declared.flow.FlowKind.TheVariants.{Read, Write, Rw, Ctl}
+use Rattle.term_core.specs.Kinds as kinds
 use Rattle.plan_core.specs.declared.flow.FlowPlan.{FlowPlan}
 use Rattle.plan_core.specs.declared.class.ClassPlan.{ClassPlan}
 
@@ -17,23 +17,14 @@ kind_of classes class flow = option_map (λ (f : FlowPlan). f.kind) (flow_of cla
 -- whether there is a flow, and it carries order alone
 abbrev pub is_control : Option FlowKind → Bool
 is_control None = false
-is_control (Some Read) = false
-is_control (Some Write) = false
-is_control (Some Rw) = false
-is_control (Some Ctl) = true
+is_control (Some kind) = kinds.is_control kind
 
 -- whether there is a flow, and it carries a tile
 abbrev pub is_data : Option FlowKind → Bool
 is_data None = false
-is_data (Some Read) = true
-is_data (Some Write) = true
-is_data (Some Rw) = true
-is_data (Some Ctl) = false
+is_data (Some kind) = kinds.is_data kind
 
 -- whether there is a flow, and a body may change its tile
 abbrev pub is_writable : Option FlowKind → Bool
 is_writable None = false
-is_writable (Some Read) = false
-is_writable (Some Write) = true
-is_writable (Some Rw) = true
-is_writable (Some Ctl) = false
+is_writable (Some kind) = kinds.is_writable kind

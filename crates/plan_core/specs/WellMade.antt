@@ -1,8 +1,9 @@
 -- When the parts of a plan fit one another. Source: the JDF documentation and PaRSEC 2013; the limits are this
 -- project's own choice.
-use Rattle.std.specs.Prelude.{◌≡◌, ℕ, List, Option, Some, None, Bool, ◌&&◌, ◌*◌, ◌≤◌, nat_le, nat_lt, length, map, IsTrue, slice_get}
+use Rattle.std.specs.Prelude.{◌≡◌, ℕ, List, Some, Bool, ◌&&◌, ◌≤◌, nat_le, nat_lt, length, map, IsTrue, slice_get}
 use Rattle.std.specs.List.{list_all}
-use Rattle.ptg_base.specs.Limits.{most_classes, most_types, most_tile_elements, most_tiles}
+use Rattle.ptg_base.specs.Limits.{most_classes, most_types, most_tiles}
+pub use Rattle.ptg_base.specs.Places.{is_element_count, tile_count}
 use Rattle.term_core.specs.WellSpace.{IsWellSpace}
 use Rattle.term_core.specs.WellBody.{IsWellBody}
 use Rattle.term_core.specs.declared.space.ClassSpace.{ClassSpace}
@@ -28,19 +29,10 @@ pub record IsWellClass (classes : List ClassPlan) (spaces : List ClassSpace) (co
   pub words : IsTrue (has_words (length c.trap_words) c.body.statements)
   pub loops : IsTrue (keeps_loop_variables c.body.statements)
 
--- how many tiles a collection has, by its rows and columns
-abbrev pub tile_count : ℕ → Option ℕ → ℕ
-tile_count rows None = rows
-tile_count rows (Some cols) = rows * cols
-
 -- whether a collection has 1 to 65,536 tiles, of one of so many datatypes
 abbrev pub is_shape : ℕ → Shape → Bool
 is_shape types s =
     nat_le 1 (tile_count s.rows s.cols) && nat_le (tile_count s.rows s.cols) most_tiles && nat_lt s.datatype types
-
--- whether a tile may have so many numbers
-abbrev pub is_tile_length : ℕ → Bool
-is_tile_length n = nat_le 1 n && nat_le n most_tile_elements
 
 -- at most 64 classes of different names, each with its space; 1 to 16 datatypes, given by the length of their tiles;
 -- collections of these
@@ -53,4 +45,4 @@ pub record IsWellMade (classes : List ClassPlan) (spaces : List ClassSpace) (col
   pub shapes : IsTrue (list_all (is_shape (length elems)) colls)
   pub has_default : 1 ≤ length elems
   pub types_at_most : length elems ≤ most_types
-  pub tile_lengths : IsTrue (list_all is_tile_length elems)
+  pub tile_lengths : IsTrue (list_all is_element_count elems)

@@ -3,14 +3,12 @@
 
 mod class;
 mod flow;
-mod kinds;
 mod plan;
 mod shape;
 mod target;
 
 pub use class::ClassPlan;
 pub use flow::{DepPlan, FlowPlan};
-pub use kinds::is_data;
 pub use plan::Plan;
 pub use shape::Shape;
 pub use target::{Arg, Target};

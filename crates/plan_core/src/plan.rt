@@ -4,7 +4,7 @@ ghost use Rattle.std.specs.Prelude.{◌≡◌, ◌<◌, ◌↔◌, IsTrue, Some,
 ghost use Rattle.term_core.specs.declared.space.ClassSpace.{ClassSpace};
 ghost use Rattle.term_core.specs.WellSpace.{IsWellSpace};
 ghost use Rattle.plan_core.specs.Place.{HasPlace};
-ghost use Rattle.plan_core.specs.WellMade.{is_tile_length, IsWellClass, IsWellMade};
+ghost use Rattle.plan_core.specs.WellMade.{is_element_count, IsWellClass, IsWellMade};
 
 use crate::class::ClassPlan;
 use crate::shape::Shape;
@@ -98,7 +98,7 @@ impl Plan {
     pub fn elements(&self, datatype: u32) -> u32
         requires { datatype < length self.now.elems }
         ensures elements { slice_get self.now.elems datatype ≡ Some result }
-        ensures within { IsTrue (is_tile_length result) }
+        ensures within { IsTrue (is_element_count result) }
     {
         *self.elems.get(datatype as usize)
     }

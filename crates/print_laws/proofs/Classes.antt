@@ -27,7 +27,7 @@ use Rattle.jdf_tree.specs.Nonterminal.{an_opening}
 use Rattle.jdf_tree.specs.GrammarParts.{word, suffixed_by, any, maybe, name, word_of}
 use Rattle.jdf_tree.specs.ExpressionGrammar.{outer}
 use Rattle.jdf_tree.specs.ClassGrammar as grammar
-use Rattle.jdf_tree.specs.ClassGrammar.{full_at, eight_names}
+use Rattle.jdf_tree.specs.ClassGrammar.{full_at, parameter_limit}
 use Rattle.jdf_tree.specs.Grammar as whole
 use Rattle.jdf_tree.specs.Grammar.{productions}
 use Rattle.jdf_print.specs.Fragments.{Fragment, token, space, between, separated, with_commas, line, token_count}

@@ -57,7 +57,7 @@ most_prefixes = 16000000
 abbrev pub most_edges : ℕ
 most_edges = 4000000
 
--- the greatest weight of a task on a longest chain
+-- the greatest weight of a task on a heaviest chain
 abbrev pub most_weight : ℕ
 most_weight = 1000000
 
@@ -70,6 +70,17 @@ most_shards = 256
 
 abbrev pub most_ranks : ℕ
 most_ranks = 64
+
+-- how many workers and shards a run has where it is not asked for others
+abbrev pub usual_workers : ℕ
+usual_workers = 4
+
+abbrev pub usual_shards : ℕ
+usual_shards = 16
+
+-- how many bytes a preload may take: 2^30
+abbrev pub most_preload_bytes : ℕ
+most_preload_bytes = 1073741824
 
 -- how many rows of tiles a made job may have
 abbrev pub most_rows : ℕ

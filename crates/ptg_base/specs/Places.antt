@@ -1,5 +1,7 @@
--- The places of a collection: rows and columns count from 0. Source: this project's own choice.
-use Rattle.std.specs.Prelude.{◌≡◌, ℕ, ℤ, pos, ◌≤ℤ◌, ◌<ℤ◌, Option, Some, None}
+-- The places of collections: rows and columns count from 0; and how large tiles are. Source: this project's own choice.
+use Rattle.std.specs.Prelude.{◌≡◌, ◌*◌, ◌&&◌, ℕ, nat_le, ℤ, pos, ◌≤ℤ◌, ◌<ℤ◌, Bool, List, slice_get, IsSomeAnd, Option, Some, None}
+use Rattle.ptg_base.specs.Limits.{most_tile_elements}
+use Rattle.ptg_base.specs.declared.place.Place.{Place}
 
 -- i is one of so many rows
 abbrev pub IsRow : ℕ → ℤ → Type 0
@@ -9,3 +11,16 @@ IsRow rows i = (pos 0 ≤ℤ i) × (i <ℤ pos rows)
 abbrev pub IsColumn : Option ℕ → ℤ → Type 0
 IsColumn None j = j ≡ pos 0
 IsColumn (Some cols) j = (pos 0 ≤ℤ j) × (j <ℤ pos cols)
+
+-- the collection of the place is one of these, and has its row and column; each has so many rows and columns
+abbrev pub HasPlaceAmong : {A : Type 0} → (A → ℕ) → (A → Option ℕ) → List A → Place → Type 0
+HasPlaceAmong rows cols colls p = IsSomeAnd (slice_get colls p.coll) (λ c. IsRow (rows c) p.i × IsColumn (cols c) p.j)
+
+-- how many tiles a collection has, by its rows and columns
+abbrev pub tile_count : ℕ → Option ℕ → ℕ
+tile_count rows None = rows
+tile_count rows (Some cols) = rows * cols
+
+-- whether the tiles of a type may have so many elements
+abbrev pub is_element_count : ℕ → Bool
+is_element_count n = nat_le 1 n && nat_le n most_tile_elements

@@ -30,5 +30,11 @@ pub const MOST_SHARDS: u32 = 256;
 /// How many ranks a world may have.
 pub const MOST_RANKS: u32 = 64;
 
+/// How many workers a run has where it is not asked for others.
+pub const USUAL_WORKERS: u32 = 4;
+
+/// How many shards the table of a run has where it is not asked for others.
+pub const USUAL_SHARDS: u32 = 16;
+
 /// How many rows of tiles a made job may have.
 pub const MOST_ROWS: u32 = 96;

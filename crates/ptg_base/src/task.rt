@@ -9,6 +9,7 @@ ghost use Rattle.ptg_base.specs.Limits.{most_params};
 ghost use Rattle.ptg_base.specs.TaskComparing.{same_task, task_cmp, task_hash, ComparesInTaskOrder};
 ghost use Rattle.ptg_base.specs.TaskLaws.{same_task-ties, task_cmp-total};
 
+use crate::limits::MOST_PARAMS;
 use arrayvec::ArrayVec;
 use std::cmp::Ordering;
 use std::hash::{Hash, Hasher};
@@ -20,7 +21,7 @@ use std::marker::Model;
 #[derive(Debug, Drop)]
 pub struct TaskId {
     number: u32,
-    values: ArrayVec<i64, 8>,
+    values: ArrayVec<i64, MOST_PARAMS>,
 }
 
 impl Model for TaskId {

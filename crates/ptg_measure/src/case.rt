@@ -3,8 +3,10 @@ use crate::bodies::body;
 use crate::certificates::{chain_lists, checked_chain, checked_cycle};
 use crate::count::{Counts, Failure};
 use crate::data_files::{ints, long_tiles, short_tiles};
+use crate::deques::{deep_deque, deque, thieves};
 use crate::edges::{edges, job, star_edges};
 use crate::names::names;
+use crate::shards::{ShardCase, in_a_shard};
 use crate::sizes::{size_of_line, size_of_square, size_with_sum};
 use crate::spaces::space;
 use crate::tables::{close, opened, outcome, turns, turns_in_threads, turns_of_three, unopened};
@@ -63,6 +65,14 @@ pub enum Case {
     Close,
     /// The same, up to its answer.
     Outcome,
+    /// What is done with one shard.
+    Shard(ShardCase),
+    /// So many ids pushed to one deque and popped, in bursts.
+    Deque,
+    /// So many ids pushed to one deque, and then popped.
+    DeepDeque,
+    /// So many ids pushed and popped, in bursts, while three others steal.
+    Thieves,
 }
 
 impl Case {
@@ -92,7 +102,10 @@ impl Case {
             "opened" => Some(Case::Opened),
             "close" => Some(Case::Close),
             "outcome" => Some(Case::Outcome),
-            _ => None,
+            "deque" => Some(Case::Deque),
+            "deep_deque" => Some(Case::DeepDeque),
+            "thieves" => Some(Case::Thieves),
+            _ => ShardCase::of(name).map(Case::Shard),
         }
     }
 }
@@ -128,5 +141,9 @@ pub fn measure<R: Threads + Wait + Sync>(
         Case::Opened => opened(alloc, size),
         Case::Close => close(rt, alloc, size),
         Case::Outcome => outcome(rt, alloc, size),
+        Case::Shard(case) => Ok(in_a_shard(alloc, case, size)?),
+        Case::Deque => Ok(deque(alloc, size)?),
+        Case::DeepDeque => Ok(deep_deque(alloc, size)?),
+        Case::Thieves => Ok(thieves(rt, alloc, size)?),
     }
 }

@@ -1,6 +1,7 @@
 //! Data files of a given size, read.
 use crate::count::{Count, Counts, Failure};
 use data_read::read_data;
+use ptg_base::MOST_BYTES;
 use std::alloc::Global;
 
 // How many numbers a long record of a tile has, and how each is written.
@@ -49,7 +50,7 @@ fn integers(alloc: Global, size: u32) -> Result<String, Failure> {
 
 // Reads a data file: how many bytes and records it has, and how many integers and tiles there are.
 fn read(alloc: Global, text: &str) -> Result<Counts, Failure> {
-    if text.len() > 16777216 {
+    if text.len() > MOST_BYTES {
         return Err(Failure::TooLarge);
     }
     let given = read_data(alloc, text.as_bytes())?;

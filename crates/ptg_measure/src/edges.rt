@@ -6,7 +6,7 @@ use crate::count::{Count, Counts, Failure};
 use crate::jobs::{cholesky, star};
 use dep_iter::{Direction, LentEdge, far_locals, in_edges, is_task, out_edges};
 use plan_core::Plan;
-use ptg_base::TaskId;
+use ptg_base::{MOST_LOCALS, TaskId};
 use range_space::Space;
 use std::alloc::Global;
 
@@ -45,7 +45,7 @@ impl Walked {
         requires { class < length plan.now.classes }
     {
         let space = plan.space(class);
-        if space.defs.len() > 16 {
+        if space.defs.len() > MOST_LOCALS {
             return Err(Failure::NotWellMade);
         }
         for params in Space::new(space) {

@@ -8,6 +8,7 @@ use dep_iter::Matched;
 use flow_check::{check, globals_of, missing};
 use job_stages::{JobVerdict, given_of, judge_texts, tree_of};
 use plan_core::Plan;
+use ptg_base::MOST_ROWS;
 use std::alloc::Global;
 
 // One task with an edge to and an edge from each of the others, of which LAST is the last.
@@ -91,7 +92,7 @@ fn plan_of(alloc: Global, jdf: &[u8], table: &[u8]) -> Result<Plan, Failure> {
 
 /// The plan of a job of the shape of a tiled Cholesky factorization with so many rows of tiles.
 pub fn cholesky(alloc: Global, size: u32) -> Result<Plan, Failure> {
-    if size < 1 || size > 96 {
+    if size < 1 || size > MOST_ROWS {
         return Err(Failure::TooLarge);
     }
     let (jdf, table) = job_gen::make(alloc, size)?;

@@ -6,12 +6,15 @@ mod case;
 mod certificates;
 mod count;
 mod data_files;
+mod deques;
 mod edges;
 mod jobs;
 mod names;
+mod shards;
 mod sizes;
 mod spaces;
 mod tables;
+mod tasks;
 mod texts;
 
 use crate::case::{Case, measure};
@@ -24,8 +27,9 @@ use std::{env, io};
 
 const USAGE: &str = "usage: ptg_measure (CASE SIZE)..
 CASE is space, size, size_of_square, size_with_sum, body, tokens, long_tiles, short_tiles, ints, names, job, edges,
-star, chain_lists, checked_chain, checked_cycle, turns, turns_of_three, turns_in_threads, unopened, opened, close
-or outcome";
+star, chain_lists, checked_chain, checked_cycle, turns, turns_of_three, turns_in_threads, unopened, opened, close,
+outcome, ready, best, by_task, first_edges, last_edges, reserved, fired, trapped, written, deque, deep_deque or
+thieves";
 
 // The case and the size that two words name.
 fn wanted(case: &String, size: &String) -> Option<(Case, u32)> {

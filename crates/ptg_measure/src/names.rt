@@ -4,7 +4,7 @@ use body_lang::read_body;
 use body_names::{FlowName, Scope};
 use jdf_lex::tokens;
 use name_table::NameTable;
-use ptg_base::{Seq, Text};
+use ptg_base::{MOST_BYTES, Seq, Text};
 use std::alloc::Global;
 use term_core::FlowKind;
 
@@ -75,7 +75,7 @@ pub fn names(alloc: Global, size: u32) -> Result<Counts, Failure> {
     let colls = NameTable::new(alloc);
     let scope = scope(alloc, &ints, &colls)?;
     let text = body(alloc, size)?;
-    if text.len() > 16777216 {
+    if text.len() > MOST_BYTES {
         return Err(Failure::TooLarge);
     }
     let lexed = tokens(alloc, text.as_str())?;

@@ -1,5 +1,6 @@
 //! Counts of the tasks of a class by `space_size` alone.
 ghost use Rattle.std.specs.Prelude.{◌≤◌, IfOk, length};
+ghost use Rattle.ptg_base.specs.Limits.{most_locals};
 
 use crate::count::{Count, Counts, Failure};
 use ptg_base::Seq;
@@ -18,7 +19,7 @@ fn below(count: u32) -> Def {
 
 // `T(a)`: `a = 0 .. count - 1`.
 fn line(alloc: Global, count: u32) -> Result<ClassSpace, Failure>
-    ensures { IfOk result (λ space. length space.defs ≤ 16) }
+    ensures { IfOk result (λ space. length space.defs ≤ most_locals) }
 {
     Ok(ClassSpace {
         defs: Seq::of(vec![in alloc; below(count)]?),
@@ -28,7 +29,7 @@ fn line(alloc: Global, count: u32) -> Result<ClassSpace, Failure>
 
 // `T(a, b)`: `a` and `b` are `0 .. side - 1` each.
 fn square(alloc: Global, side: u32) -> Result<ClassSpace, Failure>
-    ensures { IfOk result (λ space. length space.defs ≤ 16) }
+    ensures { IfOk result (λ space. length space.defs ≤ most_locals) }
 {
     Ok(ClassSpace {
         defs: Seq::of(vec![in alloc; below(side), below(side)]?),
@@ -38,7 +39,7 @@ fn square(alloc: Global, side: u32) -> Result<ClassSpace, Failure>
 
 // The same with a third definition, `c = a + b`.
 fn square_with_sum(alloc: Global, side: u32) -> Result<ClassSpace, Failure>
-    ensures { IfOk result (λ space. length space.defs ≤ 16) }
+    ensures { IfOk result (λ space. length space.defs ≤ most_locals) }
 {
     let sum = Expr::binary(alloc, BinOp::Add, Expr::local(0), Expr::local(1))?;
     Ok(ClassSpace {
@@ -49,7 +50,7 @@ fn square_with_sum(alloc: Global, side: u32) -> Result<ClassSpace, Failure>
 
 // How many tasks a class has.
 fn counted(alloc: Global, class: ClassSpace) -> Result<Counts, Failure>
-    requires { length class.defs ≤ 16 }
+    requires { length class.defs ≤ most_locals }
 {
     let classes = vec![in alloc; class]?;
     let count = space_size(classes.as_slice()).map_err(|_| Failure::TooLarge)?;

@@ -1,5 +1,6 @@
 //! Walks through spaces of tasks, and counts of them.
 ghost use Rattle.std.specs.Prelude.{◌≡◌, ◌≤◌, IfOk, IfSome, length};
+ghost use Rattle.ptg_base.specs.Limits.{most_locals};
 ghost use Rattle.range_space.specs.Tasks.{tasks};
 
 use crate::count::{Count, Counts, Failure};
@@ -10,7 +11,7 @@ use term_core::{ClassSpace, Def, Expr, Params, Range};
 
 /// The class of one parameter with a value for each of so many tasks, `T(k)`: `k = 1 .. size`.
 fn line(alloc: Global, size: u32) -> Result<ClassSpace, Failure>
-    ensures { IfOk result (λ space. length space.defs ≤ 16) }
+    ensures { IfOk result (λ space. length space.defs ≤ most_locals) }
 {
     let range = Range {
         lo: Expr::num(1),
@@ -25,7 +26,7 @@ fn line(alloc: Global, size: u32) -> Result<ClassSpace, Failure>
 
 /// How many tasks a walk through a class comes to, or none past the largest count.
 fn walked(space: &ClassSpace) -> Option<u64>
-    requires { length space.now.defs ≤ 16 }
+    requires { length space.now.defs ≤ most_locals }
     ensures { IfSome result (λ n. n ≡ length (tasks space.now)) }
 {
     let mut count: u64 = 0;

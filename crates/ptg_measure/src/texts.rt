@@ -1,6 +1,7 @@
 //! JDF texts of a given number of tokens, lexed.
 use crate::count::{Count, Counts, Failure};
 use jdf_lex::tokens;
+use ptg_base::MOST_BYTES;
 use std::alloc::Global;
 
 // One class of tasks, with a flow.
@@ -21,7 +22,7 @@ fn text(alloc: Global, size: u32) -> Result<String, Failure> {
 /// A text of so many tokens: how many are found.
 pub fn tokens_of_text(alloc: Global, size: u32) -> Result<Counts, Failure> {
     let text = text(alloc, size)?;
-    if text.len() > 16777216 {
+    if text.len() > MOST_BYTES {
         return Err(Failure::TooLarge);
     }
     let value = tokens(alloc, text.as_str())?.tokens.len() as i64;

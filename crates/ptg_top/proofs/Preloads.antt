@@ -12,14 +12,15 @@ use Rattle.ptg_top.specs.declared.verdict.Finding.TheVariants.{Answer}
 use Rattle.ptg_top.specs.Answering.{IsAnswer}
 use Rattle.ptg_top.specs.Denotation as verdicts
 use Rattle.ptg_top.specs.Denotation.{Denotation}
-use Rattle.ptg_top.specs.Preload.{is_too_large, preload_limit}
+use Rattle.ptg_base.specs.Limits.{most_preload_bytes}
+use Rattle.ptg_top.specs.Preload.{is_too_large}
 
 module _ (P : Plan) (s : Settings) where
   found_too_large : (bytes : ℕ) → IsTooLarge P s bytes → is_too_large s P ≡ true
   found_too_large bytes h =
-      let over : preload_limit < preload_bytes P s.workers = subst (λ (b : ℕ). preload_limit < b) h.are h.many in
-      and_from s.preload (not (nat_le (preload_bytes P s.workers) preload_limit)) h.asked
-      (not_from_false (nat_le (preload_bytes P s.workers) preload_limit) (lt-leb (preload_bytes P s.workers) preload_limit over))
+      let over : most_preload_bytes < preload_bytes P s.workers = subst (λ (b : ℕ). most_preload_bytes < b) h.are h.many in
+      and_from s.preload (not (nat_le (preload_bytes P s.workers) most_preload_bytes)) h.asked
+      (not_from_false (nat_le (preload_bytes P s.workers) most_preload_bytes) (lt-leb (preload_bytes P s.workers) most_preload_bytes over))
 
   not_true : (x : Bool) → not x ≡ true → x ≡ false
   not_true true e = absurd cc
@@ -27,8 +28,8 @@ module _ (P : Plan) (s : Settings) where
 
   is_found : is_too_large s P ≡ true → IsTooLarge P s (preload_bytes P s.workers)
   is_found large =
-      let parts = and_parts s.preload (not (nat_le (preload_bytes P s.workers) preload_limit)) large in
-      record { asked = parts.0; are = refl; many = leb-false (preload_bytes P s.workers) preload_limit (not_true (nat_le (preload_bytes P s.workers) preload_limit) parts.1) }
+      let parts = and_parts s.preload (not (nat_le (preload_bytes P s.workers) most_preload_bytes)) large in
+      record { asked = parts.0; are = refl; many = leb-false (preload_bytes P s.workers) most_preload_bytes (not_true (nat_le (preload_bytes P s.workers) most_preload_bytes) parts.1) }
 
   module _ (G : Data) where
     -- a preload that is refused

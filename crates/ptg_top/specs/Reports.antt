@@ -2,6 +2,7 @@
 -- each name.
 -- Source: this project's own choice.
 use Rattle.std.specs.Prelude.{◌≡◌, ◌≤◌, ◌⊎◌, ℕ, false, List, Option, Some}
+use Rattle.ptg_base.specs.Limits.{most_rows}
 use Rattle.std.specs.Str.{IsUtf8}
 use Rattle.ptg_io.specs.Faults.{Rose}
 use Rattle.ptg_words.specs.Laws.{AreCounts}
@@ -47,7 +48,7 @@ abbrev pub IsProper : Request → Type 0
 IsProper (Run jdf data_name settings) = IsUtf8 jdf × IsUtf8 data_name × AreCounts settings.workers settings.shards
 IsProper (Show jdf) = IsUtf8 jdf
 IsProper (Check jdf data_name) = IsUtf8 jdf × IsUtf8 data_name
-IsProper (Demo rows) = (1 ≤ rows) × (rows ≤ 96)
+IsProper (Demo rows) = (1 ≤ rows) × (rows ≤ most_rows)
 IsProper (Trace jdf data_name settings) =
     IsUtf8 jdf × IsUtf8 data_name × AreCounts settings.workers settings.shards × (settings.preload ≡ false)
 IsProper (Replay jdf data_name trace) = IsUtf8 jdf × IsUtf8 data_name × IsUtf8 trace

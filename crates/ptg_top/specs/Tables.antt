@@ -1,5 +1,6 @@
 -- The run of a job by a table. Source: this project's own choice.
 use Rattle.std.specs.Prelude.{◌≡◌, false}
+use Rattle.ptg_base.specs.Limits.{usual_shards, usual_workers}
 use Rattle.coll_data.specs.Data.{Data}
 use Rattle.plan_core.specs.declared.plan.Plan.{Plan}
 use Rattle.dep_table.specs.Receipts.{ReceiptView}
@@ -12,7 +13,7 @@ use Rattle.ptg_top.specs.Denotation.{plan_of}
 
 -- the settings of a command that has no options for them
 abbrev pub usual_settings : Settings
-usual_settings = record { workers = 4; shards = 16; preload = false }
+usual_settings = record { workers = usual_workers; shards = usual_shards; preload = false }
 
 -- the receipt is of a table with these settings: with as many shards, a pass for each worker, and a preload if one is
 -- asked for

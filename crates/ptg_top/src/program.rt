@@ -24,6 +24,8 @@ use worker_core::Gate;
 
 /// Carries out the command that the arguments form, with these files, and prints the answer.
 ///
+/// Of files whose contents are known this holds; of the system's files no clause can say what they are.
+///
 /// Whatever the JDF, the data, the number of workers and the number of shards, `run JDF DATA` prints exactly the answer
 /// of the sequential dataflow meaning, with its status: the refusal, the final collections, all trapped tasks, or a
 /// stall with its waiting discovered tasks. Only a counted fault of reading or writing, want of memory, or a preload

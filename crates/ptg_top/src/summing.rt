@@ -1,6 +1,7 @@
 //! The run of the made job, and its summary.
 
 ghost use Rattle.std.specs.Prelude.{◌≡◌, ◌≤◌, IfOk};
+ghost use Rattle.ptg_base.specs.Limits.{most_rows};
 ghost use Rattle.plan_data.specs.Fit.{DataFit};
 ghost use Rattle.ptg_top.specs.Denotation.{denoted};
 ghost use Rattle.ptg_top.specs.Demo.{DemoDenotes, IsSummary, MadeTextsDenote, summed};
@@ -30,7 +31,7 @@ pub fn demo<R: Threads + Wait + Sync, G: Gate>(
     host: &Host<R, G>,
     rows: u32,
 ) -> Result<Verdict, OutOfMemory>
-    requires { (1 ≤ rows) × (rows ≤ 96) }
+    requires { (1 ≤ rows) × (rows ≤ most_rows) }
     ensures denotes { IfOk result (λ v. DemoDenotes rows (denoted v)) }
     ensures fit { IfOk result (λ v. HasFittingJob (denoted v)) }
     ensures ran { IfOk result (λ v. IsOfRun usual_settings v) }
@@ -44,7 +45,7 @@ pub fn demo<R: Threads + Wait + Sync, G: Gate>(
 
 // The verdict of `check` on the texts of the made job.
 fn check_made(alloc: Global, rows: u32) -> Result<Verdict, OutOfMemory>
-    requires { (1 ≤ rows) × (rows ≤ 96) }
+    requires { (1 ≤ rows) × (rows ≤ most_rows) }
     ensures denotes { IfOk result (λ v. MadeTextsDenote rows (denoted v)) }
     ensures fit { IfOk result (λ v. IsChecked (denoted v)) }
 {

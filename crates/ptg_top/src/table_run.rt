@@ -13,7 +13,7 @@ use crate::verdict::RanBy;
 use coll_data::Given;
 use dep_iter::Matched;
 use flow_meaning::Outcome;
-use ptg_base::OutOfMemory;
+use ptg_base::{OutOfMemory, USUAL_SHARDS, USUAL_WORKERS};
 use run_pool::{PrepareFault, Prepared, Settings, prepare, run};
 use std::sync::Wait;
 use std::thread::Threads;
@@ -37,8 +37,8 @@ fn usual_settings() -> Settings
     ensures { result ≡ usual_settings }
 {
     Settings {
-        workers: 4,
-        shards: 16,
+        workers: USUAL_WORKERS,
+        shards: USUAL_SHARDS,
         preload: false,
     }
 }

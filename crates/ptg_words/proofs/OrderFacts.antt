@@ -1,5 +1,6 @@
 -- What the files and the numbers of a command are.
 use Rattle.std.proofs.Common.{◌≡◌, ◌∙◌, ℕ, ◌≤◌, ◌<◌, ◌^◌, Bool, true, false, not, ◌&&◌, List, [], ◌∷◌, Option, Some, None, refl, sym, ap, subst, inl, inr, arith}
+use Rattle.ptg_base.specs.Limits.{most_rows}
 use Rattle.std.specs.Prelude.{◌⊎◌, nat_le, length, option_map}
 use Rattle.std.specs.List.{All, Any}
 use Rattle.std.proofs.lemmas.Bool.Decides.{nat_tests}
@@ -119,7 +120,7 @@ are_counts ps h =
 in_ranges : (v : Verb) (ops : List (List ℕ)) (ps : List Part) → has_bad_count ps ≡ false → has_bad_operand (operands_of v) ops ≡ false → OnOrder HasNumbersInRange (formed v ops ps)
 unfolding OnOrder
 in_ranges words.run (jdf ∷ data_name ∷ []) ps c h = are_counts ps c
-in_ranges words.demo (rows ∷ []) ps c h = numbered 1 96 rows (or_parts _ _ h).0
+in_ranges words.demo (rows ∷ []) ps c h = numbered 1 most_rows rows (or_parts _ _ h).0
 in_ranges words.trace (jdf ∷ data_name ∷ []) ps c h = are_counts ps c
 in_ranges words.ranks (jdf ∷ data_name ∷ count ∷ seed ∷ []) ps c h =
     let two = or_parts _ _ h in

@@ -1,6 +1,6 @@
 -- The rules hold or fail by what the parts of the words are.
-use Rattle.std.proofs.Common.{◌≡◌, ℕ, Bool, true, false, not, ◌&&◌, List, [], ◌∷◌, ◌++◌, ◌+◌, take, length, get_or, Some, Result, Ok, Err, IfOk, refl, sym, ap, ◌∙◌, subst, inl, inr, arith, ◌<◌, ◌≤◌}
-use Rattle.std.specs.Prelude.{◌==◌, ◌⊎◌, drop, option_map, nat_le}
+use Rattle.std.proofs.Common.{◌≡◌, ℕ, Bool, true, false, not, ◌&&◌, List, [], ◌∷◌, ◌++◌, ◌+◌, take, length, get_or, Some, Result, Ok, Err, IfOk, refl, sym, ap, ◌∙◌, subst, arith, ◌<◌, ◌≤◌}
+use Rattle.std.specs.Prelude.{◌==◌, drop, option_map, nat_le}
 use Rattle.std.specs.List.{All, list_any, list_all, slice_index_or}
 use Rattle.std.specs.Option.{option_map_or}
 use Rattle.std.proofs.lemmas.List.Elements.{All-drop, All-push}
@@ -119,11 +119,6 @@ module _ (v : Verb) (ws : List (List ℕ)) (of : IsOf v ws) where
   pub orders : (r : ReadVerb) (result : Result Order WordsRefusal) → IsReadOf (operand_count v) rest_of r → IfOk result (Forms v r) → IfOk result (λ order. Orders ws order)
   orders r (Ok order) read forms = order_from order (texts r.operands.items) read.good read.counts read.operand_texts forms.good (forms.asks rest_of read.options)
   orders r (Err e) read forms = tt
-
-  -- arguments that are not read break a rule
-  pub refused : (is_read (operand_count v) rest_of ≡ false) ⊎ (has_bad_count rest_of ≡ true) → IsUsage ws
-  refused (inl h) = breaks_rule ws v rest_of of.reads h
-  refused (inr h) = breaks_number ws v rest_of of.reads (rw h refl)
 
   -- as are those with an operand that is no number
   pub refused_operand : (r : ReadVerb) → IsReadOf (operand_count v) rest_of r → HasBadOperand v r → IsUsage ws

@@ -1,7 +1,7 @@
 -- What follows from the rules of the command line.
 use Rattle.std.specs.Prelude.{◌≡◌, ◌⊎◌, ℕ, ◌<◌, ◌≤◌, ◌^◌, List, [], ◌∷◌}
 use Rattle.std.specs.Str.{IsUtf8}
-use Rattle.ptg_base.specs.Limits.{most_shards, most_workers}
+use Rattle.ptg_base.specs.Limits.{most_ranks, most_rows, most_shards, most_workers}
 use Rattle.ptg_words.specs.declared.order.Order.{Order}
 use Rattle.ptg_words.specs.declared.order.Order.TheVariants.{Run, Show, Check, Demo, Trace, Replay, Certify, Ranks}
 use Rattle.ptg_words.specs.Words.{IsUsage, Orders}
@@ -48,11 +48,11 @@ abbrev pub HasNumbersInRange : Order → Type 0
 HasNumbersInRange (Run jdf data_name w s p) = AreCounts w s
 HasNumbersInRange (Show jdf) = Unit {0}
 HasNumbersInRange (Check jdf data_name) = Unit {0}
-HasNumbersInRange (Demo rows) = (1 ≤ rows) × (rows ≤ 96)
+HasNumbersInRange (Demo rows) = (1 ≤ rows) × (rows ≤ most_rows)
 HasNumbersInRange (Trace jdf data_name w s) = AreCounts w s
 HasNumbersInRange (Replay jdf data_name list) = Unit {0}
 HasNumbersInRange (Certify jdf data_name) = Unit {0}
-HasNumbersInRange (Ranks jdf data_name r seed) = (1 ≤ r) × (r ≤ 64) × (seed < 2 ^ 64)
+HasNumbersInRange (Ranks jdf data_name r seed) = (1 ≤ r) × (r ≤ most_ranks) × (seed < 2 ^ 64)
 
 abbrev pub NumbersInRange : Type 0
 NumbersInRange = (words : List (List ℕ)) (order : Order) → Orders words order → HasNumbersInRange order

@@ -3,7 +3,7 @@ use Rattle.std.specs.Prelude.{◌≡◌, ◌≢◌, ◌==◌, ◌&&◌, ◌||◌
 use Rattle.std.specs.List.{Any, list_any}
 use Rattle.std.specs.Option.{option_map_or}
 use Rattle.std.specs.Str.{IsUtf8, bytes_eq}
-use Rattle.ptg_base.specs.Limits.{most_ranks, most_shards, most_workers}
+use Rattle.ptg_base.specs.Limits.{most_ranks, most_rows, most_shards, most_workers, usual_shards, usual_workers}
 use Rattle.ptg_base.specs.Decimal.{decimal, is_decimal}
 use Rattle.ptg_words.specs.declared.options.Options.{Options}
 use Rattle.ptg_words.specs.declared.options.Options.TheVariants.{NoOptions, Counts, CountsAndPreload}
@@ -56,7 +56,7 @@ abbrev pub operands_of : Verb → List Operand
 operands_of run = file ∷ file ∷ []
 operands_of show = file ∷ []
 operands_of check = file ∷ file ∷ []
-operands_of demo = number 1 96 ∷ []
+operands_of demo = number 1 most_rows ∷ []
 operands_of trace = file ∷ file ∷ []
 operands_of replay = file ∷ file ∷ file ∷ []
 operands_of certify = file ∷ file ∷ []
@@ -71,9 +71,13 @@ read (word ∷ words) = option_map (λ verb. (verb, parts (options_of verb) word
 abbrev pub IsProper : List ℕ → Type 0
 IsProper word = IsUtf8 word × (word ≢ []) × (word ≢ codes "-") × (word ≢ codes "--")
 
+-- how many digits a number may have, leading zeros among them
+abbrev pub most_digits : ℕ
+most_digits = 20
+
 -- 1 to 20 decimal digits whose number is from `least` to `most`; leading zeros are allowed
 abbrev pub is_number : ℕ → ℕ → List ℕ → Bool
-is_number least most text = nat_le (length text) 20 && (is_decimal most text && nat_le least (decimal text))
+is_number least most text = nat_le (length text) most_digits && (is_decimal most text && nat_le least (decimal text))
 
 -- some text is no number from `least` to `most`
 abbrev pub has_no_number : ℕ → ℕ → List (List ℕ) → Bool
@@ -125,10 +129,10 @@ number_or default (text ∷ texts) = decimal text
 
 -- 4 workers and 16 shards unless others are given
 abbrev pub workers_of : List Part → ℕ
-workers_of ps = number_or 4 (texts_of workers ps)
+workers_of ps = number_or usual_workers (texts_of workers ps)
 
 abbrev pub shards_of : List Part → ℕ
-shards_of ps = number_or 16 (texts_of shards ps)
+shards_of ps = number_or usual_shards (texts_of shards ps)
 
 -- the command that a verb, its operands and its options form
 abbrev pub formed : Verb → List (List ℕ) → List Part → Option Order

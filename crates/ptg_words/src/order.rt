@@ -23,7 +23,7 @@ pub enum Order {
     Trace(Text, Text, u32, u32),
     /// Run the job of this JDF file on this data file in the order of this trace file.
     Replay(Text, Text, Text),
-    /// Run the job of this JDF file on this data file, and print a longest chain of its tasks or a cycle.
+    /// Run the job of this JDF file on this data file, and print a heaviest chain of its tasks or a cycle.
     Certify(Text, Text),
     /// Run the job of this JDF file on this data file on this many ranks that send messages to each other, delivered as
     /// this seed says.

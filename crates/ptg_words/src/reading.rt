@@ -9,14 +9,8 @@ ghost use Rattle.ptg_words.specs.Readings.{Forms, HasBadOperand, denoted, texts}
 use crate::order::{Order, WordsRefusal};
 use crate::verb::{ReadVerb, file, number, read_verb, small_number};
 use crate::verbs::{Verb, verb_of};
-use ptg_base::{OutOfMemory, Text};
+use ptg_base::{MOST_RANKS, MOST_ROWS, OutOfMemory, Text};
 use std::alloc::Global;
-
-// How many ranks a world may have.
-const MOST_RANKS: u32 = 64;
-
-// How many rows of tiles a made job may have.
-const MOST_ROWS: u32 = 96;
 
 /// Parses the command line, without the program's name: `run JDF DATA [--workers N] [--shards K] [--preload]`, `show
 /// JDF`, `check JDF DATA`, `demo N`, `trace JDF DATA [--workers N] [--shards K]`, `replay JDF DATA TRACE`, `certify JDF

@@ -10,14 +10,13 @@ ghost use Rattle.ptg_words.specs.Readings.{AllProper, IsReadOf, are_ids, is_read
 use crate::clap_words::verb_words;
 use crate::options::Options;
 use crate::order::WordsRefusal;
-use ptg_base::{OutOfMemory, Text, decimal};
+use ptg_base::{
+    MOST_SHARDS, MOST_WORKERS, OutOfMemory, Text, USUAL_SHARDS, USUAL_WORKERS, decimal,
+};
 use std::alloc::Global;
 
-// How many workers a run may have.
-const MOST_WORKERS: u32 = 64;
-
-// How many shards the table of a run may have.
-const MOST_SHARDS: u32 = 256;
+// How many digits a number may have, leading zeros among them.
+const MOST_DIGITS: usize = 20;
 
 // The words of a verb: its operands as text, its numbers of workers and of shards, and whether all memory is to be
 // taken before the run.
@@ -46,10 +45,10 @@ pub(crate) fn read_verb<'a>(
         ⊎ (has_bad_count (parts options (drop 1 (texts words.entry.now))) ≡ true) }
 {
     let found = verb_words(alloc, name, ids, options, words)?;
-    let Some(workers) = count(found.workers, MOST_WORKERS, 4) else {
+    let Some(workers) = count(found.workers, MOST_WORKERS, USUAL_WORKERS) else {
         return Err(WordsRefusal::Usage);
     };
-    let Some(shards) = count(found.shards, MOST_SHARDS, 16) else {
+    let Some(shards) = count(found.shards, MOST_SHARDS, USUAL_SHARDS) else {
         return Err(WordsRefusal::Usage);
     };
     Ok(ReadVerb {
@@ -87,7 +86,7 @@ pub(crate) fn number(text: &str, least: u64, most: u64) -> Option<u64>
     ensures { MatchOption result (is_number least most text.now ≡ false) (λ n.
         (is_number least most text.now ≡ true) × (n ≡ decimal text.now)) }
 {
-    if text.len() > 20 {
+    if text.len() > MOST_DIGITS {
         return None;
     }
     match decimal(text.as_bytes(), most) {

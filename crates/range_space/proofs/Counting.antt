@@ -123,13 +123,6 @@ pub record IsSoFar (t p t' p' class : ℕ) (ds : List Def) (outer all left : Lis
   pub split : walk_among class ds outer all ≡ done ++ walk_among class ds outer left
   pub walked : IsWalked t p t' p' done
 
-pub nothing_yet : (t p class : ℕ) (ds : List Def) (outer all : List ℤ) → t ≤ 1000000 → p ≤ 16000000 → IsSoFar t p t p class ds outer all all
-nothing_yet t p class ds outer all h k = record {
-  done = [];
-  split = refl;
-  walked = record { unstopped = record { all_have_values = tt; tasks_at_most = omega arith; prefixes_at_most = omega arith }; all_tasks = omega arith; all_prefixes = omega arith };
-}
-
 module _ (t p t' p' class : ℕ) (ds : List Def) (outer all left : List ℤ) (v : ℤ) (more : List ℤ)
     (next : left ≡ v ∷ more) (w : IsSoFar t p t' p' class ds outer all left) where
   -- what is left, with the prefix and what is nested in it apart

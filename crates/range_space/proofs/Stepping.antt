@@ -64,10 +64,13 @@ module _ (hi step : ℤ) where
       (λ k. let e = gap-step hi step v h k in let s = size_pos hi step v h in while_enough (gap hi v) (suc (gap hi (v +ℤ step))) (v +ℤ step) (omega arith) (omega arith))
       (λ k. while_past (gap hi v) (v +ℤ step) k ∙ sym (while_past (suc (gap hi (v +ℤ step))) (v +ℤ step) k)))
 
--- where the next value does not fit 64 bits it is past hi
+-- a next value that does not fit 64 bits is past hi
+pub unfit_past : (v hi step : ℤ) → FitsSigned w64 v → FitsSigned w64 hi → (FitsSigned w64 (v +ℤ step) → ⊥) → is_within hi step (v +ℤ step) ≡ false
+unfit_past v hi step f g not_fit =
+    by_test (is_within hi step (v +ℤ step)) (λ w. absurd (not_fit (fits_between v hi step f g w))) (λ w. w)
+
 pub values_unfit : (v hi step : ℤ) → FitsSigned w64 v → FitsSigned w64 hi → (FitsSigned w64 (v +ℤ step) → ⊥) → values (v +ℤ step) hi step ≡ []
-values_unfit v hi step f g not_fit =
-    values_past hi step (v +ℤ step) (by_test (is_within hi step (v +ℤ step)) (λ w. absurd (not_fit (fits_between v hi step f g w))) (λ w. w))
+values_unfit v hi step f g not_fit = values_past hi step (v +ℤ step) (unfit_past v hi step f g not_fit)
 
 -- the next value, where it fits 64 bits
 pub values_checked : (v hi step : ℤ) (next : Option ℤ) → FitsSigned w64 v → FitsSigned w64 hi → is_within hi step v ≡ true → SomeIff next (FitsSigned w64 (v +ℤ step)) (v +ℤ step) → values v hi step ≡ v ∷ values_from next hi step

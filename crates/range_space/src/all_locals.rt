@@ -7,6 +7,7 @@ ghost use Rattle.range_space.specs.Tasks.{all_locals};
 
 use crate::numbers::Numbers;
 use crate::walk::{advance, first};
+use ptg_base::MOST_LOCALS;
 use std::marker::Model;
 use term_core::ClassSpace;
 
@@ -16,7 +17,7 @@ use term_core::ClassSpace;
 #[derive(Drop)]
 pub struct AllLocals<'a> {
     space: &'a ClassSpace,
-    locals: Numbers<16>,
+    locals: Numbers<MOST_LOCALS>,
     live: bool,
 }
 
@@ -50,14 +51,14 @@ impl<'a> AllLocals<'a> {
 }
 
 impl Iterator for AllLocals<'_> {
-    type Item = Numbers<16>;
+    type Item = Numbers<MOST_LOCALS>;
 
     ghost next_gives = { YieldsFirst (λ rest. rest) };
 
     ghost remaining = { item_count (λ rest. rest) };
 
     /// The locals of the next task in walk order, and then None.
-    fn next(&mut self) -> Option<Numbers<16>> {
+    fn next(&mut self) -> Option<Numbers<MOST_LOCALS>> {
         if !self.live {
             return None;
         }

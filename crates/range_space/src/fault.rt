@@ -1,6 +1,7 @@
 //! The faults of ranges and spaces.
 
 use crate::numbers::Numbers;
+use ptg_base::MOST_LOCALS;
 use term_core::ExprFault;
 
 /// Why a range has no values.
@@ -16,7 +17,7 @@ pub enum SpanFault {
 #[derive(Debug, Drop)]
 pub enum SpaceFault {
     /// A definition has no value under these values of the definitions before it.
-    BadExpr(u32, Numbers<16>),
+    BadExpr(u32, Numbers<MOST_LOCALS>),
     /// There are more than 1,000,000 tasks, or more than 16,000,000 prefixes.
     TooManyTasks(u32),
 }

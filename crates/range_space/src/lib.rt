@@ -21,5 +21,5 @@ pub use member::{find_locals, in_space, locals_of};
 pub use numbers::Numbers;
 pub use size::space_size;
 pub use steps::{Steps, steps_of};
-pub use tasks::{Space, params_at};
+pub use tasks::Space;
 pub use values::Values;

@@ -13,6 +13,7 @@ ghost use Rattle.ptg_base.specs.Returns.{and_then};
 
 use crate::numbers::Numbers;
 use crate::steps::{number, steps_of};
+use ptg_base::MOST_LOCALS;
 use term_core::{ClassSpace, Def, Expr, Range, eval};
 
 // The value given to the definition with this number, if it is that of a parameter.
@@ -63,7 +64,7 @@ fn local_of(def: &Def, given: Option<i64>, env: &[i64]) -> Option<i64>
 }
 
 // Extends these locals to a full list in which the parameters have these values, if there is one.
-fn complete(defs: &[Def], params: &[u8], values: &[i64], locals: &mut Numbers<16>) -> bool
+fn complete(defs: &[Def], params: &[u8], values: &[i64], locals: &mut Numbers<MOST_LOCALS>) -> bool
     requires defs_at_most { length locals.old + length defs.now ≤ most_locals }
     requires arity { length params.now ≡ length values.now }
     requires spans { IsTrue (spans_are_params (length locals.old) defs.now params.now) }
@@ -108,7 +109,7 @@ fn known_local(def: &Def, given: Option<i64>, env: &[i64]) -> i64
 }
 
 // Extends these locals to the full list in which the parameters have these values, if there is one.
-fn fill(defs: &[Def], params: &[u8], values: &[i64], locals: &mut Numbers<16>)
+fn fill(defs: &[Def], params: &[u8], values: &[i64], locals: &mut Numbers<MOST_LOCALS>)
     requires defs_at_most { length locals.old + length defs.now ≤ most_locals }
     requires arity { length params.now ≡ length values.now }
     requires spans { IsTrue (spans_are_params (length locals.old) defs.now params.now) }
@@ -142,7 +143,7 @@ pub fn in_space(space: &ClassSpace, params: &[i64]) -> bool
 
 /// The locals of the task with these parameters, or None where the class has no such task. Takes one pass over the
 /// definitions.
-pub fn find_locals(space: &ClassSpace, params: &[i64]) -> Option<Numbers<16>>
+pub fn find_locals(space: &ClassSpace, params: &[i64]) -> Option<Numbers<MOST_LOCALS>>
     requires well { IsWellSpace space.now }
     requires arity { length params.now ≡ length space.now.params }
     ensures { MatchOption result (IsIn params.now (tasks space.now) → ⊥) (λ locals.
@@ -159,7 +160,7 @@ pub fn find_locals(space: &ClassSpace, params: &[i64]) -> Option<Numbers<16>>
 
 /// The locals of the task with these parameters. No range is evaluated, since the values of the parameters are known to
 /// be its own.
-pub fn locals_of(space: &ClassSpace, params: &[i64]) -> Numbers<16>
+pub fn locals_of(space: &ClassSpace, params: &[i64]) -> Numbers<MOST_LOCALS>
     requires well { IsWellSpace space.now }
     requires task { IsIn params.now (tasks space.now) }
     ensures { IsLocalsOf space.now params.now result }

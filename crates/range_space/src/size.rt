@@ -11,7 +11,7 @@ use crate::fault::SpaceFault;
 use crate::numbers::Numbers;
 use crate::steps::Steps;
 use crate::walk::def_steps;
-use ptg_base::MOST_TASKS;
+use ptg_base::{MOST_LOCALS, MOST_TASKS};
 use term_core::{ClassSpace, Def};
 
 // The most prefixes that all classes may have together.
@@ -76,7 +76,7 @@ fn count_last(class: u32, steps: &Steps, counts: &mut Counts) -> Result<(), Spac
 fn count_from(
     class: u32,
     defs: &[Def],
-    outer: &mut Numbers<16>,
+    outer: &mut Numbers<MOST_LOCALS>,
     counts: &mut Counts,
 ) -> Result<(), SpaceFault>
     requires { length outer.old + length defs.now ≤ most_locals }
@@ -102,7 +102,7 @@ fn count_among(
     class: u32,
     steps: &Steps,
     inner: &[Def],
-    outer: &mut Numbers<16>,
+    outer: &mut Numbers<MOST_LOCALS>,
     counts: &mut Counts,
 ) -> Result<(), SpaceFault>
     requires { length outer.old + length inner.now < most_locals }

@@ -1,6 +1,6 @@
 //! Ranges as progressions, and their members by arithmetic.
 
-ghost use Rattle.std.specs.Prelude.{◌≡◌, ◌≢◌, ◌↔◌, ℤ, pos, ◌%◌, length, IsTrue, IfOk, IfErr, Ok, Err, unsigned_abs, ◌-ℤ◌};
+ghost use Rattle.std.specs.Prelude.{◌≡◌, ◌≢◌, ◌↔◌, ℤ, pos, ◌%◌, ◌+ℤ◌, length, not, true, false, IsTrue, IfOk, IfErr, MatchOption, Ok, Err, unsigned_abs, ◌-ℤ◌};
 ghost use Rattle.ptg_base.specs.Lists.{IsIn};
 ghost use Rattle.range_space.specs.Values.{is_within, values};
 ghost use Rattle.range_space.specs.Fault.{bounds, number, step_number};
@@ -16,6 +16,17 @@ pub struct Steps {
     pub hi: i64,
     pub step: i64,
     ghost step_nonzero: { step ≢ pos 0 },
+}
+
+impl Default for Steps {
+    /// No numbers.
+    fn default() -> Steps {
+        Steps {
+            lo: 0,
+            hi: -1,
+            step: 1,
+        }
+    }
 }
 
 // Whether a value is still within `hi` in the direction of the step.
@@ -75,11 +86,36 @@ impl Steps {
         Values::from(self.lo, self.hi, self.step)
     }
 
+    /// Whether there is no value.
+    pub fn is_empty(&self) -> bool
+        ensures { result ≡ not (is_within self.now.hi self.now.step self.now.lo) }
+    {
+        !is_within(self.hi, self.step, self.lo)
+    }
+
+    /// The value after this one, if there is one.
+    pub fn next_value(&self, v: i64) -> Option<i64>
+        ensures { MatchOption result (is_within self.now.hi self.now.step (v +ℤ self.now.step) ≡ false) (λ w.
+            (w ≡ v +ℤ self.now.step) × (is_within self.now.hi self.now.step w ≡ true)) }
+    {
+        let hi = self.hi;
+        match v.checked_add(self.step) {
+            Some(w) => {
+                if is_within(hi, self.step, w) {
+                    Some(w)
+                } else {
+                    None
+                }
+            }
+            None => None,
+        }
+    }
+
     /// How many values there are.
     pub fn count(&self) -> u128
         ensures { result ≡ length (values self.now.lo self.now.hi self.now.step) }
     {
-        if !is_within(self.hi, self.step, self.lo) {
+        if self.is_empty() {
             return 0;
         }
         let gap = self.hi.abs_diff(self.lo);

@@ -7,6 +7,7 @@ ghost use Rattle.range_space.specs.Tasks.{params_of, tasks};
 
 use crate::all_locals::AllLocals;
 use crate::numbers::Numbers;
+use ptg_base::MOST_PARAMS;
 use std::marker::Model;
 use term_core::{ClassSpace, local};
 
@@ -28,8 +29,8 @@ impl<'a> Model for Space<'a> {
     ghost view = { λ s. map (params_of s.space.now.params) s.lists };
 }
 
-/// The values of the parameters of a class among the locals of a task.
-pub fn params_at(space: &ClassSpace, locals: &[i64]) -> Numbers<8>
+// The values of the parameters of a class among the locals of a task.
+fn params_at(space: &ClassSpace, locals: &[i64]) -> Numbers<MOST_PARAMS>
     ensures { result ≡ params_of space.now.params locals.now }
 {
     let mut params = Numbers::new();
@@ -53,14 +54,14 @@ impl<'a> Space<'a> {
 }
 
 impl Iterator for Space<'_> {
-    type Item = Numbers<8>;
+    type Item = Numbers<MOST_PARAMS>;
 
     ghost next_gives = { YieldsFirst (λ rest. rest) };
 
     ghost remaining = { item_count (λ rest. rest) };
 
     /// The parameters of the next task in walk order, and then None.
-    fn next(&mut self) -> Option<Numbers<8>> {
+    fn next(&mut self) -> Option<Numbers<MOST_PARAMS>> {
         let locals = self.lists.next()?;
         Some(params_at(self.space, locals.as_slice()))
     }

@@ -11,6 +11,7 @@ ghost use Rattle.range_space.specs.ListsAfter.{def_bounds, lists_over, lists_ove
 use crate::fault::SpanFault;
 use crate::numbers::Numbers;
 use crate::steps::{Steps, number, steps_of};
+use ptg_base::MOST_LOCALS;
 use term_core::{Def, Range};
 
 // The progression of a definition under the values of those before it; an expression has one value.
@@ -34,7 +35,7 @@ pub(crate) fn def_steps(def: &Def, env: &[i64]) -> Result<Steps, SpanFault>
 
 // Extends these locals to the first full list, if there is one.
 #[cycle(nesting)]
-pub(crate) fn first(defs: &[Def], locals: &mut Numbers<16>) -> bool
+pub(crate) fn first(defs: &[Def], locals: &mut Numbers<MOST_LOCALS>) -> bool
     requires { length locals.old + length defs.now ≤ most_locals }
     ensures found { OnTrue result (IsFirstOf defs.now locals.old locals.new (full_lists defs.now locals.old)) }
     ensures none { OnFalse result (full_lists defs.now locals.old ≡ []) }
@@ -61,7 +62,7 @@ pub(crate) fn first(defs: &[Def], locals: &mut Numbers<16>) -> bool
 
 // Extends these locals to the first full list whose next value is this one, if there is one.
 #[cycle(nesting)]
-fn first_with(v: i64, inner: &[Def], locals: &mut Numbers<16>) -> bool
+fn first_with(v: i64, inner: &[Def], locals: &mut Numbers<MOST_LOCALS>) -> bool
     requires { length locals.old + length inner.now < most_locals }
     ensures found { OnTrue result
         (IsFirstOf inner.now (locals.old ++ v ∷ []) locals.new (full_lists inner.now (locals.old ++ v ∷ []))) }
@@ -78,7 +79,7 @@ fn first_with(v: i64, inner: &[Def], locals: &mut Numbers<16>) -> bool
 
 // Extends these locals to the first full list whose next value is one of these, if there is one.
 #[cycle(nesting)]
-fn first_among(steps: &Steps, inner: &[Def], locals: &mut Numbers<16>) -> bool
+fn first_among(steps: &Steps, inner: &[Def], locals: &mut Numbers<MOST_LOCALS>) -> bool
     requires { length locals.old + length inner.now < most_locals }
     ensures found { OnTrue result
         (IsFirstOver (Ok (record { lo = steps.now.lo; hi = steps.now.hi; step = steps.now.step })) inner.now locals.old
@@ -96,7 +97,12 @@ fn first_among(steps: &Steps, inner: &[Def], locals: &mut Numbers<16>) -> bool
 }
 
 // Extends these locals to the first full list whose next value is one of this range after `v`, if there is one.
-fn first_in_range_past(range: &Range, v: i64, inner: &[Def], locals: &mut Numbers<16>) -> bool
+fn first_in_range_past(
+    range: &Range,
+    v: i64,
+    inner: &[Def],
+    locals: &mut Numbers<MOST_LOCALS>,
+) -> bool
     requires { length locals.old + length inner.now < most_locals }
     ensures found { OnTrue result
         (IsFirstOver (bounds range.now locals.old) inner.now locals.old locals.new
@@ -122,7 +128,7 @@ fn first_in_range_past(range: &Range, v: i64, inner: &[Def], locals: &mut Number
 
 // Extends these locals to the first full list whose next value is another one of this definition, after `v`, if there
 // is one. An expression has no other, and is not evaluated.
-fn first_past(def: &Def, v: i64, inner: &[Def], locals: &mut Numbers<16>) -> bool
+fn first_past(def: &Def, v: i64, inner: &[Def], locals: &mut Numbers<MOST_LOCALS>) -> bool
     requires { length locals.old + length inner.now < most_locals }
     ensures found { OnTrue result
         (IsFirstPast def.now inner.now locals.old locals.new (lists_past def.now inner.now locals.old v)) }
@@ -137,7 +143,7 @@ fn first_past(def: &Def, v: i64, inner: &[Def], locals: &mut Numbers<16>) -> boo
 
 // Changes a full list into the one after it among those with the same first `depth` locals, or into these locals where
 // there is none.
-pub(crate) fn advance(defs: &[Def], depth: usize, locals: &mut Numbers<16>) -> bool
+pub(crate) fn advance(defs: &[Def], depth: usize, locals: &mut Numbers<MOST_LOCALS>) -> bool
     requires full { length locals.old ≡ depth + length defs.now }
     requires locals_at_most { length locals.old ≤ most_locals }
     ensures found { OnTrue result

@@ -15,7 +15,7 @@ ghost use Rattle.rank_world.specs.Visits.{AreBlank, IsShapeOf, IsVisit, between_
 use crate::visit::Visit;
 use dep_iter::{Matched, flows_of, out_edges_under, write_backs_under};
 use dep_shard::Shard;
-use plan_core::{FlowPlan, Plan, is_data};
+use plan_core::{FlowPlan, Plan};
 use ptg_base::{Edge, OutOfMemory, TaskId, Tile};
 use rank_core::Message;
 use shard_calls::shard_at;
@@ -46,7 +46,7 @@ fn blank_tile(alloc: Global, m: &Matched, flow: &FlowPlan) -> Result<Option<Tile
         option_map length tile
         ≡ (if kinds.is_data (Some flow.now.kind) then Some (slice_index m.now.elems flow.now.datatype) else None)) }
 {
-    if !is_data(flow.kind) {
+    if !flow.kind.is_data() {
         return Ok(None);
     }
     let elems = m.plan().elems.as_slice()[flow.datatype as usize];

@@ -43,14 +43,6 @@ changed held after tallies port v w at b ids parts idle who = record {
   pushes = still_first tallies port v w at who b.pushes;
 }
 
-pub begins : Balanced [] (tally 65 [] [] ∷ [])
-begins = record {
-  ids = λ id. refl;
-  parts = refl;
-  idle = All-cons IdleIsEmpty (tally 65 [] []) [] (λ none. absurd (omega arith)) (All-nil IdleIsEmpty);
-  pushes = All-nil HasNotPushed;
-}
-
 some_at : (views : List Tally) (port : ℕ) (v : Tally) → get_elem? views port ≡ some v → 0 < length views
 some_at [] port v at = absurd (some-ne-none v (sym at))
 some_at (t ∷ ts) port v at = omega arith

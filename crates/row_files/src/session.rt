@@ -2,11 +2,11 @@
 
 use crate::call::Call;
 use crate::items::{Item, items};
-use crate::prefixes::{Prefixes, wanted_of};
+use crate::prefixes::wanted_of;
 use crate::report::Report;
 use crate::tried::Tried;
 use crate::why::Why;
-use crate::worked_row::{Order, Wanted, WorkedRow};
+use crate::worked_row::{Order, StatusOfEach, Wanted, WorkedRow};
 use std::alloc::Global;
 use std::rt::{Env, Files};
 use std::sync::Wait;
@@ -164,9 +164,7 @@ pub fn tried<'a, R: Threads + Wait + Sync, C: Call>(
             };
             Ok(tried.if_other())
         }
-        Wanted::Status(status, prefixes) => {
-            tried_with_each(rt, alloc, call, &order, status, &prefixes)
-        }
+        Wanted::Status(each) => tried_with_each(rt, alloc, call, &order, &each),
     }
 }
 
@@ -176,14 +174,13 @@ fn tried_with_each<R: Threads + Wait + Sync, C: Call>(
     alloc: Global,
     call: &C,
     whole: &Order,
-    status: u8,
-    prefixes: &Prefixes,
+    each: &StatusOfEach,
 ) -> Result<Option<Tried>, Why> {
-    for length in prefixes.from..prefixes.to {
-        let order = prefixes.order(alloc, whole, length)?;
+    for length in each.prefixes.from..each.prefixes.to {
+        let order = each.prefixes.order(alloc, whole, length)?;
         let came = call.printed(rt, alloc, order)?;
         let tried = Tried {
-            wanted: wanted_of(alloc, status, &came)?,
+            wanted: wanted_of(alloc, each.status, &came)?,
             came,
             length: Some(length),
         };

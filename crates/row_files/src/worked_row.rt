@@ -63,8 +63,15 @@ pub struct Printed {
 pub enum Wanted {
     /// This text and status.
     Text(Printed),
-    /// This status with each of these beginnings of a file, and of statuses 1 to 4 one line.
-    Status(u8, Prefixes),
+    /// A status with each of some beginnings of a file.
+    Status(StatusOfEach),
+}
+
+/// The status that must come with each of these beginnings of a file, and of statuses 1 to 4 one line.
+#[derive(Drop)]
+pub struct StatusOfEach {
+    pub status: u8,
+    pub prefixes: Prefixes,
 }
 
 impl<'a> WorkedRow<'a> {
@@ -168,7 +175,7 @@ fn what_is_wanted(
         }
         (Some(prefixes), None) if cut.is_none() => {
             prefixes.belong_to(order)?;
-            Ok(Wanted::Status(status, prefixes))
+            Ok(Wanted::Status(StatusOfEach { status, prefixes }))
         }
         (None, None) => Err(Why("a row without prints")),
         _ => Err(Why("a row with prefixes, and with prints or cut")),

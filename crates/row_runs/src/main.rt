@@ -1,5 +1,5 @@
-//! Rows over a call that looks at the length of its file alone: prints how those are reported that come out otherwise or
-//! can't be read.
+//! Rows over a call that looks at the length of its file alone: prints how those are reported that come out otherwise
+//! or can't be read.
 #![tactic(auto)]
 
 use row_files::{Call, Order, Printed, Why, all_as_wanted};

@@ -13,7 +13,7 @@ use Rattle.ptg_base.specs.declared.edge.Item.{Item}
 use Rattle.ptg_base.specs.declared.edge.Item.TheVariants as item
 use Rattle.plan_core.specs.declared.flow.FlowPlan.{FlowPlan}
 use Rattle.plan_core.specs.declared.plan.Plan.{Plan}
-use Rattle.plan_core.specs.WellMade.{is_tile_length}
+use Rattle.plan_core.specs.WellMade.{is_element_count}
 use Rattle.dep_iter.specs.Consistent.{IsConsistent, all_data, all_in, all_items, all_writes, is_data_edge}
 use Rattle.dep_iter.specs.Edges.{in_edges}
 use Rattle.dep_iter.specs.Items.{items, write_backs, write_of}
@@ -36,13 +36,13 @@ all_tasks_send P =
     let outs = weigh-flat_map (write_elements P) (write_backs P) (all_tasks P) in
     omega (arith, both, ins, outs)
 
-length_at_most : (n : ℕ) → is_tile_length n ≡ true → n ≤ 4096
+length_at_most : (n : ℕ) → is_element_count n ≡ true → n ≤ 4096
 length_at_most n h =
     let p : nat_le n 4096 ≡ true = (and_parts (nat_le 1 n) (nat_le n 4096) h).1 in
     grind (arith, nat_tests)
 
 -- a tile of any type has at most so many numbers
-type_at_most : (ns : List ℕ) (k : ℕ) → list_all is_tile_length ns ≡ true → slice_index ns k ≤ 4096
+type_at_most : (ns : List ℕ) (k : ℕ) → list_all is_element_count ns ≡ true → slice_index ns k ≤ 4096
 type_at_most [] k h = omega arith
 type_at_most (n ∷ ns) zero h = length_at_most n (and_parts _ _ h).0
 type_at_most (n ∷ ns) (suc k) h = type_at_most ns k (and_parts _ _ h).1
@@ -68,7 +68,7 @@ sent_at_most P con =
     let writes = writes_at_most P in
     omega (arith, ins, outs, fewer, writes, con.in_edges_at_most, con.items_at_most)
 
-sum_at_most : (ns : List ℕ) → list_all is_tile_length ns ≡ true → sum ns ≤ 4096 * length ns
+sum_at_most : (ns : List ℕ) → list_all is_element_count ns ≡ true → sum ns ≤ 4096 * length ns
 sum_at_most [] h = omega arith
 sum_at_most (n ∷ ns) h =
     let p = and_parts _ _ h in

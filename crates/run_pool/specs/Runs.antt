@@ -1,6 +1,6 @@
 -- A run that is ready, as contracts see it, and when a preload is too large. Source: this project's own choice.
-use Rattle.std.specs.Prelude.{◌≡◌, ◌<◌, ◌≤◌, ◌^◌, ℕ, true}
-use Rattle.ptg_base.specs.Limits.{most_shards, most_workers}
+use Rattle.std.specs.Prelude.{◌≡◌, ◌<◌, ◌≤◌, ℕ, true}
+use Rattle.ptg_base.specs.Limits.{most_preload_bytes, most_shards, most_workers}
 use Rattle.plan_core.specs.declared.plan.Plan.{Plan}
 use Rattle.coll_data.specs.Data.{Data}
 use Rattle.table_rule.specs.declared.job.Job.{Job}
@@ -28,4 +28,4 @@ pub record AreSettings (s : Settings) : Type 0 where
 pub record IsTooLarge (P : Plan) (s : Settings) (bytes : ℕ) : Type 0 where
   pub asked : s.preload ≡ true
   pub are : bytes ≡ preload_bytes P s.workers
-  pub many : 2 ^ 30 < bytes
+  pub many : most_preload_bytes < bytes

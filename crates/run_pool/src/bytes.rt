@@ -1,6 +1,7 @@
 //! How much memory a preload takes.
 
 ghost use Rattle.std.specs.Prelude.{◌≡◌, ◌<◌, ◌+◌, ◌*◌, ◌^◌, ℕ, [], ◌∷◌, length, sum};
+ghost use Rattle.ptg_base.specs.Limits.{most_flows};
 ghost use Rattle.plan_core.specs.declared.plan.Plan.{Plan as PlanValue};
 ghost use Rattle.dep_iter.specs.Consistent.{all_data, all_writes};
 ghost use Rattle.run_pool.specs.Bytes as bytes;
@@ -8,6 +9,7 @@ ghost use Rattle.run_pool.specs.Bytes as bytes;
 use crate::elements::sent_elements;
 use dep_iter::Matched;
 use plan_core::Plan;
+use ptg_base::MOST_FLOWS;
 
 // How many numbers one tile of each type has, all together.
 fn type_elements(plan: &Plan) -> u64
@@ -22,17 +24,17 @@ fn type_elements(plan: &Plan) -> u64
 }
 
 /// The bytes that a preload takes for so many workers: a tile for each data edge and each write-back, and for each
-/// worker eight tiles of each type. It takes no memory.
+/// worker as many tiles of each type as a task may have flows. It takes no memory.
 pub fn preload_bytes(m: &Matched, workers: u32) -> u64
     ensures { result ≡ bytes.preload_bytes m.now workers }
 {
     let sent = sent_elements(m);
     let each = type_elements(m.plan());
-    8 * (sent + 8 * u64::from(workers) * each)
+    8 * (sent + MOST_FLOWS as u64 * u64::from(workers) * each)
 }
 
 /// A law: where DEFAULT is the only type, each tile has as many numbers, and the bytes are a product.
 pub fn with_one_type_the_preload_is_a_product()
     ensures { (P : PlanValue) (elems workers : ℕ) → P.elems ≡ elems ∷ []
-        → bytes.preload_bytes P workers ≡ 8 * elems * (length (all_data P) + length (all_writes P) + 8 * workers) }
+        → bytes.preload_bytes P workers ≡ 8 * elems * (length (all_data P) + length (all_writes P) + most_flows * workers) }
 {}

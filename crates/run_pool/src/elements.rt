@@ -9,7 +9,7 @@ ghost use Rattle.run_pool.specs.Bytes as bytes;
 ghost use Rattle.run_pool.specs.Elements as elements;
 
 use dep_iter::{Matched, all_tasks, flows_of, in_edges_under, locals_of, write_backs_under};
-use plan_core::{Plan, is_data};
+use plan_core::Plan;
 use ptg_base::TaskId;
 
 // How many numbers a tile of this flow of a task has.
@@ -29,7 +29,7 @@ fn is_data_flow(plan: &Plan, t: &TaskId, flow: u8) -> bool
     ensures { result ≡ kinds.is_data (kinds.kind_of plan.now.classes t.now.class flow) }
 {
     match flows_of(plan, t).get(flow as usize) {
-        Some(f) => is_data(f.kind),
+        Some(f) => f.kind.is_data(),
         None => false,
     }
 }

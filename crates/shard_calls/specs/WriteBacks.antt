@@ -1,5 +1,5 @@
--- What a write-back needs of the shard that takes it. Source: this project's own choice, by which a write-back is kept in
--- the shard of its task.
+-- What a write-back needs of the shard that takes it. Source: this project's own choice, by which a write-back is kept
+-- in the shard of its task.
 use Rattle.std.specs.Prelude.{◌≡◌, ℤ, List, Option, Some, IsSome, IfSome}
 use Rattle.ptg_base.specs.declared.edge.WriteBack.{WriteBack}
 use Rattle.plan_core.specs.declared.flow.FlowPlan.{FlowPlan}

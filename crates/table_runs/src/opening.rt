@@ -14,7 +14,7 @@ use dep_iter::Matched;
 use dep_table::pass::Pass;
 use dep_table::table::DepTable;
 use job_stages::{JobVerdict, judge_texts};
-use ptg_base::OutOfMemory;
+use ptg_base::{MOST_SHARDS, OutOfMemory};
 use std::alloc::Global;
 
 /// How a table is made.
@@ -62,7 +62,7 @@ pub fn table_of(
     ensures pass { IfOk result (λ o. IfSome o (λ r. IsPassOf (id_of r.0) r.1 × (shown r.1 ≡ first_pass))) }
     ensures preloaded { IfOk result (λ o. IfSome o (λ r. (job_in r.0).preloaded ≡ make.preload)) }
 {
-    if make.shards == 0 || make.shards > 256 {
+    if make.shards == 0 || make.shards > MOST_SHARDS {
         return Ok(None);
     }
     let Some((matched, given)) = job_of(alloc, texts)? else {

@@ -7,7 +7,7 @@ use crate::answer::{Answer, answer_of};
 use crate::jobs::Texts;
 use crate::opening::job_of;
 use dep_table::closed::Closed;
-use ptg_base::{OutOfMemory, TaskId};
+use ptg_base::{MOST_SHARDS, MOST_WORKERS, OutOfMemory, TaskId};
 use run_pool::{PrepareFault, Settings, prepare, run, run_traced};
 use std::alloc::Global;
 use std::sync::Wait;
@@ -18,10 +18,10 @@ use worker_core::Always;
 fn are_settings(settings: Settings) -> bool
     ensures { IsTrue result → AreSettings settings }
 {
-    if settings.workers == 0 || settings.workers > 64 {
+    if settings.workers == 0 || settings.workers > MOST_WORKERS {
         return false;
     }
-    if settings.shards == 0 || settings.shards > 256 {
+    if settings.shards == 0 || settings.shards > MOST_SHARDS {
         return false;
     }
     true

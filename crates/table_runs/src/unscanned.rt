@@ -26,7 +26,7 @@ pub struct Unscanned {
     pub table: DepTable,
     /// How many shards can be scanned, from the first on: none in this program.
     pub scanned: u32,
-    pub ghost few: { scanned ≤ (job_of table).shards },
+    pub ghost within: { scanned ≤ (job_of table).shards },
 }
 
 /// A worker's pass, and a second one that halts the table.

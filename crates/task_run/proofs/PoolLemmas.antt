@@ -37,29 +37,29 @@ map_set f (z ∷ zs) (suc k) x y h e = ap (λ l. f z ∷ l) (map_set f zs k x y 
 
 -- while fewer than eight flows have their tiles, a pool has a tile to lend
 pub has_spare : (lent : List (Option ℕ)) (k : ℕ) (pool : Pool) (zeros : List ℤ) → IsPoolOf lent k pool zeros → length lent < 8 → 0 < pool.spare
-has_spare lent k pool zeros is h = omega (arith, is.lent, is.eight, count_by-le-length (is_of_type k) lent)
+has_spare lent k pool zeros is h = omega (arith, is.lent, is.enough, count_by-le-length (is_of_type k) lent)
 
 -- a pool after it lent a tile, and after it got one back
 lent_one : (lent : List (Option ℕ)) (k : ℕ) (old new : Pool) (z y : List ℤ) → IsPoolOf lent k old z → IsTakenFrom old new → y ≡ z → IsPoolOf (lent ++ Some k ∷ []) k new y
 lent_one lent k old new z y is taken same = record {
   zeros = same ∙ is.zeros ∙ ap (λ n. replicate n (pos 0)) (sym taken.elems);
   lent = omega (arith, taken.room, is.lent, count-one k lent (Some k), same_type k);
-  eight = omega (arith, taken.room, taken.spare, is.eight);
+  enough = omega (arith, taken.room, taken.spare, is.enough);
 }
 
 got_one : (lent : List (Option ℕ)) (k : ℕ) (old new : Pool) (z y : List ℤ) → IsPoolOf (lent ++ Some k ∷ []) k old z → IsTakenFrom new old → y ≡ z → IsPoolOf lent k new y
 got_one lent k old new z y is taken same = record {
   zeros = same ∙ is.zeros ∙ ap (λ n. replicate n (pos 0)) taken.elems;
   lent = omega (arith, taken.room, is.lent, count-one k lent (Some k), same_type k);
-  eight = omega (arith, taken.room, taken.spare, is.eight);
+  enough = omega (arith, taken.room, taken.spare, is.enough);
 }
 
 -- a pool of another type has the same counts
 one_more : (lent : List (Option ℕ)) (type : Option ℕ) (j : ℕ) (pool : Pool) (z : List ℤ) → one j type ≡ 0 → IsPoolOf lent j pool z → IsPoolOf (lent ++ type ∷ []) j pool z
-one_more lent type j pool z none is = record { zeros = is.zeros; lent = omega (arith, is.lent, count-one j lent type, none); eight = is.eight }
+one_more lent type j pool z none is = record { zeros = is.zeros; lent = omega (arith, is.lent, count-one j lent type, none); enough = is.enough }
 
 one_less : (lent : List (Option ℕ)) (type : Option ℕ) (j : ℕ) (pool : Pool) (z : List ℤ) → one j type ≡ 0 → IsPoolOf (lent ++ type ∷ []) j pool z → IsPoolOf lent j pool z
-one_less lent type j pool z none is = record { zeros = is.zeros; lent = omega (arith, is.lent, count-one j lent type, none); eight = is.eight }
+one_less lent type j pool z none is = record { zeros = is.zeros; lent = omega (arith, is.lent, count-one j lent type, none); enough = is.enough }
 
 pub none_lent : (pools : List TypePool) (lent : List (Option ℕ)) → ArePools pools lent → ArePools pools (lent ++ None ∷ [])
 none_lent pools lent are k p is = one_more lent None k p.pool p.zeros refl (are k p is)
@@ -169,14 +169,14 @@ lent_room lent k pool z is = omega (arith, is.lent, count-one k lent (Some k), s
 
 -- one pool more, while nothing is lent
 pub one_pool : (pools : List TypePool) (p : TypePool) → ArePools pools [] → p.pool.room ≡ 0 → 8 ≤ p.pool.spare → p.zeros ≡ replicate p.pool.elems (pos 0) → ArePools (pools ++ p ∷ []) []
-one_pool [] p are room eight zeros zero q at =
+one_pool [] p are room enough zeros zero q at =
     let same : p ≡ q = cc in
-    subst (λ (r : TypePool). IsPoolOf [] zero r.pool r.zeros) same (record { zeros = zeros; lent = room; eight = omega (arith, eight) })
-one_pool [] p are room eight zeros (suc k) q at = absurd cc
-one_pool (x ∷ xs) p are room eight zeros zero q at = are zero q at
-one_pool (x ∷ xs) p are room eight zeros (suc k) q at =
-    let is = one_pool xs p (λ j r e. let w = are (suc j) r e in record { zeros = w.zeros; lent = w.lent; eight = w.eight }) room eight zeros k q at in
-    record { zeros = is.zeros; lent = is.lent; eight = is.eight }
+    subst (λ (r : TypePool). IsPoolOf [] zero r.pool r.zeros) same (record { zeros = zeros; lent = room; enough = omega (arith, enough) })
+one_pool [] p are room enough zeros (suc k) q at = absurd cc
+one_pool (x ∷ xs) p are room enough zeros zero q at = are zero q at
+one_pool (x ∷ xs) p are room enough zeros (suc k) q at =
+    let is = one_pool xs p (λ j r e. let w = are (suc j) r e in record { zeros = w.zeros; lent = w.lent; enough = w.enough }) room enough zeros k q at in
+    record { zeros = is.zeros; lent = is.lent; enough = is.enough }
 
 pub pools_along_left : {l m : List TypePool} {lent : List (Option ℕ)} → l ≡ m → ArePools l lent → ArePools m lent
 pools_along_left {lent = lent} e are = subst (λ pools. ArePools pools lent) e are

@@ -1,6 +1,7 @@
 -- The tiles of a bench, in a pool for each type, of which some are lent to the flows of a task. Source: this project's
 -- own choice.
 use Rattle.std.specs.Prelude.{◌≡◌, ℕ, ◌+◌, ◌-◌, ◌<◌, ◌≤◌, ℤ, pos, Bool, false, nat_eq, List, [], ◌∷◌, ◌++◌, count_by, length, replicate, slice_get, slice_index, take, option_map, Option, Some, None}
+use Rattle.ptg_base.specs.Limits.{most_flows}
 use Rattle.tile_pool.specs.Pool.{Pool}
 
 -- how many numbers a tile of each type has, and for each flow, in order, the type of the tile that it was lent, if it
@@ -14,11 +15,11 @@ abbrev pub is_of_type : ℕ → Option ℕ → Bool
 is_of_type k None = false
 is_of_type k (Some n) = nat_eq k n
 
--- a pool of eight tiles of type k, of which some are lent, and a tile of zeros
+-- a pool of tiles of type k, as many as a class may have flows, of which some are lent, and a tile of zeros
 pub record IsPoolOf (types : List (Option ℕ)) (k : ℕ) (pool : Pool) (zero : List ℤ) : Type 0 where
   pub zeros : zero ≡ replicate pool.elems (pos 0)
   pub lent : pool.room ≡ count_by (is_of_type k) types
-  pub eight : 8 ≤ pool.spare + pool.room
+  pub enough : most_flows ≤ pool.spare + pool.room
 
 -- one flow more, to which a tile of this type was lent, or none
 abbrev pub with_lent : Lent → Option ℕ → Lent

@@ -16,7 +16,7 @@ use body_eval::{Scratch, run_body};
 use dep_iter::{Matched, flows_of};
 use dep_shard::Arrivals;
 use plan_core::FlowPlan;
-use ptg_base::{OutOfMemory, Tile};
+use ptg_base::{MOST_FLOWS, OutOfMemory, Tile};
 use std::alloc::Global;
 use std::marker::Model;
 use term_core::Trap;
@@ -27,18 +27,19 @@ use term_core::Trap;
 pub struct Bench {
     scratch: Scratch,
     pools: Pools,
-    tiles: [Option<Tile>; 8],
+    tiles: [Option<Tile>; MOST_FLOWS],
 }
 
 impl Model for Bench {
     ghost use Rattle.std.specs.Prelude.{◌≡◌, length, take};
+    ghost use Rattle.ptg_base.specs.Limits.{most_flows};
     ghost use Rattle.task_run.specs.Bench.{FitLent, Laid};
 
     ghost Value = { Laid };
 
     ghost view = { λ b. record { elems = b.pools.elems; tiles = take (length b.pools.lent) b.tiles } };
 
-    ghost invariant = { λ b. FitLent b.pools.elems b.pools.lent b.tiles × (length b.tiles ≡ 8) };
+    ghost invariant = { λ b. FitLent b.pools.elems b.pools.lent b.tiles × (length b.tiles ≡ most_flows) };
 }
 
 impl Bench {

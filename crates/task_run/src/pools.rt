@@ -9,13 +9,10 @@ ghost use Rattle.task_run.specs.PoolList.{CanGive, IsGivenBack};
 
 use arrayvec::ArrayVec;
 use plan_core::Plan;
-use ptg_base::{OutOfMemory, Tile};
+use ptg_base::{MOST_FLOWS, OutOfMemory, Tile};
 use std::alloc::Global;
 use std::marker::Model;
 use tile_pool::TilePool;
-
-// The most flows that a class has, so the most tiles of one type that a task starts on.
-const MOST_FLOWS: u64 = 8;
 
 // The tiles of one type, and one of zeros.
 #[derive(Drop)]
@@ -24,15 +21,15 @@ pub(crate) struct TypePool {
     pub(crate) zeros: Tile,
 }
 
-// Eight tiles of this length, and one of zeros.
+// As many tiles of this length as a class may have flows, so as a task may start on, and one of zeros.
 fn new_pool(alloc: Global, elems: u32) -> Result<TypePool, OutOfMemory>
     ensures elems { IfOk result (λ p. p.pool.elems ≡ elems) }
-    ensures eight { IfOk result (λ p. 8 ≤ p.pool.spare) }
+    ensures spare { IfOk result (λ p. most_flows ≤ p.pool.spare) }
     ensures room { IfOk result (λ p. p.pool.room ≡ 0) }
     ensures zeros { IfOk result (λ p. p.zeros ≡ replicate elems (pos 0)) }
 {
     let mut pool = TilePool::new(alloc, elems);
-    pool.reserve(MOST_FLOWS)?;
+    pool.reserve(MOST_FLOWS as u64)?;
     let zeros = Tile::zeros(alloc, elems)?;
     Ok(TypePool { pool, zeros })
 }
@@ -56,7 +53,7 @@ fn copy_in(p: &mut TypePool, from: Option<&Tile>) -> Tile
 #[derive(Drop)]
 pub(crate) struct Pools {
     pools: Vec<TypePool>,
-    lent: ArrayVec<Option<u32>, 8>,
+    lent: ArrayVec<Option<u32>, MOST_FLOWS>,
 }
 
 impl Model for Pools {

@@ -15,7 +15,7 @@ use crate::pools::Pools;
 use coll_data::Given;
 use dep_iter::{Source, data_source_under};
 use dep_shard::Arrivals;
-use plan_core::{FlowPlan, Plan, is_data};
+use plan_core::{FlowPlan, Plan};
 use plan_data::opening_tile;
 use ptg_base::{Place, TaskId, Tile};
 use term_core::FlowKind;
@@ -99,7 +99,7 @@ fn lend_source(pools: &mut Pools, start: &Start, flow: &FlowPlan) -> Option<Tile
         (length pools.old.lent) flow.now }
     ensures lent { LendsTo pools.old pools.new result }
 {
-    if !is_data(flow.kind) {
+    if !flow.kind.is_data() {
         pools.lend_none();
         return None;
     }

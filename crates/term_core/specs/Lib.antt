@@ -10,3 +10,4 @@ pub mod BlockStatementList
 pub mod BlockSize
 pub mod WellBody
 pub mod Trap
+pub mod Kinds

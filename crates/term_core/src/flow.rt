@@ -1,5 +1,8 @@
 //! Kinds of flows.
 
+ghost use Rattle.std.specs.Prelude.{◌≡◌};
+ghost use Rattle.term_core.specs.Kinds as kinds;
+
 /// What a flow of a task does with its tile.
 #[derive(Clone, Copy, Debug, PartialEq, Eq)]
 pub enum FlowKind {
@@ -11,4 +14,61 @@ pub enum FlowKind {
     Rw,
     /// Carries order alone, and no tile.
     Ctl,
+}
+
+impl FlowKind {
+    /// Whether it carries order alone.
+    pub fn is_control(self) -> bool
+        ensures { result ≡ kinds.is_control self }
+    {
+        match self {
+            FlowKind::Read => false,
+            FlowKind::Write => false,
+            FlowKind::Rw => false,
+            FlowKind::Ctl => true,
+        }
+    }
+
+    /// Whether it carries a tile.
+    pub fn is_data(self) -> bool
+        ensures { result ≡ kinds.is_data self }
+    {
+        match self {
+            FlowKind::Read => true,
+            FlowKind::Write => true,
+            FlowKind::Rw => true,
+            FlowKind::Ctl => false,
+        }
+    }
+
+    /// Whether its tile is only written: no task hands it one.
+    pub fn is_write(self) -> bool
+        ensures { result ≡ kinds.is_write self }
+    {
+        match self {
+            FlowKind::Read => false,
+            FlowKind::Write => true,
+            FlowKind::Rw => false,
+            FlowKind::Ctl => false,
+        }
+    }
+
+    /// Whether it takes a tile, so that one of its in dependences must hold.
+    pub fn takes_tile(self) -> bool
+        ensures { result ≡ kinds.takes_tile self }
+    {
+        match self {
+            FlowKind::Read => true,
+            FlowKind::Write => false,
+            FlowKind::Rw => true,
+            FlowKind::Ctl => false,
+        }
+    }
+
+    /// Whether of its in dependences the first that holds counts alone.
+    pub fn takes_first(self) -> bool
+        ensures { result ≡ kinds.takes_first self }
+    {
+        self.is_data()
+    }
 }

@@ -5,7 +5,7 @@ ghost use Rattle.ptg_base.specs.Limits.{most_params};
 
 use crate::expr::Expr;
 use arrayvec::ArrayVec;
-use ptg_base::Seq;
+use ptg_base::{MOST_PARAMS, Seq};
 use std::marker::Model;
 
 /// The numbers from `lo` to `hi` by `step`, or by 1 where no step is written.
@@ -45,7 +45,7 @@ impl Drop for Def {
 /// For each parameter, in order, the number of its definition; at most eight. It takes no memory.
 #[derive(Drop)]
 pub struct Params {
-    numbers: ArrayVec<u8, 8>,
+    numbers: ArrayVec<u8, MOST_PARAMS>,
 }
 
 impl Model for Params {

@@ -9,7 +9,6 @@ use Rattle.trace_core.specs.Rows.{BeginsWithRow}
 use Rattle.trace_core.specs.Spelling.{BeginsWith, HasNoHead, IsSpelled, IsWellSpelled, fits_64}
 use Rattle.trace_core.specs.Text.{Entry, head_line, row_line, rows_text}
 use Rattle.trace_core.proofs.Cuts.{cut_once}
-use Rattle.trace_core.proofs.Fields.{lf_first}
 use Rattle.trace_core.proofs.Spelled.{decimal_free, head_split, same_head, same_number}
 use Rattle.list_lemmas.proofs.Places.{each_push}
 
@@ -23,10 +22,6 @@ module _ (text fields field rest : List ℕ) (word : text ≡ codes "trace," ++ 
 
   pub head_no_count : ((n : ℕ) → n ≤ 1000000 → field ≢ decimal n) → HasNoHead text
   head_no_count none n later le h = none n le (head_parts n later le h).0
-
-  pub head_is : (b n : ℕ) (later : List ℕ) → rest ≡ b ∷ later → field ≡ decimal n → text ≡ head_line n ++ later
-  head_is b n later is same =
-      word ∙ ap (λ t. codes "trace," ++ t) (lf_first fields field rest b later cut is ∙ ap (λ t. t ++ 10 ∷ later) same) ∙ sym (head_split n later)
 
 -- a number of rows is a number
 small_fits : (n : ℕ) → n ≤ 1000000 → fits_64 (pos n) ≡ true

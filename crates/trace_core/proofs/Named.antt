@@ -21,14 +21,6 @@ use Rattle.trace_core.specs.Text.{Entry}
 use Rattle.std.specs.Cmp.{first_so, second_so}
 use Rattle.list_lemmas.proofs.Texts.{equal_bytes}
 
--- the number of a class among those from the first on
-pub no_class : (classes : List ClassPlan) (name : List ℕ) → classes ≡ [] → (k : ℕ) → IsNamed classes name k → ⊥
-no_class classes name is k p = none k (subst (λ l. IsNamed l name k) is p)
-  where
-    none : (k : ℕ) → IsNamed [] name k → ⊥
-    none zero q = let e : None ≡ Some q.0 = q.1 in cc
-    none (suc k) q = let e : None ≡ Some q.0 = q.1 in cc
-
 pub later_class : (classes later : List ClassPlan) (first : ClassPlan) (name : List ℕ) (n : ℕ) (r : Option ℕ) → classes ≡ first ∷ later → (first.name ≡ name → ⊥)
     → MatchOption r ((k : ℕ) → IsNamed later name k → ⊥) (λ m. (k : ℕ) × IsNamed later name k × (m ≡ (n + 1) + k))
     → MatchOption r ((k : ℕ) → IsNamed classes name k → ⊥) (λ m. (k : ℕ) × IsNamed classes name k × (m ≡ n + k))

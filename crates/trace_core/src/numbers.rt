@@ -2,12 +2,14 @@
 
 ghost use Rattle.std.specs.Prelude.{◌≡◌, ◌≢◌, ◌≤◌, ◌<◌, ◌+◌, ◌++◌, ◌↔◌, List, ℤ, IsTrue, IsFalse, MatchOption, length};
 ghost use Rattle.std.specs.List.{list_all};
+ghost use Rattle.ptg_base.specs.Limits.{most_params};
 ghost use Rattle.std.specs.Fmt.{signed_decimal};
 ghost use Rattle.trace_core.specs.Rows.{AreNumbers, BeginsWithNumber, HasNoNumber, IsOfNumbers};
 ghost use Rattle.trace_core.specs.Spelling.{fits_64};
 
 use crate::cutting::cut;
 use itoa::Buffer;
+use ptg_base::MOST_PARAMS;
 use range_space::Numbers;
 
 // The number that std reads from a field, whatever it is spelled like, if it fits 64 bits.
@@ -67,14 +69,14 @@ pub(crate) fn are_numbers(fields: &[u8]) -> bool
 }
 
 // Adds the numbers of these fields. False where they are more than there is room for.
-pub(crate) fn push_numbers(fields: &[u8], numbers: &mut Numbers<8>) -> bool
+pub(crate) fn push_numbers(fields: &[u8], numbers: &mut Numbers<MOST_PARAMS>) -> bool
     ensures all { (ns : List ℤ) → AreNumbers fields.now ns → IsTrue result → numbers.new ≡ numbers.old ++ ns }
-    ensures more { (ns : List ℤ) → AreNumbers fields.now ns → IsFalse result → 8 < length numbers.old + length ns }
+    ensures more { (ns : List ℤ) → AreNumbers fields.now ns → IsFalse result → most_params < length numbers.old + length ns }
 {
     let Some((n, later)) = next_number(fields) else {
         return true;
     };
-    if numbers.as_slice().len() == 8 {
+    if numbers.as_slice().len() == MOST_PARAMS {
         return false;
     }
     numbers.push(n);

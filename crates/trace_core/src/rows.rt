@@ -9,7 +9,7 @@ ghost use Rattle.trace_core.specs.Text.{Entry, head_line};
 
 use crate::cutting::{after_word, cut};
 use crate::numbers::{are_numbers, number};
-use ptg_base::is_name;
+use ptg_base::{MOST_TASKS, is_name};
 
 // The name of a row, and its numbers with a comma before each.
 #[derive(Clone, Copy)]
@@ -62,10 +62,11 @@ fn row_count(field: &[u8]) -> Option<u64>
     if n < 0 {
         return None;
     }
-    if n > 1_000_000 {
+    let n = n as u64;
+    if n > MOST_TASKS {
         return None;
     }
-    Some(n as u64)
+    Some(n)
 }
 
 // The number of rows in the head with which a text begins, and the rest of the text.

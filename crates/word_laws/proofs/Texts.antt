@@ -223,9 +223,6 @@ module _ (verb : Verb) (s : NumberOption) where
     ]
   ]
 
-  first_is : next_due (form []) ≡ None
-  first_is = refl
-
   pub given_iff : (words : List (List ℕ)) (text : List ℕ) → IsIn text (texts_of s (parts (options_of verb) words)) ↔ Given [] words text
   given_iff words text = (
     λ i. to_given [] words text (subst (IsIn text) (texts_are None words) i),

@@ -27,7 +27,7 @@ use Rattle.flow_meaning.proofs.Comparing.{same_item-decides}
 use Rattle.flow_meaning.proofs.Rest.{item_sender}
 use Rattle.work_board.specs.declared.record.PassRecord.{PassRecord}
 use Rattle.work_board.specs.Records.{done_by}
-use Rattle.work_board.specs.Sends.{AddsSend, IsNext, MayEnd}
+use Rattle.work_board.specs.Sends.{IsNext, MayEnd}
 use Rattle.worker_core.specs.Sending.{HasSentAll, MaySendAll, RunsUnsent, with_output}
 use Rattle.worker_core.proofs.Steps.{kept_then}
 
@@ -253,7 +253,3 @@ module _ (P : Plan) (G : Data) (con : IsConsistent P) (t : Task) (job : IsTask P
               omega (arith, first, second, some)
         ]);
   }
-
--- one send is a list of one
-pub one_sent : (P : Plan) (G : Data) (i : Item) (v w : PassRecord) → AddsSend i (with_output P G i).tile v w → HasSentAll P G (i ∷ []) v w
-one_sent P G i v w a = record { sends = a.sends; claims = a.claims; stamps = a.stamps; running = a.running; kept = a.kept }

@@ -15,11 +15,10 @@ use Rattle.flow_meaning.specs.Sound.{IsFinished}
 use Rattle.list_lemmas.proofs.Counts.{weigh-append}
 use Rattle.list_lemmas.proofs.Members.{from_push}
 use Rattle.work_board.specs.declared.record.PassRecord.{PassRecord}
-use Rattle.work_board.specs.Records.{IsLaterRecord, done_by}
+use Rattle.work_board.specs.Records.{done_by}
 use Rattle.worker_core.specs.declared.claiming.Found.{Found}
-use Rattle.worker_core.specs.Claiming.{HasGot, HasGotLogged}
+use Rattle.worker_core.specs.Claiming.{HasGotLogged}
 use Rattle.worker_core.specs.Sending.{HasSentSome}
-use Rattle.worker_core.specs.Starting.{HasStarted}
 use Rattle.worker_core.specs.Working.{AreFollowed, HasClaimedMore, HasGrown, HasRun, Stamped, logged, tasks_of}
 
 more_positive : (m n : ℕ) → nat_lt 0 m ≡ true → nat_lt 0 (m + n) ≡ true
@@ -34,19 +33,6 @@ sent_stays i claims after sends more h =
 finished_stays : (P : Plan) (G : Data) (t : Task) (v w : PassRecord) (more : List Sent) → w.sends ≡ v.sends ++ more → IsFinished P G (done_by v) t → IsFinished P G (done_by w) t
 finished_stays P G t v w more e (inl none) = inl none
 finished_stays P G t v w more e (inr all) = inr (λ i h. subst (λ l. IsTrue (is_sent (record { claims = w.claims; sends = l }) i)) (sym e) (sent_stays i v.claims w.claims v.sends more (all i h)))
-
--- a claimed task has started
-pub started : (P : Plan) (G : Data) (f : Found) (v w : PassRecord) → HasGot P G f v w → HasStarted P G f w
-started P G f v w got = record {
-  running = got.added.running;
-  locals_are = got.locals_are;
-  may_start = record {
-    task = got.may_start.task;
-    runs = got.may_start.runs;
-    inputs = got.may_start.inputs;
-    unsent = λ i h. ap (λ l. send_count (record { claims = w.claims; sends = l }) i) got.added.sends ∙ got.may_start.unsent i h;
-  };
-}
 
 -- what a worker has done so far, and what its log has gained
 pub record IsWorked (P : Plan) (G : Data) (lets : Task → Type 0) (keeps : Bool) (ran : ℕ) (v w : PassRecord) (old new : List (ℕ × Task)) : Type 0 where
@@ -112,12 +98,3 @@ module _ (P : Plan) (G : Data) (lets : Task → Type 0) (keeps : Bool) where
     claimed = claimed_more far.more f v w x y old mid new far.claimed got some;
     gained = gained_more far.more f w x old mid new far.gained got;
   }
-
--- what grew is later
-pub later_record : (keeps : Bool) (v w : PassRecord) (old new : List (ℕ × Task)) → HasGrown keeps v w old new → IsLaterRecord v w
-later_record keeps v w old new a = record {
-  more_stamps = a.more;
-  names = a.claimed.names;
-  done = record { more_claims = tasks_of a.more; more_sends = a.claimed.more_sends; claims = a.claimed.claims; sends = a.claimed.sends };
-  stamps = a.claimed.stamps;
-}

@@ -11,7 +11,7 @@ use crate::post::Post;
 use crossbeam_utils::Backoff;
 use dep_iter::{locals_of, task_locals};
 use dep_shard::Arrivals;
-use ptg_base::TaskId;
+use ptg_base::{MOST_LOCALS, TaskId};
 use range_space::Numbers;
 use std::sync::Wait;
 use std::thread::Threads;
@@ -21,7 +21,7 @@ use work_board::{Board, Claim, Scan};
 #[derive(Drop)]
 pub(crate) struct Found {
     pub(crate) task: TaskId,
-    pub(crate) locals: Numbers<16>,
+    pub(crate) locals: Numbers<MOST_LOCALS>,
     pub(crate) arrivals: Arrivals,
 }
 

@@ -5,8 +5,8 @@ use Rattle.jdf_alphabet.proofs.Counting.{found, all_passed, none_follows, stops_
 use Rattle.jdf_alphabet.proofs.limit.expression_limit.Goals as goal
 use Rattle.jdf_alphabet.proofs.limit.expression_limit.Goals.{then-is_counted+else-counted-eq-MOST_COUNTED, else-is_counted}
 
-pub returns-then-index-eq-MOST_TOKENS : goal.returns-then-index-eq-MOST_TOKENS
-returns-then-index-eq-MOST_TOKENS c =
+pub returns-then-index-eq-MOST_EXPRESSION_TOKENS : goal.returns-then-index-eq-MOST_EXPRESSION_TOKENS
+returns-then-index-eq-MOST_EXPRESSION_TOKENS c =
     all_passed (set is_counted) c.args.tokens.now 512 128 c.loop-index.index (128 - c.loop-index.counted) c.loop-index.invariant.same (omega arith)
 
 pub returns : goal.returns

@@ -10,5 +10,5 @@ returns-in_default c = no_count c.args.field.now c.in_default.ensures
 pub returns-then-n-lt0 : goal.returns-then-n-lt0
 returns-then-n-lt0 c = other_count c.args.field.now c.in-Some.n c.in-Some.ensures.0 c.in-Some.ensures.1 (λ n le e. omega (arith, ints))
 
-pub returns-then-n-gt1000000 : goal.returns-then-n-gt1000000
-returns-then-n-gt1000000 c = other_count c.args.field.now c.in-Some.n c.in-Some.ensures.0 c.in-Some.ensures.1 (λ n le e. omega (arith, ints))
+pub returns-then-n-gt-MOST_TASKS : goal.returns-then-n-gt-MOST_TASKS
+returns-then-n-gt-MOST_TASKS c = other_count c.args.field.now c.in-Some.n c.in-Some.ensures.0 c.in-Some.ensures.1 (λ n le e. omega (arith, ints))

@@ -1,17 +1,15 @@
 //! One shard: ready tasks and edges come, tasks are taken and end or trap, and tiles are written back.
 ghost use Rattle.std.specs.Prelude.{◌≡◌, ◌<◌, length, OnOk, IsTrue};
+ghost use Rattle.ptg_base.specs.Limits.{most_tasks};
 ghost use Rattle.dep_shard.specs.Content.{IsTileOf};
-ghost use Rattle.leaf_measure.specs.Tasks.{task_of, HasNoneFrom, WaitFrom};
+ghost use Rattle.ptg_measure.specs.Tasks.{task_of, HasNoneFrom, WaitFrom};
 
 use crate::count::{Count, Counts};
 use crate::tasks::{priority, task};
 use dep_shard::{Arrived, Shard};
-use ptg_base::{Edge, OutOfMemory, Place, TaskId, Tile, WriteBack};
+use ptg_base::{Edge, MOST_TASKS, OutOfMemory, Place, TaskId, Tile, WriteBack};
 use std::alloc::Global;
 use term_core::Trap;
-
-// How many tasks a shard lets run and end.
-const MOST_TASKS: u64 = 1000000;
 
 // How many numbers a tile has.
 const NUMBERS: u32 = 4;
@@ -232,7 +230,7 @@ fn send_both(shard: &mut Shard, size: u32, tile: &Tile) -> Result<u64, OutOfMemo
 // A ready task is taken, unless as many run or have ended as may. Whether it was.
 fn take(shard: &mut Shard, task: &TaskId) -> bool
     ensures running { IsTrue result → 0 < shard.new.running }
-    ensures ended { IsTrue result → shard.new.ended < 1000000 }
+    ensures ended { IsTrue result → shard.new.ended < most_tasks }
 {
     if shard.running() >= MOST_TASKS || shard.ended() >= MOST_TASKS {
         return false;

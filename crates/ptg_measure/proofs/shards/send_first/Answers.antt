@@ -1,6 +1,6 @@
 use Rattle.std.proofs.Common.{◌∙◌, arith, Some}
-use Rattle.leaf_measure.proofs.Numbered.{still_none, first_comes}
-use Rattle.leaf_measure.proofs.shards.send_first.Goals as goal
+use Rattle.ptg_measure.proofs.Numbered.{still_none, first_comes}
+use Rattle.ptg_measure.proofs.shards.send_first.Goals as goal
 
 pub loop-number-preserved : goal.loop-number-preserved
 loop-number-preserved c =

@@ -1,5 +1,5 @@
 use Rattle.ready_deques.specs.Hands.{SameWorker}
-use Rattle.leaf_measure.proofs.deques.steal_all.Given as goal
+use Rattle.ptg_measure.proofs.deques.steal_all.Given as goal
 
 abbrev pub invariant-loop : goal.invariant-loop
 invariant-loop g l =

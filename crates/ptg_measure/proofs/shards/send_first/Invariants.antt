@@ -1,6 +1,6 @@
 use Rattle.std.proofs.Common.{◌≡◌}
-use Rattle.leaf_measure.specs.Tasks.{HasNoneFrom, WaitFrom}
-use Rattle.leaf_measure.proofs.shards.send_first.Given as goal
+use Rattle.ptg_measure.specs.Tasks.{HasNoneFrom, WaitFrom}
+use Rattle.ptg_measure.proofs.shards.send_first.Given as goal
 
 abbrev pub invariant-loop-number : goal.invariant-loop-number
 invariant-loop-number l = record {

@@ -1,6 +1,6 @@
 //! The tasks of a measured case, by number.
 ghost use Rattle.std.specs.Prelude.{◌≡◌};
-ghost use Rattle.leaf_measure.specs.Tasks.{task_of};
+ghost use Rattle.ptg_measure.specs.Tasks.{task_of};
 
 use ptg_base::TaskId;
 

@@ -7,7 +7,7 @@ use Rattle.ptg_base.specs.Task.{Task}
 use Rattle.ptg_base.specs.TaskComparing.{same_task}
 use Rattle.ptg_base.specs.TaskLaws.{same_task-decides}
 use Rattle.dep_shard.specs.Content.{Content, Entry, Entries, HasWaiting, Updates, entry_before, entry_in, fresh, with_arrival}
-use Rattle.leaf_measure.specs.Tasks.{task_of, HasNoneFrom, WaitFrom}
+use Rattle.ptg_measure.specs.Tasks.{task_of, HasNoneFrom, WaitFrom}
 
 number_is : (i k : ℕ) → task_of i ≡ task_of k → i ≡ k
 number_is i k e =
